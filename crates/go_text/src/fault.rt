@@ -1,0 +1,115 @@
+//! Why a text or a run is refused.
+ghost use Rattle.std.specs.Prelude.{◌≡◌};
+ghost use Rattle.go_text.specs.declared.fault.Fault.TheVariants as fault;
+
+use crate::place::Place;
+use crate::rule::{LimitKind, Rule};
+use std::alloc::{AllocError, AllocFailed};
+use thiserror::Error;
+
+/// A request for memory was refused.
+#[derive(Clone, Copy, Debug, PartialEq, Eq, Error)]
+#[error("13 Memory")]
+pub struct Memory;
+
+/// A lease or a piece of another program, limit or place.
+#[derive(Clone, Copy, Debug, PartialEq, Eq, Error)]
+#[error("12 NotYours")]
+pub struct NotYours;
+
+/// All refusals, in the order of their numbers, 1 to 16.
+#[derive(Clone, Copy, Debug, PartialEq, Eq, Error)]
+pub enum Fault {
+    /// The text is longer than 1,048,576 bytes.
+    #[error("1 TooLong")]
+    TooLong,
+    /// The text is not UTF-8.
+    #[error("2 NotUtf8")]
+    NotUtf8,
+    /// No token begins with this character.
+    #[error("3 BadCharacter")]
+    BadCharacter(Place),
+    /// A number that is written wrongly, or is followed directly by a letter, a digit, `_` or `.`.
+    #[error("4 BadNumber")]
+    BadNumber(Place),
+    /// A string that is not closed on its line, or has an unknown escape.
+    #[error("5 OpenString")]
+    OpenString(Place),
+    /// A general comment that is not closed.
+    #[error("6 OpenComment")]
+    OpenComment(Place),
+    /// The tokens are spelt by no tree.
+    #[error("7 Syntax")]
+    Syntax(Place),
+    /// The tokens are spelt by no tree of at most 200 levels.
+    #[error("8 TooDeep")]
+    TooDeep(Place),
+    /// A typing rule is broken at this node of the tree.
+    #[error("9 Type rule")]
+    Typing { rule: Rule, node: u32, place: Place },
+    /// A limit is exceeded, at this node of the tree where the check finds it.
+    #[error("10 Limit kind")]
+    Limit { kind: LimitKind, node: Option<u32>, place: Place },
+    /// A rule of the verifier, 1 to 8, is broken at this instruction of this function.
+    #[error("11 Unverified rule {rule}, function {function}, place {place}")]
+    Unverified { rule: u8, function: u32, place: u32 },
+    /// A lease or a piece of another program, limit or place.
+    #[error("12 NotYours")]
+    NotYours,
+    /// A request for memory was refused.
+    #[error("13 Memory")]
+    Memory,
+    /// The writer refused bytes.
+    #[error("14 Write")]
+    Write,
+    /// The number of workers is not 1 to 64.
+    #[error("15 BadWorkers")]
+    BadWorkers,
+    /// The clock limit is not 1 to 2^62.
+    #[error("16 BadLimit")]
+    BadLimit,
+}
+
+impl From<AllocError> for Memory {
+    fn from(_error: AllocError) -> Memory {
+        Memory
+    }
+}
+
+impl<T: Drop> From<AllocFailed<T>> for Memory {
+    fn from(_error: AllocFailed<T>) -> Memory {
+        Memory
+    }
+}
+
+impl From<Memory> for Fault {
+    ghost from_gives = { λ _ e. e ≡ fault.Memory };
+
+    fn from(_error: Memory) -> Fault {
+        Fault::Memory
+    }
+}
+
+impl From<NotYours> for Fault {
+    ghost from_gives = { λ _ e. e ≡ fault.NotYours };
+
+    fn from(_error: NotYours) -> Fault {
+        Fault::NotYours
+    }
+}
+
+impl From<AllocError> for Fault {
+    ghost from_gives = { λ _ e. e ≡ fault.Memory };
+
+    fn from(_error: AllocError) -> Fault {
+        Fault::Memory
+    }
+}
+
+impl<T: Drop> From<AllocFailed<T>> for Fault {
+    ghost from_gives = { λ _ e. e ≡ fault.Memory };
+
+    fn from(_error: AllocFailed<T>) -> Fault {
+        Fault::Memory
+    }
+}

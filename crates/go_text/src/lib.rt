@@ -1,0 +1,12 @@
+//! A text in UTF-8 of bounded length, its spans and positions, and the refusals of the whole product.
+#![tactic(auto)]
+
+pub mod fault;
+pub mod place;
+pub mod rule;
+pub mod source;
+
+pub use fault::{Fault, Memory, NotYours};
+pub use place::{Place, Position, Span};
+pub use rule::{LimitKind, Rule};
+pub use source::Source;
