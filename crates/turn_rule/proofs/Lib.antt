@@ -1,0 +1,4 @@
+pub mod Stable
+pub mod Grows
+pub mod Twins
+pub mod Settled
