@@ -1,0 +1,109 @@
+use Rattle.std.specs.Prelude.{ℕ, ◌==◌, if◌then◌else◌, List, [], ◌++◌, Option, Some, None, Result, Ok, Err, codes, decimal}
+use Rattle.go_text.specs.declared.place.Position.{Position}
+use Rattle.go_text.specs.declared.rule.Rule.{Rule}
+use Rattle.go_text.specs.declared.rule.Rule.TheVariants.{Main, Declared, Visible, Struct, Operands, Constant, Assignable, Numbers, NewName, Assigned, Direction, Channel, Nil, Condition, Returned, Terminating, Branch, Called, Made, OneDefault}
+use Rattle.go_text.specs.declared.rule.LimitKind.{LimitKind}
+use Rattle.go_text.specs.declared.rule.LimitKind.TheVariants.{ConstantSize, StructWidth, SelectClauses, ListEntries, FunctionWords, Declarations}
+use Rattle.go_text.specs.declared.fault.Fault.{Fault}
+use Rattle.go_text.specs.declared.fault.Fault.TheVariants as fault
+use Rattle.kendo_base.specs.declared.end.End.{End}
+use Rattle.kendo_base.specs.declared.end.End.TheVariants.{Finished, Panicked, Deadlock, Exhausted}
+
+-- the number of a typing rule
+abbrev pub rule_number : Rule → ℕ
+rule_number Main = 1
+rule_number Declared = 2
+rule_number Visible = 3
+rule_number Struct = 4
+rule_number Operands = 5
+rule_number Constant = 6
+rule_number Assignable = 7
+rule_number Numbers = 8
+rule_number NewName = 9
+rule_number Assigned = 10
+rule_number Direction = 11
+rule_number Channel = 12
+rule_number Nil = 13
+rule_number Condition = 14
+rule_number Returned = 15
+rule_number Terminating = 16
+rule_number Branch = 17
+rule_number Called = 18
+rule_number Made = 19
+rule_number OneDefault = 20
+
+-- the number of a limit
+abbrev pub limit_number : LimitKind → ℕ
+limit_number ConstantSize = 1
+limit_number StructWidth = 2
+limit_number SelectClauses = 3
+limit_number ListEntries = 4
+limit_number FunctionWords = 5
+limit_number Declarations = 6
+
+-- ` at LINE:COLUMN`, or nothing where they are not known
+abbrev pub position_text : Option Position → List ℕ
+position_text None = []
+position_text (Some p) = codes " at " ++ decimal p.line ++ codes ":" ++ decimal p.column
+
+-- a refusal by its number and its name, and where it lies
+abbrev pub fault_text : Fault → List ℕ
+fault_text fault.TooLong = codes "1 TooLong"
+fault_text fault.NotUtf8 = codes "2 NotUtf8"
+fault_text (fault.BadCharacter place) = codes "3 BadCharacter" ++ position_text place.position
+fault_text (fault.BadNumber place) = codes "4 BadNumber" ++ position_text place.position
+fault_text (fault.OpenString place) = codes "5 OpenString" ++ position_text place.position
+fault_text (fault.OpenComment place) = codes "6 OpenComment" ++ position_text place.position
+fault_text (fault.Syntax place) = codes "7 Syntax" ++ position_text place.position
+fault_text (fault.TooDeep place) = codes "8 TooDeep" ++ position_text place.position
+fault_text (fault.Typing rule node place) =
+    codes "9 Type rule " ++ decimal (rule_number rule) ++ position_text place.position
+fault_text (fault.Limit kind node place) =
+    codes "10 Limit kind " ++ decimal (limit_number kind) ++ position_text place.position
+fault_text (fault.Unverified rule function place) =
+    codes "11 Unverified rule " ++ (decimal rule ++ (codes " in function " ++ (decimal function
+    ++ (codes " at " ++ decimal place))))
+fault_text fault.NotYours = codes "12 NotYours"
+fault_text fault.Memory = codes "13 Memory"
+fault_text fault.Write = codes "14 Write"
+fault_text fault.BadWorkers = codes "15 BadWorkers"
+fault_text fault.BadLimit = codes "16 BadLimit"
+
+-- what the panic of this number says
+abbrev pub panic_text : ℕ → List ℕ
+panic_text number =
+    if number == 1 then codes "divide by zero" else
+    if number == 2 then codes "send on closed channel" else
+    if number == 3 then codes "close of closed channel" else
+    if number == 4 then codes "close of nil channel" else
+    if number == 5 then codes "negative shift" else
+    if number == 6 then codes "channel size" else
+    if number == 7 then codes "call depth" else
+    if number == 8 then codes "too many goroutines" else
+    if number == 9 then codes "too many channels" else codes "unknown"
+
+-- the line on standard error, with its newline: none after a run that finished
+abbrev pub report_line : Result End Fault → List ℕ
+report_line (Ok Finished) = []
+report_line (Ok (Panicked number)) =
+    codes "kendo: panic P" ++ (decimal number ++ (codes " " ++ (panic_text number ++ codes "\n")))
+report_line (Ok Deadlock) = codes "kendo: deadlock\n"
+report_line (Ok Exhausted) = codes "kendo: logical time exhausted\n"
+report_line (Err fault) = codes "kendo: " ++ fault_text fault ++ codes "\n"
+
+-- the exit status of a refusal
+abbrev pub fault_status : Fault → ℕ
+fault_status fault.Memory = 5
+fault_status fault.Write = 6
+fault_status fault.NotYours = 7
+fault_status fault.BadWorkers = 64
+fault_status fault.BadLimit = 64
+fault_status _ = 1
+
+-- the exit status
+abbrev pub report_status : Result End Fault → ℕ
+report_status (Ok Finished) = 0
+report_status (Ok (Panicked _)) = 2
+report_status (Ok Deadlock) = 3
+report_status (Ok Exhausted) = 4
+report_status (Err fault) = fault_status fault

@@ -1,0 +1,251 @@
+//! The line on standard error and the exit status, for each way in which a run can end.
+ghost use Rattle.std.specs.Prelude.{◌≡◌, ◌++◌, IfOk, Some, string_bytes};
+ghost use Rattle.std.specs.Fmt.{DisplaysOnOk};
+ghost use Rattle.kendo_base.specs.Outcome.{fault_text, panic_text, position_text, report_line, report_status};
+
+use crate::end::End;
+use go_text::{Fault, Memory, Place, Position};
+use std::alloc::{AllocError, Global};
+use std::fmt;
+
+/// The line on standard error, with its newline (empty after a run that finished), and the exit status.
+/// Of a refusal that has a place, the line tells line and column where the place has them.
+pub fn report(alloc: Global, outcome: &Result<End, Fault>) -> Result<(Vec<u8>, u8), Memory>
+    ensures line { IfOk result (λ r. r.0.items ≡ report_line outcome.now) }
+    ensures status { IfOk result (λ r. r.1 ≡ report_status outcome.now) }
+{
+    let line = line_of(alloc, *outcome)?;
+    Ok((line.into_bytes(), status_of(*outcome)))
+}
+
+/// The line of `report`.
+fn line_of(alloc: Global, outcome: Result<End, Fault>) -> Result<String, AllocError>
+    ensures { IfOk result (λ line. string_bytes line ≡ report_line outcome) }
+{
+    match outcome {
+        Ok(End::Finished) => Ok(String::new(alloc)),
+        Ok(End::Panicked(number)) => {
+            let text = text_of_panic(number);
+            format!(in alloc; "kendo: panic P{number} {text}\n")
+        }
+        Ok(End::Deadlock) => format!(in alloc; "kendo: deadlock\n"),
+        Ok(End::Exhausted) => format!(in alloc; "kendo: logical time exhausted\n"),
+        Err(fault) => {
+            let text = FaultText(fault);
+            format!(in alloc; "kendo: {text}\n")
+        }
+    }
+}
+
+/// The exit status of `report`.
+fn status_of(outcome: Result<End, Fault>) -> u8
+    ensures { result ≡ report_status outcome }
+{
+    match outcome {
+        Ok(End::Finished) => 0,
+        Ok(End::Panicked(_)) => 2,
+        Ok(End::Deadlock) => 3,
+        Ok(End::Exhausted) => 4,
+        Err(Fault::Memory) => 5,
+        Err(Fault::Write) => 6,
+        Err(Fault::NotYours) => 7,
+        Err(Fault::BadWorkers | Fault::BadLimit) => 64,
+        Err(_) => 1,
+    }
+}
+
+/// What the panic of this number says.
+fn text_of_panic(number: u8) -> &'static str
+    ensures { result.now ≡ panic_text number }
+{
+    match number {
+        1 => "divide by zero",
+        2 => "send on closed channel",
+        3 => "close of closed channel",
+        4 => "close of nil channel",
+        5 => "negative shift",
+        6 => "channel size",
+        7 => "call depth",
+        8 => "too many goroutines",
+        9 => "too many channels",
+        _ => "unknown",
+    }
+}
+
+/// A place, as ` at LINE:COLUMN`, or nothing where its line and column are not known.
+#[derive(Clone, Copy)]
+struct At(Place);
+
+impl fmt::Display for At {
+    ghost output = { λ at. Some (position_text at.0.position) };
+
+    fn fmt<W: fmt::Write>(&self, f: &mut fmt::Formatter<W>) -> fmt::Result {
+        match self.0.position {
+            Some(Position { line, column }) => write!(f, " at {line}:{column}"),
+            None => Ok(()),
+        }
+    }
+}
+
+/// A refusal by its number and its name, and where it lies.
+#[derive(Clone, Copy)]
+struct FaultText(Fault);
+
+impl fmt::Display for FaultText {
+    ghost output = { λ text. Some (fault_text text.0) };
+
+    fn fmt<W: fmt::Write>(&self, f: &mut fmt::Formatter<W>) -> fmt::Result {
+        match self.0 {
+            Fault::TooLong => write!(f, "1 TooLong"),
+            Fault::NotUtf8 => write!(f, "2 NotUtf8"),
+            Fault::BadCharacter(place) => placed(f, "3 BadCharacter", place),
+            Fault::BadNumber(place) => placed(f, "4 BadNumber", place),
+            Fault::OpenString(place) => placed(f, "5 OpenString", place),
+            Fault::OpenComment(place) => placed(f, "6 OpenComment", place),
+            Fault::Syntax(place) => placed(f, "7 Syntax", place),
+            Fault::TooDeep(place) => placed(f, "8 TooDeep", place),
+            Fault::Typing { rule, place, .. } => {
+                let (number, at) = (rule as u8, At(place));
+                write!(f, "9 Type rule {number}{at}")
+            }
+            Fault::Limit { kind, place, .. } => {
+                let (number, at) = (kind as u8, At(place));
+                write!(f, "10 Limit kind {number}{at}")
+            }
+            Fault::Unverified {
+                rule,
+                function,
+                place,
+            } => {
+                write!(
+                    f,
+                    "11 Unverified rule {rule} in function {function} at {place}"
+                )
+            }
+            Fault::NotYours => write!(f, "12 NotYours"),
+            Fault::Memory => write!(f, "13 Memory"),
+            Fault::Write => write!(f, "14 Write"),
+            Fault::BadWorkers => write!(f, "15 BadWorkers"),
+            Fault::BadLimit => write!(f, "16 BadLimit"),
+        }
+    }
+}
+
+/// A name and a place.
+fn placed<W: fmt::Write>(f: &mut fmt::Formatter<W>, name: &str, place: Place) -> fmt::Result
+    ensures { DisplaysOnOk W.write_str_gives f.old result (Some (name.now ++ position_text place.position)) f.new }
+{
+    let at = At(place);
+    write!(f, "{name}{at}")
+}
+
+#[cfg(test)]
+mod tests {
+    use super::*;
+    use go_text::{LimitKind, Rule, Span};
+    use std::test::Fail;
+
+    #[test]
+    fn lines_and_statuses(rt: HostRuntime) -> Result<(), Fail> {
+        let span = Span { from: 36, to: 37 };
+        let position = Some(Position {
+            line: 1,
+            column: 37,
+        });
+        let place = Place { span, position };
+        let unplaced = Place {
+            span,
+            position: None,
+        };
+        let (rule, kind) = (Rule::Constant, LimitKind::ListEntries);
+        for (outcome, line, status) in [
+            (Ok(End::Finished), "", 0),
+            (Ok(End::Panicked(1)), "kendo: panic P1 divide by zero\n", 2),
+            (
+                Ok(End::Panicked(2)),
+                "kendo: panic P2 send on closed channel\n",
+                2,
+            ),
+            (
+                Ok(End::Panicked(3)),
+                "kendo: panic P3 close of closed channel\n",
+                2,
+            ),
+            (
+                Ok(End::Panicked(4)),
+                "kendo: panic P4 close of nil channel\n",
+                2,
+            ),
+            (Ok(End::Panicked(5)), "kendo: panic P5 negative shift\n", 2),
+            (Ok(End::Panicked(6)), "kendo: panic P6 channel size\n", 2),
+            (Ok(End::Panicked(7)), "kendo: panic P7 call depth\n", 2),
+            (
+                Ok(End::Panicked(8)),
+                "kendo: panic P8 too many goroutines\n",
+                2,
+            ),
+            (
+                Ok(End::Panicked(9)),
+                "kendo: panic P9 too many channels\n",
+                2,
+            ),
+            (Ok(End::Deadlock), "kendo: deadlock\n", 3),
+            (Ok(End::Exhausted), "kendo: logical time exhausted\n", 4),
+            (Err(Fault::TooLong), "kendo: 1 TooLong\n", 1),
+            (Err(Fault::NotUtf8), "kendo: 2 NotUtf8\n", 1),
+            (
+                Err(Fault::BadCharacter(place)),
+                "kendo: 3 BadCharacter at 1:37\n",
+                1,
+            ),
+            (
+                Err(Fault::BadNumber(place)),
+                "kendo: 4 BadNumber at 1:37\n",
+                1,
+            ),
+            (
+                Err(Fault::OpenString(place)),
+                "kendo: 5 OpenString at 1:37\n",
+                1,
+            ),
+            (
+                Err(Fault::OpenComment(place)),
+                "kendo: 6 OpenComment at 1:37\n",
+                1,
+            ),
+            (Err(Fault::Syntax(place)), "kendo: 7 Syntax at 1:37\n", 1),
+            (Err(Fault::Syntax(unplaced)), "kendo: 7 Syntax\n", 1),
+            (Err(Fault::TooDeep(place)), "kendo: 8 TooDeep at 1:37\n", 1),
+            (
+                Err(Fault::Typing {
+                    rule,
+                    node: 9,
+                    place,
+                }),
+                "kendo: 9 Type rule 6 at 1:37\n",
+                1,
+            ),
+            (
+                Err(Fault::Limit {
+                    kind,
+                    node: None,
+                    place,
+                }),
+                "kendo: 10 Limit kind 4 at 1:37\n",
+                1,
+            ),
+            (Err(Fault::NotYours), "kendo: 12 NotYours\n", 7),
+            (Err(Fault::Memory), "kendo: 13 Memory\n", 5),
+            (Err(Fault::Write), "kendo: 14 Write\n", 6),
+            (Err(Fault::BadWorkers), "kendo: 15 BadWorkers\n", 64),
+            (Err(Fault::BadLimit), "kendo: 16 BadLimit\n", 64),
+        ] {
+            let Ok((told, code)) = report(rt.alloc(), &outcome) else {
+                panic!(rt; "no memory");
+            };
+            assert_eq!(rt; told.as_slice(), line.as_bytes());
+            assert_eq!(rt; code, status, "{line}");
+        }
+        Ok(())
+    }
+}
