@@ -5,7 +5,7 @@ use Rattle.std.specs.Option.{is_some}
 use Rattle.std.proofs.lemmas.Bool.{cases_lt, eq-eqb, ne_eqb}
 use Rattle.turn_rule.specs.Turns.{Effect, Rules, World, run}
 use Rattle.turn_rule.proofs.Twins.{Alike, RowAlike, ChangesAlike, AllAlike, EffectsAlike, Twins, twins_run, effects_flip, twins_flip}
-use Rattle.word.specs.Values.{Word, Request, Go, Exit, Panic, Exhausted, Reply, Nothing, Value, Received, Clause, Default, Closed, Outcome, Done, Ending, Finished, Ran_out, Sleeper, Shared}
+use Rattle.word.specs.Values.{Word, Request, Go, Exit, Panic, Exhausted, Reply, Nothing, Value, Received, Clause, Default, Closed, Outcome, Done, Ending, Finished, RanOut, Sleeper, Shared}
 use Rattle.word.specs.Kinds.{Next, Slides, Ticks, Asks, Stuck, Kind, Clocked, at, local_of, asks_of, does, local, asks, told, Suits}
 use Rattle.word.specs.Requests.{Fate, GoesOn, Dozes, Leaves, Stays, Deed, ends, act, asked, meant, perform}
 use Rattle.word.specs.Worlds.{Bed, Rest, in_bed, actor_after, beds_after, woken_by, begun_at, effect, performs, rules, opening, moment, end_by, Same, Follows, Equal}
@@ -115,7 +115,7 @@ module _ (K M : Kind) (R : K.State → M.State → Type 0) (limit : ℕ) (finds 
     acts_by le =
         ⊎_elim
         (λ lt. let up : s.clock + 1 ≤ limit = omega arith in effects_by (s.clock + 1) up (act w.shared n s.clock f.q f.q) (fair w.shared n s.clock f.q))
-        (λ ge. let at_limit : s.clock ≡ limit = omega arith in subst (λ q. Done_by s.clock q) (sym (asks_spent limit s.clock (does K s) f.q at_limit f.left)) (ends_by (s.clock + 1) s.clock Exhausted (Done Nothing) Ran_out))
+        (λ ge. let at_limit : s.clock ≡ limit = omega arith in subst (λ q. Done_by s.clock q) (sym (asks_spent limit s.clock (does K s) f.q at_limit f.left)) (ends_by (s.clock + 1) s.clock Exhausted (Done Nothing) RanOut))
         (cases_lt s.clock limit)
 
     meant_by : Done_by s.clock (meant w.shared n f.q)
@@ -124,7 +124,7 @@ module _ (K M : Kind) (R : K.State → M.State → Type 0) (limit : ℕ) (finds 
       | inl e ↦ subst (λ q. Done_by s.clock q) (sym e) (acts_by f.below)
       | inr o ↦ elim o [
         | inl e ↦ subst (λ q. Done_by s.clock q) (sym e) (ends_by (s.clock + 1) s.clock Exit (Done Nothing) Finished)
-        | inr e ↦ subst (λ q. Done_by s.clock q) (sym e) (ends_by (s.clock + 1) s.clock Exhausted (Done Nothing) Ran_out)
+        | inr e ↦ subst (λ q. Done_by s.clock q) (sym e) (ends_by (s.clock + 1) s.clock Exhausted (Done Nothing) RanOut)
       ]
     ]
 
@@ -133,7 +133,7 @@ module _ (K M : Kind) (R : K.State → M.State → Type 0) (limit : ℕ) (finds 
     performs_by =
         let a : EffectsLike (performs K limit w n s (Some f.q)) (effect M limit v n (t.clock + 1) t (perform v.shared n t.clock f.q))
         = subst (λ x. EffectsLike (performs K limit w n s (Some f.q)) (effect M limit v n (t.clock + 1) t (perform x n t.clock f.q))) kept.shared
-          (subst (λ c. EffectsLike (performs K limit w n s (Some f.q)) (effect M limit v n (c + 1) t (perform w.shared n c f.q))) same meant_by) in
+        (subst (λ c. EffectsLike (performs K limit w n s (Some f.q)) (effect M limit v n (c + 1) t (perform w.shared n c f.q))) same meant_by) in
         subst (λ o. EffectsLike (performs K limit w n s o) (performs M limit v n t (asks M limit t))) (sym f.left)
         (subst (λ o. EffectsLike (performs K limit w n s (Some f.q)) (performs M limit v n t o)) (sym f.right) a)
 
@@ -184,7 +184,7 @@ module _ (K M : Kind) (R : K.State → M.State → Type 0) (limit : ℕ) (finds 
   pub pairs_back : (m : ℕ) (w : World (Clocked K.State) (Rest K.State)) (v : World (Clocked M.State) (Rest M.State)) → Pair w v → (n : ℕ) × Pair (run Rk n w) (run Rm m v)
   pairs_back m w v p =
       let r = twins_run Rm Rk (λ t s. Ready K M R limit s t) (λ y x. Kept K M R limit x y) (laws M limit) (laws K limit) (λ y x k. sym (over_by x y k))
-        (λ y x k n t s b a c f. effects_flip Rk Rm (Ready K M R limit) (Kept K M R limit) (Rk.perform x n s) (Rm.perform y n t) (performs_by x y k n s t (sym c) f)) m v w (twins_flip Rk Rm (Ready K M R limit) (Kept K M R limit) w v p) in
+      (λ y x k n t s b a c f. effects_flip Rk Rm (Ready K M R limit) (Kept K M R limit) (Rk.perform x n s) (Rm.perform y n t) (performs_by x y k n s t (sym c) f)) m v w (twins_flip Rk Rm (Ready K M R limit) (Kept K M R limit) w v p) in
       (r.0, twins_flip Rm Rk (λ t s. Ready K M R limit s t) (λ y x. Kept K M R limit x y) (run Rm m v) (run Rk r.0 w) r.1)
 
   pub there : R (K.begin K.main []) (M.begin M.main []) → Follows K M limit

@@ -6,7 +6,7 @@ use Rattle.std.proofs.lemmas.Bool.{and_parts, eqb-true, eq-eqb, ne_eqb, true≢f
 use Rattle.std.proofs.lemmas.Bool.Decides.{nat_tests}
 use Rattle.std.proofs.lemmas.Option.{same_Some}
 use Rattle.std.proofs.lemmas.List.{get_or_past, get_or_append_left, get_or-append_right}
-use Rattle.word.specs.Values.{Word, Int, Chan, Item, Case, Request, Make, Go, Send, Receive, Close, Select, Len, Cap, Print, End, Exit, Panic, Exhausted, Reply, Nothing, Value, Received, Clause, Default, Closed, Outcome, Ending, Finished, Panicked, Ran_out, Done, Sleeps, Panics, Event, Sleeper, Offer, Channel, Shared}
+use Rattle.word.specs.Values.{Word, Int, Chan, Item, Case, Request, Make, Go, Send, Receive, Close, Select, Len, Cap, Print, End, Exit, Panic, Exhausted, Reply, Nothing, Value, Received, Clause, Default, Closed, Outcome, Ending, Finished, Panicked, RanOut, Done, Sleeps, Panics, Event, Sleeper, Offer, Channel, Shared}
 use Rattle.word.specs.Requests.{Fate, GoesOn, happened, Deed, no_channel, channel_of, with_offer, clause_offers, offers, first_offer, or_else, partner, without, without_all, sent, got, done, sleeps, ends, panics, with_channel, send_to, do_send, receive_from, do_receive, send_ready, receive_ready, is_ready, choose, do_clause, do_select, do_make, do_go, do_close, close_reply, partners, act, asked, meant, perform}
 use Rattle.logical_clock.specs.declared.key.Key.{Key}
 use Rattle.turn_rule.specs.Turns.{World, Rules, next, move_on, move_at, move_next, perform as perform_in, one, run}
@@ -153,7 +153,7 @@ module _ (w : Shared) (n c : ℕ) (q : Request) (sw : IsSound w) where
       let who = map (λ (x : ℕ × Reply). x.0) ws in
       subst (λ es. Sound (without_all v.asleep ws) v.channels (es ++ record { clock = c; number = n; request = q; outcome = Done reply; partners = who } ∷ [])) (sym same)
       (sound_on (without_all v.asleep ws) v.channels (Done reply) who refl (λ x i. sub x (in_without_all v.asleep ws x i)) calm
-        (λ j. subst (λ z. Ord j z who (channel_of v.channels j).items) (sym e) (order j)))
+      (λ j. subst (λ z. Ord j z who (channel_of v.channels j).items) (sym e) (order j)))
 
   -- nothing goes through a channel
   sound_idle : (v : Shared) → v.events ≡ w.events → ((x : Sleeper) → In x v.asleep → In x w.asleep) → (reply : Reply) (ws : List (ℕ × Reply)) → reply_deal q reply ≡ NoDeal → ((j : ℕ) → (channel_of v.channels j).items ≡ its j) → IsSound (done w n c q v reply ws).shared
@@ -197,8 +197,8 @@ module _ (w : Shared) (n c : ℕ) (q : Request) (sw : IsSound w) where
       → IsSound (done w n c q (with_channel w n c q k (record (channel_of w.channels k) { items = items })) reply ws).shared
   sound_written k items h reply ws d e calm order =
       sound_done (with_channel w n c q k (record (channel_of w.channels k) { items = items })) refl (λ x i. i) reply ws d e
-        (λ j x f i t. written k items h j ∙ by_chan k j (λ b. cond b items (its j) ≡ []) (λ z. calm x f i (ap (λ m. first_offer m false (offers x.request)) z ∙ t)) (sw.calm j x f i t))
-        (λ j. subst (λ l. Ord j d (map (λ (x : ℕ × Reply). x.0) ws) l) (sym (written k items h j)) (order j))
+      (λ j x f i t. written k items h j ∙ by_chan k j (λ b. cond b items (its j) ≡ []) (λ z. calm x f i (ap (λ m. first_offer m false (offers x.request)) z ∙ t)) (sw.calm j x f i t))
+      (λ j. subst (λ l. Ord j d (map (λ (x : ℕ × Reply). x.0) ws) l) (sym (written k items h j)) (order j))
 
   order_at : (k j : ℕ) → k ≡ j → accepted j w.events ≡ received j w.events ++ its k
   order_at k j z = sw.order j ∙ ap (λ m. received j w.events ++ its m) (sym z)
@@ -210,8 +210,8 @@ module _ (w : Shared) (n c : ℕ) (q : Request) (sw : IsSound w) where
   sound_send_to : (k : ℕ) (item : Item) (clause : ℕ) → reply_deal q (sent clause) ≡ Gives k item → (channel_of w.channels k).closed ≡ false → send_ready w n c q k ≡ true → (o : Option (Sleeper × Offer)) → partner k false w.asleep ≡ o → IsSound (send_to w n c q k (channel_of w.channels k) item clause o).shared
   sound_send_to k item clause d nc r None e =
       sound_written k (its k ++ item ∷ []) (inl (ready_room k (nat_lt (length (its k)) (channel_of w.channels k).capacity) true nc refl (ap is_some e) r)) (sent clause) [] (Gives k item) d
-        (λ x f i t. let z = partner_none k false w.asleep e x i in absurd (let y = sym z ∙ t in none_some f y))
-        (λ j. by_chan k j (λ b. accepted j w.events ++ cond b (item ∷ []) [] ≡ (received j w.events ++ []) ++ cond b (its k ++ item ∷ []) (its j)) (λ z. put_back (accepted j w.events) (received j w.events) (its k) item (order_at k j z)) (idle (accepted j w.events) (received j w.events) (its j) (sw.order j)))
+      (λ x f i t. let z = partner_none k false w.asleep e x i in absurd (let y = sym z ∙ t in none_some f y))
+      (λ j. by_chan k j (λ b. accepted j w.events ++ cond b (item ∷ []) [] ≡ (received j w.events ++ []) ++ cond b (its k ++ item ∷ []) (its j)) (λ z. put_back (accepted j w.events) (received j w.events) (its k) item (order_at k j z)) (idle (accepted j w.events) (received j w.events) (its j) (sw.order j)))
     where
       none_some : (f : Offer) → ◌≡◌ {A = Option Offer} None (Some f) → ⊥
       none_some f h = cc
@@ -219,9 +219,9 @@ module _ (w : Shared) (n c : ℕ) (q : Request) (sw : IsSound w) where
       let s = partner_is k false w.asleep p e in
       let empty : its k ≡ [] = sw.calm k p.0 p.1 s.lies (partner_first k false w.asleep p e) in
       sound_done w refl (λ x i. i) (sent clause) ((p.0.number, got p.1.case item true) ∷ []) (Gives k item) d (λ j x f i t. sw.calm j x f i t)
-        (λ j. by_chan k j (λ b. accepted j w.events ++ cond b (item ∷ []) [] ≡ (received j w.events ++ cond b (item ∷ []) []) ++ its j)
-          (λ z. handed (accepted j w.events) (received j w.events) (its j) item (sw.order j) (ap its (sym z) ∙ empty))
-          (idle (accepted j w.events) (received j w.events) (its j) (sw.order j)))
+      (λ j. by_chan k j (λ b. accepted j w.events ++ cond b (item ∷ []) [] ≡ (received j w.events ++ cond b (item ∷ []) []) ++ its j)
+      (λ z. handed (accepted j w.events) (received j w.events) (its j) item (sw.order j) (ap its (sym z) ∙ empty))
+      (idle (accepted j w.events) (received j w.events) (its j) (sw.order j)))
 
   sound_send : (k : ℕ) (item : Item) (clause p : ℕ) → reply_deal q (sent clause) ≡ Gives k item → send_ready w n c q k ≡ true → IsSound (do_send w n c q k item clause).shared
   sound_send k item clause p d r = go (channel_of w.channels k).closed refl
@@ -239,29 +239,29 @@ module _ (w : Shared) (n c : ℕ) (q : Request) (sw : IsSound w) where
   sound_receive_from : (k clause : ℕ) → ((x : Item) (ok : Bool) → reply_deal q (got clause x ok) ≡ Takes k x ok) → (items : List Item) → its k ≡ items → (o : Option (Sleeper × Offer)) → partner k true w.asleep ≡ o → IsSound (receive_from w n c q k (channel_of w.channels k) clause items o).shared
   sound_receive_from k clause d (x ∷ xs) e None pe =
       sound_written k xs (inl (in_range w.channels k x xs e)) (got clause x true) [] (Takes k x true) (d x true)
-        (λ y f i t. let z = sym e ∙ sw.calm k y f i t in cc)
-        (λ j. by_chan k j (λ b. accepted j w.events ++ [] ≡ (received j w.events ++ cond (b && true) (x ∷ []) []) ++ cond b xs (its j))
-          (λ z. taken (accepted j w.events) (received j w.events) xs x (order_at k j z ∙ ap (λ l. received j w.events ++ l) e))
-          (idle (accepted j w.events) (received j w.events) (its j) (sw.order j)))
+      (λ y f i t. let z = sym e ∙ sw.calm k y f i t in cc)
+      (λ j. by_chan k j (λ b. accepted j w.events ++ [] ≡ (received j w.events ++ cond (b && true) (x ∷ []) []) ++ cond b xs (its j))
+      (λ z. taken (accepted j w.events) (received j w.events) xs x (order_at k j z ∙ ap (λ l. received j w.events ++ l) e))
+      (idle (accepted j w.events) (received j w.events) (its j) (sw.order j)))
   sound_receive_from k clause d (x ∷ xs) e (Some p) pe =
       let y = unwrap_or p.1.item [] in
       sound_written k (xs ++ y ∷ []) (inl (in_range w.channels k x xs e)) (got clause x true) ((p.0.number, sent p.1.case) ∷ []) (Takes k x true) (d x true)
-        (λ u f i t. let z = sym e ∙ sw.calm k u f i t in cc)
-        (λ j. by_chan k j (λ b. accepted j w.events ++ cond b (offered j (slept p.0.number w.events)) [] ≡ (received j w.events ++ cond (b && true) (x ∷ []) []) ++ cond b (xs ++ y ∷ []) (its j))
-          (λ z. ap (λ l. accepted j w.events ++ l) (offers_it k j p pe z) ∙ shifted (accepted j w.events) (received j w.events) xs x y (order_at k j z ∙ ap (λ l. received j w.events ++ l) e))
-          (idle (accepted j w.events) (received j w.events) (its j) (sw.order j)))
+      (λ u f i t. let z = sym e ∙ sw.calm k u f i t in cc)
+      (λ j. by_chan k j (λ b. accepted j w.events ++ cond b (offered j (slept p.0.number w.events)) [] ≡ (received j w.events ++ cond (b && true) (x ∷ []) []) ++ cond b (xs ++ y ∷ []) (its j))
+      (λ z. ap (λ l. accepted j w.events ++ l) (offers_it k j p pe z) ∙ shifted (accepted j w.events) (received j w.events) xs x y (order_at k j z ∙ ap (λ l. received j w.events ++ l) e))
+      (idle (accepted j w.events) (received j w.events) (its j) (sw.order j)))
   sound_receive_from k clause d [] e (Some p) pe =
       let y = unwrap_or p.1.item [] in
       sound_done w refl (λ x i. i) (got clause y true) ((p.0.number, sent p.1.case) ∷ []) (Takes k y true) (d y true) (λ j x f i t. sw.calm j x f i t)
-        (λ j. by_chan k j (λ b. accepted j w.events ++ cond b (offered j (slept p.0.number w.events)) [] ≡ (received j w.events ++ cond (b && true) (y ∷ []) []) ++ its j)
-          (λ z. ap (λ l. accepted j w.events ++ l) (offers_it k j p pe z) ∙ handed (accepted j w.events) (received j w.events) (its j) y (sw.order j) (ap its (sym z) ∙ e))
-          (idle (accepted j w.events) (received j w.events) (its j) (sw.order j)))
+      (λ j. by_chan k j (λ b. accepted j w.events ++ cond b (offered j (slept p.0.number w.events)) [] ≡ (received j w.events ++ cond (b && true) (y ∷ []) []) ++ its j)
+      (λ z. ap (λ l. accepted j w.events ++ l) (offers_it k j p pe z) ∙ handed (accepted j w.events) (received j w.events) (its j) y (sw.order j) (ap its (sym z) ∙ e))
+      (idle (accepted j w.events) (received j w.events) (its j) (sw.order j)))
   sound_receive_from k clause d [] e None pe =
       let y = (channel_of w.channels k).zero in
       sound_done w refl (λ x i. i) (got clause y false) [] (Takes k y false) (d y false) (λ j x f i t. sw.calm j x f i t)
-        (λ j. by_chan k j (λ b. accepted j w.events ++ [] ≡ (received j w.events ++ cond (b && false) (y ∷ []) []) ++ its j)
-          (λ z. idle (accepted j w.events) (received j w.events) (its j) (sw.order j))
-          (idle (accepted j w.events) (received j w.events) (its j) (sw.order j)))
+      (λ j. by_chan k j (λ b. accepted j w.events ++ [] ≡ (received j w.events ++ cond (b && false) (y ∷ []) []) ++ its j)
+      (λ z. idle (accepted j w.events) (received j w.events) (its j) (sw.order j))
+      (idle (accepted j w.events) (received j w.events) (its j) (sw.order j)))
 
   sound_receive : (k clause : ℕ) → ((x : Item) (ok : Bool) → reply_deal q (got clause x ok) ≡ Takes k x ok) → IsSound (do_receive w n c q k clause).shared
   sound_receive k clause d = sound_receive_from k clause d (its k) refl (partner k true w.asleep) refl
@@ -271,10 +271,13 @@ module _ (w : Shared) (n c : ℕ) (q : Request) (sw : IsSound w) where
     where
       ch' : Channel
       ch' = record (channel_of w.channels k) { closed = true }
+
       kept : (k < length w.channels) ⊎ (its k ≡ [])
       kept = elim (cases_lt k (length w.channels)) [ inl l ↦ inl l | inr l ↦ inr (ap (λ (x : Channel). x.items) (get_or_past w.channels k no_channel l)) ]
+
       same : (j : ℕ) → (channel_of (with_channel w n c q k (record (channel_of w.channels k) { closed = true })).channels j).items ≡ its j
       same j = items_set w.channels k (record (channel_of w.channels k) { closed = true }) kept j ∙ by_chan k j (λ b. cond b (its k) (its j) ≡ its j) (λ z. ap its z) refl
+
       go : (b : Bool) → IsSound (cond b (panics w n c q 3 0) (done w n c q (with_channel w n c q k (record (channel_of w.channels k) { closed = true })) Nothing (map (λ (p : Sleeper × Offer). (p.0.number, close_reply (channel_of w.channels k).zero p.1)) (partners k w.asleep)))).shared
       go true = sound_ends (Panics 3 0) (Panicked 3) refl refl
       go false = sound_idle (with_channel w n c q k (record (channel_of w.channels k) { closed = true })) refl (λ x i. i) Nothing (map (λ (p : Sleeper × Offer). (p.0.number, close_reply (channel_of w.channels k).zero p.1)) (partners k w.asleep)) d same
@@ -309,6 +312,7 @@ module _ (w : Shared) (n c : ℕ) (q : Request) (sw : IsSound w) where
     where
       ch : Channel
       ch = record { capacity = size; items = []; closed = false; zero = z }
+
       go : (a b : Bool) → IsSound (cond a (panics w n c q 6 0) (cond b (panics w n c q 9 0) (done w n c q (record w { channels = w.channels ++ record { capacity = size; items = []; closed = false; zero = z } ∷ [] }) (Value (Chan (Some (length w.channels)))) []))).shared
       go true b = sound_ends (Panics 6 0) (Panicked 6) refl refl
       go false true = sound_ends (Panics 9 0) (Panicked 9) refl refl
@@ -376,7 +380,7 @@ sound_act w n c (Print bytes) sw = sound_idle w n c (Print bytes) sw (record w {
 sound_act w n c End sw = sound_on w n c End sw w.asleep w.channels (Done Nothing) [] refl (λ x i. i) (λ k x f i t. sw.calm k x f i t) (λ j. idle (accepted j w.events) (received j w.events) (channel_of w.channels j).items (sw.order j))
 sound_act w n c Exit sw = sound_ends w n c Exit sw (Done Nothing) Finished refl refl
 sound_act w n c (Panic p) sw = sound_ends w n c (Panic p) sw (Panics p 0) (Panicked p) refl refl
-sound_act w n c Exhausted sw = sound_ends w n c Exhausted sw (Done Nothing) Ran_out refl refl
+sound_act w n c Exhausted sw = sound_ends w n c Exhausted sw (Done Nothing) RanOut refl refl
 
 module _ (K : Kind) (limit : ℕ) where
   SoundIn : World (Clocked K.State) (Rest K.State) → Type 0

@@ -54,7 +54,8 @@ module _ (K M : Kind) (R : K.State → M.State → Type 0) where
     left_more s u t e a =
         let p = sym (stepped_is (rules K limit) (laws K limit) s u e) in
         record {
-          i = suc a.i; j = a.j;
+          i = suc a.i;
+          j = a.j;
           left = subst (λ z. (rules K limit).asks (moved (rules K limit) a.i z) ≡ true) p a.left;
           right = a.right;
           clock = subst (λ z. (rules K limit).clock (moved (rules K limit) a.i z) ≡ (rules M limit).clock (moved (rules M limit) a.j t)) p a.clock;
@@ -65,7 +66,8 @@ module _ (K M : Kind) (R : K.State → M.State → Type 0) where
     right_more s t u e a =
         let p = sym (stepped_is (rules M limit) (laws M limit) t u e) in
         record {
-          i = a.i; j = suc a.j;
+          i = a.i;
+          j = suc a.j;
           left = a.left;
           right = subst (λ z. (rules M limit).asks (moved (rules M limit) a.j z) ≡ true) p a.right;
           clock = subst (λ z. (rules K limit).clock (moved (rules K limit) a.i s) ≡ (rules M limit).clock (moved (rules M limit) a.j z)) p a.clock;
@@ -86,20 +88,23 @@ module _ (K M : Kind) (R : K.State → M.State → Type 0) where
           q = q;
           left = ap (asks_of limit clock) e ∙ cond_below clock limit (Some Exhausted) (Some q) lt;
           right = ap (asks_of limit clock) f ∙ cond_below clock limit (Some Exhausted) (Some q) lt;
-          below = le; answers = an; starts = st }))
+          below = le;
+          answers = an;
+          starts = st;
+        }))
         (λ ge. let eq : clock ≡ limit = omega arith in spent clock s c le
-          (ap (asks_of limit clock) e ∙ cond_at clock limit (Some Exhausted) (Some q) eq)
-          (ap (asks_of limit clock) f ∙ cond_at clock limit (Some Exhausted) (Some q) eq))
+        (ap (asks_of limit clock) e ∙ cond_at clock limit (Some Exhausted) (Some q) eq)
+        (ap (asks_of limit clock) f ∙ cond_at clock limit (Some Exhausted) (Some q) eq))
         (cases_lt clock limit)
 
     ticking : (clock : ℕ) (s a : K.State) (c e : M.State) → clock ≤ limit → K.next s ≡ Ticks a → M.next c ≡ Ticks e → (clock < limit → Like (at (clock + 1) a) (at (clock + 1) e)) → Like (at clock s) (at clock c)
     ticking clock s a c e le p p' later =
         ⊎_elim
         (λ lt. left_more (at clock s) (at (clock + 1) a) (at clock c) (ap (local_of limit clock) p ∙ cond_below clock limit None (Some (at (clock + 1) a)) lt)
-          (right_more (at (clock + 1) a) (at clock c) (at (clock + 1) e) (ap (local_of limit clock) p' ∙ cond_below clock limit None (Some (at (clock + 1) e)) lt) (later lt)))
+        (right_more (at (clock + 1) a) (at clock c) (at (clock + 1) e) (ap (local_of limit clock) p' ∙ cond_below clock limit None (Some (at (clock + 1) e)) lt) (later lt)))
         (λ ge. let eq : clock ≡ limit = omega arith in spent clock s c le
-          (ap (asks_of limit clock) p ∙ cond_at clock limit (Some Exhausted) None eq)
-          (ap (asks_of limit clock) p' ∙ cond_at clock limit (Some Exhausted) None eq))
+        (ap (asks_of limit clock) p ∙ cond_at clock limit (Some Exhausted) None eq)
+        (ap (asks_of limit clock) p' ∙ cond_at clock limit (Some Exhausted) None eq))
         (cases_lt clock limit)
 
     module _ (size : K.State → ℕ) (sim : (s : K.State) (c : M.State) → R s c → Matches K M R s (K.next s) c) (falls : (s : K.State) → Falls size (size s) (K.next s)) where

@@ -216,7 +216,7 @@ module _ (w : Shared) (n c : ℕ) (q : Request) (rk : Ranked w.asleep w.events) 
 
   rises_now : (k : ℕ) → Rises (entries k (w.events ++ e ∷ []))
   rises_now k = subst Rises (sym (entries_snoc k [] w.events e)) (rises_append (entries k w.events) (entered k w.events (deal e) n lg.who) (rk.rises k) (entered_rises k w.events (deal e) n lg.who)
-    (λ a b i j z. elim (fresh k b j) [ inl f ↦ omega (arith, rk.low k a i, f.1) | inr f ↦ omega (arith, (rk.since f.y f.lies).below k a i (sym z ∙ sym f.is), f.at_i) ]))
+      (λ a b i j z. elim (fresh k b j) [ inl f ↦ omega (arith, rk.low k a i, f.1) | inr f ↦ omega (arith, (rk.since f.y f.lies).below k a i (sym z ∙ sym f.is), f.at_i) ]))
 
   since_old : (x : Sleeper) → In x w.asleep → IsApart x.number d.woken → Since (w.events ++ e ∷ []) x
   since_old x i g =

@@ -1,4 +1,4 @@
-// Words, requests, and what each request does.
+//! Words, requests and what each of them does; worlds of goroutines of any kind; and writers that remember a failure.
 #![tactic(auto)]
 
 ghost use Rattle.std.specs.Prelude.{List, ℕ};
@@ -10,21 +10,26 @@ ghost use Rattle.word.specs.Rising.{IsRising};
 ghost use Rattle.word.specs.Values.{Reply, Word};
 ghost use Rattle.word.specs.Worlds.{Equal, moment, rules};
 
-/// The laws that make a turn stable hold of every kind of state.
+pub mod end;
+pub mod request;
+pub mod value;
+pub mod write;
+
+pub use write::{Flagged, Write, WriteFault};
+
+/// The laws that make a turn stable hold of every kind of state: a local step lowers no clock, and who asks has none.
 pub fn kinds_have_laws<S>()
     ensures { (next : S → Next S) (answer : S → Reply → S) (begin : ℕ → List Word → S) (main limit : ℕ) → Laws (rules (record { State = S; next = next; answer = answer; begin = begin; main = main }) limit) }
-{
-}
+{}
 
 /// Two kinds whose states are related step by step, a pair of related states being a P, have the same events, outputs and ends.
 pub fn related_kinds_are_equal<S, T, P>()
     ensures { (K : Parts S) (M : Parts T) (left : P → S) (right : P → T) → IsKept K M left right → Equal (kind_of K) (kind_of M) }
-{
-}
+{}
 
-/// At every moment each channel has delivered what it accepted, once and in order, but for what is in its buffer; one sender's items in the order in which they were offered.
+/// At every moment each channel has delivered what it accepted, once and in order, but for what is in its buffer; one
+/// sender's items in the order in which they were offered.
 pub fn channels_deliver_in_order<S>()
     ensures order { (K : Parts S) (limit n : ℕ) → InOrder (moment (kind_of K) limit n).shared.shared }
     ensures rising { (K : Parts S) (limit n : ℕ) → IsRising (moment (kind_of K) limit n).shared.shared }
-{
-}
+{}
