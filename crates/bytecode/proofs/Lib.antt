@@ -1,0 +1,1 @@
+-- no lemmas of its own yet
