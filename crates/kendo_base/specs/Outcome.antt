@@ -6,8 +6,8 @@ use Rattle.go_text.specs.declared.rule.LimitKind.{LimitKind}
 use Rattle.go_text.specs.declared.rule.LimitKind.TheVariants.{ConstantSize, StructWidth, SelectClauses, ListEntries, FunctionWords, Declarations}
 use Rattle.go_text.specs.declared.fault.Fault.{Fault}
 use Rattle.go_text.specs.declared.fault.Fault.TheVariants as fault
-use Rattle.kendo_base.specs.declared.end.End.{End}
-use Rattle.kendo_base.specs.declared.end.End.TheVariants.{Finished, Panicked, Deadlock, Exhausted}
+use Rattle.word.specs.declared.end.End.{End}
+use Rattle.word.specs.declared.end.End.TheVariants.{Finished, Panicked, Deadlock, Exhausted}
 
 -- the number of a typing rule
 abbrev pub rule_number : Rule → ℕ

@@ -1,8 +1,10 @@
 //! The whole product over bytes: a run of a text, and the report of how it ended.
 #![tactic(auto)]
 
-pub mod end;
+pub mod gate;
 pub mod outcome;
+pub mod run;
 
-pub use end::End;
+pub use gate::Gate;
 pub use outcome::report;
+pub use run::run_bytes;

@@ -3,10 +3,10 @@ ghost use Rattle.std.specs.Prelude.{◌≡◌, ◌++◌, IfOk, Some, string_byte
 ghost use Rattle.std.specs.Fmt.{DisplaysOnOk};
 ghost use Rattle.kendo_base.specs.Outcome.{fault_text, panic_text, position_text, report_line, report_status};
 
-use crate::end::End;
 use go_text::{Fault, Memory, Place, Position};
 use std::alloc::{AllocError, Global};
 use std::fmt;
+use word::end::End;
 
 /// The line on standard error, with its newline (empty after a run that finished), and the exit status.
 /// Of a refusal that has a place, the line tells line and column where the place has them.
