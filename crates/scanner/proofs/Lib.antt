@@ -1,1 +1,3 @@
--- no lemmas of its own yet
+pub mod Greatest
+pub mod Scanning
+pub mod Order
