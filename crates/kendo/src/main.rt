@@ -1,0 +1,159 @@
+//! The program: its command line, its file, and the two standard streams.
+#![tactic(auto)]
+
+mod arguments;
+#[cfg(test)]
+mod tests;
+
+use arguments::{Invocation, command, invocation_of};
+use clap::error::ErrorKind;
+use go_text::source::MAX_LENGTH;
+use go_text::{Fault, Memory};
+use kendo_base::{Gate, report, run_bytes};
+use std::alloc::Global;
+use std::fs::File;
+use std::io::{BufWriter, Read as _, Write as _};
+use std::process::ExitCode;
+use std::sync::Wait;
+use std::{env, io};
+use word::Flagged;
+use word::end::End;
+
+/// The status of want of memory.
+const MEMORY: u8 = 5;
+
+/// The status of a writer that refused bytes.
+const WRITE: u8 = 6;
+
+/// The status of a command line or a file that can't be used.
+const USAGE: u8 = 64;
+
+/// A gate that holds nobody.
+struct Open;
+
+impl Gate for Open {
+    fn at_start(&self, _worker: u64) {}
+
+    fn at_lent(&self, _worker: u64, _number: u64) {}
+
+    fn at_end(&self, _worker: u64) {}
+}
+
+/// A writer that drops what it takes.
+#[derive(Drop)]
+struct Dropped;
+
+impl io::Write for Dropped {
+    fn write(&mut self, buf: &[u8]) -> io::Result<usize> {
+        Ok(buf.len())
+    }
+
+    fn flush(&mut self) -> io::Result<()> {
+        Ok(())
+    }
+}
+
+fn main(rt: HostRuntime) -> ExitCode {
+    let status = match start(&rt, &rt) {
+        Ok(status) => status,
+        Err(Memory) => {
+            tell(&rt, b"kendo: 13 Memory\n".as_slice());
+            MEMORY
+        }
+    };
+    ExitCode::from(status)
+}
+
+/// Writes a line on standard error. The status says what happened also where the line is lost.
+fn tell(rt: &HostRuntime, line: &[u8]) {
+    let _told = rt.stderr().write_all(line);
+}
+
+/// Reads the command line and does what it asks, down to the exit status. A run may wait for its workers, by this leave.
+fn start(rt: &HostRuntime, leave: &impl Wait) -> Result<u8, Memory> {
+    let alloc = rt.alloc();
+    let words: Vec<String> = match env::args(rt) {
+        Ok(words) => words.collect(alloc)?,
+        Err(error) if error.kind() == io::ErrorKind::OutOfMemory => return Err(Memory),
+        Err(_) => {
+            tell(rt, b"kendo: an argument is not UTF-8\n".as_slice());
+            return Ok(USAGE);
+        }
+    };
+    match command(alloc)?.try_get_matches_from(words.as_slice()) {
+        Ok(matches) => match invocation_of(&matches) {
+            Some(invocation) => perform(rt, leave, alloc, &invocation),
+            None => Ok(USAGE),
+        },
+        Err(error) => show(rt, &error),
+    }
+}
+
+/// Shows help on standard output, or what is wrong with the command line on standard error.
+fn show(rt: &HostRuntime, error: &clap::Error) -> Result<u8, Memory> {
+    if error.kind() == ErrorKind::OutOfMemory {
+        return Err(Memory);
+    }
+    let printed = error.print(rt);
+    if error.use_stderr() {
+        return Ok(USAGE);
+    }
+    match printed {
+        Ok(()) => Ok(0),
+        Err(_) => {
+            tell(rt, b"kendo: 14 Write\n".as_slice());
+            Ok(WRITE)
+        }
+    }
+}
+
+/// Runs the file, and tells how it ended.
+fn perform(
+    rt: &HostRuntime,
+    leave: &impl Wait,
+    alloc: Global,
+    invocation: &Invocation<'_>,
+) -> Result<u8, Memory> {
+    let file = invocation.file;
+    let bytes = match read(rt, alloc, file) {
+        Ok(bytes) => bytes,
+        Err(error) if error.kind() == io::ErrorKind::OutOfMemory => return Err(Memory),
+        Err(_) => {
+            let line = format!(in alloc; "kendo: cannot read {file}\n")?;
+            tell(rt, line.as_bytes());
+            return Ok(USAGE);
+        }
+    };
+    let outcome = run(rt, leave, alloc, bytes, invocation);
+    let (line, status) = report(alloc, &outcome)?;
+    tell(rt, line.as_slice());
+    Ok(status)
+}
+
+/// The bytes of the file, up to one more than a text may have: of a longer file no more is needed to refuse it.
+fn read(rt: &HostRuntime, alloc: Global, path: &str) -> io::Result<Vec<u8>> {
+    let mut bytes = Vec::new(alloc);
+    File::open(rt, path)?
+        .take(MAX_LENGTH as u64 + 1)
+        .read_to_end(&mut bytes)?;
+    Ok(bytes)
+}
+
+/// Runs the text with standard output behind a buffer. What the last flush loses is a refusal of the writer.
+fn run(
+    rt: &HostRuntime,
+    leave: &impl Wait,
+    alloc: Global,
+    bytes: Vec<u8>,
+    invocation: &Invocation<'_>,
+) -> Result<End, Fault> {
+    let stdout = BufWriter::new(alloc, rt.stdout()).map_err(|_| Fault::Memory)?;
+    let mut out = Flagged::new(stdout);
+    let mut trace = Flagged::new(Dropped);
+    let (limit, workers) = (invocation.limit, invocation.workers);
+    let end = run_bytes(
+        leave, alloc, bytes, limit, workers, &Open, &mut out, &mut trace,
+    )?;
+    out.flush().map_err(|_| Fault::Write)?;
+    Ok(end)
+}

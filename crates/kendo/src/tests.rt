@@ -1,0 +1,97 @@
+use crate::arguments::{Invocation, command, invocation_of};
+use std::test::Fail;
+
+#[test]
+fn accepted_words(rt: HostRuntime) -> Result<(), Fail> {
+    let file = "a.go";
+    let default = 1_099_511_627_776;
+    for (line, workers, limit) in [
+        ("kendo run a.go", 4, default),
+        ("kendo run --limit +5 a.go --workers=007", 7, 5),
+        (
+            "kendo run a.go --limit=18446744073709551615 --workers 0",
+            0,
+            u64::MAX,
+        ),
+    ] {
+        let words: Vec<&str> = line.split(' ').collect(rt.alloc())?;
+        let Ok(matches) = command(rt.alloc())?.try_get_matches_from(words.as_slice()) else {
+            panic!(rt; "refused: {line}");
+        };
+        let Some(invocation) = invocation_of(&matches) else {
+            panic!(rt; "no invocation: {line}");
+        };
+        let wanted = Invocation {
+            file,
+            workers,
+            limit,
+        };
+        assert_eq!(rt; invocation, wanted);
+    }
+    Ok(())
+}
+
+#[test]
+fn shown_texts(rt: HostRuntime) -> Result<(), Fail> {
+    for (line, is_mistake, text) in [
+        (
+            "kendo",
+            true,
+            "error: 'kendo' requires a subcommand but one was not provided",
+        ),
+        (
+            "kendo run",
+            true,
+            "error: the following required arguments were not provided",
+        ),
+        (
+            "kendo fly a.go",
+            true,
+            "error: unrecognized subcommand 'fly'",
+        ),
+        (
+            "kendo run a.go --fast",
+            true,
+            "error: unexpected argument '--fast' found",
+        ),
+        (
+            "kendo run a.go --limit abc",
+            true,
+            "error: invalid value 'abc' for '--limit <L>'",
+        ),
+        (
+            "kendo run a.go --limit 18446744073709551616",
+            true,
+            "error: invalid value '18446744073709551616' for '--limit <L>'",
+        ),
+        (
+            "kendo run a.go --workers=-1",
+            true,
+            "error: invalid value '-1' for '--workers <N>'",
+        ),
+        (
+            "kendo run a.go --limit 1 --limit 2",
+            true,
+            "error: the argument '--limit <L>' cannot be used multiple times",
+        ),
+        (
+            "kendo --help",
+            false,
+            "Compiles and runs programs of a Go subset\n\nUsage: kendo <COMMAND>",
+        ),
+        (
+            "kendo run --help",
+            false,
+            "Runs a program\n\nUsage: kendo run [OPTIONS] <FILE>",
+        ),
+    ] {
+        let words: Vec<&str> = line.split(' ').collect(rt.alloc())?;
+        let Err(error) = command(rt.alloc())?.try_get_matches_from(words.as_slice()) else {
+            panic!(rt; "accepted: {line}");
+        };
+        assert_eq!(rt; error.use_stderr(), is_mistake, "{line}");
+        let shown = format!(in rt.alloc(); "{error}")?;
+        assert!(rt; shown.starts_with(text), "{shown}");
+    }
+    Ok(())
+}
