@@ -52,7 +52,7 @@ pub enum Fault {
     Limit { kind: LimitKind, node: Option<u32>, place: Place },
     /// A rule of the verifier, 1 to 8, is broken at this instruction of this function.
     #[error("11 Unverified rule {rule}, function {function}, place {place}")]
-    Unverified { rule: u8, function: u32, place: u32 },
+    Unverified { rule: u8, function: usize, place: usize },
     /// A lease or a piece of another program, limit or place.
     #[error("12 NotYours")]
     NotYours,
