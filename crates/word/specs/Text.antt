@@ -10,8 +10,12 @@ text_of (Truth true) = codes "true"
 text_of (Truth false) = codes "false"
 text_of (Chan c) = []
 
+-- the texts of the values, each with a space before it
+abbrev pub spaced : List Word → List ℕ
+spaced [] = []
+spaced (word ∷ rest) = 32 ∷ (text_of word ++ spaced rest)
+
 -- the texts of the values with one space between them, and a newline
 abbrev pub line_of : List Word → List ℕ
 line_of [] = 10 ∷ []
-line_of (word ∷ []) = text_of word ++ 10 ∷ []
-line_of (word ∷ next ∷ rest) = text_of word ++ (32 ∷ line_of (next ∷ rest))
+line_of (word ∷ rest) = text_of word ++ spaced rest ++ 10 ∷ []

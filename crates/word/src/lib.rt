@@ -12,6 +12,7 @@ ghost use Rattle.word.specs.Worlds.{Equal, moment, rules};
 
 pub mod end;
 pub mod request;
+pub mod text;
 pub mod value;
 pub mod write;
 
