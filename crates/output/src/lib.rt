@@ -1,0 +1,12 @@
+//! Pieces of what a run writes, and their way into a writer.
+#![tactic(auto)]
+
+pub mod draining;
+pub mod piece;
+pub mod progress;
+#[cfg(test)]
+mod tests;
+
+pub use draining::{DrainFault, drain};
+pub use piece::{Kind, Piece};
+pub use progress::Progress;
