@@ -1,0 +1,4 @@
+pub mod Large
+pub mod Parts
+pub mod Nodes
+pub mod Fits

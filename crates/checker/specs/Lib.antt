@@ -1,0 +1,4 @@
+pub mod Constants
+pub mod Rules
+pub mod Program
+pub mod Typed

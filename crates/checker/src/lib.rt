@@ -1,0 +1,15 @@
+//! The check of a tree against the typing rules and the limits.
+#![tactic(auto)]
+
+mod body;
+mod constant;
+mod file;
+mod flaw;
+mod size;
+#[cfg(test)]
+mod tests;
+mod tree;
+mod typed;
+
+pub use tree::check;
+pub use typed::Typed;

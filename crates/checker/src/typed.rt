@@ -1,0 +1,36 @@
+//! A checked tree.
+
+ghost use Rattle.std.specs.Prelude.{◌≡◌};
+ghost use Rattle.syntax.specs.Spans.{tree_of};
+ghost use Rattle.checker.specs.Rules.{IsTyped};
+
+use syntax::Tree;
+
+/// A tree that breaks no typing rule and exceeds no limit.
+#[derive(Drop)]
+pub struct Typed {
+    tree: Tree,
+    ghost typed: { IsTyped (tree_of tree) },
+}
+
+impl Typed {
+    ghost use Rattle.checker.specs.Typed.{tree_in};
+    ghost use Rattle.checker.specs.Program.{IsProgram};
+
+    /// A tree that breaks no typing rule and exceeds no limit.
+    pub(crate) fn new(tree: Tree) -> Typed
+        requires { IsTyped (tree_of tree) }
+        ensures { tree_in result ≡ tree }
+    {
+        Typed { tree }
+    }
+
+    /// The tree that was checked.
+    pub fn tree(&self) -> &Tree
+        ensures tree { result.now ≡ tree_in self.now }
+        ensures typed { IsTyped (tree_of result.now) }
+        ensures program { IsProgram (tree_of result.now) }
+    {
+        &self.tree
+    }
+}
