@@ -1,0 +1,194 @@
+-- Files: what is spelt is read, what is read is spelt so, and at most one file is spelt.
+use Rattle.std.proofs.Common.{◌≡◌, ℕ, ◌+◌, ◌<◌, ◌≤◌, Bool, false, max, List, [], ◌∷◌, ◌++◌, length, Result, Ok, Err, refl, sym, ap, ◌∙◌, subst, arith, append_assoc, length-append, codes}
+use Rattle.scanner.specs.declared.kind.Kind.TheVariants as kinds
+use Rattle.syntax.specs.Tree.{Statement, File, height, most_entries}
+use Rattle.parser.specs.Lexemes.{Lexeme, Literal, Name, Mark}
+use Rattle.parser.specs.Spelling.{separated, joined, AreSome, statement_words, IsStatement, is_builtin, header_words, words, IsFile, Spells}
+use Rattle.parser.specs.Reading.{Refusal, Syntax, TooDeep, TooMany, Reading, ◌>>=◌, expect, expect_name, function_name, header, listed, statement, statement_next, made, ended, file}
+use Rattle.parser.proofs.Marks.{bind_ok, unless_ok, ok_is, expect_is, expect_name_is}
+use Rattle.parser.proofs.ListLaws.{Found as AllFound, High as AllHigh, Many as AllMany, Full, listed_again, listed_sound}
+use Rattle.parser.proofs.StatementLaws.{Ends, statements, statement_again, statements_separate, statements_sound}
+
+-- ---- what is spelt is read
+
+pub data FileOutcome (read : Result File Refusal) (f : File) (room most : ℕ) : Type 0 where
+  Found : height f ≤ room + 3 → most_entries f ≤ most → read ≡ Ok f → FileOutcome read f room most
+  High : room + 3 < height f → read ≡ Err TooDeep → FileOutcome read f room most
+  Many : most < most_entries f → read ≡ Err TooMany → FileOutcome read f room most
+
+header_again : (name : List ℕ) (rest : List Lexeme) → is_builtin name ≡ false → header (header_words name rest) ≡ Ok (name, rest)
+unfolding header expect expect_name function_name
+header_again name rest named = rw named refl
+
+length_separated : {A : Type 0} (each : A → List Lexeme) (separator : Lexeme) (xs : List A) → length xs ≤ length (separated each separator xs)
+length_separated each separator [] = omega arith
+length_separated each separator (x ∷ xs) = omega (arith, length_separated each separator xs, length-append (each x) (separated each separator xs))
+
+-- a file's statements and what follows them
+abbrev body_words : List Statement → List Lexeme
+body_words body = joined statement_words (Mark kinds.Semicolon) body ++ (Mark kinds.RightBrace ∷ Mark kinds.Semicolon ∷ [])
+
+body_again : (room most : ℕ) (name : List ℕ) (body : List Statement) → AreSome IsStatement body
+    → FileOutcome (listed (statement most room) statement_next Syntax (length (body_words body)) (body_words body) >>= λ found. expect kinds.Semicolon found.1 >>= λ rest. ended (made name found.0.0) rest) (made name body) room most
+unfolding expect ended
+body_again room most name [] some = absurd some
+body_again room most name (s ∷ ss) some =
+    let ending = Mark kinds.RightBrace ∷ Mark kinds.Semicolon ∷ [] in
+    let behind = separated statement_words (Mark kinds.Semicolon) ss in
+    let turns = length (body_words (s ∷ ss)) in
+    let regroup : body_words (s ∷ ss) ≡ statement_words s ++ (behind ++ ending) = append_assoc (statement_words s) behind ending in
+    let enough : length (s ∷ ss) ≤ turns =
+    omega (arith, length_separated statement_words (Mark kinds.Semicolon) ss, length-append (statement_words s ++ behind) ending, length-append (statement_words s) behind) in
+    let again = listed_again (statements room most) Ends false (Mark kinds.Semicolon ∷ []) Syntax (statements_separate room most (Mark kinds.Semicolon ∷ [])) (statement_again room most) ss turns s some.0 some.1 in
+    let step : Reading (List Statement × Bool) → Result File Refusal = λ read. read >>= λ found. expect kinds.Semicolon found.1 >>= λ rest. ended (made name found.0.0) rest in
+    let begins : step (listed (statement most room) statement_next Syntax turns (body_words (s ∷ ss))) ≡ step (listed (statement most room) statement_next Syntax turns (statement_words s ++ (behind ++ ending))) =
+    ap (λ (ws : List Lexeme). step (listed (statement most room) statement_next Syntax turns ws)) regroup in
+    elim again [
+      | AllFound low few count e ↦ Found (omega arith) few (begins ∙ ap step e)
+      | AllHigh high e ↦ High (omega arith) (begins ∙ ap step e)
+      | AllMany many e ↦ Many many (begins ∙ ap step e)
+      | Full count e ↦ absurd (omega arith)
+    ]
+
+pub file_again : (room most : ℕ) (f : File) → IsFile f → FileOutcome (file most room (words f)) f room most
+unfolding file
+file_again room most f is =
+    let h = header_again f.function.name (body_words f.function.body) is.named in
+    rw h (body_again room most f.function.name f.function.body is.body)
+
+-- ---- what is read is spelt so
+
+abbrev with_rest : List ℕ → List Lexeme → List ℕ × List Lexeme
+with_rest name rest = (name, rest)
+
+function_name_is : (ws : List Lexeme) (name : List ℕ) (rest : List Lexeme) → function_name ws ≡ Ok (with_rest name rest) → (ws ≡ Name name ∷ rest) × (is_builtin name ≡ false)
+unfolding function_name
+function_name_is [] name rest e = absurd cc
+function_name_is (Literal value ∷ ws) name rest e = absurd cc
+function_name_is (Mark kind ∷ ws) name rest e = absurd cc
+function_name_is (Name first ∷ ws) name rest e =
+    let w = unless_ok (is_builtin first) Syntax (Ok (with_rest first ws)) (with_rest name rest) e in
+    subst (λ (x : List ℕ × List Lexeme). (Name first ∷ ws ≡ Name x.0 ∷ x.1) × (is_builtin x.0 ≡ false)) (ok_is (with_rest first ws) (with_rest name rest) w.1) (refl, w.0)
+
+-- the steps of a header
+abbrev brace_step : List ℕ → List Lexeme → Reading (List ℕ)
+brace_step name ws = expect kinds.LeftBrace ws >>= λ rest. Ok (with_rest name rest)
+
+abbrev close_step : List ℕ → List Lexeme → Reading (List ℕ)
+close_step name ws = expect kinds.RightParenthesis ws >>= brace_step name
+
+abbrev open_step : List ℕ → List Lexeme → Reading (List ℕ)
+open_step name ws = expect kinds.LeftParenthesis ws >>= close_step name
+
+abbrev name_step : List Lexeme → Reading (List ℕ)
+name_step ws = function_name ws >>= λ name. open_step name.0 name.1
+
+abbrev func_step : List Lexeme → Reading (List ℕ)
+func_step ws = expect kinds.Func ws >>= name_step
+
+abbrev semicolon_step : List Lexeme → Reading (List ℕ)
+semicolon_step ws = expect kinds.Semicolon ws >>= func_step
+
+abbrev main_step : List Lexeme → Reading (List ℕ)
+main_step ws = expect_name (codes "main") ws >>= semicolon_step
+
+signature_sound : (name : List ℕ) (ws : List Lexeme) (found : List ℕ × List Lexeme) → open_step name ws ≡ Ok found
+    → (ws ≡ Mark kinds.LeftParenthesis ∷ Mark kinds.RightParenthesis ∷ Mark kinds.LeftBrace ∷ found.1) × (name ≡ found.0)
+signature_sound name ws found e =
+    let a = bind_ok (expect kinds.LeftParenthesis ws) (close_step name) found e in
+    let b = bind_ok (expect kinds.RightParenthesis a.0) (brace_step name) found a.2 in
+    let c = bind_ok (expect kinds.LeftBrace b.0) (λ rest. Ok (with_rest name rest)) found b.2 in
+    let same = ok_is (with_rest name c.0) found c.2 in
+    let last = expect_is kinds.LeftBrace b.0 c.0 c.1 ∙ ap (λ (x : List ℕ × List Lexeme). Mark kinds.LeftBrace ∷ x.1) same in
+    let middle = expect_is kinds.RightParenthesis a.0 b.0 b.1 ∙ ap (λ (x : List Lexeme). Mark kinds.RightParenthesis ∷ x) last in
+    (expect_is kinds.LeftParenthesis ws a.0 a.1 ∙ ap (λ (x : List Lexeme). Mark kinds.LeftParenthesis ∷ x) middle, ap (λ (x : List ℕ × List Lexeme). x.0) same)
+
+header_sound : (ws : List Lexeme) (found : List ℕ × List Lexeme) → header ws ≡ Ok found → (ws ≡ header_words found.0 found.1) × (is_builtin found.0 ≡ false)
+unfolding header
+header_sound ws found e =
+    let a = bind_ok (expect kinds.Package ws) main_step found e in
+    let b = bind_ok (expect_name (codes "main") a.0) semicolon_step found a.2 in
+    let c = bind_ok (expect kinds.Semicolon b.0) func_step found b.2 in
+    let d = bind_ok (expect kinds.Func c.0) name_step found c.2 in
+    let n = bind_ok (function_name d.0) (λ name. open_step name.0 name.1) found d.2 in
+    let named = function_name_is d.0 n.0.0 n.0.1 n.1 in
+    let rest = signature_sound n.0.0 n.0.1 found n.2 in
+    let name : d.0 ≡ Name found.0 ∷ Mark kinds.LeftParenthesis ∷ Mark kinds.RightParenthesis ∷ Mark kinds.LeftBrace ∷ found.1 = named.0 ∙ (λ i. Name (rest.1 i) ∷ rest.0 i) in
+    let func = expect_is kinds.Func c.0 d.0 d.1 ∙ ap (λ (x : List Lexeme). Mark kinds.Func ∷ x) name in
+    let semicolon = expect_is kinds.Semicolon b.0 c.0 c.1 ∙ ap (λ (x : List Lexeme). Mark kinds.Semicolon ∷ x) func in
+    let main = expect_name_is (codes "main") a.0 b.0 b.1 ∙ ap (λ (x : List Lexeme). Name (codes "main") ∷ x) semicolon in
+    (expect_is kinds.Package ws a.0 a.1 ∙ ap (λ (x : List Lexeme). Mark kinds.Package ∷ x) main, subst (λ (x : List ℕ). is_builtin x ≡ false) rest.1 named.1)
+
+ended_is : (f g : File) (ws : List Lexeme) → ended f ws ≡ Ok g → (ws ≡ []) × (f ≡ g)
+unfolding ended
+ended_is f g [] e = (refl, ok_is f g e)
+ended_is f g (w ∷ ws) e = absurd cc
+
+pub record IsFound (room most : ℕ) (ws : List Lexeme) (f : File) : Type 0 where
+  pub spelt : Spells ws f
+  pub low : height f ≤ room + 3
+  pub few : most_entries f ≤ most
+
+pub file_sound : (room most : ℕ) (ws : List Lexeme) (f : File) → file most room ws ≡ Ok f → IsFound room most ws f
+unfolding file
+file_sound room most ws f e =
+    let a = bind_ok (header ws) (λ name. listed (statement most room) statement_next Syntax (length name.1) name.1 >>= λ body. expect kinds.Semicolon body.1 >>= λ rest. ended (made name.0 body.0.0) rest) f e in
+    let name = a.0.0 in
+    let b = bind_ok (listed (statement most room) statement_next Syntax (length a.0.1) a.0.1) (λ body. expect kinds.Semicolon body.1 >>= λ rest. ended (made name body.0.0) rest) f a.2 in
+    let c = bind_ok (expect kinds.Semicolon b.0.1) (λ rest. ended (made name b.0.0.0) rest) f b.2 in
+    let d = ended_is (made name b.0.0.0) f c.0 c.2 in
+    let h = header_sound ws a.0 a.1 in
+    let l = listed_sound (statements room most) Syntax (statements_sound room most) (length a.0.1) a.0.1 b.0 b.1 in
+    let s = expect_is kinds.Semicolon b.0.1 c.0 c.1 ∙ ap (λ (x : List Lexeme). Mark kinds.Semicolon ∷ x) d.0 in
+    let body : a.0.1 ≡ body_words b.0.0.0 = l.parts ∙ ap (λ (x : List Lexeme). joined statement_words (Mark kinds.Semicolon) b.0.0.0 ++ (Mark kinds.RightBrace ∷ x)) s in
+    subst (λ (x : File). IsFound room most ws x) d.1 (record {
+      spelt = record { words = h.0 ∙ ap (header_words name) body; well_formed = record { named = h.1; body = l.are } };
+      low = omega (arith, l.low);
+      few = l.few;
+    })
+
+-- ---- no other file is spelt
+
+pub no_syntax : (room most : ℕ) (ws : List Lexeme) → file most room ws ≡ Err Syntax → (f : File) → Spells ws f → ⊥
+no_syntax room most ws e f spelt =
+    let same = ap (file most room) spelt.words in
+    elim (file_again room most f spelt.well_formed) [
+      | Found low few e' ↦ let bad = sym e ∙ same ∙ e' in absurd cc
+      | High high e' ↦ let bad = sym e ∙ same ∙ e' in absurd cc
+      | Many many e' ↦ let bad = sym e ∙ same ∙ e' in absurd cc
+    ]
+
+pub no_low : (room most : ℕ) (ws : List Lexeme) → file most room ws ≡ Err TooDeep → (f : File) → Spells ws f → height f ≤ room + 3 → ⊥
+no_low room most ws e f spelt low =
+    let same = ap (file most room) spelt.words in
+    elim (file_again room most f spelt.well_formed) [
+      | Found low few e' ↦ let bad = sym e ∙ same ∙ e' in absurd cc
+      | High high e' ↦ absurd (omega arith)
+      | Many many e' ↦ let bad = sym e ∙ same ∙ e' in absurd cc
+    ]
+
+pub no_few : (room most : ℕ) (ws : List Lexeme) → file most room ws ≡ Err TooMany → (f : File) → Spells ws f → most_entries f ≤ most → ⊥
+no_few room most ws e f spelt few =
+    let same = ap (file most room) spelt.words in
+    elim (file_again room most f spelt.well_formed) [
+      | Found low few e' ↦ let bad = sym e ∙ same ∙ e' in absurd cc
+      | High high e' ↦ let bad = sym e ∙ same ∙ e' in absurd cc
+      | Many many e' ↦ absurd (omega arith)
+    ]
+
+-- with room enough the file itself is read
+found_again : (room most : ℕ) (ws : List Lexeme) (f : File) → Spells ws f → height f ≤ room + 3 → most_entries f ≤ most → file most room ws ≡ Ok f
+found_again room most ws f spelt low few =
+    elim (file_again room most f spelt.well_formed) [
+      | Found low few e ↦ ap (file most room) spelt.words ∙ e
+      | High high e ↦ absurd (omega arith)
+      | Many many e ↦ absurd (omega arith)
+    ]
+
+pub one_file : (ws : List Lexeme) (f g : File) → Spells ws f → Spells ws g → f ≡ g
+one_file ws f g a b =
+    let room = max (height f) (height g) in
+    let most = max (most_entries f) (most_entries g) in
+    let first = found_again room most ws f a (omega arith) (omega arith) in
+    let second = found_again room most ws g b (omega arith) (omega arith) in
+    ok_is f g (sym first ∙ second)

@@ -1,0 +1,35 @@
+use Rattle.std.proofs.Common.{is_ok, ap, arith}
+use Rattle.std.proofs.ResultArms.{chosen}
+use Rattle.std.proofs.lemmas.Result.{err_from_is_err_and}
+use Rattle.syntax.specs.Tree.{expression_size}
+use Rattle.syntax.specs.View.{expression_of}
+use Rattle.parser.specs.Cursor.{ahead}
+use Rattle.parser.specs.Reading.{TooMany, expression, argument_next}
+use Rattle.parser.proofs.Lists.{more, ends, one_fails, next_fails, is_full, sum_by-pushed}
+use Rattle.parser.proofs.statement.arguments.Goals as goal
+
+pub returns-in_err-found-clause-arguments : goal.returns-in_err-found-clause-arguments
+returns-in_err-found-clause-arguments c =
+    let p = err_from_is_err_and c.from_residual.result c.from_residual.ensures.1 in
+    rw (p.1, p.2) (one_fails c.in_err-found.field-0.0 (expression c.args.room 0) argument_next TooMany 64 c.loop.counter _ (ahead c.loop.rest) _ c.loop-test.true c.in_err-found.ensures.tree c.loop.invariant.total)
+
+pub returns-in_err-next-clause-arguments : goal.returns-in_err-next-clause-arguments
+returns-in_err-next-clause-arguments c =
+    let p = err_from_is_err_and c.from_residual-in_err-next.result c.from_residual-in_err-next.ensures.1 in
+    rw (p.1, p.2) (next_fails c.in_err-next.field-0.0 (expression c.args.room 0) argument_next TooMany 64 c.loop.counter _ (ahead c.loop.rest) (expression_of c.in_ok-found.found.expression) (ahead c.in_ok-found.found.rest) _ c.loop-test.true c.in_ok-found.ensures.tree c.in_err-next.ensures c.loop.invariant.total)
+
+pub returns-in-End-clause-arguments : goal.returns-in-End-clause-arguments
+returns-in-End-clause-arguments c =
+    let pushed = chosen _ _ _ _ c.push.ensures.items (ap is_ok c.in_ok-push.was) in
+    rw pushed (ends expression_of (expression c.args.room 0) argument_next TooMany 64 c.loop.counter c.loop.entries.items (ahead c.loop.rest) c.in_ok-found.found.expression c.in-End.trailing (ahead c.in_ok-found.found.rest) (ahead c.in_ok-next.after) _ c.loop-test.true c.in_ok-found.ensures.tree (rw c.in-End.is at c.in_ok-next.ensures) c.loop.invariant.total)
+
+pub loop-preserved : goal.loop-preserved
+loop-preserved c =
+    let pushed = chosen _ _ _ _ c.push.ensures.items (ap is_ok c.in_ok-push.was) in
+    record {
+      total = rw pushed (more expression_of (expression c.args.room 0) argument_next TooMany 64 c.loop.counter c.loop.entries.items (ahead c.loop.rest) c.in_ok-found.found.expression (ahead c.in_ok-found.found.rest) (ahead c.in_ok-next.after) _ c.loop-test.true c.in_ok-found.ensures.tree (rw c.in-More.is at c.in_ok-next.ensures) c.loop.invariant.total);
+      nodes = rw pushed (omega (arith, sum_by-pushed expression_of expression_size c.loop.entries.items c.in_ok-found.found.expression, c.loop.invariant.nodes, c.in_ok-found.ensures.nodes));
+    }
+
+pub returns-clause-arguments : goal.returns-clause-arguments
+returns-clause-arguments c = is_full (expression c.args.room 0) argument_next TooMany 64 c.loop.counter _ (ahead c.loop.rest) _ c.loop-test.false c.loop.invariant.total

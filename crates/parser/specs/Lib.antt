@@ -1,0 +1,4 @@
+pub mod Lexemes
+pub mod Cursor
+pub mod Spelling
+pub mod Reading
