@@ -1,6 +1,7 @@
 //! The code of a program.
 
-ghost use Rattle.std.specs.Prelude.{◌≡◌, ◌↔◌, IsTrue, IfSome, IfNone, string_bytes};
+ghost use Rattle.std.specs.Prelude.{◌≡◌, ◌+◌, ◌<◌, ◌^◌, ◌↔◌, IsTrue, IfSome, string_bytes};
+ghost use Rattle.bytecode.specs.Machine.{fetch};
 
 use std::marker::Model;
 
@@ -104,6 +105,15 @@ impl Code {
         ensures { result.now ≡ self.now.prints }
     {
         self.prints.as_slice()
+    }
+
+    /// The instruction at a place of a function.
+    pub fn fetch(&self, function: usize, place: usize) -> Option<Instr>
+        ensures instr { result ≡ fetch self.now function place }
+        ensures within { IfSome result (λ _. place + 1 < 2 ^ 64) }
+    {
+        let function = self.functions.get(function)?;
+        function.instrs.get(place).copied()
     }
 
     /// Whether the two have the same functions and print tables.

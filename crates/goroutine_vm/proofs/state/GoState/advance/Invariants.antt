@@ -1,0 +1,9 @@
+use Rattle.std.proofs.Common.{◌≡◌}
+use Rattle.goroutine_vm.specs.Advance.{IsStateOf, steps}
+use Rattle.goroutine_vm.proofs.state.GoState.advance.Given as goal
+
+abbrev pub invariant-loop-made : goal.invariant-loop-made
+invariant-loop-made l = record {
+  state : IsStateOf l.code l.limit l.self;
+  steps : steps l.code l.limit l._made l.fn.self ≡ l.self;
+}
