@@ -1,6 +1,9 @@
 //! The program: its command line, its file, and the two standard streams.
 #![tactic(auto)]
 
+ghost use Rattle.std.specs.Prelude.{◌≡◌, ◌≢◌, ◌⊎◌, ◌↔◌, IsErr, IfOk};
+ghost use Rattle.clap.specs.Values.{kind_of};
+
 mod arguments;
 #[cfg(test)]
 mod tests;
@@ -16,8 +19,8 @@ use std::io::{BufWriter, Read as _, Write as _};
 use std::process::ExitCode;
 use std::sync::Wait;
 use std::{env, io};
-use word::Flagged;
 use word::end::End;
+use word::{Flagged, Write, WriteFault};
 
 /// The status of want of memory.
 const MEMORY: u8 = 5;
@@ -39,17 +42,17 @@ impl Gate for Open {
     fn at_end(&self, _worker: u64) {}
 }
 
-/// A writer that drops what it takes.
+/// A writer that drops what it takes, and never fails.
 #[derive(Drop)]
 struct Dropped;
 
-impl io::Write for Dropped {
-    fn write(&mut self, buf: &[u8]) -> io::Result<usize> {
-        Ok(buf.len())
-    }
+impl Write for Dropped {
+    ghost use Rattle.std.specs.Prelude.{false};
 
-    fn flush(&mut self) -> io::Result<()> {
-        Ok(())
+    ghost has_failed = { λ _. false };
+
+    fn write(&mut self, piece: &[u8]) -> Result<usize, WriteFault> {
+        Ok(piece.len())
     }
 }
 
@@ -90,7 +93,11 @@ fn start(rt: &HostRuntime, leave: &impl Wait) -> Result<u8, Memory> {
 }
 
 /// Shows help on standard output, or what is wrong with the command line on standard error.
-fn show(rt: &HostRuntime, error: &clap::Error) -> Result<u8, Memory> {
+fn show(rt: &HostRuntime, error: &clap::Error) -> Result<u8, Memory>
+    ensures memory { IsErr result ↔ (kind_of error.now ≡ ErrorKind.OutOfMemory) }
+    ensures help { kind_of error.now ≡ ErrorKind.DisplayHelp → IfOk result (λ status. (status ≡ 0) ⊎ (status ≡ WRITE)) }
+    ensures mistake { kind_of error.now ≢ ErrorKind.DisplayHelp → kind_of error.now ≢ ErrorKind.DisplayVersion → IfOk result (λ status. status ≡ USAGE) }
+{
     if error.kind() == ErrorKind::OutOfMemory {
         return Err(Memory);
     }
@@ -149,7 +156,7 @@ fn run(
 ) -> Result<End, Fault> {
     let stdout = BufWriter::new(alloc, rt.stdout()).map_err(|_| Fault::Memory)?;
     let mut out = Flagged::new(stdout);
-    let mut trace = Flagged::new(Dropped);
+    let mut trace = Dropped;
     let (limit, workers) = (invocation.limit, invocation.workers);
     let end = run_bytes(
         leave, alloc, bytes, limit, workers, &Open, &mut out, &mut trace,
