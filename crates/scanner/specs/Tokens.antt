@@ -67,3 +67,10 @@ tokens_of text = tokens 0 0 None text
 abbrev pub IsInOrder : (from to : ℕ) → List Token → Type 0
 IsInOrder from to [] = from ≤ to
 IsInOrder from to (token ∷ rest) = (from ≤ token.span.from) × (token.span.from ≤ token.span.to) × IsInOrder token.span.to to rest
+
+-- a fault of a text of so many bytes lies within it
+abbrev pub LiesWithin : (end : ℕ) → Fault → Type 0
+LiesWithin end (faults.BadCharacter place) = (place.span.from ≤ place.span.to) × (place.span.to ≤ end)
+LiesWithin end (faults.BadNumber place) = (place.span.from ≤ place.span.to) × (place.span.to ≤ end)
+LiesWithin end faults.Memory = Unit {0}
+LiesWithin end fault = ⊥

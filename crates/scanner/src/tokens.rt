@@ -2,7 +2,7 @@
 
 ghost use Rattle.std.specs.Prelude.{◌≡◌, ◌+◌, ◌≤◌, ◌⊎◌, ◌++◌, length, All, IfOk, IfErr, OnOk};
 ghost use Rattle.go_text.specs.Source.{bytes_of};
-ghost use Rattle.scanner.specs.Tokens.{tokens, tokens_of, token_at, goes_on, line_end, ender, IsInOrder};
+ghost use Rattle.scanner.specs.Tokens.{tokens, tokens_of, token_at, goes_on, line_end, ender, IsInOrder, LiesWithin};
 
 use crate::kind::Kind;
 use crate::lexical::{ends_line, is_name_byte, is_space};
@@ -109,6 +109,7 @@ fn scan_bytes(alloc: Global, text: &[u8]) -> Result<Vec<Token>, Fault>
 pub fn scan(alloc: Global, source: &Source) -> Result<Vec<Token>, Fault>
     ensures tokens { IfOk result (λ v. tokens_of (bytes_of source.now) ≡ Ok v.items) }
     ensures fault { IfErr result (λ e. (e ≡ Fault.Memory) ⊎ (tokens_of (bytes_of source.now) ≡ Err e)) }
+    ensures placed { IfErr result (LiesWithin (length (bytes_of source.now))) }
     ensures in_order { IfOk result (λ v. IsInOrder 0 (length (bytes_of source.now)) v.items) }
     ensures within { IfOk result (λ v. All (λ t. (t.span.from ≤ t.span.to) × (t.span.to ≤ length (bytes_of source.now))) v.items) }
 {
