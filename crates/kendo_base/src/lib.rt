@@ -4,6 +4,8 @@
 pub mod gate;
 pub mod outcome;
 pub mod run;
+#[cfg(test)]
+mod tests;
 
 pub use gate::Gate;
 pub use outcome::report;

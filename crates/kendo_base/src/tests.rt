@@ -1,0 +1,242 @@
+//! Programs from bytes to bytes.
+
+use crate::{Gate, report, run_bytes};
+use go_text::Memory;
+use std::alloc::{AllocError, Global};
+use std::sync::Wait;
+use std::test::Fail;
+use word::Flagged;
+
+/// The clock limit where none is given.
+const LIMIT: u64 = 1_099_511_627_776;
+
+/// A gate that holds nobody.
+struct Open;
+
+impl Gate for Open {
+    fn at_start(&self, _worker: u64) {}
+
+    fn at_lent(&self, _worker: u64, _number: u64) {}
+
+    fn at_end(&self, _worker: u64) {}
+}
+
+/// What a run shows.
+#[derive(Debug, Drop)]
+struct Shown {
+    output: Vec<u8>,
+    line: Vec<u8>,
+    status: u8,
+}
+
+fn run_text<R: Wait>(
+    rt: &R,
+    alloc: Global,
+    text: &[u8],
+    limit: u64,
+    workers: u64,
+) -> Result<Shown, Memory> {
+    let bytes = Vec::from_slice(alloc, text)?;
+    let mut out = Flagged::new(Vec::new(alloc));
+    let mut trace = Flagged::new(Vec::new(alloc));
+    let outcome = run_bytes(
+        rt, alloc, bytes, limit, workers, &Open, &mut out, &mut trace,
+    );
+    let (line, status) = report(alloc, &outcome)?;
+    Ok(Shown {
+        output: out.into_inner(),
+        line,
+        status,
+    })
+}
+
+/// The text with this inside of its `main`.
+fn in_main(alloc: Global, statements: &str) -> Result<String, AllocError> {
+    format!(in alloc; "package main; func main() {{ {statements} }}")
+}
+
+#[test]
+fn sums(rt: HostRuntime) -> Result<(), Fail> {
+    for (statements, output, line, status) in [
+        ("println(1 + 2)", "3\n", "", 0),
+        ("", "", "", 0),
+        (
+            ";; println(1 - 2 - 3,); ; println(4, -(5 - 6), 0)",
+            "-4\n4 1 0\n",
+            "",
+            0,
+        ),
+        (
+            "println(9223372036854775807 + 1 - 1)",
+            "9223372036854775807\n",
+            "",
+            0,
+        ),
+        (
+            "println(-9223372036854775808)",
+            "-9223372036854775808\n",
+            "",
+            0,
+        ),
+        ("println(1);\nprintln(2)\n", "1\n2\n", "", 0),
+        (
+            "println(9223372036854775807 + 1)",
+            "",
+            "kendo: 9 Type rule 6 at 1:37\n",
+            1,
+        ),
+        (
+            "println(1, -9223372036854775809)",
+            "",
+            "kendo: 9 Type rule 6 at 1:40\n",
+            1,
+        ),
+        (
+            "println(1267650600228229401496703205377 - 1)",
+            "",
+            "kendo: 10 Limit kind 1 at 1:37\n",
+            1,
+        ),
+        ("println(07)", "", "kendo: 4 BadNumber at 1:37\n", 1),
+        ("println(0x1)", "", "kendo: 4 BadNumber at 1:37\n", 1),
+        ("println(\"a\")", "", "kendo: 3 BadCharacter at 1:37\n", 1),
+        ("println(1 / 2)", "", "kendo: 7 Syntax at 1:39\n", 1),
+        ("println()", "", "kendo: 7 Syntax at 1:37\n", 1),
+        ("println(1", "", "kendo: 7 Syntax at 1:39\n", 1),
+    ] {
+        let text = in_main(rt.alloc(), statements)?;
+        for workers in [1, 2, 64] {
+            let Ok(shown) = run_text(&rt, rt.alloc(), text.as_bytes(), LIMIT, workers) else {
+                panic!(rt; "no memory");
+            };
+            assert_eq!(rt; shown.output.as_slice(), output.as_bytes(), "{statements}");
+            assert_eq!(rt; shown.line.as_slice(), line.as_bytes(), "{statements}");
+            assert_eq!(rt; shown.status, status, "{statements}");
+        }
+    }
+    Ok(())
+}
+
+#[test]
+fn files(rt: HostRuntime) -> Result<(), Fail> {
+    let unmain = "kendo: 9 Type rule 1 at 1:1\n";
+    for (text, line, status) in [
+        (b"".as_slice(), "kendo: 7 Syntax at 1:1\n", 1),
+        (b"\n".as_slice(), "kendo: 7 Syntax at 2:1\n", 1),
+        (b"\xff".as_slice(), "kendo: 2 NotUtf8\n", 1),
+        (b"\xce\xb1".as_slice(), "kendo: 3 BadCharacter at 1:1\n", 1),
+        (b"package main\n".as_slice(), "kendo: 7 Syntax at 2:1\n", 1),
+        (b"package main\nfunc main() {}\n".as_slice(), "", 0),
+        (
+            b"package main\nfunc main() {}\nfunc f() {}".as_slice(),
+            "kendo: 7 Syntax at 3:1\n",
+            1,
+        ),
+        (b"package main; func other() {}".as_slice(), unmain, 1),
+        (
+            b"package main; func nil() {}".as_slice(),
+            "kendo: 9 Type rule 2 at 1:15\n",
+            1,
+        ),
+        (
+            b"package main; func print() {}".as_slice(),
+            "kendo: 7 Syntax at 1:20\n",
+            1,
+        ),
+    ] {
+        let Ok(shown) = run_text(&rt, rt.alloc(), text, LIMIT, 4) else {
+            panic!(rt; "no memory");
+        };
+        assert_eq!(rt; shown.output.as_slice(), b"".as_slice(), "{line}");
+        assert_eq!(rt; shown.line.as_slice(), line.as_bytes(), "{line}");
+        assert_eq!(rt; shown.status, status, "{line}");
+    }
+    Ok(())
+}
+
+#[test]
+fn limits_and_workers(rt: HostRuntime) -> Result<(), Fail> {
+    let exhausted = "kendo: logical time exhausted\n";
+    let (workers, limits) = ("kendo: 15 BadWorkers\n", "kendo: 16 BadLimit\n");
+    let text = in_main(rt.alloc(), "println(1 + 2)")?;
+    for (text, limit, count, output, line, status) in [
+        (text.as_bytes(), 1, 4, "3\n", exhausted, 4),
+        (text.as_bytes(), 2, 4, "3\n", "", 0),
+        (text.as_bytes(), 1 << 62, 64, "3\n", "", 0),
+        (text.as_bytes(), LIMIT, 0, "", workers, 64),
+        (text.as_bytes(), LIMIT, 65, "", workers, 64),
+        (text.as_bytes(), 0, 4, "", limits, 64),
+        (text.as_bytes(), (1 << 62) + 1, 4, "", limits, 64),
+        (b"\xff".as_slice(), 0, 0, "", workers, 64),
+        (b"\xff".as_slice(), 0, 1, "", limits, 64),
+    ] {
+        let Ok(shown) = run_text(&rt, rt.alloc(), text, limit, count) else {
+            panic!(rt; "no memory");
+        };
+        assert_eq!(rt;
+            shown.output.as_slice(),
+            output.as_bytes(),
+            "{limit} {count}"
+        );
+        assert_eq!(rt; shown.line.as_slice(), line.as_bytes(), "{limit} {count}");
+        assert_eq!(rt; shown.status, status, "{limit} {count}");
+    }
+    Ok(())
+}
+
+/// A `println` of 1 within so many pairs of parentheses, in `main`.
+fn nested(alloc: Global, pairs: usize) -> Result<String, AllocError> {
+    let open: Vec<u8> = vec![in alloc; b'('; pairs]?;
+    let close: Vec<u8> = vec![in alloc; b')'; pairs]?;
+    let (Ok(open), Ok(close)) = (String::from_utf8(open), String::from_utf8(close)) else {
+        return Ok(String::new(alloc));
+    };
+    let statement = format!(in alloc; "println({open}1{close})")?;
+    in_main(alloc, statement.as_str())
+}
+
+/// A `println` of 1, so many times, in `main`.
+fn listed(alloc: Global, count: usize) -> Result<String, AllocError> {
+    let mut statement = String::from_str(alloc, "println(1")?;
+    for _ in 1..count {
+        statement.push_str(", 1")?;
+    }
+    statement.push_str(")")?;
+    in_main(alloc, statement.as_str())
+}
+
+/// The first of these texts, filled up with spaces to this length.
+fn filled(alloc: Global, length: usize) -> Result<String, AllocError> {
+    let mut text = in_main(alloc, "println(1 + 2)")?;
+    for _ in text.len()..length {
+        text.push_str(" ")?;
+    }
+    Ok(text)
+}
+
+#[test]
+fn sizes(rt: HostRuntime) -> Result<(), Fail> {
+    let alloc = rt.alloc();
+    for (text, first, line, status) in [
+        (nested(alloc, 195)?, "1\n", "", 0),
+        (nested(alloc, 196)?, "", "kendo: 8 TooDeep at 1:232\n", 1),
+        (listed(alloc, 64)?, "1 1 1", "", 0),
+        (
+            listed(alloc, 65)?,
+            "",
+            "kendo: 10 Limit kind 4 at 1:229\n",
+            1,
+        ),
+        (filled(alloc, 1_048_576)?, "3\n", "", 0),
+        (filled(alloc, 1_048_577)?, "", "kendo: 1 TooLong\n", 1),
+    ] {
+        let Ok(shown) = run_text(&rt, alloc, text.as_bytes(), LIMIT, 4) else {
+            panic!(rt; "no memory");
+        };
+        assert_eq!(rt; shown.line.as_slice(), line.as_bytes(), "{line}");
+        assert_eq!(rt; shown.status, status, "{line}");
+        assert!(rt; shown.output.starts_with(first.as_bytes()), "{line}");
+        assert_eq!(rt; shown.output.is_empty(), first.is_empty(), "{line}");
+    }
+    Ok(())
+}
