@@ -56,9 +56,9 @@ fault_text (fault.OpenString place) = codes "5 OpenString" ++ position_text plac
 fault_text (fault.OpenComment place) = codes "6 OpenComment" ++ position_text place.position
 fault_text (fault.Syntax place) = codes "7 Syntax" ++ position_text place.position
 fault_text (fault.TooDeep place) = codes "8 TooDeep" ++ position_text place.position
-fault_text (fault.Typing rule node place) =
+fault_text (fault.Typing rule _ place) =
     codes "9 Type rule " ++ decimal (rule_number rule) ++ position_text place.position
-fault_text (fault.Limit kind node place) =
+fault_text (fault.Limit kind _ place) =
     codes "10 Limit kind " ++ decimal (limit_number kind) ++ position_text place.position
 fault_text (fault.Unverified rule function place) =
     codes "11 Unverified rule " ++ (decimal rule ++ (codes " in function " ++ (decimal function

@@ -1,4 +1,4 @@
-//! Programs from bytes to bytes.
+//! Programs, from bytes to bytes.
 
 use crate::{Gate, report, run_bytes};
 use go_text::Memory;
