@@ -147,7 +147,7 @@ impl GoState {
     }
 
     /// The request at which the goroutine stands, if its next instruction isn't a local step.
-    fn asked(&self, alloc: Global, code: &Verified, limit: u64) -> Result<Option<Request>, Memory>
+    pub fn asked(&self, alloc: Global, code: &Verified, limit: u64) -> Result<Option<Request>, Memory>
         requires { IsStateOf code.now limit self.now }
         ensures { IfOk result (λ request. asks (code_kind code.now) limit self.now ≡ option_map request_of request) }
     {

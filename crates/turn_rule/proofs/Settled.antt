@@ -72,8 +72,8 @@ AllGood G (s ∷ ss) = G s × AllGood G ss
 
 -- G and H: what keeps a goroutine coming to a request
 module _ {S W : Type 0} (r : Rules S W) (laws : Laws r) (G : S → Type 0) (H : W → Type 0)
-         (comes : (s : S) → G s → (i : ℕ) × (r.asks (moved r i s) ≡ true) × G (moved r i s))
-         (keeps : (w : W) (n : ℕ) (s : S) → H w → G s → r.asks s ≡ true → ChangesGood G (r.perform w n s).changes × AllGood G (r.perform w n s).started × H (r.perform w n s).shared) where
+    (comes : (s : S) → G s → (i : ℕ) × (r.asks (moved r i s) ≡ true) × G (moved r i s))
+    (keeps : (w : W) (n : ℕ) (s : S) → H w → G s → r.asks s ≡ true → ChangesGood G (r.perform w n s).changes × AllGood G (r.perform w n s).started × H (r.perform w n s).shared) where
   abbrev Is : S → S → Type 0
   Is s t = (s ≡ t) × G s
 
@@ -97,7 +97,7 @@ module _ {S W : Type 0} (r : Rules S W) (laws : Laws r) (G : S → Type 0) (H : 
       let k = keeps w n s e.1 f.1 a in
       subst (λ x. EffectsAlike r r Is Are (r.perform w n s) (r.perform x n t)) e.0
       (subst (λ x. EffectsAlike r r Is Are (r.perform w n s) (r.perform w n x)) f.0
-        (record { changes = changes_self (r.perform w n s).changes k.0; started = all_self (r.perform w n s).started k.1; shared = (refl, k.2) }))
+      (record { changes = changes_self (r.perform w n s).changes k.0; started = all_self (r.perform w n s).started k.1; shared = (refl, k.2) }))
 
   abbrev RowGood : Option S → Type 0
   RowGood None = Unit {0}

@@ -311,16 +311,16 @@ module _ {S W : Type 0} (r : Rules S W) (laws : Laws r) where
   asks_of None row h p = elim h [ ]
   asks_of (Some s) row h p = (h.1.parked p).0
 
-  pub has_turn_at : (k : Key) (rows : List (Option (Row S))) (n : ℕ) → has_turn r k n rows ≡ true → (i : ℕ) (row : Row S) → get_or rows i None ≡ Some row → n + i ≢ k.number → is_before k (key row.floor (n + i)) ≡ true
+  pub has_turn_at : (k : Key) (rows : List (Option (Row S))) (n : ℕ) → has_turn k n rows ≡ true → (i : ℕ) (row : Row S) → get_or rows i None ≡ Some row → n + i ≢ k.number → is_before k (key row.floor (n + i)) ≡ true
   has_turn_at k [] n h i row e ne = cc
   has_turn_at k (p ∷ rows) n h zero row e ne =
-      let a : floor_above r k n (Some row) ≡ true = rw e at (and_parts (floor_above r k n p) (has_turn r k (suc n) rows) h).0 in
+      let a : floor_above k n (Some row) ≡ true = rw e at (and_parts (floor_above k n p) (has_turn k (suc n) rows) h).0 in
       let z : n + 0 ≡ n = omega arith in
       let ne' : n ≡ k.number → ⊥ = λ q. ne (z ∙ q) in
       rw z (elim (or_cases (n == k.number) (is_before k (key row.floor n)) a) [ inl q ↦ absurd (ne' (eqb-true n k.number q)) | inr q ↦ q ])
   has_turn_at k (p ∷ rows) n h (suc i) row e ne =
       let z : n + suc i ≡ suc n + i = omega arith in
-      rw z (has_turn_at k rows (suc n) (and_parts (floor_above r k n p) (has_turn r k (suc n) rows) h).1 i row e (λ q. ne (z ∙ q)))
+      rw z (has_turn_at k rows (suc n) (and_parts (floor_above k n p) (has_turn k (suc n) rows) h).1 i row e (λ q. ne (z ∙ q)))
 
   pub run_add : (i j : ℕ) (w : World S W) → run r (i + j) w ≡ run r j (run r i w)
   run_add zero j w = rw zero-add
@@ -343,7 +343,7 @@ module _ {S W : Type 0} (r : Rules S W) (laws : Laws r) where
       ∙ ap (λ o. move_on r (record { awake = ss; shared = w }) g t o) (laws.parks t asks)
       ∙ ap (λ b. cond b (perform r (record { awake = ss; shared = w }) g t) (record { awake = ss; shared = w })) asks
 
-  module _ (ss : List (Option S)) (rows : List (Option (Row S))) (w : W) (over : r.is_over w ≡ false) (size : length rows ≡ length ss) (st : (n : ℕ) → RowStands r (get_or ss n None) (get_or rows n None)) (g : ℕ) (row : Row S) (at : get_or rows g None ≡ Some row) (asks : r.asks row.state ≡ true) (mine : has_turn r (key (r.clock row.state) g) 0 rows ≡ true) where
+  module _ (ss : List (Option S)) (rows : List (Option (Row S))) (w : W) (over : r.is_over w ≡ false) (size : length rows ≡ length ss) (st : (n : ℕ) → RowStands r (get_or ss n None) (get_or rows n None)) (g : ℕ) (row : Row S) (at : get_or rows g None ≡ Some row) (asks : r.asks row.state ≡ true) (mine : has_turn (key (r.clock row.state) g) 0 rows ≡ true) where
     aim_other : (n : ℕ) (s : S) (p : Row S) → n ≢ g → get_or rows n None ≡ Some p → Meets r s p.state → RowOk r p → (d : ℕ) × Aims g row.state asks n (Some s) d
     aim_other n s p ne e m ok =
         let d = ok.reached.0 in
@@ -399,13 +399,13 @@ module _ {S W : Type 0} (r : Rules S W) (laws : Laws r) where
         = run_add q.moves 1 (record { awake = ss; shared = w }) ∙ ap (one r) q.ran ∙ one_performs q.to w g row.state over q.is_next q.is_t asks in
         (q.moves + 1, subst (λ x. Stands r (perform_row r (record { rows = rows; shared = w }) g (Some row)) x) (sym ran) new)
 
-  settle_at : (m : Machine S W) (w : World S W) → Stands r m w → r.is_over m.shared ≡ false → (k : Key) (row : Row S) → get_or m.rows k.number None ≡ Some row → row.parked ≡ true → r.clock row.state ≡ k.clock → (b : Bool) → has_turn r k 0 m.rows ≡ b
+  settle_at : (m : Machine S W) (w : World S W) → Stands r m w → r.is_over m.shared ≡ false → (k : Key) (row : Row S) → get_or m.rows k.number None ≡ Some row → row.parked ≡ true → r.clock row.state ≡ k.clock → (b : Bool) → has_turn k 0 m.rows ≡ b
       → (n : ℕ) × Stands r (cond b (perform_row r m k.number (get_or m.rows k.number None)) m) (run r n w)
   settle_at m w st over k row at parked c false turn = (0, st)
   settle_at m w st over k row at parked c true turn =
       let ok : RowStands r (get_or w.awake k.number None) (Some row) = rw at at (st.rows k.number) in
       let asks : r.asks row.state ≡ true = asks_of (get_or w.awake k.number None) row ok parked in
-      let mine : has_turn r (key (r.clock row.state) k.number) 0 m.rows ≡ true = ap (λ c. has_turn r (key c k.number) 0 m.rows) c ∙ turn in
+      let mine : has_turn (key (r.clock row.state) k.number) 0 m.rows ≡ true = ap (λ c. has_turn (key c k.number) 0 m.rows) c ∙ turn in
       let q = settled w.awake m.rows m.shared over st.size st.rows k.number row at asks mine in
       let P : Option (Row S) → World S W → Type 0 = λ p w'. Stands r (perform_row r m k.number p) (run r q.0 w') in
       let here : P (Some row) w = subst (λ x. P (Some row) (record { awake = w.awake; shared = x })) st.shared q.1 in
@@ -415,7 +415,7 @@ module _ {S W : Type 0} (r : Rules S W) (laws : Laws r) where
   settle_by m w st over None nx = (0, st)
   settle_by m w st over (Some k) nx =
       let p = parked_row (get_or m.rows k.number None) k.clock nx.0 in
-      settle_at m w st over k p.0 p.1 p.2 p.3 (has_turn r k 0 m.rows) refl
+      settle_at m w st over k p.0 p.1 p.2 p.3 (has_turn k 0 m.rows) refl
 
   pub step_stands : (m : Machine S W) (w : World S W) → Stands r m w → r.is_over m.shared ≡ false → (e : Step) → (n : ℕ) × Stands r (step r m e) (run r n w)
   step_stands m w st over (Lend n) = (0, at_row_keeps (lend r) (record { by = lend_step }) m w n st)

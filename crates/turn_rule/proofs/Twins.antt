@@ -144,7 +144,8 @@ module _ {S W T V : Type 0} (r : Rules S W) (q : Rules T V) (Ready : S → T →
     left_step x y t l (suc i) j a b c d =
         let e = stepped_is r laws x y l in
         record {
-          i = i; j = j;
+          i = i;
+          j = j;
           left = subst (λ z. r.asks (moved r i z) ≡ true) e a;
           right = b;
           clock = subst (λ z. r.clock (moved r i z) ≡ q.clock (moved q j t)) e c;
@@ -160,7 +161,8 @@ module _ {S W T V : Type 0} (r : Rules S W) (q : Rules T V) (Ready : S → T →
     right_moved s t u d f m =
         let e : moved q m.0 u ≡ moved q d t = m.2 ∙ moved_stays q laws' m.1 (moved q d t) (laws'.parks (moved q d t) f.right) in
         record {
-          i = f.i; j = m.0;
+          i = f.i;
+          j = m.0;
           left = f.left;
           right = ap q.asks e ∙ f.right;
           clock = f.clock ∙ sym (ap q.clock e);
@@ -180,7 +182,7 @@ module _ {S W T V : Type 0} (r : Rules S W) (q : Rules T V) (Ready : S → T →
     meets_moved (Some t) d = (d, 0, refl)
 
     module _ (same_over : (w : W) (v : V) → Q w v → r.is_over w ≡ q.is_over v)
-             (performs : (w : W) (v : V) → Q w v → (n : ℕ) (s : S) (t : T) → r.asks s ≡ true → q.asks t ≡ true → r.clock s ≡ q.clock t → Ready s t → EffectsAlike (r.perform w n s) (q.perform v n t)) where
+        (performs : (w : W) (v : V) → Q w v → (n : ℕ) (s : S) (t : T) → r.asks s ≡ true → q.asks t ≡ true → r.clock s ≡ q.clock t → Ready s t → EffectsAlike (r.perform w n s) (q.perform v n t)) where
       -- the left one performs
       module _ (w : World S W) (v : World T V) (tw : Twins w v) (over : r.is_over w.shared ≡ false) (k : Key) (nx : IsNext (option_map r.clock) None w.awake (Some k)) (x : S) (at : get_or w.awake k.number None ≡ Some x) (xc : r.clock x ≡ k.clock) (asks : r.asks x ≡ true) (c : T) (at_c : get_or v.awake k.number None ≡ Some c) where
         abbrev dist : ℕ → ℕ
@@ -260,12 +262,14 @@ module _ {S W T V : Type 0} (r : Rules S W) (q : Rules T V) (Ready : S → T →
           → (o : Option S) → r.local x ≡ o → (b : Bool) → r.asks x ≡ b → (m : ℕ) × Twins (elim o as (λ _. World S W) [ Some y ↦ move_on r w k.number x (Some y) | None ↦ cond b (perform r w k.number x) w ]) (run q m v)
       moves_by w v tw over k nx x at xc (Some y) l b a =
           let row : RowAlike (Some x) (get_or v.awake k.number None) = rw at at (tw.rows k.number) in
-          let all = alike_set w.awake v.awake tw.size tw.rows k.number (Some y) (get_or v.awake k.number None) (row_left_step x y l (get_or v.awake k.number None) row) in
-          (0, record {
-            shared = tw.shared;
-            size = tw.size ∙ sym (length-set w.awake k.number (Some y));
-            rows = subst (λ l. (n : ℕ) → RowAlike (get_or (set w.awake k.number (Some y)) n None) (get_or l n None)) (set-get_or v.awake k.number None) all;
-          })
+          let all = alike_set w.awake v.awake tw.size tw.rows k.number (Some y) (get_or v.awake k.number None) (row_left_step x y l (get_or v.awake k.number None) row) in (
+            0,
+            record {
+              shared = tw.shared;
+              size = tw.size ∙ sym (length-set w.awake k.number (Some y));
+              rows = subst (λ l. (n : ℕ) → RowAlike (get_or (set w.awake k.number (Some y)) n None) (get_or l n None)) (set-get_or v.awake k.number None) all;
+            },
+          )
       moves_by w v tw over k nx x at xc None l false a = (0, tw)
       moves_by w v tw over k nx x at xc None l true a =
           let row : RowAlike (Some x) (get_or v.awake k.number None) = rw at at (tw.rows k.number) in

@@ -13,6 +13,15 @@ pub record Machine (S W : Type 0) : Type 0 where
   pub rows : List (Option (Row S))
   pub shared : W
 
+abbrev pub floor_above : {S : Type 0} → Key → ℕ → Option (Row S) → Bool
+floor_above k n None = true
+floor_above k n (Some row) = (n == k.number) || is_before k (record { clock = row.floor; number = n })
+
+-- the key is below every other awake goroutine's floor
+abbrev pub has_turn : {S : Type 0} → Key → ℕ → List (Option (Row S)) → Bool
+has_turn k n [] = true
+has_turn k n (row ∷ rows) = floor_above k n row && has_turn k (suc n) rows
+
 module _ {S W : Type 0} (r : Rules S W) where
   abbrev pub row_of : S → Row S
   row_of s = record { state = s; floor = r.clock s; lease = None; parked = false }
@@ -44,15 +53,6 @@ module _ {S W : Type 0} (r : Rules S W) where
   abbrev pub parked_clock : Option (Row S) → Option ℕ
   parked_clock None = None
   parked_clock (Some row) = cond row.parked (Some (r.clock row.state)) None
-
-  abbrev pub floor_above : Key → ℕ → Option (Row S) → Bool
-  floor_above k n None = true
-  floor_above k n (Some row) = (n == k.number) || is_before k (record { clock = row.floor; number = n })
-
-  -- the key is below every other awake goroutine's floor
-  abbrev pub has_turn : Key → ℕ → List (Option (Row S)) → Bool
-  has_turn k n [] = true
-  has_turn k n (row ∷ rows) = floor_above k n row && has_turn k (suc n) rows
 
   abbrev pub changed_rows : List (Option (Row S)) → List (ℕ × Option S) → List (Option (Row S))
   changed_rows rows [] = rows

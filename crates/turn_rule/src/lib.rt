@@ -38,11 +38,9 @@ pub enum Step {
 /// Whatever the schedule, what is shared is what the one-thread run shares after some number of moves.
 pub fn turns_are_stable<S, W>()
     ensures { (r : Rules S W) → Laws r → Stable r }
-{
-}
+{}
 
 /// The events after some number of moves begin the events after more moves.
 pub fn events_only_grow<S, W, E>()
     ensures { (r : Rules S W) (events : W → List E) → Records r events → (n : ℕ) (w : World S W) → IsPrefixOf (events w.shared) (events (run r n w).shared) }
-{
-}
+{}

@@ -1,0 +1,125 @@
+//! An awake goroutine in the book.
+
+ghost use Rattle.std.specs.Prelude.{◌≡◌, ◌↔◌, IsTrue, IfOk, OnOk, OnErr, None, Some, true, false, cond};
+ghost use Rattle.std.specs.Option.{is_some};
+ghost use Rattle.book.specs.Slots.{free_clock, free_row};
+ghost use Rattle.bytecode.specs.Machine.{code_kind};
+ghost use Rattle.bytecode.specs.Rules.{IsFrameOf};
+ghost use Rattle.word.specs.Kinds.{told};
+ghost use Rattle.word.specs.Values.{Nothing};
+
+use goroutine_vm::GoState;
+use logical_clock::Clock;
+use std::alloc::{AllocError, Global};
+use std::marker::Model;
+use verifier::Verified;
+use word::request::Reply;
+
+/// Where an awake goroutine is.
+#[derive(Clone, Copy, Debug, PartialEq, Eq)]
+pub enum Standing {
+    /// It may be lent.
+    Free,
+    /// It is lent; the slot keeps the state in which it was.
+    Lent,
+    /// It stands at its request, and waits for its turn.
+    Parked,
+}
+
+/// An awake goroutine: its state, or that in which it was lent.
+#[derive(Debug, Drop)]
+pub struct Slot {
+    state: GoState,
+    standing: Standing,
+}
+
+impl Model for Slot {
+    ghost use Rattle.book.specs.Slots.{State, is_parked, lease_of};
+    ghost use Rattle.turn_rule.specs.declared.Row.{Row};
+
+    ghost Value = { Row State };
+
+    ghost view = { λ s. record { state = s.state; floor = s.state.clock; lease = lease_of s.standing s.state; parked = is_parked s.standing } };
+}
+
+impl Slot {
+    /// A goroutine that may be lent.
+    pub fn free(state: GoState) -> Slot
+        ensures { result ≡ free_row state }
+    {
+        Slot {
+            state,
+            standing: Standing::Free,
+        }
+    }
+
+    /// A goroutine that stands at its request, or may be lent.
+    pub fn back(state: GoState, parked: bool) -> Slot
+        ensures { result ≡ record { state = state; floor = state.clock; lease = None; parked = parked } }
+    {
+        let standing = if parked {
+            Standing::Parked
+        } else {
+            Standing::Free
+        };
+        Slot { state, standing }
+    }
+
+    /// The goroutine's clock, where it is parked.
+    pub fn parked_clock(&self) -> Option<Clock>
+        ensures { result ≡ cond self.now.parked (Some self.now.state.clock) None }
+    {
+        match self.standing {
+            Standing::Parked => Some(self.state.clock()),
+            Standing::Free | Standing::Lent => None,
+        }
+    }
+
+    /// The goroutine's clock, where it may be lent.
+    pub fn free_clock(&self) -> Option<Clock>
+        ensures { result ≡ free_clock (Some self.now) }
+    {
+        match self.standing {
+            Standing::Free => Some(self.state.clock()),
+            Standing::Lent | Standing::Parked => None,
+        }
+    }
+
+    /// A clock that the goroutine's next request is not below.
+    pub fn floor(&self) -> Clock
+        ensures { result ≡ self.now.floor }
+    {
+        self.state.clock()
+    }
+
+    /// The goroutine's state, or that in which it was lent.
+    pub fn state(&self) -> &GoState
+        ensures { result.now ≡ self.now.state }
+    {
+        &self.state
+    }
+
+    /// Its request is done, at this clock.
+    pub fn answer(&mut self, code: &Verified, clock: Clock)
+        requires { IsFrameOf code.now self.old.state.state }
+        ensures row { self.new ≡ free_row (told (code_kind code.now) self.old.state clock Nothing) }
+        ensures frame { IsFrameOf code.now self.new.state.state }
+    {
+        self.state.answer(code, Reply::Nothing, clock);
+        self.standing = Standing::Free;
+    }
+
+    /// It is as it was, though its request was performed: the run ends.
+    pub fn stay(&mut self)
+        ensures { self.new ≡ free_row self.old.state }
+    {
+        self.standing = Standing::Free;
+    }
+
+    /// Whether it is lent in this state.
+    pub fn is_lent_in(&self, base: &GoState) -> bool
+        ensures { IsTrue result ↔ ((is_some self.now.lease ≡ true) × (self.now.state ≡ base.now)) }
+    {
+        self.standing == Standing::Lent && self.state.is_same(base)
+    }
+}

@@ -1,0 +1,256 @@
+//! The world of a run, without its lists of events and bytes.
+
+ghost use Rattle.std.specs.Prelude.{◌≡◌, ◌+◌, ◌-◌, ◌<◌, ◌≤◌, ◌^◌, [], ◌∷◌, IfOk, IfSome, OnErr, None, Some, option_map, slice_index_or, slice_set};
+ghost use Rattle.bytecode.specs.Machine.{code_begin, code_kind};
+ghost use Rattle.bytecode.specs.Rules.{IsFrameOf};
+ghost use Rattle.word.specs.Kinds.{at, told};
+ghost use Rattle.word.specs.Values.{Nothing};
+ghost use Rattle.word.specs.Views.{request_of};
+ghost use Rattle.book.specs.Cores.{Asks, IsAsked, Performs, meant_after};
+ghost use Rattle.book.specs.Slots.{free_row};
+
+use crate::slot::Slot;
+use go_text::Memory;
+use goroutine_vm::spawn_state;
+use logical_clock::{Clock, LAST, tick};
+use std::alloc::Global;
+use std::marker::Model;
+use verifier::Verified;
+use word::end::End;
+use word::request::{Event, Request};
+
+/// A world of goroutines that run ahead of their turn, without its lists of events and bytes.
+#[derive(Debug, Drop)]
+pub struct Core {
+    /// Goroutine n, if it is awake, is at place n; place 0 is never taken.
+    rows: Vec<Option<Slot>>,
+    /// How many goroutines are awake or asleep.
+    live: u64,
+    /// How many events there were.
+    events: u64,
+    ending: Option<End>,
+}
+
+impl Model for Core {
+    ghost use Rattle.book.specs.Cores.{CoreValue};
+
+    ghost Value = { CoreValue };
+
+    ghost view = { λ c. record { rows = c.rows.items; live = c.live; events = c.events; ending = c.ending } };
+}
+
+impl Core {
+    /// Goroutine 1 alone, at the beginning of `main`.
+    pub fn open(alloc: Global, code: &Verified) -> Result<Core, Memory>
+        ensures { IfOk result (λ core. core ≡ record {
+          rows = None ∷ Some (free_row (at 0 (code_begin (code_kind code.now).main []))) ∷ [];
+          live = 1;
+          events = 0;
+          ending = None;
+        }) }
+    {
+        let mut rows = Vec::new(alloc);
+        rows.push(None)?;
+        rows.push(Some(Slot::free(spawn_state(alloc, code, code.main(), Clock::START))))?;
+        Ok(Core {
+            rows,
+            live: 1,
+            events: 0,
+            ending: None,
+        })
+    }
+
+    /// How many events there were.
+    pub fn events(&self) -> u64
+        ensures { result ≡ self.now.events }
+    {
+        self.events
+    }
+
+    /// The end of the run, where an event ended it.
+    pub fn ending(&self) -> Option<End>
+        ensures { result ≡ self.now.ending }
+    {
+        self.ending
+    }
+
+    /// The awake goroutines: goroutine n at place n.
+    pub fn rows(&self) -> &[Option<Slot>]
+        ensures { result.now ≡ self.now.rows }
+    {
+        self.rows.as_slice()
+    }
+
+    /// Performs the request of goroutine `number`, which is awake and asks: the event, and the bytes that it prints.
+    pub fn perform(
+        &mut self,
+        alloc: Global,
+        code: &Verified,
+        limit: u64,
+        number: u64,
+    ) -> Result<(Event, Vec<u8>), Memory>
+        requires asks { Asks code.now limit self.old.rows number }
+        requires events { self.old.events < 2 ^ 62 }
+        requires limit { limit ≤ 2 ^ 62 }
+        ensures performs { IfOk result (λ done. Performs code.now limit self.old number done.0 done.1.items self.new) }
+        ensures memory { OnErr result (self.new ≡ self.old) }
+    {
+        let (clock, request) = self.asked(alloc, code, limit, number)?;
+        match request {
+            Request::Print(text) => {
+                let bytes = Vec::from_slice(alloc, text.as_slice())?;
+                let Some(later) = tick(clock, limit) else {
+                    unreachable!()
+                };
+                self.answer(code, number, later);
+                Ok((
+                    Event {
+                        clock,
+                        number,
+                        request: Request::Print(text),
+                    },
+                    bytes,
+                ))
+            }
+            Request::End => {
+                self.leave(number);
+                Ok((
+                    Event {
+                        clock,
+                        number,
+                        request: Request::End,
+                    },
+                    Vec::new(alloc),
+                ))
+            }
+            Request::Exit => {
+                self.end(number, End::Finished);
+                Ok((
+                    Event {
+                        clock,
+                        number,
+                        request: Request::Exit,
+                    },
+                    Vec::new(alloc),
+                ))
+            }
+            Request::Exhausted => {
+                self.end(number, End::Exhausted);
+                Ok((
+                    Event {
+                        clock,
+                        number,
+                        request: Request::Exhausted,
+                    },
+                    Vec::new(alloc),
+                ))
+            }
+        }
+    }
+
+    /// The clock of goroutine `number` and what its request means: a return of goroutine 1 is an exit, and event number
+    /// 2^62 of a run is `Exhausted`.
+    fn asked(
+        &self,
+        alloc: Global,
+        code: &Verified,
+        limit: u64,
+        number: u64,
+    ) -> Result<(Clock, Request), Memory>
+        requires asks { Asks code.now limit self.now.rows number }
+        requires events { self.now.events < 2 ^ 62 }
+        ensures { IfOk result (λ asked. IsAsked code.now limit self.now number asked.0 (request_of asked.1)) }
+    {
+        let Some(Some(slot)) = self.rows.get(number as usize) else {
+            unreachable!()
+        };
+        let Some(request) = slot.state().asked(alloc, code, limit)? else {
+            unreachable!()
+        };
+        Ok((slot.state().clock(), self.meant(number, request)))
+    }
+
+    /// What goroutine `number`'s request means at the next event.
+    fn meant(&self, number: u64, request: Request) -> Request
+        requires { self.now.events < 2 ^ 62 }
+        ensures { request_of result ≡ meant_after self.now.events number (request_of request) }
+    {
+        if self.events + 1 == LAST {
+            return Request::Exhausted;
+        }
+        match request {
+            Request::End => if number == 1 {
+                Request::Exit
+            } else {
+                Request::End
+            },
+            other => other,
+        }
+    }
+
+    /// Goroutine `number`'s request is done, at this clock.
+    fn answer(&mut self, code: &Verified, number: u64, clock: Clock)
+        requires frame { IfSome (slice_index_or self.old.rows number None) (λ row. IsFrameOf code.now row.state.state) }
+        requires events { self.old.events < 2 ^ 62 }
+        ensures { self.new ≡ record self.old {
+          rows = slice_set self.old.rows number (option_map (λ row. free_row (told (code_kind code.now) row.state clock Nothing)) (slice_index_or self.old.rows number None));
+          events = self.old.events + 1;
+        } }
+    {
+        answer_row(self.rows.as_mut_slice(), number, code, clock);
+        self.events += 1;
+    }
+
+    /// Goroutine `number` has ended.
+    fn leave(&mut self, number: u64)
+        requires { self.old.events < 2 ^ 62 }
+        ensures { self.new ≡ record self.old { rows = slice_set self.old.rows number None; live = self.old.live - 1; events = self.old.events + 1 } }
+    {
+        remove_row(self.rows.as_mut_slice(), number);
+        self.live = self.live.saturating_sub(1);
+        self.events += 1;
+    }
+
+    /// The run ends by goroutine `number`'s request.
+    fn end(&mut self, number: u64, end: End)
+        requires { self.old.events < 2 ^ 62 }
+        ensures { self.new ≡ record self.old {
+          rows = slice_set self.old.rows number (option_map (λ row. free_row row.state) (slice_index_or self.old.rows number None));
+          events = self.old.events + 1;
+          ending = Some end;
+        } }
+    {
+        stay_row(self.rows.as_mut_slice(), number);
+        self.events += 1;
+        self.ending = Some(end);
+    }
+}
+
+fn answer_row(rows: &mut [Option<Slot>], number: u64, code: &Verified, clock: Clock)
+    requires { IfSome (slice_index_or rows.old number None) (λ row. IsFrameOf code.now row.state.state) }
+    ensures { rows.new ≡ slice_set rows.old number (option_map (λ row. free_row (told (code_kind code.now) row.state clock Nothing)) (slice_index_or rows.old number None)) }
+{
+    if (number as usize) < rows.len() {
+        if let Some(slot) = &mut rows[number as usize] {
+            slot.answer(code, clock);
+        }
+    }
+}
+
+fn remove_row(rows: &mut [Option<Slot>], number: u64)
+    ensures { rows.new ≡ slice_set rows.old number None }
+{
+    if (number as usize) < rows.len() {
+        rows[number as usize] = None;
+    }
+}
+
+fn stay_row(rows: &mut [Option<Slot>], number: u64)
+    ensures { rows.new ≡ slice_set rows.old number (option_map (λ row. free_row row.state) (slice_index_or rows.old number None)) }
+{
+    if (number as usize) < rows.len() {
+        if let Some(slot) = &mut rows[number as usize] {
+            slot.stay();
+        }
+    }
+}
