@@ -132,18 +132,18 @@ fn unary<'a>(
     if room < 2 {
         return Err(Fault::TooDeep(Place::from(first)));
     }
-    let inner = expression(alloc, room - 1, 6, cursor, spans)?;
+    let operand = expression(alloc, room - 1, 6, cursor, spans)?;
     let span = Span {
         from: first.from,
-        to: inner.span.to,
+        to: operand.span.to,
     };
-    let node = unary_node(alloc, operator, inner.expression)?;
+    let node = unary_node(alloc, operator, operand.expression)?;
     spans.push(span)?;
     Ok(Found {
         expression: node,
-        height: inner.height + 1,
+        height: operand.height + 1,
         span,
-        rest: inner.rest,
+        rest: operand.rest,
     })
 }
 

@@ -42,6 +42,13 @@ impl Tree {
         &self.file
     }
 
+    /// How many nodes the tree has.
+    pub fn count(&self) -> NodeId
+        ensures { result ≡ size (tree_of self.now) }
+    {
+        self.spans.len() as NodeId
+    }
+
     /// The bytes of the text that a node takes, from its first token to its last.
     pub fn span(&self, node: NodeId) -> Span
         requires { node < size (tree_of self.now) }

@@ -1,0 +1,361 @@
+//! Which texts have a tree, and where the others are refused.
+
+use super::*;
+use go_text::{LimitKind, Span};
+use scanner::scan;
+use std::test::Fail;
+use syntax::{BinaryOperator, ExpressionNode, StatementNode, UnaryOperator};
+
+/// What is before the first statement of the tests' texts.
+const HEADER: &str = "package main;func f(){";
+
+/// What parsing a text gives.
+#[derive(Clone, Copy, Debug, PartialEq, Eq)]
+enum Outcome {
+    /// A tree.
+    Tree,
+    /// `Syntax` at an offset.
+    Syntax(u32),
+    /// `TooDeep` at an offset.
+    TooDeep(u32),
+    /// The limit of a list's entries at an offset.
+    Entries(u32),
+    /// Any other fault.
+    Other,
+}
+
+/// The tree of a text that the scanner takes.
+fn tree_of(alloc: Global, text: &str) -> Result<Tree, Fault> {
+    let source = Source::new(text.as_bytes().to_vec(alloc)?)?;
+    let tokens = scan(alloc, &source)?;
+    if tokens.len() > 2_000_000 {
+        return Err(Fault::TooLong);
+    }
+    parse(alloc, &source, &tokens)
+}
+
+/// What parsing a text gives.
+fn outcome_of(alloc: Global, text: &str) -> Outcome {
+    match tree_of(alloc, text) {
+        Ok(_) => Outcome::Tree,
+        Err(Fault::Syntax(place)) => Outcome::Syntax(place.span.from),
+        Err(Fault::TooDeep(place)) => Outcome::TooDeep(place.span.from),
+        Err(
+            Fault::Limit {
+                kind: LimitKind::ListEntries,
+                node: None,
+                place,
+            },
+        ) => Outcome::Entries(place.span.from),
+        Err(_) => Outcome::Other,
+    }
+}
+
+/// What parsing a function's body gives, with offsets from the body's start.
+fn body_outcome(alloc: Global, body: &str) -> Result<Outcome, Fail> {
+    let text = format!(in alloc; "{HEADER}{body}")?;
+    let start = HEADER.len() as u32;
+    Ok(match outcome_of(alloc, &text) {
+        Outcome::Syntax(offset) => Outcome::Syntax(offset.saturating_sub(start)),
+        Outcome::TooDeep(offset) => Outcome::TooDeep(offset.saturating_sub(start)),
+        Outcome::Entries(offset) => Outcome::Entries(offset.saturating_sub(start)),
+        other => other,
+    })
+}
+
+/// `first`, so often `middle`, and `last`.
+fn repeated(
+    alloc: Global,
+    first: &str,
+    middle: &str,
+    count: usize,
+    last: &str,
+) -> Result<String, Fail> {
+    let mut text = String::new(alloc);
+    text.push_str(first)?;
+    for _ in 0..count {
+        text.push_str(middle)?;
+    }
+    text.push_str(last)?;
+    Ok(text)
+}
+
+#[test]
+fn refuses_headers_at_the_first_wrong_token(rt: HostRuntime) -> Result<(), Fail> {
+    for (text, offset) in [
+        ("", 0),
+        ("\n\n", 2),
+        ("main", 0),
+        ("import x", 0),
+        ("func main(){}", 0),
+        ("package", 7),
+        ("package 1", 8),
+        ("package foo;", 8),
+        ("package main", 12),
+        ("package main;", 13),
+        ("package main func f(){}", 13),
+        ("package main;;func f(){}", 13),
+        ("package main;main", 13),
+        ("package main;func", 17),
+        ("package main;func (){}", 18),
+        ("package main;func 1(){}", 18),
+        ("package main;func make(){}", 18),
+        ("package main;func len(){}", 18),
+        ("package main;func cap(){}", 18),
+        ("package main;func close(){}", 18),
+        ("package main;func print(){}", 18),
+        ("package main;func println(){}", 18),
+        ("package main;func f", 19),
+        ("package main;func f{}", 19),
+        ("package main;func f(", 20),
+        ("package main;func f(x){}", 20),
+        ("package main;func f()", 21),
+        ("package main;func f() int{}", 22),
+        ("package main\nfunc f()\n{}", 21),
+        ("package main;func f(){", 22),
+        ("package main;func f(){}{", 23),
+        ("package main;func f(){} func g(){}", 24),
+        ("package main;func f(){}\nfunc g(){}", 24),
+        ("package main;func f(){};;", 24),
+    ] {
+        assert_eq!(rt;
+            outcome_of(rt.alloc(), text),
+            Outcome::Syntax(offset),
+            "{text}"
+        );
+    }
+    Ok(())
+}
+
+#[test]
+fn takes_whole_files(rt: HostRuntime) -> Result<(), Fail> {
+    for text in [
+        "package main;func f(){}",
+        "package main;func f(){};",
+        "package main\nfunc f() {\n}\n\n",
+        "package main;func nil(){}",
+        "package main; func main() { println(1 + 2, (3), -4,); ; println(5) }",
+    ] {
+        assert_eq!(rt; outcome_of(rt.alloc(), text), Outcome::Tree, "{text}");
+    }
+    Ok(())
+}
+
+#[test]
+fn refuses_statements_at_the_first_wrong_token(rt: HostRuntime) -> Result<(), Fail> {
+    for (body, offset) in [
+        ("", 0),
+        (";", 1),
+        ("1}", 0),
+        ("(1)}", 0),
+        ("x}", 0),
+        ("{}}", 0),
+        ("return}", 0),
+        ("print(1)}", 0),
+        ("println}", 7),
+        ("println 1}", 8),
+        ("println", 7),
+        ("println(", 8),
+        ("println()}", 8),
+        ("println(,)}", 8),
+        ("println(x)}", 8),
+        ("println(+1)}", 8),
+        ("println(--1)}", 8),
+        ("println(-)}", 9),
+        ("println(())}", 9),
+        ("println(1*2)}", 9),
+        ("println(1;2)}", 9),
+        ("println(1}", 9),
+        ("println(1\n)}", 9),
+        ("println(1+)}", 10),
+        ("println(1 2)}", 10),
+        ("println(1 x)}", 10),
+        ("println(1,,)}", 10),
+        ("println(1,x)}", 10),
+        ("println(1,", 10),
+        ("println(1))}", 10),
+        ("println(1)", 10),
+        ("println(1)println(2)}", 10),
+        ("println((1)}", 11),
+        ("println(1) println(2)}", 11),
+        ("println(1)}}", 11),
+        ("println((1 2))}", 11),
+    ] {
+        assert_eq!(rt;
+            body_outcome(rt.alloc(), body)?,
+            Outcome::Syntax(offset),
+            "{body}"
+        );
+    }
+    Ok(())
+}
+
+#[test]
+fn takes_statements(rt: HostRuntime) -> Result<(), Fail> {
+    for body in [
+        "}",
+        ";}",
+        ";;;}",
+        "println(1)}",
+        "println(1);}",
+        ";println(1)}",
+        "println(1,)}",
+        "println(1,\n)}",
+        "println(1,2,)}",
+        "println(- -1)}",
+        "println(1-2-3+4)}",
+        "println(1-(2-3),-(4))}",
+        "println(1)\nprintln(2)\n}",
+    ] {
+        assert_eq!(rt; body_outcome(rt.alloc(), body)?, Outcome::Tree, "{body}");
+    }
+    Ok(())
+}
+
+#[test]
+fn limits_height(rt: HostRuntime) -> Result<(), Fail> {
+    let alloc = rt.alloc();
+    let closing = repeated(alloc, "1", ")", 195, ")}")?;
+    let body = repeated(alloc, "println(", "(", 195, &closing)?;
+    assert_eq!(rt;
+        body_outcome(alloc, &body)?,
+        Outcome::Tree,
+        "195 pairs of parentheses"
+    );
+    let closing = repeated(alloc, "1+1", ")", 195, ")}")?;
+    let body = repeated(alloc, "println(", "(", 195, &closing)?;
+    assert_eq!(rt;
+        body_outcome(alloc, &body)?,
+        Outcome::TooDeep(204),
+        "an operator within 195 pairs"
+    );
+    let body = repeated(alloc, "println(", "(", 195, ")")?;
+    assert_eq!(rt;
+        body_outcome(alloc, &body)?,
+        Outcome::Syntax(203),
+        "nothing within 195 pairs"
+    );
+    for count in [196, 300] {
+        let body = repeated(alloc, "println(", "(", count, "1")?;
+        assert_eq!(rt;
+            body_outcome(alloc, &body)?,
+            Outcome::TooDeep(203),
+            "{count} parentheses"
+        );
+    }
+    let body = repeated(alloc, "println(", "- ", 195, "1)}")?;
+    assert_eq!(rt; body_outcome(alloc, &body)?, Outcome::Tree, "195 signs");
+    let body = repeated(alloc, "println(", "- ", 196, "1)}")?;
+    assert_eq!(rt;
+        body_outcome(alloc, &body)?,
+        Outcome::TooDeep(398),
+        "196 signs"
+    );
+    let body = repeated(alloc, "println(1", "+1", 195, ")}")?;
+    assert_eq!(rt; body_outcome(alloc, &body)?, Outcome::Tree, "195 additions");
+    let body = repeated(alloc, "println(1", "+1", 196, ")}")?;
+    assert_eq!(rt;
+        body_outcome(alloc, &body)?,
+        Outcome::TooDeep(399),
+        "196 additions"
+    );
+    Ok(())
+}
+
+#[test]
+fn limits_arguments(rt: HostRuntime) -> Result<(), Fail> {
+    let alloc = rt.alloc();
+    for (last, wanted) in [
+        (")}", Outcome::Tree),
+        (",)}", Outcome::Tree),
+        (",1)}", Outcome::Entries(136)),
+        (",(1))}", Outcome::Entries(136)),
+        (",-1)}", Outcome::Entries(136)),
+        (",x)}", Outcome::Syntax(136)),
+        (",,)}", Outcome::Syntax(136)),
+        (",", Outcome::Syntax(136)),
+    ] {
+        let body = repeated(alloc, "println(1", ",1", 63, last)?;
+        assert_eq!(rt;
+            body_outcome(alloc, &body)?,
+            wanted,
+            "64 arguments and {last}"
+        );
+    }
+    Ok(())
+}
+
+#[test]
+fn groups_equal_operators_to_the_left(rt: HostRuntime) -> Result<(), Fail> {
+    let tree = tree_of(rt.alloc(), "package main;func go1(){println(1-2+-3,4,);}")?;
+    let function = &tree.file().function;
+    assert_eq!(rt; function.name.as_slice(), b"go1".as_slice());
+    assert_eq!(rt; function.body.len(), 2);
+    let StatementNode::Println(arguments, true) = &function.body[0] else {
+        return Err(Fail::new("a println with a trailing comma"));
+    };
+    assert_eq!(rt; arguments.len(), 2);
+    let ExpressionNode::Binary(BinaryOperator::Add, left, right) = &arguments[0] else {
+        return Err(Fail::new("the addition stands outside"));
+    };
+    assert!(rt;
+        matches!(
+            &**left,
+            ExpressionNode::Binary(BinaryOperator::Subtract, _, _)
+        )
+    );
+    assert!(rt; matches!(&**right, ExpressionNode::Unary(UnaryOperator::Negate, _)));
+    assert!(rt; matches!(&arguments[1], ExpressionNode::Integer(Some(4))));
+    assert!(rt; matches!(&function.body[1], StatementNode::Empty));
+    Ok(())
+}
+
+#[test]
+fn knows_values_up_to_the_limit(rt: HostRuntime) -> Result<(), Fail> {
+    for (digits, value) in [
+        ("0", Some(0)),
+        ("18446744073709551616", Some(1 << 64)),
+        ("1267650600228229401496703205376", Some(1 << 100)),
+        ("1267650600228229401496703205377", None),
+        ("10000000000000000000000000000000000000000", None),
+    ] {
+        let text = format!(in rt.alloc(); "{HEADER}println({digits})}}")?;
+        let tree = tree_of(rt.alloc(), &text)?;
+        let body = &tree.file().function.body;
+        assert_eq!(rt; body.len(), 1);
+        let StatementNode::Println(arguments, false) = &body[0] else {
+            return Err(Fail::new("a println"));
+        };
+        assert_eq!(rt; arguments.len(), 1);
+        let ExpressionNode::Integer(found) = &arguments[0] else {
+            return Err(Fail::new("a number"));
+        };
+        assert_eq!(rt; *found, value, "{digits}");
+    }
+    Ok(())
+}
+
+#[test]
+fn numbers_nodes_in_postorder(rt: HostRuntime) -> Result<(), Fail> {
+    let tree = tree_of(rt.alloc(), "package main;func f(){println(1+(2),-3);}")?;
+    let mut node = 0;
+    for (from, to) in [
+        (30, 31),
+        (33, 34),
+        (32, 35),
+        (30, 35),
+        (37, 38),
+        (36, 38),
+        (22, 39),
+        (40, 40),
+        (21, 41),
+        (13, 41),
+        (0, 41),
+    ] {
+        assert!(rt; node < tree.count());
+        assert_eq!(rt; tree.span(node), Span { from, to }, "{node}");
+        node += 1;
+    }
+    assert_eq!(rt; node, tree.count());
+    Ok(())
+}
