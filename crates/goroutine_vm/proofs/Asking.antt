@@ -1,6 +1,7 @@
 -- What the instructions of verified code ask.
 use Rattle.std.proofs.Common.{◌≡◌, ◌≢◌, ℕ, zero, suc, ◌+◌, ◌-◌, ◌<◌, ◌≤◌, Bool, true, false, cond, ℤ, List, [], ◌∷◌, length, drop, take, reverse, Option, Some, None, refl, sym, ap, ◌∙◌, subst, inl, inr, arith}
 use Rattle.std.specs.Prelude.{slice_get, nat_lt, if◌then◌else◌, ◌==◌, IfSome, unwrap_or}
+use Rattle.std.specs.Option.{is_some}
 use Rattle.std.proofs.lemmas.Bool.{eq-eqb, ne_eqb}
 use Rattle.std.proofs.lemmas.Bool.Decides.{nat_tests}
 use Rattle.bytecode.specs.declared.code.Instr.{Instr}
@@ -105,6 +106,15 @@ module _ (code : Code) (v : IsVerified code) where
   asks_exhausted limit s i calm is b here a =
       let q = request_at s.state i is.frame here a in
       asks_is limit s (Asks q.0) calm q.1 ∙ past limit s.clock q.0 is.clock b
+
+  some_by : (q : Request) (b : Bool) → is_some (cond b (Some Exhausted) (Some q)) ≡ true
+  some_by q true = refl
+  some_by q false = refl
+
+  pub asks_some : (limit : ℕ) (s : Clocked Frame) (i : Instr) → s.doomed ≡ false → IsFrameOf code s.state → fetch code s.state.function s.state.place ≡ Some i → IsAsking i → is_some (asks (code_kind code) limit s) ≡ true
+  asks_some limit s i calm h here a =
+      let q = request_at s.state i h here a in
+      ap is_some (asks_is limit s (Asks q.0) calm q.1) ∙ some_by q.0 (s.clock == limit)
 
   -- a number is pushed
   abbrev pub pushed : Clocked Frame → ℤ → Clocked Frame

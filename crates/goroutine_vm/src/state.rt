@@ -1,6 +1,7 @@
 //! A goroutine's state, and its local steps.
 
 ghost use Rattle.std.specs.Prelude.{◌≡◌, ◌+◌, ◌<◌, ◌≤◌, ◌^◌, ◌↔◌, [], ◌∷◌, false, IsTrue, IfOk, IfSome, OnErr, OnOk, drop, length, option_map, slice_get};
+ghost use Rattle.std.specs.Option.{is_some};
 ghost use Rattle.bytecode.specs.Machine.{code_begin, code_kind, fetch, printed};
 ghost use Rattle.bytecode.specs.Rules.{IsFrameOf, IsVerified};
 ghost use Rattle.goroutine_vm.specs.Advance.{Advances, Goes, IsAsking, IsStateOf, Turns};
@@ -147,13 +148,30 @@ impl GoState {
     }
 
     /// The request at which the goroutine stands, if its next instruction isn't a local step.
-    pub fn asked(&self, alloc: Global, code: &Verified, limit: u64) -> Result<Option<Request>, Memory>
+    pub fn asked(
+        &self,
+        alloc: Global,
+        code: &Verified,
+        limit: u64,
+    ) -> Result<Option<Request>, Memory>
         requires { IsStateOf code.now limit self.now }
         ensures { IfOk result (λ request. asks (code_kind code.now) limit self.now ≡ option_map request_of request) }
     {
         match self.instr(code) {
             Instr::Int(_) => Ok(None),
             instr => Ok(Some(self.request(alloc, code, limit, instr)?)),
+        }
+    }
+
+    /// Whether the goroutine stands at a request.
+    pub fn is_asking(&self, code: &Verified, limit: u64) -> bool
+        requires { IsStateOf code.now limit self.now }
+        ensures { result ≡ is_some (asks (code_kind code.now) limit self.now) }
+    {
+        match self.instr(code) {
+            Instr::Int(_) => false,
+            Instr::Print(_) => true,
+            Instr::Return => true,
         }
     }
 
