@@ -1,14 +1,22 @@
 //! Programs, from bytes to bytes.
 
+ghost use Rattle.std.specs.Prelude.{Some};
+
 use crate::{Gate, report, run_bytes};
-use go_text::Memory;
+use go_text::Fault;
 use std::alloc::{AllocError, Global};
+use std::process::Abort;
 use std::sync::Wait;
 use std::test::Fail;
-use word::Flagged;
+use word::end::End;
+use word::{Flagged, Write, WriteFault};
 
 /// The clock limit where none is given.
 const LIMIT: u64 = 1_099_511_627_776;
+
+/// The line of 64 ones.
+const ONES: &str =
+    "1 1 1 1 1 1 1 1 1 1 1 1 1 1 1 1 1 1 1 1 1 1 1 1 1 1 1 1 1 1 1 1 1 1 1 1 1 1 1 1 1 1 1 1 1 1 1 1 1 1 1 1 1 1 1 1 1 1 1 1 1 1 1 1\n";
 
 /// A gate that holds nobody.
 struct Open;
@@ -21,33 +29,31 @@ impl Gate for Open {
     fn at_end(&self, _worker: u64) {}
 }
 
-/// What a run shows.
-#[derive(Debug, Drop)]
-struct Shown {
-    output: Vec<u8>,
-    line: Vec<u8>,
-    status: u8,
-}
-
-fn run_text<R: Wait>(
+/// Runs the text, and compares its output, the line on standard error, and the status.
+fn expect<R: Wait + Abort + AllocGlobal>(
     rt: &R,
-    alloc: Global,
     text: &[u8],
-    limit: u64,
-    workers: u64,
-) -> Result<Shown, Memory> {
+    (limit, workers): (u64, u64),
+    (output, line, status): (&str, &str, u8),
+) -> Result<(), Fail> {
+    let alloc = rt.alloc();
     let bytes = Vec::from_slice(alloc, text)?;
     let mut out = Flagged::new(Vec::new(alloc));
     let mut trace = Flagged::new(Vec::new(alloc));
     let outcome = run_bytes(
         rt, alloc, bytes, limit, workers, &Open, &mut out, &mut trace,
     );
-    let (line, status) = report(alloc, &outcome)?;
-    Ok(Shown {
-        output: out.into_inner(),
-        line,
-        status,
-    })
+    let Ok((told, code)) = report(alloc, &outcome) else {
+        panic!(rt; "no memory");
+    };
+    assert_eq!(rt; told.as_slice(), line.as_bytes(), "{line} {output}");
+    assert_eq!(rt; code, status, "{line} {output}");
+    assert_eq!(rt;
+        out.into_inner().as_slice(),
+        output.as_bytes(),
+        "{line} {output}"
+    );
+    Ok(())
 }
 
 /// The text with this inside of its `main`.
@@ -106,12 +112,12 @@ fn sums(rt: HostRuntime) -> Result<(), Fail> {
     ] {
         let text = in_main(rt.alloc(), statements)?;
         for workers in [1, 2, 64] {
-            let Ok(shown) = run_text(&rt, rt.alloc(), text.as_bytes(), LIMIT, workers) else {
-                panic!(rt; "no memory");
-            };
-            assert_eq!(rt; shown.output.as_slice(), output.as_bytes(), "{statements}");
-            assert_eq!(rt; shown.line.as_slice(), line.as_bytes(), "{statements}");
-            assert_eq!(rt; shown.status, status, "{statements}");
+            expect(
+                &rt,
+                text.as_bytes(),
+                (LIMIT, workers),
+                (output, line, status),
+            )?;
         }
     }
     Ok(())
@@ -144,12 +150,7 @@ fn files(rt: HostRuntime) -> Result<(), Fail> {
             1,
         ),
     ] {
-        let Ok(shown) = run_text(&rt, rt.alloc(), text, LIMIT, 4) else {
-            panic!(rt; "no memory");
-        };
-        assert_eq!(rt; shown.output.as_slice(), b"".as_slice(), "{line}");
-        assert_eq!(rt; shown.line.as_slice(), line.as_bytes(), "{line}");
-        assert_eq!(rt; shown.status, status, "{line}");
+        expect(&rt, text, (LIMIT, 4), ("", line, status))?;
     }
     Ok(())
 }
@@ -170,16 +171,7 @@ fn limits_and_workers(rt: HostRuntime) -> Result<(), Fail> {
         (b"\xff".as_slice(), 0, 0, "", workers, 64),
         (b"\xff".as_slice(), 0, 1, "", limits, 64),
     ] {
-        let Ok(shown) = run_text(&rt, rt.alloc(), text, limit, count) else {
-            panic!(rt; "no memory");
-        };
-        assert_eq!(rt;
-            shown.output.as_slice(),
-            output.as_bytes(),
-            "{limit} {count}"
-        );
-        assert_eq!(rt; shown.line.as_slice(), line.as_bytes(), "{limit} {count}");
-        assert_eq!(rt; shown.status, status, "{limit} {count}");
+        expect(&rt, text, (limit, count), (output, line, status))?;
     }
     Ok(())
 }
@@ -217,10 +209,10 @@ fn filled(alloc: Global, length: usize) -> Result<String, AllocError> {
 #[test]
 fn sizes(rt: HostRuntime) -> Result<(), Fail> {
     let alloc = rt.alloc();
-    for (text, first, line, status) in [
+    for (text, output, line, status) in [
         (nested(alloc, 195)?, "1\n", "", 0),
         (nested(alloc, 196)?, "", "kendo: 8 TooDeep at 1:232\n", 1),
-        (listed(alloc, 64)?, "1 1 1", "", 0),
+        (listed(alloc, 64)?, ONES, "", 0),
         (
             listed(alloc, 65)?,
             "",
@@ -230,13 +222,59 @@ fn sizes(rt: HostRuntime) -> Result<(), Fail> {
         (filled(alloc, 1_048_576)?, "3\n", "", 0),
         (filled(alloc, 1_048_577)?, "", "kendo: 1 TooLong\n", 1),
     ] {
-        let Ok(shown) = run_text(&rt, alloc, text.as_bytes(), LIMIT, 4) else {
-            panic!(rt; "no memory");
+        expect(&rt, text.as_bytes(), (LIMIT, 4), (output, line, status))?;
+    }
+    Ok(())
+}
+
+/// Takes one byte a call, and fails at its n-th call and from then on.
+#[derive(Drop)]
+struct Slow {
+    taken: Vec<u8>,
+    calls: u64,
+    fails_at: u64,
+    failed: bool,
+}
+
+impl Write for Slow {
+    ghost contents = { λ w. Some w.taken.items };
+
+    ghost has_failed = { λ w. w.failed };
+
+    fn write(&mut self, piece: &[u8]) -> Result<usize, WriteFault> {
+        let Some(byte) = piece.first() else {
+            return Ok(0);
         };
-        assert_eq!(rt; shown.line.as_slice(), line.as_bytes(), "{line}");
-        assert_eq!(rt; shown.status, status, "{line}");
-        assert!(rt; shown.output.starts_with(first.as_bytes()), "{line}");
-        assert_eq!(rt; shown.output.is_empty(), first.is_empty(), "{line}");
+        self.calls = self.calls.saturating_add(1);
+        if self.calls >= self.fails_at || self.taken.push(*byte).is_err() {
+            self.failed = true;
+            return Err(WriteFault);
+        }
+        Ok(1)
+    }
+}
+
+#[test]
+fn a_writer_fails(rt: HostRuntime) -> Result<(), Fail> {
+    let alloc = rt.alloc();
+    let text = in_main(alloc, "println(12); println(3)")?;
+    for (fails_at, written, wanted) in [
+        (1, "", Err(Fault::Write)),
+        (2, "1", Err(Fault::Write)),
+        (5, "12\n3", Err(Fault::Write)),
+        (6, "12\n3\n", Ok(End::Finished)),
+    ] {
+        let mut out = Slow {
+            taken: Vec::new(alloc),
+            calls: 0,
+            fails_at,
+            failed: false,
+        };
+        let mut trace = Flagged::new(Vec::new(alloc));
+        let bytes = Vec::from_slice(alloc, text.as_bytes())?;
+        let outcome = run_bytes(&rt, alloc, bytes, LIMIT, 4, &Open, &mut out, &mut trace);
+        assert_eq!(rt; outcome, wanted, "{written}");
+        assert_eq!(rt; out.taken.as_slice(), written.as_bytes(), "{written}");
     }
     Ok(())
 }
