@@ -2,3 +2,4 @@ pub mod Constants
 pub mod Rules
 pub mod Program
 pub mod Typed
+pub mod Source

@@ -4,6 +4,7 @@ ghost use Rattle.std.specs.Prelude.{◌≡◌, ℕ, ◌+◌, ◌^◌, ◌<◌, �
 ghost use Rattle.syntax.specs.Tree.{expression_size};
 ghost use Rattle.syntax.specs.View.{expression_of};
 ghost use Rattle.checker.specs.Constants.{bounded, literal, unary, binary, constant, HoldsLarge};
+ghost use Rattle.checker.specs.Program.{HasInt};
 
 use syntax::{BinaryOperator, ExpressionNode, NodeId, UnaryOperator};
 
@@ -95,5 +96,18 @@ pub fn constant(first: NodeId, expression: &ExpressionNode) -> Result<ConstantVa
     match value {
         Some(value) => Ok(ConstantValue { node, value }),
         None => Err(node),
+    }
+}
+
+/// The value of an expression that has an int's value.
+#[tactic(auto, using(crate::proofs::Large::none_large))]
+pub fn value(expression: &ExpressionNode) -> i64
+    requires int { HasInt (expression_of expression.now) }
+    requires small { expression_size (expression_of expression.now) < 2 ^ 32 }
+    ensures { constant (expression_of expression.now) ≡ Some result }
+{
+    match constant(0, expression) {
+        Ok(constant) => constant.value as i64,
+        Err(_) => 0,
     }
 }

@@ -11,5 +11,6 @@ mod tests;
 mod tree;
 mod typed;
 
+pub use constant::value;
 pub use tree::check;
 pub use typed::Typed;
