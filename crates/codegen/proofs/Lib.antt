@@ -1,0 +1,5 @@
+pub mod Lists
+pub mod Follows
+pub mod Fine
+pub mod Compiled
+pub mod Parts
