@@ -10,3 +10,4 @@ pub mod StatementLaws
 pub mod FileLaws
 pub mod Sizes
 pub mod Parsing
+pub mod Counting

@@ -9,7 +9,7 @@ use go_text::{Fault, Place, Source, Span};
 use scanner::{Kind, Token};
 
 /// What the grammar sees of a token.
-#[derive(Clone, Copy, Debug)]
+#[derive(Clone, Copy)]
 pub enum Word<'a> {
     /// The digits of a number.
     Literal(&'a [u8]),
@@ -36,7 +36,7 @@ fn piece(text: &[u8], span: Span) -> &[u8]
 }
 
 impl<'a> Cursor<'a> {
-    ghost use Rattle.parser.specs.Cursor.{ahead, lexeme_of};
+    ghost use Rattle.parser.specs.Cursor.{ahead, lexeme_of, place_at};
 
     /// The place before all tokens.
     pub fn new(source: &'a Source, tokens: &'a [Token]) -> Cursor<'a>
@@ -53,7 +53,9 @@ impl<'a> Cursor<'a> {
     }
 
     /// The place of the first token, or the end of the text.
-    pub fn place(self) -> Place {
+    pub fn place(self) -> Place
+        ensures { result ≡ place_at (length (bytes_of self.entry.source.now)) self.entry.tokens.now }
+    {
         match self.tokens.first() {
             Some(token) => Place::from(token.span),
             None => {

@@ -4,7 +4,7 @@ use crate::cursor::Cursor;
 use go_text::Span;
 
 /// What follows an entry of a list.
-#[derive(Clone, Copy, Debug, PartialEq, Eq)]
+#[derive(Clone, Copy)]
 pub enum Next {
     /// Another entry.
     More,
