@@ -3,11 +3,14 @@ use Rattle.std.specs.Prelude.{◌≡◌, ℕ, ◌+◌, ◌^◌, ◌==◌, true, 
 use Rattle.std.specs.Option.{is_some}
 use Rattle.bytecode.specs.Code.{Code}
 use Rattle.bytecode.specs.Machine.{Frame, code_kind}
+use Rattle.bytecode.specs.Rules.{IsVerified}
 use Rattle.goroutine_vm.specs.Advance.{IsStateOf}
 use Rattle.turn_rule.specs.declared.Row.{Row}
 use Rattle.turn_rule.specs.Schedule.{Machine, perform_row}
 use Rattle.word.specs.declared.end.End.{End as Ending}
 use Rattle.word.specs.declared.request.Event.{Event as Recorded}
+use Rattle.word.specs.declared.request.Request.{Request as Asked}
+use Rattle.word.specs.declared.request.Request.TheVariants as asking
 use Rattle.word.specs.Kinds.{asks}
 use Rattle.word.specs.Requests.{asked}
 use Rattle.word.specs.Values.{Request, Exhausted, Event, Shared}
@@ -54,7 +57,19 @@ pub record IsAsked (code : Code) (limit : ℕ) (core : CoreValue) (n clock : ℕ
   pub state : IsStateOf code limit row.state
   pub time : row.state.clock ≡ clock
   pub request : asks (code_kind code) limit row.state ≡ Some what
+  pub verified : IsVerified code
   pub meant : means ≡ meant_after core.events n what
+
+-- what a request prints
+abbrev pub printed_by : Asked → List ℕ
+printed_by (asking.Print text) = text.items
+printed_by asking.End = []
+printed_by asking.Exit = []
+printed_by asking.Exhausted = []
+
+-- what an event prints
+abbrev pub bytes_of : Recorded → List ℕ
+bytes_of event = printed_by event.request
 
 -- goroutine n's request is performed: this event, these bytes
 pub record IsPerformed (code : Code) (limit : ℕ) (m : World) (n : ℕ) (event : Recorded) (bytes : List ℕ) (new : CoreValue) : Type 0 where

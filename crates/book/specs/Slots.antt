@@ -50,3 +50,7 @@ waiting_clock (Some row) = cond row.parked (Some row.state.clock) None
 -- one that may be lent
 abbrev pub free_row : State → Row State
 free_row state = record { state = state; floor = state.clock; lease = None; parked = false }
+
+-- one that is lent in this state
+abbrev pub lent_row : State → Row State
+lent_row state = record { state = state; floor = state.clock; lease = Some (record { present = state; published = state.clock }); parked = false }

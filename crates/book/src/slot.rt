@@ -1,8 +1,8 @@
 //! An awake goroutine in the book.
 
-ghost use Rattle.std.specs.Prelude.{◌≡◌, ◌↔◌, IsTrue, IfOk, OnOk, OnErr, None, Some, true, false, cond};
+ghost use Rattle.std.specs.Prelude.{◌≡◌, ◌↔◌, IsTrue, IfNone, IfOk, IfSome, OnErr, None, Some, true, cond};
 ghost use Rattle.std.specs.Option.{is_some};
-ghost use Rattle.book.specs.Slots.{free_clock, free_row};
+ghost use Rattle.book.specs.Slots.{free_clock, free_row, lent_row};
 ghost use Rattle.bytecode.specs.Machine.{code_kind};
 ghost use Rattle.bytecode.specs.Rules.{IsFrameOf};
 ghost use Rattle.word.specs.Kinds.{told};
@@ -97,6 +97,23 @@ impl Slot {
         ensures { result.now ≡ self.now.state }
     {
         &self.state
+    }
+
+    /// Lends it, if it may be lent: two copies of its state.
+    pub fn lend(&mut self, alloc: Global) -> Result<Option<(GoState, GoState)>, AllocError>
+        ensures none { IfOk result (λ found. IfNone found ((free_clock (Some self.old) ≡ None) × (self.new ≡ self.old))) }
+        ensures some { IfOk result (λ found. IfSome found (λ l. (l.1 ≡ l.0) × (self.old ≡ free_row l.0) × (self.new ≡ lent_row l.0))) }
+        ensures memory { OnErr result (self.new ≡ self.old) }
+    {
+        match self.standing {
+            Standing::Free => {
+                let base = self.state.try_clone(alloc)?;
+                let present = self.state.try_clone(alloc)?;
+                self.standing = Standing::Lent;
+                Ok(Some((base, present)))
+            }
+            Standing::Lent | Standing::Parked => Ok(None),
+        }
     }
 
     /// Its request is done, at this clock.

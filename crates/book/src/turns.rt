@@ -1,6 +1,6 @@
 //! Whose turn it is.
 
-ghost use Rattle.std.specs.Prelude.{◌≡◌, MatchOption, true, false};
+ghost use Rattle.std.specs.Prelude.{◌≡◌, IfSome, MatchOption, None, Some, false, slice_index_or, true};
 ghost use Rattle.logical_clock.specs.Order.{keys, least};
 ghost use Rattle.turn_rule.specs.Schedule.{has_turn};
 ghost use Rattle.book.specs.Slots.{IsAwake, IsBefore, IsNobodyAwake, free_clock, waiting_clock};
@@ -8,9 +8,11 @@ ghost use Rattle.book.specs.Slots.{IsAwake, IsBefore, IsNobodyAwake, free_clock,
 use crate::slot::Slot;
 use logical_clock::{Key, sooner};
 
+#[tactic(auto, using(crate::proofs::Leases::waiting_found))]
 /// The parked goroutine of least key. A goroutine's number is its place in the rows.
 pub fn least_parked(rows: &[Option<Slot>]) -> Option<Key>
-    ensures { result ≡ least (keys waiting_clock 0 rows.now) }
+    ensures least { result ≡ least (keys waiting_clock 0 rows.now) }
+    ensures found { IfSome result (λ key. waiting_clock (slice_index_or rows.now key.number None) ≡ Some key.clock) }
 {
     let mut best: Option<Key> = None;
     for place in (0..rows.len()).rev() {
@@ -29,9 +31,11 @@ pub fn least_parked(rows: &[Option<Slot>]) -> Option<Key>
     best
 }
 
+#[tactic(auto, using(crate::proofs::Leases::free_found))]
 /// The goroutine of least key of those that are neither lent nor parked.
 pub fn least_free(rows: &[Option<Slot>]) -> Option<Key>
-    ensures { result ≡ least (keys free_clock 0 rows.now) }
+    ensures least { result ≡ least (keys free_clock 0 rows.now) }
+    ensures found { IfSome result (λ key. free_clock (slice_index_or rows.now key.number None) ≡ Some key.clock) }
 {
     let mut best: Option<Key> = None;
     for place in (0..rows.len()).rev() {

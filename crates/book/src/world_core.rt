@@ -1,17 +1,19 @@
 //! The world of a run, without its lists of events and bytes.
 
-ghost use Rattle.std.specs.Prelude.{◌≡◌, ◌+◌, ◌-◌, ◌<◌, ◌≤◌, ◌^◌, [], ◌∷◌, IfOk, IfSome, OnErr, None, Some, option_map, slice_index_or, slice_set};
+ghost use Rattle.std.specs.Prelude.{◌≡◌, ◌+◌, ◌-◌, ◌<◌, ◌≤◌, ◌^◌, ◌↔◌, [], ◌∷◌, ◌++◌, IsTrue, IfNone, IfOk, IfSome, OnErr, None, Some, option_map, slice_index_or, slice_set};
 ghost use Rattle.bytecode.specs.Machine.{code_begin, code_kind};
-ghost use Rattle.bytecode.specs.Rules.{IsFrameOf};
+ghost use Rattle.bytecode.specs.Rules.{IsFrameOf, IsVerified};
 ghost use Rattle.word.specs.Kinds.{at, told};
 ghost use Rattle.word.specs.Values.{Nothing};
 ghost use Rattle.word.specs.Views.{request_of};
-ghost use Rattle.book.specs.Cores.{Asks, IsAsked, Performs, meant_after};
-ghost use Rattle.book.specs.Slots.{free_row};
+ghost use Rattle.book.specs.Cores.{Asks, IsAsked, Performs, bytes_of, meant_after};
+ghost use Rattle.book.specs.Desks.{FitsAll, IsFreeIn, IsLentRow, to_lend};
+ghost use Rattle.book.specs.Slots.{free_clock, free_row, lent_row};
 
 use crate::slot::Slot;
+use crate::turns::least_free;
 use go_text::Memory;
-use goroutine_vm::spawn_state;
+use goroutine_vm::{GoState, spawn_state};
 use logical_clock::{Clock, LAST, tick};
 use std::alloc::Global;
 use std::marker::Model;
@@ -42,12 +44,13 @@ impl Model for Core {
 impl Core {
     /// Goroutine 1 alone, at the beginning of `main`.
     pub fn open(alloc: Global, code: &Verified) -> Result<Core, Memory>
-        ensures { IfOk result (λ core. core ≡ record {
+        ensures core { IfOk result (λ core. core ≡ record {
           rows = None ∷ Some (free_row (at 0 (code_begin (code_kind code.now).main []))) ∷ [];
           live = 1;
           events = 0;
           ending = None;
         }) }
+        ensures verified { IfOk result (λ _. IsVerified code.now) }
     {
         let mut rows = Vec::new(alloc);
         rows.push(None)?;
@@ -81,70 +84,101 @@ impl Core {
         self.rows.as_slice()
     }
 
-    /// Performs the request of goroutine `number`, which is awake and asks: the event, and the bytes that it prints.
+    /// Performs the request of goroutine `number`, which is awake and asks: answers the event, and appends to the output
+    /// what it prints.
     pub fn perform(
         &mut self,
         alloc: Global,
         code: &Verified,
         limit: u64,
         number: u64,
-    ) -> Result<(Event, Vec<u8>), Memory>
+        output: &mut Vec<u8>,
+    ) -> Result<Event, Memory>
         requires asks { Asks code.now limit self.old.rows number }
         requires events { self.old.events < 2 ^ 62 }
         requires limit { limit ≤ 2 ^ 62 }
-        ensures performs { IfOk result (λ done. Performs code.now limit self.old number done.0 done.1.items self.new) }
-        ensures memory { OnErr result (self.new ≡ self.old) }
+        ensures performs { IfOk result (λ event. Performs code.now limit self.old number event (bytes_of event) self.new) }
+        ensures output { IfOk result (λ event. output.new.items ≡ output.old.items ++ bytes_of event) }
+        ensures fits { IfOk result (λ _. FitsAll code.now limit self.old.rows → FitsAll code.now limit self.new.rows) }
+        ensures memory { OnErr result ((self.new ≡ self.old) × (output.new.items ≡ output.old.items)) }
     {
         let (clock, request) = self.asked(alloc, code, limit, number)?;
         match request {
             Request::Print(text) => {
-                let bytes = Vec::from_slice(alloc, text.as_slice())?;
+                output.extend_from_slice(text.as_slice())?;
                 let Some(later) = tick(clock, limit) else {
                     unreachable!()
                 };
                 self.answer(code, number, later);
-                Ok((
-                    Event {
-                        clock,
-                        number,
-                        request: Request::Print(text),
-                    },
-                    bytes,
-                ))
+                Ok(Event {
+                    clock,
+                    number,
+                    request: Request::Print(text),
+                })
             }
             Request::End => {
                 self.leave(number);
-                Ok((
-                    Event {
-                        clock,
-                        number,
-                        request: Request::End,
-                    },
-                    Vec::new(alloc),
-                ))
+                Ok(Event {
+                    clock,
+                    number,
+                    request: Request::End,
+                })
             }
             Request::Exit => {
                 self.end(number, End::Finished);
-                Ok((
-                    Event {
-                        clock,
-                        number,
-                        request: Request::Exit,
-                    },
-                    Vec::new(alloc),
-                ))
+                Ok(Event {
+                    clock,
+                    number,
+                    request: Request::Exit,
+                })
             }
             Request::Exhausted => {
                 self.end(number, End::Exhausted);
-                Ok((
-                    Event {
-                        clock,
-                        number,
-                        request: Request::Exhausted,
-                    },
-                    Vec::new(alloc),
-                ))
+                Ok(Event {
+                    clock,
+                    number,
+                    request: Request::Exhausted,
+                })
             }
+        }
+    }
+
+    /// Lends the least of those that are neither lent nor parked: its number, and two copies of its state.
+    pub fn lend_least(&mut self, alloc: Global) -> Result<Option<(u64, GoState, GoState)>, Memory>
+        ensures none { IfOk result (λ found. IfNone found ((to_lend self.old ≡ None) × (self.new ≡ self.old))) }
+        ensures key { IfOk result (λ found. IfSome found (λ l. to_lend self.old ≡ Some (record { clock = l.1.clock; number = l.0 }))) }
+        ensures free { IfOk result (λ found. IfSome found (λ l. IsFreeIn self.old.rows l.0 l.1 × (l.2 ≡ l.1))) }
+        ensures lent { IfOk result (λ found. IfSome found (λ l. self.new ≡ record self.old { rows = slice_set self.old.rows l.0 (Some (lent_row l.1)) })) }
+        ensures memory { OnErr result (self.new ≡ self.old) }
+    {
+        if self.ending.is_some() {
+            return Ok(None);
+        }
+        let Some(key) = least_free(self.rows.as_slice()) else {
+            return Ok(None);
+        };
+        let Some((base, present)) = lend_row(alloc, self.rows.as_mut_slice(), key.number)? else {
+            unreachable!()
+        };
+        Ok(Some((key.number, base, present)))
+    }
+
+    /// Whether goroutine `number` is lent in this state.
+    pub fn is_lent(&self, number: u64, base: &GoState) -> bool
+        ensures { IsTrue result ↔ IsLentRow self.now.rows number base.now }
+    {
+        match self.rows.get(number as usize) {
+            Some(Some(slot)) => slot.is_lent_in(base),
+            _ => false,
+        }
+    }
+
+    /// Puts goroutine `number` back in this state, parked or not.
+    pub fn take_back(&mut self, number: u64, state: GoState, parked: bool)
+        ensures { self.new ≡ record self.old { rows = slice_set self.old.rows number (Some (record { state = state; floor = state.clock; lease = None; parked = parked })) } }
+    {
+        if (number as usize) < self.rows.len() {
+            self.rows[number as usize] = Some(Slot::back(state, parked));
         }
     }
 
@@ -253,4 +287,21 @@ fn stay_row(rows: &mut [Option<Slot>], number: u64)
             slot.stay();
         }
     }
+}
+
+fn lend_row(
+    alloc: Global,
+    rows: &mut [Option<Slot>],
+    number: u64,
+) -> Result<Option<(GoState, GoState)>, Memory>
+    ensures none { IfOk result (λ found. IfNone found ((free_clock (slice_index_or rows.old number None) ≡ None) × (rows.new ≡ rows.old))) }
+    ensures some { IfOk result (λ found. IfSome found (λ l. (l.1 ≡ l.0) × IsFreeIn rows.old number l.0 × (rows.new ≡ slice_set rows.old number (Some (lent_row l.0))))) }
+    ensures memory { OnErr result (rows.new ≡ rows.old) }
+{
+    if (number as usize) < rows.len() {
+        if let Some(slot) = &mut rows[number as usize] {
+            return Ok(slot.lend(alloc)?);
+        }
+    }
+    Ok(None)
 }

@@ -62,11 +62,12 @@ impl Source {
         &self.text.as_str()[span.from as usize..span.to as usize]
     }
 
-    /// The line and the column of a place in the text: a newline ends its line.
+    /// The line and the column of a place in the text: a newline ends its line. Past the text's end stands its end.
     pub fn line_column(&self, offset: u32) -> Position
-        requires { offset ≤ length (bytes_of self.now) }
         ensures { result ≡ position_after 1 1 (take offset (bytes_of self.now)) }
     {
-        position_behind(&self.text.as_bytes()[..offset as usize])
+        let bytes = self.text.as_bytes();
+        let end = bytes.len().min(offset as usize);
+        position_behind(&bytes[..end])
     }
 }

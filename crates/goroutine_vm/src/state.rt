@@ -112,7 +112,7 @@ impl GoState {
     ) -> Result<Stop, Memory>
         requires { IsStateOf code.now limit self.old }
         ensures stop { IfOk result (λ stop. Advances code.now limit quantum self.old stop self.new) }
-        ensures memory { OnErr result (Goes code.now limit quantum self.old self.new) }
+        ensures steps { Goes code.now limit quantum self.old self.new }
         ensures state { IsStateOf code.now limit self.new }
     {
         for _made in 0..quantum {
@@ -155,7 +155,8 @@ impl GoState {
         limit: u64,
     ) -> Result<Option<Request>, Memory>
         requires { IsStateOf code.now limit self.now }
-        ensures { IfOk result (λ request. asks (code_kind code.now) limit self.now ≡ option_map request_of request) }
+        ensures asks { IfOk result (λ request. asks (code_kind code.now) limit self.now ≡ option_map request_of request) }
+        ensures verified { IsVerified code.now }
     {
         match self.instr(code) {
             Instr::Int(_) => Ok(None),

@@ -41,6 +41,7 @@ impl Verified {
     /// The number of the function `main`.
     pub fn main(&self) -> usize
         ensures main { main_of self.now.functions ≡ Some result }
+        ensures verified { IsVerified self.now }
     {
         main_number(self.code.functions()).unwrap_or(0)
     }

@@ -1,0 +1,302 @@
+-- Each call of the book leaves it where the one-thread run stands.
+use Rattle.std.proofs.Common.{◌≡◌, ◌≢◌, ℕ, zero, suc, ◌+◌, ◌-◌, ◌*◌, ◌<◌, ◌≤◌, ◌^◌, Bool, true, false, not, cond, List, [], ◌∷◌, ◌++◌, map, length, take, drop, Option, Some, None, refl, sym, ap, ◌∙◌, subst, inl, inr, arith, append_assoc, length-append, get_or, get_or-set_same}
+use Rattle.std.specs.Prelude.{slice_index_or, slice_set, slice_get, option_map, unwrap_or, ◌==◌}
+use Rattle.std.specs.Option.{is_some, MatchOption}
+use Rattle.std.proofs.lemmas.Bool.{true≢false, cases_lt, eq-eqb}
+use Rattle.std.proofs.lemmas.Option.{same_Some}
+use Rattle.std.proofs.lemmas.List.Quantifiers.{position-Some}
+use Rattle.std.proofs.Math.Seq.{take-length}
+use Rattle.std.proofs.lemmas.List.{get_or_past}
+use Rattle.bytecode.specs.Code.{Code, Function}
+use Rattle.bytecode.specs.Machine.{Frame, code_kind, code_begin, main_of}
+use Rattle.bytecode.specs.Rules.{IsVerified}
+use Rattle.goroutine_vm.specs.Advance.{IsStateOf}
+use Rattle.logical_clock.specs.declared.key.Key.{Key}
+use Rattle.logical_clock.specs.Order.{is_before, keys, least}
+use Rattle.turn_rule.specs.declared.Row.{Row}
+use Rattle.turn_rule.specs.Turns.{Leads, Rules, run, World as Whole}
+use Rattle.turn_rule.specs.Schedule.{Stands, RowStands, at_row, lend, opened, parked_clock, perform_row, settle_key, has_turn}
+use Rattle.turn_rule.proofs.Stable.{opened_stands, run_add}
+use Rattle.word.specs.declared.end.End.{End as Ending}
+use Rattle.word.specs.declared.end.End.TheVariants.{Deadlock}
+use Rattle.word.specs.declared.request.Event.{Event as Recorded}
+use Rattle.word.specs.Kinds.{at, asks}
+use Rattle.word.specs.Requests.{act, asked, meant}
+use Rattle.word.specs.Values.{Request, Exhausted, Shared}
+use Rattle.word.specs.Views.{event_of}
+use Rattle.word.specs.Worlds.{Rest, rules, performs, opening, moment, is_deserted, end_by, end_of}
+use Rattle.word.proofs.Laws.{laws}
+use Rattle.book.specs.Cores.{World, CoreValue, IsCoreOf, IsPerformed, Performs, Asks, shared_of}
+use Rattle.book.specs.Desks.{Desk, IsDesk, IsAt, IsEvent, IsPiece, IsEnd, FitsRow, FitsAll, HasTurn, StandsBefore, IsFreeIn, Held, IsLent, IsLentRow, opened_desk, lent_desk}
+use Rattle.book.specs.Slots.{State, Rows, IsAwake, IsNobodyAwake, IsBefore, free_row, lent_row, waiting_clock}
+use Rattle.book.proofs.Leases.{fits_set}
+use Rattle.book.proofs.Desks.{lend_keeps, bring_keeps, settle_keeps, parked_asks, waits_alone, waits_before, nobody_awake}
+
+abbrev rules_of : Desk → Rules State (Rest Frame)
+rules_of d = rules (code_kind d.code) d.limit
+
+-- ---- open
+
+main_within : (code : Code) → IsVerified code → (code_kind code).main < length code.functions
+main_within code v =
+    let n = v.main.0 in
+    let e : unwrap_or (main_of code.functions) 0 ≡ n = ap (λ o. unwrap_or o 0) v.main.1 in
+    let p = position-Some _ code.functions n (record { name = []; instrs = [] }) v.main.1 in
+    subst (λ k. k < length code.functions) (sym e) p.0
+
+opened_fits : (code : Code) (limit : ℕ) → IsVerified code → FitsAll code limit (opened_desk code limit).core.rows
+opened_fits code limit v zero = tt
+opened_fits code limit v (suc zero) = record { frame = record { place = refl; function = main_within code v }; clock = omega arith }
+opened_fits code limit v (suc (suc k)) = tt
+
+pub opened_is_desk : (code : Code) (limit : ℕ) → IsVerified code → limit ≤ 2 ^ 62 → IsDesk (opened_desk code limit)
+opened_is_desk code limit v le =
+    let r = rules (code_kind code) limit in
+    let w = opening (code_kind code) in
+    record {
+      verified = v;
+      limit = le;
+      count = λ e. omega arith;
+      many = omega arith;
+      room = omega arith;
+      rows = opened_fits code limit v;
+      at = (0, opened r w, record { stands = opened_stands r (laws (code_kind code) limit) w; core = record { rows = refl; live = refl; events = refl; ending = refl }; size = refl; bytes = refl });
+    }
+
+-- ---- lend and bring
+
+pub lent_is_desk : (d : Desk) (n : ℕ) (s : State) → IsDesk d → IsFreeIn d.core.rows n s → IsDesk (lent_desk d n s)
+lent_is_desk d n s h free =
+    let r = rules_of d in
+    let m = h.at.1 in
+    let a = h.at.2 in
+    let here : slice_index_or m.rows n None ≡ Some (free_row s) = subst (λ (rows : Rows). slice_index_or rows n None ≡ Some (free_row s)) a.core.rows free in
+    let row : option_map (λ (row : Row State). lend r row row.lease) (slice_index_or m.rows n None) ≡ Some (lent_row s) = ap (option_map (λ (row : Row State). lend r row row.lease)) here in
+    let fits : FitsRow d.code d.limit (Some (free_row s)) = subst (FitsRow d.code d.limit) free (h.rows n) in
+    record {
+      verified = h.verified;
+      limit = h.limit;
+      count = h.count;
+      many = h.many;
+      room = h.room;
+      rows = fits_set d.code d.limit d.core.rows n (Some (lent_row s)) h.rows (record { frame = fits.frame; clock = fits.clock });
+      at = (
+        h.at.0,
+        at_row r (lend r) m n,
+        record {
+          stands = lend_keeps r (laws (code_kind d.code) d.limit) m (moment (code_kind d.code) d.limit h.at.0) n a.stands;
+          core = record {
+            rows = ap (λ (rows : Rows). slice_set rows n (Some (lent_row s))) a.core.rows ∙ ap (λ (o : Option (Row State)). slice_set m.rows n o) (sym row);
+            live = a.core.live;
+            events = a.core.events;
+            ending = a.core.ending;
+          };
+          size = a.size;
+          bytes = a.bytes;
+        },
+      );
+    }
+
+abbrev back_row : Desk → State → Row State
+back_row d s = record { state = s; floor = s.clock; lease = None; parked = is_some (asks (code_kind d.code) d.limit s) }
+
+pub brought_is_desk : (d : Desk) (n : ℕ) (row : Row State) (s : State) → IsDesk d → slice_index_or d.core.rows n None ≡ Some row → Leads (rules (code_kind d.code) d.limit) row.state s → IsStateOf d.code d.limit s
+    → IsDesk (record d { core = record d.core { rows = slice_set d.core.rows n (Some (record { state = s; floor = s.clock; lease = None; parked = is_some (asks (code_kind d.code) d.limit s) })) } })
+brought_is_desk d n row s h here leads fits =
+    let r = rules_of d in
+    let m = h.at.1 in
+    let a = h.at.2 in
+    let at : slice_index_or m.rows n None ≡ Some row = subst (λ (rows : Rows). slice_index_or rows n None ≡ Some row) a.core.rows here in
+    record {
+      verified = h.verified;
+      limit = h.limit;
+      count = h.count;
+      many = h.many;
+      room = h.room;
+      rows = fits_set d.code d.limit d.core.rows n (Some (back_row d s)) h.rows fits;
+      at = (
+        h.at.0,
+        record m { rows = slice_set m.rows n (Some (back_row d s)) },
+        record {
+          stands = bring_keeps r (laws (code_kind d.code) d.limit) m (moment (code_kind d.code) d.limit h.at.0) n row s s.clock refl at leads a.stands;
+          core = record { rows = ap (λ (rows : Rows). slice_set rows n (Some (back_row d s))) a.core.rows; live = a.core.live; events = a.core.events; ending = a.core.ending };
+          size = a.size;
+          bytes = a.bytes;
+        },
+      );
+    }
+
+-- ---- settle
+
+least_in : (d : Desk) (m : World) → IsCoreOf m d.core → (o : Option Key) → least (keys waiting_clock 0 d.core.rows) ≡ o → least (keys (parked_clock (rules_of d)) 0 m.rows) ≡ o
+least_in d m c o e = subst (λ (rows : Rows). least (keys waiting_clock 0 rows) ≡ o) c.rows e
+
+pub asks_at : (d : Desk) (n : ℕ) → IsDesk d → HasTurn d.core n → Asks d.code d.limit d.core.rows n
+asks_at d n h t =
+    let a = h.at.2 in
+    let p = parked_asks (rules_of d) (laws (code_kind d.code) d.limit) h.at.1 (moment (code_kind d.code) d.limit h.at.0) a.stands t.key (least_in d h.at.1 a.core (Some t.key) t.least) in
+    let here : slice_index_or d.core.rows n None ≡ Some p.0 = subst (λ (rows : Rows). slice_index_or rows n None ≡ Some p.0) (sym a.core.rows) (subst (λ k. slice_index_or h.at.1.rows k None ≡ Some p.0) t.number p.1) in
+    record { row = p.0; here = here; state = subst (FitsRow d.code d.limit) here (h.rows n); asks = p.4 }
+
+-- event number 2^62 ends the run
+last_ends : (d : Desk) (m : World) (n : ℕ) (row : Row State) → is_some (asks (code_kind d.code) d.limit row.state) ≡ true → length (shared_of m).events + 1 ≡ 2 ^ 62 → is_some (shared_of (perform_row (rules_of d) m n (Some row))).ending ≡ true
+last_ends d m n row asking e = go (asks (code_kind d.code) d.limit row.state) asking
+  where
+    go : (o : Option Request) → is_some o ≡ true → is_some (performs (code_kind d.code) d.limit m.shared n row.state o).shared.shared.ending ≡ true
+    go None h = absurd (true≢false (sym h))
+    go (Some q) h =
+        let w = shared_of m in
+        ap (λ b. is_some (act w n row.state.clock (cond b Exhausted (asked n q)) (cond b Exhausted (asked n q))).shared.ending) (eq-eqb (length w.events + 1) (2 ^ 62) e)
+
+at_end : {A : Type 0} (xs : List A) (x : A) → slice_get (xs ++ x ∷ []) (length xs) ≡ Some x
+at_end [] x = refl
+at_end (y ∷ xs) x = at_end xs x
+
+drop_more : {A : Type 0} (n : ℕ) (xs ys : List A) → n ≤ length xs → drop n (xs ++ ys) ≡ drop n xs ++ ys
+drop_more zero xs ys le = refl
+drop_more (suc n) [] ys le = absurd (omega (arith, le))
+drop_more (suc n) (x ∷ xs) ys le = drop_more n xs ys (omega (arith, le))
+
+pub record Commits (d : Desk) (event : Recorded) (bytes : List ℕ) (new : CoreValue) : Type 0 where
+  pub desk : IsDesk (record d { core = new; pending = d.pending ++ bytes })
+  pub is_event : IsEvent d.code d.limit d.core.events (event_of event)
+  pub one_more : new.events ≡ d.core.events + 1
+
+pub commits : (d : Desk) (n : ℕ) (event : Recorded) (bytes : List ℕ) (new : CoreValue) → IsDesk d → HasTurn d.core n → Performs d.code d.limit d.core n event bytes new → (FitsAll d.code d.limit d.core.rows → FitsAll d.code d.limit new.rows) → length (d.pending ++ bytes) < 2 ^ 64 → Commits d event bytes new
+commits d n event bytes new h t done fits room =
+    let r = rules_of d in
+    let L = laws (code_kind d.code) d.limit in
+    let m = h.at.1 in
+    let a = h.at.2 in
+    let w = moment (code_kind d.code) d.limit h.at.0 in
+    let p = done m a.core in
+    let going : is_some (shared_of m).ending ≡ false = ap is_some (sym a.core.ending ∙ t.going) in
+    let s = settle_keeps r L m w a.stands going in
+    let turn : has_turn t.key 0 m.rows ≡ true = subst (λ (rows : Rows). has_turn t.key 0 rows ≡ true) a.core.rows t.turn in
+    let after = perform_row r m n (slice_index_or m.rows n None) in
+    let settled : settle_key r m (least (keys (parked_clock r) 0 m.rows)) ≡ after =
+    ap (settle_key r m) (least_in d m a.core (Some t.key) t.least) ∙ ap (λ b. cond b (perform_row r m t.key.number (slice_index_or m.rows t.key.number None)) m) turn ∙ ap (λ k. perform_row r m k (slice_index_or m.rows k None)) t.number in
+    let stands : Stands r after (moment (code_kind d.code) d.limit (h.at.0 + s.0)) = subst (λ x. Stands r after x) (sym (run_add r L h.at.0 s.0 (opening (code_kind d.code)))) (subst (λ x. Stands r x (run r s.0 w)) settled s.1) in
+    let events = ap length p.events ∙ length-append (shared_of m).events (event_of event ∷ []) in
+    let one : new.events ≡ d.core.events + 1 = p.core.events ∙ events ∙ ap (λ k. k + 1) (sym a.core.events) in
+    let ask = asks_at d n h t in
+    let here : slice_index_or m.rows n None ≡ Some ask.row = subst (λ (rows : Rows). slice_index_or rows n None ≡ Some ask.row) a.core.rows ask.here in
+    let was = h.count (ap is_some t.going) in
+    let last : d.core.events + 1 ≡ 2 ^ 62 → is_some new.ending ≡ true = λ e. ap is_some p.core.ending ∙ ap (λ (o : Option (Row State)). is_some (shared_of (perform_row r m n o)).ending) here ∙ last_ends d m n ask.row ask.asks (ap (λ k. k + 1) (sym a.core.events) ∙ e) in
+    let count : is_some new.ending ≡ false → new.events < 2 ^ 62 = λ none. elim (cases_lt (d.core.events + 1) (2 ^ 62)) [
+      | inl l ↦ omega (arith, l, one)
+      | inr l ↦ absurd (true≢false (sym (last (omega (arith, l, was))) ∙ none))
+    ] in
+    let out = p.output in
+    let more = ap length out ∙ length-append (shared_of m).output bytes in
+    let longer = length-append d.pending bytes in
+    let size = a.size in
+    let whole = h.room in
+    record {
+      desk = record {
+        verified = h.verified;
+        limit = h.limit;
+        count = count;
+        many = omega (arith, was, one);
+        room = omega (arith, whole, one, room);
+        rows = fits h.rows;
+        at = (
+          h.at.0 + s.0,
+          after,
+          record {
+            stands = stands;
+            core = p.core;
+            size = omega (arith, more, longer, size);
+            bytes = ap (drop d.taken) out ∙ drop_more d.taken (shared_of m).output bytes (omega (arith, size)) ∙ ap (λ xs. xs ++ bytes) a.bytes;
+          },
+        );
+      };
+      is_event = (
+        h.at.0 + s.0,
+        ap (λ es. slice_get es d.core.events) (sym (ap (λ (x : Rest Frame). x.shared.events) stands.shared) ∙ p.events)
+            ∙ ap (λ k. slice_get ((shared_of m).events ++ event_of event ∷ []) k) a.core.events ∙ at_end (shared_of m).events (event_of event),
+      );
+      one_more = one;
+    }
+
+abbrev begun : Desk → ℕ → Whole State (Rest Frame)
+begun d n = moment (code_kind d.code) d.limit n
+
+-- who is awake while nobody is parked stands before whatever comes
+pub waits_free : (d : Desk) (n : ℕ) → IsDesk d → least (keys waiting_clock 0 d.core.rows) ≡ None → IsAwake d.core.rows n → StandsBefore d.core n
+waits_free d n h e awake =
+    let a = h.at.2 in
+    let here : slice_index_or h.at.1.rows n None ≡ Some awake.0 = subst (λ (rows : Rows). slice_index_or rows n None ≡ Some awake.0) a.core.rows awake.1 in (
+      awake.0,
+      awake.1,
+      waits_alone (rules_of d) (laws (code_kind d.code) d.limit) h.at.1 n awake.0 (least_in d h.at.1 a.core None e) here,
+      subst (λ (o : Option Key). MatchOption o (Unit {0}) (λ k. is_before (record { clock = awake.0.floor; number = n }) k ≡ true)) (sym e) tt,
+    )
+
+-- whose floor the least parked key is not below stands before it
+pub waits_key : (d : Desk) (n : ℕ) (k : Key) → IsDesk d → least (keys waiting_clock 0 d.core.rows) ≡ Some k → IsBefore d.core.rows k n → StandsBefore d.core n
+waits_key d n k h e b =
+    let a = h.at.2 in
+    let here : slice_index_or h.at.1.rows n None ≡ Some b.0 = subst (λ (rows : Rows). slice_index_or rows n None ≡ Some b.0) a.core.rows b.1 in
+    let q = waits_before (rules_of d) (laws (code_kind d.code) d.limit) h.at.1 (begun d h.at.0) a.stands k n b.0 (least_in d h.at.1 a.core (Some k) e) here b.2 b.3 in
+    (b.0, b.1, q.0, subst (λ (o : Option Key). MatchOption o (Unit {0}) (λ k. is_before (record { clock = b.0.floor; number = n }) k ≡ true)) (sym e) q.1)
+
+ends_by : (w : Whole State (Rest Frame)) (e : Ending) (o : Option Ending) → w.shared.shared.ending ≡ o → o ≡ Some e → end_of w ≡ Some e
+ends_by w e o is ended = ap (λ (x : Option Ending). cond (is_some x) x (cond (is_deserted (map is_some w.awake)) (Some Deadlock) None)) (is ∙ ended)
+
+-- an event ended the run
+pub ended_desk : (d : Desk) (e : Ending) → IsDesk d → d.core.ending ≡ Some e → IsEnd d.code d.limit d.core.events (d.taken + length d.pending) e
+ended_desk d e h ended =
+    let a = h.at.2 in
+    let same = sym a.stands.shared in
+    record {
+      moves = h.at.0;
+      events = ap (λ (x : Rest Frame). length x.shared.events) same ∙ sym a.core.events;
+      bytes = ap (λ (x : Rest Frame). length x.shared.output) same ∙ a.size;
+      ending = ends_by (begun d h.at.0) e d.core.ending (ap (λ (x : Rest Frame). x.shared.ending) same ∙ sym a.core.ending) ended;
+    }
+
+deserted : {A : Type 0} (xs : List (Option A)) → ((n : ℕ) → slice_index_or xs n None ≡ None) → is_deserted (map is_some xs) ≡ true
+deserted [] none = refl
+deserted (None ∷ xs) none = deserted xs (λ n. none (suc n))
+deserted (Some x ∷ xs) none = absurd (true≢false (ap is_some (none zero)))
+
+-- nobody is awake
+pub dead_desk : (d : Desk) → IsDesk d → d.core.ending ≡ None → IsNobodyAwake d.core.rows → IsEnd d.code d.limit d.core.events (d.taken + length d.pending) Deadlock
+dead_desk d h going nobody =
+    let a = h.at.2 in
+    let w = begun d h.at.0 in
+    let same = sym a.stands.shared in
+    let none : w.shared.shared.ending ≡ None = ap (λ (x : Rest Frame). x.shared.ending) same ∙ sym a.core.ending ∙ going in
+    let all = nobody_awake (rules_of d) (laws (code_kind d.code) d.limit) h.at.1 w a.stands (λ n. subst (λ (rows : Rows). slice_index_or rows n None ≡ None) a.core.rows (nobody n)) in
+    record {
+      moves = h.at.0;
+      events = ap (λ (x : Rest Frame). length x.shared.events) same ∙ sym a.core.events;
+      bytes = ap (λ (x : Rest Frame). length x.shared.output) same ∙ a.size;
+      ending = ap (λ (x : Option Ending). cond (is_some x) x (cond (is_deserted (map is_some w.awake)) (Some Deadlock) None)) none ∙ ap (λ b. cond b (Some Deadlock) None) (deserted w.awake all);
+    }
+
+-- what was not taken out stands behind what was
+pub pending_stands : (d : Desk) → IsDesk d → IsPiece d.code d.limit d.taken d.pending
+pending_stands d h =
+    let a = h.at.2 in
+    let same = ap (λ (x : Rest Frame). x.shared.output) (sym a.stands.shared) in
+    let long = ap length same ∙ a.size in
+    (h.at.0, omega (arith, long), ap (λ xs. take (length d.pending) (drop d.taken xs)) same ∙ ap (take (length d.pending)) a.bytes ∙ take-length d.pending)
+
+-- the row that was lent is lent
+pub lent_is_lent : (rows : Rows) (n : ℕ) (s : State) → IsFreeIn rows n s → IsLentRow (slice_set rows n (Some (lent_row s))) n s
+lent_is_lent rows n s free = elim (cases_lt n (length rows)) [
+  | inl l ↦ (lent_row s, get_or-set_same rows n (Some (lent_row s)) None l, refl, refl)
+  | inr l ↦ absurd (true≢false (sym (ap is_some (sym (get_or_past rows n None l) ∙ free))))
+]
+
+pub brought_by : (d : Desk) (l : Held) (s : State) (n : ℕ) (parked : Bool) (new : CoreValue) → IsDesk d → IsLent d l → IsStateOf l.code l.limit l.present → Leads (rules (code_kind l.code) l.limit) l.base l.present → s ≡ l.present → n ≡ l.number → parked ≡ is_some (asks (code_kind l.code) l.limit l.present)
+    → new ≡ record d.core { rows = slice_set d.core.rows n (Some (record { state = s; floor = s.clock; lease = None; parked = parked })) } → IsDesk (record d { core = new })
+brought_by d l s n parked new h lent fits leads es en ep e =
+    let row = lent.row.0 in
+    let fits' : IsStateOf d.code d.limit s = rw (lent.code, lent.limit, es) fits in
+    let leads' : Leads (rules (code_kind d.code) d.limit) row.state s = rw (lent.code, lent.limit, es, lent.row.3) leads in
+    let here : slice_index_or d.core.rows n None ≡ Some row = rw en lent.row.1 in
+    let asks' : parked ≡ is_some (asks (code_kind d.code) d.limit s) = rw (lent.code, lent.limit, es) ep in
+    subst (λ core. IsDesk (record d { core = core })) (sym (e ∙ ap (λ b. record d.core { rows = slice_set d.core.rows n (Some (record { state = s; floor = s.clock; lease = None; parked = b })) }) asks')) (brought_is_desk d n row s h here leads' fits')

@@ -1,0 +1,25 @@
+use Rattle.std.proofs.Common.{◌≡◌, ◌+◌, length, Some, None, refl, sym, ◌∙◌, subst, ap}
+use Rattle.std.specs.Arc.{arc_value}
+use Rattle.logical_clock.specs.Order.{keys, least}
+use Rattle.word.specs.declared.end.End.TheVariants.{Deadlock}
+use Rattle.book.specs.Desks.{Desk, IsEnd, StandsBefore}
+use Rattle.book.specs.Slots.{Rows, IsAwake, IsBefore, IsNobodyAwake, waiting_clock}
+use Rattle.book.proofs.Books.{ended_desk, dead_desk, waits_free, waits_key}
+use Rattle.book.proofs.book_model.Book.settle.Goals as goal
+
+pub returns-in-Some-clause-settles : goal.returns-in-Some-clause-settles
+returns-in-Some-clause-settles c =
+    let b = c.self.inside in
+    let d : Desk = record { code = arc_value b.program; limit = b.limit; core = b.core; taken = b.taken; pending = b.pending.items } in
+    let e = c.in-Some.end in
+    (refl, subst (λ (x : Desk). IsEnd x.code x.limit x.core.events (x.taken + length x.pending) e) c.self.view_is (ended_desk d e c.self.invariant (sym c.ending.ensures ∙ c.in-Some.is)))
+
+pub returns-in-Some-blocker-clause-settles : goal.returns-in-Some-blocker-clause-settles
+returns-in-Some-blocker-clause-settles c =
+    let b = c.self.inside in
+    let d : Desk = record { code = arc_value b.program; limit = b.limit; core = b.core; taken = b.taken; pending = b.pending.items } in
+    let n = c.in-Some-blocker.number in
+    let k = c.in-Some-least_parked.key in
+    let first : least (keys waiting_clock 0 d.core.rows) ≡ Some k = subst (λ (rows : Rows). least (keys waiting_clock 0 rows) ≡ Some k) c.rows.ensures (sym c.least_parked.ensures.least ∙ c.in-Some-least_parked.is) in
+    let before : IsBefore d.core.rows k n = subst (λ (rows : Rows). IsBefore rows k n) c.rows-2.ensures c.in-Some-blocker.ensures.1 in
+    (refl, subst (λ (x : Desk). StandsBefore x.core n) c.self.view_is (waits_key d n k c.self.invariant first before))

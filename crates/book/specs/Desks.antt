@@ -1,0 +1,153 @@
+-- The book of a run.
+use Rattle.std.specs.Prelude.{◌≡◌, ℕ, ◌+◌, ◌*◌, ◌<◌, ◌≤◌, ◌^◌, false, true, cond, [], ◌∷◌, List, length, drop, take, Option, Some, None, IfSome, option_map, slice_get, slice_index_or, slice_set}
+use Rattle.std.specs.Option.{is_some, MatchOption}
+use Rattle.bytecode.specs.Code.{Code}
+use Rattle.bytecode.specs.Machine.{Frame, code_kind, code_begin}
+use Rattle.bytecode.specs.Rules.{IsVerified}
+use Rattle.goroutine_vm.specs.Advance.{IsStateOf}
+use Rattle.logical_clock.specs.declared.key.Key.{Key}
+use Rattle.logical_clock.specs.Order.{is_before, keys, least}
+use Rattle.turn_rule.specs.declared.Row.{Row}
+use Rattle.turn_rule.specs.Turns.{Leads}
+use Rattle.turn_rule.specs.Schedule.{Stands, has_turn}
+use Rattle.word.specs.declared.end.End.{End as Ending}
+use Rattle.word.specs.Values.{Event}
+use Rattle.word.specs.Kinds.{asks, at}
+use Rattle.word.specs.Views.{event_of}
+use Rattle.word.specs.Worlds.{end_of, moment, rules}
+use Rattle.book.specs.declared.settled.Settled.{Settled}
+use Rattle.book.specs.declared.settled.Settled.TheVariants.{Committed, Waiting, Ended}
+use Rattle.book.specs.Cores.{World, CoreValue, IsCoreOf, shared_of}
+use Rattle.book.specs.Slots.{State, Rows, free_clock, free_row, lent_row, waiting_clock}
+
+-- ---- what is seen of the one-thread run of a code
+
+-- the event before which there were so many
+abbrev pub IsEvent : Code → ℕ → ℕ → Event → Type 0
+IsEvent code limit before event =
+    (n : ℕ) × (slice_get (moment (code_kind code) limit n).shared.shared.events before ≡ Some event)
+
+-- the bytes stand at a place of the output
+abbrev pub IsPiece : Code → ℕ → ℕ → List ℕ → Type 0
+IsPiece code limit from bytes =
+    (n : ℕ) × (from + length bytes ≤ length (moment (code_kind code) limit n).shared.shared.output)
+    × (take (length bytes) (drop from (moment (code_kind code) limit n).shared.shared.output) ≡ bytes)
+
+-- the run ends so, after so many events and so many bytes of output
+pub record IsEnd (code : Code) (limit before size : ℕ) (last : Ending) : Type 0 where
+  pub moves : ℕ
+  pub events : length (moment (code_kind code) limit moves).shared.shared.events ≡ before
+  pub bytes : length (moment (code_kind code) limit moves).shared.shared.output ≡ size
+  pub ending : end_of (moment (code_kind code) limit moves) ≡ Some last
+
+-- ---- the book
+
+pub record Desk : Type 0 where
+  pub code : Code
+  pub limit : ℕ
+  pub core : CoreValue
+  -- how many bytes of the output were taken out, and those that were not
+  pub taken : ℕ
+  pub pending : List ℕ
+
+abbrev pub FitsRow : Code → ℕ → Option (Row State) → Type 0
+FitsRow code limit row = IfSome row (λ r. IsStateOf code limit r.state)
+
+abbrev pub FitsAll : Code → ℕ → Rows → Type 0
+FitsAll code limit rows = (k : ℕ) → FitsRow code limit (slice_index_or rows k None)
+
+-- the machine m is this desk's, and stands where the one-thread run does after n moves
+pub record IsAt (d : Desk) (n : ℕ) (m : World) : Type 0 where
+  pub stands : Stands (rules (code_kind d.code) d.limit) m (moment (code_kind d.code) d.limit n)
+  pub core : IsCoreOf m d.core
+  pub size : length (shared_of m).output ≡ d.taken + length d.pending
+  pub bytes : drop d.taken (shared_of m).output ≡ d.pending
+
+pub record IsDesk (d : Desk) : Type 0 where
+  pub verified : IsVerified d.code
+  pub limit : d.limit ≤ 2 ^ 62
+  pub count : is_some d.core.ending ≡ false → d.core.events < 2 ^ 62
+  pub many : d.core.events ≤ 2 ^ 62
+  pub room : d.taken + length d.pending ≤ d.core.events * 2 ^ 64
+  pub rows : FitsAll d.code d.limit d.core.rows
+  pub at : (n : ℕ) × (m : World) × IsAt d n m
+
+-- no event is committed, and goroutine 1 is alone
+abbrev pub opened_desk : Code → ℕ → Desk
+opened_desk code limit = record {
+  code = code;
+  limit = limit;
+  core = record { rows = None ∷ Some (free_row (at 0 (code_begin (code_kind code).main []))) ∷ []; live = 1; events = 0; ending = None };
+  taken = 0;
+  pending = [];
+}
+
+-- ---- leases
+
+-- a lease as contracts see it
+pub record Held : Type 0 where
+  pub code : Code
+  pub limit : ℕ
+  pub number : ℕ
+  pub base : State
+  pub present : State
+
+-- the first to lend: of those awake, neither lent nor parked, the one of least key
+abbrev pub to_lend : CoreValue → Option Key
+to_lend core = cond (is_some core.ending) None (least (keys free_clock 0 core.rows))
+
+abbrev pub IsFreeIn : Rows → ℕ → State → Type 0
+IsFreeIn rows n state = slice_index_or rows n None ≡ Some (free_row state)
+
+-- goroutine n is lent in this state
+abbrev pub IsLentRow : Rows → ℕ → State → Type 0
+IsLentRow rows n base = (row : Row State) × (slice_index_or rows n None ≡ Some row) × (is_some row.lease ≡ true) × (row.state ≡ base)
+
+-- goroutine n is lent in this state
+abbrev pub lent_desk : Desk → ℕ → State → Desk
+lent_desk d n state = record d { core = record d.core { rows = slice_set d.core.rows n (Some (lent_row state)) } }
+
+-- the lease is out: of this program and limit, and the lent goroutine is still in the lent state
+pub record IsLent (d : Desk) (l : Held) : Type 0 where
+  pub code : d.code ≡ l.code
+  pub limit : d.limit ≡ l.limit
+  pub row : IsLentRow d.core.rows l.number l.base
+
+-- the present state is put back, before an end
+abbrev pub brought : Desk → Held → Desk
+brought d l =
+    cond (is_some d.core.ending) d (record d {
+      core = record d.core {
+        rows = slice_set d.core.rows l.number (Some (record {
+          state = l.present;
+          floor = l.present.clock;
+          lease = None;
+          parked = is_some (asks (code_kind d.code) d.limit l.present);
+        }));
+      };
+    })
+
+-- goroutine number n stands at its request, and has the turn
+pub record HasTurn (core : CoreValue) (n : ℕ) : Type 0 where
+  pub key : Key
+  pub number : key.number ≡ n
+  pub least : least (keys waiting_clock 0 core.rows) ≡ Some key
+  pub turn : has_turn key 0 core.rows ≡ true
+  pub going : core.ending ≡ None
+
+-- ---- settling
+
+-- n is awake and not parked, and its floor is below the least parked key, or nobody is parked
+abbrev pub StandsBefore : CoreValue → ℕ → Type 0
+StandsBefore core n =
+    (row : Row State) × (slice_index_or core.rows n None ≡ Some row) × (row.parked ≡ false)
+    × MatchOption (least (keys waiting_clock 0 core.rows)) (Unit {0}) (λ k. is_before (record { clock = row.floor; number = n }) k ≡ true)
+
+-- one event more, and the run's next one; or somebody who stands before it; or the run's end
+abbrev pub Settles : Desk → Settled → Desk → Type 0
+Settles old (Committed event) new =
+    IsEvent old.code old.limit old.core.events (event_of event) × (new.core.events ≡ old.core.events + 1)
+    × (new.code ≡ old.code) × (new.limit ≡ old.limit) × (new.taken ≡ old.taken)
+Settles old (Waiting n) new = (new ≡ old) × StandsBefore old.core n
+Settles old (Ended ending) new =
+    (new ≡ old) × IsEnd old.code old.limit old.core.events (old.taken + length old.pending) ending
