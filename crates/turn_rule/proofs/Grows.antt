@@ -7,7 +7,8 @@ use Rattle.turn_rule.specs.Turns.{Rules, World, next, perform, move_on, move_at,
 use Rattle.turn_rule.specs.Schedule.{Laws, Records, IsPrefixOf}
 use Rattle.turn_rule.proofs.Stable.{run_add}
 
-module _ {S W E : Type 0} (r : Rules S W) (h : W → List E) (records : Records r h) where
+-- a list that requests only lengthen is only lengthened by the run
+module _ {S W E : Type 0} (r : Rules S W) (h : W → List E) (longer : (w : W) (n : ℕ) (s : S) → r.asks s ≡ true → IsPrefixOf (h w) (h (r.perform w n s).shared)) where
   abbrev Grows : World S W → World S W → Type 0
   Grows w v = IsPrefixOf (h w.shared) (h v.shared)
 
@@ -16,7 +17,7 @@ module _ {S W E : Type 0} (r : Rules S W) (h : W → List E) (records : Records 
 
   on_by : (w : World S W) (n : ℕ) (s : S) (o : Option S) (b : Bool) → r.asks s ≡ b → Grows w (elim o as (λ _. World S W) [ Some t ↦ move_on r w n s (Some t) | None ↦ cond b (perform r w n s) w ])
   on_by w n s (Some t) b e = same w
-  on_by w n s None true e = let q = records w.shared n s e in (q.0 ∷ [], sym q.1)
+  on_by w n s None true e = longer w.shared n s e
   on_by w n s None false e = same w
 
   at_by : (w : World S W) (n : ℕ) (s : S) (o : Option S) → Grows w (move_on r w n s o)
@@ -35,9 +36,12 @@ module _ {S W E : Type 0} (r : Rules S W) (h : W → List E) (records : Records 
   one_by w true = same w
   one_by w false = next_by w (next r w.awake)
 
-  pub grows : (n : ℕ) (w : World S W) → Grows w (run r n w)
-  grows zero w = same w
-  grows (suc n) w =
+  pub lengthens : (n : ℕ) (w : World S W) → Grows w (run r n w)
+  lengthens zero w = same w
+  lengthens (suc n) w =
       let a = one_by w (r.is_over w.shared) in
-      let b = grows n (one r w) in
+      let b = lengthens n (one r w) in
       (a.0 ++ b.0, sym (append_assoc (h w.shared) a.0 b.0) ∙ ap (λ l. l ++ b.0) a.1 ∙ b.1)
+
+pub grows : {S W E : Type 0} (r : Rules S W) (h : W → List E) → Records r h → (n : ℕ) (w : World S W) → IsPrefixOf (h w.shared) (h (run r n w).shared)
+grows r h records n w = lengthens r h (λ w n s e. let q = records w n s e in (q.0 ∷ [], sym q.1)) n w

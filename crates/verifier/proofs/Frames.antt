@@ -10,8 +10,10 @@ use Rattle.bytecode.specs.declared.code.PrintTable.{PrintTable}
 use Rattle.bytecode.specs.Code.{Function, Code}
 use Rattle.bytecode.specs.Machine.{Frame, instrs_of, fetch, printed, print_next, return_next, instr_next, code_next, print_answer, instr_answer, code_answer, code_begin, main_of}
 use Rattle.bytecode.specs.Rules.{print_depth, depth_after, depth_at, Fits, FitsTable, Returns, IsShort, IsVerified, IsFrameOf}
-use Rattle.verifier.specs.Refusals.{IsFineAt, IsFine, AreFine, Comes, begins, goes, answers, NeverStuck}
+use Rattle.verifier.specs.Refusals.{IsBrokenAt, Breaks, IsRefused, IsFineAt, IsFine, AreFine, Comes, begins, goes, answers, NeverStuck}
 use Rattle.verifier.proofs.Depths.{depth_next, path_within}
+use Rattle.go_text.specs.declared.fault.Fault.{Fault}
+use Rattle.go_text.specs.declared.fault.Fault.TheVariants as faults
 use Rattle.word.specs.declared.value.Word.{Word}
 use Rattle.word.specs.declared.value.Word.TheVariants.{Int}
 use Rattle.word.specs.Values.{Request, Print, End, Reply}
@@ -149,3 +151,23 @@ module _ (code : Code) (v : IsVerified code) where
 
   pub never_stuck : NeverStuck code
   never_stuck f c stuck = not_stuck f (comes_fits f c) stuck
+
+-- verified code breaks no rule
+not_broken_at : (code : Code) (v : IsVerified code) (n : ℕ) (f : Function) → slice_get code.functions n ≡ Some f → (place : ℕ) (i : Instr) (rule : ℕ) → slice_get f.instrs place ≡ Some i → IsBrokenAt code.prints (depth_at code.prints 0 f.instrs place) i rule → ⊥
+not_broken_at code v n f at place (instrs.Int k) rule here broken = broken
+not_broken_at code v n f at place (instrs.Print q) rule here (inl b) = let t = (v.whole n f at).tables place (instrs.Print q) here in let l = b.1 in omega (arith, t, l)
+not_broken_at code v n f at place (instrs.Print q) rule here (inr b) = b.3 (v.fitting n f at place b.1 (instrs.Print q) b.2 here)
+not_broken_at code v n f at place instrs.Return rule here broken = broken.3 (v.returning n f at place broken.1 instrs.Return broken.2 here)
+
+not_broken : (code : Code) (v : IsVerified code) (rule function place : ℕ) → Breaks code rule function place → ⊥
+not_broken code v rule function place (inl (f, at, inl (i, here, b))) = not_broken_at code v function f at place i rule here b
+not_broken code v rule function place (inl (f, at, inr (r, e, no_return))) = no_return (ap (slice_get f.instrs) e ∙ (v.whole function f at).last)
+not_broken code v rule function place (inr (inl (r, e, table, at, long))) = let s = v.short place table at in omega (arith, s, long)
+not_broken code v rule function place (inr (inr (r, e, p, none))) = let m : main_of code.functions ≡ Some v.main.0 = v.main.1 in absurd (none_some (main_of code.functions) v.main.0 none m)
+  where
+    none_some : (o : Option ℕ) (n : ℕ) → o ≡ None → o ≡ Some n → ⊥
+    none_some o n a b = cc
+
+pub never_refused : (code : Code) (fault : Fault) → IsVerified code → IsRefused code fault → ⊥
+never_refused code (faults.Unverified rule function place) v refused = not_broken code v rule function place refused
+never_refused code fault v refused = refused

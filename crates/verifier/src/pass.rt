@@ -1,6 +1,6 @@
 //! The verifier: one pass over the instructions of each function.
 
-ghost use Rattle.std.specs.Prelude.{◌≡◌, ◌↔◌, ◌-◌, ◌<◌, ◌^◌, length, IsTrue, IfOk, IfErr, IfSome, IfNone, OnOk, slice_get, option_and_then};
+ghost use Rattle.std.specs.Prelude.{◌≡◌, ◌↔◌, ◌-◌, ◌<◌, ◌^◌, length, IsTrue, IfOk, IfErr, IsOk, IfSome, IfNone, OnOk, slice_get, option_and_then};
 ghost use Rattle.bytecode.specs.Machine.{main_of};
 ghost use Rattle.bytecode.specs.Rules.{IsShort, IsVerified, depth_after};
 ghost use Rattle.verifier.specs.Refusals.{AreFine, IsBrokenAt, IsBrokenIn, IsFine, IsFineAt, IsRefused, NeverStuck};
@@ -59,33 +59,44 @@ fn main_number(functions: &[Function]) -> Option<usize>
 /// Verifies code. Refused with the broken rule, 1 to 8, the function's number and the instruction's place; of a print
 /// table its number stands as the place, and where there is no function `main` both are 0.
 pub fn verify(code: Code) -> Result<Verified, Fault>
+    ensures exact { IsOk result ↔ IsVerified code }
     ensures code { IfOk result (λ verified. verified ≡ code) }
-    ensures rules { IfOk result IsVerified }
     ensures safe { IfOk result NeverStuck }
     ensures fault { IfErr result (IsRefused code) }
 {
+    match refusal(&code) {
+        Some(fault) => Err(fault),
+        None => Ok(Verified { code }),
+    }
+}
+
+/// Why the code is refused.
+fn refusal(code: &Code) -> Option<Fault>
+    ensures none { IfNone result (IsVerified code.now) }
+    ensures some { IfSome result (IsRefused code.now) }
+{
     if let Some(table) = long_table(code.prints()) {
-        return Err(Fault::Unverified {
+        return Some(Fault::Unverified {
             rule: 7,
             function: 0,
             place: table,
         });
     }
     if let Some((rule, function, place)) = broken(code.prints(), code.functions()) {
-        return Err(Fault::Unverified {
+        return Some(Fault::Unverified {
             rule,
             function,
             place,
         });
     }
     if main_number(code.functions()).is_none() {
-        return Err(Fault::Unverified {
+        return Some(Fault::Unverified {
             rule: 8,
             function: 0,
             place: 0,
         });
     }
-    Ok(Verified { code })
+    None
 }
 
 /// The first print table of too many values.
