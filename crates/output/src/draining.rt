@@ -1,6 +1,6 @@
 //! The way of a piece into a writer.
 
-ghost use Rattle.std.specs.Prelude.{◌≡◌, ◌<◌, ◌≤◌, ◌+◌, ◌-◌, ◌↔◌, ◌⊎◌, take, true, OnOk, IfErr, IsErrOf, vec_len};
+ghost use Rattle.std.specs.Prelude.{◌≡◌, ◌<◌, ◌≤◌, ◌+◌, ◌-◌, ◌↔◌, ◌⊎◌, take, true, OnOk, IsErr, IsErrOf, vec_len};
 ghost use Rattle.std.specs.Io.KnownBytes.{Appends};
 ghost use Rattle.output.specs.Progress.{place_of, run_of, IsNext};
 
@@ -63,12 +63,31 @@ pub fn drain<W: Write>(
     if !progress.is_next(&piece) {
         return Err(DrainFault::NotYours);
     }
+    drain_next(progress, piece, writer)?;
+    Ok(())
+}
+
+/// Writes the next piece, without a look at its program, and counts each byte that the writer took.
+pub fn drain_next<W: Write>(
+    progress: &mut Progress,
+    piece: Piece,
+    writer: &mut W,
+) -> Result<(), WriteFault>
+    requires { IsNext progress.old piece }
+    ensures ok { OnOk result (place_of progress.new ≡ place_of progress.old + vec_len piece.bytes) }
+    ensures short { IsErr result → place_of progress.new < place_of progress.old + vec_len piece.bytes }
+    ensures forward { place_of progress.old ≤ place_of progress.new }
+    ensures bytes { Appends (W.contents writer.old) (W.contents writer.new)
+        (take (place_of progress.new - place_of progress.old) piece.bytes.items) }
+    ensures flag { IsErr result → W.has_failed writer.new ≡ true }
+    ensures same { run_of progress.new ≡ run_of progress.old }
+{
     let bytes = piece.bytes.as_slice();
     let mut done = 0;
     'writes: while done < bytes.len() {
         let taken = writer.write(&bytes[done..])?;
         if taken == 0 {
-            return Err(DrainFault::Write);
+            return Err(WriteFault);
         }
         done += taken;
         progress.advance(taken as u128);

@@ -7,6 +7,6 @@ pub mod progress;
 #[cfg(test)]
 mod tests;
 
-pub use draining::{DrainFault, drain};
+pub use draining::{DrainFault, drain, drain_next};
 pub use piece::{Kind, Piece};
 pub use progress::Progress;

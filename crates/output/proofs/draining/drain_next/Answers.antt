@@ -1,6 +1,6 @@
 use Rattle.std.proofs.Common.{◌∙◌}
 use Rattle.output.proofs.DrainLemmas.{Written-next}
-use Rattle.output.proofs.draining.drain.Goals as goal
+use Rattle.output.proofs.draining.drain_next.Goals as goal
 
 pub writes-preserved : goal.writes-preserved
 writes-preserved g c = (

@@ -1,7 +1,7 @@
 use Rattle.std.proofs.Common.{◌≡◌, length, ◌-◌}
 use Rattle.output.specs.Progress.{place_of, run_of}
 use Rattle.output.proofs.DrainLemmas.{Written}
-use Rattle.output.proofs.draining.drain.Given as goal
+use Rattle.output.proofs.draining.drain_next.Given as goal
 
 abbrev pub invariant-writes : goal.invariant-writes
 invariant-writes g l =
