@@ -3,7 +3,9 @@
 
 pub mod gate;
 pub mod outcome;
+mod reading;
 pub mod run;
+mod running;
 #[cfg(test)]
 mod tests;
 

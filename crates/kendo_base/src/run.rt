@@ -1,29 +1,51 @@
 //! From bytes to bytes.
 
+ghost use Rattle.std.specs.Prelude.{◌≡◌, ◌≤◌, ◌⊎◌, ◌↔◌, IfErr, IfOk, IsErrOf, true};
+ghost use Rattle.checker.specs.Source.{source_kind};
+ghost use Rattle.kendo_base.specs.Reading.{HasNoReading, IsRefusal, Reads, number_of};
+ghost use Rattle.kendo_base.specs.Runs.{BeginsOutput, IsLimit, IsWhole, IsWorkers};
+ghost use Rattle.syntax.specs.Tree.{File};
+
 use crate::gate::Gate;
-use go_text::{Fault, Source};
+use crate::reading::read;
+use crate::running::run_typed;
+use go_text::Fault;
 use std::alloc::Global;
 use std::sync::Wait;
 use word::Write;
 use word::end::End;
 
-/// Runs a text.
+/// Runs the program that a text is, up to the clock limit (1 to 2^62 steps) on 1 to 64 workers,
+/// and answers how it ended. What is written begins the output of the one-thread run; at an end
+/// it is all of it. A text without a reading is refused before anything is written.
 pub fn run_bytes<R: Wait, G: Gate, O: Write, T: Write>(
-    _rt: &R,
-    _alloc: Global,
+    rt: &R,
+    alloc: Global,
     bytes: Vec<u8>,
     limit: u64,
     workers: u64,
     _gate: &G,
-    _out: &mut O,
+    out: &mut O,
     _trace: &mut T,
-) -> Result<End, Fault> {
-    if workers == 0 || workers > 64 {
+) -> Result<End, Fault>
+    ensures workers { IsErrOf result Fault.BadWorkers ↔ (IsWorkers workers → ⊥) }
+    ensures limit { IsErrOf result Fault.BadLimit ↔ (IsWorkers workers × (IsLimit limit → ⊥)) }
+    ensures refused { IfErr result (λ fault. IsRefusal fault → HasNoReading bytes.items) }
+    ensures only { IfErr result (λ fault. IsRefusal fault ⊎ (13 ≤ number_of fault)) }
+    ensures begins { (O.contents out.new ≡ O.contents out.old) ⊎ ((file : File) × Reads bytes.items file × BeginsOutput (source_kind file) limit (O.contents out.old) (O.contents out.new)) }
+    ensures nothing { IfErr result (λ fault. (fault ≡ Fault.Memory → ⊥) → (fault ≡ Fault.Write → ⊥) → O.contents out.new ≡ O.contents out.old) }
+    ensures whole { IfOk result (λ end. (file : File) × Reads bytes.items file × IsWhole (source_kind file) limit (O.contents out.old) (O.contents out.new) end) }
+    ensures write { IsErrOf result Fault.Write → O.has_failed out.new ≡ true }
+    ensures reading { IsErrOf result Fault.Write → (file : File) × Reads bytes.items file }
+    ensures trace { _trace.new ≡ _trace.old }
+{
+    if workers < 1 || workers > 64 {
         return Err(Fault::BadWorkers);
     }
-    if limit == 0 || limit > 1 << 62 {
+    if limit < 1 || limit > 1 << 62 {
         return Err(Fault::BadLimit);
     }
-    let _source = Source::new(bytes)?;
-    Ok(End::Finished)
+    let typed = read(alloc, bytes)?;
+    let end = run_typed(rt, alloc, &typed, limit, out)?;
+    Ok(end)
 }

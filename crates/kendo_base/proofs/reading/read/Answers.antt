@@ -1,0 +1,42 @@
+use Rattle.std.proofs.Common.{◌≤◌, ℕ, List, length, sym, subst}
+use Rattle.std.specs.Prelude.{IsUtf8}
+use Rattle.std.proofs.lemmas.Result.{err_from_is_err_and}
+use Rattle.checker.specs.Typed.{tree_in}
+use Rattle.go_text.specs.Source.{bytes_of}
+use Rattle.parser.specs.Lexemes.{lexemes}
+use Rattle.parser.specs.Spelling.{Spells}
+use Rattle.scanner.specs.declared.token.Token.{Token}
+use Rattle.syntax.specs.declared.tree.Tree.{Tree}
+use Rattle.syntax.specs.Spans.{tree_of}
+use Rattle.kendo_base.specs.Reading.{HasNoReading, HasNoTree, Reads}
+use Rattle.kendo_base.proofs.Refusals.{treeless, untyped, reads}
+use Rattle.kendo_base.proofs.reading.read.Goals as goal
+
+pub returns-in_err-tree-clause-refused : goal.returns-in_err-tree-clause-refused
+returns-in_err-tree-clause-refused c =
+    let p = err_from_is_err_and c.from_residual-in_err-tree.result c.from_residual-in_err-tree.ensures.1 in
+    let text = bytes_of c.in_ok-source.source in
+    let ts = c.in_ok-tokens.tokens.items in
+    rw (p.1, p.2) (λ refusal. subst HasNoReading c.in_ok-source.ensures.text
+    (treeless text ts c.in_ok-tokens.ensures.tokens (subst (λ (us : List Token). HasNoTree (lexemes text us)) c.as_slice.ensures.value (c.in_err-tree.ensures.refused refusal))))
+
+pub returns-in_err-checked-clause-refused : goal.returns-in_err-checked-clause-refused
+returns-in_err-checked-clause-refused c =
+    let p = err_from_is_err_and c.from_residual-in_err-checked.result c.from_residual-in_err-checked.ensures.1 in
+    let text = bytes_of c.in_ok-source.source in
+    let ts = c.in_ok-tokens.tokens.items in
+    let file = tree_of c.in_ok-tree.tree in
+    let spelt : Spells (lexemes text ts) file = subst (λ (us : List Token). Spells (lexemes text us) file) c.as_slice.ensures.value c.in_ok-tree.ensures.spelt in
+    rw (p.1, p.2) (λ refusal. subst HasNoReading c.in_ok-source.ensures.text
+    (untyped text ts file c.in_ok-tokens.ensures.tokens spelt c.in_err-checked.ensures.refused))
+
+pub returns-clause-reads : goal.returns-clause-reads
+returns-clause-reads c =
+    let text = bytes_of c.in_ok-source.source in
+    let ts = c.in_ok-tokens.tokens.items in
+    let file = tree_of c.in_ok-tree.tree in
+    let spelt : Spells (lexemes text ts) file = subst (λ (us : List Token). Spells (lexemes text us) file) c.as_slice.ensures.value c.in_ok-tree.ensures.spelt in
+    let utf8 : IsUtf8 text = subst IsUtf8 c.as_str-text.ensures.bytes c.as_str-text.ensures.utf8 in
+    let short : length text ≤ 1048576 = subst (λ (bs : List ℕ). length bs ≤ 1048576) c.as_str-text.ensures.bytes c.as_str-text.ensures.short in
+    let whole = reads text ts file utf8 short c.in_ok-tokens.ensures.tokens spelt c.in_ok-tree.ensures.low c.in_ok-tree.ensures.few c.in_ok-checked.ensures.typed in
+    subst (λ bs. Reads bs (tree_of (tree_in c.in_ok-checked.field-0))) c.in_ok-source.ensures.text (subst (λ (t : Tree). Reads text (tree_of t)) (sym c.in_ok-checked.ensures.tree) whole)

@@ -1,0 +1,108 @@
+//! From bytes to a checked program.
+
+ghost use Rattle.std.specs.Prelude.{◌≡◌, ◌<◌, ◌≤◌, ◌^◌, Ok, IfErr, IfOk, length};
+ghost use Rattle.checker.specs.Rules.{IsTyped};
+ghost use Rattle.checker.specs.Typed.{tree_in};
+ghost use Rattle.go_text.specs.Source.{bytes_of};
+ghost use Rattle.parser.specs.Lexemes.{lexemes};
+ghost use Rattle.parser.specs.Spelling.{Spells};
+ghost use Rattle.scanner.specs.Tokens.{tokens_of as spec_tokens_of};
+ghost use Rattle.syntax.specs.Spans.{tree_of};
+ghost use Rattle.syntax.specs.Tree.{height, most_entries};
+ghost use Rattle.kendo_base.specs.Reading.{HasNoReading, HasNoTokens, HasNoTree, IsOfText, IsRefusal, Reads, number_of};
+
+use checker::{Typed, check};
+use go_text::{Fault, Place, Source};
+use parser::parse;
+use scanner::{Token, scan};
+use std::alloc::Global;
+use syntax::Tree;
+
+#[tactic(auto, using(crate::proofs::Refusals::treeless, crate::proofs::Refusals::untyped, crate::proofs::Refusals::reads))]
+/// The checked program that a text is, or why it is none, with line and column.
+pub fn read(alloc: Global, bytes: Vec<u8>) -> Result<Typed, Fault>
+    ensures reads { IfOk result (λ typed. Reads bytes.items (tree_of (tree_in typed))) }
+    ensures refused { IfErr result (λ fault. IsRefusal fault → HasNoReading bytes.items) }
+    ensures only { IfErr result IsOfText }
+{
+    let source = Source::new(bytes)?;
+    let text = source.as_str();
+    prove!(text.len() <= 1_048_576);
+    let tokens = tokens(alloc, &source)?;
+    let tree = tree(alloc, &source, tokens.as_slice())?;
+    Ok(checked(&source, tree)?)
+}
+
+/// The tokens of a text.
+fn tokens(alloc: Global, source: &Source) -> Result<Vec<Token>, Fault>
+    ensures tokens { IfOk result (λ v. spec_tokens_of (bytes_of source.now) ≡ Ok v.items) }
+    ensures few { IfOk result (λ v. length v.items < 2 ^ 32) }
+    ensures refused { IfErr result (λ fault. IsRefusal fault → HasNoTokens (bytes_of source.now)) }
+    ensures only { IfErr result IsOfText }
+{
+    let length = source.as_bytes().len();
+    match scan(alloc, source) {
+        Ok(tokens) => {
+            prove!(tokens.len() <= length + 1);
+            Ok(tokens)
+        }
+        Err(fault) => Err(located(source, fault)),
+    }
+}
+
+/// The tree that spells the tokens.
+fn tree(alloc: Global, source: &Source, tokens: &[Token]) -> Result<Tree, Fault>
+    requires { length tokens.now < 2 ^ 32 }
+    ensures spelt { IfOk result (λ tree. Spells (lexemes (bytes_of source.now) tokens.now) (tree_of tree)) }
+    ensures low { IfOk result (λ tree. height (tree_of tree) ≤ 200) }
+    ensures few { IfOk result (λ tree. most_entries (tree_of tree) ≤ 64) }
+    ensures refused { IfErr result (λ fault. IsRefusal fault → HasNoTree (lexemes (bytes_of source.now) tokens.now)) }
+    ensures only { IfErr result IsOfText }
+{
+    match parse(alloc, source, tokens) {
+        Ok(tree) => Ok(tree),
+        Err(fault) => Err(located(source, fault)),
+    }
+}
+
+/// The tree, if it is a program.
+fn checked(source: &Source, tree: Tree) -> Result<Typed, Fault>
+    ensures tree { IfOk result (λ typed. tree_in typed ≡ tree) }
+    ensures typed { IfOk result (λ _. IsTyped (tree_of tree)) }
+    ensures refused { IfErr result (λ _. IsTyped (tree_of tree) → ⊥) }
+    ensures only { IfErr result IsRefusal }
+{
+    match check(tree) {
+        Ok(typed) => Ok(typed),
+        Err(fault) => Err(located(source, fault)),
+    }
+}
+
+/// The same fault, with the line and the column of its first byte.
+fn located(source: &Source, fault: Fault) -> Fault
+    ensures { number_of result ≡ number_of fault }
+{
+    let at = |place: Place| Place {
+        span: place.span,
+        position: Some(source.line_column(place.span.from)),
+    };
+    match fault {
+        Fault::BadCharacter(place) => Fault::BadCharacter(at(place)),
+        Fault::BadNumber(place) => Fault::BadNumber(at(place)),
+        Fault::OpenString(place) => Fault::OpenString(at(place)),
+        Fault::OpenComment(place) => Fault::OpenComment(at(place)),
+        Fault::Syntax(place) => Fault::Syntax(at(place)),
+        Fault::TooDeep(place) => Fault::TooDeep(at(place)),
+        Fault::Typing { rule, node, place } => Fault::Typing {
+            rule,
+            node,
+            place: at(place),
+        },
+        Fault::Limit { kind, node, place } => Fault::Limit {
+            kind,
+            node,
+            place: at(place),
+        },
+        other => other,
+    }
+}
