@@ -46,13 +46,25 @@ pub enum Fault {
     TooDeep(Place),
     /// A typing rule is broken at this node of the tree.
     #[error("9 Type rule")]
-    Typing { rule: Rule, node: u32, place: Place },
+    Typing {
+        rule: Rule,
+        node: u32,
+        place: Place,
+    },
     /// A limit is exceeded, at this node of the tree where the check finds it.
     #[error("10 Limit kind")]
-    Limit { kind: LimitKind, node: Option<u32>, place: Place },
+    Limit {
+        kind: LimitKind,
+        node: Option<u32>,
+        place: Place,
+    },
     /// A rule of the verifier, 1 to 8, is broken at this instruction of this function.
     #[error("11 Unverified rule {rule}, function {function}, place {place}")]
-    Unverified { rule: u8, function: usize, place: usize },
+    Unverified {
+        rule: u8,
+        function: usize,
+        place: usize,
+    },
     /// A lease or a piece of another program, limit or place.
     #[error("12 NotYours")]
     NotYours,

@@ -31,7 +31,10 @@ impl From<Span> for Place {
     ghost from_gives = { λ span place. place ≡ record { span = span; position = None } };
 
     fn from(span: Span) -> Place {
-        Place { span, position: None }
+        Place {
+            span,
+            position: None,
+        }
     }
 }
 
