@@ -2,13 +2,18 @@
 
 ghost use Rattle.std.specs.Prelude.{Some};
 
+use crate::reading::read;
 use crate::{Gate, report, run_bytes};
+use book::{Book, Settled};
+use codegen::compile;
 use go_text::Fault;
 use std::alloc::{AllocError, Global};
 use std::process::Abort;
-use std::sync::Wait;
+use std::sync::{Arc, Wait};
 use std::test::Fail;
+use verifier::verify;
 use word::end::End;
+use word::request::{Event, Request};
 use word::{Flagged, Write, WriteFault};
 
 /// The clock limit where none is given.
@@ -275,6 +280,88 @@ fn a_writer_fails(rt: HostRuntime) -> Result<(), Fail> {
         let outcome = run_bytes(&rt, alloc, bytes, LIMIT, 4, &Open, &mut out, &mut trace);
         assert_eq!(rt; outcome, wanted, "{written}");
         assert_eq!(rt; out.taken.as_slice(), written.as_bytes(), "{written}");
+    }
+    Ok(())
+}
+
+/// An event as `CLOCK NUMBER WHAT`, of a print with the count of its bytes.
+fn told(alloc: Global, event: &Event) -> Result<String, AllocError> {
+    let (clock, number) = (event.clock.time(), event.number);
+    match &event.request {
+        Request::Print(text) => {
+            let size = text.len();
+            format!(in alloc; "{clock} {number} print {size}")
+        }
+        Request::End => format!(in alloc; "{clock} {number} end"),
+        Request::Exit => format!(in alloc; "{clock} {number} exit"),
+        Request::Exhausted => format!(in alloc; "{clock} {number} exhausted"),
+    }
+}
+
+/// Lends and brings back once, and settles once: what the settling comes to.
+fn settled<R: Abort>(rt: &R, book: &mut Book) -> Result<Settled, Fail> {
+    let Ok(lent) = book.lend() else {
+        panic!(rt; "no memory");
+    };
+    if let Some(mut lease) = lent {
+        let Ok(_) = lease.work(1) else {
+            panic!(rt; "no memory");
+        };
+        let Ok(()) = book.bring(lease) else {
+            panic!(rt; "not the book's lease");
+        };
+    }
+    let Ok(settled) = book.settle() else {
+        panic!(rt; "no memory");
+    };
+    Ok(settled)
+}
+
+/// The book of a text's run.
+fn opened<R: Abort + AllocGlobal>(rt: &R, text: &str, limit: u64) -> Result<Book, Fail> {
+    let alloc = rt.alloc();
+    let Ok(typed) = read(alloc, Vec::from_slice(alloc, text.as_bytes())?) else {
+        panic!(rt; "no program");
+    };
+    let Ok(code) = compile(alloc, &typed) else {
+        panic!(rt; "no memory");
+    };
+    let Ok(program) = verify(code) else {
+        panic!(rt; "not verified");
+    };
+    let Ok(book) = Book::open(alloc, Arc::new(alloc, program)?, limit) else {
+        panic!(rt; "not opened");
+    };
+    Ok(book)
+}
+
+#[test]
+fn events_are_settled(rt: HostRuntime) -> Result<(), Fail> {
+    for (statements, limit, events) in [
+        ("println(1 + 2)", LIMIT, "0 1 print 2|1 1 exit|"),
+        ("println(1 + 2)", 1, "0 1 print 2|1 1 exhausted|"),
+        (
+            "println(9223372036854775807 + 1 - 1)",
+            LIMIT,
+            "0 1 print 20|1 1 exit|",
+        ),
+        (
+            "println(1); println(22)",
+            LIMIT,
+            "0 1 print 2|1 1 print 3|2 1 exit|",
+        ),
+        ("", 1, "0 1 exit|"),
+    ] {
+        let text = in_main(rt.alloc(), statements)?;
+        let mut book = opened(&rt, text.as_str(), limit)?;
+        let mut list = String::new(rt.alloc());
+        for _ in 0..1000 {
+            if let Settled::Committed(event) = settled(&rt, &mut book)? {
+                list.push_str(told(rt.alloc(), &event)?.as_str())?;
+                list.push_str("|")?;
+            }
+        }
+        assert_eq!(rt; list.as_str(), events);
     }
     Ok(())
 }
