@@ -102,7 +102,8 @@ impl Lease {
         ensures state { IsStateOf self.code self.limit self.present }
         ensures leads { Leads (rules (code_kind self.code) self.limit) self.base self.present }
     {
-        self.present
+        let Lease { present, .. } = self;
+        present
     }
 
     /// A goroutine that is lent in this state, of which these are two copies.

@@ -161,6 +161,8 @@ fn run(
     let end = run_bytes(
         leave, alloc, bytes, limit, workers, &Open, &mut out, &mut trace,
     )?;
-    out.flush().map_err(|_| Fault::Write)?;
-    Ok(end)
+    match out.into_inner().flush() {
+        Ok(()) => Ok(end),
+        Err(_) => Err(Fault::Write),
+    }
 }

@@ -1,14 +1,19 @@
 -- Why a text has no reading.
-use Rattle.std.proofs.Common.{◌≡◌, ℕ, ◌≤◌, List, Result, Ok, Err, subst, length}
+use Rattle.std.proofs.Common.{◌≡◌, ℕ, ◌≤◌, ◌⊎◌, inl, inr, List, Result, Ok, Err, subst, length}
 use Rattle.std.specs.Prelude.{IsUtf8}
 use Rattle.parser.proofs.FileLaws.{one_file}
+use Rattle.checker.specs.Program.{Tells}
 use Rattle.checker.specs.Rules.{IsTyped}
+use Rattle.go_text.specs.declared.fault.Fault.{Fault}
+use Rattle.go_text.specs.declared.fault.Fault.TheVariants as faults
 use Rattle.parser.specs.Lexemes.{lexemes}
 use Rattle.parser.specs.Spelling.{Spells}
 use Rattle.scanner.specs.declared.token.Token.{Token}
 use Rattle.scanner.specs.Tokens.{tokens_of}
+use Rattle.syntax.specs.declared.tree.Tree.{Tree}
+use Rattle.syntax.specs.Spans.{tree_of}
 use Rattle.syntax.specs.Tree.{File, height, most_entries}
-use Rattle.kendo_base.specs.Reading.{Reads, HasNoReading, HasNoTokens, HasNoTree}
+use Rattle.kendo_base.specs.Reading.{Reads, HasNoReading, HasNoTokens, HasNoTree, IsUnspelt, IsTreeOf, Flaw, IsUnread, IsWrong, IsWhy, located_in}
 
 same_tokens : {E : Type 0} (r : Result (List Token) E) (ts us : List Token) → r ≡ Ok ts → r ≡ Ok us → ts ≡ us
 same_tokens (Ok vs) ts us a b = cc
@@ -28,3 +33,22 @@ untyped text ts file scanned spelt wrong other r = wrong (subst IsTyped (one_fil
 
 pub reads : (text : List ℕ) (ts : List Token) (file : File) → IsUtf8 text → length text ≤ 1048576 → tokens_of text ≡ Ok ts → Spells (lexemes text ts) file → height file ≤ 200 → most_entries file ≤ 64 → IsTyped file → Reads text file
 reads text ts file utf8 short scanned spelt low few typed = record { utf8 = utf8; short = short; tokens = ts; scanned = scanned; spelt = spelt; low = low; few = few; typed = typed }
+
+abbrev pub Unread : List ℕ → List Token → Fault → Type 0
+Unread text ts told = (told ≡ faults.Memory) ⊎ ((fault : Fault) × IsUnspelt (lexemes text ts) fault × (told ≡ located_in text fault))
+
+abbrev pub Explained : List ℕ → Fault → Type 0
+Explained text told = (told ≡ faults.Memory) ⊎ IsWhy text told
+
+explains : (bytes text : List ℕ) {told : Fault} → text ≡ bytes → Explained text told → Explained bytes told
+explains bytes text {told} same e = subst (λ bs. Explained bs told) same e
+
+pub unread : (bytes text : List ℕ) (ts us : List Token) {told : Fault} → text ≡ bytes → us ≡ ts → IsUtf8 text → tokens_of text ≡ Ok ts → Unread text us told → Explained bytes told
+unread bytes text ts us {told} same list utf8 scanned (inl memory) = inl memory
+unread bytes text ts us {told} same list utf8 scanned (inr w) = explains bytes text same (inr (w.0, IsUnread utf8 ts scanned (subst (λ vs. IsUnspelt (lexemes text vs) w.0) list w.1), w.2))
+
+abbrev pub Wrong : List ℕ → Tree → Fault → Type 0
+Wrong text tree told = (fault : Fault) × Tells tree fault × (told ≡ located_in text fault)
+
+pub wrong : (bytes text : List ℕ) (ts : List Token) (tree : Tree) {told : Fault} → text ≡ bytes → IsUtf8 text → tokens_of text ≡ Ok ts → Spells (lexemes text ts) (tree_of tree) → height (tree_of tree) ≤ 200 → most_entries (tree_of tree) ≤ 64 → Wrong text tree told → Explained bytes told
+wrong bytes text ts tree same utf8 scanned spelt low few w = explains bytes text same (inr (w.0, IsWrong utf8 tree (record { tokens = ts; scanned = scanned; spelt = spelt; low = low; few = few }) w.1, w.2))

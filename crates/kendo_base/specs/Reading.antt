@@ -1,12 +1,18 @@
 -- The program that a text is.
-use Rattle.std.specs.Prelude.{◌≡◌, ℕ, ◌≤◌, ◌⊎◌, List, Ok, length, IsUtf8}
+use Rattle.std.specs.Prelude.{◌≡◌, ℕ, ◌<◌, ◌≤◌, ◌⊎◌, List, Some, Ok, Err, length, take, IsUtf8}
+use Rattle.checker.specs.Program.{Tells}
 use Rattle.checker.specs.Rules.{IsTyped}
 use Rattle.go_text.specs.declared.fault.Fault.{Fault}
 use Rattle.go_text.specs.declared.fault.Fault.TheVariants as faults
+use Rattle.go_text.specs.declared.place.Place.{Place}
+use Rattle.go_text.specs.declared.rule.LimitKind.TheVariants as limits
+use Rattle.go_text.specs.Lines.{position_after}
 use Rattle.parser.specs.Lexemes.{Lexeme, lexemes}
 use Rattle.parser.specs.Spelling.{Spells}
 use Rattle.scanner.specs.declared.token.Token.{Token}
 use Rattle.scanner.specs.Tokens.{tokens_of}
+use Rattle.syntax.specs.declared.tree.Tree.{Tree}
+use Rattle.syntax.specs.Spans.{tree_of}
 use Rattle.syntax.specs.Tree.{File, height, most_entries}
 
 -- the file spells the tokens of the text, within all limits, and no typing rule is broken
@@ -58,3 +64,51 @@ HasNoTokens text = (tokens : List Token) → tokens_of text ≡ Ok tokens → �
 -- no file within the limits spells them
 abbrev pub HasNoTree : List Lexeme → Type 0
 HasNoTree words = (file : File) → Spells words file → height file ≤ 200 → most_entries file ≤ 64 → ⊥
+
+-- ---- why a text has no reading
+
+-- the same place, with the line and the column of its first byte in the text
+abbrev pub placed : List ℕ → Place → Place
+placed text place = record { span = place.span; position = Some (position_after 1 1 (take place.span.from text)) }
+
+-- the same fault, where it has a place with its line and column in the text
+abbrev pub located_in : List ℕ → Fault → Fault
+located_in text (faults.BadCharacter place) = faults.BadCharacter (placed text place)
+located_in text (faults.BadNumber place) = faults.BadNumber (placed text place)
+located_in text (faults.OpenString place) = faults.OpenString (placed text place)
+located_in text (faults.OpenComment place) = faults.OpenComment (placed text place)
+located_in text (faults.Syntax place) = faults.Syntax (placed text place)
+located_in text (faults.TooDeep place) = faults.TooDeep (placed text place)
+located_in text (faults.Typing rule node place) = faults.Typing rule node (placed text place)
+located_in text (faults.Limit kind node place) = faults.Limit kind node (placed text place)
+located_in text fault = fault
+
+-- no file spells them: none at all, or none that is so low, or none whose lists are so short
+abbrev pub IsUnspelt : List Lexeme → Fault → Type 0
+IsUnspelt words (faults.Syntax place) = (file : File) → Spells words file → ⊥
+IsUnspelt words (faults.TooDeep place) = (file : File) → Spells words file → height file ≤ 200 → ⊥
+IsUnspelt words (faults.Limit limits.ListEntries at place) = (file : File) → Spells words file → most_entries file ≤ 64 → ⊥
+IsUnspelt words fault = ⊥
+
+-- the tree is what the text spells, within the limits
+pub record IsTreeOf (text : List ℕ) (tree : Tree) : Type 0 where
+  pub tokens : List Token
+  pub scanned : tokens_of text ≡ Ok tokens
+  pub spelt : Spells (lexemes text tokens) (tree_of tree)
+  pub low : height (tree_of tree) ≤ 200
+  pub few : most_entries (tree_of tree) ≤ 64
+
+-- why the text has no reading, by the first of these that is so
+pub data Flaw (text : List ℕ) (fault : Fault) : Type 0 where
+  IsLong : 1048576 < length text → fault ≡ faults.TooLong → Flaw text fault
+  IsNoText : length text ≤ 1048576 → ¬ (IsUtf8 text) → fault ≡ faults.NotUtf8 → Flaw text fault
+  -- the first place where no token stands
+  HasFault : IsUtf8 text → tokens_of text ≡ Err fault → Flaw text fault
+  -- its tokens are no file's
+  IsUnread : IsUtf8 text → (tokens : List Token) → tokens_of text ≡ Ok tokens → IsUnspelt (lexemes text tokens) fault → Flaw text fault
+  -- a rule is broken or a limit exceeded at a node of its tree
+  IsWrong : IsUtf8 text → (tree : Tree) → IsTreeOf text tree → Tells tree fault → Flaw text fault
+
+-- the fault tells why the text has no reading, with line and column
+abbrev pub IsWhy : List ℕ → Fault → Type 0
+IsWhy text told = (fault : Fault) × Flaw text fault × (told ≡ located_in text fault)

@@ -1,15 +1,17 @@
 //! From bytes to a checked program.
 
-ghost use Rattle.std.specs.Prelude.{◌≡◌, ◌<◌, ◌≤◌, ◌^◌, Ok, IfErr, IfOk, length};
+ghost use Rattle.std.specs.Prelude.{◌≡◌, ◌<◌, ◌≤◌, ◌^◌, ◌⊎◌, Ok, Err, IfErr, IfOk, IsUtf8, length};
+ghost use Rattle.checker.specs.Program.{Tells};
 ghost use Rattle.checker.specs.Rules.{IsTyped};
 ghost use Rattle.checker.specs.Typed.{tree_in};
 ghost use Rattle.go_text.specs.Source.{bytes_of};
+ghost use Rattle.go_text.specs.declared.fault.Fault.{Fault as OneFault};
 ghost use Rattle.parser.specs.Lexemes.{lexemes};
 ghost use Rattle.parser.specs.Spelling.{Spells};
 ghost use Rattle.scanner.specs.Tokens.{tokens_of as spec_tokens_of};
 ghost use Rattle.syntax.specs.Spans.{tree_of};
 ghost use Rattle.syntax.specs.Tree.{height, most_entries};
-ghost use Rattle.kendo_base.specs.Reading.{HasNoReading, HasNoTokens, HasNoTree, IsOfText, IsRefusal, Reads, number_of};
+ghost use Rattle.kendo_base.specs.Reading.{HasNoReading, HasNoTokens, HasNoTree, IsOfText, IsRefusal, IsUnspelt, IsWhy, Reads, located_in};
 
 use checker::{Typed, check};
 use go_text::{Fault, Place, Source};
@@ -23,6 +25,7 @@ use syntax::Tree;
 pub fn read(alloc: Global, bytes: Vec<u8>) -> Result<Typed, Fault>
     ensures reads { IfOk result (λ typed. Reads bytes.items (tree_of (tree_in typed))) }
     ensures refused { IfErr result (λ fault. IsRefusal fault → HasNoReading bytes.items) }
+    ensures why { IfErr result (λ fault. (fault ≡ Fault.Memory) ⊎ IsWhy bytes.items fault) }
     ensures only { IfErr result IsOfText }
 {
     let source = Source::new(bytes)?;
@@ -38,6 +41,7 @@ fn tokens(alloc: Global, source: &Source) -> Result<Vec<Token>, Fault>
     ensures tokens { IfOk result (λ v. spec_tokens_of (bytes_of source.now) ≡ Ok v.items) }
     ensures few { IfOk result (λ v. length v.items < 2 ^ 32) }
     ensures refused { IfErr result (λ fault. IsRefusal fault → HasNoTokens (bytes_of source.now)) }
+    ensures why { IfErr result (λ told. (told ≡ Fault.Memory) ⊎ ((fault : OneFault) × (spec_tokens_of (bytes_of source.now) ≡ Err fault) × (told ≡ located_in (bytes_of source.now) fault))) }
     ensures only { IfErr result IsOfText }
 {
     let length = source.as_bytes().len();
@@ -57,6 +61,7 @@ fn tree(alloc: Global, source: &Source, tokens: &[Token]) -> Result<Tree, Fault>
     ensures low { IfOk result (λ tree. height (tree_of tree) ≤ 200) }
     ensures few { IfOk result (λ tree. most_entries (tree_of tree) ≤ 64) }
     ensures refused { IfErr result (λ fault. IsRefusal fault → HasNoTree (lexemes (bytes_of source.now) tokens.now)) }
+    ensures why { IfErr result (λ told. (told ≡ Fault.Memory) ⊎ ((fault : OneFault) × IsUnspelt (lexemes (bytes_of source.now) tokens.now) fault × (told ≡ located_in (bytes_of source.now) fault))) }
     ensures only { IfErr result IsOfText }
 {
     match parse(alloc, source, tokens) {
@@ -70,6 +75,7 @@ fn checked(source: &Source, tree: Tree) -> Result<Typed, Fault>
     ensures tree { IfOk result (λ typed. tree_in typed ≡ tree) }
     ensures typed { IfOk result (λ _. IsTyped (tree_of tree)) }
     ensures refused { IfErr result (λ _. IsTyped (tree_of tree) → ⊥) }
+    ensures why { IfErr result (λ told. (fault : OneFault) × Tells tree fault × (told ≡ located_in (bytes_of source.now) fault)) }
     ensures only { IfErr result IsRefusal }
 {
     match check(tree) {
@@ -80,7 +86,7 @@ fn checked(source: &Source, tree: Tree) -> Result<Typed, Fault>
 
 /// The same fault, with the line and the column of its first byte.
 fn located(source: &Source, fault: Fault) -> Fault
-    ensures { number_of result ≡ number_of fault }
+    ensures { result ≡ located_in (bytes_of source.now) fault }
 {
     let at = |place: Place| Place {
         span: place.span,

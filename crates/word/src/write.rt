@@ -35,8 +35,7 @@ pub struct Flagged<W: Drop> {
 }
 
 impl<W: io::Write + Drop> Flagged<W> {
-    ghost use Rattle.std.specs.Prelude.{false, is_err};
-    ghost use Rattle.std.specs.Io.KnownBytes.{Keeps};
+    ghost use Rattle.std.specs.Prelude.{false};
     ghost use Rattle.word.specs.Flagged.{inner_of, failed_of};
 
     /// The writer, with the flag not set.
@@ -48,25 +47,6 @@ impl<W: io::Write + Drop> Flagged<W> {
             inner,
             failed: false,
         }
-    }
-
-    /// Whether the flag is set.
-    pub fn has_failed(&self) -> bool
-        ensures { result ≡ failed_of self.now }
-    {
-        self.failed
-    }
-
-    /// Passes on what the inner writer holds back.
-    pub fn flush(&mut self) -> Result<(), WriteFault>
-        ensures bytes { Keeps (W.contents (inner_of self.old)) (W.contents (inner_of self.new)) }
-        ensures flag { failed_of self.new ≡ (failed_of self.old || is_err result) }
-    {
-        if self.inner.flush().is_err() {
-            self.failed = true;
-            return Err(WriteFault);
-        }
-        Ok(())
     }
 
     /// The inner writer.

@@ -9,7 +9,7 @@ use Rattle.scanner.specs.declared.token.Token.{Token}
 use Rattle.syntax.specs.declared.tree.Tree.{Tree}
 use Rattle.syntax.specs.Spans.{tree_of}
 use Rattle.kendo_base.specs.Reading.{HasNoReading, HasNoTree, Reads}
-use Rattle.kendo_base.proofs.Refusals.{treeless, untyped, reads}
+use Rattle.kendo_base.proofs.Refusals.{treeless, untyped, reads, unread, wrong}
 use Rattle.kendo_base.proofs.reading.read.Goals as goal
 
 pub returns-in_err-tree-clause-refused : goal.returns-in_err-tree-clause-refused
@@ -29,6 +29,22 @@ returns-in_err-checked-clause-refused c =
     let spelt : Spells (lexemes text ts) file = subst (λ (us : List Token). Spells (lexemes text us) file) c.as_slice.ensures.value c.in_ok-tree.ensures.spelt in
     rw (p.1, p.2) (λ refusal. subst HasNoReading c.in_ok-source.ensures.text
     (untyped text ts file c.in_ok-tokens.ensures.tokens spelt c.in_err-checked.ensures.refused))
+
+pub returns-in_err-tree-clause-why : goal.returns-in_err-tree-clause-why
+returns-in_err-tree-clause-why c =
+    let p = err_from_is_err_and c.from_residual-in_err-tree.result c.from_residual-in_err-tree.ensures.1 in
+    let utf8 : IsUtf8 (bytes_of c.in_ok-source.source) = subst IsUtf8 c.as_str-text.ensures.bytes c.as_str-text.ensures.utf8 in
+    rw (p.1, p.2) (unread _ _ _ _ c.in_ok-source.ensures.text c.as_slice.ensures.value utf8 c.in_ok-tokens.ensures.tokens c.in_err-tree.ensures.why)
+
+pub returns-in_err-checked-clause-why : goal.returns-in_err-checked-clause-why
+returns-in_err-checked-clause-why c =
+    let p = err_from_is_err_and c.from_residual-in_err-checked.result c.from_residual-in_err-checked.ensures.1 in
+    let text = bytes_of c.in_ok-source.source in
+    let ts = c.in_ok-tokens.tokens.items in
+    let tree = c.in_ok-tree.tree in
+    let utf8 : IsUtf8 text = subst IsUtf8 c.as_str-text.ensures.bytes c.as_str-text.ensures.utf8 in
+    let spelt : Spells (lexemes text ts) (tree_of tree) = subst (λ (us : List Token). Spells (lexemes text us) (tree_of tree)) c.as_slice.ensures.value c.in_ok-tree.ensures.spelt in
+    rw (p.1, p.2) (wrong _ text ts tree c.in_ok-source.ensures.text utf8 c.in_ok-tokens.ensures.tokens spelt c.in_ok-tree.ensures.low c.in_ok-tree.ensures.few c.in_err-checked.ensures.why)
 
 pub returns-clause-reads : goal.returns-clause-reads
 returns-clause-reads c =
