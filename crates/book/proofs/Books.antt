@@ -4,11 +4,12 @@ use Rattle.std.specs.Prelude.{slice_index_or, slice_set, slice_get, option_map, 
 use Rattle.std.specs.Option.{is_some, MatchOption}
 use Rattle.std.proofs.lemmas.Bool.{true≢false, cases_lt, eq-eqb}
 use Rattle.std.proofs.lemmas.Option.{same_Some}
-use Rattle.std.proofs.lemmas.List.Quantifiers.{position-Some}
+use Rattle.bytecode.proofs.Unstuck.{begin_keeps}
+use Rattle.std.proofs.lemmas.Option.{slice_get_within}
 use Rattle.std.proofs.Math.Seq.{take-length}
 use Rattle.std.proofs.lemmas.List.{get_or_past}
 use Rattle.bytecode.specs.Code.{Code, Function}
-use Rattle.bytecode.specs.Machine.{Frame, code_kind, code_begin, main_of}
+use Rattle.bytecode.specs.Machine.{Frames, code_kind, code_begin, main_of}
 use Rattle.bytecode.specs.Rules.{IsVerified}
 use Rattle.goroutine_vm.specs.Advance.{IsStateOf}
 use Rattle.logical_clock.specs.declared.key.Key.{Key}
@@ -20,7 +21,7 @@ use Rattle.turn_rule.proofs.Stable.{opened_stands, run_add}
 use Rattle.word.specs.declared.end.End.{End as Ending}
 use Rattle.word.specs.declared.end.End.TheVariants.{Deadlock}
 use Rattle.word.specs.declared.request.Event.{Event as Recorded}
-use Rattle.word.specs.Kinds.{at, asks}
+use Rattle.word.specs.Kinds.{AsksNoOther, at, asks}
 use Rattle.word.specs.Requests.{act, asked, meant}
 use Rattle.word.specs.Values.{Request, Exhausted, Shared}
 use Rattle.word.specs.Views.{event_of}
@@ -32,34 +33,33 @@ use Rattle.book.specs.Slots.{State, Rows, IsAwake, IsNobodyAwake, IsBefore, free
 use Rattle.book.proofs.Leases.{fits_set}
 use Rattle.book.proofs.Desks.{lend_keeps, bring_keeps, settle_keeps, parked_asks, waits_alone, waits_before, nobody_awake}
 
-abbrev rules_of : Desk → Rules State (Rest Frame)
+abbrev rules_of : Desk → Rules State (Rest Frames)
 rules_of d = rules (code_kind d.code) d.limit
 
 -- ---- open
 
 main_within : (code : Code) → IsVerified code → (code_kind code).main < length code.functions
 main_within code v =
-    let n = v.main.0 in
-    let e : unwrap_or (main_of code.functions) 0 ≡ n = ap (λ o. unwrap_or o 0) v.main.1 in
-    let p = position-Some _ code.functions n (record { name = []; instrs = [] }) v.main.1 in
-    subst (λ k. k < length code.functions) (sym e) p.0
+    let e : unwrap_or (main_of code.functions) 0 ≡ v.main.number = ap (λ o. unwrap_or o 0) v.main.first in
+    subst (λ k. k < length code.functions) (sym e) (slice_get_within code.functions v.main.number v.main.function v.main.there)
 
-opened_fits : (code : Code) (limit : ℕ) → IsVerified code → FitsAll code limit (opened_desk code limit).core.rows
-opened_fits code limit v zero = tt
-opened_fits code limit v (suc zero) = record { frame = record { place = refl; function = main_within code v }; clock = omega arith }
-opened_fits code limit v (suc (suc k)) = tt
+opened_fits : (code : Code) (limit : ℕ) → IsVerified code → limit ≤ 2 ^ 62 → FitsAll code limit (opened_desk code limit).core.rows
+opened_fits code limit v le zero = tt
+opened_fits code limit v le (suc zero) = record { frame = begin_keeps code v (code_kind code).main [] (main_within code v); clock = omega arith; last = le }
+opened_fits code limit v le (suc (suc k)) = tt
 
-pub opened_is_desk : (code : Code) (limit : ℕ) → IsVerified code → limit ≤ 2 ^ 62 → IsDesk (opened_desk code limit)
-opened_is_desk code limit v le =
+pub opened_is_desk : (code : Code) (limit : ℕ) → IsVerified code → AsksNoOther (code_kind code) → limit ≤ 2 ^ 62 → IsDesk (opened_desk code limit)
+opened_is_desk code limit v own le =
     let r = rules (code_kind code) limit in
     let w = opening (code_kind code) in
     record {
       verified = v;
+      alone = own;
       limit = le;
       count = λ e. omega arith;
       many = omega arith;
       room = omega arith;
-      rows = opened_fits code limit v;
+      rows = opened_fits code limit v le;
       at = (0, opened r w, record { stands = opened_stands r (laws (code_kind code) limit) w; core = record { rows = refl; live = refl; events = refl; ending = refl }; size = refl; bytes = refl });
     }
 
@@ -75,11 +75,12 @@ lent_is_desk d n s h free =
     let fits : FitsRow d.code d.limit (Some (free_row s)) = subst (FitsRow d.code d.limit) free (h.rows n) in
     record {
       verified = h.verified;
+      alone = h.alone;
       limit = h.limit;
       count = h.count;
       many = h.many;
       room = h.room;
-      rows = fits_set d.code d.limit d.core.rows n (Some (lent_row s)) h.rows (record { frame = fits.frame; clock = fits.clock });
+      rows = fits_set d.code d.limit d.core.rows n (Some (lent_row s)) h.rows (record { frame = fits.frame; clock = fits.clock; last = fits.last });
       at = (
         h.at.0,
         at_row r (lend r) m n,
@@ -109,6 +110,7 @@ brought_is_desk d n row s h here leads fits =
     let at : slice_index_or m.rows n None ≡ Some row = subst (λ (rows : Rows). slice_index_or rows n None ≡ Some row) a.core.rows here in
     record {
       verified = h.verified;
+      alone = h.alone;
       limit = h.limit;
       count = h.count;
       many = h.many;
@@ -195,6 +197,7 @@ commits d n event bytes new h t done fits room =
     record {
       desk = record {
         verified = h.verified;
+        alone = h.alone;
         limit = h.limit;
         count = count;
         many = omega (arith, was, one);
@@ -213,13 +216,13 @@ commits d n event bytes new h t done fits room =
       };
       is_event = (
         h.at.0 + s.0,
-        ap (λ es. slice_get es d.core.events) (sym (ap (λ (x : Rest Frame). x.shared.events) stands.shared) ∙ p.events)
+        ap (λ es. slice_get es d.core.events) (sym (ap (λ (x : Rest Frames). x.shared.events) stands.shared) ∙ p.events)
             ∙ ap (λ k. slice_get ((shared_of m).events ++ event_of event ∷ []) k) a.core.events ∙ at_end (shared_of m).events (event_of event),
       );
       one_more = one;
     }
 
-abbrev begun : Desk → ℕ → Whole State (Rest Frame)
+abbrev begun : Desk → ℕ → Whole State (Rest Frames)
 begun d n = moment (code_kind d.code) d.limit n
 
 -- who is awake while nobody is parked stands before whatever comes
@@ -241,7 +244,7 @@ waits_key d n k h e b =
     let q = waits_before (rules_of d) (laws (code_kind d.code) d.limit) h.at.1 (begun d h.at.0) a.stands k n b.0 (least_in d h.at.1 a.core (Some k) e) here b.2 b.3 in
     (b.0, b.1, q.0, subst (λ (o : Option Key). MatchOption o (Unit {0}) (λ k. is_before (record { clock = b.0.floor; number = n }) k ≡ true)) (sym e) q.1)
 
-ends_by : (w : Whole State (Rest Frame)) (e : Ending) (o : Option Ending) → w.shared.shared.ending ≡ o → o ≡ Some e → end_of w ≡ Some e
+ends_by : (w : Whole State (Rest Frames)) (e : Ending) (o : Option Ending) → w.shared.shared.ending ≡ o → o ≡ Some e → end_of w ≡ Some e
 ends_by w e o is ended = ap (λ (x : Option Ending). cond (is_some x) x (cond (is_deserted (map is_some w.awake)) (Some Deadlock) None)) (is ∙ ended)
 
 -- an event ended the run
@@ -251,9 +254,9 @@ ended_desk d e h ended =
     let same = sym a.stands.shared in
     record {
       moves = h.at.0;
-      events = ap (λ (x : Rest Frame). length x.shared.events) same ∙ sym a.core.events;
-      bytes = ap (λ (x : Rest Frame). length x.shared.output) same ∙ a.size;
-      ending = ends_by (begun d h.at.0) e d.core.ending (ap (λ (x : Rest Frame). x.shared.ending) same ∙ sym a.core.ending) ended;
+      events = ap (λ (x : Rest Frames). length x.shared.events) same ∙ sym a.core.events;
+      bytes = ap (λ (x : Rest Frames). length x.shared.output) same ∙ a.size;
+      ending = ends_by (begun d h.at.0) e d.core.ending (ap (λ (x : Rest Frames). x.shared.ending) same ∙ sym a.core.ending) ended;
     }
 
 deserted : {A : Type 0} (xs : List (Option A)) → ((n : ℕ) → slice_index_or xs n None ≡ None) → is_deserted (map is_some xs) ≡ true
@@ -267,12 +270,12 @@ dead_desk d h going nobody =
     let a = h.at.2 in
     let w = begun d h.at.0 in
     let same = sym a.stands.shared in
-    let none : w.shared.shared.ending ≡ None = ap (λ (x : Rest Frame). x.shared.ending) same ∙ sym a.core.ending ∙ going in
+    let none : w.shared.shared.ending ≡ None = ap (λ (x : Rest Frames). x.shared.ending) same ∙ sym a.core.ending ∙ going in
     let all = nobody_awake (rules_of d) (laws (code_kind d.code) d.limit) h.at.1 w a.stands (λ n. subst (λ (rows : Rows). slice_index_or rows n None ≡ None) a.core.rows (nobody n)) in
     record {
       moves = h.at.0;
-      events = ap (λ (x : Rest Frame). length x.shared.events) same ∙ sym a.core.events;
-      bytes = ap (λ (x : Rest Frame). length x.shared.output) same ∙ a.size;
+      events = ap (λ (x : Rest Frames). length x.shared.events) same ∙ sym a.core.events;
+      bytes = ap (λ (x : Rest Frames). length x.shared.output) same ∙ a.size;
       ending = ap (λ (x : Option Ending). cond (is_some x) x (cond (is_deserted (map is_some w.awake)) (Some Deadlock) None)) none ∙ ap (λ b. cond b (Some Deadlock) None) (deserted w.awake all);
     }
 
@@ -280,7 +283,7 @@ dead_desk d h going nobody =
 pub pending_stands : (d : Desk) → IsDesk d → IsPiece d.code d.limit d.taken d.pending
 pending_stands d h =
     let a = h.at.2 in
-    let same = ap (λ (x : Rest Frame). x.shared.output) (sym a.stands.shared) in
+    let same = ap (λ (x : Rest Frames). x.shared.output) (sym a.stands.shared) in
     let long = ap length same ∙ a.size in
     (h.at.0, omega (arith, long), ap (λ xs. take (length d.pending) (drop d.taken xs)) same ∙ ap (take (length d.pending)) a.bytes ∙ take-length d.pending)
 

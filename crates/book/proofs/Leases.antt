@@ -2,7 +2,7 @@
 use Rattle.std.proofs.Common.{◌≡◌, ℕ, ◌+◌, ◌≤◌, ◌<◌, List, Option, Some, None, ap, ◌∙◌, refl, sym, subst, length, inl, inr, get_or-set_same, get_or-set_other}
 use Rattle.std.specs.Prelude.{option_map, slice_index_or, slice_set}
 use Rattle.bytecode.specs.Rules.{IsVerified}
-use Rattle.verifier.proofs.Frames.{answer_keeps}
+use Rattle.bytecode.proofs.Unstuck.{answer_keeps}
 use Rattle.word.specs.Kinds.{told}
 use Rattle.word.specs.Values.{Nothing}
 use Rattle.std.proofs.lemmas.Bool.{cases_eq, cases_lt}
@@ -53,4 +53,4 @@ fits_answered code limit rows n clock v le all = fits_set code limit rows n _ al
   where
     go : (o : Option (Row State)) → FitsRow code limit o → FitsRow code limit (option_map (λ (row : Row State). free_row (told (code_kind code) row.state clock Nothing)) o)
     go None fits = tt
-    go (Some row) fits = record { frame = answer_keeps code v row.state.state Nothing fits.frame; clock = le }
+    go (Some row) fits = record { frame = answer_keeps code v row.state.state Nothing fits.frame; clock = le; last = fits.last }

@@ -2,7 +2,7 @@
 use Rattle.std.specs.Prelude.{◌≡◌, ℕ, ◌+◌, ◌^◌, ◌==◌, true, cond, List, [], ◌∷◌, ◌++◌, length, Option, Some, None, slice_index_or}
 use Rattle.std.specs.Option.{is_some}
 use Rattle.bytecode.specs.Code.{Code}
-use Rattle.bytecode.specs.Machine.{Frame, code_kind}
+use Rattle.bytecode.specs.Machine.{Frames, code_kind}
 use Rattle.bytecode.specs.Rules.{IsVerified}
 use Rattle.goroutine_vm.specs.Advance.{IsStateOf}
 use Rattle.turn_rule.specs.declared.Row.{Row}
@@ -19,7 +19,7 @@ use Rattle.word.specs.Worlds.{Rest, rules}
 use Rattle.book.specs.Slots.{State, Rows}
 
 abbrev pub World : Type 0
-World = Machine State (Rest Frame)
+World = Machine State (Rest Frames)
 
 -- what all of a world share
 abbrev pub shared_of : World → Shared
@@ -63,9 +63,7 @@ pub record IsAsked (code : Code) (limit : ℕ) (core : CoreValue) (n clock : ℕ
 -- what a request prints
 abbrev pub printed_by : Asked → List ℕ
 printed_by (asking.Print text) = text.items
-printed_by asking.End = []
-printed_by asking.Exit = []
-printed_by asking.Exhausted = []
+printed_by request = []
 
 -- what an event prints
 abbrev pub bytes_of : Recorded → List ℕ

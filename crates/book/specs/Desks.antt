@@ -2,7 +2,7 @@
 use Rattle.std.specs.Prelude.{◌≡◌, ℕ, ◌+◌, ◌*◌, ◌<◌, ◌≤◌, ◌^◌, false, true, cond, [], ◌∷◌, List, length, drop, take, Option, Some, None, IfSome, option_map, slice_get, slice_index_or, slice_set}
 use Rattle.std.specs.Option.{is_some, MatchOption}
 use Rattle.bytecode.specs.Code.{Code}
-use Rattle.bytecode.specs.Machine.{Frame, code_kind, code_begin}
+use Rattle.bytecode.specs.Machine.{Frames, code_kind, code_begin}
 use Rattle.bytecode.specs.Rules.{IsVerified}
 use Rattle.goroutine_vm.specs.Advance.{IsStateOf}
 use Rattle.logical_clock.specs.declared.key.Key.{Key}
@@ -12,7 +12,7 @@ use Rattle.turn_rule.specs.Turns.{Leads}
 use Rattle.turn_rule.specs.Schedule.{Stands, has_turn}
 use Rattle.word.specs.declared.end.End.{End as Ending}
 use Rattle.word.specs.Values.{Event}
-use Rattle.word.specs.Kinds.{asks, at}
+use Rattle.word.specs.Kinds.{AsksNoOther, asks, at}
 use Rattle.word.specs.Views.{event_of}
 use Rattle.word.specs.Worlds.{end_of, moment, rules}
 use Rattle.book.specs.declared.settled.Settled.{Settled}
@@ -65,6 +65,7 @@ pub record IsAt (d : Desk) (n : ℕ) (m : World) : Type 0 where
 
 pub record IsDesk (d : Desk) : Type 0 where
   pub verified : IsVerified d.code
+  pub alone : AsksNoOther (code_kind d.code)
   pub limit : d.limit ≤ 2 ^ 62
   pub count : is_some d.core.ending ≡ false → d.core.events < 2 ^ 62
   pub many : d.core.events ≤ 2 ^ 62
@@ -77,7 +78,7 @@ abbrev pub opened_desk : Code → ℕ → Desk
 opened_desk code limit = record {
   code = code;
   limit = limit;
-  core = record { rows = None ∷ Some (free_row (at 0 (code_begin (code_kind code).main []))) ∷ []; live = 1; events = 0; ending = None };
+  core = record { rows = None ∷ Some (free_row (at 0 (code_begin code (code_kind code).main []))) ∷ []; live = 1; events = 0; ending = None };
   taken = 0;
   pending = [];
 }

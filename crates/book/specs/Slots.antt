@@ -1,7 +1,7 @@
 -- Awake goroutines as the book keeps them.
 use Rattle.std.specs.Prelude.{◌≡◌, ◌≢◌, ℕ, ◌||◌, Bool, true, false, cond, List, Option, Some, None, slice_index_or}
 use Rattle.std.specs.Option.{is_some}
-use Rattle.bytecode.specs.Machine.{Frame}
+use Rattle.bytecode.specs.Machine.{Frames}
 use Rattle.logical_clock.specs.declared.key.Key.{Key}
 use Rattle.logical_clock.specs.Order.{is_before}
 use Rattle.turn_rule.specs.declared.Lease.{Lease as Loan}
@@ -11,7 +11,7 @@ use Rattle.book.specs.declared.slot.Standing.{Standing}
 use Rattle.book.specs.declared.slot.Standing.TheVariants.{Free, Lent, Parked}
 
 abbrev pub State : Type 0
-State = Clocked Frame
+State = Clocked Frames
 
 abbrev pub Rows : Type 0
 Rows = List (Option (Row State))

@@ -2,7 +2,9 @@
 
 ghost use Rattle.std.specs.Prelude.{◌≡◌, ◌+◌, ◌<◌, ◌≤◌, ◌^◌, ◌↔◌, ◌⊎◌, [], IfErr, IfNone, IfOk, IfSome, IsErrOf, IsOk, IsTrue, None, OnErr, OnOk, Some, length, slice_set};
 ghost use Rattle.std.specs.Arc.{arc_value};
+ghost use Rattle.bytecode.specs.Machine.{code_kind};
 ghost use Rattle.bytecode.specs.Rules.{IsVerified};
+ghost use Rattle.word.specs.Kinds.{AsksNoOther};
 ghost use Rattle.output.specs.Progress.{piece_run};
 ghost use Rattle.output.specs.declared.piece.Kind.TheVariants.{Output};
 ghost use Rattle.logical_clock.specs.Order.{keys, least};
@@ -48,8 +50,10 @@ impl Model for Book {
 }
 
 impl Book {
-    /// The book of this program under this clock limit, 1 to 2^62: no event is committed, and goroutine 1 is alone.
+    /// The book of this program under this clock limit, 1 to 2^62: no event is committed, and goroutine 1 is alone. The
+    /// program's goroutines ask nothing of each other: that is what runs so far.
     pub fn open(alloc: Global, program: Arc<Verified>, limit: u64) -> Result<Book, Fault>
+        requires { AsksNoOther (code_kind (arc_value program)) }
         ensures book { IfOk result (λ book. book ≡ opened_desk (arc_value program) limit) }
         ensures bad_limit { IsErrOf result Fault.BadLimit ↔ ((limit ≡ 0) ⊎ (2 ^ 62 < limit)) }
         ensures only { IfErr result (λ e. (e ≡ Fault.BadLimit) ⊎ (e ≡ Fault.Memory)) }

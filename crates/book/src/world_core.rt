@@ -3,10 +3,10 @@
 ghost use Rattle.std.specs.Prelude.{◌≡◌, ◌+◌, ◌-◌, ◌<◌, ◌≤◌, ◌^◌, ◌↔◌, [], ◌∷◌, ◌++◌, IsTrue, IfNone, IfOk, IfSome, OnErr, None, Some, option_map, slice_index_or, slice_set};
 ghost use Rattle.bytecode.specs.Machine.{code_begin, code_kind};
 ghost use Rattle.bytecode.specs.Rules.{IsFrameOf, IsVerified};
-ghost use Rattle.word.specs.Kinds.{at, told};
-ghost use Rattle.word.specs.Values.{Nothing};
-ghost use Rattle.word.specs.Views.{request_of};
-ghost use Rattle.book.specs.Cores.{Asks, IsAsked, Performs, bytes_of, meant_after};
+ghost use Rattle.word.specs.Kinds.{AsksNoOther, IsSolitary, at, told};
+ghost use Rattle.word.specs.Values.{Done, Nothing, Panic as PanicRequest, Panics};
+ghost use Rattle.word.specs.Views.{event_of, request_of};
+ghost use Rattle.book.specs.Cores.{Asks, IsAsked, Performs, bytes_of, meant_after, printed_by};
 ghost use Rattle.book.specs.Desks.{FitsAll, IsFreeIn, IsLentRow, to_lend};
 ghost use Rattle.book.specs.Slots.{free_clock, free_row, lent_row};
 
@@ -19,7 +19,8 @@ use std::alloc::Global;
 use std::marker::Model;
 use verifier::Verified;
 use word::end::End;
-use word::request::{Event, Request};
+use word::panic::Panic;
+use word::request::{Event, Outcome, Reply, Request};
 
 /// A world of goroutines that run ahead of their turn, without its lists of events and bytes.
 #[derive(Debug, Drop)]
@@ -45,7 +46,7 @@ impl Core {
     /// Goroutine 1 alone, at the beginning of `main`.
     pub fn open(alloc: Global, code: &Verified) -> Result<Core, Memory>
         ensures core { IfOk result (λ core. core ≡ record {
-          rows = None ∷ Some (free_row (at 0 (code_begin (code_kind code.now).main []))) ∷ [];
+          rows = None ∷ Some (free_row (at 0 (code_begin code.now (code_kind code.now).main []))) ∷ [];
           live = 1;
           events = 0;
           ending = None;
@@ -54,7 +55,7 @@ impl Core {
     {
         let mut rows = Vec::new(alloc);
         rows.push(None)?;
-        rows.push(Some(Slot::free(spawn_state(alloc, code, code.main(), Clock::START))))?;
+        rows.push(Some(Slot::free(spawn_state(alloc, code, code.main(), &[], Clock::START)?)))?;
         Ok(Core {
             rows,
             live: 1,
@@ -97,6 +98,7 @@ impl Core {
         requires asks { Asks code.now limit self.old.rows number }
         requires events { self.old.events < 2 ^ 62 }
         requires limit { limit ≤ 2 ^ 62 }
+        requires alone { AsksNoOther (code_kind code.now) }
         ensures performs { IfOk result (λ event. Performs code.now limit self.old number event (bytes_of event) self.new) }
         ensures output { IfOk result (λ event. output.new.items ≡ output.old.items ++ bytes_of event) }
         ensures fits { IfOk result (λ _. FitsAll code.now limit self.old.rows → FitsAll code.now limit self.new.rows) }
@@ -110,36 +112,32 @@ impl Core {
                     unreachable!()
                 };
                 self.answer(code, number, later);
-                Ok(Event {
-                    clock,
-                    number,
-                    request: Request::Print(text),
-                })
+                Ok(done(alloc, clock, number, Request::Print(text)))
             }
             Request::End => {
                 self.leave(number);
-                Ok(Event {
-                    clock,
-                    number,
-                    request: Request::End,
-                })
+                Ok(done(alloc, clock, number, Request::End))
             }
             Request::Exit => {
                 self.end(number, End::Finished);
-                Ok(Event {
-                    clock,
-                    number,
-                    request: Request::Exit,
-                })
+                Ok(done(alloc, clock, number, Request::Exit))
             }
             Request::Exhausted => {
                 self.end(number, End::Exhausted);
-                Ok(Event {
-                    clock,
-                    number,
-                    request: Request::Exhausted,
-                })
+                Ok(done(alloc, clock, number, Request::Exhausted))
             }
+            Request::Panic(cause) => {
+                self.end(number, End::Panicked(cause));
+                Ok(panicked(alloc, clock, number, cause))
+            }
+            Request::Make(_, _)
+            | Request::Go(_, _)
+            | Request::Send(_, _)
+            | Request::Receive(_)
+            | Request::Close(_)
+            | Request::Select(_, _)
+            | Request::Len(_)
+            | Request::Cap(_) => unreachable!(),
         }
     }
 
@@ -182,6 +180,7 @@ impl Core {
         }
     }
 
+    #[tactic(auto, using(crate::proofs::Solitary::means_solitary))]
     /// The clock of goroutine `number` and what its request means: a return of goroutine 1 is an exit, and event number
     /// 2^62 of a run is `Exhausted`.
     fn asked(
@@ -193,7 +192,8 @@ impl Core {
     ) -> Result<(Clock, Request), Memory>
         requires asks { Asks code.now limit self.now.rows number }
         requires events { self.now.events < 2 ^ 62 }
-        ensures { IfOk result (λ asked. IsAsked code.now limit self.now number asked.0 (request_of asked.1)) }
+        ensures asked { IfOk result (λ asked. IsAsked code.now limit self.now number asked.0 (request_of asked.1)) }
+        ensures solitary { IfOk result (λ asked. AsksNoOther (code_kind code.now) → IsSolitary (request_of asked.1)) }
     {
         let Some(Some(slot)) = self.rows.get(number as usize) else {
             unreachable!()
@@ -257,6 +257,34 @@ impl Core {
         stay_row(self.rows.as_mut_slice(), number);
         self.events += 1;
         self.ending = Some(end);
+    }
+}
+
+/// The event of a request that is done, with nothing to tell.
+fn done(alloc: Global, clock: Clock, number: u64, request: Request) -> Event
+    ensures event { event_of result ≡ record { clock = clock; number = number; request = request_of request; outcome = Done Nothing; partners = [] } }
+    ensures bytes { bytes_of result ≡ printed_by request }
+{
+    Event {
+        clock,
+        number,
+        request,
+        outcome: Outcome::Done(Reply::Nothing),
+        partners: Vec::new(alloc),
+    }
+}
+
+/// The event of a panic.
+fn panicked(alloc: Global, clock: Clock, number: u64, cause: Panic) -> Event
+    ensures event { event_of result ≡ record { clock = clock; number = number; request = PanicRequest cause; outcome = Panics cause 0; partners = [] } }
+    ensures bytes { bytes_of result ≡ [] }
+{
+    Event {
+        clock,
+        number,
+        request: Request::Panic(cause),
+        outcome: Outcome::Panics(cause, 0),
+        partners: Vec::new(alloc),
     }
 }
 

@@ -1,1 +1,2 @@
--- no lemmas of its own yet
+pub mod Instrs
+pub mod Unstuck

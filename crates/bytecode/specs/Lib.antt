@@ -1,3 +1,4 @@
 pub mod Code
+pub mod Effects
 pub mod Machine
 pub mod Rules

@@ -1,75 +1,195 @@
 -- What the verifier asks of code, so that no test of the machine fails.
-use Rattle.std.specs.Prelude.{◌≡◌, ◌≢◌, ℕ, zero, suc, ◌+◌, ◌-◌, ◌<◌, ◌≤◌, nat_lt, if◌then◌else◌, List, [], ◌∷◌, Option, Some, None, length, slice_get, option_and_then}
-use Rattle.bytecode.specs.declared.code.Instr.{Instr}
-use Rattle.bytecode.specs.declared.code.Instr.TheVariants as instrs
-use Rattle.bytecode.specs.declared.code.PrintTable.{PrintTable}
-use Rattle.bytecode.specs.Code.{Function, Code}
-use Rattle.bytecode.specs.Machine.{Frame, instrs_of, main_of}
+use Rattle.std.specs.Prelude.{◌≡◌, ℕ, zero, suc, ◌+◌, ◌-◌, ◌<◌, ◌≤◌, ◌⊎◌, List, [], ◌∷◌, ◌++◌, length, Option, Some, None, slice_get}
+use Rattle.bytecode.specs.declared.instr.Kind.{Kind}
+use Rattle.bytecode.specs.declared.instr.Kind.TheVariants as kinds
+use Rattle.bytecode.specs.declared.instr.Instr.{Instr}
+use Rattle.bytecode.specs.declared.instr.Instr.TheVariants as instrs
+use Rattle.bytecode.specs.declared.rule.Rule.{Rule}
+use Rattle.bytecode.specs.declared.rule.Rule.TheVariants.{Names, Targets, Paths, Calls, Returns, Locals, Tables, Main}
+use Rattle.bytecode.specs.Code.{Function, PrintTable, Code}
+use Rattle.bytecode.specs.Effects.{wants, Fits, afterwards}
+use Rattle.bytecode.specs.Machine.{Frame, Frames, main_of}
+use Rattle.word.specs.declared.value.Word.{Word}
+use Rattle.word.specs.declared.value.Word.TheVariants.{Int, Bool as Truth, Chan}
 
-abbrev pub print_depth : ℕ → Option PrintTable → Option ℕ
-print_depth depth None = None
-print_depth depth (Some table) = if nat_lt depth table.values then None else Some (depth - table.values)
+-- V1 to V8
+abbrev pub number_of : Rule → ℕ
+number_of Names = 1
+number_of Targets = 2
+number_of Paths = 3
+number_of Calls = 4
+number_of Returns = 5
+number_of Locals = 6
+number_of Tables = 7
+number_of Main = 8
 
--- how many words are on the stack after an instruction that found so many, where it goes on to the next one
-abbrev pub depth_after : List PrintTable → ℕ → Instr → Option ℕ
-depth_after prints depth (instrs.Int n) = Some (depth + 1)
-depth_after prints depth (instrs.Print q) = print_depth depth (slice_get prints q)
-depth_after prints depth instrs.Return = None
+-- the places to which an instruction may lead
+abbrev pub ways : Instr → ℕ → List ℕ
+ways (instrs.Jump to) place = to ∷ []
+ways (instrs.Unless to) place = (place + 1) ∷ (to ∷ [])
+ways (instrs.Loop to) place = to ∷ []
+ways instrs.Return place = []
+ways i place = (place + 1) ∷ []
 
--- how many words are on the stack at a place, where a path leads there from the first of these instructions
-abbrev pub depth_at : List PrintTable → ℕ → List Instr → ℕ → Option ℕ
-depth_at prints depth is zero = Some depth
-depth_at prints depth [] (suc place) = None
-depth_at prints depth (i ∷ is) (suc place) = option_and_then (λ after. depth_at prints after is place) (depth_after prints depth i)
+-- a path of n instructions that fit, from a function's start to a place, and the kinds on the stack there
+abbrev pub Path : Code → Function → ℕ → ℕ → List Kind → Type 0
+Path code f zero place ks = (place ≡ 0) × (ks ≡ [])
+Path code f (suc n) place ks =
+    (from : ℕ) × (js : List Kind) × (i : Instr) × (k : ℕ) × Path code f n from js × (slice_get f.instrs from ≡ Some i) × Fits code f i js × (slice_get (ways i from) k ≡ Some place) × (ks ≡ afterwards code f i js)
 
--- the print table that an instruction names is there
-abbrev pub IsThere : List PrintTable → Instr → Type 0
-IsThere prints (instrs.Int n) = Unit {0}
-IsThere prints (instrs.Print q) = q < length prints
-IsThere prints instrs.Return = Unit {0}
+-- a shape that a kind names is there
+abbrev pub IsThere : Code → Kind → Type 0
+IsThere code kinds.Int = Unit {0}
+IsThere code kinds.Bool = Unit {0}
+IsThere code (kinds.Chan s) = s < length code.shapes
 
--- the stack has what the instruction pops
-abbrev pub FitsTable : ℕ → Option PrintTable → Type 0
-FitsTable depth None = ⊥
-FitsTable depth (Some table) = table.values ≤ depth
+abbrev pub AreThere : Code → List Kind → Type 0
+AreThere code ks = (n : ℕ) (k : Kind) → slice_get ks n ≡ Some k → IsThere code k
 
-abbrev pub Fits : List PrintTable → ℕ → Instr → Type 0
-Fits prints depth (instrs.Int n) = Unit {0}
-Fits prints depth (instrs.Print q) = FitsTable depth (slice_get prints q)
-Fits prints depth instrs.Return = Unit {0}
+-- what an instruction names is there
+abbrev pub Named : Code → Function → Instr → Type 0
+Named code f (instrs.Nil s) = s < length code.shapes
+Named code f (instrs.Load a n) = a + n ≤ length f.locals
+Named code f (instrs.Store a n) = a + n ≤ length f.locals
+Named code f (instrs.Pick t a n) = a + n ≤ t
+Named code f (instrs.Call g) = g < length code.functions
+Named code f (instrs.Go g) = g < length code.functions
+Named code f (instrs.Make s) = s < length code.shapes
+Named code f (instrs.Send s) = s < length code.shapes
+Named code f (instrs.Receive s) = s < length code.shapes
+Named code f (instrs.Print q) = q < length code.prints
+Named code f i = Unit {0}
 
--- a return finds nothing on the stack
-abbrev pub Returns : ℕ → Instr → Type 0
-Returns depth (instrs.Int n) = Unit {0}
-Returns depth (instrs.Print q) = Unit {0}
-Returns depth instrs.Return = depth ≡ 0
+-- its ways lead to places of the function
+abbrev pub Inside : Function → ℕ → Instr → Type 0
+Inside f place (instrs.Jump to) = to < length f.instrs
+Inside f place (instrs.Unless to) = (to < length f.instrs) × (place + 1 < length f.instrs)
+Inside f place (instrs.Loop to) = to < length f.instrs
+Inside f place instrs.Return = Unit {0}
+Inside f place i = place + 1 < length f.instrs
 
--- V1: each table named is there, and the last instruction is a return
-pub record IsWhole (prints : List PrintTable) (is : List Instr) : Type 0 where
-  pub tables : (place : ℕ) (i : Instr) → slice_get is place ≡ Some i → IsThere prints i
-  pub last : slice_get is (length is - 1) ≡ Some instrs.Return
+-- a jump leads forward, a loop back
+abbrev pub Directed : ℕ → Instr → Type 0
+Directed place (instrs.Jump to) = place < to
+Directed place (instrs.Unless to) = place < to
+Directed place (instrs.Loop to) = to ≤ place
+Directed place i = Unit {0}
 
--- V3: on every path to an instruction the stack has the same words, and they fit it
-abbrev pub IsFitting : List PrintTable → List Instr → Type 0
-IsFitting prints is = (place depth : ℕ) (i : Instr) → depth_at prints 0 is place ≡ Some depth → slice_get is place ≡ Some i → Fits prints depth i
+-- the rule that an instruction breaks which does not fit
+abbrev pub rule_of : Instr → Rule
+rule_of (instrs.Call g) = Calls
+rule_of (instrs.Go g) = Calls
+rule_of instrs.Return = Returns
+rule_of (instrs.Store a n) = Locals
+rule_of i = Paths
 
--- V5: a return finds exactly the result, which is nothing
-abbrev pub IsReturning : List PrintTable → List Instr → Type 0
-IsReturning prints is = (place depth : ℕ) (i : Instr) → depth_at prints 0 is place ≡ Some depth → slice_get is place ≡ Some i → Returns depth i
+-- a function's heading: it has instructions, no more parameters than locals, and its kinds are there
+pub record IsHeaded (code : Code) (f : Function) : Type 0 where
+  pub filled : 0 < length f.instrs
+  pub params : f.params ≤ length f.locals
+  pub locals : AreThere code f.locals
+  pub results : AreThere code f.results
 
--- V7: a print table has at most 64 values
-abbrev pub IsShort : List PrintTable → Type 0
-IsShort prints = (q : ℕ) (table : PrintTable) → slice_get prints q ≡ Some table → table.values ≤ 64
+-- a function keeps V1 to V6
+pub record Holds (code : Code) (f : Function) : Type 0 where
+  pub headed : IsHeaded code f
+  pub named : (place : ℕ) (i : Instr) → slice_get f.instrs place ≡ Some i → Named code f i × Inside f place i
+  pub directed : (place : ℕ) (i : Instr) → slice_get f.instrs place ≡ Some i → Directed place i
+  pub fit : (n place : ℕ) (ks : List Kind) → Path code f n place ks → (i : Instr) × (slice_get f.instrs place ≡ Some i) × Fits code f i ks
+  pub same : (n m place : ℕ) (ks js : List Kind) → Path code f n place ks → Path code f m place js → ks ≡ js
 
--- all of it. V2 speaks of jumps and V4, V6 of calls and variables, of which there are none yet; V8: there is a function `main`
+-- V7 and, of the shapes that a shape names, V1
+pub record IsShaped (code : Code) (ks : List Kind) : Type 0 where
+  pub some : 0 < length ks
+  pub most : length ks ≤ 16
+  pub there : AreThere code ks
+
+abbrev pub IsShort : PrintTable → Type 0
+IsShort table = length table.parts ≤ 64
+
+-- V8
+pub record HasMain (code : Code) : Type 0 where
+  pub number : ℕ
+  pub function : Function
+  pub first : main_of code.functions ≡ Some number
+  pub there : slice_get code.functions number ≡ Some function
+  pub params : function.params ≡ 0
+  pub results : function.results ≡ []
+
+-- all of it
 pub record IsVerified (code : Code) : Type 0 where
-  pub whole : (n : ℕ) (f : Function) → slice_get code.functions n ≡ Some f → IsWhole code.prints f.instrs
-  pub fitting : (n : ℕ) (f : Function) → slice_get code.functions n ≡ Some f → IsFitting code.prints f.instrs
-  pub returning : (n : ℕ) (f : Function) → slice_get code.functions n ≡ Some f → IsReturning code.prints f.instrs
-  pub short : IsShort code.prints
-  pub main : (n : ℕ) × (main_of code.functions ≡ Some n)
+  pub shapes : (s : ℕ) (ks : List Kind) → slice_get code.shapes s ≡ Some ks → IsShaped code ks
+  pub prints : (q : ℕ) (table : PrintTable) → slice_get code.prints q ≡ Some table → IsShort table
+  pub functions : (g : ℕ) (f : Function) → slice_get code.functions g ≡ Some f → Holds code f
+  pub main : HasMain code
 
--- a frame of verified code: a path leads to its place with as many words as are on its stack
-pub record IsFrameOf (code : Code) (frame : Frame) : Type 0 where
-  pub place : depth_at code.prints 0 (instrs_of (slice_get code.functions frame.function)) frame.place ≡ Some (length frame.stack)
-  pub function : frame.function < length code.functions
+-- some path leads to an instruction that it does not fit, and the rule is this
+abbrev pub Misfit : Code → Function → Rule → ℕ → Type 0
+Misfit code f rule place =
+    (n : ℕ) × (ks : List Kind) × (i : Instr) × Path code f n place ks × (slice_get f.instrs place ≡ Some i) × (rule_of i ≡ rule) × (Fits code f i ks → ⊥)
+
+-- two paths lead there with different kinds
+abbrev pub Parting : Code → Function → ℕ → Type 0
+Parting code f place =
+    (n : ℕ) × (m : ℕ) × (ks : List Kind) × (js : List Kind) × Path code f n place ks × Path code f m place js × (ks ≡ js → ⊥)
+
+-- a rule that a function breaks at a place; its heading stands at place 0
+abbrev pub BrokenIn : Code → Function → Rule → ℕ → Type 0
+BrokenIn code f Names place = ((i : Instr) × (slice_get f.instrs place ≡ Some i) × (Named code f i × Inside f place i → ⊥)) ⊎ ((place ≡ 0) × (IsHeaded code f → ⊥))
+BrokenIn code f Targets place = (i : Instr) × (slice_get f.instrs place ≡ Some i) × (Directed place i → ⊥)
+BrokenIn code f Paths place = Misfit code f Paths place ⊎ Parting code f place
+BrokenIn code f Calls place = Misfit code f Calls place
+BrokenIn code f Returns place = Misfit code f Returns place
+BrokenIn code f Locals place = Misfit code f Locals place
+BrokenIn code f Tables place = ⊥
+BrokenIn code f Main place = ⊥
+
+-- a rule that code breaks outside its functions, where a shape's or a print table's number stands as the place
+abbrev pub BrokenBeside : Code → Rule → ℕ → Type 0
+BrokenBeside code Names place = (ks : List Kind) × (slice_get code.shapes place ≡ Some ks) × (AreThere code ks → ⊥)
+BrokenBeside code Tables place =
+    ((ks : List Kind) × (slice_get code.shapes place ≡ Some ks) × (IsShaped code ks → ⊥))
+    ⊎ ((table : PrintTable) × (slice_get code.prints place ≡ Some table) × (IsShort table → ⊥))
+BrokenBeside code Main place = (place ≡ 0) × (HasMain code → ⊥)
+BrokenBeside code rule place = ⊥
+
+-- a rule that is broken at a place of a function, or beside the functions, where the function's number is 0
+abbrev pub Breaks : Code → Rule → ℕ → ℕ → Type 0
+Breaks code rule function place =
+    ((f : Function) × (slice_get code.functions function ≡ Some f) × BrokenIn code f rule place) ⊎ ((function ≡ 0) × BrokenBeside code rule place)
+
+-- a path leads to this place of this function with these kinds on the stack
+abbrev pub At : Code → ℕ → ℕ → List Kind → Type 0
+At code g place ks = (f : Function) × (slice_get code.functions g ≡ Some f) × (n : ℕ) × Path code f n place ks
+
+-- a word is of a kind, and words of kinds, one by one
+abbrev pub Has : Word → Kind → Type 0
+Has (Int n) kinds.Int = Unit {0}
+Has (Truth b) kinds.Bool = Unit {0}
+Has (Chan c) (kinds.Chan s) = Unit {0}
+Has w k = ⊥
+
+abbrev pub AllHave : List Word → List Kind → Type 0
+AllHave [] [] = Unit {0}
+AllHave (w ∷ ws) (k ∷ ks) = Has w k × AllHave ws ks
+AllHave ws ks = ⊥
+
+-- a frame's locals are of the function's kinds, which has these results
+abbrev pub Stands : Code → Frame → List Kind → Type 0
+Stands code c results = (f : Function) × (slice_get code.functions c.function ≡ Some f) × (f.results ≡ results) × AllHave c.locals f.locals
+
+-- each caller waits for results of these kinds, which its place expects on its stack
+abbrev pub Await : Code → List Kind → Frames → Type 0
+Await code results [] = Unit {0}
+Await code results (c ∷ cs) =
+    (own : List Kind) × (ks : List Kind) × Stands code c own × AllHave c.stack ks × (c.told ≡ []) × At code c.function c.place (ks ++ results) × Await code own cs
+
+abbrev pub AreGood : Code → Frames → Type 0
+AreGood code [] = ⊥
+AreGood code (c ∷ cs) =
+    (own : List Kind) × (ks : List Kind) × Stands code c own × AllHave (c.stack ++ c.told) ks × At code c.function c.place ks × Await code own cs
+
+-- the frames of a goroutine of verified code: locals and stacks are of the kinds that paths lead to, at most 1,000 frames
+pub record IsFrameOf (code : Code) (frames : Frames) : Type 0 where
+  pub good : AreGood code frames
+  pub depth : length frames ≤ 1000

@@ -1,32 +1,19 @@
 //! The code of a program.
 
-ghost use Rattle.std.specs.Prelude.{◌≡◌, ◌+◌, ◌<◌, ◌^◌, ◌↔◌, IsTrue, IfSome, string_bytes};
-ghost use Rattle.bytecode.specs.Machine.{fetch};
+ghost use Rattle.std.specs.Prelude.{◌≡◌, ◌↔◌, IsTrue, string_bytes};
 
+use crate::instr::{Instr, Kind};
+use crate::table::{PrintTable, Shape, same_kinds};
 use std::marker::Model;
 
-/// An instruction. Places of instructions are counted from 0.
-#[derive(Clone, Copy, Debug, PartialEq, Eq)]
-pub enum Instr {
-    /// Pushes this number.
-    Int(i64),
-    /// Pops the values of the print table of this number, and asks to print them.
-    Print(u32),
-    /// Returns from the function.
-    Return,
-}
-
-/// What a `println` takes from the operand stack.
-#[derive(Clone, Copy, Debug, PartialEq, Eq)]
-pub struct PrintTable {
-    /// How many values, 1 to 64.
-    pub values: u32,
-}
-
-/// A function's name and instructions.
+/// A function: its name, how many of its locals are parameters, the kinds of its locals (the parameters first) and of its
+/// results, and its instructions.
 #[derive(Debug, Drop)]
 pub struct Function {
     name: String,
+    params: u32,
+    locals: Vec<Kind>,
+    results: Vec<Kind>,
     instrs: Vec<Instr>,
 }
 
@@ -36,15 +23,27 @@ impl Model for Function {
 
     ghost Value = { FunctionValue };
 
-    ghost view = { λ f. record { name = string_bytes f.name; instrs = f.instrs.items } };
+    ghost view = { λ f. record { name = string_bytes f.name; params = f.params; locals = f.locals.items; results = f.results.items; instrs = f.instrs.items } };
 }
 
 impl Function {
-    /// A function of this name and these instructions.
-    pub fn new(name: String, instrs: Vec<Instr>) -> Function
-        ensures { result ≡ record { name = string_bytes name; instrs = instrs.items } }
+    /// A function of these parts. In verified code it has no fewer locals than parameters.
+    pub fn new(
+        name: String,
+        params: u32,
+        locals: Vec<Kind>,
+        results: Vec<Kind>,
+        instrs: Vec<Instr>,
+    ) -> Function
+        ensures { result ≡ record { name = string_bytes name; params = params; locals = locals.items; results = results.items; instrs = instrs.items } }
     {
-        Function { name, instrs }
+        Function {
+            name,
+            params,
+            locals,
+            results,
+            instrs,
+        }
     }
 
     /// The name.
@@ -54,6 +53,27 @@ impl Function {
         self.name.as_str()
     }
 
+    /// How many of the locals are parameters.
+    pub fn params(&self) -> u32
+        ensures { result ≡ self.now.params }
+    {
+        self.params
+    }
+
+    /// The kinds of the locals, the parameters first.
+    pub fn locals(&self) -> &[Kind]
+        ensures { result.now ≡ self.now.locals }
+    {
+        self.locals.as_slice()
+    }
+
+    /// The kinds of the results.
+    pub fn results(&self) -> &[Kind]
+        ensures { result.now ≡ self.now.results }
+    {
+        self.results.as_slice()
+    }
+
     /// The instructions, the first one at place 0.
     pub fn instrs(&self) -> &[Instr]
         ensures { result.now ≡ self.now.instrs }
@@ -61,19 +81,23 @@ impl Function {
         self.instrs.as_slice()
     }
 
-    /// Whether the two have the same name and instructions.
+    /// Whether the two are the same in all parts.
     pub fn is_same(&self, other: &Function) -> bool
         ensures { IsTrue result ↔ (self.now ≡ other.now) }
     {
         same_names(self.name.as_bytes(), other.name.as_bytes())
+            && self.params == other.params
+            && same_kinds(self.locals.as_slice(), other.locals.as_slice())
+            && same_kinds(self.results.as_slice(), other.results.as_slice())
             && same_instrs(self.instrs.as_slice(), other.instrs.as_slice())
     }
 }
 
-/// A program's functions and print tables, each numbered from 0.
+/// A program's functions, shapes and print tables, each numbered from 0.
 #[derive(Debug, Drop)]
 pub struct Code {
     functions: Vec<Function>,
+    shapes: Vec<Shape>,
     prints: Vec<PrintTable>,
 }
 
@@ -82,15 +106,19 @@ impl Model for Code {
 
     ghost Value = { CodeValue };
 
-    ghost view = { λ c. record { functions = c.functions.items; prints = c.prints.items } };
+    ghost view = { λ c. record { functions = c.functions.items; shapes = c.shapes.items; prints = c.prints.items } };
 }
 
 impl Code {
-    /// The code of these functions and print tables.
-    pub fn new(functions: Vec<Function>, prints: Vec<PrintTable>) -> Code
-        ensures { result ≡ record { functions = functions.items; prints = prints.items } }
+    /// The code of these functions, shapes and print tables.
+    pub fn new(functions: Vec<Function>, shapes: Vec<Shape>, prints: Vec<PrintTable>) -> Code
+        ensures { result ≡ record { functions = functions.items; shapes = shapes.items; prints = prints.items } }
     {
-        Code { functions, prints }
+        Code {
+            functions,
+            shapes,
+            prints,
+        }
     }
 
     /// The functions, the first one of number 0.
@@ -100,6 +128,13 @@ impl Code {
         self.functions.as_slice()
     }
 
+    /// The shapes, the first one of number 0.
+    pub fn shapes(&self) -> &[Shape]
+        ensures { result.now ≡ self.now.shapes }
+    {
+        self.shapes.as_slice()
+    }
+
     /// The print tables, the first one of number 0.
     pub fn prints(&self) -> &[PrintTable]
         ensures { result.now ≡ self.now.prints }
@@ -107,26 +142,25 @@ impl Code {
         self.prints.as_slice()
     }
 
-    /// The instruction at a place of a function.
-    pub fn fetch(&self, function: usize, place: usize) -> Option<Instr>
-        ensures instr { result ≡ fetch self.now function place }
-        ensures within { IfSome result (λ _. place + 1 < 2 ^ 64) }
-    {
-        let function = self.functions.get(function)?;
-        function.instrs.get(place).copied()
-    }
-
-    /// Whether the two have the same functions and print tables.
+    /// Whether the two have the same functions, shapes and print tables.
     pub fn is_same(&self, other: &Code) -> bool
         ensures { IsTrue result ↔ (self.now ≡ other.now) }
     {
         same_prints(self.prints.as_slice(), other.prints.as_slice())
+            && same_shapes(self.shapes.as_slice(), other.shapes.as_slice())
             && are_same(self.functions.as_slice(), other.functions.as_slice())
     }
 }
 
 fn same_names(left: &[u8], right: &[u8]) -> bool
     ensures { IsTrue result ↔ (left.now ≡ right.now) }
+{
+    left == right
+}
+
+#[tactic(none)]
+fn is_same_instr(left: Instr, right: Instr) -> bool
+    ensures { IsTrue result ↔ (left ≡ right) }
 {
     left == right
 }
@@ -138,7 +172,21 @@ fn same_instrs(left: &[Instr], right: &[Instr]) -> bool
         return false;
     }
     for i in 0..left.len() {
-        if left[i] != right[i] {
+        if !is_same_instr(left[i], right[i]) {
+            return false;
+        }
+    }
+    true
+}
+
+fn same_shapes(left: &[Shape], right: &[Shape]) -> bool
+    ensures { IsTrue result ↔ (left.now ≡ right.now) }
+{
+    if left.len() != right.len() {
+        return false;
+    }
+    for i in 0..left.len() {
+        if !left[i].is_same(&right[i]) {
             return false;
         }
     }
@@ -152,7 +200,7 @@ fn same_prints(left: &[PrintTable], right: &[PrintTable]) -> bool
         return false;
     }
     for i in 0..left.len() {
-        if left[i] != right[i] {
+        if !left[i].is_same(&right[i]) {
             return false;
         }
     }

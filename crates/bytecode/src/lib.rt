@@ -2,5 +2,11 @@
 #![tactic(auto)]
 
 mod code;
+mod instr;
+mod rule;
+mod table;
 
-pub use code::{Code, Function, Instr, PrintTable};
+pub use code::{Code, Function};
+pub use instr::{Instr, Kind};
+pub use rule::Rule;
+pub use table::{Part, PrintTable, Shape, Text, same_kinds};

@@ -1,6 +1,7 @@
 -- Where an expression has a value, no part of it is too large.
 use Rattle.std.proofs.Common.{◌≡◌, ℕ, ℤ, Option, Some, None, is_some, option_and_then, false, ◌+◌, inl, inr, refl}
-use Rattle.syntax.specs.Tree.{Expression, Integer, Parenthesized, Unary, Binary, expression_size}
+use Rattle.syntax.specs.Tree.{Expression, Integer, Named, Parenthesized, Selection, Composite, Unary, Binary}
+use Rattle.syntax.specs.Measures.{expression_size}
 use Rattle.checker.specs.Constants.{constant, literal, bounded, binary, HoldsLarge}
 
 without_value : (value : Option ℤ) → is_some value ≡ false → value ≡ None
@@ -13,6 +14,9 @@ and_then_none (Some a) f none = none a
 
 pub large_has_none : (e : Expression) (first node : ℕ) → HoldsLarge first e node → constant e ≡ None
 large_has_none (Integer value) first node large = without_value (literal value) large.1
+large_has_none (Named name) first node large = absurd large
+large_has_none (Selection whole field) first node large = absurd large
+large_has_none (Composite name vs trailing) first node large = absurd large
 large_has_none (Parenthesized inner) first node large = large_has_none inner first node large
 large_has_none (Unary operator operand) first node (inl large) = rw (large_has_none operand first node large) refl
 large_has_none (Unary operator operand) first node (inr large) = without_value (constant (Unary operator operand)) large.2

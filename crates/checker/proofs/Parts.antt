@@ -12,7 +12,7 @@ pub record IsLeft {A : Type 0} (size : A → ℕ) (Has : ℕ → A → Flaw → 
   pub passed : (flaw : Flaw) → AnyPart size (λ n part. Has n part flaw) start all → AnyPart size (λ n part. Has n part flaw) first rest
 
 -- the parts of a list in memory, from a place on
-part_at : {A B : Type 0} (view : A → B) (xs : List A) (i : ℕ) (x : A) → i < length xs → x ≡ get_or xs i x → map view (drop i xs) ≡ view x ∷ map view (drop (i + 1) xs)
+pub part_at : {A B : Type 0} (view : A → B) (xs : List A) (i : ℕ) (x : A) → i < length xs → x ≡ get_or xs i x → map view (drop i xs) ≡ view x ∷ map view (drop (i + 1) xs)
 part_at view xs i x lt is = rw (add-one, drop-cons xs i x, ← is) refl
 
 pub found_left : {A B : Type 0} (view : A → B) (size : B → ℕ) (Has : ℕ → B → Flaw → Type 0) (first i : ℕ) (xs : List A) (x : A) (start : ℕ) (flaw : Flaw)

@@ -4,7 +4,8 @@ use Rattle.syntax.specs.declared.node.UnaryOperator.{UnaryOperator}
 use Rattle.syntax.specs.declared.node.UnaryOperator.TheVariants.{Negate}
 use Rattle.syntax.specs.declared.node.BinaryOperator.{BinaryOperator}
 use Rattle.syntax.specs.declared.node.BinaryOperator.TheVariants.{Add, Subtract}
-use Rattle.syntax.specs.Tree.{Expression, Integer, Parenthesized, Unary, Binary, expression_size}
+use Rattle.syntax.specs.Tree.{Expression, Integer, Parenthesized, Unary, Binary}
+use Rattle.syntax.specs.Measures.{expression_size}
 
 -- the value, unless its size is over 2 ^ 100
 abbrev pub bounded : ℤ → Option ℤ
@@ -14,20 +15,24 @@ abbrev pub literal : Option ℕ → Option ℤ
 literal None = None
 literal (Some value) = bounded (pos value)
 
+-- other operators are not built yet
 abbrev pub unary : UnaryOperator → ℤ → ℤ
 unary Negate a = neg_ℤ a
+unary operator a = a
 
 abbrev pub binary : BinaryOperator → ℤ → ℤ → ℤ
 binary Add a b = a +ℤ b
 binary Subtract a b = a -ℤ b
+binary operator a b = a
 
--- the exact value, or None where it, or that of a part, has a size over 2 ^ 100
+-- the exact value, or None where it, or that of a part, has a size over 2 ^ 100, or where a part is not built yet
 abbrev pub constant : Expression → Option ℤ
 constant (Integer value) = literal value
 constant (Parenthesized inner) = constant inner
 constant (Unary operator operand) = option_and_then (λ a. bounded (unary operator a)) (constant operand)
 constant (Binary operator left right) =
     option_and_then (λ a. option_and_then (λ b. bounded (binary operator a b)) (constant right)) (constant left)
+constant expression = None
 
 -- a constant of type int is representable
 pub record IsInt (value : ℤ) : Type 0 where
@@ -46,3 +51,4 @@ HoldsLarge first (Binary operator left right) node =
     HoldsLarge first left node
     ⊎ (HoldsLarge (first + expression_size left) right node
     ⊎ ((node ≡ first + expression_size left + expression_size right) × IsSome (constant left) × IsSome (constant right) × IsNone (constant (Binary operator left right))))
+HoldsLarge first expression node = ⊥

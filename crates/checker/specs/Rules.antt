@@ -2,12 +2,14 @@
 --
 -- Nodes are numbered from 0 in postorder: a node after all nodes below it, from left to right. So the nodes of a part
 -- have numbers from a first one on, which is the number of nodes before it, and the part's own node is the last of them.
-use Rattle.std.specs.Prelude.{◌≡◌, ◌≢◌, ℕ, ◌+◌, ◌⊎◌, Bool, ◌||◌, List, [], ◌∷◌, IsTrue, IsSomeAnd, bytes_eq, codes}
+use Rattle.std.specs.Prelude.{◌≡◌, ◌≢◌, ℕ, ◌+◌, ◌⊎◌, Bool, true, ◌||◌, List, [], ◌∷◌, IsTrue, IsSomeAnd, bytes_eq, codes}
 use Rattle.go_text.specs.declared.rule.Rule.{Rule}
 use Rattle.go_text.specs.declared.rule.Rule.TheVariants as rules
 use Rattle.go_text.specs.declared.rule.LimitKind.{LimitKind}
 use Rattle.go_text.specs.declared.rule.LimitKind.TheVariants as limits
-use Rattle.syntax.specs.Tree.{Expression, Statement, Empty, Println, Function, File, expression_size, statement_size, block_size}
+use Rattle.syntax.specs.Tree.{Expression, Part, Value, Simple, Print, Statement, Empty, Alone, statements_in, Function, File}
+use Rattle.syntax.specs.Measures.{expression_size, part_size, statement_size, block_size}
+use Rattle.checker.specs.Built.{function_in}
 use Rattle.checker.specs.declared.flaw.Flaw.{Flaw}
 use Rattle.checker.specs.declared.flaw.Flaw.TheVariants.{Broken, Exceeded}
 use Rattle.checker.specs.Constants.{constant, IsInt, HoldsLarge}
@@ -27,12 +29,20 @@ ArgumentHas first argument (Broken rule node) =
     (rule ≡ rules.Constant) × (node + 1 ≡ first + expression_size argument) × IsSomeAnd (constant argument) (λ value. ¬ (IsInt value))
 ArgumentHas first argument (Exceeded kind node) = (kind ≡ limits.ConstantSize) × HoldsLarge first argument node
 
-abbrev pub ArgumentsHave : ℕ → List Expression → Flaw → Type 0
-ArgumentsHave first arguments flaw = AnyPart expression_size (λ first argument. ArgumentHas first argument flaw) first arguments
+abbrev pub PartHas : ℕ → Part → Flaw → Type 0
+PartHas first (Value value) flaw = ArgumentHas first value flaw
+PartHas first part flaw = ⊥
+
+abbrev pub PartsHave : ℕ → List Part → Flaw → Type 0
+PartsHave first parts flaw = AnyPart part_size (λ first part. PartHas first part flaw) first parts
+
+abbrev pub SimpleHas : ℕ → Simple → Flaw → Type 0
+SimpleHas first (Print true parts trailing) flaw = PartsHave first parts flaw
+SimpleHas first simple flaw = ⊥
 
 abbrev pub StatementHas : ℕ → Statement → Flaw → Type 0
-StatementHas first Empty flaw = ⊥
-StatementHas first (Println arguments trailing) flaw = ArgumentsHave first arguments flaw
+StatementHas first (Alone simple) flaw = SimpleHas first simple flaw
+StatementHas first statement flaw = ⊥
 
 abbrev pub StatementsHave : ℕ → List Statement → Flaw → Type 0
 StatementsHave first statements flaw = AnyPart statement_size (λ first statement. StatementHas first statement flaw) first statements
@@ -50,15 +60,25 @@ is_reserved name =
 abbrev pub FunctionHas : Function → Flaw → Type 0
 FunctionHas function (Broken rule node) =
     ((rule ≡ rules.Declared) × (node ≡ block_size function.body) × IsTrue (is_reserved function.name))
-    ⊎ StatementsHave 0 function.body (Broken rule node)
-FunctionHas function (Exceeded kind node) = StatementsHave 0 function.body (Exceeded kind node)
+    ⊎ StatementsHave 0 (statements_in function.body) (Broken rule node)
+FunctionHas function (Exceeded kind node) = StatementsHave 0 (statements_in function.body) (Exceeded kind node)
 
--- the file's own node is the last one
+-- what is wrong with the name of a file's one function, whose statements have so many nodes
+abbrev pub IsNameFlaw : List ℕ → ℕ → Flaw → Type 0
+IsNameFlaw name nodes (Broken rule node) =
+    ((rule ≡ rules.Declared) × (node ≡ nodes + 1) × IsTrue (is_reserved name))
+    ⊎ ((rule ≡ rules.Main) × (node ≡ nodes + 2) × (name ≢ codes "main"))
+IsNameFlaw name nodes (Exceeded kind node) = ⊥
+
+-- of the file's one function; the file's own node is the last one
+abbrev pub OneFunctionHas : Function → Flaw → Type 0
+OneFunctionHas function (Broken rule node) =
+    FunctionHas function (Broken rule node)
+    ⊎ ((rule ≡ rules.Main) × (node ≡ block_size function.body + 1) × (function.name ≢ codes "main"))
+OneFunctionHas function (Exceeded kind node) = FunctionHas function (Exceeded kind node)
+
 abbrev pub FileHas : File → Flaw → Type 0
-FileHas file (Broken rule node) =
-    FunctionHas file.function (Broken rule node)
-    ⊎ ((rule ≡ rules.Main) × (node ≡ block_size file.function.body + 1) × (file.function.name ≢ codes "main"))
-FileHas file (Exceeded kind node) = FunctionHas file.function (Exceeded kind node)
+FileHas file flaw = OneFunctionHas (function_in file) flaw
 
 -- the typing rule is broken at the node
 abbrev pub Breaks : File → Rule → ℕ → Type 0

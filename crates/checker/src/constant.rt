@@ -1,7 +1,8 @@
 //! The exact value of a constant expression.
 
 ghost use Rattle.std.specs.Prelude.{◌≡◌, ℕ, ◌+◌, ◌^◌, ◌<◌, ◌≤◌, pos, nat_abs, Some, IfOk, IfErr, IfSome, option_map};
-ghost use Rattle.syntax.specs.Tree.{expression_size};
+ghost use Rattle.syntax.specs.Measures.{expression_size};
+ghost use Rattle.checker.specs.Built.{IsBuiltExpression};
 ghost use Rattle.syntax.specs.View.{expression_of};
 ghost use Rattle.checker.specs.Constants.{bounded, literal, unary, binary, constant, HoldsLarge};
 ghost use Rattle.checker.specs.Program.{HasInt};
@@ -51,6 +52,7 @@ fn unary(operator: UnaryOperator, operand: i128) -> Option<i128>
 {
     match operator {
         UnaryOperator::Negate => bounded(-operand),
+        _ => bounded(operand),
     }
 }
 
@@ -64,6 +66,7 @@ fn binary(operator: BinaryOperator, left: i128, right: i128) -> Option<i128>
     match operator {
         BinaryOperator::Add => bounded(left + right),
         BinaryOperator::Subtract => bounded(left - right),
+        _ => bounded(left),
     }
 }
 
@@ -71,7 +74,8 @@ fn binary(operator: BinaryOperator, left: i128, right: i128) -> Option<i128>
 ///
 /// Errors: the node whose operands have values, but whose own value has a size over 2^100.
 pub fn constant(first: NodeId, expression: &ExpressionNode) -> Result<ConstantValue, NodeId>
-    requires { first + expression_size (expression_of expression.now) < 2 ^ 32 }
+    requires built { IsBuiltExpression (expression_of expression.now) }
+    requires small { first + expression_size (expression_of expression.now) < 2 ^ 32 }
     ensures value { IfOk result (λ c. constant (expression_of expression.now) ≡ Some c.value) }
     ensures small { IfOk result (λ c. nat_abs c.value ≤ 2 ^ 100) }
     ensures node { IfOk result (λ c. c.node + 1 ≡ first + expression_size (expression_of expression.now)) }
@@ -92,6 +96,7 @@ pub fn constant(first: NodeId, expression: &ExpressionNode) -> Result<ConstantVa
             let right = constant(left.node + 1, right)?;
             (right.node + 1, binary(*operator, left.value, right.value))
         }
+        _ => (first, Some(0)),
     };
     match value {
         Some(value) => Ok(ConstantValue { node, value }),
@@ -102,6 +107,7 @@ pub fn constant(first: NodeId, expression: &ExpressionNode) -> Result<ConstantVa
 /// The value of an expression that has an int's value.
 #[tactic(auto, using(crate::proofs::Large::none_large))]
 pub fn value(expression: &ExpressionNode) -> i64
+    requires built { IsBuiltExpression (expression_of expression.now) }
     requires int { HasInt (expression_of expression.now) }
     requires small { expression_size (expression_of expression.now) < 2 ^ 32 }
     ensures { constant (expression_of expression.now) ≡ Some result }

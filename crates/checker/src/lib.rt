@@ -2,6 +2,7 @@
 #![tactic(auto)]
 
 mod body;
+mod built;
 mod constant;
 mod file;
 mod flaw;

@@ -1,19 +1,23 @@
 //! How many nodes a part of a tree has.
 
-ghost use Rattle.std.specs.Prelude.{◌≡◌, ℕ, ◌+◌, ◌^◌, ◌<◌, map, sum_by};
-ghost use Rattle.syntax.specs.Tree.{expression_size, statement_size, block_size};
-ghost use Rattle.syntax.specs.View.{expression_of, statement_of};
+ghost use Rattle.std.specs.Prelude.{◌≡◌, ℕ, ◌+◌, ◌^◌, ◌<◌, map};
+ghost use Rattle.syntax.specs.Measures.{expression_size, expressions_size};
+ghost use Rattle.syntax.specs.Tree.{expressions};
+ghost use Rattle.syntax.specs.View.{expression_of};
 
-use syntax::{ExpressionNode, StatementNode};
+use syntax::ExpressionNode;
 
 /// How many nodes an expression has.
-fn expression_size(expression: &ExpressionNode) -> u32
+#[cycle(expression_size)]
+pub fn expression_size(expression: &ExpressionNode) -> u32
     requires { expression_size (expression_of expression.now) < 2 ^ 32 }
     ensures { result ≡ expression_size (expression_of expression.now) }
 {
     match expression {
-        ExpressionNode::Integer(_) => 1,
+        ExpressionNode::Integer(_) | ExpressionNode::Named(_) => 1,
         ExpressionNode::Parenthesized(inner) => expression_size(inner) + 1,
+        ExpressionNode::Selection(whole, _) => expression_size(whole) + 1,
+        ExpressionNode::Composite(_, values, _) => values_size(values.as_slice()) + 1,
         ExpressionNode::Unary(_, operand) => expression_size(operand) + 1,
         ExpressionNode::Binary(_, left, right) => {
             expression_size(left) + expression_size(right) + 1
@@ -21,28 +25,15 @@ fn expression_size(expression: &ExpressionNode) -> u32
     }
 }
 
-/// How many nodes a statement has.
-fn statement_size(statement: &StatementNode) -> u32
-    requires { statement_size (statement_of statement.now) < 2 ^ 32 }
-    ensures { result ≡ statement_size (statement_of statement.now) }
+/// How many nodes expressions have.
+#[cycle(expression_size)]
+fn values_size(values: &[ExpressionNode]) -> u32
+    requires { expressions_size (expressions (map expression_of values.now)) < 2 ^ 32 }
+    ensures { result ≡ expressions_size (expressions (map expression_of values.now)) }
 {
-    let mut size = 1;
-    if let StatementNode::Println(arguments, _) = statement {
-        for argument in arguments.as_slice() {
-            size += expression_size(argument);
-        }
-    }
-    size
-}
-
-/// How many nodes a block of these statements has.
-pub fn block_size(statements: &[StatementNode]) -> u32
-    requires { block_size (map statement_of statements.now) < 2 ^ 32 }
-    ensures { result ≡ block_size (map statement_of statements.now) }
-{
-    let mut size = 1;
-    for statement in statements {
-        size += statement_size(statement);
+    let mut size = 0;
+    for value in values {
+        size += expression_size(value);
     }
     size
 }

@@ -1,14 +1,17 @@
 //! Which flaw of several is named, and where.
 
 ghost use Rattle.std.specs.Prelude.{◌≡◌, IfOk};
-ghost use Rattle.syntax.specs.Tree.{expression_size};
-ghost use Rattle.syntax.specs.View.{expression_of};
+ghost use Rattle.syntax.specs.Measures.{expression_size, statement_size, size};
+ghost use Rattle.syntax.specs.View.{expression_of, statement_of, file_of as spec_file_of};
 
 use crate::check;
 use go_text::{Fault, LimitKind, Place, Rule, Span};
 use std::alloc::{AllocError, Global};
 use std::test::Fail;
-use syntax::{BinaryOperator, ExpressionNode, FileNode, FunctionNode, NodeId, StatementNode, Tree};
+use syntax::{
+    BinaryOperator, ExpressionNode, FileNode, FunctionNode, Name, NodeId, PartNode, SimpleNode,
+    StatementNode, TopNode, Tree,
+};
 
 const GREATEST_INT: u128 = 9_223_372_036_854_775_807;
 
@@ -23,6 +26,39 @@ fn sum(alloc: Global, left: Option<u128>, right: Option<u128>) -> Result<Express
     Ok(ExpressionNode::Binary(BinaryOperator::Add, left, right))
 }
 
+/// A `println` of one sum.
+fn println(alloc: Global, sum: ExpressionNode, trailing: bool) -> Result<StatementNode, AllocError>
+    requires { expression_size (expression_of sum) ≡ 3 }
+    ensures { IfOk result (λ s. statement_size (statement_of s) ≡ 4) }
+{
+    let parts = vec![in alloc; PartNode::Value(sum)]?;
+    Ok(StatementNode::Simple(SimpleNode::Print(true, parts, trailing)))
+}
+
+/// A file of one function without parameters and result.
+fn file_of(
+    alloc: Global,
+    name: &[u8],
+    first: StatementNode,
+    second: StatementNode,
+) -> Result<FileNode, AllocError>
+    requires first { statement_size (statement_of first) ≡ 4 }
+    requires second { statement_size (statement_of second) ≡ 4 }
+    ensures { IfOk result (λ f. size (spec_file_of f) ≡ 11) }
+{
+    let function = FunctionNode {
+        name: Name {
+            bytes: name.to_vec(alloc)?,
+        },
+        parameters: Vec::new(alloc),
+        trailing: false,
+        result: None,
+        body: vec![in alloc; first, second]?,
+    };
+    let tops = vec![in alloc; TopNode::Function(function)]?;
+    Ok(FileNode { tops })
+}
+
 /// A function of this name that prints two sums, one behind the other. Node N has the bytes from N to N + 1.
 fn program(
     alloc: Global,
@@ -33,13 +69,9 @@ fn program(
     requires first { expression_size (expression_of first) ≡ 3 }
     requires second { expression_size (expression_of second) ≡ 3 }
 {
-    let first = StatementNode::Println(vec![in alloc; first]?, false);
-    let second = StatementNode::Println(vec![in alloc; second]?, true);
-    let body = vec![in alloc; first, second]?;
-    let name = name.to_vec(alloc)?;
-    let file = FileNode {
-        function: FunctionNode { name, body },
-    };
+    let first = println(alloc, first, false)?;
+    let second = println(alloc, second, true)?;
+    let file = file_of(alloc, name, first, second)?;
     let mut spans = Vec::new(alloc);
     for node in 0..11 {
         spans.push(Span {

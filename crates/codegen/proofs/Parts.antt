@@ -1,15 +1,13 @@
 -- Generating part by part.
 use Rattle.std.proofs.Common.{◌≡◌, ℕ, ℤ, zero, suc, ◌+◌, ◌<◌, ◌≤◌, ◌^◌, List, [], ◌∷◌, ◌++◌, length, get_or, take, map, sum_by, All, Some, pos, sym, ap, ◌∙◌, subst, arith, append_assoc}
-use Rattle.std.specs.Prelude.{unwrap_or}
 use Rattle.std.proofs.lemmas.List.{length-map, map-append, take_more}
 use Rattle.std.proofs.lemmas.List.Sums.{sum_by-cons, get_or-le-sum_by}
-use Rattle.bytecode.specs.declared.code.Instr.{Instr}
-use Rattle.bytecode.specs.declared.code.Instr.TheVariants as instrs
-use Rattle.checker.specs.Constants.{constant}
-use Rattle.codegen.specs.Generated.{push_of}
-use Rattle.syntax.specs.declared.node.ExpressionNode.{ExpressionNode}
-use Rattle.syntax.specs.Tree.{Expression, Integer, Parenthesized, Unary, Binary, expression_size}
-use Rattle.syntax.specs.View.{expression_of}
+use Rattle.bytecode.specs.declared.instr.Instr.{Instr}
+use Rattle.codegen.specs.Generated.{part_push}
+use Rattle.syntax.specs.declared.node.PartNode.{PartNode}
+use Rattle.syntax.specs.Tree.{Expression, Integer, Named, Parenthesized, Selection, Composite, Unary, Binary, Part, Value, Text}
+use Rattle.syntax.specs.Measures.{expression_size, part_size}
+use Rattle.syntax.specs.View.{part_of}
 
 -- the element at a place, of a list in memory, as a part of the tree
 part_is : {A B : Type 0} (view : A → B) (xs : List A) (i : ℕ) (x : A) → x ≡ get_or xs i x → i < length xs → get_or (map view xs) i (view x) ≡ view x
@@ -26,28 +24,34 @@ pub part_fits : {A B : Type 0} (size : B → ℕ) (view : A → B) (xs : List A)
 part_fits size view xs i x n all at lt = omega (arith, all, get_or-le-sum_by size (map view xs) i (view x) (omega (arith, lt, length-map xs view)), ap size (part_is view xs i x at lt))
 
 -- one more argument is pushed
-pub pushed_more : (before so_far now : List Instr) (xs : List ExpressionNode) (i : ℕ) (x : ExpressionNode) (n : ℤ)
-    → so_far ≡ before ++ map push_of (map expression_of (take i xs)) → now ≡ so_far ++ instrs.Int n ∷ [] → constant (expression_of x) ≡ Some n → x ≡ get_or xs i x → i < length xs
-    → now ≡ before ++ map push_of (map expression_of (take (i + 1) xs))
-pushed_more before so_far now xs i x n is put value at lt =
-    let pushed = map push_of (map expression_of (take i xs)) in
-    let one : instrs.Int n ≡ push_of (expression_of x) = ap (λ o. instrs.Int (unwrap_or o (pos 0))) (sym value) in
-    let all : map push_of (map expression_of (take (i + 1) xs)) ≡ pushed ++ push_of (expression_of x) ∷ [] =
-    ap (λ ys. map push_of (map expression_of ys)) (take_more xs i x lt ∙ ap (λ (y : ExpressionNode). take i xs ++ y ∷ []) (sym at))
-    ∙ ap (map push_of) (map-append expression_of (take i xs) (x ∷ [])) ∙ map-append push_of (map expression_of (take i xs)) (expression_of x ∷ []) in
-    put ∙ ap (λ ys. ys ++ instrs.Int n ∷ []) is ∙ ap (λ (j : Instr). (before ++ pushed) ++ j ∷ []) one ∙ append_assoc before pushed (push_of (expression_of x) ∷ []) ∙ ap (λ ys. before ++ ys) (sym all)
+pub pushed_more : (before so_far now : List Instr) (xs : List PartNode) (i : ℕ) (x : PartNode) (one : Instr)
+    → so_far ≡ before ++ map part_push (map part_of (take i xs)) → now ≡ so_far ++ one ∷ [] → one ≡ part_push (part_of x) → x ≡ get_or xs i x → i < length xs
+    → now ≡ before ++ map part_push (map part_of (take (i + 1) xs))
+pushed_more before so_far now xs i x one is put push at lt =
+    let pushed = map part_push (map part_of (take i xs)) in
+    let all : map part_push (map part_of (take (i + 1) xs)) ≡ pushed ++ part_push (part_of x) ∷ [] =
+    ap (λ ys. map part_push (map part_of ys)) (take_more xs i x lt ∙ ap (λ (y : PartNode). take i xs ++ y ∷ []) (sym at))
+    ∙ ap (map part_push) (map-append part_of (take i xs) (x ∷ [])) ∙ map-append part_push (map part_of (take i xs)) (part_of x ∷ []) in
+    put ∙ ap (λ ys. ys ++ one ∷ []) is ∙ ap (λ (j : Instr). (before ++ pushed) ++ j ∷ []) push ∙ append_assoc before pushed (part_push (part_of x) ∷ []) ∙ ap (λ ys. before ++ ys) (sym all)
 
-size_positive : (e : Expression) → 1 ≤ expression_size e
-size_positive (Integer value) = omega arith
-size_positive (Parenthesized inner) = omega arith
-size_positive (Unary operator operand) = omega arith
-size_positive (Binary operator left right) = omega arith
+expression_positive : (e : Expression) → 1 ≤ expression_size e
+expression_positive (Integer value) = omega arith
+expression_positive (Named name) = omega arith
+expression_positive (Parenthesized inner) = omega arith
+expression_positive (Selection whole field) = omega arith
+expression_positive (Composite name vs trailing) = omega arith
+expression_positive (Unary operator operand) = omega arith
+expression_positive (Binary operator left right) = omega arith
+
+size_positive : (p : Part) → 1 ≤ part_size p
+size_positive (Value value) = expression_positive value
+size_positive (Text bytes) = omega arith
 
 -- so many arguments have as many nodes at least
-pub few : (arguments : List Expression) → length arguments ≤ sum_by expression_size arguments
+pub few : (arguments : List Part) → length arguments ≤ sum_by part_size arguments
 few [] = omega arith
-few (a ∷ rest) = omega (arith, sum_by-cons expression_size a rest, few rest, size_positive a)
+few (a ∷ rest) = omega (arith, sum_by-cons part_size a rest, few rest, size_positive a)
 
 -- so the number of a println's values fits
-pub few_values : (xs ys : List ExpressionNode) (n : ℕ) → xs ≡ ys → n + (sum_by expression_size (map expression_of ys) + 1) < 2 ^ 32 → length xs < 2 ^ 32
-few_values xs ys n same small = omega (arith, small, few (map expression_of ys), length-map ys expression_of, ap length same)
+pub few_values : (xs ys : List PartNode) (n : ℕ) → xs ≡ ys → n + (sum_by part_size (map part_of ys) + 1) < 2 ^ 32 → length xs < 2 ^ 32
+few_values xs ys n same small = omega (arith, small, few (map part_of ys), length-map ys part_of, ap length same)

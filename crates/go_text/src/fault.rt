@@ -17,7 +17,7 @@ pub struct Memory;
 #[error("12 NotYours")]
 pub struct NotYours;
 
-/// All refusals, in the order of their numbers, 1 to 16.
+/// All refusals, in the order of their numbers, 1 to 17.
 #[derive(Clone, Copy, Debug, PartialEq, Eq, Error)]
 pub enum Fault {
     /// The text is longer than 1,048,576 bytes.
@@ -26,10 +26,11 @@ pub enum Fault {
     /// The text is not UTF-8.
     #[error("2 NotUtf8")]
     NotUtf8,
-    /// No token begins with this character.
+    /// No token begins with this character, or a NUL or a byte-order mark stands in the string or comment that begins
+    /// here.
     #[error("3 BadCharacter")]
     BadCharacter(Place),
-    /// A number that is written wrongly, or is followed directly by a letter, a digit, `_` or `.`.
+    /// A number that is followed directly by a letter, a digit, `_` or `.`.
     #[error("4 BadNumber")]
     BadNumber(Place),
     /// A string that is not closed on its line, or has an unknown escape.
@@ -80,6 +81,9 @@ pub enum Fault {
     /// The clock limit is not 1 to 2^62.
     #[error("16 BadLimit")]
     BadLimit,
+    /// A form of the language that is not compiled yet.
+    #[error("17 NotYet")]
+    NotYet(Place),
 }
 
 impl From<AllocError> for Memory {

@@ -1,2 +1,5 @@
-pub mod Words
+pub mod Calls
+pub mod Fetching
 pub mod Asking
+pub mod Quiet
+pub mod Turns

@@ -1,49 +1,46 @@
 //! A goroutine's state, and its local steps.
 
-ghost use Rattle.std.specs.Prelude.{◌≡◌, ◌+◌, ◌<◌, ◌≤◌, ◌^◌, ◌↔◌, [], ◌∷◌, false, IsTrue, IfOk, IfSome, OnErr, OnOk, drop, length, option_map, slice_get};
+ghost use Rattle.std.specs.Prelude.{◌≡◌, ◌+◌, ◌<◌, ◌≤◌, ◌^◌, ◌↔◌, false, true, IsTrue, IfOk, OnErr, OnOk, length, option_map};
 ghost use Rattle.std.specs.Option.{is_some};
-ghost use Rattle.bytecode.specs.Machine.{code_begin, code_kind, fetch, printed};
+ghost use Rattle.bytecode.specs.Code.{Code};
+ghost use Rattle.bytecode.specs.Machine.{code_begin, code_kind, code_next, frames_told, reply_words};
 ghost use Rattle.bytecode.specs.Rules.{IsFrameOf, IsVerified};
-ghost use Rattle.goroutine_vm.specs.Advance.{Advances, Goes, IsAsking, IsStateOf, Turns};
-ghost use Rattle.word.specs.declared.value.Word.TheVariants.{Int};
+ghost use Rattle.goroutine_vm.specs.Advance.{Advances, Goes, IsStateOf, Turns};
+ghost use Rattle.goroutine_vm.specs.Steps.{Does};
 ghost use Rattle.word.specs.Kinds.{asks, at, told};
 ghost use Rattle.word.specs.Views.{reply_of, request_of};
 
-use bytecode::{Code, Instr};
+use crate::frames::Frames;
+use crate::outcome::Step;
+use crate::told::words_of;
 use go_text::Memory;
 use logical_clock::Clock;
 use std::alloc::{AllocError, Global};
 use std::marker::Model;
 use verifier::Verified;
+use word::panic::Panic;
 use word::request::{Reply, Request};
-use word::text::line;
 use word::value::Word;
 
-/// A goroutine: its clock, and the frame of the function that it runs.
+/// A goroutine: its clock, whether a close woke it at its send, and the functions that run.
 #[derive(Debug, Drop)]
 pub struct GoState {
     clock: Clock,
-    function: usize,
-    place: usize,
-    stack: Vec<Word>,
+    doomed: bool,
+    frames: Frames,
 }
 
 impl Model for GoState {
-    ghost use Rattle.std.specs.Prelude.{false, reverse};
-    ghost use Rattle.bytecode.specs.Machine.{Frame};
+    ghost use Rattle.bytecode.specs.Machine.{Frames as FramesValue};
     ghost use Rattle.word.specs.Kinds.{Clocked};
 
-    ghost Value = { Clocked Frame };
+    ghost Value = { Clocked FramesValue };
 
-    ghost view = { λ s. record {
-      clock = s.clock;
-      doomed = false;
-      state = record { function = s.function; place = s.place; stack = reverse s.stack.items };
-    } };
+    ghost view = { λ s. record { clock = s.clock; doomed = s.doomed; state = s.frames } };
 }
 
 /// Why the machine stopped.
-#[derive(Debug, Drop)]
+#[derive(Drop)]
 pub enum Stop {
     /// It stands at this request, which is not performed.
     AtOp(Request),
@@ -51,17 +48,23 @@ pub enum Stop {
     Quantum,
 }
 
-/// A goroutine at the first instruction of a function.
-pub fn spawn_state(alloc: Global, code: &Verified, function: usize, clock: Clock) -> GoState
+/// A goroutine at the first instruction of a function, whose parameters are these words.
+pub fn spawn_state(
+    alloc: Global,
+    code: &Verified,
+    function: usize,
+    args: &[Word],
+    clock: Clock,
+) -> Result<GoState, Memory>
     requires { function < length code.now.functions }
-    ensures { result ≡ at clock (code_begin function []) }
+    ensures { IfOk result (λ s. s ≡ at clock (code_begin code.now function args.now)) }
 {
-    GoState {
+    let frames = Frames::begin(alloc, code.code(), function, args)?;
+    Ok(GoState {
         clock,
-        function,
-        place: 0,
-        stack: Vec::new(alloc),
-    }
+        doomed: false,
+        frames,
+    })
 }
 
 impl GoState {
@@ -76,27 +79,22 @@ impl GoState {
     pub fn try_clone(&self, alloc: Global) -> Result<GoState, AllocError>
         ensures { IfOk result (λ s. s ≡ self.now) }
     {
-        let stack = Vec::from_slice(alloc, self.stack.as_slice())?;
+        let frames = self.frames.try_clone(alloc)?;
         Ok(GoState {
             clock: self.clock,
-            function: self.function,
-            place: self.place,
-            stack,
+            doomed: self.doomed,
+            frames,
         })
     }
 
     /// Whether the two are the same.
-    #[tactic(auto, using(crate::proofs::Words::reverse_same))]
     pub fn is_same(&self, other: &GoState) -> bool
         ensures { IsTrue result ↔ (self.now ≡ other.now) }
     {
-        if self.clock != other.clock
-            || self.function != other.function
-            || self.place != other.place
-        {
+        if self.clock != other.clock || self.doomed != other.doomed {
             return false;
         }
-        same_words(self.stack.as_slice(), other.stack.as_slice())
+        self.frames.is_same(&other.frames)
     }
 }
 
@@ -138,12 +136,29 @@ impl GoState {
         ensures memory { OnErr result (self.new ≡ self.old) }
         ensures state { IsStateOf code.now limit self.new }
     {
-        match self.instr(code) {
-            Instr::Int(number) => {
-                self.push(Word::Int(number))?;
+        if self.doomed {
+            return Ok(Some(self.last_request(limit)));
+        }
+        let may = self.clock.time() < limit;
+        match self.frames.step(alloc, code.code(), may)? {
+            Step::Slid => Ok(None),
+            Step::Ticked => {
+                if !may {
+                    return Ok(Some(Request::Exhausted));
+                }
+                self.clock = Clock::at(self.clock.time() + 1);
                 Ok(None)
             }
-            instr => Ok(Some(self.request(alloc, code, limit, instr)?)),
+            Step::Asking => {
+                if !may {
+                    return Ok(Some(Request::Exhausted));
+                }
+                match self.frames.request(alloc, code.code())? {
+                    Some(request) => Ok(Some(request)),
+                    None => unreachable!(),
+                }
+            }
+            Step::Stuck => unreachable!(),
         }
     }
 
@@ -158,10 +173,17 @@ impl GoState {
         ensures asks { IfOk result (λ request. asks (code_kind code.now) limit self.now ≡ option_map request_of request) }
         ensures verified { IsVerified code.now }
     {
-        match self.instr(code) {
-            Instr::Int(_) => Ok(None),
-            instr => Ok(Some(self.request(alloc, code, limit, instr)?)),
+        let code = code.code();
+        if self.doomed {
+            return Ok(Some(self.last_request(limit)));
         }
+        if self.clock.time() >= limit {
+            if self.frames.is_asking(code, true) {
+                return Ok(Some(Request::Exhausted));
+            }
+            return Ok(None);
+        }
+        Ok(self.frames.request(alloc, code)?)
     }
 
     /// Whether the goroutine stands at a request.
@@ -169,126 +191,60 @@ impl GoState {
         requires { IsStateOf code.now limit self.now }
         ensures { result ≡ is_some (asks (code_kind code.now) limit self.now) }
     {
-        match self.instr(code) {
-            Instr::Int(_) => false,
-            Instr::Print(_) => true,
-            Instr::Return => true,
+        if self.doomed {
+            return true;
         }
+        self.frames
+            .is_asking(code.code(), self.clock.time() >= limit)
     }
 
-    /// What an instruction that isn't a local step asks; at the limit it is `Exhausted`.
-    fn request(
-        &self,
-        alloc: Global,
-        code: &Verified,
-        limit: u64,
-        instr: Instr,
-    ) -> Result<Request, Memory>
-        requires state { IsStateOf code.now limit self.now }
-        requires instr { fetch code.now self.now.state.function self.now.state.place ≡ Some instr }
-        requires asking { IsAsking instr }
-        requires calm { self.now.doomed ≡ false }
-        requires verified { IsVerified code.now }
-        ensures { IfOk result (λ request. asks (code_kind code.now) limit self.now ≡ Some (request_of request)) }
+    /// What one that a close woke at its send asks: it panics, or at the limit is `Exhausted`.
+    fn last_request(&self, limit: u64) -> Request
+        requires doomed { self.now.doomed ≡ true }
+        requires clock { self.now.clock ≤ limit }
+        ensures { (code : Code) → asks (code_kind code) limit self.now ≡ Some (request_of result) }
     {
         if self.clock().time() >= limit {
-            return Ok(Request::Exhausted);
+            return Request::Exhausted;
         }
-        match instr {
-            Instr::Print(table) => Ok(Request::Print(self.printed(alloc, values_of(code, table))?)),
-            Instr::Return => Ok(Request::End),
-            Instr::Int(_) => unreachable!(),
-        }
+        Request::Panic(Panic::SendOnClosed)
     }
 
-    /// The next instruction.
-    fn instr(&self, code: &Verified) -> Instr
-        requires { IsFrameOf code.now self.now.state }
-        ensures instr { fetch code.now self.now.state.function self.now.state.place ≡ Some result }
-        ensures within { self.now.state.place + 1 < 2 ^ 64 }
-        ensures verified { IsVerified code.now }
-        ensures calm { self.now.doomed ≡ false }
-    {
-        match code.code().fetch(self.function, self.place) {
-            Some(instr) => instr,
-            None => unreachable!(),
-        }
-    }
-
-    /// The line of so many values on the top of the stack.
-    fn printed(&self, alloc: Global, values: usize) -> Result<Vec<u8>, Memory>
-        requires { values ≤ length self.now.state.stack }
-        ensures { IfOk result (λ text. text.items ≡ printed values self.now.state.stack) }
-    {
-        let words = self.stack.as_slice();
-        Ok(line(alloc, &words[words.len() - values..])?)
-    }
-
-    /// Pushes a word, and goes on to the next instruction.
-    fn push(&mut self, word: Word) -> Result<(), Memory>
-        requires { self.old.state.place + 1 < 2 ^ 64 }
-        ensures ok { OnOk result (self.new ≡ at self.old.clock (record self.old.state { place = self.old.state.place + 1; stack = word ∷ self.old.state.stack })) }
-        ensures err { OnErr result (self.new ≡ self.old) }
-    {
-        self.stack.push(word)?;
-        self.place += 1;
-        Ok(())
-    }
-
-    /// Drops so many values, and goes on to the next instruction at this clock.
-    fn pop(&mut self, values: usize, clock: Clock)
-        requires place { self.old.state.place + 1 < 2 ^ 64 }
-        requires values { values ≤ length self.old.state.stack }
-        ensures { self.new ≡ at clock (record self.old.state { place = self.old.state.place + 1; stack = drop values self.old.state.stack }) }
-    {
-        let left = self.stack.as_slice().len() - values;
-        self.stack.truncate(left);
-        self.place += 1;
-        self.clock = clock;
-    }
-
-    /// Sets the clock.
-    fn set_clock(&mut self, clock: Clock)
-        ensures { self.new ≡ at clock self.old.state }
-    {
-        self.clock = clock;
-    }
-
-    /// Tells the goroutine that its request is done, at this clock.
+    /// Tells the goroutine what came of its request, at this clock. One that a close woke at its send panics next.
     pub fn answer(&mut self, code: &Verified, reply: Reply, clock: Clock)
         requires { IsFrameOf code.now self.old.state }
         ensures told { self.new ≡ told (code_kind code.now) self.old clock (reply_of reply) }
         ensures frame { IsFrameOf code.now self.new.state }
     {
-        let Reply::Nothing = reply;
-        match self.instr(code) {
-            Instr::Print(table) => self.pop(values_of(code, table), clock),
-            Instr::Int(_) => self.set_clock(clock),
-            Instr::Return => self.set_clock(clock),
+        match reply {
+            Reply::Closed => self.doom(clock),
+            Reply::Nothing => self.go_on(code, &[], clock),
+            Reply::Word(word) => self.go_on(code, &[word], clock),
+            Reply::Received(item, ok) => {
+                let words = words_of(&item, ok);
+                self.go_on(code, words.words(), clock);
+            }
+            Reply::Clause(_, _) => self.go_on(code, &[], clock),
+            Reply::Default => self.go_on(code, &[], clock),
         }
     }
-}
 
-/// How many values a print table takes.
-fn values_of(code: &Verified, table: u32) -> usize
-    ensures { IfSome (slice_get code.now.prints table) (λ t. t.values ≡ result) }
-{
-    match code.code().prints().get(table as usize) {
-        Some(table) => table.values as usize,
-        None => 0,
+    /// A close woke the goroutine at its send, at this clock.
+    fn doom(&mut self, clock: Clock)
+        ensures { self.new ≡ record { clock = clock; doomed = true; state = self.old.state } }
+    {
+        self.clock = clock;
+        self.doomed = true;
     }
-}
 
-fn same_words(left: &[Word], right: &[Word]) -> bool
-    ensures { IsTrue result ↔ (left.now ≡ right.now) }
-{
-    if left.len() != right.len() {
-        return false;
+    /// The request is done with these words, and the goroutine goes on behind it at this clock.
+    fn go_on(&mut self, code: &Verified, words: &[Word], clock: Clock)
+        requires { IsFrameOf code.now self.old.state }
+        ensures told { self.new ≡ at clock (frames_told code.now self.old.state words.now) }
+        ensures frame { IsFrameOf code.now self.new.state }
+    {
+        self.frames.tell(code.code(), words);
+        self.clock = clock;
+        self.doomed = false;
     }
-    for i in 0..left.len() {
-        if left[i] != right[i] {
-            return false;
-        }
-    }
-    true
 }

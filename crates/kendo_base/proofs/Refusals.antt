@@ -6,13 +6,15 @@ use Rattle.checker.specs.Program.{Tells}
 use Rattle.checker.specs.Rules.{IsTyped}
 use Rattle.go_text.specs.declared.fault.Fault.{Fault}
 use Rattle.go_text.specs.declared.fault.Fault.TheVariants as faults
-use Rattle.parser.specs.Lexemes.{lexemes}
+use Rattle.parser_base.specs.Lexemes.{lexemes}
 use Rattle.parser.specs.Spelling.{Spells}
 use Rattle.scanner.specs.declared.token.Token.{Token}
 use Rattle.scanner.specs.Tokens.{tokens_of}
 use Rattle.syntax.specs.declared.tree.Tree.{Tree}
 use Rattle.syntax.specs.Spans.{tree_of}
-use Rattle.syntax.specs.Tree.{File, height, most_entries}
+use Rattle.syntax.specs.Tree.{File}
+use Rattle.syntax.specs.Measures.{height, most_entries, most_clauses}
+use Rattle.checker.specs.Built.{IsBuilt}
 use Rattle.kendo_base.specs.Reading.{Reads, HasNoReading, HasNoTokens, HasNoTree, IsUnspelt, IsTreeOf, Flaw, IsUnread, IsWrong, IsWhy, located_in}
 
 same_tokens : {E : Type 0} (r : Result (List Token) E) (ts us : List Token) → r ≡ Ok ts → r ≡ Ok us → ts ≡ us
@@ -26,13 +28,15 @@ spelt_by : (text : List ℕ) (ts : List Token) (file : File) → tokens_of text 
 spelt_by text ts file scanned r = subst (λ us. Spells (lexemes text us) file) (same_tokens (tokens_of text) r.tokens ts r.scanned scanned) r.spelt
 
 pub treeless : (text : List ℕ) (ts : List Token) → tokens_of text ≡ Ok ts → HasNoTree (lexemes text ts) → HasNoReading text
-treeless text ts scanned none file r = none file (spelt_by text ts file scanned r) r.low r.few
+treeless text ts scanned none file r = none file (spelt_by text ts file scanned r) r.low r.few r.clauses
 
-pub untyped : (text : List ℕ) (ts : List Token) (file : File) → tokens_of text ≡ Ok ts → Spells (lexemes text ts) file → (IsTyped file → ⊥) → HasNoReading text
-untyped text ts file scanned spelt wrong other r = wrong (subst IsTyped (one_file (lexemes text ts) other file (spelt_by text ts other scanned r) spelt) r.typed)
+pub untyped : (text : List ℕ) (ts : List Token) (file : File) → tokens_of text ≡ Ok ts → Spells (lexemes text ts) file → (IsBuilt file → IsTyped file → ⊥) → HasNoReading text
+untyped text ts file scanned spelt wrong other r =
+    let same = one_file (lexemes text ts) other file (spelt_by text ts other scanned r) spelt in
+    wrong (subst IsBuilt same r.built) (subst IsTyped same r.typed)
 
-pub reads : (text : List ℕ) (ts : List Token) (file : File) → IsUtf8 text → length text ≤ 1048576 → tokens_of text ≡ Ok ts → Spells (lexemes text ts) file → height file ≤ 200 → most_entries file ≤ 64 → IsTyped file → Reads text file
-reads text ts file utf8 short scanned spelt low few typed = record { utf8 = utf8; short = short; tokens = ts; scanned = scanned; spelt = spelt; low = low; few = few; typed = typed }
+pub reads : (text : List ℕ) (ts : List Token) (file : File) → IsUtf8 text → length text ≤ 1048576 → tokens_of text ≡ Ok ts → Spells (lexemes text ts) file → height file ≤ 200 → most_entries file ≤ 64 → most_clauses file ≤ 64 → IsBuilt file → IsTyped file → Reads text file
+reads text ts file utf8 short scanned spelt low few clauses built typed = record { utf8 = utf8; short = short; tokens = ts; scanned = scanned; spelt = spelt; low = low; few = few; clauses = clauses; built = built; typed = typed }
 
 abbrev pub Unread : List ℕ → List Token → Fault → Type 0
 Unread text ts told = (told ≡ faults.Memory) ⊎ ((fault : Fault) × IsUnspelt (lexemes text ts) fault × (told ≡ located_in text fault))
@@ -50,5 +54,5 @@ unread bytes text ts us {told} same list utf8 scanned (inr w) = explains bytes t
 abbrev pub Wrong : List ℕ → Tree → Fault → Type 0
 Wrong text tree told = (fault : Fault) × Tells tree fault × (told ≡ located_in text fault)
 
-pub wrong : (bytes text : List ℕ) (ts : List Token) (tree : Tree) {told : Fault} → text ≡ bytes → IsUtf8 text → tokens_of text ≡ Ok ts → Spells (lexemes text ts) (tree_of tree) → height (tree_of tree) ≤ 200 → most_entries (tree_of tree) ≤ 64 → Wrong text tree told → Explained bytes told
-wrong bytes text ts tree same utf8 scanned spelt low few w = explains bytes text same (inr (w.0, IsWrong utf8 tree (record { tokens = ts; scanned = scanned; spelt = spelt; low = low; few = few }) w.1, w.2))
+pub wrong : (bytes text : List ℕ) (ts : List Token) (tree : Tree) {told : Fault} → text ≡ bytes → IsUtf8 text → tokens_of text ≡ Ok ts → Spells (lexemes text ts) (tree_of tree) → height (tree_of tree) ≤ 200 → most_entries (tree_of tree) ≤ 64 → most_clauses (tree_of tree) ≤ 64 → Wrong text tree told → Explained bytes told
+wrong bytes text ts tree same utf8 scanned spelt low few clauses w = explains bytes text same (inr (w.0, IsWrong utf8 tree (record { tokens = ts; scanned = scanned; spelt = spelt; low = low; few = few; clauses = clauses }) w.1, w.2))

@@ -1,4 +1,4 @@
-use Rattle.std.specs.Prelude.{ℕ, ◌==◌, if◌then◌else◌, List, [], ◌++◌, Option, Some, None, Result, Ok, Err, codes, decimal}
+use Rattle.std.specs.Prelude.{ℕ, List, [], ◌++◌, Option, Some, None, Result, Ok, Err, codes, decimal}
 use Rattle.go_text.specs.declared.place.Position.{Position}
 use Rattle.go_text.specs.declared.rule.Rule.{Rule}
 use Rattle.go_text.specs.declared.rule.Rule.TheVariants.{Main, Declared, Visible, Struct, Operands, Constant, Assignable, Numbers, NewName, Assigned, Direction, Channel, Nil, Condition, Returned, Terminating, Branch, Called, Made, OneDefault}
@@ -6,6 +6,8 @@ use Rattle.go_text.specs.declared.rule.LimitKind.{LimitKind}
 use Rattle.go_text.specs.declared.rule.LimitKind.TheVariants.{ConstantSize, StructWidth, SelectClauses, ListEntries, FunctionWords, Declarations}
 use Rattle.go_text.specs.declared.fault.Fault.{Fault}
 use Rattle.go_text.specs.declared.fault.Fault.TheVariants as fault
+use Rattle.word.specs.declared.panic.Panic.{Panic}
+use Rattle.word.specs.declared.panic.Panic.TheVariants as panics
 use Rattle.word.specs.declared.end.End.{End}
 use Rattle.word.specs.declared.end.End.TheVariants.{Finished, Panicked, Deadlock, Exhausted}
 
@@ -68,25 +70,37 @@ fault_text fault.Memory = codes "13 Memory"
 fault_text fault.Write = codes "14 Write"
 fault_text fault.BadWorkers = codes "15 BadWorkers"
 fault_text fault.BadLimit = codes "16 BadLimit"
+fault_text (fault.NotYet place) = codes "17 NotYet" ++ position_text place.position
 
--- what the panic of this number says
-abbrev pub panic_text : ℕ → List ℕ
-panic_text number =
-    if number == 1 then codes "divide by zero" else
-    if number == 2 then codes "send on closed channel" else
-    if number == 3 then codes "close of closed channel" else
-    if number == 4 then codes "close of nil channel" else
-    if number == 5 then codes "negative shift" else
-    if number == 6 then codes "channel size" else
-    if number == 7 then codes "call depth" else
-    if number == 8 then codes "too many goroutines" else
-    if number == 9 then codes "too many channels" else codes "unknown"
+-- the number of a panic
+abbrev pub panic_number : Panic → ℕ
+panic_number panics.DivideByZero = 1
+panic_number panics.SendOnClosed = 2
+panic_number panics.CloseOfClosed = 3
+panic_number panics.CloseOfNil = 4
+panic_number panics.NegativeShift = 5
+panic_number panics.ChannelSize = 6
+panic_number panics.CallDepth = 7
+panic_number panics.TooManyGoroutines = 8
+panic_number panics.TooManyChannels = 9
+
+-- what a panic says
+abbrev pub panic_text : Panic → List ℕ
+panic_text panics.DivideByZero = codes "divide by zero"
+panic_text panics.SendOnClosed = codes "send on closed channel"
+panic_text panics.CloseOfClosed = codes "close of closed channel"
+panic_text panics.CloseOfNil = codes "close of nil channel"
+panic_text panics.NegativeShift = codes "negative shift"
+panic_text panics.ChannelSize = codes "channel size"
+panic_text panics.CallDepth = codes "call depth"
+panic_text panics.TooManyGoroutines = codes "too many goroutines"
+panic_text panics.TooManyChannels = codes "too many channels"
 
 -- the line on standard error, with its newline: none after a run that finished
 abbrev pub report_line : Result End Fault → List ℕ
 report_line (Ok Finished) = []
-report_line (Ok (Panicked number)) =
-    codes "kendo: panic P" ++ (decimal number ++ (codes " " ++ (panic_text number ++ codes "\n")))
+report_line (Ok (Panicked cause)) =
+    codes "kendo: panic P" ++ (decimal (panic_number cause) ++ (codes " " ++ (panic_text cause ++ codes "\n")))
 report_line (Ok Deadlock) = codes "kendo: deadlock\n"
 report_line (Ok Exhausted) = codes "kendo: logical time exhausted\n"
 report_line (Err fault) = codes "kendo: " ++ fault_text fault ++ codes "\n"

@@ -1,5 +1,5 @@
 -- The program that a text is.
-use Rattle.std.specs.Prelude.{◌≡◌, ℕ, ◌<◌, ◌≤◌, ◌⊎◌, List, Some, Ok, Err, length, take, IsUtf8}
+use Rattle.std.specs.Prelude.{◌≡◌, ℕ, ◌<◌, ◌≤◌, ◌⊎◌, ◌||◌, ◌==◌, nat_le, IsTrue, List, Some, Ok, Err, length, take, IsUtf8}
 use Rattle.checker.specs.Program.{Tells}
 use Rattle.checker.specs.Rules.{IsTyped}
 use Rattle.go_text.specs.declared.fault.Fault.{Fault}
@@ -7,15 +7,18 @@ use Rattle.go_text.specs.declared.fault.Fault.TheVariants as faults
 use Rattle.go_text.specs.declared.place.Place.{Place}
 use Rattle.go_text.specs.declared.rule.LimitKind.TheVariants as limits
 use Rattle.go_text.specs.Lines.{position_after}
-use Rattle.parser.specs.Lexemes.{Lexeme, lexemes}
+use Rattle.parser_base.specs.Lexemes.{Lexeme, lexemes}
 use Rattle.parser.specs.Spelling.{Spells}
 use Rattle.scanner.specs.declared.token.Token.{Token}
 use Rattle.scanner.specs.Tokens.{tokens_of}
 use Rattle.syntax.specs.declared.tree.Tree.{Tree}
 use Rattle.syntax.specs.Spans.{tree_of}
-use Rattle.syntax.specs.Tree.{File, height, most_entries}
+use Rattle.syntax.specs.Tree.{File}
+use Rattle.syntax.specs.Measures.{height, most_entries, most_clauses}
+use Rattle.checker.specs.Built.{IsBuilt}
 
--- the file spells the tokens of the text, within all limits, and no typing rule is broken
+-- the file spells the tokens of the text, within all limits, all forms in it are compiled today, and no typing rule
+-- is broken
 pub record Reads (text : List ℕ) (file : File) : Type 0 where
   pub utf8 : IsUtf8 text
   pub short : length text ≤ 1048576
@@ -24,6 +27,8 @@ pub record Reads (text : List ℕ) (file : File) : Type 0 where
   pub spelt : Spells (lexemes text tokens) file
   pub low : height file ≤ 200
   pub few : most_entries file ≤ 64
+  pub clauses : most_clauses file ≤ 64
+  pub built : IsBuilt file
   pub typed : IsTyped file
 
 -- the text has no reading
@@ -48,10 +53,11 @@ number_of faults.Memory = 13
 number_of faults.Write = 14
 number_of faults.BadWorkers = 15
 number_of faults.BadLimit = 16
+number_of (faults.NotYet place) = 17
 
--- a text is refused by the numbers 1 to 10
+-- a text is refused by the numbers 1 to 10, and 17
 abbrev pub IsRefusal : Fault → Type 0
-IsRefusal fault = number_of fault ≤ 10
+IsRefusal fault = IsTrue (nat_le (number_of fault) 10 || number_of fault == 17)
 
 -- a refusal of the text, or want of memory
 abbrev pub IsOfText : Fault → Type 0
@@ -63,7 +69,7 @@ HasNoTokens text = (tokens : List Token) → tokens_of text ≡ Ok tokens → �
 
 -- no file within the limits spells them
 abbrev pub HasNoTree : List Lexeme → Type 0
-HasNoTree words = (file : File) → Spells words file → height file ≤ 200 → most_entries file ≤ 64 → ⊥
+HasNoTree words = (file : File) → Spells words file → height file ≤ 200 → most_entries file ≤ 64 → most_clauses file ≤ 64 → ⊥
 
 -- ---- why a text has no reading
 
@@ -81,6 +87,7 @@ located_in text (faults.Syntax place) = faults.Syntax (placed text place)
 located_in text (faults.TooDeep place) = faults.TooDeep (placed text place)
 located_in text (faults.Typing rule node place) = faults.Typing rule node (placed text place)
 located_in text (faults.Limit kind node place) = faults.Limit kind node (placed text place)
+located_in text (faults.NotYet place) = faults.NotYet (placed text place)
 located_in text fault = fault
 
 -- no file spells them: none at all, or none that is so low, or none whose lists are so short
@@ -88,6 +95,7 @@ abbrev pub IsUnspelt : List Lexeme → Fault → Type 0
 IsUnspelt words (faults.Syntax place) = (file : File) → Spells words file → ⊥
 IsUnspelt words (faults.TooDeep place) = (file : File) → Spells words file → height file ≤ 200 → ⊥
 IsUnspelt words (faults.Limit limits.ListEntries at place) = (file : File) → Spells words file → most_entries file ≤ 64 → ⊥
+IsUnspelt words (faults.Limit limits.SelectClauses at place) = (file : File) → Spells words file → most_clauses file ≤ 64 → ⊥
 IsUnspelt words fault = ⊥
 
 -- the tree is what the text spells, within the limits
@@ -97,6 +105,7 @@ pub record IsTreeOf (text : List ℕ) (tree : Tree) : Type 0 where
   pub spelt : Spells (lexemes text tokens) (tree_of tree)
   pub low : height (tree_of tree) ≤ 200
   pub few : most_entries (tree_of tree) ≤ 64
+  pub clauses : most_clauses (tree_of tree) ≤ 64
 
 -- why the text has no reading, by the first of these that is so
 pub data Flaw (text : List ℕ) (fault : Fault) : Type 0 where

@@ -1,12 +1,13 @@
 //! The line on standard error and the exit status, for each way in which a run can end.
 ghost use Rattle.std.specs.Prelude.{◌≡◌, ◌++◌, IfOk, Some, string_bytes};
 ghost use Rattle.std.specs.Fmt.{DisplaysOnOk};
-ghost use Rattle.kendo_base.specs.Outcome.{fault_text, panic_text, position_text, report_line, report_status};
+ghost use Rattle.kendo_base.specs.Outcome.{fault_text, panic_number, panic_text, position_text, report_line, report_status};
 
 use go_text::{Fault, Memory, Place, Position};
 use std::alloc::{AllocError, Global};
 use std::fmt;
 use word::end::End;
+use word::panic::Panic;
 
 /// The line on standard error, with its newline (empty after a run that finished), and the exit status.
 /// Of a refusal that has a place, the line tells line and column where the place has them.
@@ -24,8 +25,9 @@ fn line_of(alloc: Global, outcome: Result<End, Fault>) -> Result<String, AllocEr
 {
     match outcome {
         Ok(End::Finished) => Ok(String::new(alloc)),
-        Ok(End::Panicked(number)) => {
-            let text = text_of_panic(number);
+        Ok(End::Panicked(cause)) => {
+            let number = number_of_panic(cause);
+            let text = text_of_panic(cause);
             format!(in alloc; "kendo: panic P{number} {text}\n")
         }
         Ok(End::Deadlock) => format!(in alloc; "kendo: deadlock\n"),
@@ -54,21 +56,37 @@ fn status_of(outcome: Result<End, Fault>) -> u8
     }
 }
 
-/// What the panic of this number says.
-fn text_of_panic(number: u8) -> &'static str
-    ensures { result.now ≡ panic_text number }
+/// The number of a panic.
+fn number_of_panic(cause: Panic) -> u8
+    ensures { result ≡ panic_number cause }
 {
-    match number {
-        1 => "divide by zero",
-        2 => "send on closed channel",
-        3 => "close of closed channel",
-        4 => "close of nil channel",
-        5 => "negative shift",
-        6 => "channel size",
-        7 => "call depth",
-        8 => "too many goroutines",
-        9 => "too many channels",
-        _ => "unknown",
+    match cause {
+        Panic::DivideByZero => 1,
+        Panic::SendOnClosed => 2,
+        Panic::CloseOfClosed => 3,
+        Panic::CloseOfNil => 4,
+        Panic::NegativeShift => 5,
+        Panic::ChannelSize => 6,
+        Panic::CallDepth => 7,
+        Panic::TooManyGoroutines => 8,
+        Panic::TooManyChannels => 9,
+    }
+}
+
+/// What a panic says.
+fn text_of_panic(cause: Panic) -> &'static str
+    ensures { result.now ≡ panic_text cause }
+{
+    match cause {
+        Panic::DivideByZero => "divide by zero",
+        Panic::SendOnClosed => "send on closed channel",
+        Panic::CloseOfClosed => "close of closed channel",
+        Panic::CloseOfNil => "close of nil channel",
+        Panic::NegativeShift => "negative shift",
+        Panic::ChannelSize => "channel size",
+        Panic::CallDepth => "call depth",
+        Panic::TooManyGoroutines => "too many goroutines",
+        Panic::TooManyChannels => "too many channels",
     }
 }
 
@@ -127,6 +145,7 @@ impl fmt::Display for FaultText {
             Fault::Write => write!(f, "14 Write"),
             Fault::BadWorkers => write!(f, "15 BadWorkers"),
             Fault::BadLimit => write!(f, "16 BadLimit"),
+            Fault::NotYet(place) => placed(f, "17 NotYet", place),
         }
     }
 }
@@ -160,32 +179,48 @@ mod tests {
         let (rule, kind) = (Rule::Constant, LimitKind::ListEntries);
         for (outcome, line, status) in [
             (Ok(End::Finished), "", 0),
-            (Ok(End::Panicked(1)), "kendo: panic P1 divide by zero\n", 2),
             (
-                Ok(End::Panicked(2)),
+                Ok(End::Panicked(Panic::DivideByZero)),
+                "kendo: panic P1 divide by zero\n",
+                2,
+            ),
+            (
+                Ok(End::Panicked(Panic::SendOnClosed)),
                 "kendo: panic P2 send on closed channel\n",
                 2,
             ),
             (
-                Ok(End::Panicked(3)),
+                Ok(End::Panicked(Panic::CloseOfClosed)),
                 "kendo: panic P3 close of closed channel\n",
                 2,
             ),
             (
-                Ok(End::Panicked(4)),
+                Ok(End::Panicked(Panic::CloseOfNil)),
                 "kendo: panic P4 close of nil channel\n",
                 2,
             ),
-            (Ok(End::Panicked(5)), "kendo: panic P5 negative shift\n", 2),
-            (Ok(End::Panicked(6)), "kendo: panic P6 channel size\n", 2),
-            (Ok(End::Panicked(7)), "kendo: panic P7 call depth\n", 2),
             (
-                Ok(End::Panicked(8)),
+                Ok(End::Panicked(Panic::NegativeShift)),
+                "kendo: panic P5 negative shift\n",
+                2,
+            ),
+            (
+                Ok(End::Panicked(Panic::ChannelSize)),
+                "kendo: panic P6 channel size\n",
+                2,
+            ),
+            (
+                Ok(End::Panicked(Panic::CallDepth)),
+                "kendo: panic P7 call depth\n",
+                2,
+            ),
+            (
+                Ok(End::Panicked(Panic::TooManyGoroutines)),
                 "kendo: panic P8 too many goroutines\n",
                 2,
             ),
             (
-                Ok(End::Panicked(9)),
+                Ok(End::Panicked(Panic::TooManyChannels)),
                 "kendo: panic P9 too many channels\n",
                 2,
             ),

@@ -6,11 +6,12 @@ ghost use Rattle.checker.specs.Rules.{IsTyped};
 ghost use Rattle.checker.specs.Typed.{tree_in};
 ghost use Rattle.go_text.specs.Source.{bytes_of};
 ghost use Rattle.go_text.specs.declared.fault.Fault.{Fault as OneFault};
-ghost use Rattle.parser.specs.Lexemes.{lexemes};
+ghost use Rattle.parser_base.specs.Lexemes.{lexemes};
 ghost use Rattle.parser.specs.Spelling.{Spells};
 ghost use Rattle.scanner.specs.Tokens.{tokens_of as spec_tokens_of};
 ghost use Rattle.syntax.specs.Spans.{tree_of};
-ghost use Rattle.syntax.specs.Tree.{height, most_entries};
+ghost use Rattle.syntax.specs.Measures.{height, most_entries, most_clauses};
+ghost use Rattle.checker.specs.Built.{IsBuilt};
 ghost use Rattle.kendo_base.specs.Reading.{HasNoReading, HasNoTokens, HasNoTree, IsOfText, IsRefusal, IsUnspelt, IsWhy, Reads, located_in};
 
 use checker::{Typed, check};
@@ -60,6 +61,7 @@ fn tree(alloc: Global, source: &Source, tokens: &[Token]) -> Result<Tree, Fault>
     ensures spelt { IfOk result (λ tree. Spells (lexemes (bytes_of source.now) tokens.now) (tree_of tree)) }
     ensures low { IfOk result (λ tree. height (tree_of tree) ≤ 200) }
     ensures few { IfOk result (λ tree. most_entries (tree_of tree) ≤ 64) }
+    ensures clauses { IfOk result (λ tree. most_clauses (tree_of tree) ≤ 64) }
     ensures refused { IfErr result (λ fault. IsRefusal fault → HasNoTree (lexemes (bytes_of source.now) tokens.now)) }
     ensures why { IfErr result (λ told. (told ≡ Fault.Memory) ⊎ ((fault : OneFault) × IsUnspelt (lexemes (bytes_of source.now) tokens.now) fault × (told ≡ located_in (bytes_of source.now) fault))) }
     ensures only { IfErr result IsOfText }
@@ -73,8 +75,9 @@ fn tree(alloc: Global, source: &Source, tokens: &[Token]) -> Result<Tree, Fault>
 /// The tree, if it is a program.
 fn checked(source: &Source, tree: Tree) -> Result<Typed, Fault>
     ensures tree { IfOk result (λ typed. tree_in typed ≡ tree) }
+    ensures built { IfOk result (λ _. IsBuilt (tree_of tree)) }
     ensures typed { IfOk result (λ _. IsTyped (tree_of tree)) }
-    ensures refused { IfErr result (λ _. IsTyped (tree_of tree) → ⊥) }
+    ensures refused { IfErr result (λ _. IsBuilt (tree_of tree) → IsTyped (tree_of tree) → ⊥) }
     ensures why { IfErr result (λ told. (fault : OneFault) × Tells tree fault × (told ≡ located_in (bytes_of source.now) fault)) }
     ensures only { IfErr result IsRefusal }
 {
@@ -109,6 +112,7 @@ fn located(source: &Source, fault: Fault) -> Fault
             node,
             place: at(place),
         },
+        Fault::NotYet(place) => Fault::NotYet(at(place)),
         other => other,
     }
 }

@@ -5,7 +5,8 @@ ghost use Rattle.bytecode.specs.Machine.{code_kind};
 ghost use Rattle.checker.specs.Source.{source_kind};
 ghost use Rattle.checker.specs.Typed.{tree_in};
 ghost use Rattle.syntax.specs.Spans.{tree_of};
-ghost use Rattle.syntax.specs.Tree.{most_entries};
+ghost use Rattle.syntax.specs.Measures.{most_entries};
+ghost use Rattle.word.specs.Kinds.{AsksNoOther};
 ghost use Rattle.kendo_base.specs.Runs.{BeginsOutput, HasEnded, IsInStep, IsLimit, IsSameRun, IsWhole, Written};
 
 use book::{Book, Settled};
@@ -38,9 +39,7 @@ pub fn run_typed<R: Wait, O: Write>(
     ensures only { IfErr result (λ fault. (fault ≡ Fault.Memory) ⊎ (fault ≡ Fault.Write)) }
 {
     let code = compile(alloc, typed)?;
-    let Ok(program) = verify(code) else {
-        unreachable!()
-    };
+    let program = verify(alloc, code)?;
     let end = run_verified(rt, alloc, program, limit, out)?;
     Ok(end)
 }
@@ -53,7 +52,8 @@ fn run_verified<R: Wait, O: Write>(
     limit: u64,
     out: &mut O,
 ) -> Result<End, Fault>
-    requires { IsLimit limit }
+    requires limit { IsLimit limit }
+    requires alone { AsksNoOther (code_kind program) }
     ensures begins { BeginsOutput (code_kind program) limit (O.contents out.old) (O.contents out.new) }
     ensures whole { IfOk result (λ end. IsWhole (code_kind program) limit (O.contents out.old) (O.contents out.new) end) }
     ensures write { IsErrOf result Fault.Write → O.has_failed out.new ≡ true }

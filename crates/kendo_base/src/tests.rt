@@ -109,9 +109,24 @@ fn sums(rt: HostRuntime) -> Result<(), Fail> {
             1,
         ),
         ("println(07)", "", "kendo: 4 BadNumber at 1:37\n", 1),
-        ("println(0x1)", "", "kendo: 4 BadNumber at 1:37\n", 1),
-        ("println(\"a\")", "", "kendo: 3 BadCharacter at 1:37\n", 1),
-        ("println(1 / 2)", "", "kendo: 7 Syntax at 1:39\n", 1),
+        ("println(0x1f, 0XF)", "31 15\n", "", 0),
+        ("println(0x)", "", "kendo: 4 BadNumber at 1:37\n", 1),
+        ("println(\"a\")", "", "kendo: 7 Syntax at 1:37\n", 1),
+        ("println(\"a)", "", "kendo: 5 OpenString at 1:37\n", 1),
+        ("println(/* 1)", "", "kendo: 6 OpenComment at 1:37\n", 1),
+        ("println(/* 1, */ 2) // 3\n", "2\n", "", 0),
+        ("println(1 / 2)", "", "kendo: 17 NotYet at 1:37\n", 1),
+        ("println(x)", "", "kendo: 17 NotYet at 1:37\n", 1),
+        ("println(+1)", "", "kendo: 17 NotYet at 1:37\n", 1),
+        ("println((1 < 2))", "", "kendo: 17 NotYet at 1:38\n", 1),
+        ("println(1, 2 * 3)", "", "kendo: 17 NotYet at 1:40\n", 1),
+        ("println(1 + x.y)", "", "kendo: 17 NotYet at 1:41\n", 1),
+        (
+            "println(1 << 101, T{x})",
+            "",
+            "kendo: 17 NotYet at 1:37\n",
+            1,
+        ),
         ("println()", "", "kendo: 7 Syntax at 1:37\n", 1),
         ("println(1", "", "kendo: 7 Syntax at 1:39\n", 1),
     ] {
@@ -135,7 +150,8 @@ fn files(rt: HostRuntime) -> Result<(), Fail> {
         (b"".as_slice(), "kendo: 7 Syntax at 1:1\n", 1),
         (b"\n".as_slice(), "kendo: 7 Syntax at 2:1\n", 1),
         (b"\xff".as_slice(), "kendo: 2 NotUtf8\n", 1),
-        (b"\xce\xb1".as_slice(), "kendo: 3 BadCharacter at 1:1\n", 1),
+        (b"\xce\xb1".as_slice(), "kendo: 7 Syntax at 1:1\n", 1),
+        (b"\xc2\xb1".as_slice(), "kendo: 3 BadCharacter at 1:1\n", 1),
         (b"package main\n".as_slice(), "kendo: 7 Syntax at 2:1\n", 1),
         (b"package main\nfunc main() {}\n".as_slice(), "", 0),
         (
@@ -295,6 +311,7 @@ fn told(alloc: Global, event: &Event) -> Result<String, AllocError> {
         Request::End => format!(in alloc; "{clock} {number} end"),
         Request::Exit => format!(in alloc; "{clock} {number} exit"),
         Request::Exhausted => format!(in alloc; "{clock} {number} exhausted"),
+        _ => format!(in alloc; "{clock} {number} asks"),
     }
 }
 
@@ -326,7 +343,7 @@ fn opened<R: Abort + AllocGlobal>(rt: &R, text: &str, limit: u64) -> Result<Book
     let Ok(code) = compile(alloc, &typed) else {
         panic!(rt; "no memory");
     };
-    let Ok(program) = verify(code) else {
+    let Ok(program) = verify(alloc, code) else {
         panic!(rt; "not verified");
     };
     let Ok(book) = Book::open(alloc, Arc::new(alloc, program)?, limit) else {

@@ -1,7 +1,7 @@
 ghost use Rattle.std.specs.Prelude.{Some};
 
 use crate::{DrainFault, Kind, Piece, Progress, drain};
-use bytecode::{Code, Function, Instr, PrintTable};
+use bytecode::{Code, Function, Instr, Part, PrintTable};
 use std::alloc::{AllocError, Global};
 use std::sync::Arc;
 use std::test::Fail;
@@ -50,9 +50,13 @@ impl Write for Slow {
 fn program(alloc: Global, number: i64) -> Result<Option<Arc<Verified>>, AllocError> {
     let name = String::from_str(alloc, "main")?;
     let instrs = Vec::from_array(alloc, [Instr::Int(number), Instr::Print(0), Instr::Return])?;
-    let functions = Vec::from_array(alloc, [Function::new(name, instrs)])?;
-    let prints = Vec::from_array(alloc, [PrintTable { values: 1 }])?;
-    match verify(Code::new(functions, prints)) {
+    let functions = Vec::from_array(
+        alloc,
+        [Function::new(name, 0, Vec::new(alloc), Vec::new(alloc), instrs)],
+    )?;
+    let parts = Vec::from_array(alloc, [Part::Int])?;
+    let prints = Vec::from_array(alloc, [PrintTable::new(parts, true)])?;
+    match verify(alloc, Code::new(functions, Vec::new(alloc), prints)) {
         Ok(verified) => Ok(Some(Arc::new(alloc, verified)?)),
         Err(_) => Ok(None),
     }

@@ -1,23 +1,28 @@
 -- Files: what is spelt is read, what is read is spelt so, and at most one file is spelt.
-use Rattle.std.proofs.Common.{◌≡◌, ℕ, ◌+◌, ◌<◌, ◌≤◌, Bool, false, max, List, [], ◌∷◌, ◌++◌, length, Result, Ok, Err, refl, sym, ap, ◌∙◌, subst, arith, append_assoc, length-append, codes}
+use Rattle.std.proofs.Common.{◌≡◌, ℕ, ◌+◌, ◌<◌, ◌≤◌, Bool, false, None, max, List, [], ◌∷◌, ◌++◌, length, Result, Ok, Err, refl, sym, ap, ◌∙◌, subst, arith, append_assoc, length-append, codes}
 use Rattle.scanner.specs.declared.kind.Kind.TheVariants as kinds
-use Rattle.syntax.specs.Tree.{Statement, File, height, most_entries}
-use Rattle.parser.specs.Lexemes.{Lexeme, Literal, Name, Mark}
-use Rattle.parser.specs.Spelling.{separated, joined, AreSome, statement_words, IsStatement, is_builtin, header_words, words, IsFile, Spells}
-use Rattle.parser.specs.Reading.{Refusal, Syntax, TooDeep, TooMany, Reading, ◌>>=◌, expect, expect_name, function_name, header, listed, statement, statement_next, made, ended, file}
-use Rattle.parser.proofs.Marks.{bind_ok, unless_ok, ok_is, expect_is, expect_name_is}
-use Rattle.parser.proofs.ListLaws.{Found as AllFound, High as AllHigh, Many as AllMany, Full, listed_again, listed_sound}
+use Rattle.syntax.specs.Tree.{Statement, Statements, statements_in, statements as made_statements, Function, Top, StructTop, FunctionTop, File}
+use Rattle.syntax.specs.Measures.{Listing, Entries as EntriesLimit, SelectClauses, entries, highest, statement_height, statements_height, statement_longest, statements_longest, top_longest, longest, height, most_entries, most_clauses}
+use Rattle.syntax.proofs.Lists.{statements-statements_in, statements_in-statements, statements_height-of, statements_longest-of}
+use Rattle.parser_base.specs.Lexemes.{Lexeme, Literal, Name, Mark}
+use Rattle.parser_base.specs.Spelling.{is_builtin, separated, joined, AreAll, AreSome}
+use Rattle.parser_base.specs.Reading.{Refusal, Syntax, TooDeep, TooMany, Reading, ◌>>=◌, expect, expect_name, plain_name, listed}
+use Rattle.parser_base.proofs.Marks.{bind_ok, unless_ok, ok_is, expect_is, expect_name_is, plain_name_is}
+use Rattle.parser_base.proofs.ListLaws.{AreFew, Found as AllFound, High as AllHigh, Many as AllMany, Full, all_again, IsReadAgain, listed_again, listed_sound}
+use Rattle.parser_base.proofs.ExpressionAgain.{entries-le}
+use Rattle.parser.specs.Spelling.{statement_words, IsStatement, header_words, tops_words, words, IsFunction, AreTops, Spells}
+use Rattle.parser.specs.Reading.{header, statement, statement_next, made, ended, file}
 use Rattle.parser.proofs.StatementLaws.{Ends, statements, statement_again, statements_separate, statements_sound}
 
 -- ---- what is spelt is read
 
 pub data FileOutcome (read : Result File Refusal) (f : File) (room most : ℕ) : Type 0 where
-  Found : height f ≤ room + 3 → most_entries f ≤ most → read ≡ Ok f → FileOutcome read f room most
+  Found : height f ≤ room + 3 → AreFew (λ listing. longest listing f) most → read ≡ Ok f → FileOutcome read f room most
   High : room + 3 < height f → read ≡ Err TooDeep → FileOutcome read f room most
-  Many : most < most_entries f → read ≡ Err TooMany → FileOutcome read f room most
+  Many : (listing : Listing) → most < longest listing f → read ≡ Err (TooMany listing) → FileOutcome read f room most
 
 header_again : (name : List ℕ) (rest : List Lexeme) → is_builtin name ≡ false → header (header_words name rest) ≡ Ok (name, rest)
-unfolding header expect expect_name function_name
+unfolding header expect expect_name plain_name
 header_again name rest named = rw named refl
 
 length_separated : {A : Type 0} (each : A → List Lexeme) (separator : Lexeme) (xs : List A) → length xs ≤ length (separated each separator xs)
@@ -27,6 +32,13 @@ length_separated each separator (x ∷ xs) = omega (arith, length_separated each
 -- a file's statements and what follows them
 abbrev body_words : List Statement → List Lexeme
 body_words body = joined statement_words (Mark kinds.Semicolon) body ++ (Mark kinds.RightBrace ∷ Mark kinds.Semicolon ∷ [])
+
+-- the longest list of a file without parameters
+made_longest : (listing : Listing) (name : List ℕ) (body : List Statement) → longest listing (made name body) ≡ max (entries listing 0) (highest (statement_longest listing) body)
+made_longest listing name body = omega (arith, statements_longest-of listing body)
+
+made_height : (name : List ℕ) (body : List Statement) → height (made name body) ≡ highest statement_height body + 3
+made_height name body = omega (arith, statements_height-of body)
 
 body_again : (room most : ℕ) (name : List ℕ) (body : List Statement) → AreSome IsStatement body
     → FileOutcome (listed (statement most room) statement_next Syntax (length (body_words body)) (body_words body) >>= λ found. expect kinds.Semicolon found.1 >>= λ rest. ended (made name found.0.0) rest) (made name body) room most
@@ -39,36 +51,51 @@ body_again room most name (s ∷ ss) some =
     let regroup : body_words (s ∷ ss) ≡ statement_words s ++ (behind ++ ending) = append_assoc (statement_words s) behind ending in
     let enough : length (s ∷ ss) ≤ turns =
     omega (arith, length_separated statement_words (Mark kinds.Semicolon) ss, length-append (statement_words s ++ behind) ending, length-append (statement_words s) behind) in
-    let again = listed_again (statements room most) Ends false (Mark kinds.Semicolon ∷ []) Syntax (statements_separate room most (Mark kinds.Semicolon ∷ [])) (statement_again room most) ss turns s some.0 some.1 in
+    let each = all_again IsStatement (IsReadAgain (statements room most) Ends) (statement_again room most) (s ∷ ss) some in
+    let again = listed_again (statements room most) Ends false (Mark kinds.Semicolon ∷ []) Syntax (statements_separate room most (Mark kinds.Semicolon ∷ [])) ss turns s some each in
     let step : Reading (List Statement × Bool) → Result File Refusal = λ read. read >>= λ found. expect kinds.Semicolon found.1 >>= λ rest. ended (made name found.0.0) rest in
     let begins : step (listed (statement most room) statement_next Syntax turns (body_words (s ∷ ss))) ≡ step (listed (statement most room) statement_next Syntax turns (statement_words s ++ (behind ++ ending))) =
     ap (λ (ws : List Lexeme). step (listed (statement most room) statement_next Syntax turns ws)) regroup in
+    let high = made_height name (s ∷ ss) in
     elim again [
-      | AllFound low few count e ↦ Found (omega arith) few (begins ∙ ap step e)
-      | AllHigh high e ↦ High (omega arith) (begins ∙ ap step e)
-      | AllMany many e ↦ Many many (begins ∙ ap step e)
+      | AllFound low few count e ↦ Found (omega (arith, high)) (λ listing. omega (arith, few listing, made_longest listing name (s ∷ ss), entries-le listing 0)) (begins ∙ ap step e)
+      | AllHigh above e ↦ High (omega (arith, high)) (begins ∙ ap step e)
+      | AllMany listing many e ↦ Many listing (omega (arith, many, made_longest listing name (s ∷ ss))) (begins ∙ ap step e)
       | Full count e ↦ absurd (omega arith)
     ]
 
-pub file_again : (room most : ℕ) (f : File) → IsFile f → FileOutcome (file most room (words f)) f room most
+function_again : (room most : ℕ) (function : Function) → IsFunction function → FileOutcome (file most room (tops_words (FunctionTop function ∷ []))) (made function.name (statements_in function.body)) room most
 unfolding file
-file_again room most f is =
-    let h = header_again f.function.name (body_words f.function.body) is.named in
-    rw h (body_again room most f.function.name f.function.body is.body)
+function_again room most function is =
+    let h = header_again function.name (body_words (statements_in function.body)) is.named in
+    rw h (body_again room most function.name (statements_in function.body) is.body)
+
+function_is : (function : Function) → IsFunction function → made function.name (statements_in function.body) ≡ record { tops = FunctionTop function ∷ [] }
+function_is function is =
+    λ i. record {
+      tops = FunctionTop (record {
+        name = function.name;
+        parameters = sym is.parameters i;
+        trailing = sym is.trailing i;
+        result = sym is.result i;
+        body = statements-statements_in function.body i;
+      }) ∷ [];
+    }
+
+tops_again : (room most : ℕ) (tops : List Top) → AreTops tops → FileOutcome (file most room (tops_words tops)) (record { tops = tops }) room most
+tops_again room most [] is = absurd is
+tops_again room most (StructTop struct ∷ rest) is = absurd is
+tops_again room most (FunctionTop function ∷ second ∷ rest) is = absurd is
+tops_again room most (FunctionTop function ∷ []) is =
+    subst (λ (f : File). FileOutcome (file most room (tops_words (FunctionTop function ∷ []))) f room most) (function_is function is) (function_again room most function is)
+
+pub file_again : (room most : ℕ) (f : File) → AreTops f.tops → FileOutcome (file most room (words f)) f room most
+file_again room most f is = tops_again room most f.tops is
 
 -- ---- what is read is spelt so
 
 abbrev with_rest : List ℕ → List Lexeme → List ℕ × List Lexeme
 with_rest name rest = (name, rest)
-
-function_name_is : (ws : List Lexeme) (name : List ℕ) (rest : List Lexeme) → function_name ws ≡ Ok (with_rest name rest) → (ws ≡ Name name ∷ rest) × (is_builtin name ≡ false)
-unfolding function_name
-function_name_is [] name rest e = absurd cc
-function_name_is (Literal value ∷ ws) name rest e = absurd cc
-function_name_is (Mark kind ∷ ws) name rest e = absurd cc
-function_name_is (Name first ∷ ws) name rest e =
-    let w = unless_ok (is_builtin first) Syntax (Ok (with_rest first ws)) (with_rest name rest) e in
-    subst (λ (x : List ℕ × List Lexeme). (Name first ∷ ws ≡ Name x.0 ∷ x.1) × (is_builtin x.0 ≡ false)) (ok_is (with_rest first ws) (with_rest name rest) w.1) (refl, w.0)
 
 -- the steps of a header
 abbrev brace_step : List ℕ → List Lexeme → Reading (List ℕ)
@@ -81,7 +108,7 @@ abbrev open_step : List ℕ → List Lexeme → Reading (List ℕ)
 open_step name ws = expect kinds.LeftParenthesis ws >>= close_step name
 
 abbrev name_step : List Lexeme → Reading (List ℕ)
-name_step ws = function_name ws >>= λ name. open_step name.0 name.1
+name_step ws = plain_name ws >>= λ name. open_step name.0 name.1
 
 abbrev func_step : List Lexeme → Reading (List ℕ)
 func_step ws = expect kinds.Func ws >>= name_step
@@ -110,8 +137,8 @@ header_sound ws found e =
     let b = bind_ok (expect_name (codes "main") a.0) semicolon_step found a.2 in
     let c = bind_ok (expect kinds.Semicolon b.0) func_step found b.2 in
     let d = bind_ok (expect kinds.Func c.0) name_step found c.2 in
-    let n = bind_ok (function_name d.0) (λ name. open_step name.0 name.1) found d.2 in
-    let named = function_name_is d.0 n.0.0 n.0.1 n.1 in
+    let n = bind_ok (plain_name d.0) (λ name. open_step name.0 name.1) found d.2 in
+    let named = plain_name_is d.0 n.0.0 n.0.1 n.1 in
     let rest = signature_sound n.0.0 n.0.1 found n.2 in
     let name : d.0 ≡ Name found.0 ∷ Mark kinds.LeftParenthesis ∷ Mark kinds.RightParenthesis ∷ Mark kinds.LeftBrace ∷ found.1 = named.0 ∙ (λ i. Name (rest.1 i) ∷ rest.0 i) in
     let func = expect_is kinds.Func c.0 d.0 d.1 ∙ ap (λ (x : List Lexeme). Mark kinds.Func ∷ x) name in
@@ -127,7 +154,7 @@ ended_is f g (w ∷ ws) e = absurd cc
 pub record IsFound (room most : ℕ) (ws : List Lexeme) (f : File) : Type 0 where
   pub spelt : Spells ws f
   pub low : height f ≤ room + 3
-  pub few : most_entries f ≤ most
+  pub few : AreFew (λ listing. longest listing f) most
 
 pub file_sound : (room most : ℕ) (ws : List Lexeme) (f : File) → file most room ws ≡ Ok f → IsFound room most ws f
 unfolding file
@@ -136,15 +163,21 @@ file_sound room most ws f e =
     let name = a.0.0 in
     let b = bind_ok (listed (statement most room) statement_next Syntax (length a.0.1) a.0.1) (λ body. expect kinds.Semicolon body.1 >>= λ rest. ended (made name body.0.0) rest) f a.2 in
     let c = bind_ok (expect kinds.Semicolon b.0.1) (λ rest. ended (made name b.0.0.0) rest) f b.2 in
-    let d = ended_is (made name b.0.0.0) f c.0 c.2 in
+    let body = b.0.0.0 in
+    let d = ended_is (made name body) f c.0 c.2 in
     let h = header_sound ws a.0 a.1 in
     let l = listed_sound (statements room most) Syntax (statements_sound room most) (length a.0.1) a.0.1 b.0 b.1 in
     let s = expect_is kinds.Semicolon b.0.1 c.0 c.1 ∙ ap (λ (x : List Lexeme). Mark kinds.Semicolon ∷ x) d.0 in
-    let body : a.0.1 ≡ body_words b.0.0.0 = l.parts ∙ ap (λ (x : List Lexeme). joined statement_words (Mark kinds.Semicolon) b.0.0.0 ++ (Mark kinds.RightBrace ∷ x)) s in
+    let same : statements_in (made_statements body) ≡ body = statements_in-statements body in
+    let all : a.0.1 ≡ body_words (statements_in (made_statements body)) =
+    l.parts ∙ ap (λ (x : List Lexeme). joined statement_words (Mark kinds.Semicolon) body ++ (Mark kinds.RightBrace ∷ x)) s ∙ ap body_words (sym same) in
     subst (λ (x : File). IsFound room most ws x) d.1 (record {
-      spelt = record { words = h.0 ∙ ap (header_words name) body; well_formed = record { named = h.1; body = l.are } };
-      low = omega (arith, l.low);
-      few = l.few;
+      spelt = record {
+        words = h.0 ∙ ap (header_words name) all;
+        well_formed = record { named = h.1; parameters = refl; trailing = refl; result = refl; body = subst (AreSome IsStatement) (sym same) l.are };
+      };
+      low = omega (arith, l.low, made_height name body);
+      few = λ listing. omega (arith, l.few listing, made_longest listing name body, entries-le listing 0);
     })
 
 -- ---- no other file is spelt
@@ -155,7 +188,7 @@ no_syntax room most ws e f spelt =
     elim (file_again room most f spelt.well_formed) [
       | Found low few e' ↦ let bad = sym e ∙ same ∙ e' in absurd cc
       | High high e' ↦ let bad = sym e ∙ same ∙ e' in absurd cc
-      | Many many e' ↦ let bad = sym e ∙ same ∙ e' in absurd cc
+      | Many listing many e' ↦ let bad = sym e ∙ same ∙ e' in absurd cc
     ]
 
 pub no_low : (room most : ℕ) (ws : List Lexeme) → file most room ws ≡ Err TooDeep → (f : File) → Spells ws f → height f ≤ room + 3 → ⊥
@@ -164,31 +197,49 @@ no_low room most ws e f spelt low =
     elim (file_again room most f spelt.well_formed) [
       | Found low few e' ↦ let bad = sym e ∙ same ∙ e' in absurd cc
       | High high e' ↦ absurd (omega arith)
-      | Many many e' ↦ let bad = sym e ∙ same ∙ e' in absurd cc
+      | Many listing many e' ↦ let bad = sym e ∙ same ∙ e' in absurd cc
     ]
 
-pub no_few : (room most : ℕ) (ws : List Lexeme) → file most room ws ≡ Err TooMany → (f : File) → Spells ws f → most_entries f ≤ most → ⊥
-no_few room most ws e f spelt few =
+abbrev refused : Refusal → Result File Refusal
+refused refusal = Err refusal
+
+abbrev listing_of : Listing → Result File Refusal → Listing
+listing_of other (Err (TooMany listing)) = listing
+listing_of other read = other
+
+pub no_few : (room most : ℕ) (ws : List Lexeme) (listing : Listing) → file most room ws ≡ Err (TooMany listing) → (f : File) → Spells ws f → longest listing f ≤ most → ⊥
+no_few room most ws listing e f spelt few =
     let same = ap (file most room) spelt.words in
     elim (file_again room most f spelt.well_formed) [
       | Found low few e' ↦ let bad = sym e ∙ same ∙ e' in absurd cc
       | High high e' ↦ let bad = sym e ∙ same ∙ e' in absurd cc
-      | Many many e' ↦ absurd (omega arith)
+      | Many other many e' ↦
+          let both = sym e ∙ same ∙ e' in
+          let is : listing ≡ other = ap (listing_of listing) both in
+          absurd (omega (arith, ap (λ (l : Listing). longest l f) is))
     ]
 
 -- with room enough the file itself is read
-found_again : (room most : ℕ) (ws : List Lexeme) (f : File) → Spells ws f → height f ≤ room + 3 → most_entries f ≤ most → file most room ws ≡ Ok f
+found_again : (room most : ℕ) (ws : List Lexeme) (f : File) → Spells ws f → height f ≤ room + 3 → AreFew (λ listing. longest listing f) most → file most room ws ≡ Ok f
 found_again room most ws f spelt low few =
     elim (file_again room most f spelt.well_formed) [
       | Found low few e ↦ ap (file most room) spelt.words ∙ e
       | High high e ↦ absurd (omega arith)
-      | Many many e ↦ absurd (omega arith)
+      | Many listing many e ↦ absurd (omega (arith, few listing))
     ]
+
+longest-max : (listing : Listing) (f g : File) → longest listing f ≤ max (max (most_entries f) (most_entries g)) (max (most_clauses f) (most_clauses g))
+longest-max EntriesLimit f g = omega arith
+longest-max SelectClauses f g = omega arith
+
+longest-max_right : (listing : Listing) (f g : File) → longest listing g ≤ max (max (most_entries f) (most_entries g)) (max (most_clauses f) (most_clauses g))
+longest-max_right EntriesLimit f g = omega arith
+longest-max_right SelectClauses f g = omega arith
 
 pub one_file : (ws : List Lexeme) (f g : File) → Spells ws f → Spells ws g → f ≡ g
 one_file ws f g a b =
     let room = max (height f) (height g) in
-    let most = max (most_entries f) (most_entries g) in
-    let first = found_again room most ws f a (omega arith) (omega arith) in
-    let second = found_again room most ws g b (omega arith) (omega arith) in
+    let most = max (max (most_entries f) (most_entries g)) (max (most_clauses f) (most_clauses g)) in
+    let first = found_again room most ws f a (omega arith) (λ listing. longest-max listing f g) in
+    let second = found_again room most ws g b (omega arith) (λ listing. longest-max_right listing f g) in
     ok_is f g (sym first ∙ second)

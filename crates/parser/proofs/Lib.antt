@@ -1,11 +1,3 @@
-pub mod Literals
-pub mod Results
-pub mod Operations
-pub mod Lists
-pub mod Marks
-pub mod ExpressionAgain
-pub mod ExpressionSound
-pub mod ListLaws
 pub mod StatementLaws
 pub mod FileLaws
 pub mod Sizes

@@ -1,10 +1,12 @@
 -- What the fault or the file that was read says of the lexemes.
 use Rattle.std.proofs.Common.{◌≡◌, ℕ, ◌+◌, ◌≤◌, Option, Some, Result, Ok, Err, List, length, ap, ◌∙◌, sym, subst, arith}
 use Rattle.go_text.specs.declared.fault.Fault.{Fault}
-use Rattle.syntax.specs.Tree.{File, size, height, most_entries}
-use Rattle.parser.specs.Lexemes.{Lexeme}
+use Rattle.syntax.specs.Tree.{File}
+use Rattle.syntax.specs.Measures.{Listing, Entries, SelectClauses, size, height, longest}
+use Rattle.parser_base.specs.Lexemes.{Lexeme}
+use Rattle.parser_base.specs.Reading.{Refusal, Syntax, TooDeep, TooMany, FailsWith, Fails, refusal_of}
 use Rattle.parser.specs.Spelling.{Spells}
-use Rattle.parser.specs.Reading.{Refusal, Syntax, TooDeep, TooMany, FailsWith, Fails, refusal_of, file}
+use Rattle.parser.specs.Reading.{file}
 use Rattle.parser.proofs.FileLaws.{file_sound, no_syntax, no_low, no_few}
 use Rattle.parser.proofs.Sizes.{size-le}
 
@@ -19,13 +21,13 @@ pub fault_deep : (room most : ℕ) (ahead words : List Lexeme) (fault : Fault) �
 fault_deep room most ahead words fault same fails is =
     no_low room most words (ap (file most room) (sym same) ∙ fails_as fault TooDeep (file most room ahead) fails is)
 
-pub fault_many : (room most : ℕ) (ahead words : List Lexeme) (fault : Fault) → ahead ≡ words → Fails fault (file most room ahead) → refusal_of fault ≡ Some TooMany → (f : File) → Spells words f → most_entries f ≤ most → ⊥
-fault_many room most ahead words fault same fails is =
-    no_few room most words (ap (file most room) (sym same) ∙ fails_as fault TooMany (file most room ahead) fails is)
+pub fault_many : (room most : ℕ) (ahead words : List Lexeme) (fault : Fault) (listing : Listing) → ahead ≡ words → Fails fault (file most room ahead) → refusal_of fault ≡ Some (TooMany listing) → (f : File) → Spells words f → longest listing f ≤ most → ⊥
+fault_many room most ahead words fault listing same fails is =
+    no_few room most words listing (ap (file most room) (sym same) ∙ fails_as fault (TooMany listing) (file most room ahead) fails is)
 
 -- a file that was read has no more nodes than there are lexemes
 pub size_read : (room most : ℕ) (ws : List Lexeme) (f : File) → file most room ws ≡ Ok f → size f ≤ length ws
 size_read room most ws f e =
     let found = file_sound room most ws f e in
     let same = ap length found.spelt.words in
-    omega (arith, size-le f)
+    omega (arith, size-le f found.spelt.well_formed)

@@ -1,44 +1,23 @@
 //! Files.
 
 ghost use Rattle.std.specs.Prelude.{◌≡◌, ◌+◌, IfOk, vec_len};
-ghost use Rattle.syntax.specs.Tree.{size};
+ghost use Rattle.syntax.specs.Measures.{size};
 ghost use Rattle.syntax.specs.View.{file_of};
-ghost use Rattle.parser.specs.Cursor.{ahead};
-ghost use Rattle.parser.specs.Spelling.{is_builtin};
-ghost use Rattle.parser.specs.Reading.{Gives, function_name, header, ended, file};
+ghost use Rattle.parser_base.specs.Cursor.{ahead};
+ghost use Rattle.parser_base.specs.Reading.{Gives};
+ghost use Rattle.parser.specs.Reading.{header, ended, file};
 
-use crate::cursor::{Cursor, Word};
-use crate::statement::{MAX_ENTRIES, statements};
-use go_text::{Fault, Place, Span};
+use crate::statement::statements;
+use go_text::{Fault, Span};
+use parser_base::cursor::Cursor;
+use parser_base::expression::name_node;
+use parser_base::list::MAX_ENTRIES;
 use scanner::Kind;
 use std::alloc::Global;
-use syntax::{FileNode, FunctionNode};
+use syntax::{FileNode, FunctionNode, TopNode};
 
 /// The most levels of a function's statements: above them stand the file, its function and the function's block.
 pub const STATEMENT_ROOM: u32 = 197;
-
-/// Whether a name stands only in calls of its own.
-fn is_builtin(name: &[u8]) -> bool
-    ensures { result ≡ is_builtin name.now }
-{
-    name == b"make".as_slice()
-        || name == b"len".as_slice()
-        || name == b"cap".as_slice()
-        || name == b"close".as_slice()
-        || name == b"print".as_slice()
-        || name == b"println".as_slice()
-}
-
-/// A name that a function may have, and the place behind it.
-#[tactic(auto, unfolding(crate::specs::Reading::function_name))]
-fn function_name(cursor: Cursor<'_>) -> Result<(&[u8], Cursor<'_>), Fault>
-    ensures { Gives (λ x. (x.0.now, ahead x.1)) result (function_name (ahead cursor.entry)) }
-{
-    match cursor.next() {
-        Some((Word::Name(name), _, rest)) if !is_builtin(name) => Ok((name, rest)),
-        _ => Err(Fault::Syntax(cursor.place())),
-    }
-}
 
 /// A file to its function's first statement.
 #[derive(Clone, Copy)]
@@ -63,7 +42,7 @@ fn header(cursor: Cursor<'_>) -> Result<Heading<'_>, Fault>
     let rest = rest.expect_name(b"main")?;
     let (_, rest) = rest.expect(Kind::Semicolon)?;
     let (func, rest) = rest.expect(Kind::Func)?;
-    let (name, rest) = function_name(rest)?;
+    let (name, _, rest) = rest.plain_name()?;
     let (_, rest) = rest.expect(Kind::LeftParenthesis)?;
     let (_, rest) = rest.expect(Kind::RightParenthesis)?;
     let (brace, rest) = rest.expect(Kind::LeftBrace)?;
@@ -100,11 +79,13 @@ pub fn file(alloc: Global, cursor: Cursor<'_>, spans: &mut Vec<Span>) -> Result<
         from: header.package.from,
         to: last.to,
     })?;
-    let name = Vec::from_slice(alloc, header.name)?;
-    Ok(FileNode {
-        function: FunctionNode {
-            name,
-            body: body.entries,
-        },
-    })
+    let function = FunctionNode {
+        name: name_node(alloc, header.name)?,
+        parameters: Vec::new(alloc),
+        trailing: false,
+        result: None,
+        body: body.entries,
+    };
+    let tops = Vec::from_array(alloc, [TopNode::Function(function)])?;
+    Ok(FileNode { tops })
 }

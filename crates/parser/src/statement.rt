@@ -1,77 +1,51 @@
 //! Statements.
 
 ghost use Rattle.std.specs.Prelude.{◌≡◌, ◌≤◌, ◌+◌, ◌-◌, IfOk, length, map, sum_by, vec_len};
-ghost use Rattle.syntax.specs.Tree.{expression_size, statement_size};
-ghost use Rattle.syntax.specs.View.{expression_of, statement_of};
-ghost use Rattle.parser.specs.Cursor.{ahead};
-ghost use Rattle.parser.specs.Reading.{Gives, TooMany, Syntax, expression, listed, begins, arguments_close, argument_next, println_call, statement, statement_next};
+ghost use Rattle.syntax.specs.Measures.{Entries, part_size, statement_size};
+ghost use Rattle.syntax.specs.View.{part_of, statement_of};
+ghost use Rattle.parser_base.specs.Cursor.{ahead};
+ghost use Rattle.parser_base.specs.Reading.{Gives, TooMany, Syntax, listed, value_next};
+ghost use Rattle.parser.specs.Reading.{part, println_call, statement, statement_next};
 
-use crate::cursor::{Cursor, Word};
-use crate::expression::expression;
-use crate::list::{List, Next};
 use go_text::{Fault, LimitKind, Place, Span};
+use parser_base::cursor::{Cursor, Word};
+use parser_base::expression::{expression, value_next};
+use parser_base::list::{List, MAX_ENTRIES, Next};
 use scanner::Kind;
 use std::alloc::Global;
-use syntax::{ExpressionNode, StatementNode};
+use syntax::{PartNode, SimpleNode, StatementNode};
 
-/// The most entries of a list.
-pub const MAX_ENTRIES: u32 = 64;
-
-/// Whether an expression can begin here.
-#[tactic(auto, unfolding(crate::specs::Reading::begins))]
-fn begins(cursor: Cursor<'_>) -> bool
-    ensures { result ≡ begins (ahead cursor.entry) }
-{
-    match cursor.next() {
-        Some((Word::Literal(_), _, _)) => true,
-        Some((Word::Mark(kind), _, _)) => kind == Kind::LeftParenthesis || kind == Kind::Minus,
-        _ => false,
-    }
-}
-
-/// The end of a call's arguments, with the span of its token.
-fn arguments_close(trailing: bool, cursor: Cursor<'_>) -> Result<(Next, Span, Cursor<'_>), Fault>
-    ensures { Gives (λ x. (x.0, ahead x.2)) result (arguments_close trailing (ahead cursor.entry)) }
-{
-    let (last, rest) = cursor.expect(Kind::RightParenthesis)?;
-    Ok((Next::End(trailing), last, rest))
-}
-
-/// What follows an argument, with the span of its last token.
-#[tactic(auto, unfolding(crate::specs::Reading::argument_next))]
-fn argument_next(cursor: Cursor<'_>) -> Result<(Next, Span, Cursor<'_>), Fault>
-    ensures { Gives (λ x. (x.0, ahead x.2)) result (argument_next (ahead cursor.entry)) }
-{
-    let Some((Word::Mark(kind), span, rest)) = cursor.next() else {
-        return Err(Fault::Syntax(cursor.place()));
-    };
-    if kind != Kind::Comma {
-        return arguments_close(false, cursor);
-    }
-    if begins(rest) {
-        Ok((Next::More, span, rest))
-    } else {
-        arguments_close(true, rest)
-    }
-}
-
-/// The arguments of a call, behind its first parenthesis.
-fn arguments<'a>(
+/// An argument of `println`.
+#[tactic(auto, unfolding(crate::specs::Reading::part))]
+fn part<'a>(
     alloc: Global,
     room: u32,
     cursor: Cursor<'a>,
     spans: &mut Vec<Span>,
-) -> Result<List<'a, ExpressionNode>, Fault>
-    requires { 1 ≤ room }
-    ensures arguments { Gives (λ x. ((map expression_of x.entries.items, x.trailing), ahead x.rest)) result (listed (expression room 0) argument_next TooMany MAX_ENTRIES (ahead cursor.entry)) }
-    ensures nodes { IfOk result (λ x. vec_len spans.new ≡ vec_len spans.old + sum_by expression_size (map expression_of x.entries.items)) }
+) -> Result<(PartNode, Cursor<'a>), Fault>
+    ensures part { Gives (λ x. (part_of x.0, ahead x.1)) result (part MAX_ENTRIES room (ahead cursor.entry)) }
+    ensures nodes { IfOk result (λ x. vec_len spans.new ≡ vec_len spans.old + part_size (part_of x.0)) }
+{
+    let value = expression(alloc, true, room, 0, cursor, spans)?;
+    Ok((PartNode::Value(value.expression), value.rest))
+}
+
+/// The arguments of `println`, behind the first parenthesis.
+fn parts<'a>(
+    alloc: Global,
+    room: u32,
+    cursor: Cursor<'a>,
+    spans: &mut Vec<Span>,
+) -> Result<List<'a, PartNode>, Fault>
+    ensures parts { Gives (λ x. ((map part_of x.entries.items, x.trailing), ahead x.rest)) result (listed (part MAX_ENTRIES room) (value_next Kind.RightParenthesis) (TooMany Entries) MAX_ENTRIES (ahead cursor.entry)) }
+    ensures nodes { IfOk result (λ x. vec_len spans.new ≡ vec_len spans.old + sum_by part_size (map part_of x.entries.items)) }
 {
     let mut entries = Vec::new(alloc);
     let mut rest = cursor;
     for _ in 0..MAX_ENTRIES {
-        let found = expression(alloc, room, 0, rest, spans)?;
-        entries.push(found.expression)?;
-        let (next, last, after) = argument_next(found.rest)?;
+        let (one, behind) = part(alloc, room, rest, spans)?;
+        entries.push(one)?;
+        let (next, last, after) = value_next(Kind::RightParenthesis, behind)?;
         match next {
             Next::More => rest = after,
             Next::End(trailing) => return Ok(List {
@@ -98,19 +72,18 @@ fn println_call<'a>(
     cursor: Cursor<'a>,
     spans: &mut Vec<Span>,
 ) -> Result<(StatementNode, Cursor<'a>), Fault>
-    requires { 1 ≤ room }
     ensures statement { Gives (λ x. (statement_of x.0, ahead x.1)) result (println_call MAX_ENTRIES room (ahead cursor.entry)) }
     ensures nodes { IfOk result (λ x. vec_len spans.new ≡ vec_len spans.old + statement_size (statement_of x.0)) }
 {
     let (_, rest) = cursor.expect(Kind::LeftParenthesis)?;
-    let arguments = arguments(alloc, room, rest, spans)?;
+    let parts = parts(alloc, room, rest, spans)?;
     spans.push(Span {
         from: name.from,
-        to: arguments.last.to,
+        to: parts.last.to,
     })?;
     Ok((
-        StatementNode::Println(arguments.entries, arguments.trailing),
-        arguments.rest,
+        StatementNode::Simple(SimpleNode::Print(true, parts.entries, parts.trailing)),
+        parts.rest,
     ))
 }
 
@@ -130,7 +103,7 @@ pub fn statement<'a>(
         return Err(Fault::Syntax(cursor.place()));
     };
     match word {
-        Word::Literal(_) => Err(Fault::Syntax(Place::from(span))),
+        Word::Literal(_) | Word::Text(_) => Err(Fault::Syntax(Place::from(span))),
         Word::Name(name) => {
             if name != b"println".as_slice() {
                 return Err(Fault::Syntax(Place::from(span)));

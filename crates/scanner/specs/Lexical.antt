@@ -1,20 +1,14 @@
 -- Which bytes are a token, and the longest token at the front of a text.
-use Rattle.std.specs.Prelude.{ℕ, zero, suc, Bool, true, false, ◌&&◌, ◌||◌, ◌==◌, List, [], ◌∷◌, length, take, Option, Some, None, if◌then◌else◌, codes}
+use Rattle.std.specs.Prelude.{ℕ, zero, suc, Bool, true, false, ◌+◌, ◌&&◌, ◌||◌, not, ◌==◌, List, [], ◌∷◌, length, take, Option, Some, None, if◌then◌else◌, codes}
 use Rattle.std.specs.Str.{byte, bytes_eq}
-use Rattle.std.specs.List.{list_all}
-use Rattle.std.specs.Char.{is_ascii_digit, is_ascii_alphabetic}
+use Rattle.std.specs.List.{list_all, prefix_len}
+use Rattle.std.specs.Char.{is_ascii_digit, is_ascii_hexdigit}
+use Rattle.scanner.specs.Letters.{is_letter_byte, is_name}
 use Rattle.scanner.specs.declared.kind.Kind.{Kind}
 use Rattle.scanner.specs.declared.kind.Kind.TheVariants as kinds
 
-abbrev pub is_letter : ℕ → Bool
-is_letter b = (b == byte "_") || is_ascii_alphabetic b
-
 abbrev pub is_digit : ℕ → Bool
 is_digit b = is_ascii_digit b
-
--- a letter or a digit, as a name goes on
-abbrev pub is_name_byte : ℕ → Bool
-is_name_byte b = is_letter b || is_digit b
 
 -- white space that ends no line: a space, a tab or a carriage return
 abbrev pub is_space : ℕ → Bool
@@ -139,15 +133,27 @@ abbrev pub is_empty : List ℕ → Bool
 is_empty [] = true
 is_empty (b ∷ rest) = false
 
--- 0, or digits that don't begin with it
+-- the x of a hexadecimal number
+abbrev pub is_x : ℕ → Bool
+is_x b = (b == byte "x") || (b == byte "X")
+
+abbrev pub is_hex_digit : ℕ → Bool
+is_hex_digit b = is_ascii_hexdigit b
+
+-- behind a 0: x and hexadecimal digits, of which there is one at least
+abbrev pub is_hexadecimal : List ℕ → Bool
+is_hexadecimal [] = false
+is_hexadecimal (x ∷ digits) = is_x x && (not (is_empty digits) && list_all is_hex_digit digits)
+
+-- a hexadecimal number, 0, or digits that don't begin with it
 abbrev pub is_integer : ℕ → List ℕ → Bool
-is_integer first rest = if first == byte "0" then is_empty rest else list_all is_digit rest
+is_integer first rest = if first == byte "0" then is_empty rest || is_hexadecimal rest else list_all is_digit rest
 
 -- the token that the bytes are, all of them
 unfoldable pub exact : List ℕ → Option Kind
 exact [] = None
 exact (first ∷ rest) =
-    if is_letter first then (if list_all is_name_byte rest then Some (word (first ∷ rest)) else None)
+    if is_letter_byte first then (if is_name (first ∷ rest) then Some (word (first ∷ rest)) else None)
     else (if is_digit first then (if is_integer first rest then Some kinds.Integer else None)
     else mark (first ∷ rest))
 
@@ -164,6 +170,13 @@ longest_within (suc n) text = or_shorter (suc n) (exact (take (suc n) text)) (lo
 unfoldable pub longest : List ℕ → Option (ℕ × Kind)
 longest text = longest_within (length text) text
 
+-- how many bytes behind a 0 make a hexadecimal number of it, as many as possible
+abbrev pub hexadecimal_len : List ℕ → ℕ
+hexadecimal_len [] = 0
+hexadecimal_len (x ∷ digits) =
+    let run = prefix_len is_hex_digit digits in
+    if is_x x && not (run == 0) then run + 1 else 0
+
 -- the longest mark with which the text begins
 abbrev pub longest_mark : List ℕ → Option (ℕ × Kind)
 longest_mark [] = None
@@ -176,6 +189,7 @@ longest_mark (a ∷ b ∷ c ∷ rest) =
 abbrev pub ends_line : Kind → Bool
 ends_line kinds.Name = true
 ends_line kinds.Integer = true
+ends_line kinds.String = true
 ends_line kinds.Break = true
 ends_line kinds.Continue = true
 ends_line kinds.Fallthrough = true

@@ -1,6 +1,6 @@
 //! What tokens there are.
 
-/// What a token is: a keyword, a name, a number, or an operator or mark.
+/// What a token is: a keyword, a name, a number, a string, or an operator or mark.
 #[derive(Clone, Copy, Debug, PartialEq, Eq)]
 pub enum Kind {
     Break,
@@ -30,8 +30,10 @@ pub enum Kind {
     Var,
     /// A letter followed by letters and digits, and no keyword.
     Name,
-    /// `0`, or digits that don't begin with `0`.
+    /// `0`, decimal digits that don't begin with `0`, or `0x` or `0X` and hexadecimal digits.
     Integer,
+    /// What stands between two double quotes, and the quotes.
+    String,
     /// `+`
     Plus,
     /// `-`

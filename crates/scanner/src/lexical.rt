@@ -1,16 +1,10 @@
 //! Which bytes are a token.
 
 ghost use Rattle.std.specs.Prelude.{◌≡◌};
-ghost use Rattle.scanner.specs.Lexical.{is_letter, is_digit, is_name_byte, is_space, statement_keyword, declaration_keyword, word, mark_1, mark_2, mark_3, ends_line};
+ghost use Rattle.scanner.specs.Elements.{is_forbidden};
+ghost use Rattle.scanner.specs.Lexical.{is_digit, is_hex_digit, is_space, statement_keyword, declaration_keyword, word, mark_1, mark_2, mark_3, ends_line};
 
 use crate::kind::Kind;
-
-/// Whether a name may begin with the byte.
-pub fn is_letter(byte: u8) -> bool
-    ensures { result ≡ is_letter byte }
-{
-    byte == b'_' || byte.is_ascii_alphabetic()
-}
 
 /// Whether the byte is a decimal digit.
 pub fn is_digit(byte: u8) -> bool
@@ -19,11 +13,11 @@ pub fn is_digit(byte: u8) -> bool
     byte.is_ascii_digit()
 }
 
-/// Whether a name may go on with the byte.
-pub fn is_name_byte(byte: u8) -> bool
-    ensures { result ≡ is_name_byte byte }
+/// Whether the byte is a hexadecimal digit.
+pub fn is_hex_digit(byte: u8) -> bool
+    ensures { result ≡ is_hex_digit byte }
 {
-    is_letter(byte) || is_digit(byte)
+    byte.is_ascii_hexdigit()
 }
 
 /// White space that ends no line.
@@ -31,6 +25,17 @@ pub fn is_space(byte: u8) -> bool
     ensures { result ≡ is_space byte }
 {
     byte == b' ' || byte == b'\t' || byte == b'\r'
+}
+
+/// Whether the text begins with a character that stands nowhere: NUL or a byte-order mark.
+pub fn is_forbidden(text: &[u8]) -> bool
+    ensures { result ≡ is_forbidden text.now }
+{
+    match text {
+        [0, ..] => true,
+        [0xEF, 0xBB, 0xBF, ..] => true,
+        _ => false,
+    }
 }
 
 /// The keyword of a statement that the text is.
@@ -202,6 +207,7 @@ pub fn ends_line(kind: Kind) -> bool
     match kind {
         Kind::Name => true,
         Kind::Integer => true,
+        Kind::String => true,
         Kind::Break => true,
         Kind::Continue => true,
         Kind::Fallthrough => true,

@@ -1,9 +1,14 @@
 //! The tokens of a text.
 #![tactic(auto)]
 
+mod comment;
+mod element;
 pub mod kind;
+pub mod laws;
+mod letters;
 mod lexical;
 mod longest;
+mod string_literal;
 pub mod token;
 mod tokens;
 

@@ -2,48 +2,14 @@
 
 ghost use Rattle.std.specs.Prelude.{◌≡◌, ◌+◌, ◌≤◌, ◌⊎◌, ◌++◌, length, All, IfOk, IfErr, OnOk};
 ghost use Rattle.go_text.specs.Source.{bytes_of};
-ghost use Rattle.scanner.specs.Tokens.{tokens, tokens_of, token_at, goes_on, line_end, ender, IsInOrder, LiesWithin};
+ghost use Rattle.scanner.specs.Tokens.{tokens, tokens_of, line_end, ender, IsInOrder, LiesWithin};
 
+use crate::element::{Element, element_at};
 use crate::kind::Kind;
-use crate::lexical::{ends_line, is_name_byte, is_space};
-use crate::longest::longest;
+use crate::lexical::ends_line;
 use crate::token::Token;
-use go_text::{Fault, Place, Source, Span};
+use go_text::{Fault, Source, Span};
 use std::alloc::{AllocError, Global};
-
-/// Whether a token of this kind is a number that goes on wrongly.
-fn goes_on(kind: Kind, rest: &[u8]) -> bool
-    ensures { result ≡ goes_on kind rest.now }
-{
-    match (kind, rest) {
-        (Kind::Integer, [first, ..]) => is_name_byte(*first) || *first == b'.',
-        _ => false,
-    }
-}
-
-/// The token at the front of `rest`, which begins at this place of the text: its length in bytes and its kind.
-fn token_at(place: u32, rest: &[u8]) -> Result<(usize, Kind), Fault>
-    requires some { 1 ≤ length rest.now }
-    requires short { place + length rest.now ≤ 1048576 }
-    ensures token { result ≡ token_at place rest.now }
-    ensures within { IfOk result (λ found. (1 ≤ found.0) × (found.0 ≤ length rest.now)) }
-{
-    let Some((len, kind)) = longest(rest) else {
-        let span = Span {
-            from: place,
-            to: place + 1,
-        };
-        return Err(Fault::BadCharacter(Place::from(span)));
-    };
-    if goes_on(kind, &rest[len..]) {
-        let span = Span {
-            from: place,
-            to: place + len as u32,
-        };
-        return Err(Fault::BadNumber(Place::from(span)));
-    }
-    Ok((len, kind))
-}
 
 /// The place of the semicolon that a line's end would insert behind a token that ends here.
 fn ender(kind: Kind, place: u32) -> Option<u32>
@@ -78,34 +44,36 @@ fn scan_bytes(alloc: Global, text: &[u8]) -> Result<Vec<Token>, Fault>
     let mut at = 0;
     let mut after: Option<u32> = None;
     while at < text.len() {
-        let rest = &text[at..];
-        let byte = rest[0];
-        if byte == b'\n' {
-            end_line(&mut out, after)?;
-            after = None;
-            at += 1;
-        } else if is_space(byte) {
-            at += 1;
-        } else {
-            let from = at as u32;
-            let (len, kind) = token_at(from, rest)?;
-            at += len;
-            let to = at as u32;
-            out.push(Token {
-                kind,
-                span: Span { from, to },
-            })?;
-            after = ender(kind, to);
+        let place = at as u32;
+        let element = element_at(place, &text[at..])?;
+        at += element.len();
+        match element {
+            Element::Blank(_) => {}
+            Element::LineEnd(_) => {
+                end_line(&mut out, after)?;
+                after = None;
+            }
+            Element::Token(_, kind) => {
+                let to = at as u32;
+                out.push(Token {
+                    kind,
+                    span: Span { from: place, to },
+                })?;
+                after = ender(kind, to);
+            }
         }
     }
     end_line(&mut out, after)?;
     Ok(out)
 }
 
-/// The tokens of the text, with a semicolon inserted where a line ends behind certain tokens.
+/// The tokens of the text, with a semicolon inserted where a line ends behind certain tokens. (Go: Lexical elements,
+/// Semicolons.)
 ///
-/// Errors: `BadCharacter` with the byte with which no token begins, `BadNumber` with the number that goes on wrongly,
-/// whichever comes first in the text; `Memory`.
+/// Errors, of which the first in the text counts: `BadCharacter` with the character with which no token begins, `BadNumber`
+/// with the number that goes on wrongly; with the first byte of a string or a comment, `BadCharacter` where NUL or a
+/// byte-order mark stands in it, `OpenString` where it has no closing quote on its line or an unknown escape,
+/// `OpenComment` where the text ends in it, whichever is met first in reading it. `Memory`.
 pub fn scan(alloc: Global, source: &Source) -> Result<Vec<Token>, Fault>
     ensures tokens { IfOk result (λ v. tokens_of (bytes_of source.now) ≡ Ok v.items) }
     ensures fault { IfErr result (λ e. (e ≡ Fault.Memory) ⊎ (tokens_of (bytes_of source.now) ≡ Err e)) }
@@ -119,6 +87,8 @@ pub fn scan(alloc: Global, source: &Source) -> Result<Vec<Token>, Fault>
 #[cfg(test)]
 mod tests {
     use super::*;
+    use crate::element::byte_place;
+    use go_text::Place;
     use std::test::Fail;
 
     /// The kinds of a text's tokens, or the fault.
@@ -131,7 +101,7 @@ mod tests {
 
     #[test]
     fn reads_a_program(rt: HostRuntime) -> Result<(), Fail> {
-        let text = b"package main; func main() { println(10, x&^=y) }";
+        let text = b"package main; func main() { println(0X1f, x&^=y) }";
         let found = kinds(rt.alloc(), text.as_slice())?;
         let wanted = [
             Kind::Package,
@@ -199,11 +169,14 @@ mod tests {
     #[test]
     fn refuses_numbers_that_go_on(rt: HostRuntime) -> Result<(), Fail> {
         for (text, to) in [
-            (b"; 07;", 3),
-            (b"; 0x1", 3),
-            (b"; 12a", 4),
-            (b"; 12.", 4),
-            (b"; 12_", 4),
+            (b"; 07;;", 3),
+            (b"; 0x;;", 3),
+            (b"; 0Xg;", 3),
+            (b"; 0xeg", 5),
+            (b"; 0x1.", 5),
+            (b"; 12a;", 4),
+            (b"; 12.;", 4),
+            (b"; 12_;", 4),
         ] {
             let found = kinds(rt.alloc(), text.as_slice());
             let fault = Fault::BadNumber(Place::from(Span { from: 2, to }));
@@ -215,17 +188,106 @@ mod tests {
     #[test]
     fn refuses_bytes_that_begin_no_token(rt: HostRuntime) -> Result<(), Fail> {
         for text in [
-            b"a \"b\"",
             b"a @ b",
             b"a \0 b",
-            b"a \xc3\xa9 ",
             b"a ' b",
             b"a ` b",
             b"a \\ b",
             b"a \x7f b",
         ] {
             let found = kinds(rt.alloc(), text.as_slice());
-            let fault = Fault::BadCharacter(Place::from(Span { from: 2, to: 3 }));
+            let fault = Fault::BadCharacter(byte_place(2));
+            assert_eq!(rt; found.err(), Some(fault));
+        }
+        Ok(())
+    }
+
+    #[test]
+    fn reads_letters_past_ascii(rt: HostRuntime) -> Result<(), Fail> {
+        let source = Source::new("é٣_ǅ×".as_bytes().to_vec(rt.alloc())?)?;
+        let found = scan(rt.alloc(), &source);
+        let bad = Fault::BadCharacter(Place::from(Span { from: 7, to: 9 }));
+        assert_eq!(rt; found.err(), Some(bad));
+        let source = Source::new("ªʰ世é٣_ǅ\n1".as_bytes().to_vec(rt.alloc())?)?;
+        let found = scan(rt.alloc(), &source)?;
+        let wanted = [
+            (Kind::Name, 0, 14),
+            (Kind::Semicolon, 14, 14),
+            (Kind::Integer, 15, 16),
+            (Kind::Semicolon, 16, 16),
+        ]
+        .map(|(kind, from, to)| Token {
+            kind,
+            span: Span { from, to },
+        });
+        assert_eq!(rt; found.as_slice(), wanted.as_slice());
+        for (text, fault) in [
+            ("1é", Fault::BadNumber(byte_place(0))),
+            ("1٣", Fault::BadNumber(byte_place(0))),
+            (
+                "٣a",
+                Fault::BadCharacter(Place::from(Span { from: 0, to: 2 })),
+            ),
+            (
+                "\u{301}",
+                Fault::BadCharacter(Place::from(Span { from: 0, to: 2 })),
+            ),
+            (
+                "\u{feff}a",
+                Fault::BadCharacter(Place::from(Span { from: 0, to: 3 })),
+            ),
+        ] {
+            let found = kinds(rt.alloc(), text.as_bytes());
+            assert_eq!(rt; found.err(), Some(fault));
+        }
+        Ok(())
+    }
+
+    #[test]
+    fn reads_comments_and_strings(rt: HostRuntime) -> Result<(), Fail> {
+        let text = "f(1 /* é\n*/) // \"\nx /**/ \"\\\"/*\" /*/ */";
+        let source = Source::new(text.as_bytes().to_vec(rt.alloc())?)?;
+        let found = scan(rt.alloc(), &source)?;
+        let wanted = [
+            (Kind::Name, 0, 1),
+            (Kind::LeftParenthesis, 1, 2),
+            (Kind::Integer, 2, 3),
+            (Kind::Semicolon, 3, 3),
+            (Kind::RightParenthesis, 12, 13),
+            (Kind::Semicolon, 13, 13),
+            (Kind::Name, 19, 20),
+            (Kind::String, 26, 32),
+            (Kind::Semicolon, 32, 32),
+        ]
+        .map(|(kind, from, to)| Token {
+            kind,
+            span: Span { from, to },
+        });
+        assert_eq!(rt; found.as_slice(), wanted.as_slice());
+        Ok(())
+    }
+
+    #[test]
+    fn names_the_fault_that_is_met_first(rt: HostRuntime) -> Result<(), Fail> {
+        let bad = Fault::BadCharacter(byte_place(1));
+        let open_string = Fault::OpenString(byte_place(1));
+        let open_comment = Fault::OpenComment(byte_place(1));
+        for (text, fault) in [
+            ("\t\"a", open_string),
+            ("\t\"a\n\"", open_string),
+            ("\t\"\\a\0\"", open_string),
+            ("\t\"\\", open_string),
+            ("\t\"a\0\\a", bad),
+            ("\t\"\\\0", bad),
+            ("\t\"\u{feff}\"", bad),
+            ("\t// \0", bad),
+            ("\t/* \u{feff} */", bad),
+            ("\t/* \0", bad),
+            ("\t/* */ /*", Fault::OpenComment(byte_place(7))),
+            ("\t/*/", open_comment),
+            ("\t/* *", open_comment),
+        ] {
+            let found = kinds(rt.alloc(), text.as_bytes());
             assert_eq!(rt; found.err(), Some(fault));
         }
         Ok(())

@@ -1,76 +1,182 @@
--- What a program is, apart from where its tree lies in memory and in the text.
-use Rattle.std.specs.Prelude.{ℕ, suc, ◌+◌, Bool, Option, List, [], ◌∷◌, length, max, sum_by}
+-- What a program is, apart from where its tree lies in memory and in the text. A name is its bytes.
+use Rattle.std.specs.Prelude.{ℕ, Bool, Option, List, [], ◌∷◌}
 use Rattle.syntax.specs.declared.node.BinaryOperator.{BinaryOperator}
 use Rattle.syntax.specs.declared.node.UnaryOperator.{UnaryOperator}
+use Rattle.syntax.specs.declared.node.Direction.{Direction}
 
-pub data Expression : Type 0 where
-  -- a decimal integer's value, or None where that is over 2^100
-  Integer : (value : Option ℕ) → Expression
-  Parenthesized : (inner : Expression) → Expression
-  Unary : (operator : UnaryOperator) → (operand : Expression) → Expression
-  Binary : (operator : BinaryOperator) → (left right : Expression) → Expression
+-- ---- types
 
-pub data Statement : Type 0 where
-  Empty : Statement
-  -- the arguments in order, and whether a comma follows the last one
-  Println : (arguments : List Expression) → (trailing : Bool) → Statement
+pub data TypeExpression : Type 0 where
+  NamedType : (name : List ℕ) → TypeExpression
+  ParenthesizedType : (inner : TypeExpression) → TypeExpression
+  Channel : (direction : Direction) → (element : TypeExpression) → TypeExpression
+
+-- ---- expressions
+
+mutual
+  pub data Expression : Type 0 where
+    -- an integer's value, or None where that is over 2^100
+    Integer : (value : Option ℕ) → Expression
+    Named : (name : List ℕ) → Expression
+    Parenthesized : (inner : Expression) → Expression
+    Selection : (whole : Expression) → (field : List ℕ) → Expression
+    -- a composite literal: its type, the values of its fields, and whether a comma follows the last one
+    Composite : (name : List ℕ) → (values : Expressions) → (trailing : Bool) → Expression
+    Unary : (operator : UnaryOperator) → (operand : Expression) → Expression
+    Binary : (operator : BinaryOperator) → (left right : Expression) → Expression
+
+  pub data Expressions : Type 0 where
+    NoMore : Expressions
+    Behind : (first : Expression) → (rest : Expressions) → Expressions
+
+abbrev pub expressions_in : Expressions → List Expression
+expressions_in NoMore = []
+expressions_in (Behind first rest) = first ∷ expressions_in rest
+
+abbrev pub expressions : List Expression → Expressions
+expressions [] = NoMore
+expressions (first ∷ rest) = Behind first (expressions rest)
+
+-- ---- simple statements
+
+-- what is passed, and whether a comma follows the last one
+pub record Arguments : Type 0 where
+  pub values : List Expression
+  pub trailing : Bool
+
+pub data Operation : Type 0 where
+  Call : (function : List ℕ) → (arguments : Arguments) → Operation
+  Receive : (channel : Expression) → Operation
+  Make : (channel : TypeExpression) → (size : Option Expression) → Operation
+  Length : (channel : Expression) → Operation
+  Capacity : (channel : Expression) → Operation
+
+pub data Right : Type 0 where
+  RightOperation : (operation : Operation) → Right
+  Values : (values : List Expression) → Right
+
+-- a variable or `_`, or a field of a variable, by its path of names
+pub record Place : Type 0 where
+  pub name : List ℕ
+  pub fields : List (List ℕ)
+
+-- an argument of print or println
+pub data Part : Type 0 where
+  Value : (value : Expression) → Part
+  -- the bytes of a string
+  Text : (bytes : List ℕ) → Part
+
+pub data Simple : Type 0 where
+  CallAlone : (function : List ℕ) → (arguments : Arguments) → Simple
+  Close : (channel : Expression) → Simple
+  -- println where `line` holds, else print; the parts, and whether a comma follows the last one
+  Print : (line : Bool) → (parts : List Part) → (trailing : Bool) → Simple
+  ReceiveAlone : (channel : Expression) → Simple
+  Send : (channel value : Expression) → Simple
+  Increment : (place : Place) → Simple
+  Decrement : (place : Place) → Simple
+  Assign : (places : List Place) → (right : Right) → Simple
+  Define : (names : List (List ℕ)) → (right : Right) → Simple
+  -- an assignment with an operator
+  Update : (place : Place) → (operator : BinaryOperator) → (value : Expression) → Simple
+
+-- ---- statements
+
+-- what stands between an if and its condition
+pub data IfHead : Type 0 where
+  Bare : IfHead
+  Semicolon : IfHead
+  First : (simple : Simple) → IfHead
+
+pub data Target : Type 0 where
+  NoTarget : Target
+  DefineTarget : (name : List ℕ) → Target
+  AssignTarget : (place : Place) → Target
+
+-- what stands between a for and its block
+pub data ForHead : Type 0 where
+  Forever : ForHead
+  While : (condition : Expression) → ForHead
+  ForClauses : (first : Option Simple) → (condition : Option Expression) → (post : Option Simple) → ForHead
+  Range : (target : Target) → (channel : Expression) → ForHead
+
+-- what a clause of a select waits for
+pub data Comm : Type 0 where
+  CommSend : (channel value : Expression) → Comm
+  CommReceive : (channel : Expression) → Comm
+  CommDefine : (item : List ℕ) → (ok : Option (List ℕ)) → (channel : Expression) → Comm
+  CommAssign : (item : Place) → (ok : Option Place) → (channel : Expression) → Comm
+
+pub data Returned : Type 0 where
+  NoValue : Returned
+  ReturnedOperation : (operation : Operation) → Returned
+  ReturnedValue : (value : Expression) → Returned
+
+mutual
+  pub data Statement : Type 0 where
+    Empty : Statement
+    Alone : (simple : Simple) → Statement
+    VarTyped : (names : List (List ℕ)) → (kind : TypeExpression) → (right : Option Right) → Statement
+    VarUntyped : (names : List (List ℕ)) → (right : Right) → Statement
+    Block : (body : Statements) → Statement
+    If : (branch : Branch) → Statement
+    For : (head : ForHead) → (body : Statements) → Statement
+    Select : (clauses : Clauses) → Statement
+    Go : (function : List ℕ) → (arguments : Arguments) → Statement
+    Return : (returned : Returned) → Statement
+    Break : Statement
+    Continue : Statement
+
+  pub data Statements : Type 0 where
+    NoStatement : Statements
+    Then : (first : Statement) → (rest : Statements) → Statements
+
+  pub data Branch : Type 0 where
+    Conditional : (head : IfHead) → (condition : Expression) → (body : Statements) → (otherwise : Otherwise) → Branch
+
+  -- what stands behind an else: a block or an if
+  pub data Otherwise : Type 0 where
+    NoElse : Otherwise
+    ElseBlock : (body : Statements) → Otherwise
+    ElseIf : (branch : Branch) → Otherwise
+
+  -- the clauses of a select: what each waits for, or None for a default, and its statements
+  pub data Clauses : Type 0 where
+    NoClause : Clauses
+    Clause : (comm : Option Comm) → (body : Statements) → (rest : Clauses) → Clauses
+
+abbrev pub statements_in : Statements → List Statement
+statements_in NoStatement = []
+statements_in (Then first rest) = first ∷ statements_in rest
+
+abbrev pub statements : List Statement → Statements
+statements [] = NoStatement
+statements (first ∷ rest) = Then first (statements rest)
+
+-- ---- files
+
+-- names that are declared together with one type: fields, or parameters
+pub record Declared : Type 0 where
+  pub names : List (List ℕ)
+  pub kind : TypeExpression
+
+pub record Struct : Type 0 where
+  pub name : List ℕ
+  pub fields : List Declared
+  -- whether a semicolon stands behind the last field
+  pub trailing : Bool
 
 pub record Function : Type 0 where
-  -- the bytes of its name
   pub name : List ℕ
-  pub body : List Statement
+  pub parameters : List Declared
+  -- whether a comma stands behind the last parameter
+  pub trailing : Bool
+  pub result : Option TypeExpression
+  pub body : Statements
+
+pub data Top : Type 0 where
+  StructTop : (struct : Struct) → Top
+  FunctionTop : (function : Function) → Top
 
 pub record File : Type 0 where
-  pub function : Function
-
--- ---- height: a leaf has height 1, and a node is one higher than the highest node below it
-
-abbrev pub expression_height : Expression → ℕ
-expression_height (Integer value) = 1
-expression_height (Parenthesized inner) = suc (expression_height inner)
-expression_height (Unary operator operand) = suc (expression_height operand)
-expression_height (Binary operator left right) = suc (max (expression_height left) (expression_height right))
-
--- the height of the highest of these
-abbrev pub highest : {A : Type 0} → (A → ℕ) → List A → ℕ
-highest height [] = 0
-highest height (first ∷ rest) = max (height first) (highest height rest)
-
-abbrev pub statement_height : Statement → ℕ
-statement_height Empty = 1
-statement_height (Println arguments trailing) = suc (highest expression_height arguments)
-
--- the block of a function
-abbrev pub block_height : List Statement → ℕ
-block_height statements = suc (highest statement_height statements)
-
--- a file is one node, and so is its function
-abbrev pub height : File → ℕ
-height file = suc (suc (block_height file.function.body))
-
--- ---- size: the number of nodes
-
-abbrev pub expression_size : Expression → ℕ
-expression_size (Integer value) = 1
-expression_size (Parenthesized inner) = expression_size inner + 1
-expression_size (Unary operator operand) = expression_size operand + 1
-expression_size (Binary operator left right) = expression_size left + expression_size right + 1
-
-abbrev pub statement_size : Statement → ℕ
-statement_size Empty = 1
-statement_size (Println arguments trailing) = sum_by expression_size arguments + 1
-
-abbrev pub block_size : List Statement → ℕ
-block_size statements = sum_by statement_size statements + 1
-
-abbrev pub size : File → ℕ
-size file = block_size file.function.body + 2
-
--- ---- limits: how many entries the longest list of a file has
-
-abbrev pub entries : Statement → ℕ
-entries Empty = 0
-entries (Println arguments trailing) = length arguments
-
-abbrev pub most_entries : File → ℕ
-most_entries file = highest entries file.function.body
+  pub tops : List Top

@@ -5,6 +5,9 @@ pub mod node;
 pub mod tree;
 
 pub use node::{
-    BinaryOperator, ExpressionNode, FileNode, FunctionNode, StatementNode, UnaryOperator,
+    ArgumentsNode, BinaryOperator, ClauseNode, CommNode, DeclaredNode, Direction, ElseNode,
+    ExpressionNode, FileNode, ForHeader, FunctionNode, IfHeader, IfNode, Name, OperationNode,
+    PartNode, PlaceNode, RangeTarget, ReturnNode, RightNode, SimpleNode, StatementNode, StructNode,
+    TopNode, TypeNode, UnaryOperator,
 };
 pub use tree::{NodeId, Tree};

@@ -1,7 +1,7 @@
 //! A file with the places of its nodes.
 
 ghost use Rattle.std.specs.Prelude.{◌≡◌, ◌<◌, ◌^◌, Some, vec_len, slice_get};
-ghost use Rattle.syntax.specs.Tree.{size};
+ghost use Rattle.syntax.specs.Measures.{size};
 ghost use Rattle.syntax.specs.View.{file_of};
 
 use crate::node::FileNode;

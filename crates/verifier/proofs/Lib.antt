@@ -1,2 +1,4 @@
-pub mod Depths
-pub mod Frames
+pub mod Entries
+pub mod Visits
+pub mod Holds
+pub mod Safe

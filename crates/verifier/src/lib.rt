@@ -1,6 +1,9 @@
 //! Code of which no test fails when it runs.
 #![tactic(auto)]
 
-mod pass;
+mod effect;
+mod paths;
+mod scan;
+mod verified;
 
-pub use pass::{Verified, verify};
+pub use verified::{Verified, verify};

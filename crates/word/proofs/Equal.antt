@@ -5,7 +5,7 @@ use Rattle.std.specs.Option.{is_some}
 use Rattle.std.proofs.lemmas.Bool.{cases_lt, eq-eqb, ne_eqb}
 use Rattle.turn_rule.specs.Turns.{Effect, Rules, World, run}
 use Rattle.turn_rule.proofs.Twins.{Alike, RowAlike, ChangesAlike, AllAlike, EffectsAlike, Twins, twins_run, effects_flip, twins_flip}
-use Rattle.word.specs.Values.{Word, Request, Go, Exit, Panic, Exhausted, Reply, Nothing, Value, Received, Clause, Default, Closed, Outcome, Done, Ending, Finished, RanOut, Sleeper, Shared}
+use Rattle.word.specs.Values.{Word, Request, Go, Exit, Panic, Exhausted, Reply, Nothing, Value, Received, Clause, Default, Closed, Outcome, Done, Ending, Finished, RanOut, Sleeper, Shared, SendOnClosed}
 use Rattle.word.specs.Kinds.{Next, Slides, Ticks, Asks, Stuck, Kind, Clocked, at, local_of, asks_of, does, local, asks, told, Suits}
 use Rattle.word.specs.Requests.{Fate, GoesOn, Dozes, Leaves, Stays, Deed, ends, act, asked, meant, perform}
 use Rattle.word.specs.Worlds.{Bed, Rest, in_bed, actor_after, beds_after, woken_by, begun_at, effect, performs, rules, opening, moment, end_by, Same, Follows, Equal}
@@ -37,8 +37,8 @@ module _ (K M : Kind) (R : K.State → M.State → Type 0) (limit : ℕ) (finds 
   doomed_like : (clock : ℕ) → clock ≤ limit → (s : K.State) (t : M.State) → Like K M R limit (record { clock = clock; doomed = true; state = s }) (record { clock = clock; doomed = true; state = t })
   doomed_like clock le s t =
       ⊎_elim
-      (λ lt. let e = cond_below clock limit (Some Exhausted) (Some (Panic 2)) lt in like_here K M R limit _ _ refl (record { q = Panic 2; left = e; right = e; below = le; answers = λ reply h. absurd h; starts = tt }))
-      (λ ge. let same : clock ≡ limit = omega arith in let e = cond_at clock limit (Some Exhausted) (Some (Panic 2)) same in like_here K M R limit _ _ refl (record { q = Exhausted; left = e; right = e; below = le; answers = λ reply h. absurd h; starts = tt }))
+      (λ lt. let e = cond_below clock limit (Some Exhausted) (Some (Panic SendOnClosed)) lt in like_here K M R limit _ _ refl (record { q = Panic SendOnClosed; left = e; right = e; below = le; answers = λ reply h. absurd h; starts = tt }))
+      (λ ge. let same : clock ≡ limit = omega arith in let e = cond_at clock limit (Some Exhausted) (Some (Panic SendOnClosed)) same in like_here K M R limit _ _ refl (record { q = Exhausted; left = e; right = e; below = le; answers = λ reply h. absurd h; starts = tt }))
       (cases_lt clock limit)
 
   not_closed : (q : Request) (reply : Reply) → (reply ≡ Closed → ⊥) → Fits q reply → Suits q reply

@@ -6,7 +6,7 @@ use Rattle.std.proofs.lemmas.Bool.{and_parts, eqb-true, eq-eqb, ne_eqb, true≢f
 use Rattle.std.proofs.lemmas.Bool.Decides.{nat_tests}
 use Rattle.std.proofs.lemmas.Option.{same_Some}
 use Rattle.std.proofs.lemmas.List.{get_or_past, get_or_append_left, get_or-append_right}
-use Rattle.word.specs.Values.{Word, Int, Chan, Item, Case, Request, Make, Go, Send, Receive, Close, Select, Len, Cap, Print, End, Exit, Panic, Exhausted, Reply, Nothing, Value, Received, Clause, Default, Closed, Outcome, Ending, Finished, Panicked, RanOut, Done, Sleeps, Panics, Event, Sleeper, Offer, Channel, Shared}
+use Rattle.word.specs.Values.{Word, Int, Chan, Item, Case, Request, Make, Go, Send, Receive, Close, Select, Len, Cap, Print, End, Exit, Panic, Exhausted, Reply, Nothing, Value, Received, Clause, Default, Closed, Outcome, Ending, Finished, Panicked, RanOut, Done, Sleeps, Panics, Event, Sleeper, Offer, Channel, Shared, ChannelSize, CloseOfClosed, CloseOfNil, SendOnClosed, TooManyChannels, TooManyGoroutines}
 use Rattle.word.specs.Requests.{Fate, GoesOn, happened, Deed, no_channel, channel_of, with_offer, clause_offers, offers, first_offer, or_else, partner, without, without_all, sent, got, done, sleeps, ends, panics, with_channel, send_to, do_send, receive_from, do_receive, send_ready, receive_ready, is_ready, choose, do_clause, do_select, do_make, do_go, do_close, close_reply, partners, act, asked, meant, perform}
 use Rattle.logical_clock.specs.declared.key.Key.{Key}
 use Rattle.turn_rule.specs.Turns.{World, Rules, next, move_on, move_at, move_next, perform as perform_in, one, run}
@@ -226,8 +226,8 @@ module _ (w : Shared) (n c : ℕ) (q : Request) (sw : IsSound w) where
   sound_send : (k : ℕ) (item : Item) (clause p : ℕ) → reply_deal q (sent clause) ≡ Gives k item → send_ready w n c q k ≡ true → IsSound (do_send w n c q k item clause).shared
   sound_send k item clause p d r = go (channel_of w.channels k).closed refl
     where
-      go : (b : Bool) → (channel_of w.channels k).closed ≡ b → IsSound (cond b (panics w n c q 2 clause) (send_to w n c q k (channel_of w.channels k) item clause (partner k false w.asleep))).shared
-      go true e = sound_ends (Panics 2 clause) (Panicked 2) refl refl
+      go : (b : Bool) → (channel_of w.channels k).closed ≡ b → IsSound (cond b (panics w n c q SendOnClosed clause) (send_to w n c q k (channel_of w.channels k) item clause (partner k false w.asleep))).shared
+      go true e = sound_ends (Panics SendOnClosed clause) (Panicked SendOnClosed) refl refl
       go false e = sound_send_to k item clause d e r (partner k false w.asleep) refl
 
   -- what a sleeping sender offers
@@ -278,8 +278,8 @@ module _ (w : Shared) (n c : ℕ) (q : Request) (sw : IsSound w) where
       same : (j : ℕ) → (channel_of (with_channel w n c q k (record (channel_of w.channels k) { closed = true })).channels j).items ≡ its j
       same j = items_set w.channels k (record (channel_of w.channels k) { closed = true }) kept j ∙ by_chan k j (λ b. cond b (its k) (its j) ≡ its j) (λ z. ap its z) refl
 
-      go : (b : Bool) → IsSound (cond b (panics w n c q 3 0) (done w n c q (with_channel w n c q k (record (channel_of w.channels k) { closed = true })) Nothing (map (λ (p : Sleeper × Offer). (p.0.number, close_reply (channel_of w.channels k).zero p.1)) (partners k w.asleep)))).shared
-      go true = sound_ends (Panics 3 0) (Panicked 3) refl refl
+      go : (b : Bool) → IsSound (cond b (panics w n c q CloseOfClosed 0) (done w n c q (with_channel w n c q k (record (channel_of w.channels k) { closed = true })) Nothing (map (λ (p : Sleeper × Offer). (p.0.number, close_reply (channel_of w.channels k).zero p.1)) (partners k w.asleep)))).shared
+      go true = sound_ends (Panics CloseOfClosed 0) (Panicked CloseOfClosed) refl refl
       go false = sound_idle (with_channel w n c q k (record (channel_of w.channels k) { closed = true })) refl (λ x i. i) Nothing (map (λ (p : Sleeper × Offer). (p.0.number, close_reply (channel_of w.channels k).zero p.1)) (partners k w.asleep)) d same
 
   not_ready_empty : (k : ℕ) → receive_ready w n c q k ≡ false → its k ≡ []
@@ -307,22 +307,22 @@ module _ (w : Shared) (n c : ℕ) (q : Request) (sw : IsSound w) where
   sound_clause i (Some k) (Some item) h r = sound_send k item (suc i) 0 (h None) r
 
   sound_make : (size : ℤ) (z : Item) → ((k : ℕ) → reply_deal q (Value (Chan (Some k))) ≡ NoDeal) → IsSound (do_make w n c q size z).shared
-  sound_make (negsuc m) z d = sound_ends (Panics 6 0) (Panicked 6) refl refl
+  sound_make (negsuc m) z d = sound_ends (Panics ChannelSize 0) (Panicked ChannelSize) refl refl
   sound_make (pos size) z d = go (nat_lt 65536 size) (length w.channels == 65537)
     where
       ch : Channel
       ch = record { capacity = size; items = []; closed = false; zero = z }
 
-      go : (a b : Bool) → IsSound (cond a (panics w n c q 6 0) (cond b (panics w n c q 9 0) (done w n c q (record w { channels = w.channels ++ record { capacity = size; items = []; closed = false; zero = z } ∷ [] }) (Value (Chan (Some (length w.channels)))) []))).shared
-      go true b = sound_ends (Panics 6 0) (Panicked 6) refl refl
-      go false true = sound_ends (Panics 9 0) (Panicked 9) refl refl
+      go : (a b : Bool) → IsSound (cond a (panics w n c q ChannelSize 0) (cond b (panics w n c q TooManyChannels 0) (done w n c q (record w { channels = w.channels ++ record { capacity = size; items = []; closed = false; zero = z } ∷ [] }) (Value (Chan (Some (length w.channels)))) []))).shared
+      go true b = sound_ends (Panics ChannelSize 0) (Panicked ChannelSize) refl refl
+      go false true = sound_ends (Panics TooManyChannels 0) (Panicked TooManyChannels) refl refl
       go false false = sound_idle (record w { channels = w.channels ++ record { capacity = size; items = []; closed = false; zero = z } ∷ [] }) refl (λ x i. i) (Value (Chan (Some (length w.channels)))) [] (d (length w.channels)) (items_make w.channels (record { capacity = size; items = []; closed = false; zero = z }) refl)
 
   sound_go : (f : ℕ) (args : List Word) → reply_deal q Nothing ≡ NoDeal → IsSound (do_go w n c q f args).shared
   sound_go f args d = go (w.live == 1024)
     where
-      go : (b : Bool) → IsSound (cond b (panics w n c q 8 0) (record { fate = GoesOn Nothing; woken = []; started = (f, args) ∷ []; shared = happened w n c q (record w { live = w.live + 1; made = w.made + 1 }) (Done Nothing) ((w.made + 1) ∷ []) })).shared
-      go true = sound_ends (Panics 8 0) (Panicked 8) refl refl
+      go : (b : Bool) → IsSound (cond b (panics w n c q TooManyGoroutines 0) (record { fate = GoesOn Nothing; woken = []; started = (f, args) ∷ []; shared = happened w n c q (record w { live = w.live + 1; made = w.made + 1 }) (Done Nothing) ((w.made + 1) ∷ []) })).shared
+      go true = sound_ends (Panics TooManyGoroutines 0) (Panicked TooManyGoroutines) refl refl
       go false = sound_on w.asleep w.channels (Done Nothing) ((w.made + 1) ∷ []) refl (λ x i. i) (λ k x f i t. sw.calm k x f i t) (λ j. subst (λ z. Ord j z ((w.made + 1) ∷ []) (its j)) (sym d) (idle (accepted j w.events) (received j w.events) (its j) (sw.order j)))
 
 pub record Chosen (w : Shared) (n c : ℕ) (q : Request) (xs : List Case) (j : ℕ) (y : ℕ × Case) : Type 0 where
@@ -369,7 +369,7 @@ sound_act w n c (Receive (Some k)) sw = go (receive_ready w n c (Receive (Some k
     go : (b : Bool) → receive_ready w n c (Receive (Some k)) k ≡ b → IsSound (cond b (do_receive w n c (Receive (Some k)) k 0) (sleeps w n c (Receive (Some k)))).shared
     go true e = sound_receive w n c (Receive (Some k)) sw k 0 (λ x ok. refl)
     go false e = sound_sleeps w n c (Receive (Some k)) sw (λ m f t. by_chan w n c (Receive (Some k)) sw k m (λ u. cond (u && true) (Some (record { case = 0; chan = k; item = None })) None ≡ Some f → (channel_of w.channels m).items ≡ []) (λ z p. ap (λ i. (channel_of w.channels i).items) (sym z) ∙ not_ready_empty w n c (Receive (Some k)) sw k e) (λ p. cc) t)
-sound_act w n c (Close None) sw = sound_ends w n c (Close None) sw (Panics 4 0) (Panicked 4) refl refl
+sound_act w n c (Close None) sw = sound_ends w n c (Close None) sw (Panics CloseOfNil 0) (Panicked CloseOfNil) refl refl
 sound_act w n c (Close (Some k)) sw = sound_close w n c (Close (Some k)) sw k refl
 sound_act w n c (Select cases default) sw = sound_select w n c cases default sw (choose w n c (Select cases default) 1 cases) refl
 sound_act w n c (Len None) sw = sound_idle w n c (Len None) sw w refl (λ x i. i) (Value (Int (pos 0))) [] refl (λ j. refl)

@@ -6,7 +6,7 @@ use Rattle.turn_rule.specs.Schedule.{IsPrefixOf}
 use Rattle.turn_rule.specs.Turns.{World as Whole, run}
 use Rattle.turn_rule.proofs.Grows.{lengthens}
 use Rattle.turn_rule.proofs.Stable.{run_add}
-use Rattle.word.specs.Values.{Word, Item, Case, Request, Make, Go, Send, Receive, Close, Select, Len, Cap, Print, End, Exit, Panic, Exhausted, Reply, Event, Sleeper, Offer, Channel, Shared}
+use Rattle.word.specs.Values.{Word, Item, Case, Request, Make, Go, Send, Receive, Close, Select, Len, Cap, Print, End, Exit, Panic, Exhausted, Reply, Event, Sleeper, Offer, Channel, Shared, ChannelSize, CloseOfClosed, SendOnClosed, TooManyChannels, TooManyGoroutines}
 use Rattle.word.specs.Kinds.{Kind, Clocked, asks}
 use Rattle.word.specs.Requests.{Deed, channel_of, partner, done, sleeps, panics, send_to, do_send, receive_from, do_receive, send_ready, receive_ready, choose, do_clause, do_select, do_make, do_go, do_close, act, meant}
 use Rattle.word.specs.Worlds.{Rest, rules, performs, opening, moment}
@@ -28,7 +28,7 @@ module _ (w : Shared) (n c : ℕ) (q : Request) where
   longer_send_to k ch item i (Some p) = kept
 
   longer_send : (k : ℕ) (item : Item) (i : ℕ) → Longer (do_send w n c q k item i)
-  longer_send k item i = longer_cond (channel_of w.channels k).closed (panics w n c q 2 i) (send_to w n c q k (channel_of w.channels k) item i (partner k false w.asleep)) kept (longer_send_to k (channel_of w.channels k) item i (partner k false w.asleep))
+  longer_send k item i = longer_cond (channel_of w.channels k).closed (panics w n c q SendOnClosed i) (send_to w n c q k (channel_of w.channels k) item i (partner k false w.asleep)) kept (longer_send_to k (channel_of w.channels k) item i (partner k false w.asleep))
 
   longer_receive_from : (k : ℕ) (ch : Channel) (i : ℕ) (items : List Item) (o : Option (Sleeper × Offer)) → Longer (receive_from w n c q k ch i items o)
   longer_receive_from k ch i (x ∷ xs) None = kept
@@ -48,17 +48,17 @@ module _ (w : Shared) (n c : ℕ) (q : Request) where
 
   longer_make : (size : ℤ) (z : Item) → Longer (do_make w n c q size z)
   longer_make (negsuc m) z = kept
-  longer_make (pos size) z = longer_cond (nat_lt 65536 size) (panics w n c q 6 0) _ kept (longer_cond (length w.channels == 65537) (panics w n c q 9 0) _ kept kept)
+  longer_make (pos size) z = longer_cond (nat_lt 65536 size) (panics w n c q ChannelSize 0) _ kept (longer_cond (length w.channels == 65537) (panics w n c q TooManyChannels 0) _ kept kept)
 
   longer_act : (p : Request) → Longer (act w n c q p)
   longer_act (Make size z) = longer_make size z
-  longer_act (Go f args) = longer_cond (w.live == 1024) (panics w n c q 8 0) _ kept kept
+  longer_act (Go f args) = longer_cond (w.live == 1024) (panics w n c q TooManyGoroutines 0) _ kept kept
   longer_act (Send None item) = kept
   longer_act (Send (Some k) item) = longer_cond (send_ready w n c q k) (do_send w n c q k item 0) (sleeps w n c q) (longer_send k item 0) kept
   longer_act (Receive None) = kept
   longer_act (Receive (Some k)) = longer_cond (receive_ready w n c q k) (do_receive w n c q k 0) (sleeps w n c q) (longer_receive_from k (channel_of w.channels k) 0 (channel_of w.channels k).items (partner k true w.asleep)) kept
   longer_act (Close None) = kept
-  longer_act (Close (Some k)) = longer_cond (channel_of w.channels k).closed (panics w n c q 3 0) _ kept kept
+  longer_act (Close (Some k)) = longer_cond (channel_of w.channels k).closed (panics w n c q CloseOfClosed 0) _ kept kept
   longer_act (Select cases default) = longer_select default (choose w n c q 1 cases)
   longer_act (Len None) = kept
   longer_act (Len (Some k)) = kept

@@ -6,7 +6,7 @@ use Rattle.turn_rule.specs.Schedule.{Records, IsPrefixOf}
 use Rattle.turn_rule.specs.Turns.{run}
 use Rattle.turn_rule.proofs.Grows.{grows}
 use Rattle.turn_rule.proofs.Settled.{same_count}
-use Rattle.word.specs.Values.{Word, Item, Case, Request, Make, Go, Send, Receive, Close, Select, Len, Cap, Print, End, Exit, Panic, Exhausted, Reply, Event, Sleeper, Offer, Channel, Shared}
+use Rattle.word.specs.Values.{Word, Item, Case, Request, Make, Go, Send, Receive, Close, Select, Len, Cap, Print, End, Exit, Panic, Exhausted, Reply, Event, Sleeper, Offer, Channel, Shared, ChannelSize, CloseOfClosed, SendOnClosed, TooManyChannels, TooManyGoroutines}
 use Rattle.word.specs.Kinds.{Kind, Clocked, asks}
 use Rattle.word.specs.Requests.{Deed, channel_of, partner, done, sleeps, panics, send_to, do_send, receive_from, do_receive, send_ready, receive_ready, choose, do_clause, do_select, do_make, do_go, do_close, act, meant}
 use Rattle.word.specs.Worlds.{Rest, rules, performs, opening, moment}
@@ -25,7 +25,7 @@ module _ (w : Shared) (n c : ℕ) (q : Request) where
   one_send_to k ch item i (Some p) = (_, refl)
 
   one_send : (k : ℕ) (item : Item) (i : ℕ) → One (do_send w n c q k item i)
-  one_send k item i = one_cond (channel_of w.channels k).closed (panics w n c q 2 i) (send_to w n c q k (channel_of w.channels k) item i (partner k false w.asleep)) (_, refl) (one_send_to k (channel_of w.channels k) item i (partner k false w.asleep))
+  one_send k item i = one_cond (channel_of w.channels k).closed (panics w n c q SendOnClosed i) (send_to w n c q k (channel_of w.channels k) item i (partner k false w.asleep)) (_, refl) (one_send_to k (channel_of w.channels k) item i (partner k false w.asleep))
 
   one_receive_from : (k : ℕ) (ch : Channel) (i : ℕ) (items : List Item) (o : Option (Sleeper × Offer)) → One (receive_from w n c q k ch i items o)
   one_receive_from k ch i (x ∷ xs) None = (_, refl)
@@ -45,17 +45,17 @@ module _ (w : Shared) (n c : ℕ) (q : Request) where
 
   one_make : (size : ℤ) (z : Item) → One (do_make w n c q size z)
   one_make (negsuc m) z = (_, refl)
-  one_make (pos size) z = one_cond (nat_lt 65536 size) (panics w n c q 6 0) _ (_, refl) (one_cond (length w.channels == 65537) (panics w n c q 9 0) _ (_, refl) (_, refl))
+  one_make (pos size) z = one_cond (nat_lt 65536 size) (panics w n c q ChannelSize 0) _ (_, refl) (one_cond (length w.channels == 65537) (panics w n c q TooManyChannels 0) _ (_, refl) (_, refl))
 
   one_act : (p : Request) → One (act w n c q p)
   one_act (Make size z) = one_make size z
-  one_act (Go f args) = one_cond (w.live == 1024) (panics w n c q 8 0) _ (_, refl) (_, refl)
+  one_act (Go f args) = one_cond (w.live == 1024) (panics w n c q TooManyGoroutines 0) _ (_, refl) (_, refl)
   one_act (Send None item) = (_, refl)
   one_act (Send (Some k) item) = one_cond (send_ready w n c q k) (do_send w n c q k item 0) (sleeps w n c q) (one_send k item 0) (_, refl)
   one_act (Receive None) = (_, refl)
   one_act (Receive (Some k)) = one_cond (receive_ready w n c q k) (do_receive w n c q k 0) (sleeps w n c q) (one_receive_from k (channel_of w.channels k) 0 (channel_of w.channels k).items (partner k true w.asleep)) (_, refl)
   one_act (Close None) = (_, refl)
-  one_act (Close (Some k)) = one_cond (channel_of w.channels k).closed (panics w n c q 3 0) _ (_, refl) (_, refl)
+  one_act (Close (Some k)) = one_cond (channel_of w.channels k).closed (panics w n c q CloseOfClosed 0) _ (_, refl) (_, refl)
   one_act (Select cases default) = one_select default (choose w n c q 1 cases)
   one_act (Len None) = (_, refl)
   one_act (Len (Some k)) = (_, refl)

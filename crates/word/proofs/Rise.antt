@@ -3,7 +3,7 @@ use Rattle.std.proofs.Common.{◌≡◌, ℕ, zero, suc, ◌+◌, ◌-◌, ◌<�
 use Rattle.std.specs.Prelude.{◌==◌, nat_lt}
 use Rattle.std.specs.Option.{is_some}
 use Rattle.std.proofs.lemmas.Bool.{and_parts, eqb-true, eq-eqb, ne_eqb, true≢false}
-use Rattle.word.specs.Values.{Word, Item, Case, Request, Make, Go, Send, Receive, Close, Select, Len, Cap, Print, End, Exit, Panic, Exhausted, Reply, Nothing, Outcome, Done, Sleeps, Panics, Event, Sleeper, Offer, Channel, Shared}
+use Rattle.word.specs.Values.{Cause, Word, Item, Case, Request, Make, Go, Send, Receive, Close, Select, Len, Cap, Print, End, Exit, Panic, Exhausted, Reply, Nothing, Outcome, Done, Sleeps, Panics, Event, Sleeper, Offer, Channel, Shared, ChannelSize, CloseOfClosed, CloseOfNil, SendOnClosed, TooManyChannels, TooManyGoroutines}
 use Rattle.word.specs.Requests.{Fate, GoesOn, Dozes, Leaves, Stays, Deed, channel_of, offers, first_offer, partner, without, done, sleeps, ends, panics, send_to, do_send, receive_from, do_receive, send_ready, receive_ready, choose, do_clause, do_select, do_make, do_go, do_close, act, meant}
 use Rattle.word.specs.Flow.{Deal, Gives, Takes, NoDeal, deal, is_sleeps, item_of, latest, dozed, slept, offered, enters, accepted, accepted_after}
 use Rattle.word.specs.Rising.{Entry, later, falls_in, fell, offered_by, entered, entries_after, entries, IsIn, Rises, IsRising}
@@ -61,7 +61,7 @@ module _ (w : Shared) (n c : ℕ) (q : Request) where
   log_done : (v : Shared) → v.events ≡ w.events → (reply : Reply) (ws : List (ℕ × Reply)) → Logs w n c q (done w n c q v reply ws)
   log_done v e reply ws = record { o = Done reply; who = map (λ (x : ℕ × Reply). x.0) ws; events = ap (λ l. l ++ record { clock = c; number = n; request = q; outcome = Done reply; partners = map (λ (x : ℕ × Reply). x.0) ws } ∷ []) e; dozes = λ h. cc; woken = inl refl }
 
-  log_panics : (p i : ℕ) → Logs w n c q (panics w n c q p i)
+  log_panics : (p : Cause) (i : ℕ) → Logs w n c q (panics w n c q p i)
   log_panics p i = record { o = Panics p i; who = []; events = refl; dozes = λ h. cc; woken = inl refl }
 
   log_sleeps : Logs w n c q (sleeps w n c q)
@@ -72,7 +72,7 @@ module _ (w : Shared) (n c : ℕ) (q : Request) where
   log_send_to k ch item i (Some p) = log_done w refl _ _
 
   log_send : (k : ℕ) (item : Item) (i : ℕ) → Logs w n c q (do_send w n c q k item i)
-  log_send k item i = log_cond (channel_of w.channels k).closed (panics w n c q 2 i) (send_to w n c q k (channel_of w.channels k) item i (partner k false w.asleep)) (log_panics 2 i) (log_send_to k (channel_of w.channels k) item i (partner k false w.asleep))
+  log_send k item i = log_cond (channel_of w.channels k).closed (panics w n c q SendOnClosed i) (send_to w n c q k (channel_of w.channels k) item i (partner k false w.asleep)) (log_panics SendOnClosed i) (log_send_to k (channel_of w.channels k) item i (partner k false w.asleep))
 
   log_receive : (k : ℕ) (ch : Channel) (i : ℕ) (items : List Item) (o : Option (Sleeper × Offer)) → Logs w n c q (receive_from w n c q k ch i items o)
   log_receive k ch i (x ∷ xs) None = log_done _ refl _ []
@@ -91,18 +91,18 @@ module _ (w : Shared) (n c : ℕ) (q : Request) where
   log_select false None = log_sleeps
 
   log_make : (size : ℤ) (z : Item) → Logs w n c q (do_make w n c q size z)
-  log_make (negsuc m) z = log_panics 6 0
-  log_make (pos size) z = log_cond (nat_lt 65536 size) (panics w n c q 6 0) _ (log_panics 6 0) (log_cond (length w.channels == 65537) (panics w n c q 9 0) _ (log_panics 9 0) (log_done _ refl _ []))
+  log_make (negsuc m) z = log_panics ChannelSize 0
+  log_make (pos size) z = log_cond (nat_lt 65536 size) (panics w n c q ChannelSize 0) _ (log_panics ChannelSize 0) (log_cond (length w.channels == 65537) (panics w n c q TooManyChannels 0) _ (log_panics TooManyChannels 0) (log_done _ refl _ []))
 
 log_act : (w : Shared) (n c : ℕ) (q : Request) → Logs w n c q (act w n c q q)
 log_act w n c (Make size z) = log_make w n c (Make size z) size z
-log_act w n c (Go f args) = log_cond w n c (Go f args) (w.live == 1024) (panics w n c (Go f args) 8 0) _ (log_panics w n c (Go f args) 8 0) (record { o = Done Nothing; who = (w.made + 1) ∷ []; events = refl; dozes = λ h. cc; woken = inr refl })
+log_act w n c (Go f args) = log_cond w n c (Go f args) (w.live == 1024) (panics w n c (Go f args) TooManyGoroutines 0) _ (log_panics w n c (Go f args) TooManyGoroutines 0) (record { o = Done Nothing; who = (w.made + 1) ∷ []; events = refl; dozes = λ h. cc; woken = inr refl })
 log_act w n c (Send None item) = log_sleeps w n c (Send None item)
 log_act w n c (Send (Some k) item) = log_cond w n c (Send (Some k) item) (send_ready w n c (Send (Some k) item) k) _ _ (log_send w n c (Send (Some k) item) k item 0) (log_sleeps w n c (Send (Some k) item))
 log_act w n c (Receive None) = log_sleeps w n c (Receive None)
 log_act w n c (Receive (Some k)) = log_cond w n c (Receive (Some k)) (receive_ready w n c (Receive (Some k)) k) _ _ (log_receive w n c (Receive (Some k)) k (channel_of w.channels k) 0 (channel_of w.channels k).items (partner k true w.asleep)) (log_sleeps w n c (Receive (Some k)))
-log_act w n c (Close None) = log_panics w n c (Close None) 4 0
-log_act w n c (Close (Some k)) = log_cond w n c (Close (Some k)) (channel_of w.channels k).closed (panics w n c (Close (Some k)) 3 0) _ (log_panics w n c (Close (Some k)) 3 0) (log_done w n c (Close (Some k)) _ refl _ _)
+log_act w n c (Close None) = log_panics w n c (Close None) CloseOfNil 0
+log_act w n c (Close (Some k)) = log_cond w n c (Close (Some k)) (channel_of w.channels k).closed (panics w n c (Close (Some k)) CloseOfClosed 0) _ (log_panics w n c (Close (Some k)) CloseOfClosed 0) (log_done w n c (Close (Some k)) _ refl _ _)
 log_act w n c (Select cases default) = log_select w n c (Select cases default) default (choose w n c (Select cases default) 1 cases)
 log_act w n c (Len None) = log_done w n c (Len None) w refl _ []
 log_act w n c (Len (Some k)) = log_done w n c (Len (Some k)) w refl _ []

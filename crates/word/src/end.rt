@@ -1,12 +1,14 @@
 //! How a run ends.
 
+use crate::panic::Panic;
+
 /// How a run ends.
 #[derive(Clone, Copy, Debug, PartialEq, Eq)]
 pub enum End {
     /// Goroutine 1 returned from `main`.
     Finished,
-    /// A goroutine panicked; the panic's number, 1 to 9.
-    Panicked(u8),
+    /// A goroutine panicked.
+    Panicked(Panic),
     /// Nobody is awake.
     Deadlock,
     /// The goroutine in its turn had reached the clock limit.

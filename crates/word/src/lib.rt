@@ -10,7 +10,9 @@ ghost use Rattle.word.specs.Rising.{IsRising};
 ghost use Rattle.word.specs.Values.{Reply, Word};
 ghost use Rattle.word.specs.Worlds.{Equal, moment, rules};
 
+pub mod apply;
 pub mod end;
+pub mod panic;
 pub mod request;
 pub mod text;
 pub mod value;

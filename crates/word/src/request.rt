@@ -1,25 +1,74 @@
 //! What goroutines ask, and the events that come of it.
 
+use crate::panic::Panic;
+use crate::value::{Item, Word};
 use logical_clock::Clock;
 
-/// What a goroutine asks. Requests are performed one by one, each in its turn.
+/// A clause of a select: a send where there is an item. A channel is named by its number; `None` is `nil`.
+#[derive(Debug, Drop)]
+pub struct Case {
+    pub chan: Option<u32>,
+    pub item: Option<Item>,
+}
+
+/// What a goroutine asks, its operands in source order. Requests are performed one by one, each in its turn. A channel is
+/// named by its number, counted from 1; `None` is `nil`.
 #[derive(Debug, Drop)]
 pub enum Request {
+    /// A new channel of this size, whose zero item is this one (Go: Making slices, maps and channels).
+    Make(i64, Item),
+    /// A new goroutine that runs the function of this number with these arguments (Go: Go statements).
+    Go(u32, Vec<Word>),
+    /// A send (Go: Send statements).
+    Send(Option<u32>, Item),
+    /// A receive (Go: Receive operator).
+    Receive(Option<u32>),
+    /// A close (Go: Close).
+    Close(Option<u32>),
+    /// A select of these clauses, and whether it has a default (Go: Select statements).
+    Select(Vec<Case>, bool),
+    /// How many items are in the channel's buffer (Go: Length and capacity).
+    Len(Option<u32>),
+    /// The channel's capacity (Go: Length and capacity).
+    Cap(Option<u32>),
     /// These bytes are appended to the output.
     Print(Vec<u8>),
     /// A return from the goroutine's first function.
     End,
     /// The same of goroutine 1, which ends the program.
     Exit,
+    /// A panic, found while operands were valued or at a call.
+    Panic(Panic),
     /// At the clock limit, in place of a request or of a step that would tick.
     Exhausted,
 }
 
 /// What one that asked is told.
-#[derive(Clone, Copy, Debug, PartialEq, Eq)]
+#[derive(Debug, Drop)]
 pub enum Reply {
     /// The request is done.
     Nothing,
+    /// This value: a new channel, a length, a capacity.
+    Word(Word),
+    /// This item was received; false where the channel is closed and empty.
+    Received(Item, bool),
+    /// The select did the clause of this number, counted from 1, which received this where it receives.
+    Clause(usize, Option<(Item, bool)>),
+    /// The select did its default.
+    Default,
+    /// To a sender that a close woke: its item was not accepted, and it panics next.
+    Closed,
+}
+
+/// What became of a request.
+#[derive(Debug, Drop)]
+pub enum Outcome {
+    /// It is done, and its goroutine goes on with this reply.
+    Done(Reply),
+    /// Its goroutine fell asleep.
+    Sleeps,
+    /// It panicked, and so the program ended; in the clause of this number, 0 outside a select.
+    Panics(Panic, usize),
 }
 
 /// A request that was performed.
@@ -30,4 +79,7 @@ pub struct Event {
     /// The actor's number, counted from 1.
     pub number: u64,
     pub request: Request,
+    pub outcome: Outcome,
+    /// The numbers of those that were woken or started, in order.
+    pub partners: Vec<u64>,
 }

@@ -23,8 +23,8 @@ pub fn line(alloc: Global, words: &[Word]) -> Result<Vec<u8>, AllocError>
     Ok(text)
 }
 
-/// Appends the text of a value.
-fn append(text: &mut Vec<u8>, word: Word) -> Result<(), AllocError>
+/// Appends the text of a value: an int in decimal, `true` or `false`, nothing of a channel.
+pub fn append(text: &mut Vec<u8>, word: Word) -> Result<(), AllocError>
     ensures { OnOk result (text.new.items ≡ text.old.items ++ text_of word) }
 {
     match word {

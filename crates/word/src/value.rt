@@ -1,5 +1,12 @@
 //! The values of a program.
 
+ghost use Rattle.std.specs.Prelude.{◌≡◌, ◌∷◌, ◌≤◌, [], IsTrue, ◌↔◌, length};
+ghost use Rattle.smallvec.specs.SmallVec.{small_vec_len};
+
+use smallvec::SmallVec;
+use std::alloc::Global;
+use std::marker::Model;
+
 /// A value that takes one word.
 #[derive(Clone, Copy, Debug, PartialEq, Eq)]
 pub enum Word {
@@ -9,4 +16,55 @@ pub enum Word {
     Bool(bool),
     /// A channel by its number, counted from 1; `None` is `nil`.
     Chan(Option<u32>),
+}
+
+impl Default for Word {
+    /// The zero `int`.
+    fn default() -> Word {
+        Word::Int(0)
+    }
+}
+
+/// What a channel carries: one word for each field of its type, in order, at most 16.
+#[derive(Debug, Drop)]
+pub struct Item {
+    words: SmallVec<Word, 16>,
+    ghost short: { small_vec_len words ≤ 16 },
+}
+
+impl Model for Item {
+    ghost use Rattle.std.specs.Prelude.{List};
+    ghost use Rattle.word.specs.declared.value.Word.{Word};
+
+    ghost Value = { List Word };
+
+    ghost view = { λ item. item.words.items };
+}
+
+impl Item {
+    /// The item of these words.
+    pub fn new(alloc: Global, words: &[Word]) -> Item
+        requires { length words.now ≤ 16 }
+        ensures { result ≡ words.now }
+    {
+        match SmallVec::from_slice(alloc, words) {
+            Ok(words) => Item { words },
+            Err(_) => unreachable!(),
+        }
+    }
+
+    /// The item's words.
+    pub fn words(&self) -> &[Word]
+        ensures words { result.now ≡ self.now }
+        ensures short { length self.now ≤ 16 }
+    {
+        self.words.as_slice()
+    }
+
+    /// A second item that is the same.
+    pub fn copy(&self) -> Item
+        ensures { result ≡ self.now }
+    {
+        Item::new(*self.words.allocator(), self.words.as_slice())
+    }
 }

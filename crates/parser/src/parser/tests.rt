@@ -4,7 +4,10 @@ use super::*;
 use go_text::{LimitKind, Span};
 use scanner::scan;
 use std::test::Fail;
-use syntax::{BinaryOperator, ExpressionNode, StatementNode, UnaryOperator};
+use syntax::{
+    BinaryOperator, ExpressionNode, FunctionNode, PartNode, SimpleNode, StatementNode, TopNode,
+    UnaryOperator,
+};
 
 /// What is before the first statement of the tests' texts.
 const HEADER: &str = "package main;func f(){";
@@ -48,6 +51,14 @@ fn outcome_of(alloc: Global, text: &str) -> Outcome {
             },
         ) => Outcome::Entries(place.span.from),
         Err(_) => Outcome::Other,
+    }
+}
+
+/// The first declaration of a file, where that is a function.
+fn function_of(tree: &Tree) -> Result<&FunctionNode, Fail> {
+    match tree.file().tops.as_slice().first() {
+        Some(TopNode::Function(function)) => Ok(function),
+        _ => Err(Fail::new("a function")),
     }
 }
 
@@ -158,12 +169,9 @@ fn refuses_statements_at_the_first_wrong_token(rt: HostRuntime) -> Result<(), Fa
         ("println(", 8),
         ("println()}", 8),
         ("println(,)}", 8),
-        ("println(x)}", 8),
-        ("println(+1)}", 8),
         ("println(--1)}", 8),
         ("println(-)}", 9),
         ("println(())}", 9),
-        ("println(1*2)}", 9),
         ("println(1;2)}", 9),
         ("println(1}", 9),
         ("println(1\n)}", 9),
@@ -171,7 +179,6 @@ fn refuses_statements_at_the_first_wrong_token(rt: HostRuntime) -> Result<(), Fa
         ("println(1 2)}", 10),
         ("println(1 x)}", 10),
         ("println(1,,)}", 10),
-        ("println(1,x)}", 10),
         ("println(1,", 10),
         ("println(1))}", 10),
         ("println(1)", 10),
@@ -271,7 +278,8 @@ fn limits_arguments(rt: HostRuntime) -> Result<(), Fail> {
         (",1)}", Outcome::Entries(136)),
         (",(1))}", Outcome::Entries(136)),
         (",-1)}", Outcome::Entries(136)),
-        (",x)}", Outcome::Syntax(136)),
+        (",x)}", Outcome::Entries(136)),
+        (",len)}", Outcome::Syntax(136)),
         (",,)}", Outcome::Syntax(136)),
         (",", Outcome::Syntax(136)),
     ] {
@@ -288,14 +296,15 @@ fn limits_arguments(rt: HostRuntime) -> Result<(), Fail> {
 #[test]
 fn groups_equal_operators_to_the_left(rt: HostRuntime) -> Result<(), Fail> {
     let tree = tree_of(rt.alloc(), "package main;func go1(){println(1-2+-3,4,);}")?;
-    let function = &tree.file().function;
-    assert_eq!(rt; function.name.as_slice(), b"go1".as_slice());
+    let function = function_of(&tree)?;
+    assert_eq!(rt; function.name.bytes.as_slice(), b"go1".as_slice());
     assert_eq!(rt; function.body.len(), 2);
-    let StatementNode::Println(arguments, true) = &function.body[0] else {
+    let StatementNode::Simple(SimpleNode::Print(true, arguments, true)) = &function.body[0] else {
         return Err(Fail::new("a println with a trailing comma"));
     };
     assert_eq!(rt; arguments.len(), 2);
-    let ExpressionNode::Binary(BinaryOperator::Add, left, right) = &arguments[0] else {
+    let PartNode::Value(ExpressionNode::Binary(BinaryOperator::Add, left, right)) = &arguments[0]
+    else {
         return Err(Fail::new("the addition stands outside"));
     };
     assert!(rt;
@@ -305,7 +314,12 @@ fn groups_equal_operators_to_the_left(rt: HostRuntime) -> Result<(), Fail> {
         )
     );
     assert!(rt; matches!(&**right, ExpressionNode::Unary(UnaryOperator::Negate, _)));
-    assert!(rt; matches!(&arguments[1], ExpressionNode::Integer(Some(4))));
+    assert!(rt;
+        matches!(
+            &arguments[1],
+            PartNode::Value(ExpressionNode::Integer(Some(4)))
+        )
+    );
     assert!(rt; matches!(&function.body[1], StatementNode::Empty));
     Ok(())
 }
@@ -321,13 +335,13 @@ fn knows_values_up_to_the_limit(rt: HostRuntime) -> Result<(), Fail> {
     ] {
         let text = format!(in rt.alloc(); "{HEADER}println({digits})}}")?;
         let tree = tree_of(rt.alloc(), &text)?;
-        let body = &tree.file().function.body;
+        let body = &function_of(&tree)?.body;
         assert_eq!(rt; body.len(), 1);
-        let StatementNode::Println(arguments, false) = &body[0] else {
+        let StatementNode::Simple(SimpleNode::Print(true, arguments, false)) = &body[0] else {
             return Err(Fail::new("a println"));
         };
         assert_eq!(rt; arguments.len(), 1);
-        let ExpressionNode::Integer(found) = &arguments[0] else {
+        let PartNode::Value(ExpressionNode::Integer(found)) = &arguments[0] else {
             return Err(Fail::new("a number"));
         };
         assert_eq!(rt; *found, value, "{digits}");
@@ -357,5 +371,150 @@ fn numbers_nodes_in_postorder(rt: HostRuntime) -> Result<(), Fail> {
         node += 1;
     }
     assert_eq!(rt; node, tree.count());
+    Ok(())
+}
+
+#[test]
+fn refuses_expressions_at_the_first_wrong_token(rt: HostRuntime) -> Result<(), Fail> {
+    for (body, offset) in [
+        ("println(len)}", 8),
+        ("println(len(x))}", 8),
+        ("println(<-x)}", 8),
+        ("println(*x)}", 8),
+        ("println(&x)}", 8),
+        ("println(~x)}", 8),
+        ("println(.x)}", 8),
+        ("println({})}", 8),
+        ("println([]x)}", 8),
+        ("println(func)}", 8),
+        ("println(x<-y)}", 9),
+        ("println(f(x))}", 9),
+        ("println(x[1])}", 9),
+        ("println(x...)}", 9),
+        ("println(x:1)}", 9),
+        ("println(x=1)}", 9),
+        ("println(x++)}", 9),
+        ("println(!)}", 9),
+        ("println(x.)}", 10),
+        ("println(x.len)}", 10),
+        ("println(x.(y))}", 10),
+        ("println(x y)}", 10),
+        ("println(T{,})}", 10),
+        ("println(T{)}", 10),
+        ("println(T{1)}", 11),
+        ("println(T{1 2})}", 12),
+        ("println(T{1,,})}", 12),
+        ("println(T{a:1})}", 11),
+        ("println(T{1}{2})}", 12),
+        ("println(x.T{})}", 11),
+        ("println(x &&)}", 12),
+        ("println(x == == y)}", 13),
+        ("println(x ! y)}", 10),
+        ("println((x)}", 11),
+    ] {
+        assert_eq!(rt;
+            body_outcome(rt.alloc(), body)?,
+            Outcome::Syntax(offset),
+            "{body}"
+        );
+    }
+    Ok(())
+}
+
+#[test]
+fn takes_expressions(rt: HostRuntime) -> Result<(), Fail> {
+    for body in [
+        "println(x)}",
+        "println(+1)}",
+        "println(1*2)}",
+        "println(1,x)}",
+        "println(x.y.z)}",
+        "println(3 .x)}",
+        "println(T{})}",
+        "println(T{1})}",
+        "println(T{1,})}",
+        "println(T{1,x.y,U{}}.f)}",
+        "println((T{}).x)}",
+        "println(!a&&b||c==d)}",
+        "println(a<<1&^b|^c)}",
+        "println(^-+!x)}",
+        "println(a+b-c*d/e%f&g|h^i<<j>>k&^l==m,n!=o,p<q,r<=s,t>u,v>=w)}",
+        "println(nil,true,false,int,bool)}",
+        "println(T{\n1,\n2,\n})}",
+    ] {
+        assert_eq!(rt; body_outcome(rt.alloc(), body)?, Outcome::Tree, "{body}");
+    }
+    Ok(())
+}
+
+#[test]
+fn limits_selections_and_literals(rt: HostRuntime) -> Result<(), Fail> {
+    let alloc = rt.alloc();
+    let body = repeated(alloc, "println(x", ".a", 195, ")}")?;
+    assert_eq!(rt;
+        body_outcome(alloc, &body)?,
+        Outcome::Tree,
+        "195 selections"
+    );
+    let body = repeated(alloc, "println(x", ".a", 196, ")}")?;
+    assert_eq!(rt;
+        body_outcome(alloc, &body)?,
+        Outcome::TooDeep(399),
+        "196 selections"
+    );
+    let closing = repeated(alloc, "T{}", "}", 195, ")}")?;
+    let body = repeated(alloc, "println(", "T{", 195, &closing)?;
+    assert_eq!(rt; body_outcome(alloc, &body)?, Outcome::Tree, "196 literals");
+    let body = repeated(alloc, "println(", "T{", 196, "T{}")?;
+    assert_eq!(rt;
+        body_outcome(alloc, &body)?,
+        Outcome::TooDeep(400),
+        "197 literals"
+    );
+    let body = repeated(alloc, "println(T{1", ",1", 63, ",})}")?;
+    assert_eq!(rt; body_outcome(alloc, &body)?, Outcome::Tree, "64 values");
+    let body = repeated(alloc, "println(T{1", ",1", 64, "})}")?;
+    assert_eq!(rt;
+        body_outcome(alloc, &body)?,
+        Outcome::Entries(138),
+        "65 values"
+    );
+    Ok(())
+}
+
+#[test]
+fn groups_stronger_operators_within_weaker_ones(rt: HostRuntime) -> Result<(), Fail> {
+    let tree = tree_of(
+        rt.alloc(),
+        "package main;func f(){println(a||b&&c==d+e*-f.g)}",
+    )?;
+    let body = &function_of(&tree)?.body;
+    assert_eq!(rt; body.len(), 1);
+    let StatementNode::Simple(SimpleNode::Print(true, arguments, false)) = &body[0] else {
+        return Err(Fail::new("a println"));
+    };
+    assert_eq!(rt; arguments.len(), 1);
+    let PartNode::Value(first) = &arguments[0] else {
+        return Err(Fail::new("a value"));
+    };
+    let mut expression = first;
+    for operator in [
+        BinaryOperator::LogicalOr,
+        BinaryOperator::LogicalAnd,
+        BinaryOperator::Equal,
+        BinaryOperator::Add,
+        BinaryOperator::Multiply,
+    ] {
+        let ExpressionNode::Binary(found, left, right) = expression else {
+            return Err(Fail::new("an operation"));
+        };
+        assert_eq!(rt; *found, operator);
+        assert!(rt; matches!(&**left, ExpressionNode::Named(_)));
+        expression = &**right;
+    }
+    let ExpressionNode::Unary(UnaryOperator::Negate, operand) = expression else {
+        return Err(Fail::new("a negation"));
+    };
+    assert!(rt; matches!(&**operand, ExpressionNode::Selection(_, _)));
     Ok(())
 }

@@ -1,7 +1,9 @@
 use Rattle.std.proofs.lemmas.Result.{err_from_is_err_and}
-use Rattle.syntax.specs.Tree.{statement_size}
+use Rattle.syntax.specs.Measures.{statement_size}
 use Rattle.syntax.specs.View.{statement_of}
 use Rattle.checker.specs.Rules.{StatementHas}
+use Rattle.checker.specs.Built.{IsBuiltStatement}
+use Rattle.checker.proofs.Left.{item_built}
 use Rattle.checker.proofs.Parts.{found_left, none_left}
 use Rattle.checker.proofs.body.statements.Goals as goal
 
@@ -13,3 +15,6 @@ returns-in_err-end-clause-one c =
 pub returns-clause-none : goal.returns-clause-none
 returns-clause-none c =
     none_left statement_of statement_size StatementHas c.loop-one.end c.loop-one.one-index c.args.statements.now c.args.first c.loop-one-test.false c.loop-one.invariant
+
+pub statement-requires-clause-built : goal.statement-requires-clause-built
+statement-requires-clause-built c = item_built statement_of IsBuiltStatement c.loop-one.one-index c.args.statements.now c.one-item.result c.loop-one-test.true c.one-item.is c.requires.built

@@ -1,5 +1,5 @@
 use Rattle.std.proofs.Common.{drop, map}
-use Rattle.syntax.specs.Tree.{statement_size}
+use Rattle.syntax.specs.Measures.{statement_size}
 use Rattle.syntax.specs.View.{statement_of}
 use Rattle.checker.specs.Rules.{StatementHas}
 use Rattle.checker.proofs.Parts.{IsLeft}

@@ -1,6 +1,6 @@
 use Rattle.std.proofs.Common.{◌≡◌, ◌++◌, ◌+◌, ◌≤◌, map, drop, sum_by, vec_len}
 use Rattle.codegen.specs.Generated.{body_code, tables_of}
-use Rattle.syntax.specs.Tree.{statement_size}
+use Rattle.syntax.specs.Measures.{statement_size}
 use Rattle.syntax.specs.View.{statement_of}
 use Rattle.codegen.proofs.generate.put_body.Given as goal
 

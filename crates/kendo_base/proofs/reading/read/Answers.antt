@@ -3,7 +3,7 @@ use Rattle.std.specs.Prelude.{IsUtf8}
 use Rattle.std.proofs.lemmas.Result.{err_from_is_err_and}
 use Rattle.checker.specs.Typed.{tree_in}
 use Rattle.go_text.specs.Source.{bytes_of}
-use Rattle.parser.specs.Lexemes.{lexemes}
+use Rattle.parser_base.specs.Lexemes.{lexemes}
 use Rattle.parser.specs.Spelling.{Spells}
 use Rattle.scanner.specs.declared.token.Token.{Token}
 use Rattle.syntax.specs.declared.tree.Tree.{Tree}
@@ -44,7 +44,7 @@ returns-in_err-checked-clause-why c =
     let tree = c.in_ok-tree.tree in
     let utf8 : IsUtf8 text = subst IsUtf8 c.as_str-text.ensures.bytes c.as_str-text.ensures.utf8 in
     let spelt : Spells (lexemes text ts) (tree_of tree) = subst (λ (us : List Token). Spells (lexemes text us) (tree_of tree)) c.as_slice.ensures.value c.in_ok-tree.ensures.spelt in
-    rw (p.1, p.2) (wrong _ text ts tree c.in_ok-source.ensures.text utf8 c.in_ok-tokens.ensures.tokens spelt c.in_ok-tree.ensures.low c.in_ok-tree.ensures.few c.in_err-checked.ensures.why)
+    rw (p.1, p.2) (wrong _ text ts tree c.in_ok-source.ensures.text utf8 c.in_ok-tokens.ensures.tokens spelt c.in_ok-tree.ensures.low c.in_ok-tree.ensures.few c.in_ok-tree.ensures.clauses c.in_err-checked.ensures.why)
 
 pub returns-clause-reads : goal.returns-clause-reads
 returns-clause-reads c =
@@ -54,5 +54,5 @@ returns-clause-reads c =
     let spelt : Spells (lexemes text ts) file = subst (λ (us : List Token). Spells (lexemes text us) file) c.as_slice.ensures.value c.in_ok-tree.ensures.spelt in
     let utf8 : IsUtf8 text = subst IsUtf8 c.as_str-text.ensures.bytes c.as_str-text.ensures.utf8 in
     let short : length text ≤ 1048576 = subst (λ (bs : List ℕ). length bs ≤ 1048576) c.as_str-text.ensures.bytes c.as_str-text.ensures.short in
-    let whole = reads text ts file utf8 short c.in_ok-tokens.ensures.tokens spelt c.in_ok-tree.ensures.low c.in_ok-tree.ensures.few c.in_ok-checked.ensures.typed in
+    let whole = reads text ts file utf8 short c.in_ok-tokens.ensures.tokens spelt c.in_ok-tree.ensures.low c.in_ok-tree.ensures.few c.in_ok-tree.ensures.clauses c.in_ok-checked.ensures.built c.in_ok-checked.ensures.typed in
     subst (λ bs. Reads bs (tree_of (tree_in c.in_ok-checked.field-0))) c.in_ok-source.ensures.text (subst (λ (t : Tree). Reads text (tree_of t)) (sym c.in_ok-checked.ensures.tree) whole)

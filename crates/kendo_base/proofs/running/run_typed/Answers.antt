@@ -6,15 +6,15 @@ use Rattle.kendo_base.proofs.running.run_typed.Goals as goal
 
 pub returns-in_err-end-clause-begins : goal.returns-in_err-end-clause-begins
 returns-in_err-end-clause-begins g c =
-    begins_code (source_kind (tree_of (tree_in c.args.typed.now))) c.in_ok-code.code c.in-Ok.program c.args.limit (g.O.Write.contents c.args.out.now) (g.O.Write.contents c.run_verified.new.out)
-    c.in-Ok.ensures.code c.in_ok-code.ensures.equal c.run_verified.ensures.begins
+    begins_code (source_kind (tree_of (tree_in c.args.typed.now))) c.in_ok-code.code c.in_ok-program.program c.args.limit (g.O.Write.contents c.args.out.now) (g.O.Write.contents c.run_verified.new.out)
+    c.in_ok-program.ensures.code c.in_ok-code.ensures.equal c.run_verified.ensures.begins
 
 pub returns-clause-begins : goal.returns-clause-begins
 returns-clause-begins g c =
-    begins_code (source_kind (tree_of (tree_in c.args.typed.now))) c.in_ok-code.code c.in-Ok.program c.args.limit (g.O.Write.contents c.args.out.now) (g.O.Write.contents c.run_verified.new.out)
-    c.in-Ok.ensures.code c.in_ok-code.ensures.equal c.run_verified.ensures.begins
+    begins_code (source_kind (tree_of (tree_in c.args.typed.now))) c.in_ok-code.code c.in_ok-program.program c.args.limit (g.O.Write.contents c.args.out.now) (g.O.Write.contents c.run_verified.new.out)
+    c.in_ok-program.ensures.code c.in_ok-code.ensures.equal c.run_verified.ensures.begins
 
 pub returns-clause-whole : goal.returns-clause-whole
 returns-clause-whole g c =
-    whole_code (source_kind (tree_of (tree_in c.args.typed.now))) c.in_ok-code.code c.in-Ok.program c.args.limit (g.O.Write.contents c.args.out.now) (g.O.Write.contents c.run_verified.new.out) c.in_ok-end.end
-    c.in-Ok.ensures.code c.in_ok-code.ensures.equal c.in_ok-end.ensures.whole
+    whole_code (source_kind (tree_of (tree_in c.args.typed.now))) c.in_ok-code.code c.in_ok-program.program c.args.limit (g.O.Write.contents c.args.out.now) (g.O.Write.contents c.run_verified.new.out) c.in_ok-end.end
+    c.in_ok-program.ensures.code c.in_ok-code.ensures.equal c.in_ok-end.ensures.whole

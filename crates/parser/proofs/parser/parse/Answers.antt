@@ -2,10 +2,11 @@ use Rattle.std.proofs.Common.{◌≤◌, length, ap, sym, subst, arith}
 use Rattle.std.proofs.lemmas.Result.{err_from_is_err_and}
 use Rattle.std.proofs.lemmas.List.{length-map}
 use Rattle.go_text.specs.Source.{bytes_of}
-use Rattle.syntax.specs.Tree.{File, height, most_entries}
+use Rattle.syntax.specs.Tree.{File}
+use Rattle.syntax.specs.Measures.{Entries, SelectClauses, height, most_entries, most_clauses}
 use Rattle.syntax.specs.View.{file_of}
-use Rattle.parser.specs.Cursor.{ahead}
-use Rattle.parser.specs.Lexemes.{lexeme, lexemes}
+use Rattle.parser_base.specs.Cursor.{ahead}
+use Rattle.parser_base.specs.Lexemes.{lexeme, lexemes}
 use Rattle.parser.proofs.FileLaws.{file_sound}
 use Rattle.parser.proofs.Parsing.{fault_syntax, fault_deep, fault_many, size_read}
 use Rattle.parser.proofs.parser.parse.Goals as goal
@@ -23,7 +24,12 @@ returns-in_err-file-clause-deep c =
 pub returns-in_err-file-clause-many : goal.returns-in_err-file-clause-many
 returns-in_err-file-clause-many c =
     let p = err_from_is_err_and c.from_residual.result c.from_residual.ensures.1 in
-    rw (p.1, p.2) (fault_many 197 64 (ahead c.new.result) (lexemes (bytes_of c.args.source.now) c.args.tokens.now) c.in_err-file.field-0.0 c.new.ensures c.in_err-file.ensures.file)
+    rw (p.1, p.2) (fault_many 197 64 (ahead c.new.result) (lexemes (bytes_of c.args.source.now) c.args.tokens.now) c.in_err-file.field-0.0 Entries c.new.ensures c.in_err-file.ensures.file)
+
+pub returns-in_err-file-clause-wide : goal.returns-in_err-file-clause-wide
+returns-in_err-file-clause-wide c =
+    let p = err_from_is_err_and c.from_residual.result c.from_residual.ensures.1 in
+    rw (p.1, p.2) (fault_many 197 64 (ahead c.new.result) (lexemes (bytes_of c.args.source.now) c.args.tokens.now) c.in_err-file.field-0.0 SelectClauses c.new.ensures c.in_err-file.ensures.file)
 
 pub new-requires-2-clause-small : goal.new-requires-2-clause-small
 new-requires-2-clause-small c =
@@ -44,4 +50,9 @@ returns-clause-low c =
 pub returns-clause-few : goal.returns-clause-few
 returns-clause-few c =
     let found = file_sound 197 64 (ahead c.new.result) (file_of c.in_ok-file.file) c.in_ok-file.ensures.file in
-    subst (λ (f : File). most_entries f ≤ 64) (sym c.new-2.ensures.tree) found.few
+    subst (λ (f : File). most_entries f ≤ 64) (sym c.new-2.ensures.tree) (found.few Entries)
+
+pub returns-clause-clauses : goal.returns-clause-clauses
+returns-clause-clauses c =
+    let found = file_sound 197 64 (ahead c.new.result) (file_of c.in_ok-file.file) c.in_ok-file.ensures.file in
+    subst (λ (f : File). most_clauses f ≤ 64) (sym c.new-2.ensures.tree) (found.few SelectClauses)

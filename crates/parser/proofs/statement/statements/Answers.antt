@@ -1,11 +1,12 @@
 use Rattle.std.proofs.Common.{◌≤◌, ◌<◌, length, is_ok, ap, arith}
 use Rattle.std.proofs.ResultArms.{chosen}
 use Rattle.std.proofs.lemmas.Result.{err_from_is_err_and}
-use Rattle.syntax.specs.Tree.{statement_size}
+use Rattle.syntax.specs.Measures.{statement_size}
 use Rattle.syntax.specs.View.{statement_of}
-use Rattle.parser.specs.Cursor.{ahead}
-use Rattle.parser.specs.Reading.{Syntax, statement, statement_next}
-use Rattle.parser.proofs.Lists.{more, ends, one_fails, next_fails, is_full, sum_by-pushed}
+use Rattle.parser_base.specs.Cursor.{ahead}
+use Rattle.parser_base.specs.Reading.{Syntax}
+use Rattle.parser.specs.Reading.{statement, statement_next}
+use Rattle.parser_base.proofs.Lists.{more, ends, one_fails, next_fails, is_full, sum_by-pushed}
 use Rattle.parser.proofs.statement.statements.Goals as goal
 
 pub returns-in_err-one-clause-statements : goal.returns-in_err-one-clause-statements

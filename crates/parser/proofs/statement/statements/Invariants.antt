@@ -1,9 +1,10 @@
 use Rattle.std.proofs.Common.{◌≡◌, ◌-◌, ◌+◌, map, length, sum_by, vec_len}
-use Rattle.syntax.specs.Tree.{statement_size}
+use Rattle.syntax.specs.Measures.{statement_size}
 use Rattle.syntax.specs.View.{statement_of}
-use Rattle.parser.specs.Cursor.{ahead}
-use Rattle.parser.specs.Reading.{Syntax, statement, statement_next, listed}
-use Rattle.parser.proofs.Lists.{with_front}
+use Rattle.parser_base.specs.Cursor.{ahead}
+use Rattle.parser_base.specs.Reading.{Syntax, listed}
+use Rattle.parser.specs.Reading.{statement, statement_next}
+use Rattle.parser_base.proofs.Lists.{with_front}
 use Rattle.parser.proofs.statement.statements.Given as goal
 
 abbrev pub invariant-loop : goal.invariant-loop

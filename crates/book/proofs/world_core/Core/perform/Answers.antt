@@ -13,4 +13,4 @@ returns-in-Some-clause-fits c = λ all.
       | inr l ↦ absurd (true≢false (c.in-Some.ensures.none.1 l))
     ] in
     subst (FitsAll c.args.code.now c.args.limit) (sym (ap (λ (core : CoreValue). core.rows) c.answer.ensures))
-    (fits_answered c.args.code.now c.args.limit c.args.self.now.rows c.args.number c.in-Some.later c.in_ok-clock.ensures.verified below all)
+    (fits_answered c.args.code.now c.args.limit c.args.self.now.rows c.args.number c.in-Some.later c.in_ok-clock.ensures.asked.verified below all)

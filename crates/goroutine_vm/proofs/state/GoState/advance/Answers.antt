@@ -1,6 +1,6 @@
 use Rattle.std.proofs.Common.{None, Some, ◌≡◌, subst}
 use Rattle.goroutine_vm.specs.Advance.{Turns}
-use Rattle.goroutine_vm.proofs.Asking.{steps_more}
+use Rattle.goroutine_vm.proofs.Turns.{steps_more}
 use Rattle.goroutine_vm.proofs.state.GoState.advance.Goals as goal
 
 pub loop-made-preserved : goal.loop-made-preserved

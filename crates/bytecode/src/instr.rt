@@ -1,0 +1,65 @@
+//! Instructions, and the kinds of the words that they take and leave.
+
+use word::apply::Op;
+
+/// The kind of a word.
+#[derive(Clone, Copy, Debug, PartialEq, Eq)]
+pub enum Kind {
+    /// An `int`.
+    Int,
+    /// A `bool`.
+    Bool,
+    /// A channel, or `nil`, whose items have the shape of this number.
+    Chan(u32),
+}
+
+/// An instruction. Places of instructions, functions, locals, shapes and tables are counted from 0. Words are taken from
+/// the top of the operand stack, the last one named being on its top, and left there.
+#[derive(Clone, Copy, Debug, PartialEq, Eq)]
+pub enum Instr {
+    /// Pushes this number.
+    Int(i64),
+    /// Pushes this truth value.
+    Bool(bool),
+    /// Pushes the `nil` channel of this shape.
+    Nil(u32),
+    /// Pushes the locals from the first number on, as many as the second says.
+    Load(u32, u32),
+    /// Pops words into the locals from the first number on, as many as the second says.
+    Store(u32, u32),
+    /// Of as many words as the first number says, keeps those from the second on, as many as the third says.
+    Pick(u32, u32, u32),
+    /// Drops so many words.
+    Discard(u32),
+    /// Pops the operator's operands and pushes its value; or panics.
+    Apply(Op),
+    /// One assignment is completed: the clock grows by 1.
+    Tick,
+    /// Goes on at this place, which lies ahead.
+    Jump(u32),
+    /// Pops a truth value and, where it is false, goes on at this place, which lies ahead.
+    Unless(u32),
+    /// Goes back to this place; the clock grows by 1.
+    Loop(u32),
+    /// Pops its arguments and enters the function of this number; the clock grows by 1. Panics at 1,000 functions.
+    Call(u32),
+    /// Leaves the function with its results, which the caller finds on its stack; of a goroutine's first function asks to
+    /// end.
+    Return,
+    /// Pops a size and asks for a channel of this shape, which is pushed.
+    Make(u32),
+    /// Pops its arguments and asks to start the function of this number.
+    Go(u32),
+    /// Pops a channel of this shape and an item, and asks to send it.
+    Send(u32),
+    /// Pops a channel of this shape and asks to receive; the item and a truth value are pushed.
+    Receive(u32),
+    /// Pops a channel and asks to close it.
+    Close,
+    /// Pops a channel and asks how many items are in its buffer, which is pushed.
+    Len,
+    /// Pops a channel and asks for its capacity, which is pushed.
+    Cap,
+    /// Pops the values of the print table of this number, and asks to print them.
+    Print(u32),
+}

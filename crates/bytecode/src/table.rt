@@ -1,0 +1,179 @@
+//! Tables that instructions name: shapes of items, and what a print writes.
+
+ghost use Rattle.std.specs.Prelude.{◌≡◌, ◌↔◌, IsTrue};
+
+use crate::instr::Kind;
+use std::marker::Model;
+
+/// The kinds of an item's words: 1 to 16 in verified code.
+#[derive(Debug, Drop)]
+pub struct Shape {
+    kinds: Vec<Kind>,
+}
+
+impl Model for Shape {
+    ghost use Rattle.std.specs.Prelude.{List};
+    ghost use Rattle.bytecode.specs.declared.instr.Kind.{Kind};
+
+    ghost Value = { List Kind };
+
+    ghost view = { λ s. s.kinds.items };
+}
+
+impl Shape {
+    /// The shape of these kinds.
+    pub fn new(kinds: Vec<Kind>) -> Shape
+        ensures { result ≡ kinds.items }
+    {
+        Shape { kinds }
+    }
+
+    /// The kinds.
+    pub fn kinds(&self) -> &[Kind]
+        ensures { result.now ≡ self.now }
+    {
+        self.kinds.as_slice()
+    }
+
+    /// Whether the two have the same kinds.
+    pub fn is_same(&self, other: &Shape) -> bool
+        ensures { IsTrue result ↔ (self.now ≡ other.now) }
+    {
+        same_kinds(self.kinds.as_slice(), other.kinds.as_slice())
+    }
+}
+
+/// Whether the two lists have the same kinds, one by one.
+pub fn same_kinds(left: &[Kind], right: &[Kind]) -> bool
+    ensures { IsTrue result ↔ (left.now ≡ right.now) }
+{
+    if left.len() != right.len() {
+        return false;
+    }
+    for i in 0..left.len() {
+        if left[i] != right[i] {
+            return false;
+        }
+    }
+    true
+}
+
+/// The bytes of a string in the source.
+#[derive(Debug, Drop)]
+pub struct Text {
+    bytes: Vec<u8>,
+}
+
+impl Model for Text {
+    ghost use Rattle.std.specs.Prelude.{List, ℕ};
+
+    ghost Value = { List ℕ };
+
+    ghost view = { λ t. t.bytes.items };
+}
+
+impl Text {
+    /// These bytes.
+    pub fn new(bytes: Vec<u8>) -> Text
+        ensures { result ≡ bytes.items }
+    {
+        Text { bytes }
+    }
+
+    /// The bytes.
+    pub fn bytes(&self) -> &[u8]
+        ensures { result.now ≡ self.now }
+    {
+        self.bytes.as_slice()
+    }
+}
+
+/// A part of what is printed.
+#[derive(Debug, Drop)]
+pub enum Part {
+    /// An `int`, taken from the stack.
+    Int,
+    /// A `bool`, taken from the stack.
+    Bool,
+    /// A string.
+    Text(Text),
+}
+
+/// What a `print` or `println` writes.
+#[derive(Debug, Drop)]
+pub struct PrintTable {
+    parts: Vec<Part>,
+    line: bool,
+}
+
+impl Model for PrintTable {
+    ghost use Rattle.bytecode.specs.Code.{PrintTable as PrintTableValue};
+
+    ghost Value = { PrintTableValue };
+
+    ghost view = { λ t. record { parts = t.parts.items; line = t.line } };
+}
+
+impl PrintTable {
+    /// The table of these parts, of a `println` where it is a line.
+    pub fn new(parts: Vec<Part>, line: bool) -> PrintTable
+        ensures { result ≡ record { parts = parts.items; line = line } }
+    {
+        PrintTable { parts, line }
+    }
+
+    /// The parts, in order: at most 64 in verified code.
+    pub fn parts(&self) -> &[Part]
+        ensures { result.now ≡ self.now.parts }
+    {
+        self.parts.as_slice()
+    }
+
+    /// Whether it is a `println`, which puts spaces between the parts and a newline behind them.
+    pub fn line(&self) -> bool
+        ensures { result ≡ self.now.line }
+    {
+        self.line
+    }
+
+    /// Whether the two have the same parts and are both lines or both not.
+    pub fn is_same(&self, other: &PrintTable) -> bool
+        ensures { IsTrue result ↔ (self.now ≡ other.now) }
+    {
+        self.line == other.line && same_parts(self.parts.as_slice(), other.parts.as_slice())
+    }
+}
+
+fn same_bytes(left: &[u8], right: &[u8]) -> bool
+    ensures { IsTrue result ↔ (left.now ≡ right.now) }
+{
+    left == right
+}
+
+fn is_same_part(left: &Part, right: &Part) -> bool
+    ensures { IsTrue result ↔ (left.now ≡ right.now) }
+{
+    match left {
+        Part::Int => matches!(right, Part::Int),
+        Part::Bool => matches!(right, Part::Bool),
+        Part::Text(text) => match right {
+            Part::Text(other) => same_bytes(text.bytes(), other.bytes()),
+            Part::Int => false,
+            Part::Bool => false,
+        },
+    }
+}
+
+fn same_parts(left: &[Part], right: &[Part]) -> bool
+    ensures { IsTrue result ↔ (left.now ≡ right.now) }
+{
+    if left.len() != right.len() {
+        return false;
+    }
+    for i in 0..left.len() {
+        if !is_same_part(&left[i], &right[i]) {
+            return false;
+        }
+    }
+    true
+}

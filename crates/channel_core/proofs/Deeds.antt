@@ -1,0 +1,33 @@
+-- What sends and receives do, branch by branch.
+use Rattle.std.proofs.Common.{◌≡◌, ℕ, zero, suc, ◌+◌, Bool, true, false, cond, not, List, [], ◌∷◌, ◌++◌, length, drop, slice_set, Option, Some, None, refl, sym, ap, ◌∙◌}
+use Rattle.std.specs.Prelude.{◌==◌}
+use Rattle.std.specs.List.{filter}
+use Rattle.word.specs.Values.{Item, Request, Send, Receive, Channel, Sleeper, Offer}
+use Rattle.word.specs.Requests.{channel_of, receive_from, receive_ready, send_ready, without}
+use Rattle.channel_core.specs.Channels.{ChannelsValue, Others, shared_with, Does, Sends, Receives, IsAlone, IsServed}
+use Rattle.channel_core.specs.declared.outcome.Outcome.{Outcome}
+use Rattle.channel_core.specs.declared.outcome.Outcome.TheVariants as outcomes
+
+-- the sleepers of other numbers stay
+without_step : (s : Sleeper) (ss : List Sleeper) (n : ℕ) (b : Bool) → (s.number == n) ≡ b → filter (λ (t : Sleeper). not (t.number == n)) ss ≡ without ss n → filter (λ (t : Sleeper). not (t.number == n)) (s ∷ ss) ≡ without (s ∷ ss) n
+without_step s ss n true e rest = rw e rest
+without_step s ss n false e rest = rw e (ap (λ (ts : List Sleeper). s ∷ ts) rest)
+
+pub others_stay : (ss : List Sleeper) (n : ℕ) → filter (λ (t : Sleeper). not (t.number == n)) ss ≡ without ss n
+others_stay [] n = refl
+others_stay (s ∷ ss) n = without_step s ss n (s.number == n) refl (others_stay ss n)
+
+pub send_done : (old new : ChannelsValue) (n k : ℕ) (item : Item) (outcome : Outcome) → ((o : Others) (m c : ℕ) (q : Request) → true ≡ send_ready (shared_with o old) m c q k) → Sends old n k item 0 outcome new → Does old n (Send (Some k) item) outcome new
+send_done old new n k item outcome ready sends o c = rw (← ready o n c (Send (Some k) item)) (sends o c (Send (Some k) item))
+
+pub receive_done : (old new : ChannelsValue) (n k : ℕ) (outcome : Outcome) → ((o : Others) (m c : ℕ) (q : Request) → true ≡ receive_ready (shared_with o old) m c q k) → Receives old n k 0 outcome new → Does old n (Receive (Some k)) outcome new
+receive_done old new n k outcome ready receives o c = rw (← ready o n c (Receive (Some k))) (receives o c (Receive (Some k)))
+
+abbrev pub with_sleeper : ChannelsValue → ℕ → Request → ChannelsValue
+with_sleeper old n q = record { channels = old.channels; asleep = without old.asleep n ++ record { number = n; request = q } ∷ [] }
+
+pub send_sleeps : (old : ChannelsValue) (n k : ℕ) (item : Item) → ((o : Others) (m c : ℕ) (q : Request) → false ≡ send_ready (shared_with o old) m c q k) → Does old n (Send (Some k) item) outcomes.Sleeps (with_sleeper old n (Send (Some k) item))
+send_sleeps old n k item ready o c = rw (← ready o n c (Send (Some k) item)) refl
+
+pub receive_sleeps : (old : ChannelsValue) (n k : ℕ) → ((o : Others) (m c : ℕ) (q : Request) → false ≡ receive_ready (shared_with o old) m c q k) → Does old n (Receive (Some k)) outcomes.Sleeps (with_sleeper old n (Receive (Some k)))
+receive_sleeps old n k ready o c = rw (← ready o n c (Receive (Some k))) refl

@@ -1,0 +1,100 @@
+//! A channel without its sleepers.
+
+ghost use Rattle.std.specs.Prelude.{◌≡◌, ◌<◌, ◌++◌, ◌∷◌, [], false, nat_lt, length, IfOk, IfSome, IfNone, OnErr, OnOk};
+ghost use Rattle.word.specs.Requests.{no_channel};
+
+use std::alloc::{AllocError, Global};
+use std::collections::VecDeque;
+use std::marker::Model;
+use word::value::Item;
+
+/// A channel without its sleepers: its capacity, what is in its buffer, whether it is closed, and the zero item.
+#[derive(Debug, Drop)]
+pub struct Channel {
+    capacity: usize,
+    items: VecDeque<Item>,
+    closed: bool,
+    zero: Item,
+}
+
+impl Model for Channel {
+    ghost use Rattle.word.specs.Values.{Channel as AnyChannel};
+
+    ghost Value = { AnyChannel };
+
+    ghost view = { λ c. record { capacity = c.capacity; items = c.items.items; closed = c.closed; zero = c.zero } };
+}
+
+impl Channel {
+    /// An open channel with nothing in its buffer.
+    pub fn new(alloc: Global, capacity: usize, zero: Item) -> Channel
+        ensures { result ≡ record { capacity = capacity; items = []; closed = false; zero = zero } }
+    {
+        Channel {
+            capacity,
+            items: VecDeque::new(alloc),
+            closed: false,
+            zero,
+        }
+    }
+
+    /// Whether it is closed.
+    pub fn is_closed(&self) -> bool
+        ensures { result ≡ self.now.closed }
+    {
+        self.closed
+    }
+
+    /// Whether there is room in the buffer.
+    pub fn has_room(&self) -> bool
+        ensures { result ≡ nat_lt (length self.now.items) self.now.capacity }
+    {
+        self.items.len() < self.capacity
+    }
+
+    /// Whether an item is in the buffer.
+    pub fn has_items(&self) -> bool
+        ensures { result ≡ nat_lt 0 (length self.now.items) }
+    {
+        !self.items.is_empty()
+    }
+
+    /// The zero item.
+    pub fn zero(&self) -> Item
+        ensures { result ≡ self.now.zero }
+    {
+        self.zero.copy()
+    }
+
+    /// Puts an item at the buffer's back.
+    pub fn push(&mut self, item: Item) -> Result<(), AllocError>
+        ensures ok { OnOk result (self.new ≡ record self.old { items = self.old.items ++ item ∷ [] }) }
+        ensures err { OnErr result (self.new ≡ self.old) }
+    {
+        self.items.push_back(item)?;
+        Ok(())
+    }
+
+    /// Takes the item at the buffer's front.
+    pub fn pop(&mut self) -> Option<Item>
+        ensures some { IfSome result (λ item. self.old.items ≡ item ∷ self.new.items) }
+        ensures none { IfNone result (self.old.items ≡ []) }
+        ensures rest { self.new ≡ record self.old { items = self.new.items } }
+    {
+        self.items.pop_front()
+    }
+
+    /// Puts an item at the buffer's back, and takes the one at its front, which is the same one where the buffer is
+    /// empty.
+    pub fn pass_through(&mut self, item: Item) -> Result<Item, AllocError>
+        ensures ok { IfOk result (λ front. self.old.items ++ item ∷ [] ≡ front ∷ self.new.items) }
+        ensures rest { OnOk result (self.new ≡ record self.old { items = self.new.items }) }
+        ensures err { OnErr result (self.new ≡ self.old) }
+    {
+        self.items.push_back(item)?;
+        match self.items.pop_front() {
+            Some(front) => Ok(front),
+            None => unreachable!(),
+        }
+    }
+}

@@ -1,0 +1,326 @@
+//! The channels of a world, and those who sleep at them.
+
+ghost use Rattle.std.specs.Prelude.{◌≡◌, ℕ, ◌+◌, ◌<◌, ◌≤◌, ◌∷◌, [], ◌++◌, IfOk, IfNone, IfSome, OnErr, OnOk, Some, None, nat_lt, option_map, length, slice_index_or, slice_set, unwrap_or};
+ghost use Rattle.word.specs.Requests.{channel_of, got, no_channel, partner, receive_ready, send_ready, sent, without};
+ghost use Rattle.word.specs.Values.{Make, Receive, Request as AnyRequest, Send};
+ghost use Rattle.word.specs.Views.{reply_of, request_of};
+ghost use Rattle.channel_core.specs.Channels.{Does, IsAlone, IsServed, Others, Receives, Sends, after_passing, partner_of, shared_with};
+
+use crate::channel::Channel;
+use crate::outcome::{Outcome, Woken};
+use crate::sleepers::{Partner, Sleeper, enter, find_partner, leave};
+use go_text::Memory;
+use std::alloc::Global;
+use std::marker::Model;
+use word::panic::Panic;
+use word::request::{Reply, Request};
+use word::value::{Item, Word};
+
+/// The most channels that a run makes.
+const MOST_CHANNELS: usize = 65_536;
+
+/// The largest size of a channel's buffer.
+const LARGEST_SIZE: i64 = 65_536;
+
+/// The channels of a world, and those who sleep at them, in the order in which they fell asleep.
+#[derive(Debug, Drop)]
+pub struct Channels {
+    alloc: Global,
+    /// Channel c is at place c; place 0 is no channel's.
+    channels: Vec<Channel>,
+    asleep: Vec<Sleeper>,
+}
+
+impl Model for Channels {
+    ghost use Rattle.channel_core.specs.Channels.{ChannelsValue};
+    ghost use Rattle.std.specs.Prelude.{◌≤◌, length};
+
+    ghost Value = { ChannelsValue };
+
+    ghost view = { λ c. record { channels = c.channels.items; asleep = c.asleep.items } };
+
+    ghost invariant = { λ c. length c.channels.items ≤ 65537 };
+}
+
+impl Channels {
+    /// No channels, and nobody asleep.
+    pub fn new(alloc: Global) -> Result<Channels, Memory>
+        ensures { IfOk result (λ c. c ≡ record { channels = no_channel ∷ []; asleep = [] }) }
+    {
+        let mut channels = Vec::new(alloc);
+        channels.push(Channel::new(alloc, 0, Item::new(alloc, [].as_slice())))?;
+        Ok(Channels {
+            alloc,
+            channels,
+            asleep: Vec::new(alloc),
+        })
+    }
+
+    /// A new channel (Go: Making slices, maps and channels). It panics where the size is negative or over 65,536, and
+    /// where 65,536 channels were made.
+    pub fn make(&mut self, number: u64, size: i64, zero: Item) -> Result<Outcome, Memory>
+        ensures does { IfOk result (λ outcome. Does self.old number (Make size zero) outcome self.new) }
+        ensures memory { OnErr result (self.new ≡ self.old) }
+    {
+        if size < 0 || size > LARGEST_SIZE {
+            return Ok(Outcome::Panics(Panic::ChannelSize, 0));
+        }
+        let place = self.channels.len();
+        if place == MOST_CHANNELS + 1 {
+            return Ok(Outcome::Panics(Panic::TooManyChannels, 0));
+        }
+        self.channels
+            .push(Channel::new(self.alloc, size as usize, zero))?;
+        let reply = Reply::Word(Word::Chan(Some(place as u32)));
+        Ok(Outcome::Done(reply, Vec::new(self.alloc)))
+    }
+
+    #[tactic(auto, using(crate::proofs::Deeds::send_done, crate::proofs::Deeds::send_sleeps))]
+    /// A send by goroutine `number` (Go: Send statements): to the first sleeper that receives, else into the buffer, else
+    /// it sleeps. A send on a closed channel panics; on `nil` it sleeps for good.
+    pub fn send(&mut self, number: u64, chan: Option<u32>, item: Item) -> Result<Outcome, Memory>
+        ensures does { IfOk result (λ outcome. Does self.old number (Send chan item) outcome self.new) }
+        ensures memory { OnErr result (self.new ≡ self.old) }
+    {
+        let Some(chan) = chan else {
+            return self.sleep(number, Request::Send(None, item));
+        };
+        if !self.can_send(chan) {
+            return self.sleep(number, Request::Send(Some(chan), item));
+        }
+        self.send_now(number, chan, item, 0)
+    }
+
+    #[tactic(auto, using(crate::proofs::Deeds::receive_done, crate::proofs::Deeds::receive_sleeps))]
+    /// A receive by goroutine `number` (Go: Receive operator): of the buffer's front item, whose place the first sleeping
+    /// sender's item takes, else of that item, else of the zero item where the channel is closed, else it sleeps. On `nil`
+    /// it sleeps for good.
+    pub fn receive(&mut self, number: u64, chan: Option<u32>) -> Result<Outcome, Memory>
+        ensures does { IfOk result (λ outcome. Does self.old number (Receive chan) outcome self.new) }
+        ensures memory { OnErr result (self.new ≡ self.old) }
+    {
+        let Some(chan) = chan else {
+            return self.sleep(number, Request::Receive(None));
+        };
+        if !self.can_receive(chan) {
+            return self.sleep(number, Request::Receive(Some(chan)));
+        }
+        self.receive_now(chan, 0)
+    }
+
+    /// Whether a send on a channel is ready.
+    fn can_send(&self, chan: u32) -> bool
+        ensures { (o : Others) (n c : ℕ) (q : AnyRequest) → result ≡ send_ready (shared_with o self.now) n c q chan }
+    {
+        self.is_closed(chan) || self.has_room(chan) || self.partner(chan, false).is_some()
+    }
+
+    /// Whether a receive on a channel is ready.
+    fn can_receive(&self, chan: u32) -> bool
+        ensures { (o : Others) (n c : ℕ) (q : AnyRequest) → result ≡ receive_ready (shared_with o self.now) n c q chan }
+    {
+        self.is_closed(chan) || self.has_items(chan) || self.partner(chan, true).is_some()
+    }
+
+    /// A send that is ready.
+    fn send_now(
+        &mut self,
+        number: u64,
+        chan: u32,
+        item: Item,
+        clause: usize,
+    ) -> Result<Outcome, Memory>
+        ensures sends { IfOk result (λ outcome. Sends self.old number chan item clause outcome self.new) }
+        ensures memory { OnErr result (self.new ≡ self.old) }
+    {
+        if self.is_closed(chan) {
+            return Ok(Outcome::Panics(Panic::SendOnClosed, clause));
+        }
+        match self.partner(chan, false) {
+            Some(partner) => {
+                let woken = woken(self.alloc, partner.number, got(partner.case, item, true))?;
+                leave(&mut self.asleep, partner.number);
+                Ok(Outcome::Done(sent(clause), woken))
+            }
+            None => {
+                push(self.channels.as_mut_slice(), chan, item)?;
+                Ok(Outcome::Done(sent(clause), Vec::new(self.alloc)))
+            }
+        }
+    }
+
+    /// The first sleeper with an offer on a channel, to send or to receive.
+    fn partner(&self, chan: u32, sends: bool) -> Option<Partner>
+        ensures { result ≡ option_map partner_of (partner chan sends self.now.asleep) }
+    {
+        find_partner(self.asleep.as_slice(), chan, sends)
+    }
+
+    /// A receive that is ready.
+    fn receive_now(&mut self, chan: u32, clause: usize) -> Result<Outcome, Memory>
+        ensures receives { IfOk result (λ outcome. (n : ℕ) → Receives self.old n chan clause outcome self.new) }
+        ensures memory { OnErr result (self.new ≡ self.old) }
+    {
+        match self.partner(chan, true) {
+            Some(partner) => self.receive_from(chan, partner, clause),
+            None => Ok(self.receive_alone(chan, clause)),
+        }
+    }
+
+    /// A receive that meets a sleeping sender.
+    fn receive_from(
+        &mut self,
+        chan: u32,
+        partner: Partner,
+        clause: usize,
+    ) -> Result<Outcome, Memory>
+        ensures outcome { IfOk result (λ outcome. IsServed self.old chan clause partner outcome self.new) }
+        ensures memory { OnErr result (self.new ≡ self.old) }
+    {
+        let Partner { number, case, item } = partner;
+        let woken = woken(self.alloc, number, sent(case))?;
+        let offered = item_or_empty(self.alloc, item);
+        let received = pass_through(self.channels.as_mut_slice(), chan, offered)?;
+        leave(&mut self.asleep, number);
+        Ok(Outcome::Done(got(clause, received, true), woken))
+    }
+
+    /// A receive that meets nobody.
+    fn receive_alone(&mut self, chan: u32, clause: usize) -> Outcome
+        ensures { IsAlone self.old chan clause result self.new }
+    {
+        if !self.has_items(chan) {
+            let zero = self.zero(chan);
+            return Outcome::Done(got(clause, zero, false), Vec::new(self.alloc));
+        }
+        let Some(item) = pop(self.channels.as_mut_slice(), chan) else {
+            unreachable!()
+        };
+        Outcome::Done(got(clause, item, true), Vec::new(self.alloc))
+    }
+
+    /// Goroutine `number` falls asleep at this request.
+    fn sleep(&mut self, number: u64, request: Request) -> Result<Outcome, Memory>
+        ensures sleeps { IfOk result (λ outcome. outcome ≡ Outcome.Sleeps) }
+        ensures asleep { OnOk result (self.new ≡ record self.old { asleep = without self.old.asleep number ++ record { number = number; request = request_of request } ∷ [] }) }
+        ensures memory { OnErr result (self.new ≡ self.old) }
+    {
+        enter(&mut self.asleep, Sleeper::new(number, request))?;
+        Ok(Outcome::Sleeps)
+    }
+
+    /// Whether a channel is closed.
+    fn is_closed(&self, chan: u32) -> bool
+        ensures { result ≡ (channel_of self.now.channels chan).closed }
+    {
+        match self.channels.get(chan as usize) {
+            Some(channel) => channel.is_closed(),
+            None => false,
+        }
+    }
+
+    /// Whether there is room in a channel's buffer.
+    fn has_room(&self, chan: u32) -> bool
+        ensures { result ≡ nat_lt (length (channel_of self.now.channels chan).items) (channel_of self.now.channels chan).capacity }
+    {
+        match self.channels.get(chan as usize) {
+            Some(channel) => channel.has_room(),
+            None => false,
+        }
+    }
+
+    /// Whether an item is in a channel's buffer.
+    fn has_items(&self, chan: u32) -> bool
+        ensures { result ≡ nat_lt 0 (length (channel_of self.now.channels chan).items) }
+    {
+        match self.channels.get(chan as usize) {
+            Some(channel) => channel.has_items(),
+            None => false,
+        }
+    }
+
+    /// A channel's zero item.
+    fn zero(&self, chan: u32) -> Item
+        ensures { result ≡ (channel_of self.now.channels chan).zero }
+    {
+        match self.channels.get(chan as usize) {
+            Some(channel) => channel.zero(),
+            None => Item::new(self.alloc, [].as_slice()),
+        }
+    }
+}
+
+/// Puts an item at the back of a channel's buffer.
+fn push(channels: &mut [Channel], chan: u32, item: Item) -> Result<(), Memory>
+    ensures ok { OnOk result (channels.new ≡ slice_set channels.old chan (record (channel_of channels.old chan) { items = (channel_of channels.old chan).items ++ item ∷ [] })) }
+    ensures err { OnErr result (channels.new ≡ channels.old) }
+{
+    if (chan as usize) < channels.len() {
+        channels[chan as usize].push(item)?;
+    }
+    Ok(())
+}
+
+/// Takes the item at the front of a channel's buffer.
+fn pop(channels: &mut [Channel], chan: u32) -> Option<Item>
+    ensures some { IfSome result (λ item. (channel_of channels.old chan).items ≡ item ∷ (channel_of channels.new chan).items) }
+    ensures none { IfNone result ((channel_of channels.old chan).items ≡ []) }
+    ensures rest { channels.new ≡ slice_set channels.old chan (record (channel_of channels.old chan) { items = (channel_of channels.new chan).items }) }
+{
+    if (chan as usize) < channels.len() {
+        return channels[chan as usize].pop();
+    }
+    None
+}
+
+/// Puts an item at the back of a channel's buffer, and takes the one at its front, which is the same one where the
+/// buffer is empty.
+fn pass_through(channels: &mut [Channel], chan: u32, item: Item) -> Result<Item, Memory>
+    ensures ok { IfOk result (λ front. (channel_of channels.old chan).items ++ item ∷ [] ≡ front ∷ after_passing channels.old chan item) }
+    ensures rest { OnOk result (channels.new ≡ slice_set channels.old chan (record (channel_of channels.old chan) { items = after_passing channels.old chan item })) }
+    ensures err { OnErr result (channels.new ≡ channels.old) }
+{
+    if (chan as usize) < channels.len() {
+        return Ok(channels[chan as usize].pass_through(item)?);
+    }
+    Ok(item)
+}
+
+/// The item, or one of no words.
+fn item_or_empty(alloc: Global, item: Option<Item>) -> Item
+    ensures { result ≡ unwrap_or item [] }
+{
+    match item {
+        Some(item) => item,
+        None => Item::new(alloc, [].as_slice()),
+    }
+}
+
+/// One that was asleep, and what it is told.
+fn woken(alloc: Global, number: u64, reply: Reply) -> Result<Vec<Woken>, Memory>
+    ensures { IfOk result (λ woken. woken.items ≡ (number, reply_of reply) ∷ []) }
+{
+    let mut woken = Vec::new(alloc);
+    woken.push(Woken::new(number, reply))?;
+    Ok(woken)
+}
+
+/// What a sender is told, in a clause of a select, or outside of one where that is 0.
+fn sent(clause: usize) -> Reply
+    ensures { reply_of result ≡ sent clause }
+{
+    if clause == 0 {
+        return Reply::Nothing;
+    }
+    Reply::Clause(clause, None)
+}
+
+/// What a receiver is told, in a clause of a select, or outside of one where that is 0.
+fn got(clause: usize, item: Item, ok: bool) -> Reply
+    ensures { reply_of result ≡ got clause item ok }
+{
+    if clause == 0 {
+        return Reply::Received(item, ok);
+    }
+    Reply::Clause(clause, Some((item, ok)))
+}

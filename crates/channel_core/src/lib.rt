@@ -1,0 +1,12 @@
+//! Channels, and the goroutines that sleep at them.
+#![tactic(auto)]
+
+mod channel;
+mod channels;
+mod outcome;
+mod sleepers;
+#[cfg(test)]
+mod tests;
+
+pub use channels::Channels;
+pub use outcome::{Outcome, Woken};

@@ -1,0 +1,60 @@
+//! What became of a request to a channel.
+
+use std::marker::Model;
+use word::panic::Panic;
+use word::request::Reply;
+
+/// One that was asleep, and what it is told.
+#[derive(Debug, Drop)]
+pub struct Woken {
+    number: u64,
+    reply: Reply,
+}
+
+impl Model for Woken {
+    ghost use Rattle.std.specs.Prelude.{ℕ};
+    ghost use Rattle.word.specs.Values.{Reply as AnyReply};
+    ghost use Rattle.word.specs.Views.{reply_of};
+
+    ghost Value = { ℕ × AnyReply };
+
+    ghost view = { λ w. (w.number, reply_of w.reply) };
+}
+
+impl Woken {
+    ghost use Rattle.std.specs.Prelude.{◌≡◌};
+    ghost use Rattle.word.specs.Views.{reply_of};
+
+    /// Goroutine `number`, which is told this.
+    pub fn new(number: u64, reply: Reply) -> Woken
+        ensures { result ≡ (number, reply_of reply) }
+    {
+        Woken { number, reply }
+    }
+
+    /// The goroutine's number.
+    pub fn number(&self) -> u64
+        ensures { result ≡ self.now.0 }
+    {
+        self.number
+    }
+
+    /// What it is told.
+    pub fn into_reply(self) -> Reply
+        ensures { reply_of result ≡ self.1 }
+    {
+        let Woken { reply, .. } = self;
+        reply
+    }
+}
+
+/// What became of a request to a channel.
+#[derive(Debug, Drop)]
+pub enum Outcome {
+    /// It is done: its goroutine goes on with this reply, and these were woken, in the order in which they fell asleep.
+    Done(Reply, Vec<Woken>),
+    /// Its goroutine fell asleep.
+    Sleeps,
+    /// It panics, in the clause of this number; 0 outside a select.
+    Panics(Panic, usize),
+}

@@ -1,0 +1,14 @@
+//! What came of one instruction.
+
+/// What one instruction did.
+#[derive(Clone, Copy, Debug, PartialEq, Eq)]
+pub enum Step {
+    /// A step that costs nothing.
+    Slid,
+    /// A step that costs one, which is made below the limit alone.
+    Ticked,
+    /// None: the goroutine asks.
+    Asking,
+    /// None: a test failed, which verified code doesn't meet.
+    Stuck,
+}

@@ -1,0 +1,533 @@
+-- What is spelt as an expression is read.
+use Rattle.std.proofs.Common.{◌≡◌, ℕ, zero, suc, ◌+◌, ◌-◌, ◌<◌, ◌≤◌, List, [], ◌∷◌, ◌++◌, length, Option, Some, None, Ok, Err, Bool, true, false, leb, max, inl, inr, refl, ap, ◌∙◌, sym, subst, arith, append_assoc}
+use Rattle.std.proofs.lemmas.Bool.{le-leb, lt-leb, cases_lt}
+use Rattle.scanner.specs.declared.kind.Kind.{Kind}
+use Rattle.scanner.specs.declared.kind.Kind.TheVariants as kinds
+use Rattle.syntax.specs.declared.node.BinaryOperator.{BinaryOperator}
+use Rattle.syntax.specs.declared.node.BinaryOperator.TheVariants as binaries
+use Rattle.syntax.specs.declared.node.UnaryOperator.{UnaryOperator}
+use Rattle.syntax.specs.declared.node.UnaryOperator.TheVariants as unaries
+use Rattle.syntax.specs.Tree.{Expression, Integer, Named, Parenthesized, Selection, Composite, Unary, Binary, Expressions, NoMore, Behind, expressions, expressions_in}
+use Rattle.syntax.specs.Measures.{Listing, Entries, SelectClauses, entries, highest, expression_height, expressions_height, expression_longest, expressions_longest, expressions_count}
+use Rattle.syntax.proofs.Lists.{expressions-expressions_in}
+use Rattle.parser_base.specs.declared.operator.Step.{Step}
+use Rattle.parser_base.specs.declared.operator.Step.TheVariants.{Operator, Period}
+use Rattle.parser_base.specs.declared.list.Next.TheVariants.{More, End}
+use Rattle.parser_base.specs.Lexemes.{Lexeme, Literal, Name, Text, Mark}
+use Rattle.parser_base.specs.Spelling.{is_builtin, joined, separated, closing, AreAll, IsTrailing, HasLast, expression_words, expressions_words, more_words, outer_precedence, precedence, IsGrouped, AreGrouped, unary_kind, binary_kind}
+use Rattle.parser_base.specs.Reading.{Reading, TooDeep, TooMany, ◌>>=◌, is_kind, expect, begins, value_next, values, composite, named, plain_name, binary_of, step_of, strength, binding, step_at, negated, parenthesized, operand, applied, operation, operations, expression, listed}
+use Rattle.parser_base.proofs.Marks.{expect_again, plain_name_again}
+use Rattle.parser_base.proofs.ListLaws.{AreFew, Outcome, Found, High, Many, Found as AllFound, High as AllHigh, Many as AllMany, Full, Entries as Listed, IsReadAgain, Separates, listed_again, all_again}
+
+-- ---- operators
+
+-- the mark of a step
+abbrev pub step_kind : Step → Kind
+step_kind (Operator o) = binary_kind o
+step_kind Period = kinds.Period
+
+operator_again : (o : BinaryOperator) → step_of (binary_kind o) ≡ Some (Operator o)
+operator_again binaries.Add = refl
+operator_again binaries.Subtract = refl
+operator_again binaries.Multiply = refl
+operator_again binaries.Divide = refl
+operator_again binaries.Remainder = refl
+operator_again binaries.And = refl
+operator_again binaries.Or = refl
+operator_again binaries.ExclusiveOr = refl
+operator_again binaries.AndNot = refl
+operator_again binaries.ShiftLeft = refl
+operator_again binaries.ShiftRight = refl
+operator_again binaries.Equal = refl
+operator_again binaries.NotEqual = refl
+operator_again binaries.Less = refl
+operator_again binaries.LessEqual = refl
+operator_again binaries.Greater = refl
+operator_again binaries.GreaterEqual = refl
+operator_again binaries.LogicalAnd = refl
+operator_again binaries.LogicalOr = refl
+
+step_again : (s : Step) → step_of (step_kind s) ≡ Some s
+step_again (Operator o) = operator_again o
+step_again Period = refl
+
+no_brace : (o : BinaryOperator) → is_kind (binary_kind o) kinds.LeftBrace ≡ false
+no_brace binaries.Add = refl
+no_brace binaries.Subtract = refl
+no_brace binaries.Multiply = refl
+no_brace binaries.Divide = refl
+no_brace binaries.Remainder = refl
+no_brace binaries.And = refl
+no_brace binaries.Or = refl
+no_brace binaries.ExclusiveOr = refl
+no_brace binaries.AndNot = refl
+no_brace binaries.ShiftLeft = refl
+no_brace binaries.ShiftRight = refl
+no_brace binaries.Equal = refl
+no_brace binaries.NotEqual = refl
+no_brace binaries.Less = refl
+no_brace binaries.LessEqual = refl
+no_brace binaries.Greater = refl
+no_brace binaries.GreaterEqual = refl
+no_brace binaries.LogicalAnd = refl
+no_brace binaries.LogicalOr = refl
+
+operand_again : (literals : Bool) (deeper : ℕ → List Lexeme → Reading Expression) (most : ℕ) (o : UnaryOperator) (ws : List Lexeme) → operand literals deeper most (Mark (unary_kind o) ∷ ws) ≡ negated deeper ws (Some o)
+unfolding operand
+operand_again literals deeper most unaries.Plus ws = refl
+operand_again literals deeper most unaries.Negate ws = refl
+operand_again literals deeper most unaries.Not ws = refl
+operand_again literals deeper most unaries.Complement ws = refl
+
+pub precedence-lt : (o : BinaryOperator) → precedence o < 6
+precedence-lt binaries.Add = omega arith
+precedence-lt binaries.Subtract = omega arith
+precedence-lt binaries.Multiply = omega arith
+precedence-lt binaries.Divide = omega arith
+precedence-lt binaries.Remainder = omega arith
+precedence-lt binaries.And = omega arith
+precedence-lt binaries.Or = omega arith
+precedence-lt binaries.ExclusiveOr = omega arith
+precedence-lt binaries.AndNot = omega arith
+precedence-lt binaries.ShiftLeft = omega arith
+precedence-lt binaries.ShiftRight = omega arith
+precedence-lt binaries.Equal = omega arith
+precedence-lt binaries.NotEqual = omega arith
+precedence-lt binaries.Less = omega arith
+precedence-lt binaries.LessEqual = omega arith
+precedence-lt binaries.Greater = omega arith
+precedence-lt binaries.GreaterEqual = omega arith
+precedence-lt binaries.LogicalAnd = omega arith
+precedence-lt binaries.LogicalOr = omega arith
+
+pub strength-lt : (s : Step) → strength s < 8
+strength-lt (Operator o) = omega (arith, precedence-lt o)
+strength-lt Period = omega arith
+
+pub outer_precedence-le : (t : Expression) → outer_precedence t ≤ 7
+outer_precedence-le (Integer value) = omega arith
+outer_precedence-le (Named name) = omega arith
+outer_precedence-le (Parenthesized inner) = omega arith
+outer_precedence-le (Selection whole field) = omega arith
+outer_precedence-le (Composite name vs trailing) = omega arith
+outer_precedence-le (Unary o inner) = omega arith
+outer_precedence-le (Binary o l r) = omega (arith, precedence-lt o)
+
+binding_up : (a b : ℕ) (ws : List Lexeme) (s : Option Step) → a ≤ b → binding a ws s ≡ None → binding b ws s ≡ None
+binding_up a b ws None le e = refl
+binding_up a b ws (Some s) le e =
+    elim (cases_lt (strength s) b) [
+      | inl lt ↦ rw (lt-leb b (strength s) lt) refl
+      | inr ge ↦ let t : leb a (strength s) ≡ true = le-leb a (strength s) (omega arith) in let bad = rw t at e in absurd cc
+    ]
+
+-- where nothing binds so strongly, nothing binds more strongly
+pub none_above : (a b : ℕ) (ws : List Lexeme) → a ≤ b → step_at a ws ≡ None → step_at b ws ≡ None
+unfolding step_at
+none_above a b [] le e = refl
+none_above a b (Literal value ∷ ws) le e = refl
+none_above a b (Name bytes ∷ ws) le e = refl
+none_above a b (Text bytes ∷ ws) le e = refl
+none_above a b (Mark kind ∷ ws) le e = binding_up a b ws (step_of kind) le e
+
+binding_strong : (ws : List Lexeme) (s : Option Step) → binding 8 ws s ≡ None
+binding_strong ws None = refl
+binding_strong ws (Some s) = rw (lt-leb 8 (strength s) (strength-lt s)) refl
+
+-- nothing binds more strongly than a selection
+pub none_strong : (ws : List Lexeme) → step_at 8 ws ≡ None
+unfolding step_at
+none_strong [] = refl
+none_strong (Literal value ∷ ws) = refl
+none_strong (Name bytes ∷ ws) = refl
+none_strong (Text bytes ∷ ws) = refl
+none_strong (Mark kind ∷ ws) = binding_strong ws (step_of kind)
+
+binding_unary : (ws : List Lexeme) (s : Option Step) → binding 7 ws s ≡ None → binding 6 ws s ≡ None
+binding_unary ws None e = refl
+binding_unary ws (Some (Operator o)) e = rw (lt-leb 6 (precedence o) (precedence-lt o)) refl
+binding_unary ws (Some Period) e = absurd cc
+
+-- no binary operator binds as strongly as a unary one
+none_unary : (ws : List Lexeme) → step_at 7 ws ≡ None → step_at 6 ws ≡ None
+unfolding step_at
+none_unary [] e = refl
+none_unary (Literal value ∷ ws) e = refl
+none_unary (Name bytes ∷ ws) e = refl
+none_unary (Text bytes ∷ ws) e = refl
+none_unary (Mark kind ∷ ws) e = binding_unary ws (step_of kind) e
+
+pub at_step : (least : ℕ) (s : Step) (ws : List Lexeme) → least ≤ strength s → step_at least (Mark (step_kind s) ∷ ws) ≡ Some (s, ws)
+unfolding step_at
+at_step least s ws le = rw (step_again s, le-leb least (strength s) le) refl
+
+past_step : (least : ℕ) (s : Step) (ws : List Lexeme) → strength s < least → step_at least (Mark (step_kind s) ∷ ws) ≡ None
+unfolding step_at
+past_step least s ws lt = rw (step_again s, lt-leb least (strength s) lt) refl
+
+-- ---- what follows
+
+-- no brace follows, where that would begin a composite literal
+abbrev pub Shut : (literals : Bool) → List Lexeme → Type 0
+Shut false words = Unit {0}
+Shut true [] = Unit {0}
+Shut true (Literal value ∷ rest) = Unit {0}
+Shut true (Name name ∷ rest) = Unit {0}
+Shut true (Text bytes ∷ rest) = Unit {0}
+Shut true (Mark kind ∷ rest) = is_kind kind kinds.LeftBrace ≡ false
+
+pub shut : (literals : Bool) (kind : Kind) (ws : List Lexeme) → is_kind kind kinds.LeftBrace ≡ false → Shut literals (Mark kind ∷ ws)
+shut false kind ws e = tt
+shut true kind ws e = e
+
+named_again : (literals : Bool) (deeper : ℕ → List Lexeme → Reading Expression) (most : ℕ) (name : List ℕ) (rest : List Lexeme) → Shut literals rest → named literals deeper most name rest ≡ Ok (Named name, rest)
+unfolding named
+named_again false deeper most name rest is = refl
+named_again true deeper most name [] is = refl
+named_again true deeper most name (Literal value ∷ rest) is = refl
+named_again true deeper most name (Name bytes ∷ rest) is = refl
+named_again true deeper most name (Text bytes ∷ rest) is = refl
+named_again true deeper most name (Mark kind ∷ rest) is = rw is refl
+
+-- no operator and no brace follows that would go on with the expression
+pub record EndsExpression (literals : Bool) (rest : List Lexeme) : Type 0 where
+  pub none : step_at 0 rest ≡ None
+  pub shut : Shut literals rest
+
+-- ---- heights and lists
+
+pub height_positive : (t : Expression) → 1 ≤ expression_height t
+height_positive (Integer value) = omega arith
+height_positive (Named name) = omega arith
+height_positive (Parenthesized inner) = omega arith
+height_positive (Selection whole field) = omega arith
+height_positive (Composite name vs trailing) = omega arith
+height_positive (Unary o operand) = omega arith
+height_positive (Binary o l r) = omega arith
+
+pub entries-le : (listing : Listing) (n : ℕ) → entries listing n ≤ n
+entries-le Entries n = omega arith
+entries-le SelectClauses n = omega arith
+
+height_in : (vs : Expressions) → highest expression_height (expressions_in vs) ≡ expressions_height vs
+height_in NoMore = refl
+height_in (Behind v vs) = omega (arith, height_in vs)
+
+longest_in : (listing : Listing) (vs : Expressions) → highest (expression_longest listing) (expressions_in vs) ≡ expressions_longest listing vs
+longest_in listing NoMore = refl
+longest_in listing (Behind v vs) = omega (arith, longest_in listing vs)
+
+count_in : (vs : Expressions) → length (expressions_in vs) ≡ expressions_count vs
+count_in NoMore = refl
+count_in (Behind v vs) = omega (arith, count_in vs)
+
+more_words_in : (vs : Expressions) → more_words vs ≡ separated expression_words (Mark kinds.Comma) (expressions_in vs)
+more_words_in NoMore = refl
+more_words_in (Behind v vs) = ap (λ (ws : List Lexeme). Mark kinds.Comma ∷ (expression_words v ++ ws)) (more_words_in vs)
+
+pub words_in : (vs : Expressions) → expressions_words vs ≡ joined expression_words (Mark kinds.Comma) (expressions_in vs)
+words_in NoMore = refl
+words_in (Behind v vs) = ap (λ (ws : List Lexeme). expression_words v ++ ws) (more_words_in vs)
+
+pub grouped_in : (literals : Bool) (vs : Expressions) → AreGrouped literals vs → AreAll (IsGrouped literals) (expressions_in vs)
+grouped_in literals NoMore all = tt
+grouped_in literals (Behind v vs) all = (all.0, grouped_in literals vs all.1)
+
+last_in : (vs : Expressions) (trailing : Bool) → HasLast vs trailing → IsTrailing (expressions_in vs) trailing
+last_in NoMore trailing last = last
+last_in (Behind v vs) trailing last = tt
+
+-- ---- trees
+
+-- how a tree is read where nothing goes on
+abbrev pub IsRead : (literals : Bool) (most : ℕ) → Expression → Type 0
+IsRead literals most t = (room least : ℕ) (rest : List Lexeme) → least ≤ outer_precedence t → step_at least rest ≡ None → Shut literals rest
+    → Outcome (expression literals most room least (expression_words t ++ rest)) t rest (expression_height t) room (λ listing. expression_longest listing t) most
+
+-- A tree's words are read as the tree, and reading goes on behind it; or it is too high, or has too long a list.
+data Reads (literals : Bool) (most room least : ℕ) (t : Expression) (rest : List Lexeme) : Type 0 where
+  Goes : (turns : ℕ) → suc (suc room) ≤ turns + expression_height t → expression_height t ≤ suc room → AreFew (λ listing. expression_longest listing t) most
+      → expression literals most (suc room) least (expression_words t ++ rest) ≡ operations (expression literals most room) (suc room) least turns t rest → Reads literals most room least t rest
+  TooHigh : suc room < expression_height t → expression literals most (suc room) least (expression_words t ++ rest) ≡ Err TooDeep → Reads literals most room least t rest
+  TooLong : (listing : Listing) → most < expression_longest listing t → expression literals most (suc room) least (expression_words t ++ rest) ≡ Err (TooMany listing) → Reads literals most room least t rest
+
+abbrev GoesOn : (literals : Bool) (most : ℕ) → Expression → Type 0
+GoesOn literals most t = (room least : ℕ) (rest : List Lexeme) → least ≤ outer_precedence t → step_at (suc (outer_precedence t)) rest ≡ None → Shut literals rest → Reads literals most room least t rest
+
+stops : (deeper : ℕ → List Lexeme → Reading Expression) (room least turns : ℕ) (left : Expression) (ws : List Lexeme) → 1 ≤ turns → step_at least ws ≡ None → operations deeper room least turns left ws ≡ Ok (left, ws)
+unfolding operations operation
+stops deeper room least zero left ws h e = absurd (omega arith)
+stops deeper room least (suc turns) left ws h e = rw e refl
+
+is_read : (literals : Bool) (most : ℕ) (t : Expression) → GoesOn literals most t → IsRead literals most t
+unfolding expression
+is_read literals most t goes zero least rest le none is_shut = High (height_positive t) refl
+is_read literals most t goes (suc room) least rest le none is_shut =
+    elim (goes room least rest le (none_above least (suc (outer_precedence t)) rest (omega arith) none) is_shut) [
+      | Goes turns enough low few e ↦ Found low few (e ∙ stops (expression literals most room) (suc room) least turns t rest (omega (arith, enough)) none)
+      | TooHigh high e ↦ High high e
+      | TooLong listing many e ↦ Many listing many e
+    ]
+
+one_step : (deeper : ℕ → List Lexeme → Reading Expression) (room least turns : ℕ) (left : Expression) (s : Step) (ws : List Lexeme) → least ≤ strength s → expression_height left < room
+    → operations deeper room least (suc turns) left (Mark (step_kind s) ∷ ws) ≡ (applied deeper left (s, ws) >>= λ more. operations deeper room least turns more.0 more.1)
+unfolding operations operation
+one_step deeper room least turns left s ws le low = rw (at_step least s ws le, lt-leb room (expression_height left) low) refl
+
+no_room : (deeper : ℕ → List Lexeme → Reading Expression) (room least turns : ℕ) (left : Expression) (s : Step) (ws : List Lexeme) → least ≤ strength s → room ≤ expression_height left
+    → operations deeper room least turns left (Mark (step_kind s) ∷ ws) ≡ Err TooDeep
+unfolding operations operation
+no_room deeper room least zero left s ws le high = refl
+no_room deeper room least (suc turns) left s ws le high = rw (at_step least s ws le, le-leb room (expression_height left) high) refl
+
+-- the same, behind an expression that is read
+step_read : (literals : Bool) (most room least turns : ℕ) (left : Expression) (s : Step) (ws : List Lexeme) (read : Reading Expression) → 1 ≤ turns → least ≤ strength s → expression_height left < suc room
+    → read ≡ operations (expression literals most room) (suc room) least turns left (Mark (step_kind s) ∷ ws)
+    → read ≡ (applied (expression literals most room) left (s, ws) >>= λ more. operations (expression literals most room) (suc room) least (turns - 1) more.0 more.1)
+step_read literals most room least turns left s ws read some le low e =
+    let more : turns ≡ suc (turns - 1) = omega (arith, some) in
+    e ∙ ap (λ (n : ℕ). operations (expression literals most room) (suc room) least n left (Mark (step_kind s) ∷ ws)) more ∙ one_step (expression literals most room) (suc room) least (turns - 1) left s ws le low
+
+binary_goes : (literals : Bool) (most room least turns : ℕ) (o : BinaryOperator) (l r : Expression) (rest : List Lexeme) → IsRead literals most r → precedence o < outer_precedence r → least ≤ precedence o → step_at (suc (precedence o)) rest ≡ None → Shut literals rest
+    → suc (suc room) ≤ turns + expression_height l → expression_height l ≤ suc room → AreFew (λ listing. expression_longest listing l) most
+    → expression literals most (suc room) least (expression_words (Binary o l r) ++ rest) ≡ operations (expression literals most room) (suc room) least turns l (Mark (binary_kind o) ∷ (expression_words r ++ rest))
+    → Reads literals most room least (Binary o l r) rest
+binary_goes literals most room least turns o l r rest right lt le none is_shut enough low few e =
+    let same : suc (precedence o) ≡ precedence o + 1 = omega arith in
+    elim (cases_lt (expression_height l) (suc room)) [
+      | inr high ↦ TooHigh (omega arith) (e ∙ no_room (expression literals most room) (suc room) least turns l (Operator o) (expression_words r ++ rest) le high)
+      | inl lower ↦
+          let step = step_read literals most room least turns l (Operator o) (expression_words r ++ rest) _ (omega (arith, enough)) le lower e in
+          elim (right room (precedence o + 1) rest (omega arith) (subst (λ (n : ℕ). step_at n rest ≡ None) same none) is_shut) [
+            | Found low' few' e' ↦ Goes (turns - 1) (omega (arith, enough)) (omega arith) (λ listing. omega (arith, few listing, few' listing)) (step ∙ rw e' refl)
+            | High high e' ↦ TooHigh (omega arith) (step ∙ rw e' refl)
+            | Many listing many e' ↦ TooLong listing (omega arith) (step ∙ rw e' refl)
+          ]
+    ]
+
+reads_binary : (literals : Bool) (most : ℕ) (o : BinaryOperator) (l r : Expression) → GoesOn literals most l → IsRead literals most r → precedence o ≤ outer_precedence l → precedence o < outer_precedence r → GoesOn literals most (Binary o l r)
+reads_binary literals most o l r left right le lt room least rest least-le none is_shut =
+    let tail = Mark (binary_kind o) ∷ (expression_words r ++ rest) in
+    let regroup : expression_words (Binary o l r) ++ rest ≡ expression_words l ++ tail = append_assoc (expression_words l) (Mark (binary_kind o) ∷ expression_words r) rest in
+    let begin = ap (expression literals most (suc room) least) regroup in
+    elim (left room least tail (omega arith) (past_step (suc (outer_precedence l)) (Operator o) (expression_words r ++ rest) (omega arith)) (shut literals (binary_kind o) (expression_words r ++ rest) (no_brace o))) [
+      | Goes turns enough low few e ↦ binary_goes literals most room least turns o l r rest right lt least-le none is_shut enough low few (begin ∙ e)
+      | TooHigh high e ↦ TooHigh (omega arith) (begin ∙ e)
+      | TooLong listing many e ↦ TooLong listing (omega arith) (begin ∙ e)
+    ]
+
+selection_goes : (literals : Bool) (most room least turns : ℕ) (whole : Expression) (field : List ℕ) (rest : List Lexeme) → is_builtin field ≡ false → least ≤ 7
+    → suc (suc room) ≤ turns + expression_height whole → expression_height whole ≤ suc room → AreFew (λ listing. expression_longest listing whole) most
+    → expression literals most (suc room) least (expression_words (Selection whole field) ++ rest) ≡ operations (expression literals most room) (suc room) least turns whole (Mark kinds.Period ∷ Name field ∷ rest)
+    → Reads literals most room least (Selection whole field) rest
+selection_goes literals most room least turns whole field rest plain le enough low few e =
+    elim (cases_lt (expression_height whole) (suc room)) [
+      | inr high ↦ TooHigh (omega arith) (e ∙ no_room (expression literals most room) (suc room) least turns whole Period (Name field ∷ rest) le high)
+      | inl lower ↦
+          let step = step_read literals most room least turns whole Period (Name field ∷ rest) _ (omega (arith, enough)) le lower e in
+          Goes (turns - 1) (omega (arith, enough)) (omega arith) few (step ∙ rw (plain_name_again field rest plain) refl)
+    ]
+
+reads_selection : (literals : Bool) (most : ℕ) (whole : Expression) (field : List ℕ) → GoesOn literals most whole → outer_precedence whole ≡ 7 → is_builtin field ≡ false → GoesOn literals most (Selection whole field)
+reads_selection literals most whole field goes strong plain room least rest le none is_shut =
+    let tail = Mark kinds.Period ∷ Name field ∷ rest in
+    let regroup : expression_words (Selection whole field) ++ rest ≡ expression_words whole ++ tail = append_assoc (expression_words whole) (Mark kinds.Period ∷ Name field ∷ []) rest in
+    let begin = ap (expression literals most (suc room) least) regroup in
+    elim (goes room least tail (omega (arith, strong)) (past_step (suc (outer_precedence whole)) Period (Name field ∷ rest) (omega (arith, strong))) (shut literals kinds.Period (Name field ∷ rest) refl)) [
+      | Goes turns enough low few e ↦ selection_goes literals most room least turns whole field rest plain le enough low few (begin ∙ e)
+      | TooHigh high e ↦ TooHigh (omega arith) (begin ∙ e)
+      | TooLong listing many e ↦ TooLong listing many (begin ∙ e)
+    ]
+
+reads_integer : (literals : Bool) (most : ℕ) (value : Option ℕ) → GoesOn literals most (Integer value)
+unfolding expression operand
+reads_integer literals most value room least rest le none is_shut = Goes (suc room) (omega arith) (omega arith) (λ listing. omega arith) refl
+
+reads_named : (literals : Bool) (most : ℕ) (name : List ℕ) → is_builtin name ≡ false → GoesOn literals most (Named name)
+unfolding expression operand
+reads_named literals most name plain room least rest le none is_shut =
+    Goes (suc room) (omega arith) (omega arith) (λ listing. omega arith) (rw (plain, named_again literals (expression literals most room) most name rest is_shut) refl)
+
+reads_parenthesized : (literals : Bool) (most : ℕ) (inner : Expression) → IsRead literals most inner → GoesOn literals most (Parenthesized inner)
+unfolding expression operand parenthesized step_at
+reads_parenthesized literals most inner read room least rest le none is_shut =
+    let tail = Mark kinds.RightParenthesis ∷ rest in
+    let regroup : expression_words (Parenthesized inner) ++ rest ≡ Mark kinds.LeftParenthesis ∷ (expression_words inner ++ tail) = ap (λ (ws : List Lexeme). Mark kinds.LeftParenthesis ∷ ws) (append_assoc (expression_words inner) (Mark kinds.RightParenthesis ∷ []) rest) in
+    let begin = ap (expression literals most (suc room) least) regroup in
+    elim (read room 0 tail (omega arith) refl (shut literals kinds.RightParenthesis rest refl)) [
+      | Found low few e ↦ Goes (suc room) (omega arith) (omega arith) few (begin ∙ rw (e, expect_again kinds.RightParenthesis rest) refl)
+      | High high e ↦ TooHigh (omega arith) (begin ∙ rw e refl)
+      | Many listing many e ↦ TooLong listing many (begin ∙ rw e refl)
+    ]
+
+reads_unary : (literals : Bool) (most : ℕ) (o : UnaryOperator) (inner : Expression) → IsRead literals most inner → 6 ≤ outer_precedence inner → GoesOn literals most (Unary o inner)
+unfolding expression
+reads_unary literals most o inner read strong room least rest le none is_shut =
+    let begin : expression literals most (suc room) least (expression_words (Unary o inner) ++ rest) ≡ (negated (expression literals most room) (expression_words inner ++ rest) (Some o) >>= λ first. operations (expression literals most room) (suc room) least (suc room) first.0 first.1) =
+    ap (λ (r : Reading Expression). r >>= λ first. operations (expression literals most room) (suc room) least (suc room) first.0 first.1) (operand_again literals (expression literals most room) most o (expression_words inner ++ rest)) in
+    elim (read room 6 rest strong (none_unary rest none) is_shut) [
+      | Found low few e ↦ Goes (suc room) (omega arith) (omega arith) few (begin ∙ rw e refl)
+      | High high e ↦ TooHigh (omega arith) (begin ∙ rw e refl)
+      | Many listing many e ↦ TooLong listing many (begin ∙ rw e refl)
+    ]
+
+-- ---- lists of values
+
+-- marks that close lists
+pub record IsClose (close : Kind) : Type 0 where
+  pub step : step_of close ≡ None
+  pub brace : is_kind close kinds.LeftBrace ≡ false
+  pub comma : is_kind close kinds.Comma ≡ false
+  pub begin : (rest : List Lexeme) → begins (Mark close ∷ rest) ≡ false
+
+pub brace_closes : IsClose kinds.RightBrace
+unfolding begins
+brace_closes = record { step = refl; brace = refl; comma = refl; begin = λ rest. refl }
+
+pub parenthesis_closes : IsClose kinds.RightParenthesis
+unfolding begins
+parenthesis_closes = record { step = refl; brace = refl; comma = refl; begin = λ rest. refl }
+
+abbrev pub listed_values : (literals : Bool) (most room : ℕ) (close : Kind) → Listed Expression
+listed_values literals most room close = record {
+  one = expression literals most room 0;
+  next = value_next close;
+  each = expression_words;
+  separator = Mark kinds.Comma;
+  ending = closing close;
+  height = expression_height;
+  longest = expression_longest;
+  room = room;
+  most = most;
+  IsOne = IsGrouped literals;
+}
+
+pub begins_again : (literals : Bool) (t : Expression) (rest : List Lexeme) → IsGrouped literals t → begins (expression_words t ++ rest) ≡ true
+unfolding begins
+begins_again literals (Integer value) rest g = refl
+begins_again literals (Named name) rest g = rw g refl
+begins_again literals (Parenthesized inner) rest g = refl
+begins_again literals (Selection whole field) rest g =
+    ap begins (append_assoc (expression_words whole) (Mark kinds.Period ∷ Name field ∷ []) rest) ∙ begins_again literals whole (Mark kinds.Period ∷ Name field ∷ rest) g.0
+begins_again literals (Composite name vs trailing) rest g = rw g.1 refl
+begins_again literals (Unary unaries.Plus inner) rest g = refl
+begins_again literals (Unary unaries.Negate inner) rest g = refl
+begins_again literals (Unary unaries.Not inner) rest g = refl
+begins_again literals (Unary unaries.Complement inner) rest g = refl
+begins_again literals (Binary o l r) rest g =
+    ap begins (append_assoc (expression_words l) (Mark (binary_kind o) ∷ expression_words r) rest) ∙ begins_again literals l (Mark (binary_kind o) ∷ (expression_words r ++ rest)) g.0
+
+pub comma_ends : (literals : Bool) (rest : List Lexeme) → EndsExpression literals (Mark kinds.Comma ∷ rest)
+unfolding step_at
+comma_ends literals rest = record { none = refl; shut = shut literals kinds.Comma rest refl }
+
+pub close_ends : (literals : Bool) (close : Kind) (rest : List Lexeme) → IsClose close → EndsExpression literals (Mark close ∷ rest)
+unfolding step_at
+close_ends literals close rest is = record { none = rw is.step refl; shut = shut literals close rest is.brace }
+
+pub closing_ends : (literals : Bool) (close : Kind) (trailing : Bool) (rest : List Lexeme) → IsClose close → EndsExpression literals (closing close trailing ++ rest)
+closing_ends literals close true rest is = comma_ends literals (Mark close ∷ rest)
+closing_ends literals close false rest is = close_ends literals close rest is
+
+pub closing_again : (close : Kind) (trailing : Bool) (rest : List Lexeme) → IsClose close → value_next close (closing close trailing ++ rest) ≡ Ok (End trailing, rest)
+unfolding value_next
+closing_again close true rest is = rw (is.begin rest, expect_again close rest) refl
+closing_again close false rest is = rw (is.comma, expect_again close rest) refl
+
+pub more_values : (literals : Bool) (close : Kind) (t : Expression) (rest : List Lexeme) → IsGrouped literals t → value_next close (Mark kinds.Comma ∷ (expression_words t ++ rest)) ≡ Ok (More, expression_words t ++ rest)
+unfolding value_next
+more_values literals close t rest g = rw (begins_again literals t rest g) refl
+
+values_separate : (literals : Bool) (most room : ℕ) (close : Kind) (trailing : Bool) (rest : List Lexeme) → IsClose close → Separates (listed_values literals most room close) (EndsExpression literals) trailing rest
+values_separate literals most room close trailing rest is = record {
+  separator = comma_ends literals;
+  more = λ t words one. more_values literals close t words one;
+  ending = closing_ends literals close trailing rest is;
+  end = closing_again close trailing rest is;
+}
+
+-- values of which each is read alone
+abbrev all_longest : List Expression → Listing → ℕ
+all_longest vs listing = max (entries listing (length vs)) (highest (expression_longest listing) vs)
+
+none_values : (literals : Bool) (most room : ℕ) (close : Kind) (rest : List Lexeme) → IsClose close
+    → Outcome (values (expression literals most room) close most (Mark close ∷ rest)) ([], false) rest 0 room (all_longest []) most
+unfolding values
+none_values literals most room close rest is =
+    Found (omega arith) (λ listing. omega (arith, entries-le listing 0)) (rw (is.begin rest, expect_again close rest) refl)
+
+some_values : (literals : Bool) (most room : ℕ) (close : Kind) (v : Expression) (vs : List Expression) (trailing : Bool) (rest : List Lexeme) → IsClose close
+    → AreAll (IsGrouped literals) (v ∷ vs) → AreAll (IsRead literals most) (v ∷ vs)
+    → Outcome (values (expression literals most room) close most (expression_words v ++ (separated expression_words (Mark kinds.Comma) vs ++ (closing close trailing ++ rest)))) (v ∷ vs, trailing) rest
+    (highest expression_height (v ∷ vs)) room (all_longest (v ∷ vs)) most
+unfolding values
+some_values literals most room close v vs trailing rest is grouped read =
+    let l = listed_values literals most room close in
+    let again = all_again (IsRead literals most) (IsReadAgain l (EndsExpression literals)) (λ t one rest ends. one room 0 rest (omega arith) ends.none ends.shut) (v ∷ vs) read in
+    let b = begins_again literals v (separated expression_words (Mark kinds.Comma) vs ++ (closing close trailing ++ rest)) grouped.0 in
+    rw b (elim (listed_again l (EndsExpression literals) trailing rest (TooMany Entries) (values_separate literals most room close trailing rest is) vs most v grouped again) [
+      | AllFound low few count e ↦ Found low (λ listing. omega (arith, few listing, entries-le listing (length (v ∷ vs)))) (rw e refl)
+      | AllHigh high e ↦ High high (rw e refl)
+      | AllMany listing many e ↦ Many listing (omega (arith, many)) (rw e refl)
+      | Full count e ↦ Many Entries (omega (arith, count)) (rw e refl)
+    ])
+
+pub values_again : (literals : Bool) (most room : ℕ) (close : Kind) (vs : List Expression) (trailing : Bool) (rest : List Lexeme) → IsClose close
+    → AreAll (IsGrouped literals) vs → AreAll (IsRead literals most) vs → IsTrailing vs trailing
+    → Outcome (values (expression literals most room) close most (joined expression_words (Mark kinds.Comma) vs ++ (closing close trailing ++ rest))) (vs, trailing) rest
+    (highest expression_height vs) room (all_longest vs) most
+values_again literals most room close [] true rest is grouped read last = absurd cc
+values_again literals most room close [] false rest is grouped read last = none_values literals most room close rest is
+values_again literals most room close (v ∷ vs) trailing rest is grouped read last =
+    let regroup = append_assoc (expression_words v) (separated expression_words (Mark kinds.Comma) vs) (closing close trailing ++ rest) in
+    rw regroup (some_values literals most room close v vs trailing rest is grouped read)
+
+-- ---- composite literals
+
+abbrev composed : List ℕ → (List Expression × Bool) × List Lexeme → Reading Expression
+composed name all = Ok (Composite name (expressions all.0.0) all.0.1, all.1)
+
+abbrev goes_behind : ℕ → ℕ → ℕ → Expression × List Lexeme → Reading Expression
+goes_behind most room least first = operations (expression true most room) (suc room) least (suc room) first.0 first.1
+
+composite_goes : (most room least : ℕ) (name : List ℕ) (vs : Expressions) (trailing : Bool) (rest : List Lexeme)
+    → expression true most (suc room) least (expression_words (Composite name vs trailing) ++ rest)
+    ≡ ((values (expression true most room) kinds.RightBrace most (joined expression_words (Mark kinds.Comma) (expressions_in vs) ++ (closing kinds.RightBrace trailing ++ rest)) >>= composed name)
+    >>= goes_behind most room least)
+    → Outcome (values (expression true most room) kinds.RightBrace most (joined expression_words (Mark kinds.Comma) (expressions_in vs) ++ (closing kinds.RightBrace trailing ++ rest))) (expressions_in vs, trailing) rest
+    (highest expression_height (expressions_in vs)) room (all_longest (expressions_in vs)) most
+    → Reads true most room least (Composite name vs trailing) rest
+composite_goes most room least name vs trailing rest begin (Found low few e) =
+    Goes (suc room) (omega arith) (omega (arith, low, height_in vs))
+    (λ listing. subst (λ (n : ℕ). max (entries listing n) (expressions_longest listing vs) ≤ most) (count_in vs) (omega (arith, few listing, longest_in listing vs)))
+    (begin ∙ rw (e, expressions-expressions_in vs) refl)
+composite_goes most room least name vs trailing rest begin (High high e) = TooHigh (omega (arith, high, height_in vs)) (begin ∙ rw e refl)
+composite_goes most room least name vs trailing rest begin (Many listing many e) =
+    TooLong listing (subst (λ (n : ℕ). most < max (entries listing n) (expressions_longest listing vs)) (count_in vs) (omega (arith, many, longest_in listing vs))) (begin ∙ rw e refl)
+
+reads_composite : (literals : Bool) (most : ℕ) (name : List ℕ) (vs : Expressions) (trailing : Bool) → AreAll (IsRead literals most) (expressions_in vs) → IsGrouped literals (Composite name vs trailing) → GoesOn literals most (Composite name vs trailing)
+unfolding expression operand named composite
+reads_composite false most name vs trailing read g room least rest le none is_shut = let bad = g.0 in absurd cc
+reads_composite true most name vs trailing read g room least rest le none is_shut =
+    let regroup : (expressions_words vs ++ closing kinds.RightBrace trailing) ++ rest ≡ joined expression_words (Mark kinds.Comma) (expressions_in vs) ++ (closing kinds.RightBrace trailing ++ rest) =
+    append_assoc (expressions_words vs) (closing kinds.RightBrace trailing) rest ∙ ap (λ (ws : List Lexeme). ws ++ (closing kinds.RightBrace trailing ++ rest)) (words_in vs) in
+    composite_goes most room least name vs trailing rest (rw (g.1, regroup) refl)
+    (values_again true most room kinds.RightBrace (expressions_in vs) trailing rest brace_closes (grouped_in true vs g.2) read (last_in vs trailing g.3))
+
+mutual
+  goes_on : (literals : Bool) (most : ℕ) (t : Expression) → IsGrouped literals t → GoesOn literals most t
+  goes_on literals most (Integer value) g = reads_integer literals most value
+  goes_on literals most (Named name) g = reads_named literals most name g
+  goes_on literals most (Parenthesized inner) g = reads_parenthesized literals most inner (is_read literals most inner (goes_on literals most inner g))
+  goes_on literals most (Selection whole field) g = reads_selection literals most whole field (goes_on literals most whole g.0) g.1 g.2
+  goes_on literals most (Composite name vs trailing) g = reads_composite literals most name vs trailing (all_read literals most vs g.2) g
+  goes_on literals most (Unary o inner) g = reads_unary literals most o inner (is_read literals most inner (goes_on literals most inner g.0)) g.1
+  goes_on literals most (Binary o l r) g = reads_binary literals most o l r (goes_on literals most l g.0) (is_read literals most r (goes_on literals most r g.1)) g.2 g.3
+
+  all_read : (literals : Bool) (most : ℕ) (vs : Expressions) → AreGrouped literals vs → AreAll (IsRead literals most) (expressions_in vs)
+  all_read literals most NoMore g = tt
+  all_read literals most (Behind v vs) g = (is_read literals most v (goes_on literals most v g.0), all_read literals most vs g.1)
+
+-- what is spelt is read, or is too high, or has too long a list
+pub reads : (literals : Bool) (most : ℕ) (t : Expression) → IsGrouped literals t → IsRead literals most t
+reads literals most t g = is_read literals most t (goes_on literals most t g)

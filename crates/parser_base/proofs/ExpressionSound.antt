@@ -1,0 +1,439 @@
+-- What is read as an expression is spelt so.
+use Rattle.std.proofs.Common.{◌≡◌, ℕ, zero, suc, ◌+◌, ◌<◌, ◌≤◌, max, List, [], ◌∷◌, ◌++◌, length, Option, Some, None, Ok, Err, Bool, true, false, cond, leb, inl, inr, refl, ap, ◌∙◌, sym, subst, arith, append_assoc}
+use Rattle.std.proofs.lemmas.Bool.{le-leb, lt-leb, leb-false, cases_lt}
+use Rattle.scanner.specs.declared.kind.Kind.{Kind}
+use Rattle.scanner.specs.declared.kind.Kind.TheVariants as kinds
+use Rattle.syntax.specs.declared.node.BinaryOperator.{BinaryOperator}
+use Rattle.syntax.specs.declared.node.BinaryOperator.TheVariants as binaries
+use Rattle.syntax.specs.declared.node.UnaryOperator.{UnaryOperator}
+use Rattle.syntax.specs.declared.node.UnaryOperator.TheVariants as unaries
+use Rattle.syntax.specs.Tree.{Expression, Integer, Named, Parenthesized, Selection, Composite, Unary, Binary, Expressions, expressions, expressions_in}
+use Rattle.syntax.specs.Measures.{Listing, Entries, SelectClauses, entries, highest, expression_height, expressions_height, expression_longest, expressions_longest, expressions_count}
+use Rattle.syntax.proofs.Lists.{expressions_in-expressions, expressions_height-of, expressions_longest-of, expressions_count-of}
+use Rattle.parser_base.specs.declared.operator.Step.{Step}
+use Rattle.parser_base.specs.declared.operator.Step.TheVariants.{Operator, Period}
+use Rattle.parser_base.specs.declared.list.Next.{Next}
+use Rattle.parser_base.specs.declared.list.Next.TheVariants.{More, End}
+use Rattle.parser_base.specs.Lexemes.{Lexeme, Literal, Name, Text, Mark}
+use Rattle.parser_base.specs.Spelling.{is_builtin, joined, closing, AreAll, AreSome, IsTrailing, HasLast, expression_words, expressions_words, outer_precedence, precedence, IsGrouped, AreGrouped, unary_kind, binary_kind}
+use Rattle.parser_base.specs.Reading.{Reading, Syntax, TooDeep, TooMany, ◌>>=◌, is_kind, expect, begins, closed, behind_comma, value_next, values, composite, named, plain_name, binary_of, unary_of, operator_step, step_of, strength, binding, step_at, negated, parenthesized, operand, applied, operation, operations, expression, listed}
+use Rattle.parser_base.proofs.Marks.{bind_ok, unless_ok, when_ok, ok_is, kind_is, expect_is, plain_name_is}
+use Rattle.parser_base.proofs.ListLaws.{AreFew, Entries as Listed, IsEntry, ReadsSoundly as EntriesSoundly, listed_sound}
+use Rattle.parser_base.proofs.ExpressionAgain.{step_kind, precedence-lt, strength-lt, outer_precedence-le, none_above, none_strong, at_step, entries-le, words_in, listed_values}
+
+abbrev some : {A : Type 0} → A → Option A
+some x = Some x
+
+some_is : {A : Type 0} (x y : A) → some x ≡ some y → x ≡ y
+some_is x y e = cc
+
+-- ---- operators
+
+binary_is : (k : Kind) (o : BinaryOperator) → binary_of k ≡ Some o → k ≡ binary_kind o
+binary_is kinds.Plus o e = let p : binaries.Add ≡ o = cc in ap binary_kind p
+binary_is kinds.Minus o e = let p : binaries.Subtract ≡ o = cc in ap binary_kind p
+binary_is kinds.Star o e = let p : binaries.Multiply ≡ o = cc in ap binary_kind p
+binary_is kinds.Slash o e = let p : binaries.Divide ≡ o = cc in ap binary_kind p
+binary_is kinds.Percent o e = let p : binaries.Remainder ≡ o = cc in ap binary_kind p
+binary_is kinds.Ampersand o e = let p : binaries.And ≡ o = cc in ap binary_kind p
+binary_is kinds.Bar o e = let p : binaries.Or ≡ o = cc in ap binary_kind p
+binary_is kinds.Caret o e = let p : binaries.ExclusiveOr ≡ o = cc in ap binary_kind p
+binary_is kinds.AndNot o e = let p : binaries.AndNot ≡ o = cc in ap binary_kind p
+binary_is kinds.ShiftLeft o e = let p : binaries.ShiftLeft ≡ o = cc in ap binary_kind p
+binary_is kinds.ShiftRight o e = let p : binaries.ShiftRight ≡ o = cc in ap binary_kind p
+binary_is kinds.Equal o e = let p : binaries.Equal ≡ o = cc in ap binary_kind p
+binary_is kinds.NotEqual o e = let p : binaries.NotEqual ≡ o = cc in ap binary_kind p
+binary_is kinds.Less o e = let p : binaries.Less ≡ o = cc in ap binary_kind p
+binary_is kinds.LessEqual o e = let p : binaries.LessEqual ≡ o = cc in ap binary_kind p
+binary_is kinds.Greater o e = let p : binaries.Greater ≡ o = cc in ap binary_kind p
+binary_is kinds.GreaterEqual o e = let p : binaries.GreaterEqual ≡ o = cc in ap binary_kind p
+binary_is kinds.LogicalAnd o e = let p : binaries.LogicalAnd ≡ o = cc in ap binary_kind p
+binary_is kinds.LogicalOr o e = let p : binaries.LogicalOr ≡ o = cc in ap binary_kind p
+binary_is _ o e = absurd cc
+
+unary_is : (k : Kind) (o : UnaryOperator) → unary_of k ≡ Some o → k ≡ unary_kind o
+unary_is kinds.Plus o e = let p : unaries.Plus ≡ o = cc in ap unary_kind p
+unary_is kinds.Minus o e = let p : unaries.Negate ≡ o = cc in ap unary_kind p
+unary_is kinds.Not o e = let p : unaries.Not ≡ o = cc in ap unary_kind p
+unary_is kinds.Caret o e = let p : unaries.Complement ≡ o = cc in ap unary_kind p
+unary_is _ o e = absurd cc
+
+operator_step_is : (k : Kind) (o : Option BinaryOperator) (s : Step) → binary_of k ≡ o → operator_step o ≡ Some s → k ≡ step_kind s
+operator_step_is k None s is e = absurd cc
+operator_step_is k (Some o) s is e = binary_is k o is ∙ ap step_kind (some_is (Operator o) s e)
+
+step_mark_is : (k : Kind) (b : Bool) (s : Step) → is_kind k kinds.Period ≡ b → cond b (some Period) (operator_step (binary_of k)) ≡ Some s → k ≡ step_kind s
+step_mark_is k true s is e = kind_is k kinds.Period is ∙ ap step_kind (some_is Period s e)
+step_mark_is k false s is e = operator_step_is k (binary_of k) s refl e
+
+binding_is : (least : ℕ) (rest : List Lexeme) (p : Option Step) (s : Step) (after : List Lexeme) → binding least rest p ≡ Some (s, after) → (p ≡ Some s) × (rest ≡ after) × (least ≤ strength s)
+binding_is least rest None s after e = absurd cc
+binding_is least rest (Some q) s after e =
+    elim (cases_lt (strength q) least) [
+      | inl lt ↦ let bad = rw (lt-leb least (strength q) lt) at e in absurd cc
+      | inr le ↦
+          let is = rw (le-leb least (strength q) le) at e in
+          let same : q ≡ s = ap (λ (x : Step × List Lexeme). x.0) (some_is (q, rest) (s, after) is) in
+          (ap (λ (x : Step). Some x) same, ap (λ (x : Step × List Lexeme). x.1) (some_is (q, rest) (s, after) is), subst (λ (x : Step). least ≤ strength x) same le)
+    ]
+
+step_is : (least : ℕ) (ws : List Lexeme) (s : Step) (after : List Lexeme) → step_at least ws ≡ Some (s, after) → (ws ≡ Mark (step_kind s) ∷ after) × (least ≤ strength s)
+unfolding step_at
+step_is least [] s after e = absurd cc
+step_is least (Literal value ∷ ws) s after e = absurd cc
+step_is least (Name bytes ∷ ws) s after e = absurd cc
+step_is least (Text bytes ∷ ws) s after e = absurd cc
+step_is least (Mark kind ∷ ws) s after e =
+    let b = binding_is least ws (step_of kind) s after e in
+    ((λ i. Mark (step_mark_is kind (is_kind kind kinds.Period) s refl b.0 i) ∷ b.1 i), b.2)
+
+-- where nothing binds more strongly than so, the next step doesn't
+order_of : (n : ℕ) (ws : List Lexeme) (s : Step) (after : List Lexeme) → ws ≡ Mark (step_kind s) ∷ after → step_at (suc n) ws ≡ None → strength s ≤ n
+order_of n ws s after is none =
+    elim (cases_lt n (strength s)) [
+      | inr le ↦ le
+      | inl lt ↦ let bad = sym none ∙ ap (step_at (suc n)) is ∙ at_step (suc n) s after lt in absurd cc
+    ]
+
+-- ---- trees
+
+pub record IsSound (literals : Bool) (most room least : ℕ) (ws : List Lexeme) (t : Expression) (rest : List Lexeme) : Type 0 where
+  pub parts : ws ≡ expression_words t ++ rest
+  pub grouped : IsGrouped literals t
+  pub low : expression_height t ≤ room
+  pub few : AreFew (λ listing. expression_longest listing t) most
+  pub strong : least ≤ outer_precedence t
+  pub none : step_at least rest ≡ None
+
+abbrev pub ReadsSoundly : Bool → ℕ → (ℕ → List Lexeme → Reading Expression) → ℕ → Type 0
+ReadsSoundly literals most deeper room = (least : ℕ) (ws : List Lexeme) (t : Expression) (rest : List Lexeme) → least ≤ 6 → deeper least ws ≡ Ok (t, rest) → IsSound literals most room least ws t rest
+
+-- what is no operation and no selection
+record IsOperand (literals : Bool) (most room : ℕ) (ws : List Lexeme) (t : Expression) (rest : List Lexeme) : Type 0 where
+  parts : ws ≡ expression_words t ++ rest
+  grouped : IsGrouped literals t
+  low : expression_height t ≤ room
+  few : AreFew (λ listing. expression_longest listing t) most
+  strong : 6 ≤ outer_precedence t
+  none : step_at (suc (outer_precedence t)) rest ≡ None
+
+abbrev with_rest : Expression → List Lexeme → Expression × List Lexeme
+with_rest t rest = (t, rest)
+
+abbrev closes : Expression × List Lexeme → Reading Expression
+closes inner = expect kinds.RightParenthesis inner.1 >>= λ after. Ok (Parenthesized inner.0, after)
+
+parenthesized_sound : (literals : Bool) (most : ℕ) (deeper : ℕ → List Lexeme → Reading Expression) (room : ℕ) → ReadsSoundly literals most deeper room → (ws : List Lexeme) (t : Expression) (rest : List Lexeme) → parenthesized deeper ws ≡ Ok (t, rest) → IsOperand literals most (suc room) (Mark kinds.LeftParenthesis ∷ ws) t rest
+unfolding parenthesized
+parenthesized_sound literals most deeper room sound ws t rest e =
+    let a = bind_ok (deeper 0 ws) closes (t, rest) e in
+    let b = bind_ok (expect kinds.RightParenthesis a.0.1) (λ after. Ok (Parenthesized a.0.0, after)) (t, rest) a.2 in
+    let s = sound 0 ws a.0.0 a.0.1 (omega arith) a.1 in
+    let c = expect_is kinds.RightParenthesis a.0.1 b.0 b.1 in
+    subst (λ (x : Expression × List Lexeme). IsOperand literals most (suc room) (Mark kinds.LeftParenthesis ∷ ws) x.0 x.1) (ok_is (with_rest (Parenthesized a.0.0) b.0) (t, rest) b.2) (record {
+      parts = ap (λ (x : List Lexeme). Mark kinds.LeftParenthesis ∷ x) (s.parts ∙ ap (λ (x : List Lexeme). expression_words a.0.0 ++ x) c ∙ sym (append_assoc (expression_words a.0.0) (Mark kinds.RightParenthesis ∷ []) b.0));
+      grouped = s.grouped;
+      low = omega (arith, s.low);
+      few = s.few;
+      strong = omega arith;
+      none = none_strong b.0;
+    })
+
+negated_sound : (literals : Bool) (most : ℕ) (deeper : ℕ → List Lexeme → Reading Expression) (room : ℕ) → ReadsSoundly literals most deeper room → (kind : Kind) (ws : List Lexeme) (o : Option UnaryOperator) (t : Expression) (rest : List Lexeme) → unary_of kind ≡ o → negated deeper ws o ≡ Ok (t, rest) → IsOperand literals most (suc room) (Mark kind ∷ ws) t rest
+negated_sound literals most deeper room sound kind ws None t rest is e = absurd cc
+negated_sound literals most deeper room sound kind ws (Some o) t rest is e =
+    let a = bind_ok (deeper 6 ws) (λ inner. Ok (Unary o inner.0, inner.1)) (t, rest) e in
+    let s = sound 6 ws a.0.0 a.0.1 (omega arith) a.1 in
+    subst (λ (x : Expression × List Lexeme). IsOperand literals most (suc room) (Mark kind ∷ ws) x.0 x.1) (ok_is (with_rest (Unary o a.0.0) a.0.1) (t, rest) a.2) (record {
+      parts = λ i. Mark (unary_is kind o is i) ∷ s.parts i;
+      grouped = (s.grouped, s.strong);
+      low = omega (arith, s.low);
+      few = s.few;
+      strong = omega arith;
+      none = none_above 6 7 a.0.1 (omega arith) s.none;
+    })
+
+-- ---- lists of values
+
+abbrev ends_with : Bool → List Lexeme → Next × List Lexeme
+ends_with trailing rest = (End trailing, rest)
+
+abbrev goes_on_with : List Lexeme → Next × List Lexeme
+goes_on_with rest = (More, rest)
+
+end_is : (a b : Bool) (ws rest : List Lexeme) → ends_with a ws ≡ ends_with b rest → (a ≡ b) × (ws ≡ rest)
+end_is a b ws rest e =
+    let same : End a ≡ End b = ap (λ (x : Next × List Lexeme). x.0) e in
+    (cc, ap (λ (x : Next × List Lexeme). x.1) e)
+
+close_sound : (close : Kind) (before : Bool) (ws : List Lexeme) (trailing : Bool) (rest : List Lexeme) → closed close before ws ≡ Ok (ends_with trailing rest) → (before ≡ trailing) × (ws ≡ Mark close ∷ rest)
+close_sound close before ws trailing rest e =
+    let a = bind_ok (expect close ws) (λ after. Ok (ends_with before after)) (ends_with trailing rest) e in
+    let same = end_is before trailing a.0 rest (ok_is (ends_with before a.0) (ends_with trailing rest) a.2) in
+    (same.0, expect_is close ws a.0 a.1 ∙ ap (λ (x : List Lexeme). Mark close ∷ x) same.1)
+
+close_no_more : (close : Kind) (before : Bool) (ws rest : List Lexeme) → closed close before ws ≡ Ok (goes_on_with rest) → ⊥
+close_no_more close before ws rest e =
+    let a = bind_ok (expect close ws) (λ after. Ok (ends_with before after)) (goes_on_with rest) e in
+    let same = ok_is (ends_with before a.0) (goes_on_with rest) a.2 in
+    let kind : End before ≡ More = ap (λ (x : Next × List Lexeme). x.0) same in
+    cc
+
+comma_more : (close : Kind) (b : Bool) (ws rest : List Lexeme) → cond b (Ok (goes_on_with ws)) (closed close true ws) ≡ Ok (goes_on_with rest) → ws ≡ rest
+comma_more close true ws rest e = ap (λ (x : Next × List Lexeme). x.1) (ok_is (goes_on_with ws) (goes_on_with rest) e)
+comma_more close false ws rest e = absurd (close_no_more close true ws rest e)
+
+comma_end : (close : Kind) (b : Bool) (ws : List Lexeme) (trailing : Bool) (rest : List Lexeme) → cond b (Ok (goes_on_with ws)) (closed close true ws) ≡ Ok (ends_with trailing rest) → (true ≡ trailing) × (ws ≡ Mark close ∷ rest)
+comma_end close true ws trailing rest e =
+    let same = ok_is (goes_on_with ws) (ends_with trailing rest) e in
+    let kind : More ≡ End trailing = ap (λ (x : Next × List Lexeme). x.0) same in
+    absurd cc
+comma_end close false ws trailing rest e = close_sound close true ws trailing rest e
+
+mark_more : (close kind : Kind) (b : Bool) (ws rest : List Lexeme) → is_kind kind kinds.Comma ≡ b → cond b (behind_comma close ws) (closed close false (Mark kind ∷ ws)) ≡ Ok (goes_on_with rest) → Mark kind ∷ ws ≡ Mark kinds.Comma ∷ rest
+mark_more close kind true ws rest is e = λ i. Mark (kind_is kind kinds.Comma is i) ∷ comma_more close (begins ws) ws rest e i
+mark_more close kind false ws rest is e = absurd (close_no_more close false (Mark kind ∷ ws) rest e)
+
+pub value_more_sound : (close : Kind) (ws rest : List Lexeme) → value_next close ws ≡ Ok (goes_on_with rest) → ws ≡ Mark kinds.Comma ∷ rest
+unfolding value_next
+value_more_sound close [] rest e = absurd cc
+value_more_sound close (Literal value ∷ ws) rest e = absurd cc
+value_more_sound close (Name bytes ∷ ws) rest e = absurd cc
+value_more_sound close (Text bytes ∷ ws) rest e = absurd cc
+value_more_sound close (Mark kind ∷ ws) rest e = mark_more close kind (is_kind kind kinds.Comma) ws rest refl e
+
+mark_end : (close kind : Kind) (b : Bool) (ws : List Lexeme) (trailing : Bool) (rest : List Lexeme) → is_kind kind kinds.Comma ≡ b → cond b (behind_comma close ws) (closed close false (Mark kind ∷ ws)) ≡ Ok (ends_with trailing rest) → Mark kind ∷ ws ≡ closing close trailing ++ rest
+mark_end close kind true ws trailing rest is e =
+    let a = comma_end close (begins ws) ws trailing rest e in
+    let both : Mark kind ∷ ws ≡ closing close true ++ rest = λ i. Mark (kind_is kind kinds.Comma is i) ∷ a.1 i in
+    both ∙ ap (λ (b : Bool). closing close b ++ rest) a.0
+mark_end close kind false ws trailing rest is e =
+    let a = close_sound close false (Mark kind ∷ ws) trailing rest e in
+    let both : Mark kind ∷ ws ≡ closing close false ++ rest = a.1 in
+    both ∙ ap (λ (b : Bool). closing close b ++ rest) a.0
+
+pub value_end_sound : (close : Kind) (ws : List Lexeme) (trailing : Bool) (rest : List Lexeme) → value_next close ws ≡ Ok (ends_with trailing rest) → ws ≡ closing close trailing ++ rest
+unfolding value_next
+value_end_sound close [] trailing rest e = absurd cc
+value_end_sound close (Literal value ∷ ws) trailing rest e = absurd cc
+value_end_sound close (Name bytes ∷ ws) trailing rest e = absurd cc
+value_end_sound close (Text bytes ∷ ws) trailing rest e = absurd cc
+value_end_sound close (Mark kind ∷ ws) trailing rest e = mark_end close kind (is_kind kind kinds.Comma) ws trailing rest refl e
+
+-- values read by a reader that is sound
+abbrev deeper_values : (literals : Bool) (most room : ℕ) (close : Kind) (deeper : ℕ → List Lexeme → Reading Expression) → Listed Expression
+deeper_values literals most room close deeper = record {
+  one = deeper 0;
+  next = value_next close;
+  each = expression_words;
+  separator = Mark kinds.Comma;
+  ending = closing close;
+  height = expression_height;
+  longest = expression_longest;
+  room = room;
+  most = most;
+  IsOne = IsGrouped literals;
+}
+
+deeper_sound : (literals : Bool) (most room : ℕ) (close : Kind) (deeper : ℕ → List Lexeme → Reading Expression) → ReadsSoundly literals most deeper room → EntriesSoundly (deeper_values literals most room close deeper)
+deeper_sound literals most room close deeper sound = record {
+  one = λ ws t rest e. let s = sound 0 ws t rest (omega arith) e in record { parts = s.parts; is = s.grouped; low = s.low; few = s.few };
+  more = value_more_sound close;
+  end = value_end_sound close;
+}
+
+pub record AreValues (literals : Bool) (most room : ℕ) (close : Kind) (ws : List Lexeme) (vs : List Expression) (trailing : Bool) (rest : List Lexeme) : Type 0 where
+  pub parts : ws ≡ joined expression_words (Mark kinds.Comma) vs ++ (closing close trailing ++ rest)
+  pub are : AreAll (IsGrouped literals) vs
+  pub last : IsTrailing vs trailing
+  pub low : highest expression_height vs ≤ room
+  pub few : AreFew (λ listing. max (entries listing (length vs)) (highest (expression_longest listing) vs)) most
+
+some_all : {X : Type 0} (P : X → Type 0) (xs : List X) → AreSome P xs → AreAll P xs
+some_all P [] some = absurd some
+some_all P (x ∷ xs) some = some
+
+some_trailing : {X : Type 0} (P : X → Type 0) (xs : List X) (trailing : Bool) → AreSome P xs → IsTrailing xs trailing
+some_trailing P [] trailing some = absurd some
+some_trailing P (x ∷ xs) trailing some = tt
+
+abbrev values_with : List Expression → Bool → List Lexeme → (List Expression × Bool) × List Lexeme
+values_with vs trailing rest = ((vs, trailing), rest)
+
+either_values : (literals : Bool) (most room : ℕ) (close : Kind) (deeper : ℕ → List Lexeme → Reading Expression) → ReadsSoundly literals most deeper room → (b : Bool) (ws : List Lexeme) (vs : List Expression) (trailing : Bool) (rest : List Lexeme)
+    → cond b (listed (deeper 0) (value_next close) (TooMany Entries) most ws) (expect close ws >>= λ after. Ok (values_with [] false after)) ≡ Ok (values_with vs trailing rest) → AreValues literals most room close ws vs trailing rest
+either_values literals most room close deeper sound true ws vs trailing rest e =
+    let l = listed_sound (deeper_values literals most room close deeper) (TooMany Entries) (deeper_sound literals most room close deeper sound) most ws (values_with vs trailing rest) e in
+    record {
+      parts = l.parts;
+      are = some_all (IsGrouped literals) vs l.are;
+      last = some_trailing (IsGrouped literals) vs trailing l.are;
+      low = l.low;
+      few = λ listing. omega (arith, l.few listing, l.count, entries-le listing (length vs));
+    }
+either_values literals most room close deeper sound false ws vs trailing rest e =
+    let a = bind_ok (expect close ws) (λ after. Ok (values_with [] false after)) (values_with vs trailing rest) e in
+    subst (λ (x : (List Expression × Bool) × List Lexeme). AreValues literals most room close ws x.0.0 x.0.1 x.1) (ok_is (values_with [] false a.0) (values_with vs trailing rest) a.2) (record {
+      parts = expect_is close ws a.0 a.1;
+      are = tt;
+      last = refl;
+      low = omega arith;
+      few = λ listing. omega (arith, entries-le listing 0);
+    })
+
+pub values_sound : (literals : Bool) (most room : ℕ) (close : Kind) (deeper : ℕ → List Lexeme → Reading Expression) → ReadsSoundly literals most deeper room → (ws : List Lexeme) (vs : List Expression) (trailing : Bool) (rest : List Lexeme)
+    → values deeper close most ws ≡ Ok ((vs, trailing), rest) → AreValues literals most room close ws vs trailing rest
+unfolding values
+values_sound literals most room close deeper sound ws vs trailing rest e = either_values literals most room close deeper sound (begins ws) ws vs trailing rest e
+
+-- ---- composite literals and names
+
+grouped_of : (literals : Bool) (vs : List Expression) → AreAll (IsGrouped literals) vs → AreGrouped literals (expressions vs)
+grouped_of literals [] all = tt
+grouped_of literals (v ∷ vs) all = (all.0, grouped_of literals vs all.1)
+
+last_of : (vs : List Expression) (trailing : Bool) → IsTrailing vs trailing → HasLast (expressions vs) trailing
+last_of [] trailing last = last
+last_of (v ∷ vs) trailing last = tt
+
+composite_sound : (most : ℕ) (deeper : ℕ → List Lexeme → Reading Expression) (room : ℕ) → ReadsSoundly true most deeper room → (name : List ℕ) (ws : List Lexeme) (t : Expression) (rest : List Lexeme) → is_builtin name ≡ false → composite deeper most name ws ≡ Ok (t, rest) → IsOperand true most (suc room) (Name name ∷ Mark kinds.LeftBrace ∷ ws) t rest
+unfolding composite
+composite_sound most deeper room sound name ws t rest plain e =
+    let a = bind_ok (values deeper kinds.RightBrace most ws) (λ all. Ok (with_rest (Composite name (expressions all.0.0) all.0.1) all.1)) (with_rest t rest) e in
+    let vs = a.0.0.0 in
+    let trailing = a.0.0.1 in
+    let v = values_sound true most room kinds.RightBrace deeper sound ws vs trailing a.0.1 a.1 in
+    let words : joined expression_words (Mark kinds.Comma) vs ≡ expressions_words (expressions vs) = sym (words_in (expressions vs) ∙ ap (joined expression_words (Mark kinds.Comma)) (expressions_in-expressions vs)) in
+    let parts = v.parts ∙ ap (λ (x : List Lexeme). x ++ (closing kinds.RightBrace trailing ++ a.0.1)) words ∙ sym (append_assoc (expressions_words (expressions vs)) (closing kinds.RightBrace trailing) a.0.1) in
+    subst (λ (x : Expression × List Lexeme). IsOperand true most (suc room) (Name name ∷ Mark kinds.LeftBrace ∷ ws) x.0 x.1) (ok_is (with_rest (Composite name (expressions vs) trailing) a.0.1) (with_rest t rest) a.2) (record {
+      parts = ap (λ (x : List Lexeme). Name name ∷ Mark kinds.LeftBrace ∷ x) parts;
+      grouped = (refl, plain, grouped_of true vs v.are, last_of vs trailing v.last);
+      low = omega (arith, v.low, expressions_height-of vs);
+      few = λ listing. subst (λ (n : ℕ). max (entries listing n) (expressions_longest listing (expressions vs)) ≤ most) (sym (expressions_count-of vs)) (omega (arith, v.few listing, expressions_longest-of listing vs));
+      strong = omega arith;
+      none = none_strong a.0.1;
+    })
+
+name_sound : (literals : Bool) (most : ℕ) (room : ℕ) (name : List ℕ) (ws : List Lexeme) (t : Expression) (rest : List Lexeme) → is_builtin name ≡ false → with_rest (Named name) ws ≡ with_rest t rest → IsOperand literals most (suc room) (Name name ∷ ws) t rest
+name_sound literals most room name ws t rest plain e =
+    subst (λ (x : Expression × List Lexeme). IsOperand literals most (suc room) (Name name ∷ ws) x.0 x.1) e (record {
+      parts = refl;
+      grouped = plain;
+      low = omega arith;
+      few = λ listing. omega arith;
+      strong = omega arith;
+      none = none_strong ws;
+    })
+
+brace_sound : (most : ℕ) (deeper : ℕ → List Lexeme → Reading Expression) (room : ℕ) → ReadsSoundly true most deeper room → (name : List ℕ) (kind : Kind) (b : Bool) (ws : List Lexeme) (t : Expression) (rest : List Lexeme) → is_builtin name ≡ false → is_kind kind kinds.LeftBrace ≡ b
+    → cond b (composite deeper most name ws) (Ok (with_rest (Named name) (Mark kind ∷ ws))) ≡ Ok (with_rest t rest) → IsOperand true most (suc room) (Name name ∷ Mark kind ∷ ws) t rest
+brace_sound most deeper room sound name kind true ws t rest plain is e =
+    subst (λ (k : Kind). IsOperand true most (suc room) (Name name ∷ Mark k ∷ ws) t rest) (sym (kind_is kind kinds.LeftBrace is)) (composite_sound most deeper room sound name ws t rest plain e)
+brace_sound most deeper room sound name kind false ws t rest plain is e = name_sound true most room name (Mark kind ∷ ws) t rest plain (ok_is (with_rest (Named name) (Mark kind ∷ ws)) (with_rest t rest) e)
+
+named_sound : (literals : Bool) (most : ℕ) (deeper : ℕ → List Lexeme → Reading Expression) (room : ℕ) → ReadsSoundly literals most deeper room → (name : List ℕ) (ws : List Lexeme) (t : Expression) (rest : List Lexeme) → is_builtin name ≡ false → named literals deeper most name ws ≡ Ok (with_rest t rest) → IsOperand literals most (suc room) (Name name ∷ ws) t rest
+unfolding named
+named_sound false most deeper room sound name ws t rest plain e = name_sound false most room name ws t rest plain (ok_is (with_rest (Named name) ws) (with_rest t rest) e)
+named_sound true most deeper room sound name [] t rest plain e = name_sound true most room name [] t rest plain (ok_is (with_rest (Named name) []) (with_rest t rest) e)
+named_sound true most deeper room sound name (Literal value ∷ ws) t rest plain e = name_sound true most room name (Literal value ∷ ws) t rest plain (ok_is (with_rest (Named name) (Literal value ∷ ws)) (with_rest t rest) e)
+named_sound true most deeper room sound name (Name bytes ∷ ws) t rest plain e = name_sound true most room name (Name bytes ∷ ws) t rest plain (ok_is (with_rest (Named name) (Name bytes ∷ ws)) (with_rest t rest) e)
+named_sound true most deeper room sound name (Text bytes ∷ ws) t rest plain e = name_sound true most room name (Text bytes ∷ ws) t rest plain (ok_is (with_rest (Named name) (Text bytes ∷ ws)) (with_rest t rest) e)
+named_sound true most deeper room sound name (Mark kind ∷ ws) t rest plain e = brace_sound most deeper room sound name kind (is_kind kind kinds.LeftBrace) ws t rest plain refl e
+
+-- ---- operands and what follows
+
+mark_sound : (literals : Bool) (most : ℕ) (deeper : ℕ → List Lexeme → Reading Expression) (room : ℕ) → ReadsSoundly literals most deeper room → (kind : Kind) (ws : List Lexeme) (b : Bool) (t : Expression) (rest : List Lexeme) → is_kind kind kinds.LeftParenthesis ≡ b → cond b (parenthesized deeper ws) (negated deeper ws (unary_of kind)) ≡ Ok (t, rest) → IsOperand literals most (suc room) (Mark kind ∷ ws) t rest
+mark_sound literals most deeper room sound kind ws true t rest is e =
+    subst (λ (k : Kind). IsOperand literals most (suc room) (Mark k ∷ ws) t rest) (sym (kind_is kind kinds.LeftParenthesis is)) (parenthesized_sound literals most deeper room sound ws t rest e)
+mark_sound literals most deeper room sound kind ws false t rest is e = negated_sound literals most deeper room sound kind ws (unary_of kind) t rest refl e
+
+operand_sound : (literals : Bool) (most : ℕ) (deeper : ℕ → List Lexeme → Reading Expression) (room : ℕ) → ReadsSoundly literals most deeper room → (ws : List Lexeme) (t : Expression) (rest : List Lexeme) → operand literals deeper most ws ≡ Ok (t, rest) → IsOperand literals most (suc room) ws t rest
+unfolding operand
+operand_sound literals most deeper room sound [] t rest e = absurd cc
+operand_sound literals most deeper room sound (Literal value ∷ ws) t rest e =
+    subst (λ (x : Expression × List Lexeme). IsOperand literals most (suc room) (Literal value ∷ ws) x.0 x.1) (ok_is (with_rest (Integer value) ws) (t, rest) e)
+    (record { parts = refl; grouped = tt; low = omega arith; few = λ listing. omega arith; strong = omega arith; none = none_strong ws })
+operand_sound literals most deeper room sound (Name name ∷ ws) t rest e =
+    let w = unless_ok (is_builtin name) Syntax (named literals deeper most name ws) (with_rest t rest) e in
+    named_sound literals most deeper room sound name ws t rest w.0 w.1
+operand_sound literals most deeper room sound (Text bytes ∷ ws) t rest e = absurd cc
+operand_sound literals most deeper room sound (Mark kind ∷ ws) t rest e = mark_sound literals most deeper room sound kind ws (is_kind kind kinds.LeftParenthesis) t rest refl e
+
+abbrev GoesOn : Bool → ℕ → (Expression → List Lexeme → Reading Expression) → (room least : ℕ) → Type 0
+GoesOn literals most next room least = (left : Expression) (ws : List Lexeme) (t : Expression) (rest : List Lexeme) → IsGrouped literals left → expression_height left ≤ room → AreFew (λ listing. expression_longest listing left) most → least ≤ outer_precedence left → step_at (suc (outer_precedence left)) ws ≡ None → next left ws ≡ Ok (t, rest)
+    → IsSound literals most room least (expression_words left ++ ws) t rest
+
+-- what a step makes of what was read before
+record IsApplied (literals : Bool) (most room : ℕ) (left : Expression) (s : Step) (after : List Lexeme) (t : Expression) (rest : List Lexeme) : Type 0 where
+  parts : expression_words left ++ (Mark (step_kind s) ∷ after) ≡ expression_words t ++ rest
+  grouped : IsGrouped literals t
+  low : expression_height t ≤ suc room
+  few : AreFew (λ listing. expression_longest listing t) most
+  strong : outer_precedence t ≡ strength s
+  none : step_at (suc (outer_precedence t)) rest ≡ None
+
+applied_sound : (literals : Bool) (most : ℕ) (deeper : ℕ → List Lexeme → Reading Expression) (room : ℕ) → ReadsSoundly literals most deeper room → (left : Expression) (s : Step) (after : List Lexeme) (t : Expression) (rest : List Lexeme) → IsGrouped literals left → expression_height left ≤ room → AreFew (λ listing. expression_longest listing left) most → strength s ≤ outer_precedence left
+    → applied deeper left (s, after) ≡ Ok (with_rest t rest) → IsApplied literals most room left s after t rest
+applied_sound literals most deeper room sound left (Operator o) after t rest grouped low few order e =
+    let a = bind_ok (deeper (precedence o + 1) after) (λ right. Ok (with_rest (Binary o left right.0) right.1)) (with_rest t rest) e in
+    let one_more : precedence o + 1 ≡ suc (precedence o) = omega arith in
+    let r = sound (precedence o + 1) after a.0.0 a.0.1 (omega (arith, precedence-lt o)) a.1 in
+    subst (λ (x : Expression × List Lexeme). IsApplied literals most room left (Operator o) after x.0 x.1) (ok_is (with_rest (Binary o left a.0.0) a.0.1) (with_rest t rest) a.2) (record {
+      parts = ap (λ (x : List Lexeme). expression_words left ++ (Mark (binary_kind o) ∷ x)) r.parts ∙ sym (append_assoc (expression_words left) (Mark (binary_kind o) ∷ expression_words a.0.0) a.0.1);
+      grouped = (grouped, r.grouped, order, omega (arith, r.strong));
+      low = omega (arith, r.low);
+      few = λ listing. omega (arith, few listing, r.few listing);
+      strong = refl;
+      none = subst (λ (n : ℕ). step_at n a.0.1 ≡ None) one_more r.none;
+    })
+applied_sound literals most deeper room sound left Period after t rest grouped low few order e =
+    let a = bind_ok (plain_name after) (λ field. Ok (with_rest (Selection left field.0) field.1)) (with_rest t rest) e in
+    let n = plain_name_is after a.0.0 a.0.1 a.1 in
+    subst (λ (x : Expression × List Lexeme). IsApplied literals most room left Period after x.0 x.1) (ok_is (with_rest (Selection left a.0.0) a.0.1) (with_rest t rest) a.2) (record {
+      parts = ap (λ (x : List Lexeme). expression_words left ++ (Mark kinds.Period ∷ x)) n.0 ∙ sym (append_assoc (expression_words left) (Mark kinds.Period ∷ Name a.0.0 ∷ []) a.0.1);
+      grouped = (grouped, omega (arith, outer_precedence-le left), n.1);
+      low = omega arith;
+      few = few;
+      strong = refl;
+      none = none_strong a.0.1;
+    })
+
+operation_sound : (literals : Bool) (most : ℕ) (deeper : ℕ → List Lexeme → Reading Expression) (next : Expression → List Lexeme → Reading Expression) (room least : ℕ) → ReadsSoundly literals most deeper room → GoesOn literals most next (suc room) least
+    → (left : Expression) (ws : List Lexeme) (found : Option (Step × List Lexeme)) (t : Expression) (rest : List Lexeme) → IsGrouped literals left → expression_height left ≤ suc room → AreFew (λ listing. expression_longest listing left) most → least ≤ outer_precedence left → step_at (suc (outer_precedence left)) ws ≡ None
+    → step_at least ws ≡ found → operation deeper next (suc room) left ws found ≡ Ok (t, rest) → IsSound literals most (suc room) least (expression_words left ++ ws) t rest
+unfolding operation
+operation_sound literals most deeper next room least sound goes left ws None t rest grouped low few strong none is e =
+    subst (λ (x : Expression × List Lexeme). IsSound literals most (suc room) least (expression_words left ++ ws) x.0 x.1) (ok_is (with_rest left ws) (t, rest) e) (record { parts = refl; grouped = grouped; low = low; few = few; strong = strong; none = is })
+operation_sound literals most deeper next room least sound goes left ws (Some found) t rest grouped low few strong none is e =
+    let s = found.0 in
+    let after = found.1 in
+    let at = step_is least ws s after is in
+    let g = unless_ok (leb (suc room) (expression_height left)) TooDeep (applied deeper left (s, after) >>= λ more. next more.0 more.1) (t, rest) e in
+    let lower : expression_height left < suc room = leb-false _ _ g.0 in
+    let b = bind_ok (applied deeper left (s, after)) (λ more. next more.0 more.1) (t, rest) g.1 in
+    let order = order_of (outer_precedence left) ws s after at.0 none in
+    let a = applied_sound literals most deeper room sound left s after b.0.0 b.0.1 grouped (omega arith) few order b.1 in
+    let r = goes b.0.0 b.0.1 t rest a.grouped a.low a.few (omega (arith, a.strong, at.1)) a.none b.2 in
+    record {
+      parts = ap (λ (x : List Lexeme). expression_words left ++ x) at.0 ∙ a.parts ∙ r.parts;
+      grouped = r.grouped;
+      low = r.low;
+      few = r.few;
+      strong = r.strong;
+      none = r.none;
+    }
+
+operations_sound : (literals : Bool) (most : ℕ) (deeper : ℕ → List Lexeme → Reading Expression) (room least : ℕ) → ReadsSoundly literals most deeper room → (turns : ℕ) → GoesOn literals most (operations deeper (suc room) least turns) (suc room) least
+unfolding operations
+operations_sound literals most deeper room least sound zero left ws t rest grouped low few strong none e = absurd cc
+operations_sound literals most deeper room least sound (suc turns) left ws t rest grouped low few strong none e =
+    operation_sound literals most deeper (operations deeper (suc room) least turns) room least sound (operations_sound literals most deeper room least sound turns) left ws (step_at least ws) t rest grouped low few strong none refl e
+
+pub expression_sound : (literals : Bool) (most room : ℕ) → ReadsSoundly literals most (expression literals most room) room
+unfolding expression
+expression_sound literals most zero least ws t rest six e = absurd cc
+expression_sound literals most (suc room) least ws t rest six e =
+    let a = bind_ok (operand literals (expression literals most room) most ws) (λ first. operations (expression literals most room) (suc room) least (suc room) first.0 first.1) (t, rest) e in
+    let first = operand_sound literals most (expression literals most room) room (expression_sound literals most room) ws a.0.0 a.0.1 a.1 in
+    let s = operations_sound literals most (expression literals most room) room least (expression_sound literals most room) (suc room) a.0.0 a.0.1 t rest first.grouped first.low first.few (omega (arith, first.strong)) first.none a.2 in
+    record { parts = first.parts ∙ s.parts; grouped = s.grouped; low = s.low; few = s.few; strong = s.strong; none = s.none }

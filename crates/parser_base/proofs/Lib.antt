@@ -1,0 +1,10 @@
+pub mod Literals
+pub mod Results
+pub mod Marks
+pub mod Lists
+pub mod Operations
+pub mod ListLaws
+pub mod ExpressionAgain
+pub mod ExpressionSound
+pub mod Sizes
+pub mod TypeLaws

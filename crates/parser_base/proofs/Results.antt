@@ -1,0 +1,12 @@
+-- What is read, step by step.
+use Rattle.std.proofs.Common.{◌≡◌, Option, Some, None, Result, Err}
+use Rattle.go_text.specs.declared.fault.Fault.{Fault}
+use Rattle.parser_base.specs.Reading.{Refusal, FailsWith, Fails, refusal_of}
+
+fails_with : {A B : Type 0} (fault : Fault) (refusal : Option Refusal) (read : Result A Refusal) (all : Result B Refusal) → FailsWith fault refusal read → ((r : Refusal) → read ≡ Err r → all ≡ Err r) → FailsWith fault refusal all
+fails_with fault None read all fails on = fails
+fails_with fault (Some r) read all fails on = on r fails
+
+-- where all of a reading fails as its step does
+pub fails_on : {A B : Type 0} (fault : Fault) (read : Result A Refusal) (all : Result B Refusal) → Fails fault read → ((r : Refusal) → read ≡ Err r → all ≡ Err r) → Fails fault all
+fails_on fault read all fails on = fails_with fault (refusal_of fault) read all fails on

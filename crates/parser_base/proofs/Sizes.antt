@@ -1,0 +1,26 @@
+-- An expression has no more nodes than lexemes.
+use Rattle.std.proofs.Common.{◌+◌, ◌≤◌, List, [], ◌∷◌, length, sum_by, arith, length-append}
+use Rattle.std.proofs.lemmas.List.Sums.{sum_by-cons}
+use Rattle.scanner.specs.declared.kind.Kind.TheVariants as kinds
+use Rattle.syntax.specs.Tree.{Expression, Integer, Named, Parenthesized, Selection, Composite, Unary, Binary, Expressions, NoMore, Behind}
+use Rattle.syntax.specs.Measures.{expression_size, expressions_size}
+use Rattle.parser_base.specs.Lexemes.{Lexeme, Name, Mark}
+use Rattle.parser_base.specs.Spelling.{expression_words, expressions_words, more_words, binary_kind, separated, joined, closing}
+
+mutual
+  pub expression_size-le : (t : Expression) → expression_size t ≤ length (expression_words t)
+  expression_size-le (Integer value) = omega arith
+  expression_size-le (Named name) = omega arith
+  expression_size-le (Parenthesized inner) = omega (arith, expression_size-le inner, length-append (expression_words inner) (Mark kinds.RightParenthesis ∷ []))
+  expression_size-le (Selection whole field) = omega (arith, expression_size-le whole, length-append (expression_words whole) (Mark kinds.Period ∷ Name field ∷ []))
+  expression_size-le (Composite name vs trailing) = omega (arith, expressions_size-le vs, length-append (expressions_words vs) (closing kinds.RightBrace trailing))
+  expression_size-le (Unary o operand) = omega (arith, expression_size-le operand)
+  expression_size-le (Binary o l r) = omega (arith, expression_size-le l, expression_size-le r, length-append (expression_words l) (Mark (binary_kind o) ∷ expression_words r))
+
+  pub expressions_size-le : (vs : Expressions) → expressions_size vs ≤ length (expressions_words vs)
+  expressions_size-le NoMore = omega arith
+  expressions_size-le (Behind v vs) = omega (arith, expression_size-le v, more_size-le vs, length-append (expression_words v) (more_words vs))
+
+  more_size-le : (vs : Expressions) → expressions_size vs ≤ length (more_words vs)
+  more_size-le NoMore = omega arith
+  more_size-le (Behind v vs) = omega (arith, expression_size-le v, more_size-le vs, length-append (expression_words v) (more_words vs))

@@ -1,0 +1,5 @@
+pub mod Lexemes
+pub mod Cursor
+pub mod Spelling
+pub mod Reading
+pub mod TypeReading

@@ -1,0 +1,144 @@
+-- The one list of lexemes that spells a type or an expression.
+use Rattle.std.specs.Prelude.{◌≡◌, ℕ, ◌<◌, ◌≤◌, Bool, true, false, ◌||◌, List, [], ◌∷◌, ◌++◌, IsTrue, bytes_eq, codes}
+use Rattle.scanner.specs.declared.kind.Kind.{Kind}
+use Rattle.scanner.specs.declared.kind.Kind.TheVariants as kinds
+use Rattle.syntax.specs.declared.node.BinaryOperator.{BinaryOperator}
+use Rattle.syntax.specs.declared.node.BinaryOperator.TheVariants as binaries
+use Rattle.syntax.specs.declared.node.UnaryOperator.{UnaryOperator}
+use Rattle.syntax.specs.declared.node.UnaryOperator.TheVariants as unaries
+use Rattle.syntax.specs.Tree.{Expression, Integer, Named, Parenthesized, Selection, Composite, Unary, Binary, Expressions, NoMore, Behind}
+use Rattle.parser_base.specs.Lexemes.{Lexeme, Literal, Name, Mark}
+
+-- ---- names
+
+-- the names that stand only in calls of their own
+abbrev pub is_builtin : List ℕ → Bool
+is_builtin name =
+    bytes_eq name (codes "make") || bytes_eq name (codes "len") || bytes_eq name (codes "cap") || bytes_eq name (codes "close")
+    || bytes_eq name (codes "print") || bytes_eq name (codes "println")
+
+-- ---- lists
+
+-- each of these behind a separator
+abbrev pub separated : {A : Type 0} → (A → List Lexeme) → Lexeme → List A → List Lexeme
+separated each separator [] = []
+separated each separator (first ∷ rest) = separator ∷ (each first ++ separated each separator rest)
+
+-- these, with a separator between each two
+abbrev pub joined : {A : Type 0} → (A → List Lexeme) → Lexeme → List A → List Lexeme
+joined each separator [] = []
+joined each separator (first ∷ rest) = each first ++ separated each separator rest
+
+-- what holds of all
+abbrev pub AreAll : {A : Type 0} → (A → Type 0) → List A → Type 0
+AreAll P [] = Unit {0}
+AreAll P (first ∷ rest) = P first × AreAll P rest
+
+-- at least one, and what holds of all
+abbrev pub AreSome : {A : Type 0} → (A → Type 0) → List A → Type 0
+AreSome P [] = ⊥
+AreSome P (first ∷ rest) = P first × AreAll P rest
+
+-- what closes a list of values, behind whose last one a comma may stand
+abbrev pub closing : Kind → (trailing : Bool) → List Lexeme
+closing close true = Mark kinds.Comma ∷ Mark close ∷ []
+closing close false = Mark close ∷ []
+
+-- A comma follows a value.
+abbrev pub IsTrailing : {A : Type 0} → List A → (trailing : Bool) → Type 0
+IsTrailing [] trailing = trailing ≡ false
+IsTrailing (first ∷ rest) trailing = Unit {0}
+
+-- ---- expressions
+
+abbrev pub unary_kind : UnaryOperator → Kind
+unary_kind unaries.Plus = kinds.Plus
+unary_kind unaries.Negate = kinds.Minus
+unary_kind unaries.Not = kinds.Not
+unary_kind unaries.Complement = kinds.Caret
+
+abbrev pub binary_kind : BinaryOperator → Kind
+binary_kind binaries.Add = kinds.Plus
+binary_kind binaries.Subtract = kinds.Minus
+binary_kind binaries.Multiply = kinds.Star
+binary_kind binaries.Divide = kinds.Slash
+binary_kind binaries.Remainder = kinds.Percent
+binary_kind binaries.And = kinds.Ampersand
+binary_kind binaries.Or = kinds.Bar
+binary_kind binaries.ExclusiveOr = kinds.Caret
+binary_kind binaries.AndNot = kinds.AndNot
+binary_kind binaries.ShiftLeft = kinds.ShiftLeft
+binary_kind binaries.ShiftRight = kinds.ShiftRight
+binary_kind binaries.Equal = kinds.Equal
+binary_kind binaries.NotEqual = kinds.NotEqual
+binary_kind binaries.Less = kinds.Less
+binary_kind binaries.LessEqual = kinds.LessEqual
+binary_kind binaries.Greater = kinds.Greater
+binary_kind binaries.GreaterEqual = kinds.GreaterEqual
+binary_kind binaries.LogicalAnd = kinds.LogicalAnd
+binary_kind binaries.LogicalOr = kinds.LogicalOr
+
+-- how strongly a binary operator binds, from 1 to 5
+abbrev pub precedence : BinaryOperator → ℕ
+precedence binaries.Add = 4
+precedence binaries.Subtract = 4
+precedence binaries.Or = 4
+precedence binaries.ExclusiveOr = 4
+precedence binaries.Equal = 3
+precedence binaries.NotEqual = 3
+precedence binaries.Less = 3
+precedence binaries.LessEqual = 3
+precedence binaries.Greater = 3
+precedence binaries.GreaterEqual = 3
+precedence binaries.LogicalAnd = 2
+precedence binaries.LogicalOr = 1
+precedence operator = 5
+
+-- how strongly the outermost operator binds: 1 to 5 a binary one, 6 a unary one; 7 where there is none, or a selection
+abbrev pub outer_precedence : Expression → ℕ
+outer_precedence (Unary operator operand) = 6
+outer_precedence (Binary operator left right) = precedence operator
+outer_precedence expression = 7
+
+abbrev mutual
+  pub expression_words : Expression → List Lexeme
+  expression_words (Integer value) = Literal value ∷ []
+  expression_words (Named name) = Name name ∷ []
+  expression_words (Parenthesized inner) = Mark kinds.LeftParenthesis ∷ (expression_words inner ++ (Mark kinds.RightParenthesis ∷ []))
+  expression_words (Selection whole field) = expression_words whole ++ (Mark kinds.Period ∷ Name field ∷ [])
+  expression_words (Composite name values trailing) =
+      Name name ∷ Mark kinds.LeftBrace ∷ (expressions_words values ++ closing kinds.RightBrace trailing)
+  expression_words (Unary operator operand) = Mark (unary_kind operator) ∷ expression_words operand
+  expression_words (Binary operator left right) = expression_words left ++ (Mark (binary_kind operator) ∷ expression_words right)
+
+  -- expressions, with a comma between each two
+  pub expressions_words : Expressions → List Lexeme
+  expressions_words NoMore = []
+  expressions_words (Behind first rest) = expression_words first ++ more_words rest
+
+  -- each of these behind a comma
+  pub more_words : Expressions → List Lexeme
+  more_words NoMore = []
+  more_words (Behind first rest) = Mark kinds.Comma ∷ (expression_words first ++ more_words rest)
+
+-- A comma follows a value of a literal.
+abbrev pub HasLast : Expressions → (trailing : Bool) → Type 0
+HasLast NoMore trailing = trailing ≡ false
+HasLast (Behind first rest) trailing = Unit {0}
+
+-- Operators of equal precedence associate to the left, and weaker operands stand in parentheses. Composite literals
+-- stand only where `literals` holds: not in the header of an if or a for.
+abbrev mutual
+  pub IsGrouped : (literals : Bool) → Expression → Type 0
+  IsGrouped literals (Integer value) = Unit {0}
+  IsGrouped literals (Named name) = is_builtin name ≡ false
+  IsGrouped literals (Parenthesized inner) = IsGrouped literals inner
+  IsGrouped literals (Selection whole field) = IsGrouped literals whole × (outer_precedence whole ≡ 7) × (is_builtin field ≡ false)
+  IsGrouped literals (Composite name values trailing) = IsTrue literals × (is_builtin name ≡ false) × AreGrouped literals values × HasLast values trailing
+  IsGrouped literals (Unary operator operand) = IsGrouped literals operand × (6 ≤ outer_precedence operand)
+  IsGrouped literals (Binary operator left right) =
+      IsGrouped literals left × IsGrouped literals right × (precedence operator ≤ outer_precedence left) × (precedence operator < outer_precedence right)
+
+  pub AreGrouped : (literals : Bool) → Expressions → Type 0
+  AreGrouped literals NoMore = Unit {0}
+  AreGrouped literals (Behind first rest) = IsGrouped literals first × AreGrouped literals rest

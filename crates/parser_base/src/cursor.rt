@@ -1,0 +1,136 @@
+//! A place between the tokens of a text.
+
+ghost use Rattle.std.specs.Prelude.{◌≡◌, ◌∷◌, [], IfOk, IfErr, MatchOption, length};
+ghost use Rattle.go_text.specs.Source.{bytes_of};
+ghost use Rattle.parser_base.specs.Lexemes.{lexemes, piece};
+ghost use Rattle.parser_base.specs.Spelling.{is_builtin};
+ghost use Rattle.parser_base.specs.Reading.{Gives, expect, expect_name, plain_name};
+
+use go_text::{Fault, Place, Source, Span};
+use scanner::{Kind, Token};
+
+/// What the grammar sees of a token.
+#[derive(Clone, Copy)]
+pub enum Word<'a> {
+    /// The digits of a number.
+    Literal(&'a [u8]),
+    /// The bytes of a name.
+    Name(&'a [u8]),
+    /// The bytes of a string, in its quotes.
+    Text(&'a [u8]),
+    /// Any other token.
+    Mark(Kind),
+}
+
+/// The tokens of a text from some place on.
+#[derive(Clone, Copy)]
+pub struct Cursor<'a> {
+    source: &'a Source,
+    tokens: &'a [Token],
+}
+
+/// The bytes of a text at a span; those that the text has, where the span reaches beyond its end.
+fn piece(text: &[u8], span: Span) -> &[u8]
+    ensures { result.now ≡ piece text.now span }
+{
+    let rest = &text[(span.from as usize).min(text.len())..];
+    let count = span.to.saturating_sub(span.from) as usize;
+    &rest[..count.min(rest.len())]
+}
+
+/// Whether a name stands only in calls of its own.
+pub fn is_builtin(name: &[u8]) -> bool
+    ensures { result ≡ is_builtin name.now }
+{
+    name == b"make".as_slice()
+        || name == b"len".as_slice()
+        || name == b"cap".as_slice()
+        || name == b"close".as_slice()
+        || name == b"print".as_slice()
+        || name == b"println".as_slice()
+}
+
+impl<'a> Cursor<'a> {
+    ghost use Rattle.parser_base.specs.Cursor.{ahead, lexeme_of, place_at};
+
+    /// The place before all tokens.
+    pub fn new(source: &'a Source, tokens: &'a [Token]) -> Cursor<'a>
+        ensures { ahead result ≡ lexemes (bytes_of source.now) tokens.now }
+    {
+        Cursor { source, tokens }
+    }
+
+    /// How many tokens are left.
+    pub fn len(self) -> usize
+        ensures { result ≡ length (ahead self.entry) }
+    {
+        self.tokens.len()
+    }
+
+    /// The place of the first token, or the end of the text.
+    pub fn place(self) -> Place
+        ensures { result ≡ place_at (length (bytes_of self.entry.source.now)) self.entry.tokens.now }
+    {
+        match self.tokens.first() {
+            Some(token) => Place::from(token.span),
+            None => {
+                let end = self.source.as_bytes().len() as u32;
+                Place::from(Span { from: end, to: end })
+            }
+        }
+    }
+
+    /// The first word, the span of its token, and the place behind it; `None` at the end.
+    pub fn next(self) -> Option<(Word<'a>, Span, Cursor<'a>)>
+        ensures { MatchOption result (ahead self.entry ≡ []) (λ x. ahead self.entry ≡ lexeme_of x.0 ∷ ahead x.2) }
+    {
+        let (token, rest) = self.tokens.split_first()?;
+        let word = match token.kind {
+            Kind::Integer => Word::Literal(piece(self.source.as_bytes(), token.span)),
+            Kind::Name => Word::Name(piece(self.source.as_bytes(), token.span)),
+            Kind::String => Word::Text(piece(self.source.as_bytes(), token.span)),
+            kind => Word::Mark(kind),
+        };
+        Some((
+            word,
+            token.span,
+            Cursor {
+                source: self.source,
+                tokens: rest,
+            },
+        ))
+    }
+
+    /// The span of a mark that is wanted here, and the place behind it.
+    #[tactic(auto, unfolding(crate::specs::Reading::expect))]
+    pub fn expect(self, kind: Kind) -> Result<(Span, Cursor<'a>), Fault>
+        ensures { Gives (λ x. ahead x.1) result (expect kind (ahead self.entry)) }
+    {
+        match self.next() {
+            Some((Word::Mark(first), span, rest)) if first == kind => Ok((span, rest)),
+            _ => Err(Fault::Syntax(self.place())),
+        }
+    }
+
+    /// The place behind a name that is wanted here.
+    #[tactic(auto, unfolding(crate::specs::Reading::expect_name))]
+    pub fn expect_name(self, name: &[u8]) -> Result<Cursor<'a>, Fault>
+        ensures { Gives (λ x. ahead x) result (expect_name name.now (ahead self.entry)) }
+    {
+        match self.next() {
+            Some((Word::Name(first), _, rest)) if first == name => Ok(rest),
+            _ => Err(Fault::Syntax(self.place())),
+        }
+    }
+
+    /// A name that may be declared, its span, and the place behind it.
+    #[tactic(auto, unfolding(crate::specs::Reading::plain_name))]
+    pub fn plain_name(self) -> Result<(&'a [u8], Span, Cursor<'a>), Fault>
+        ensures { Gives (λ x. (x.0.now, ahead x.2)) result (plain_name (ahead self.entry)) }
+    {
+        match self.next() {
+            Some((Word::Name(name), span, rest)) if !is_builtin(name) => Ok((name, span, rest)),
+            _ => Err(Fault::Syntax(self.place())),
+        }
+    }
+}

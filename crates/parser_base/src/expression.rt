@@ -1,0 +1,581 @@
+//! Expressions, by the strength of their operators.
+
+ghost use Rattle.std.specs.Prelude.{◌≡◌, ℕ, ◌<◌, ◌≤◌, ◌+◌, ◌-◌, true, List, IfOk, IfErr, option_map, map, sum_by, vec_len};
+ghost use Rattle.go_text.specs.declared.fault.Fault.TheVariants as faults;
+ghost use Rattle.syntax.specs.Tree.{Expression, Named, Parenthesized, Selection, Composite, Unary, Binary, expressions};
+ghost use Rattle.syntax.specs.Measures.{Entries, highest, expression_height, expression_size};
+ghost use Rattle.syntax.specs.View.{expression_of};
+ghost use Rattle.parser_base.specs.Cursor.{ahead};
+ghost use Rattle.parser_base.specs.Lexemes.{Lexeme};
+ghost use Rattle.parser_base.specs.Reading.{Gives, Reading, TooMany, begins, closed, behind_comma, value_next, listed, values, composite, named, step_at, parenthesized, negated, operand, applied, expression};
+
+use crate::cursor::{Cursor, Word, is_builtin};
+use crate::list::{MAX_ENTRIES, Next};
+use crate::literal::literal;
+use crate::operator::{Step, precedence, step_of, strength, unary_of};
+use go_text::{Fault, LimitKind, Place, Span};
+use scanner::Kind;
+use std::alloc::Global;
+use syntax::{BinaryOperator, ExpressionNode, Name, UnaryOperator};
+
+/// An expression that was read, and what follows it.
+#[derive(Drop)]
+pub struct Found<'a> {
+    pub expression: ExpressionNode,
+    /// Its height, which is 1 at a leaf.
+    pub height: u32,
+    /// Its bytes, from its first token to its last.
+    pub span: Span,
+    pub rest: Cursor<'a>,
+}
+
+/// Values that were read to their closing mark, and what follows it.
+#[derive(Drop)]
+pub struct FoundValues<'a> {
+    pub values: Vec<ExpressionNode>,
+    /// Whether a comma follows the last one.
+    pub trailing: bool,
+    /// The height of the highest of them, or 0.
+    pub height: u32,
+    /// The span of the closing mark.
+    pub last: Span,
+    pub rest: Cursor<'a>,
+}
+
+/// The step here, if it binds at least so strongly, and the place behind its mark.
+#[tactic(auto, unfolding(crate::specs::Reading::step_at))]
+fn step_at(least: u32, cursor: Cursor<'_>) -> Option<(Step, Cursor<'_>)>
+    ensures { option_map (λ x. (x.0, ahead x.1)) result ≡ step_at least (ahead cursor.entry) }
+{
+    let (Word::Mark(kind), _, rest) = cursor.next()? else {
+        return None;
+    };
+    let step = step_of(kind)?;
+    if least <= strength(step) {
+        Some((step, rest))
+    } else {
+        None
+    }
+}
+
+/// Whether an expression can begin here.
+#[tactic(auto, unfolding(crate::specs::Reading::begins))]
+pub fn begins(cursor: Cursor<'_>) -> bool
+    ensures { result ≡ begins (ahead cursor.entry) }
+{
+    match cursor.next() {
+        Some((Word::Literal(_), _, _)) => true,
+        Some((Word::Name(name), _, _)) => !is_builtin(name),
+        Some((Word::Mark(kind), _, _)) => {
+            kind == Kind::LeftParenthesis
+                || kind == Kind::Plus
+                || kind == Kind::Minus
+                || kind == Kind::Not
+                || kind == Kind::Caret
+        }
+        _ => false,
+    }
+}
+
+/// The end of a list, with the span of its token.
+pub fn closed(
+    close: Kind,
+    trailing: bool,
+    cursor: Cursor<'_>,
+) -> Result<(Next, Span, Cursor<'_>), Fault>
+    ensures { Gives (λ x. (x.0, ahead x.2)) result (closed close trailing (ahead cursor.entry)) }
+{
+    let (last, rest) = cursor.expect(close)?;
+    Ok((Next::End(trailing), last, rest))
+}
+
+/// What follows a value of a list, with the span of its last token.
+#[tactic(auto, unfolding(crate::specs::Reading::value_next))]
+pub fn value_next(close: Kind, cursor: Cursor<'_>) -> Result<(Next, Span, Cursor<'_>), Fault>
+    ensures { Gives (λ x. (x.0, ahead x.2)) result (value_next close (ahead cursor.entry)) }
+{
+    let Some((Word::Mark(kind), span, rest)) = cursor.next() else {
+        return Err(Fault::Syntax(cursor.place()));
+    };
+    if kind != Kind::Comma {
+        return closed(close, false, cursor);
+    }
+    if begins(rest) {
+        Ok((Next::More, span, rest))
+    } else {
+        closed(close, true, rest)
+    }
+}
+
+/// A name in memory of its own.
+pub fn name_node(alloc: Global, name: &[u8]) -> Result<Name, Fault>
+    ensures ok { IfOk result (λ x. x.bytes.items ≡ name.now) }
+    ensures err { IfErr result (λ e. e ≡ faults.Memory) }
+{
+    Ok(Name {
+        bytes: Vec::from_slice(alloc, name)?,
+    })
+}
+
+/// An expression in parentheses, as a node.
+fn parenthesized_node(alloc: Global, inner: ExpressionNode) -> Result<ExpressionNode, Fault>
+    ensures ok { IfOk result (λ tree. expression_of tree ≡ Parenthesized (expression_of inner)) }
+    ensures err { IfErr result (λ e. e ≡ faults.Memory) }
+{
+    Ok(ExpressionNode::Parenthesized(Box::new(alloc, inner)?))
+}
+
+/// A unary operation, as a node.
+fn unary_node(
+    alloc: Global,
+    operator: UnaryOperator,
+    operand: ExpressionNode,
+) -> Result<ExpressionNode, Fault>
+    ensures ok { IfOk result (λ tree. expression_of tree ≡ Unary operator (expression_of operand)) }
+    ensures err { IfErr result (λ e. e ≡ faults.Memory) }
+{
+    Ok(ExpressionNode::Unary(operator, Box::new(alloc, operand)?))
+}
+
+/// A binary operation, as a node.
+fn binary_node(
+    alloc: Global,
+    operator: BinaryOperator,
+    left: ExpressionNode,
+    right: ExpressionNode,
+) -> Result<ExpressionNode, Fault>
+    ensures ok { IfOk result (λ tree. expression_of tree ≡ Binary operator (expression_of left) (expression_of right)) }
+    ensures err { IfErr result (λ e. e ≡ faults.Memory) }
+{
+    Ok(ExpressionNode::Binary(operator, Box::new(alloc, left)?, Box::new(alloc, right)?))
+}
+
+/// A selection, as a node.
+fn selection_node(
+    alloc: Global,
+    whole: ExpressionNode,
+    field: &[u8],
+) -> Result<ExpressionNode, Fault>
+    ensures ok { IfOk result (λ tree. expression_of tree ≡ Selection (expression_of whole) field.now) }
+    ensures err { IfErr result (λ e. e ≡ faults.Memory) }
+{
+    let field = name_node(alloc, field)?;
+    Ok(ExpressionNode::Selection(Box::new(alloc, whole)?, field))
+}
+
+/// An operand name, as a node.
+fn named_node(alloc: Global, name: &[u8]) -> Result<ExpressionNode, Fault>
+    ensures ok { IfOk result (λ tree. expression_of tree ≡ Named name.now) }
+    ensures err { IfErr result (λ e. e ≡ faults.Memory) }
+{
+    Ok(ExpressionNode::Named(name_node(alloc, name)?))
+}
+
+/// A composite literal, as a node.
+fn composite_node(
+    alloc: Global,
+    name: &[u8],
+    values: Vec<ExpressionNode>,
+    trailing: bool,
+) -> Result<ExpressionNode, Fault>
+    ensures ok { IfOk result (λ tree. expression_of tree ≡ Composite name.now (expressions (map expression_of values.items)) trailing) }
+    ensures err { IfErr result (λ e. e ≡ faults.Memory) }
+{
+    let name = name_node(alloc, name)?;
+    Ok(ExpressionNode::Composite(name, values, trailing))
+}
+
+/// The values of a list to its closing mark, behind the opening one, which stands at `first`.
+#[cycle(expression)]
+#[tactic(auto, unfolding(crate::specs::Reading::values))]
+pub fn values<'a>(
+    alloc: Global,
+    literals: bool,
+    room: u32,
+    close: Kind,
+    cursor: Cursor<'a>,
+    spans: &mut Vec<Span>,
+) -> Result<FoundValues<'a>, Fault>
+    ensures values { Gives (λ x. ((map expression_of x.values.items, x.trailing), ahead x.rest)) result (values (expression literals MAX_ENTRIES room) close MAX_ENTRIES (ahead cursor.entry)) }
+    ensures height { IfOk result (λ x. x.height ≡ highest expression_height (map expression_of x.values.items)) }
+    ensures within { IfOk result (λ x. x.height ≤ room) }
+    ensures nodes { IfOk result (λ x. vec_len spans.new ≡ vec_len spans.old + sum_by expression_size (map expression_of x.values.items)) }
+{
+    if begins(cursor) {
+        return value_list(alloc, literals, room, close, cursor, spans);
+    }
+    let (last, rest) = cursor.expect(close)?;
+    Ok(FoundValues {
+        values: Vec::new(alloc),
+        trailing: false,
+        height: 0,
+        last,
+        rest,
+    })
+}
+
+/// At least one value, to the closing mark of a list.
+#[cycle(expression)]
+fn value_list<'a>(
+    alloc: Global,
+    literals: bool,
+    room: u32,
+    close: Kind,
+    cursor: Cursor<'a>,
+    spans: &mut Vec<Span>,
+) -> Result<FoundValues<'a>, Fault>
+    ensures values { Gives (λ x. ((map expression_of x.values.items, x.trailing), ahead x.rest)) result (listed (expression literals MAX_ENTRIES room 0) (value_next close) (TooMany Entries) MAX_ENTRIES (ahead cursor.entry)) }
+    ensures height { IfOk result (λ x. x.height ≡ highest expression_height (map expression_of x.values.items)) }
+    ensures within { IfOk result (λ x. x.height ≤ room) }
+    ensures nodes { IfOk result (λ x. vec_len spans.new ≡ vec_len spans.old + sum_by expression_size (map expression_of x.values.items)) }
+{
+    let mut values = Vec::new(alloc);
+    let mut height = 0;
+    let mut rest = cursor;
+    for _ in 0..MAX_ENTRIES {
+        let found = expression(alloc, literals, room, 0, rest, spans)?;
+        values.push(found.expression)?;
+        height = found.height.max(height);
+        let (next, last, after) = value_next(close, found.rest)?;
+        match next {
+            Next::More => rest = after,
+            Next::End(trailing) => return Ok(FoundValues {
+                values,
+                trailing,
+                height,
+                last,
+                rest: after,
+            }),
+        }
+    }
+    Err(Fault::Limit {
+        kind: LimitKind::ListEntries,
+        node: None,
+        place: rest.place(),
+    })
+}
+
+/// A composite literal of a type of this name, which stands at `first`, behind its first brace.
+#[cycle(expression)]
+#[tactic(auto, unfolding(crate::specs::Reading::composite))]
+fn composite<'a>(
+    alloc: Global,
+    room: u32,
+    name: &[u8],
+    first: Span,
+    cursor: Cursor<'a>,
+    spans: &mut Vec<Span>,
+) -> Result<Found<'a>, Fault>
+    requires { 1 ≤ room }
+    ensures tree { Gives (λ x. (expression_of x.expression, ahead x.rest)) result (composite (expression true MAX_ENTRIES (room - 1)) MAX_ENTRIES name.now (ahead cursor.entry)) }
+    ensures height { IfOk result (λ x. x.height ≡ expression_height (expression_of x.expression)) }
+    ensures leaf { IfOk result (λ x. 1 ≤ x.height) }
+    ensures within { IfOk result (λ x. x.height ≤ room) }
+    ensures nodes { IfOk result (λ x. vec_len spans.new ≡ vec_len spans.old + expression_size (expression_of x.expression)) }
+{
+    let values = values(alloc, true, room - 1, Kind::RightBrace, cursor, spans)?;
+    let span = Span {
+        from: first.from,
+        to: values.last.to,
+    };
+    let node = composite_node(alloc, name, values.values, values.trailing)?;
+    spans.push(span)?;
+    Ok(Found {
+        expression: node,
+        height: values.height + 1,
+        span,
+        rest: values.rest,
+    })
+}
+
+/// An operand name, which stands at `first`, or a composite literal of a type of this name.
+#[cycle(expression)]
+#[tactic(auto, unfolding(crate::specs::Reading::named))]
+fn named<'a>(
+    alloc: Global,
+    literals: bool,
+    room: u32,
+    name: &[u8],
+    first: Span,
+    cursor: Cursor<'a>,
+    spans: &mut Vec<Span>,
+) -> Result<Found<'a>, Fault>
+    requires { 1 ≤ room }
+    ensures tree { Gives (λ x. (expression_of x.expression, ahead x.rest)) result (named literals (expression literals MAX_ENTRIES (room - 1)) MAX_ENTRIES name.now (ahead cursor.entry)) }
+    ensures height { IfOk result (λ x. x.height ≡ expression_height (expression_of x.expression)) }
+    ensures leaf { IfOk result (λ x. 1 ≤ x.height) }
+    ensures within { IfOk result (λ x. x.height ≤ room) }
+    ensures nodes { IfOk result (λ x. vec_len spans.new ≡ vec_len spans.old + expression_size (expression_of x.expression)) }
+{
+    if literals {
+        if let Some((Word::Mark(Kind::LeftBrace), _, rest)) = cursor.next() {
+            return composite(alloc, room, name, first, rest, spans);
+        }
+    }
+    let node = named_node(alloc, name)?;
+    spans.push(first)?;
+    Ok(Found {
+        expression: node,
+        height: 1,
+        span: first,
+        rest: cursor,
+    })
+}
+
+/// An expression in parentheses, behind the first of them, which stands at `first`.
+#[cycle(expression)]
+#[tactic(auto, unfolding(crate::specs::Reading::parenthesized, crate::specs::Reading::expression))]
+fn parenthesized<'a>(
+    alloc: Global,
+    literals: bool,
+    room: u32,
+    first: Span,
+    cursor: Cursor<'a>,
+    spans: &mut Vec<Span>,
+) -> Result<Found<'a>, Fault>
+    requires { 1 ≤ room }
+    ensures tree { Gives (λ x. (expression_of x.expression, ahead x.rest)) result (parenthesized (expression literals MAX_ENTRIES (room - 1)) (ahead cursor.entry)) }
+    ensures height { IfOk result (λ x. x.height ≡ expression_height (expression_of x.expression)) }
+    ensures leaf { IfOk result (λ x. 1 ≤ x.height) }
+    ensures within { IfOk result (λ x. x.height ≤ room) }
+    ensures nodes { IfOk result (λ x. vec_len spans.new ≡ vec_len spans.old + expression_size (expression_of x.expression)) }
+{
+    if room < 2 {
+        return Err(Fault::TooDeep(Place::from(first)));
+    }
+    let inner = expression(alloc, literals, room - 1, 0, cursor, spans)?;
+    let (last, rest) = inner.rest.expect(Kind::RightParenthesis)?;
+    let span = Span {
+        from: first.from,
+        to: last.to,
+    };
+    let node = parenthesized_node(alloc, inner.expression)?;
+    spans.push(span)?;
+    Ok(Found {
+        expression: node,
+        height: inner.height + 1,
+        span,
+        rest,
+    })
+}
+
+/// The operand of a unary operator, which stands at `first`.
+#[cycle(expression)]
+#[tactic(auto, unfolding(crate::specs::Reading::expression))]
+fn unary<'a>(
+    alloc: Global,
+    literals: bool,
+    room: u32,
+    operator: UnaryOperator,
+    first: Span,
+    cursor: Cursor<'a>,
+    spans: &mut Vec<Span>,
+) -> Result<Found<'a>, Fault>
+    requires { 1 ≤ room }
+    ensures tree { Gives (λ x. (expression_of x.expression, ahead x.rest)) result (negated (expression literals MAX_ENTRIES (room - 1)) (ahead cursor.entry) (Some operator)) }
+    ensures height { IfOk result (λ x. x.height ≡ expression_height (expression_of x.expression)) }
+    ensures leaf { IfOk result (λ x. 1 ≤ x.height) }
+    ensures within { IfOk result (λ x. x.height ≤ room) }
+    ensures nodes { IfOk result (λ x. vec_len spans.new ≡ vec_len spans.old + expression_size (expression_of x.expression)) }
+{
+    if room < 2 {
+        return Err(Fault::TooDeep(Place::from(first)));
+    }
+    let operand = expression(alloc, literals, room - 1, 6, cursor, spans)?;
+    let span = Span {
+        from: first.from,
+        to: operand.span.to,
+    };
+    let node = unary_node(alloc, operator, operand.expression)?;
+    spans.push(span)?;
+    Ok(Found {
+        expression: node,
+        height: operand.height + 1,
+        span,
+        rest: operand.rest,
+    })
+}
+
+/// What is no operation and no selection, of at most so many levels.
+#[cycle(expression)]
+#[tactic(auto, unfolding(crate::specs::Reading::operand))]
+fn operand<'a>(
+    alloc: Global,
+    literals: bool,
+    room: u32,
+    cursor: Cursor<'a>,
+    spans: &mut Vec<Span>,
+) -> Result<Found<'a>, Fault>
+    requires { 1 ≤ room }
+    ensures tree { Gives (λ x. (expression_of x.expression, ahead x.rest)) result (operand literals (expression literals MAX_ENTRIES (room - 1)) MAX_ENTRIES (ahead cursor.entry)) }
+    ensures height { IfOk result (λ x. x.height ≡ expression_height (expression_of x.expression)) }
+    ensures leaf { IfOk result (λ x. 1 ≤ x.height) }
+    ensures within { IfOk result (λ x. x.height ≤ room) }
+    ensures nodes { IfOk result (λ x. vec_len spans.new ≡ vec_len spans.old + expression_size (expression_of x.expression)) }
+{
+    let Some((word, span, rest)) = cursor.next() else {
+        return Err(Fault::Syntax(cursor.place()));
+    };
+    match word {
+        Word::Literal(digits) => {
+            spans.push(span)?;
+            Ok(Found {
+                expression: ExpressionNode::Integer(literal(digits)),
+                height: 1,
+                span,
+                rest,
+            })
+        }
+        Word::Name(name) => {
+            if is_builtin(name) {
+                return Err(Fault::Syntax(Place::from(span)));
+            }
+            named(alloc, literals, room, name, span, rest, spans)
+        }
+        Word::Text(_) => Err(Fault::Syntax(Place::from(span))),
+        Word::Mark(kind) => {
+            if kind == Kind::LeftParenthesis {
+                return parenthesized(alloc, literals, room, span, rest, spans);
+            }
+            let Some(operator) = unary_of(kind) else {
+                return Err(Fault::Syntax(Place::from(span)));
+            };
+            unary(alloc, literals, room, operator, span, rest, spans)
+        }
+    }
+}
+
+/// A step on what was read so far, behind the step's mark: as the left operand of an operator, or a field of it.
+#[cycle(expression)]
+fn applied<'a>(
+    alloc: Global,
+    literals: bool,
+    room: u32,
+    left: Found<'a>,
+    step: Step,
+    cursor: Cursor<'a>,
+    spans: &mut Vec<Span>,
+) -> Result<Found<'a>, Fault>
+    requires room { 1 ≤ room }
+    requires low { left.height < room }
+    requires height { left.height ≡ expression_height (expression_of left.expression) }
+    ensures tree { Gives (λ x. (expression_of x.expression, ahead x.rest)) result (applied (expression literals MAX_ENTRIES (room - 1)) (expression_of left.entry.expression) (step, ahead cursor.entry)) }
+    ensures height { IfOk result (λ x. x.height ≡ expression_height (expression_of x.expression)) }
+    ensures leaf { IfOk result (λ x. 1 ≤ x.height) }
+    ensures within { IfOk result (λ x. x.height ≤ room) }
+    ensures nodes { IfOk result (λ x. vec_len spans.new + expression_size (expression_of left.entry.expression) ≡ vec_len spans.old + expression_size (expression_of x.expression)) }
+{
+    match step {
+        Step::Operator(operator) => binary(alloc, literals, room, left, operator, cursor, spans),
+        Step::Period => selection(alloc, room, left, cursor, spans),
+    }
+}
+
+/// A binary operation, behind its operator.
+#[cycle(expression)]
+fn binary<'a>(
+    alloc: Global,
+    literals: bool,
+    room: u32,
+    left: Found<'a>,
+    operator: BinaryOperator,
+    cursor: Cursor<'a>,
+    spans: &mut Vec<Span>,
+) -> Result<Found<'a>, Fault>
+    requires room { 1 ≤ room }
+    requires low { left.height < room }
+    requires height { left.height ≡ expression_height (expression_of left.expression) }
+    ensures tree { Gives (λ x. (expression_of x.expression, ahead x.rest)) result (applied (expression literals MAX_ENTRIES (room - 1)) (expression_of left.entry.expression) (Step.Operator operator, ahead cursor.entry)) }
+    ensures height { IfOk result (λ x. x.height ≡ expression_height (expression_of x.expression)) }
+    ensures leaf { IfOk result (λ x. 1 ≤ x.height) }
+    ensures within { IfOk result (λ x. x.height ≤ room) }
+    ensures nodes { IfOk result (λ x. vec_len spans.new + expression_size (expression_of left.entry.expression) ≡ vec_len spans.old + expression_size (expression_of x.expression)) }
+{
+    let right = expression(
+        alloc,
+        literals,
+        room - 1,
+        precedence(operator) + 1,
+        cursor,
+        spans,
+    )?;
+    let span = Span {
+        from: left.span.from,
+        to: right.span.to,
+    };
+    let height = left.height.max(right.height) + 1;
+    let node = binary_node(alloc, operator, left.expression, right.expression)?;
+    spans.push(span)?;
+    Ok(Found {
+        expression: node,
+        height,
+        span,
+        rest: right.rest,
+    })
+}
+
+/// A selection, behind its period.
+fn selection<'a>(
+    alloc: Global,
+    room: u32,
+    left: Found<'a>,
+    cursor: Cursor<'a>,
+    spans: &mut Vec<Span>,
+) -> Result<Found<'a>, Fault>
+    requires low { left.height < room }
+    requires height { left.height ≡ expression_height (expression_of left.expression) }
+    ensures tree { (deeper : ℕ → List Lexeme → Reading Expression) → Gives (λ x. (expression_of x.expression, ahead x.rest)) result (applied deeper (expression_of left.entry.expression) (Step.Period, ahead cursor.entry)) }
+    ensures height { IfOk result (λ x. x.height ≡ expression_height (expression_of x.expression)) }
+    ensures leaf { IfOk result (λ x. 1 ≤ x.height) }
+    ensures within { IfOk result (λ x. x.height ≤ room) }
+    ensures nodes { IfOk result (λ x. vec_len spans.new + expression_size (expression_of left.entry.expression) ≡ vec_len spans.old + expression_size (expression_of x.expression)) }
+{
+    let (field, last, rest) = cursor.plain_name()?;
+    let span = Span {
+        from: left.span.from,
+        to: last.to,
+    };
+    let height = left.height + 1;
+    let node = selection_node(alloc, left.expression, field)?;
+    spans.push(span)?;
+    Ok(Found {
+        expression: node,
+        height,
+        span,
+        rest,
+    })
+}
+
+/// An expression of at most so many levels, whose outermost operator binds at least so strongly. Composite literals stand
+/// in it only where `literals` holds.
+#[cycle(expression)]
+#[tactic(auto, unfolding(crate::specs::Reading::expression, crate::specs::Reading::operation, crate::specs::Reading::operations))]
+pub fn expression<'a>(
+    alloc: Global,
+    literals: bool,
+    room: u32,
+    least: u32,
+    cursor: Cursor<'a>,
+    spans: &mut Vec<Span>,
+) -> Result<Found<'a>, Fault>
+    ensures tree { Gives (λ x. (expression_of x.expression, ahead x.rest)) result (expression literals MAX_ENTRIES room least (ahead cursor.entry)) }
+    ensures height { IfOk result (λ x. x.height ≡ expression_height (expression_of x.expression)) }
+    ensures leaf { IfOk result (λ x. 1 ≤ x.height) }
+    ensures within { IfOk result (λ x. x.height ≤ room) }
+    ensures nodes { IfOk result (λ x. vec_len spans.new ≡ vec_len spans.old + expression_size (expression_of x.expression)) }
+{
+    if room == 0 {
+        return Err(Fault::TooDeep(cursor.place()));
+    }
+    let mut left = operand(alloc, literals, room, cursor, spans)?;
+    for _ in 0..room {
+        let Some((step, after)) = step_at(least, left.rest) else {
+            return Ok(left);
+        };
+        if left.height >= room {
+            return Err(Fault::TooDeep(left.rest.place()));
+        }
+        left = applied(alloc, literals, room, left, step, after, spans)?;
+    }
+    Err(Fault::TooDeep(left.rest.place()))
+}

@@ -1,0 +1,9 @@
+//! Reading types and expressions.
+#![tactic(auto)]
+
+pub mod cursor;
+pub mod expression;
+pub mod list;
+pub mod literal;
+pub mod operator;
+pub mod types;

@@ -1,0 +1,27 @@
+//! Lists with separators.
+
+use crate::cursor::Cursor;
+use go_text::Span;
+
+/// What follows an entry of a list.
+#[derive(Clone, Copy)]
+pub enum Next {
+    /// Another entry.
+    More,
+    /// The list's end, and whether a separator stands before it.
+    End(bool),
+}
+
+/// A list that was read, and what follows it.
+#[derive(Drop)]
+pub struct List<'a, T: Drop> {
+    pub entries: Vec<T>,
+    /// Whether a separator stands behind the last entry.
+    pub trailing: bool,
+    /// The span of the token that closes the list.
+    pub last: Span,
+    pub rest: Cursor<'a>,
+}
+
+/// The most entries of a list.
+pub const MAX_ENTRIES: u32 = 64;

@@ -1,0 +1,6 @@
+use Rattle.std.proofs.Common.{◌≡◌, drop}
+use Rattle.scanner.specs.Elements.{longer, line_comment_rest}
+use Rattle.scanner.proofs.comment.line_comment_rest.Given as goal
+
+abbrev pub invariant-loop-at : goal.invariant-loop-at
+invariant-loop-at l = longer l.at (line_comment_rest l.opened (drop l.at l.text)) ≡ line_comment_rest l.fn.opened l.fn.text

@@ -1,0 +1,129 @@
+-- A full table shows that the rules of paths hold.
+use Rattle.std.proofs.Common.{◌≡◌, ℕ, zero, suc, ◌+◌, ◌-◌, ◌<◌, ◌≤◌, List, [], ◌∷◌, ◌++◌, length, Option, Some, None, refl, sym, ap, ◌∙◌, subst, arith, slice_get, replicate}
+use Rattle.std.specs.Prelude.{Bool, true, false}
+use Rattle.std.proofs.Common.{◌⊎◌, inl, inr}
+use Rattle.std.proofs.lemmas.Bool.{cases_eq}
+use Rattle.std.specs.Global.{Vec}
+use Rattle.bytecode.specs.declared.instr.Kind.{Kind}
+use Rattle.bytecode.specs.declared.instr.Instr.{Instr}
+use Rattle.bytecode.specs.Code.{Function, Code}
+use Rattle.verifier.specs.declared.paths.Visit.{Visit}
+use Rattle.verifier.specs.declared.paths.Visit.TheVariants.{Settles, Grows, Unfit, Parts}
+use Rattle.verifier.specs.Tables.{Table, entry, kinds_at, Settled, Reached}
+use Rattle.bytecode.specs.Effects.{Fits, afterwards}
+use Rattle.bytecode.specs.Rules.{Path, ways}
+use Rattle.bytecode.specs.declared.rule.Rule.{Rule}
+use Rattle.bytecode.specs.declared.rule.Rule.TheVariants.{Names, Targets, Paths, Calls, Returns, Locals, Tables, Main}
+use Rattle.bytecode.specs.declared.instr.Instr.TheVariants as instrs
+use Rattle.bytecode.specs.Rules.{IsHeaded, Misfit, BrokenIn, Holds, rule_of, Named, Inside, Directed}
+use Rattle.verifier.specs.declared.paths.Inferred.{Inferred}
+use Rattle.verifier.specs.declared.paths.Inferred.TheVariants.{Full, BrokenAt, PartedAt}
+use Rattle.verifier.specs.Tables.{Infers, Judged, judged_of, unknown, Going, Visited, Full', ScannedAt, Scanned}
+
+some_inj : {A : Type 0} {x y : A} → Some x ≡ Some y → x ≡ y
+some_inj e = cc
+
+none_some : {A : Type 0} {x : A} → None ≡ Some x → ⊥
+none_some e = cc
+
+entry_within : (t : Table) (n : ℕ) (ks : List Kind) → entry t n ≡ Some ks → n < length t
+entry_within [] n ks e = absurd (none_some e)
+entry_within (x ∷ t) zero ks e = omega arith
+entry_within (x ∷ t) (suc n) ks e = omega (arith, entry_within t n ks e)
+
+pub going : (grew : Bool) (code : Code) (f : Function) (old mid new : Table) (place : ℕ) → Going grew code f old mid place → Visited Settles code f mid new place → Going grew code f old new (place + 1)
+going true code f old mid new place g v = subst (λ t. unknown t < unknown old) (sym v.0) g
+going false code f old mid new place g v = (v.0 ∙ g.0, λ q h. elim (cases_eq q place) [ inl e ↦ subst (Settled code f new) (sym e) v.1 | inr n ↦ subst (λ t. Settled code f t q) (sym v.0) (g.1 q (grind (arith, h, n))) ])
+
+pub gone : (grew : Bool) (code : Code) (f : Function) (old mid new : Table) (place : ℕ) → Going grew code f old mid place → Visited Grows code f mid new place → Going true code f old new (place + 1)
+gone true code f old mid new place g v = omega (arith, g, v)
+gone false code f old mid new place g v = subst (λ t. unknown new < unknown t) g.0 v
+
+module _ (code : Code) (f : Function) (table : Table) (same : length table ≡ length f.instrs) (full : Full' code f table) where
+  settled_at : (place : ℕ) (ks : List Kind) → entry table place ≡ Some ks → (i : Instr) × (slice_get f.instrs place ≡ Some i) × Fits code f i ks × ((k to : ℕ) → slice_get (ways i place) k ≡ Some to → entry table to ≡ Some (afterwards code f i ks))
+  settled_at place ks e = full.1 place (subst (λ n. place < n) same (entry_within table place ks e)) ks e
+
+  -- each path ends at an entry
+  pub on_path : (n place : ℕ) (ks : List Kind) → Path code f n place ks → entry table place ≡ Some ks
+  on_path zero place ks p = ap (entry table) p.0 ∙ (full.0 ∙ ap Some (sym p.1))
+  on_path (suc n) place ks (from, js, i, k, p, hi, fits, way, out) =
+      let s = settled_at from js (on_path n from js p) in
+      let e : s.0 ≡ i = some_inj (sym s.1 ∙ hi) in
+      s.3 k place (subst (λ x. slice_get (ways x from) k ≡ Some place) (sym e) way) ∙ ap Some (ap (λ x. afterwards code f x js) e ∙ sym out)
+
+  pub fit : (n place : ℕ) (ks : List Kind) → Path code f n place ks → (i : Instr) × (slice_get f.instrs place ≡ Some i) × Fits code f i ks
+  fit n place ks p = let s = settled_at place ks (on_path n place ks p) in (s.0, s.1, s.2)
+
+  pub alike : (n m place : ℕ) (ks js : List Kind) → Path code f n place ks → Path code f m place js → ks ≡ js
+  alike n m place ks js p q = some_inj (sym (on_path n place ks p) ∙ on_path m place js q)
+
+entry_blank : (t : Table) (n : ℕ) → entry (t ++ None ∷ []) n ≡ entry t n
+entry_blank [] zero = refl
+entry_blank [] (suc n) = refl
+entry_blank (x ∷ t) zero = refl
+entry_blank (x ∷ t) (suc n) = entry_blank t n
+
+pub reached_start : (code : Code) (f : Function) (v : Vec Kind) → v.items ≡ [] → Reached code f (Some v ∷ [])
+reached_start code f v e = (ap Some e, at)
+  where
+    at : (place : ℕ) (ks : List Kind) → entry (Some v ∷ []) place ≡ Some ks → (n : ℕ) × Path code f n place ks
+    at zero ks h = (0, (refl, sym (some_inj h) ∙ e))
+    at (suc place) ks h = absurd (none_some h)
+
+pub reached_blank : (code : Code) (f : Function) (t : Table) → Reached code f t → Reached code f (t ++ None ∷ [])
+reached_blank code f t r = (entry_blank t 0 ∙ r.0, λ place ks e. r.1 place ks (sym (entry_blank t place) ∙ e))
+
+get_within : {A : Type 0} → (xs : List A) (n : ℕ) (x : A) → slice_get xs n ≡ Some x → n < length xs
+get_within [] n x e = absurd (none_some e)
+get_within (y ∷ xs) zero x e = omega arith
+get_within (y ∷ xs) (suc n) x e = omega (arith, get_within xs n x e)
+
+pub scanned_more : (code : Code) (f : Function) (place : ℕ) → ((q : ℕ) → q < place → ScannedAt None code f q) → ScannedAt None code f place → (q : ℕ) → q < place + 1 → ScannedAt None code f q
+scanned_more code f place h g q l = elim (cases_eq q place) [ inl e ↦ subst (ScannedAt None code f) (sym e) g | inr n ↦ h q (grind (arith, l, n)) ]
+
+pub scanned_all : (code : Code) (f : Function) (n : ℕ) → length f.instrs ≤ n → ((q : ℕ) → q < n → ScannedAt None code f q) → Scanned None code f
+scanned_all code f n le h place i e = h place (omega (arith, get_within f.instrs place i e)) i e
+
+abbrev IsPathRule : Rule → Type 0
+IsPathRule Names = ⊥
+IsPathRule Targets = ⊥
+IsPathRule Tables = ⊥
+IsPathRule Main = ⊥
+IsPathRule r = Unit {0}
+
+path_rule : (i : Instr) → IsPathRule (rule_of i)
+path_rule (instrs.Call g) = tt
+path_rule (instrs.Go g) = tt
+path_rule instrs.Return = tt
+path_rule (instrs.Store a n) = tt
+path_rule i = tt
+
+pub misfit_broken : (code : Code) (f : Function) (rule : Rule) (place : ℕ) → Misfit code f rule place → BrokenIn code f rule place
+misfit_broken code f Names place m = absurd (subst IsPathRule m.5 (path_rule m.2))
+misfit_broken code f Targets place m = absurd (subst IsPathRule m.5 (path_rule m.2))
+misfit_broken code f Paths place m = inl m
+misfit_broken code f Calls place m = m
+misfit_broken code f Returns place m = m
+misfit_broken code f Locals place m = m
+misfit_broken code f Tables place m = absurd (subst IsPathRule m.5 (path_rule m.2))
+misfit_broken code f Main place m = absurd (subst IsPathRule m.5 (path_rule m.2))
+
+pub holds : (code : Code) (f : Function) (table : Table) → IsHeaded code f → Scanned None code f → length table ≡ length f.instrs → Full' code f table → Holds code f
+holds code f table some scanned same full =
+    record { headed = some; named = λ place i e. (scanned place i e).0; directed = λ place i e. (scanned place i e).1; fit = fit code f table same full; same = alike code f table same full }
+
+pub judged : (r : Inferred) (code : Code) (f : Function) → IsHeaded code f → Scanned None code f → Infers r code f → Judged (judged_of r) code f
+judged (Full table) code f some scanned h = holds code f table.items some scanned h.0 h.1
+judged (BrokenAt rule place) code f some scanned h = misfit_broken code f rule place h
+judged (PartedAt to) code f some scanned h = inr h
+
+-- what holds of all below a number and of the one there
+pub all_more : {A : Type 0} (P : A → Type 0) (xs : List A) (g : ℕ) (x : A) → ((h : ℕ) (y : A) → h < g → slice_get xs h ≡ Some y → P y) → slice_get xs g ≡ Some x → P x → (h : ℕ) (y : A) → h < g + 1 → slice_get xs h ≡ Some y → P y
+all_more P xs g x all e new h y l s =
+    elim (cases_eq h g) [
+      | inl q ↦ subst P (some_inj (sym e ∙ (ap (slice_get xs) (sym q) ∙ s))) new
+      | inr n ↦ all h y (grind (arith, l, n)) s
+    ]
+
+pub all_of : {A : Type 0} (P : A → Type 0) (xs : List A) (n : ℕ) → length xs ≤ n → ((h : ℕ) (y : A) → h < n → slice_get xs h ≡ Some y → P y) → (h : ℕ) (y : A) → slice_get xs h ≡ Some y → P y
+all_of P xs n le all h y e = all h y (omega (arith, get_within xs h y e)) e

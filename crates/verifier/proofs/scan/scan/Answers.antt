@@ -1,0 +1,11 @@
+use Rattle.std.proofs.Common.{ap, length, rules, arith, subst, sym, None}
+use Rattle.verifier.specs.Tables.{ScannedAt}
+use Rattle.verifier.proofs.Holds.{scanned_more, scanned_all}
+use Rattle.verifier.proofs.scan.scan.Goals as goal
+
+pub loop-place-preserved : goal.loop-place-preserved
+loop-place-preserved c =
+    scanned_more c.args.code.now c.args.f.now c.loop-place.place c.loop-place.invariant (rw c.in-None.is at c.scan_one.ensures)
+
+pub returns : goal.returns
+returns c = scanned_all c.args.code.now c.args.f.now c.loop-place.place (omega (arith, ap length c.instrs-place-end.ensures)) c.loop-place.invariant

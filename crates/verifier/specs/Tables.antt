@@ -1,0 +1,136 @@
+-- The verifier's table of the kinds at each place of a function, and what its steps do to it.
+use Rattle.std.specs.Prelude.{◌≡◌, ℕ, zero, suc, ◌+◌, ◌-◌, ◌<◌, ◌≤◌, List, [], ◌∷◌, ◌++◌, length, Option, Some, None, Bool, true, false, slice_get, slice_set, ◌⊎◌}
+use Rattle.std.specs.Global.{Vec}
+use Rattle.bytecode.specs.declared.instr.Kind.{Kind}
+use Rattle.bytecode.specs.declared.instr.Instr.{Instr}
+use Rattle.bytecode.specs.declared.rule.Rule.{Rule}
+use Rattle.bytecode.specs.declared.rule.Rule.TheVariants.{Paths}
+use Rattle.bytecode.specs.Code.{Function, Code}
+use Rattle.bytecode.specs.Effects.{Fits, afterwards, Wants, Exactly, Count, OneChannel, TwoChannels}
+use Rattle.bytecode.specs.Rules.{ways, Path, Named, Inside, Directed, IsHeaded, Misfit, Parting, BrokenIn, Holds}
+use Rattle.verifier.specs.declared.effect.Need.{Need}
+use Rattle.verifier.specs.declared.effect.Need.TheVariants.{These, Some as Counted, Channel, Channels}
+use Rattle.verifier.specs.declared.paths.Merge.{Merge}
+use Rattle.verifier.specs.declared.paths.Merge.TheVariants.{Same, New, Differs}
+use Rattle.verifier.specs.declared.paths.Visit.{Visit}
+use Rattle.verifier.specs.declared.paths.Visit.TheVariants.{Settles, Grows, Unfit, Parts}
+use Rattle.verifier.specs.declared.paths.Step.{Step}
+use Rattle.verifier.specs.declared.paths.Step.TheVariants.{Dead, Unfits, Leads}
+use Rattle.verifier.specs.declared.paths.Sweep.{Sweep}
+use Rattle.verifier.specs.declared.paths.Sweep.TheVariants.{Done, More, Broken, Parted}
+use Rattle.verifier.specs.declared.paths.Inferred.{Inferred}
+use Rattle.verifier.specs.declared.paths.Inferred.TheVariants.{Full, BrokenAt, PartedAt}
+
+abbrev pub wants_of : Need → Wants
+wants_of (These ks) = Exactly ks.items
+wants_of (Counted n) = Count n
+wants_of Channel = OneChannel
+wants_of Channels = TwoChannels
+
+-- a table of the kinds at each place
+abbrev pub Table : Type 0
+Table = List (Option (Vec Kind))
+
+abbrev pub kinds_at : Option (Option (Vec Kind)) → Option (List Kind)
+kinds_at None = None
+kinds_at (Some None) = None
+kinds_at (Some (Some ks)) = Some ks.items
+
+abbrev pub entry : Table → ℕ → Option (List Kind)
+entry table place = kinds_at (slice_get table place)
+
+-- a place with kinds has an instruction that fits them, and whose ways have what is after it
+abbrev pub Settled : Code → Function → Table → ℕ → Type 0
+Settled code f table place =
+    (ks : List Kind) → entry table place ≡ Some ks → (i : Instr) × (slice_get f.instrs place ≡ Some i) × Fits code f i ks × ((k to : ℕ) → slice_get (ways i place) k ≡ Some to → entry table to ≡ Some (afterwards code f i ks))
+
+-- the function starts with nothing on the stack, and each entry has its path
+abbrev pub Reached : Code → Function → Table → Type 0
+Reached code f table = (entry table 0 ≡ Some []) × ((place : ℕ) (ks : List Kind) → entry table place ≡ Some ks → (n : ℕ) × Path code f n place ks)
+
+-- how many places have no kinds yet
+abbrev pub unknown : Table → ℕ
+unknown [] = 0
+unknown (None ∷ t) = suc (unknown t)
+unknown (Some ks ∷ t) = unknown t
+
+abbrev pub Merged : Merge → Table → Table → ℕ → List Kind → Type 0
+Merged Same old new to ks = (new ≡ old) × (entry old to ≡ Some ks)
+Merged Differs old new to ks = (new ≡ old) × ((js : List Kind) × (entry old to ≡ Some js) × (js ≡ ks → ⊥))
+Merged New old new to ks = (entry old to ≡ None) × ((v : Vec Kind) × (v.items ≡ ks) × (new ≡ slice_set old to (Some v)))
+
+-- after a way to a place, on a path
+abbrev pub Led : Merge → Code → Function → Table → Table → ℕ → List Kind → Type 0
+Led Same code f old new to ks = (new ≡ old) × (entry old to ≡ Some ks)
+Led Differs code f old new to ks = Parting code f to
+Led New code f old new to ks = unknown new < unknown old
+
+-- after a way that may be none
+abbrev pub Followed : Option ℕ → Merge → Code → Function → Table → Table → List Kind → Type 0
+Followed None m code f old new ks = (new ≡ old) × (m ≡ Same)
+Followed (Some to) m code f old new ks = Led m code f old new to ks
+
+-- what a look at one place came to
+abbrev pub Visited : Visit → Code → Function → Table → Table → ℕ → Type 0
+Visited Settles code f old new place = (new ≡ old) × Settled code f new place
+Visited Grows code f old new place = unknown new < unknown old
+Visited (Unfit rule) code f old new place = Misfit code f rule place
+Visited (Parts to) code f old new place = Parting code f to
+
+abbrev pub verdict_of : Merge → Option ℕ → Merge → Option ℕ → Visit
+verdict_of Differs (Some a) two second = Parts a
+verdict_of Differs None two second = Settles
+verdict_of Same first Differs (Some b) = Parts b
+verdict_of Same first Differs None = Settles
+verdict_of Same first New second = Grows
+verdict_of Same first Same second = Settles
+verdict_of New first Differs (Some b) = Parts b
+verdict_of New first Differs None = Grows
+verdict_of New first New second = Grows
+verdict_of New first Same second = Grows
+
+-- the instruction there fits the kinds there, and leads to these
+abbrev pub LeadsTo : Code → Function → Table → ℕ → Instr → List Kind → Type 0
+LeadsTo code f table place i out =
+    (slice_get f.instrs place ≡ Some i) × ((ks : List Kind) × (entry table place ≡ Some ks) × Fits code f i ks × (out ≡ afterwards code f i ks))
+
+abbrev pub Steps : Step → Code → Function → Table → ℕ → Type 0
+Steps Dead code f table place = entry table place ≡ None
+Steps (Unfits rule) code f table place = Misfit code f rule place
+Steps (Leads i out) code f table place = LeadsTo code f table place i out.items
+
+-- a sweep so far
+abbrev pub Going : Bool → Code → Function → Table → Table → ℕ → Type 0
+Going false code f old new place = (new ≡ old) × ((q : ℕ) → q < place → Settled code f new q)
+Going true code f old new place = unknown new < unknown old
+
+abbrev pub Swept : Sweep → Code → Function → Table → Table → Type 0
+Swept Done code f old new = (q : ℕ) → q < length f.instrs → Settled code f new q
+Swept More code f old new = unknown new < unknown old
+Swept (Broken rule place) code f old new = Misfit code f rule place
+Swept (Parted to) code f old new = Parting code f to
+
+abbrev pub Full' : Code → Function → Table → Type 0
+Full' code f table = (entry table 0 ≡ Some []) × ((q : ℕ) → q < length f.instrs → Settled code f table q)
+
+abbrev pub Infers : Inferred → Code → Function → Type 0
+Infers (Full table) code f = (length table.items ≡ length f.instrs) × Full' code f table.items
+Infers (BrokenAt rule place) code f = Misfit code f rule place
+Infers (PartedAt to) code f = Parting code f to
+
+abbrev pub Scanned : Option (Rule × ℕ) → Code → Function → Type 0
+Scanned None code f = (place : ℕ) (i : Instr) → slice_get f.instrs place ≡ Some i → (Named code f i × Inside f place i) × Directed place i
+Scanned (Some b) code f = BrokenIn code f b.0 b.1
+
+abbrev pub ScannedAt : Option (Rule × ℕ) → Code → Function → ℕ → Type 0
+ScannedAt None code f place = (i : Instr) → slice_get f.instrs place ≡ Some i → (Named code f i × Inside f place i) × Directed place i
+ScannedAt (Some b) code f place = BrokenIn code f b.0 b.1
+
+abbrev pub judged_of : Inferred → Option (Rule × ℕ)
+judged_of (Full table) = None
+judged_of (BrokenAt rule place) = Some (rule, place)
+judged_of (PartedAt to) = Some (Paths, to)
+
+abbrev pub Judged : Option (Rule × ℕ) → Code → Function → Type 0
+Judged None code f = Holds code f
+Judged (Some b) code f = BrokenIn code f b.0 b.1

@@ -1,0 +1,273 @@
+//! What an instruction takes off the operand stack and leaves on it, by kinds.
+
+ghost use Rattle.std.specs.Prelude.{◌≡◌, ◌≤◌, ◌<◌, ◌++◌, ◌↔◌, IsTrue, IfOk, OnOk, MatchOption, length, take, [], ◌∷◌};
+ghost use Rattle.bytecode.specs.Effects.{operands as operands_of, outcome as outcome_of, wants, gives, count, Meets, Fits, afterwards, part_kinds, shape_kinds};
+ghost use Rattle.bytecode.specs.Rules.{Named};
+ghost use Rattle.verifier.specs.Tables.{wants_of};
+
+use bytecode::{Code, Function, Instr, Kind, Part, same_kinds};
+use std::alloc::{AllocError, Global};
+use word::apply::Op;
+
+/// What an instruction wants on the top of the stack.
+#[derive(Drop)]
+pub enum Need {
+    /// These kinds.
+    These(Vec<Kind>),
+    /// So many words of any kind.
+    Some(usize),
+    /// A channel.
+    Channel,
+    /// Two channels of one shape.
+    Channels,
+}
+
+/// What an operator wants.
+fn operands(alloc: Global, op: Op) -> Result<Need, AllocError>
+    ensures ok { IfOk result (λ n. wants_of n ≡ operands_of op) }
+{
+    match op {
+        Op::Neg | Op::Com => Ok(Need::These(vec![in alloc; Kind::Int]?)),
+        Op::Not => Ok(Need::These(vec![in alloc; Kind::Bool]?)),
+        Op::EqBool | Op::NeBool => Ok(Need::These(vec![in alloc; Kind::Bool, Kind::Bool]?)),
+        Op::EqChan | Op::NeChan => Ok(Need::Channels),
+        Op::Add
+        | Op::Sub
+        | Op::Mul
+        | Op::Div
+        | Op::Rem
+        | Op::And
+        | Op::Or
+        | Op::Xor
+        | Op::AndNot
+        | Op::Shl
+        | Op::Shr
+        | Op::EqInt
+        | Op::NeInt
+        | Op::Lt
+        | Op::Le
+        | Op::Gt
+        | Op::Ge => Ok(Need::These(vec![in alloc; Kind::Int, Kind::Int]?)),
+    }
+}
+
+/// The kinds of a function's parameters.
+fn params_of(f: &Function) -> &[Kind]
+    ensures { result.now ≡ take f.now.params f.now.locals }
+{
+    let params = f.params() as usize;
+    let locals = f.locals();
+    if params < locals.len() {
+        &locals[..params]
+    } else {
+        locals
+    }
+}
+
+/// The kinds of the words that a print takes.
+fn printed_kinds(alloc: Global, parts: &[Part]) -> Result<Vec<Kind>, AllocError>
+    ensures ok { IfOk result (λ ks. ks.items ≡ part_kinds parts.now) }
+{
+    let mut kinds = Vec::new(alloc);
+    for part in parts {
+        match part {
+            Part::Int => kinds.push(Kind::Int)?,
+            Part::Bool => kinds.push(Kind::Bool)?,
+            Part::Text(_) => {}
+        }
+    }
+    Ok(kinds)
+}
+
+/// The kinds of a shape.
+fn kinds_of(code: &Code, s: u32) -> &[Kind]
+    requires { s < length code.now.shapes }
+    ensures { result.now ≡ shape_kinds code.now s }
+{
+    code.shapes()[s as usize].kinds()
+}
+
+/// What an instruction wants on the top of the stack.
+fn wanted(alloc: Global, code: &Code, f: &Function, i: Instr) -> Result<Need, AllocError>
+    requires { Named code.now f.now i }
+    ensures ok { IfOk result (λ n. wants_of n ≡ wants code.now f.now i) }
+{
+    match i {
+        Instr::Store(a, n) => {
+            let from = a as usize;
+            let to = from + n as usize;
+            Ok(Need::These(Vec::from_slice(alloc, &f.locals()[from..to])?))
+        }
+        Instr::Pick(t, _, _) => Ok(Need::Some(t as usize)),
+        Instr::Discard(n) => Ok(Need::Some(n as usize)),
+        Instr::Apply(op) => Ok(operands(alloc, op)?),
+        Instr::Unless(_) => Ok(Need::These(vec![in alloc; Kind::Bool]?)),
+        Instr::Call(g) | Instr::Go(g) => {
+            let params = params_of(&code.functions()[g as usize]);
+            Ok(Need::These(Vec::from_slice(alloc, params)?))
+        }
+        Instr::Return => Ok(Need::These(Vec::from_slice(alloc, f.results())?)),
+        Instr::Make(_) => Ok(Need::These(vec![in alloc; Kind::Int]?)),
+        Instr::Send(s) => {
+            let mut kinds = vec![in alloc; Kind::Chan(s)]?;
+            kinds.extend_from_slice(kinds_of(code, s))?;
+            Ok(Need::These(kinds))
+        }
+        Instr::Receive(s) => Ok(Need::These(vec![in alloc; Kind::Chan(s)]?)),
+        Instr::Close | Instr::Len | Instr::Cap => Ok(Need::Channel),
+        Instr::Print(q) => {
+            let kinds = printed_kinds(alloc, code.prints()[q as usize].parts())?;
+            Ok(Need::These(kinds))
+        }
+        Instr::Int(_)
+        | Instr::Bool(_)
+        | Instr::Nil(_)
+        | Instr::Load(_, _)
+        | Instr::Tick
+        | Instr::Jump(_)
+        | Instr::Loop(_) => Ok(Need::Some(0)),
+    }
+}
+
+/// How many words are wanted.
+fn amount(need: &Need) -> usize
+    ensures { result ≡ count (wants_of need.now) }
+{
+    match need {
+        Need::These(kinds) => kinds.len(),
+        Need::Some(n) => *n,
+        Need::Channel => 1,
+        Need::Channels => 2,
+    }
+}
+
+/// Whether the words on the top are what is wanted.
+fn meets(need: &Need, top: &[Kind]) -> bool
+    ensures { IsTrue result ↔ Meets (wants_of need.now) top.now }
+{
+    match need {
+        Need::These(kinds) => same_kinds(top, kinds),
+        Need::Some(_) => true,
+        Need::Channel => match top {
+            [Kind::Chan(_)] => true,
+            _ => false,
+        },
+        Need::Channels => match top {
+            [Kind::Chan(s), Kind::Chan(t)] => s == t,
+            _ => false,
+        },
+    }
+}
+
+/// The kind of an operator's value.
+fn outcome(op: Op) -> Kind
+    ensures { result ≡ outcome_of op }
+{
+    match op {
+        Op::Not
+        | Op::EqInt
+        | Op::NeInt
+        | Op::Lt
+        | Op::Le
+        | Op::Gt
+        | Op::Ge
+        | Op::EqBool
+        | Op::NeBool
+        | Op::EqChan
+        | Op::NeChan => Kind::Bool,
+        Op::Add
+        | Op::Sub
+        | Op::Mul
+        | Op::Div
+        | Op::Rem
+        | Op::And
+        | Op::Or
+        | Op::Xor
+        | Op::AndNot
+        | Op::Shl
+        | Op::Shr
+        | Op::Neg
+        | Op::Com => Kind::Int,
+    }
+}
+
+/// Appends the kinds of an item and of a truth value.
+fn give_item(code: &Code, s: u32, out: &mut Vec<Kind>) -> Result<(), AllocError>
+    requires { s < length code.now.shapes }
+    ensures ok { OnOk result (out.new.items ≡ out.old.items ++ (shape_kinds code.now s ++ Kind.Bool ∷ [])) }
+{
+    out.extend_from_slice(kinds_of(code, s))?;
+    out.push(Kind::Bool)?;
+    Ok(())
+}
+
+/// Appends what an instruction leaves.
+fn give(
+    code: &Code,
+    f: &Function,
+    i: Instr,
+    top: &[Kind],
+    out: &mut Vec<Kind>,
+) -> Result<(), AllocError>
+    requires named { Named code.now f.now i }
+    requires enough { count (wants code.now f.now i) ≤ length top.now }
+    ensures ok { OnOk result (out.new.items ≡ out.old.items ++ gives code.now f.now i top.now) }
+{
+    match i {
+        Instr::Int(_) | Instr::Len | Instr::Cap => Ok(out.push(Kind::Int)?),
+        Instr::Bool(_) => Ok(out.push(Kind::Bool)?),
+        Instr::Nil(s) | Instr::Make(s) => Ok(out.push(Kind::Chan(s))?),
+        Instr::Load(a, n) => {
+            let from = a as usize;
+            let to = from + n as usize;
+            Ok(out.extend_from_slice(&f.locals()[from..to])?)
+        }
+        Instr::Pick(_, a, n) => {
+            let from = a as usize;
+            let to = from + n as usize;
+            Ok(out.extend_from_slice(&top[from..to])?)
+        }
+        Instr::Apply(op) => Ok(out.push(outcome(op))?),
+        Instr::Call(g) => Ok(out.extend_from_slice(code.functions()[g as usize].results())?),
+        Instr::Receive(s) => Ok(give_item(code, s, out)?),
+        Instr::Store(_, _)
+        | Instr::Discard(_)
+        | Instr::Tick
+        | Instr::Jump(_)
+        | Instr::Unless(_)
+        | Instr::Loop(_)
+        | Instr::Return
+        | Instr::Go(_)
+        | Instr::Send(_)
+        | Instr::Close
+        | Instr::Print(_) => Ok(()),
+    }
+}
+
+/// The kinds behind an instruction, or none where it does not fit.
+pub(crate) fn after(
+    alloc: Global,
+    code: &Code,
+    f: &Function,
+    i: Instr,
+    kinds: &[Kind],
+) -> Result<Option<Vec<Kind>>, AllocError>
+    requires { Named code.now f.now i }
+    ensures ok { IfOk result (λ o. MatchOption o (Fits code.now f.now i kinds.now → ⊥) (λ v. Fits code.now f.now i kinds.now × (v.items ≡ afterwards code.now f.now i kinds.now))) }
+{
+    let need = wanted(alloc, code, f, i)?;
+    let n = amount(&need);
+    if n > kinds.len() {
+        return Ok(None);
+    }
+    let at = kinds.len() - n;
+    if at > 0 && matches!(i, Instr::Return) {
+        return Ok(None);
+    }
+    if !meets(&need, &kinds[at..]) {
+        return Ok(None);
+    }
+    let mut out = Vec::from_slice(alloc, &kinds[..at])?;
+    give(code, f, i, &kinds[at..], &mut out)?;
+    Ok(Some(out))
+}

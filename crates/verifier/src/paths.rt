@@ -1,0 +1,404 @@
+//! The kinds on the operand stack at each place of a function, path by path.
+
+ghost use Rattle.std.specs.Prelude.{◌≡◌, ◌^◌, IfSome, ℕ, ◌<◌, IfOk, OnErr, length, vec_len, slice_get, Some};
+ghost use Rattle.bytecode.specs.declared.instr.Instr.{Instr};
+ghost use Rattle.bytecode.specs.Rules.{Named, Inside, rule_of, ways, Path, IsHeaded};
+ghost use Rattle.verifier.specs.Tables.{Merged, Led, Followed, Visited, Steps, LeadsTo, Swept, Infers, Reached, Judged, judged_of, verdict_of};
+
+use crate::effect::after;
+use crate::scan::scan;
+use bytecode::{Code, Function, Instr, Kind, Rule, same_kinds};
+use std::alloc::{AllocError, Global};
+
+/// What came of a way to a place.
+#[derive(Clone, Copy)]
+pub enum Merge {
+    Same,
+    New,
+    Differs,
+}
+
+/// Enters the kinds at a place that has none.
+fn enter_kinds(
+    alloc: Global,
+    table: &mut Vec<Option<Vec<Kind>>>,
+    to: usize,
+    kinds: &[Kind],
+) -> Result<Merge, AllocError>
+    requires { to < vec_len table.old }
+    ensures len { vec_len table.new ≡ vec_len table.old }
+    ensures err { OnErr result (table.new.items ≡ table.old.items) }
+    ensures ok { IfOk result (λ m. Merged m table.old.items table.new.items to kinds.now) }
+{
+    if let Some(js) = &table[to] {
+        return if same_kinds(js, kinds) {
+            Ok(Merge::Same)
+        } else {
+            Ok(Merge::Differs)
+        };
+    }
+    let ks = Vec::from_slice(alloc, kinds)?;
+    table[to] = Some(ks);
+    Ok(Merge::New)
+}
+
+/// Enters the kinds with which a path leads to a place.
+#[tactic(auto, using(crate::proofs::Entries::led))]
+fn lead(
+    alloc: Global,
+    code: &Code,
+    f: &Function,
+    table: &mut Vec<Option<Vec<Kind>>>,
+    to: usize,
+    kinds: &[Kind],
+) -> Result<Merge, AllocError>
+    requires there { to < vec_len table.old }
+    requires path { (n : ℕ) × Path code.now f.now n to kinds.now }
+    requires reached { Reached code.now f.now table.old.items }
+    ensures len { vec_len table.new ≡ vec_len table.old }
+    ensures reached { Reached code.now f.now table.new.items }
+    ensures ok { IfOk result (λ m. Led m code.now f.now table.old.items table.new.items to kinds.now) }
+{
+    let _ = code;
+    let _ = f;
+    enter_kinds(alloc, table, to, kinds)
+}
+
+/// The same for a way that may be none.
+fn follow(
+    alloc: Global,
+    code: &Code,
+    f: &Function,
+    table: &mut Vec<Option<Vec<Kind>>>,
+    way: Option<usize>,
+    kinds: &[Kind],
+) -> Result<Merge, AllocError>
+    requires there { IfSome way (λ to. to < vec_len table.old) }
+    requires path { IfSome way (λ to. (n : ℕ) × Path code.now f.now n to kinds.now) }
+    requires reached { Reached code.now f.now table.old.items }
+    ensures len { vec_len table.new ≡ vec_len table.old }
+    ensures reached { Reached code.now f.now table.new.items }
+    ensures ok { IfOk result (λ m. Followed way m code.now f.now table.old.items table.new.items kinds.now) }
+{
+    match way {
+        None => Ok(Merge::Same),
+        Some(to) => Ok(lead(alloc, code, f, table, to, kinds)?),
+    }
+}
+
+/// Where an instruction may lead first.
+fn first_way(i: Instr, place: usize) -> Option<usize>
+    requires { place < 2 ^ 63 }
+    ensures { result ≡ slice_get (ways i place) 0 }
+{
+    match i {
+        Instr::Jump(to) | Instr::Loop(to) => Some(to as usize),
+        Instr::Return => None,
+        Instr::Int(_)
+        | Instr::Bool(_)
+        | Instr::Nil(_)
+        | Instr::Load(_, _)
+        | Instr::Store(_, _)
+        | Instr::Pick(_, _, _)
+        | Instr::Discard(_)
+        | Instr::Apply(_)
+        | Instr::Tick
+        | Instr::Unless(_)
+        | Instr::Call(_)
+        | Instr::Make(_)
+        | Instr::Go(_)
+        | Instr::Send(_)
+        | Instr::Receive(_)
+        | Instr::Close
+        | Instr::Len
+        | Instr::Cap
+        | Instr::Print(_) => Some(place + 1),
+    }
+}
+
+/// Where it may lead else.
+fn second_way(i: Instr, place: usize) -> Option<usize>
+    ensures { result ≡ slice_get (ways i place) 1 }
+{
+    match i {
+        Instr::Unless(to) => Some(to as usize),
+        Instr::Jump(_)
+        | Instr::Loop(_)
+        | Instr::Return
+        | Instr::Int(_)
+        | Instr::Bool(_)
+        | Instr::Nil(_)
+        | Instr::Load(_, _)
+        | Instr::Store(_, _)
+        | Instr::Pick(_, _, _)
+        | Instr::Discard(_)
+        | Instr::Apply(_)
+        | Instr::Tick
+        | Instr::Call(_)
+        | Instr::Make(_)
+        | Instr::Go(_)
+        | Instr::Send(_)
+        | Instr::Receive(_)
+        | Instr::Close
+        | Instr::Len
+        | Instr::Cap
+        | Instr::Print(_) => None,
+    }
+}
+
+/// What a look at a place came to.
+#[derive(Clone, Copy)]
+pub enum Visit {
+    Settles,
+    Grows,
+    Unfit(Rule),
+    Parts(usize),
+}
+
+/// The rule that an instruction breaks which does not fit.
+fn broken_rule(i: Instr) -> Rule
+    ensures { result ≡ rule_of i }
+{
+    match i {
+        Instr::Call(_) | Instr::Go(_) => Rule::Calls,
+        Instr::Return => Rule::Returns,
+        Instr::Store(_, _) => Rule::Locals,
+        Instr::Jump(_)
+        | Instr::Loop(_)
+        | Instr::Int(_)
+        | Instr::Bool(_)
+        | Instr::Nil(_)
+        | Instr::Load(_, _)
+        | Instr::Pick(_, _, _)
+        | Instr::Discard(_)
+        | Instr::Apply(_)
+        | Instr::Tick
+        | Instr::Unless(_)
+        | Instr::Make(_)
+        | Instr::Send(_)
+        | Instr::Receive(_)
+        | Instr::Close
+        | Instr::Len
+        | Instr::Cap
+        | Instr::Print(_) => Rule::Paths,
+    }
+}
+
+/// What two ways came to.
+fn verdict(one: Merge, first: Option<usize>, two: Merge, second: Option<usize>) -> Visit
+    ensures { result ≡ verdict_of one first two second }
+{
+    match one {
+        Merge::Differs => match first {
+            Some(a) => Visit::Parts(a),
+            None => Visit::Settles,
+        },
+        Merge::Same => match two {
+            Merge::Differs => match second {
+                Some(b) => Visit::Parts(b),
+                None => Visit::Settles,
+            },
+            Merge::New => Visit::Grows,
+            Merge::Same => Visit::Settles,
+        },
+        Merge::New => match two {
+            Merge::Differs => match second {
+                Some(b) => Visit::Parts(b),
+                None => Visit::Grows,
+            },
+            Merge::New => Visit::Grows,
+            Merge::Same => Visit::Grows,
+        },
+    }
+}
+
+/// What an instruction does to the kinds at its place.
+#[derive(Drop)]
+pub enum Step {
+    Dead,
+    Unfits(Rule),
+    Leads(Instr, Vec<Kind>),
+}
+
+/// The kinds after the instruction at a place.
+fn step_at(
+    alloc: Global,
+    code: &Code,
+    f: &Function,
+    table: &[Option<Vec<Kind>>],
+    place: usize,
+) -> Result<Step, AllocError>
+    requires there { place < length f.now.instrs }
+    requires named { (i : Instr) → slice_get f.now.instrs place ≡ Some i → Named code.now f.now i × Inside f.now place i }
+    requires len { length table.now ≡ length f.now.instrs }
+    requires reached { Reached code.now f.now table.now }
+    ensures ok { IfOk result (λ s. Steps s code.now f.now table.now place) }
+{
+    match &table[place] {
+        None => Ok(Step::Dead),
+        Some(ks) => {
+            let i = f.instrs()[place];
+            match after(alloc, code, f, i, ks)? {
+                None => Ok(Step::Unfits(broken_rule(i))),
+                Some(out) => Ok(Step::Leads(i, out)),
+            }
+        }
+    }
+}
+
+/// Follows the ways of an instruction.
+fn spread(
+    alloc: Global,
+    code: &Code,
+    f: &Function,
+    table: &mut Vec<Option<Vec<Kind>>>,
+    place: usize,
+    i: Instr,
+    out: &[Kind],
+) -> Result<Visit, AllocError>
+    requires there { place < length f.now.instrs }
+    requires inside { Inside f.now place i }
+    requires leads { LeadsTo code.now f.now table.old.items place i out.now }
+    requires len { vec_len table.old ≡ length f.now.instrs }
+    requires reached { Reached code.now f.now table.old.items }
+    ensures len { vec_len table.new ≡ vec_len table.old }
+    ensures reached { Reached code.now f.now table.new.items }
+    ensures ok { IfOk result (λ v. Visited v code.now f.now table.old.items table.new.items place) }
+{
+    let first = first_way(i, place);
+    let second = second_way(i, place);
+    let one = follow(alloc, code, f, table, first, out)?;
+    let two = follow(alloc, code, f, table, second, out)?;
+    Ok(verdict(one, first, two, second))
+}
+
+/// One place: its instruction fits its kinds, and its ways have what is after it.
+fn look(
+    alloc: Global,
+    code: &Code,
+    f: &Function,
+    table: &mut Vec<Option<Vec<Kind>>>,
+    place: usize,
+) -> Result<Visit, AllocError>
+    requires there { place < length f.now.instrs }
+    requires named { (i : Instr) → slice_get f.now.instrs place ≡ Some i → Named code.now f.now i × Inside f.now place i }
+    requires len { vec_len table.old ≡ length f.now.instrs }
+    requires reached { Reached code.now f.now table.old.items }
+    ensures len { vec_len table.new ≡ vec_len table.old }
+    ensures reached { Reached code.now f.now table.new.items }
+    ensures ok { IfOk result (λ v. Visited v code.now f.now table.old.items table.new.items place) }
+{
+    match step_at(alloc, code, f, table, place)? {
+        Step::Dead => Ok(Visit::Settles),
+        Step::Unfits(rule) => Ok(Visit::Unfit(rule)),
+        Step::Leads(i, out) => Ok(spread(alloc, code, f, table, place, i, &out)?),
+    }
+}
+
+/// What a pass over all places came to.
+#[derive(Clone, Copy)]
+pub enum Sweep {
+    Done,
+    More,
+    Broken(Rule, usize),
+    Parted(usize),
+}
+
+/// One pass over all places, in order.
+fn pass(
+    alloc: Global,
+    code: &Code,
+    f: &Function,
+    table: &mut Vec<Option<Vec<Kind>>>,
+) -> Result<Sweep, AllocError>
+    requires named { (place : ℕ) → (i : Instr) → slice_get f.now.instrs place ≡ Some i → Named code.now f.now i × Inside f.now place i }
+    requires len { vec_len table.old ≡ length f.now.instrs }
+    requires reached { Reached code.now f.now table.old.items }
+    ensures len { vec_len table.new ≡ vec_len table.old }
+    ensures reached { Reached code.now f.now table.new.items }
+    ensures ok { IfOk result (λ s. Swept s code.now f.now table.old.items table.new.items) }
+{
+    let mut grew = false;
+    for place in 0..f.instrs().len() {
+        match look(alloc, code, f, table, place)? {
+            Visit::Settles => {}
+            Visit::Grows => grew = true,
+            Visit::Unfit(rule) => return Ok(Sweep::Broken(rule, place)),
+            Visit::Parts(to) => return Ok(Sweep::Parted(to)),
+        }
+    }
+    if grew {
+        Ok(Sweep::More)
+    } else {
+        Ok(Sweep::Done)
+    }
+}
+
+/// The kinds at each place of a function, or the rule that it breaks.
+#[derive(Drop)]
+pub enum Inferred {
+    Full(Vec<Option<Vec<Kind>>>),
+    BrokenAt(Rule, usize),
+    PartedAt(usize),
+}
+
+/// A table where only the start has kinds, which are none.
+fn blank(alloc: Global, code: &Code, f: &Function) -> Result<Vec<Option<Vec<Kind>>>, AllocError>
+    requires { 0 < length f.now.instrs }
+    ensures ok { IfOk result (λ t. (vec_len t ≡ length f.now.instrs) × Reached code.now f.now t.items) }
+{
+    let _ = code;
+    let mut table = Vec::new(alloc);
+    table.push(Some(Vec::new(alloc)))?;
+    for i in 1..f.instrs().len() {
+        let _ = i;
+        table.push(None)?;
+    }
+    Ok(table)
+}
+
+/// Passes over a function until nothing changes.
+fn infer(alloc: Global, code: &Code, f: &Function) -> Result<Inferred, AllocError>
+    requires some { 0 < length f.now.instrs }
+    requires named { (place : ℕ) → (i : Instr) → slice_get f.now.instrs place ≡ Some i → Named code.now f.now i × Inside f.now place i }
+    ensures ok { IfOk result (λ r. Infers r code.now f.now) }
+{
+    let mut table = blank(alloc, code, f)?;
+    loop {
+        match pass(alloc, code, f, &mut table)? {
+            Sweep::Done => return Ok(Inferred::Full(table)),
+            Sweep::More => {}
+            Sweep::Broken(rule, place) => return Ok(Inferred::BrokenAt(rule, place)),
+            Sweep::Parted(to) => return Ok(Inferred::PartedAt(to)),
+        }
+    }
+}
+
+/// What was inferred, as the rule that is broken or none.
+fn judge(inferred: &Inferred) -> Option<(Rule, usize)>
+    ensures { result ≡ judged_of inferred.now }
+{
+    match inferred {
+        Inferred::Full(_) => None,
+        Inferred::BrokenAt(rule, place) => Some((*rule, *place)),
+        Inferred::PartedAt(to) => Some((Rule::Paths, *to)),
+    }
+}
+
+/// The rule that a function breaks, and where.
+pub(crate) fn check_function(
+    alloc: Global,
+    code: &Code,
+    f: &Function,
+) -> Result<Option<(Rule, usize)>, AllocError>
+    requires { IsHeaded code.now f.now }
+    ensures ok { IfOk result (λ o. Judged o code.now f.now) }
+{
+    match scan(code, f) {
+        Some(broken) => Ok(Some(broken)),
+        None => {
+            let inferred = infer(alloc, code, f)?;
+            Ok(judge(&inferred))
+        }
+    }
+}

@@ -1,0 +1,125 @@
+//! What an instruction breaks by itself, whatever path leads to it.
+
+ghost use Rattle.std.specs.Prelude.{◌≡◌, ◌↔◌, ◌<◌, IsTrue, length};
+ghost use Rattle.bytecode.specs.Rules.{Named, Inside, Directed};
+ghost use Rattle.verifier.specs.Tables.{Scanned, ScannedAt};
+
+use bytecode::{Code, Function, Instr, Rule};
+
+/// Whether what an instruction names is there.
+fn is_named(code: &Code, f: &Function, i: Instr) -> bool
+    ensures { IsTrue result ↔ Named code.now f.now i }
+{
+    match i {
+        Instr::Nil(s) | Instr::Make(s) | Instr::Send(s) | Instr::Receive(s) => {
+            (s as usize) < code.shapes().len()
+        }
+        Instr::Load(a, n) | Instr::Store(a, n) => {
+            let locals = f.locals().len();
+            n as usize <= locals && a as usize <= locals - n as usize
+        }
+        Instr::Pick(t, a, n) => n <= t && a <= t - n,
+        Instr::Call(g) | Instr::Go(g) => (g as usize) < code.functions().len(),
+        Instr::Print(q) => (q as usize) < code.prints().len(),
+        Instr::Int(_)
+        | Instr::Bool(_)
+        | Instr::Discard(_)
+        | Instr::Apply(_)
+        | Instr::Tick
+        | Instr::Jump(_)
+        | Instr::Unless(_)
+        | Instr::Loop(_)
+        | Instr::Return
+        | Instr::Close
+        | Instr::Len
+        | Instr::Cap => true,
+    }
+}
+
+/// Whether its ways lead to places of the function.
+fn is_inside(f: &Function, place: usize, i: Instr) -> bool
+    requires { place < length f.now.instrs }
+    ensures { IsTrue result ↔ Inside f.now place i }
+{
+    let n = f.instrs().len();
+    match i {
+        Instr::Jump(to) | Instr::Loop(to) => (to as usize) < n,
+        Instr::Unless(to) => (to as usize) < n && place + 1 < n,
+        Instr::Return => true,
+        Instr::Int(_)
+        | Instr::Bool(_)
+        | Instr::Nil(_)
+        | Instr::Load(_, _)
+        | Instr::Store(_, _)
+        | Instr::Pick(_, _, _)
+        | Instr::Discard(_)
+        | Instr::Apply(_)
+        | Instr::Tick
+        | Instr::Call(_)
+        | Instr::Make(_)
+        | Instr::Go(_)
+        | Instr::Send(_)
+        | Instr::Receive(_)
+        | Instr::Close
+        | Instr::Len
+        | Instr::Cap
+        | Instr::Print(_) => place + 1 < n,
+    }
+}
+
+/// Whether its ways lead in the direction that they must.
+fn is_directed(place: usize, i: Instr) -> bool
+    ensures { IsTrue result ↔ Directed place i }
+{
+    match i {
+        Instr::Jump(to) | Instr::Unless(to) => place < to as usize,
+        Instr::Loop(to) => to as usize <= place,
+        Instr::Return
+        | Instr::Int(_)
+        | Instr::Bool(_)
+        | Instr::Nil(_)
+        | Instr::Load(_, _)
+        | Instr::Store(_, _)
+        | Instr::Pick(_, _, _)
+        | Instr::Discard(_)
+        | Instr::Apply(_)
+        | Instr::Tick
+        | Instr::Call(_)
+        | Instr::Make(_)
+        | Instr::Go(_)
+        | Instr::Send(_)
+        | Instr::Receive(_)
+        | Instr::Close
+        | Instr::Len
+        | Instr::Cap
+        | Instr::Print(_) => true,
+    }
+}
+
+/// The rule that one instruction breaks by itself, and its place.
+fn scan_one(code: &Code, f: &Function, place: usize) -> Option<(Rule, usize)>
+    requires { place < length f.now.instrs }
+    ensures { ScannedAt result code.now f.now place }
+{
+    let i = f.instrs()[place];
+    if !is_named(code, f, i) || !is_inside(f, place, i) {
+        return Some((Rule::Names, place));
+    }
+    if !is_directed(place, i) {
+        return Some((Rule::Targets, place));
+    }
+    None
+}
+
+/// The same for a function's first instruction that breaks one.
+pub(crate) fn scan(code: &Code, f: &Function) -> Option<(Rule, usize)>
+    ensures { Scanned result code.now f.now }
+{
+    for place in 0..f.instrs().len() {
+        match scan_one(code, f, place) {
+            None => {}
+            Some(broken) => return Some(broken),
+        }
+    }
+    None
+}

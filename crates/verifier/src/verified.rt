@@ -1,0 +1,212 @@
+//! The verifier.
+
+ghost use Rattle.std.specs.Prelude.{◌≡◌, ◌≢◌, ◌↔◌, ◌<◌, ◌≤◌, length, IsTrue, IfOk, IfErr, IfSome, IfNone, MatchOption, Some, slice_get};
+ghost use Rattle.bytecode.specs.Machine.{main_of};
+ghost use Rattle.bytecode.specs.Rules.{AreThere, Breaks, BrokenIn, HasMain, Holds, IsHeaded, IsShaped, IsShort, IsThere, IsVerified};
+ghost use Rattle.verifier.specs.Refusals.{IsRefused, NeverStuck, ShapesFine, PrintsFine, FunctionsFine, ShapeBroken};
+ghost use Rattle.verifier.specs.Tables.{Judged};
+
+use crate::paths::check_function;
+use bytecode::{Code, Function, Kind, Rule};
+use go_text::Fault;
+use std::alloc::{AllocError, Global};
+use std::marker::Model;
+
+/// The most words of an item.
+const MAX_WORDS: usize = 16;
+
+/// The most parts of a print table.
+const MAX_PARTS: usize = 64;
+
+/// Code that keeps all rules of the verifier.
+#[derive(Debug, Drop)]
+pub struct Verified {
+    code: Code,
+}
+
+impl Model for Verified {
+    ghost use Rattle.bytecode.specs.Code.{Code as CodeValue};
+    ghost use Rattle.bytecode.specs.Rules.{IsVerified};
+
+    ghost Value = { CodeValue };
+
+    ghost view = { λ v. v.code };
+
+    ghost invariant = { λ v. IsVerified v.code };
+}
+
+impl Verified {
+    /// The code.
+    pub fn code(&self) -> &Code
+        ensures code { result.now ≡ self.now }
+        ensures verified { IsVerified result.now }
+    {
+        &self.code
+    }
+
+    /// The number of the function `main`.
+    pub fn main(&self) -> usize
+        ensures main { main_of self.now.functions ≡ Some result }
+        ensures verified { IsVerified self.now }
+    {
+        main_number(self.code.functions()).unwrap_or(0)
+    }
+}
+
+/// The number of the first function of the name `main`.
+fn main_number(functions: &[Function]) -> Option<usize>
+    ensures { result ≡ main_of functions.now }
+{
+    functions
+        .iter()
+        .position(|function| function.name() == "main")
+}
+
+/// Verifies code. Refused 11 with the broken rule, 1 to 8, the function's number and the instruction's place, 0 for the
+/// function's heading. Of a shape or a print table its number stands as the place and the function's number is 0; where there
+/// is no function `main` without parameters and result both are 0. Refused 13 for want of memory.
+pub fn verify(alloc: Global, code: Code) -> Result<Verified, Fault>
+    ensures code { IfOk result (λ verified. verified ≡ code) }
+    ensures safe { IfOk result NeverStuck }
+    ensures fault { IfErr result (IsRefused code) }
+    ensures verified { IsVerified code → IfErr result (λ fault. fault ≡ Fault.Memory) }
+{
+    match broken(alloc, &code) {
+        Err(_) => Err(Fault::Memory),
+        Ok(Some((rule, function, place))) => Err(Fault::Unverified {
+            rule: rule.number(),
+            function,
+            place,
+        }),
+        Ok(None) => Ok(Verified { code }),
+    }
+}
+
+/// The rule that code breaks, the function's number, and the place.
+fn broken(alloc: Global, code: &Code) -> Result<Option<(Rule, usize, usize)>, AllocError>
+    ensures { IfOk result (λ o. MatchOption o (IsVerified code.now) (λ b. Breaks code.now b.0 b.1 b.2)) }
+{
+    if let Some((rule, place)) = broken_shape(code) {
+        return Ok(Some((rule, 0, place)));
+    }
+    if let Some(place) = broken_print(code) {
+        return Ok(Some((Rule::Tables, 0, place)));
+    }
+    if !has_main(code) {
+        return Ok(Some((Rule::Main, 0, 0)));
+    }
+    broken_function(alloc, code)
+}
+
+/// Whether the shape that a kind names is there.
+fn is_there(code: &Code, kind: Kind) -> bool
+    ensures { IsTrue result ↔ IsThere code.now kind }
+{
+    match kind {
+        Kind::Int => true,
+        Kind::Bool => true,
+        Kind::Chan(shape) => (shape as usize) < code.shapes().len(),
+    }
+}
+
+/// Whether the shapes that these kinds name are there.
+fn are_there(code: &Code, kinds: &[Kind]) -> bool
+    ensures { IsTrue result ↔ AreThere code.now kinds.now }
+{
+    for number in 0..kinds.len() {
+        if !is_there(code, kinds[number]) {
+            return false;
+        }
+    }
+    true
+}
+
+/// Whether a function's heading is in order.
+fn is_headed(code: &Code, f: &Function) -> bool
+    ensures { IsTrue result ↔ IsHeaded code.now f.now }
+{
+    f.instrs().len() > 0
+        && f.params() as usize <= f.locals().len()
+        && are_there(code, f.locals())
+        && are_there(code, f.results())
+}
+
+/// The rule that a shape breaks.
+fn shape_rule(code: &Code, kinds: &[Kind]) -> Option<Rule>
+    ensures none { IfNone result (IsShaped code.now kinds.now) }
+    ensures some { IfSome result (λ rule. ShapeBroken code.now kinds.now rule) }
+{
+    if kinds.len() == 0 || kinds.len() > MAX_WORDS {
+        return Some(Rule::Tables);
+    }
+    if !are_there(code, kinds) {
+        return Some(Rule::Names);
+    }
+    None
+}
+
+/// The rule that the first wrong shape breaks, and the shape's number.
+fn broken_shape(code: &Code) -> Option<(Rule, usize)>
+    ensures none { IfNone result (ShapesFine code.now) }
+    ensures some { IfSome result (λ b. Breaks code.now b.0 0 b.1) }
+{
+    for number in 0..code.shapes().len() {
+        if let Some(rule) = shape_rule(code, code.shapes()[number].kinds()) {
+            return Some((rule, number));
+        }
+    }
+    None
+}
+
+/// The number of the first print table of too many parts.
+fn broken_print(code: &Code) -> Option<usize>
+    ensures none { IfNone result (PrintsFine code.now) }
+    ensures some { IfSome result (λ number. Breaks code.now Rule.Tables 0 number) }
+{
+    for number in 0..code.prints().len() {
+        if code.prints()[number].parts().len() > MAX_PARTS {
+            return Some(number);
+        }
+    }
+    None
+}
+
+/// Whether there is a function `main` without parameters and result.
+fn has_main(code: &Code) -> bool
+    ensures { IsTrue result ↔ HasMain code.now }
+{
+    let functions = code.functions();
+    match main_number(functions) {
+        None => false,
+        Some(number) => is_plain(&functions[number]),
+    }
+}
+
+/// Whether a function has no parameters and no result.
+fn is_plain(f: &Function) -> bool
+    ensures { IsTrue result ↔ ((f.now.params ≡ 0) × (length f.now.results ≡ 0)) }
+{
+    f.params() == 0 && f.results().len() == 0
+}
+
+/// The rule that a function breaks, and where.
+fn rule_in(alloc: Global, code: &Code, f: &Function) -> Result<Option<(Rule, usize)>, AllocError>
+    ensures { IfOk result (λ o. Judged o code.now f.now) }
+{
+    if !is_headed(code, f) {
+        return Ok(Some((Rule::Names, 0)));
+    }
+    Ok(check_function(alloc, code, f)?)
+}
+
+/// The first rule that a function breaks, the function's number, and the place.
+fn broken_function(alloc: Global, code: &Code) -> Result<Option<(Rule, usize, usize)>, AllocError>
+    ensures { IfOk result (λ o. MatchOption o (FunctionsFine code.now) (λ b. Breaks code.now b.0 b.1 b.2)) }
+{
+    for number in 0..code.functions().len() {
+        if let Some((rule, place)) = rule_in(alloc, code, &code.functions()[number])? {
+            return Ok(Some((rule, number, place)));
+        }
+    }
+    Ok(None)
+}
