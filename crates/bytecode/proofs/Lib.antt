@@ -1,2 +1,3 @@
 pub mod Instrs
 pub mod Unstuck
+pub mod Listings

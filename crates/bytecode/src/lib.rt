@@ -3,10 +3,14 @@
 
 mod code;
 mod instr;
+mod lines;
 mod rule;
 mod table;
+#[cfg(test)]
+mod tests;
 
 pub use code::{Code, Function};
 pub use instr::{Instr, Kind};
+pub use lines::listing;
 pub use rule::Rule;
 pub use table::{Part, PrintTable, Shape, Text, same_kinds};
