@@ -2,6 +2,7 @@
 #![tactic(auto)]
 
 pub mod gate;
+mod listing;
 pub mod outcome;
 mod reading;
 pub mod run;
@@ -10,5 +11,6 @@ mod running;
 mod tests;
 
 pub use gate::Gate;
+pub use listing::list_bytes;
 pub use outcome::report;
 pub use run::run_bytes;

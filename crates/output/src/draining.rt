@@ -8,7 +8,7 @@ use crate::piece::Piece;
 use crate::progress::Progress;
 use go_text::Fault;
 use thiserror::Error;
-use word::{Write, WriteFault};
+use word::{ShortWrite, Write, WriteFault, write_all};
 
 /// Why a piece was not written to its end.
 #[derive(Clone, Copy, Debug, PartialEq, Eq, Error)]
@@ -83,14 +83,14 @@ pub fn drain_next<W: Write>(
     ensures same { run_of progress.new ≡ run_of progress.old }
 {
     let bytes = piece.bytes.as_slice();
-    let mut done = 0;
-    'writes: while done < bytes.len() {
-        let taken = writer.write(&bytes[done..])?;
-        if taken == 0 {
-            return Err(WriteFault);
+    match write_all(writer, bytes) {
+        Ok(()) => {
+            progress.advance(bytes.len() as u128);
+            Ok(())
         }
-        done += taken;
-        progress.advance(taken as u128);
+        Err(ShortWrite { taken }) => {
+            progress.advance(taken as u128);
+            Err(WriteFault)
+        }
     }
-    Ok(())
 }

@@ -18,7 +18,7 @@ pub mod text;
 pub mod value;
 pub mod write;
 
-pub use write::{Flagged, Write, WriteFault};
+pub use write::{Flagged, ShortWrite, Write, WriteFault, write_all};
 
 /// The laws that make a turn stable hold of every kind of state: a local step lowers no clock, and who asks has none.
 pub fn kinds_have_laws<S>()

@@ -1,6 +1,6 @@
 //! The values of a program.
 
-ghost use Rattle.std.specs.Prelude.{◌≡◌, ◌∷◌, ◌≤◌, [], IsTrue, ◌↔◌, length};
+ghost use Rattle.std.specs.Prelude.{◌≡◌, ◌∷◌, ◌≤◌, [], IsTrue, ◌↔◌, length, pos};
 ghost use Rattle.smallvec.specs.SmallVec.{small_vec_len};
 
 use smallvec::SmallVec;
@@ -20,7 +20,9 @@ pub enum Word {
 
 impl Default for Word {
     /// The zero `int`.
-    fn default() -> Word {
+    fn default() -> Word
+        ensures { result ≡ Word.Int (pos 0) }
+    {
         Word::Int(0)
     }
 }

@@ -1,7 +1,7 @@
 //! Writers that remember whether they ever failed.
 
-ghost use Rattle.std.specs.Prelude.{◌≡◌, ℕ, List, ◌≤◌, ◌||◌, Bool, None, Option, IfOk, length};
-ghost use Rattle.std.specs.Io.KnownBytes.{WriteAppends};
+ghost use Rattle.std.specs.Prelude.{◌≡◌, ℕ, List, ◌<◌, ◌≤◌, ◌||◌, Bool, None, Option, IfErr, IfOk, IsErr, OnOk, length, take, true};
+ghost use Rattle.std.specs.Io.KnownBytes.{Appends, WriteAppends};
 ghost use Rattle.word.specs.Write.{is_refusal};
 
 use std::io;
@@ -25,6 +25,30 @@ pub trait Write {
         ensures bound { IfOk result (λ n. n ≤ length piece.now) }
         ensures bytes { WriteAppends (contents self.old) (contents self.new) result piece.now }
         ensures flag { has_failed self.new ≡ (has_failed self.old || is_refusal result piece.now) };
+}
+
+/// Only a beginning of a piece was written.
+#[derive(Clone, Copy, Debug, PartialEq, Eq)]
+pub struct ShortWrite {
+    /// How many bytes were taken before the writer failed, or took nothing.
+    pub taken: usize,
+}
+
+#[tactic(auto, using(crate::proofs::Writing::all_written))]
+/// Writes a whole piece.
+pub fn write_all<W: Write>(writer: &mut W, piece: &[u8]) -> Result<(), ShortWrite>
+    ensures ok { OnOk result (Appends (W.contents writer.old) (W.contents writer.new) piece.now) }
+    ensures err { IfErr result (λ short. (short.taken < length piece.now) × Appends (W.contents writer.old) (W.contents writer.new) (take short.taken piece.now)) }
+    ensures flag { IsErr result → W.has_failed writer.new ≡ true }
+{
+    let mut taken = 0;
+    'writes: while taken < piece.len() {
+        match writer.write(&piece[taken..]) {
+            Ok(0) | Err(_) => return Err(ShortWrite { taken }),
+            Ok(more) => taken += more,
+        }
+    }
+    Ok(())
 }
 
 /// Any writer of std, with the flag.
