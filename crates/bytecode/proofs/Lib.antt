@@ -1,3 +1,4 @@
 pub mod Instrs
 pub mod Unstuck
 pub mod Listings
+pub mod Silent

@@ -5,7 +5,7 @@ ghost use Rattle.std.specs.Option.{is_some};
 ghost use Rattle.bytecode.specs.Code.{Code};
 ghost use Rattle.bytecode.specs.Machine.{code_begin, code_kind, code_next, frames_told, reply_words};
 ghost use Rattle.bytecode.specs.Rules.{IsFrameOf, IsVerified};
-ghost use Rattle.goroutine_vm.specs.Advance.{Advances, Goes, IsStateOf, Turns};
+ghost use Rattle.goroutine_vm.specs.Advance.{Advances, Goes, IsFew, IsStateOf, Turns};
 ghost use Rattle.goroutine_vm.specs.Steps.{Does};
 ghost use Rattle.word.specs.Kinds.{asks, at, told};
 ghost use Rattle.word.specs.Views.{reply_of, request_of};
@@ -111,6 +111,7 @@ impl GoState {
         requires { IsStateOf code.now limit self.old }
         ensures stop { IfOk result (λ stop. Advances code.now limit quantum self.old stop self.new) }
         ensures steps { Goes code.now limit quantum self.old self.new }
+        ensures few { IfOk result (λ stop. IsFew code.now quantum self.old stop self.new) }
         ensures state { IsStateOf code.now limit self.new }
     {
         for _made in 0..quantum {

@@ -3,23 +3,39 @@
 use clap::{Arg, ArgAction, ArgMatches, Command, value_parser};
 use std::alloc::{AllocError, Global};
 
-/// A command line that was accepted: the file to run, and how.
+/// A command line that was accepted: what is done with which file.
 #[derive(Clone, Copy, Debug, PartialEq, Eq)]
 pub struct Invocation<'a> {
     /// The path, as it was typed.
     pub file: &'a str,
-    /// How many workers; the run judges whether it is 1 to 64.
-    pub workers: u64,
-    /// The last logical time; the run judges whether it is 1 to 2^62.
-    pub limit: u64,
+    /// What is done with it.
+    pub action: Action,
 }
 
-/// The command that `main` reads its words with.
-pub fn command<'a>(alloc: Global) -> Result<Command<'a>, AllocError> {
-    let file = Arg::new(alloc, "FILE")
+/// What is done with a text.
+#[derive(Clone, Copy, Debug, PartialEq, Eq)]
+pub enum Action {
+    /// Its code is listed.
+    List,
+    /// It is run.
+    Run {
+        /// How many workers; the run judges whether it is 1 to 64.
+        workers: u64,
+        /// The last logical time; the run judges whether it is 1 to 2^62.
+        limit: u64,
+    },
+}
+
+/// The argument that names the text's file.
+fn file_argument<'a>(alloc: Global) -> Arg<'a> {
+    Arg::new(alloc, "FILE")
         .help("The text of the program")
         .required(true)
-        .action(ArgAction::Set);
+        .action(ArgAction::Set)
+}
+
+/// The command `run`.
+fn run_command<'a>(alloc: Global) -> Result<Command<'a>, AllocError> {
     let workers = Arg::new(alloc, "workers")
         .long("workers")
         .value_name("N")
@@ -32,23 +48,37 @@ pub fn command<'a>(alloc: Global) -> Result<Command<'a>, AllocError> {
         .help("The last logical time, 1 to 2^62")
         .value_parser(value_parser!(u64))
         .default_value("1099511627776");
-    let run = Command::new(alloc, "run")
+    Command::new(alloc, "run")
         .about("Runs a program")
-        .arg(file)?
+        .arg(file_argument(alloc))?
         .arg(workers)?
-        .arg(limit)?;
+        .arg(limit)
+}
+
+/// The command that `main` reads its words with.
+pub fn command<'a>(alloc: Global) -> Result<Command<'a>, AllocError> {
+    let list = Command::new(alloc, "list")
+        .about("Lists the code of a program")
+        .arg(file_argument(alloc))?;
     Command::new(alloc, "kendo")
         .about("Compiles and runs programs of a Go subset")
         .subcommand_required(true)
-        .subcommand(run)
+        .subcommand(list)?
+        .subcommand(run_command(alloc)?)
 }
 
 /// What the words ask for.
 pub fn invocation_of<'a>(matches: &ArgMatches<'a>) -> Option<Invocation<'a>> {
-    let (_, matches) = matches.subcommand()?;
+    let (name, matches) = matches.subcommand()?;
+    let action = match name {
+        "list" => Action::List,
+        _ => Action::Run {
+            workers: matches.get_one::<u64>("workers")?,
+            limit: matches.get_one::<u64>("limit")?,
+        },
+    };
     Some(Invocation {
         file: matches.get_str("FILE")?,
-        workers: matches.get_one::<u64>("workers")?,
-        limit: matches.get_one::<u64>("limit")?,
+        action,
     })
 }

@@ -8,11 +8,11 @@ mod arguments;
 #[cfg(test)]
 mod tests;
 
-use arguments::{Invocation, command, invocation_of};
+use arguments::{Action, Invocation, command, invocation_of};
 use clap::error::ErrorKind;
 use go_text::source::MAX_LENGTH;
 use go_text::{Fault, Memory};
-use kendo_base::{Gate, report, run_bytes};
+use kendo_base::{Gate, list_bytes, report, run_bytes};
 use std::alloc::Global;
 use std::fs::File;
 use std::io::{BufWriter, Read as _, Write as _};
@@ -114,7 +114,7 @@ fn show(rt: &HostRuntime, error: &clap::Error) -> Result<u8, Memory>
     }
 }
 
-/// Runs the file, and tells how it ended.
+/// Lists or runs the file, and tells how it ended.
 fn perform(
     rt: &HostRuntime,
     leave: &impl Wait,
@@ -131,7 +131,10 @@ fn perform(
             return Ok(USAGE);
         }
     };
-    let outcome = run(rt, leave, alloc, bytes, invocation);
+    let outcome = match invocation.action {
+        Action::List => list(rt, alloc, bytes),
+        Action::Run { workers, limit } => run(rt, leave, alloc, bytes, workers, limit),
+    };
     let (line, status) = report(alloc, &outcome)?;
     tell(rt, line.as_slice());
     Ok(status)
@@ -146,23 +149,38 @@ fn read(rt: &HostRuntime, alloc: Global, path: &str) -> io::Result<Vec<u8>> {
     Ok(bytes)
 }
 
-/// Runs the text with standard output behind a buffer. What the last flush loses is a refusal of the writer.
+/// Lists the code of the text on standard output, behind a buffer.
+fn list(rt: &HostRuntime, alloc: Global, bytes: Vec<u8>) -> Result<End, Fault> {
+    let stdout = BufWriter::new(alloc, rt.stdout()).map_err(|_| Fault::Memory)?;
+    let mut out = Flagged::new(stdout);
+    list_bytes(alloc, bytes, &mut out)?;
+    flush(out)?;
+    Ok(End::Finished)
+}
+
+/// Runs the text with standard output behind a buffer.
 fn run(
     rt: &HostRuntime,
     leave: &impl Wait,
     alloc: Global,
     bytes: Vec<u8>,
-    invocation: &Invocation<'_>,
+    workers: u64,
+    limit: u64,
 ) -> Result<End, Fault> {
     let stdout = BufWriter::new(alloc, rt.stdout()).map_err(|_| Fault::Memory)?;
     let mut out = Flagged::new(stdout);
     let mut trace = Dropped;
-    let (limit, workers) = (invocation.limit, invocation.workers);
     let end = run_bytes(
         leave, alloc, bytes, limit, workers, &Open, &mut out, &mut trace,
     )?;
+    flush(out)?;
+    Ok(end)
+}
+
+/// Writes what is still held back. What is lost there is a refusal of the writer.
+fn flush<W: io::Write + Drop>(out: Flagged<W>) -> Result<(), Fault> {
     match out.into_inner().flush() {
-        Ok(()) => Ok(end),
+        Ok(()) => Ok(()),
         Err(_) => Err(Fault::Write),
     }
 }

@@ -1,4 +1,4 @@
-use crate::arguments::{Invocation, command, invocation_of};
+use crate::arguments::{Action, Invocation, command, invocation_of};
 use std::test::Fail;
 
 #[test]
@@ -21,13 +21,27 @@ fn accepted_words(rt: HostRuntime) -> Result<(), Fail> {
         let Some(invocation) = invocation_of(&matches) else {
             panic!(rt; "no invocation: {line}");
         };
-        let wanted = Invocation {
-            file,
-            workers,
-            limit,
-        };
+        let action = Action::Run { workers, limit };
+        let wanted = Invocation { file, action };
         assert_eq!(rt; invocation, wanted);
     }
+    Ok(())
+}
+
+#[test]
+fn accepted_listing(rt: HostRuntime) -> Result<(), Fail> {
+    let words = ["kendo", "list", "a.go"];
+    let Ok(matches) = command(rt.alloc())?.try_get_matches_from(words.as_slice()) else {
+        panic!(rt; "refused");
+    };
+    let Some(invocation) = invocation_of(&matches) else {
+        panic!(rt; "no invocation");
+    };
+    let wanted = Invocation {
+        file: "a.go",
+        action: Action::List,
+    };
+    assert_eq!(rt; invocation, wanted);
     Ok(())
 }
 
@@ -43,6 +57,11 @@ fn shown_texts(rt: HostRuntime) -> Result<(), Fail> {
             "kendo run",
             true,
             "error: the following required arguments were not provided",
+        ),
+        (
+            "kendo list a.go --limit 1",
+            true,
+            "error: unexpected argument '--limit' found",
         ),
         (
             "kendo fly a.go",
