@@ -4,3 +4,4 @@ pub mod Asking
 pub mod Quiet
 pub mod Turns
 pub mod Quanta
+pub mod Beginning

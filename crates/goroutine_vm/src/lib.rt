@@ -16,6 +16,8 @@ mod outcome;
 mod request;
 mod state;
 mod step;
+#[cfg(test)]
+mod tests;
 mod told;
 
 pub use state::{GoState, Stop, spawn_state};

@@ -4,6 +4,8 @@
 mod effect;
 mod paths;
 mod scan;
+#[cfg(test)]
+mod tests;
 mod verified;
 
 pub use verified::{Verified, verify};
