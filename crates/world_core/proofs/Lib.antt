@@ -1,0 +1,5 @@
+pub mod Leases
+pub mod Orderly
+pub mod Starting
+pub mod Performing
+pub mod Shapes

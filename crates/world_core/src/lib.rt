@@ -1,0 +1,10 @@
+//! The world of a run: goroutines that are awake, lent, parked or asleep, and the channels at which they sleep.
+#![tactic(auto)]
+
+mod core_model;
+mod slot;
+mod turns;
+
+pub use core_model::Core;
+pub use slot::{Slot, Standing};
+pub use turns::{blocker, first_awake, least_parked};
