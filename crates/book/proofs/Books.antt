@@ -28,7 +28,7 @@ use Rattle.word.specs.Views.{event_of}
 use Rattle.word.specs.Worlds.{Rest, rules, performs, opening, moment, is_deserted, end_by, end_of}
 use Rattle.word.proofs.Laws.{laws}
 use Rattle.world_core.specs.Cores.{World, CoreValue, FitsCore, HasTurn, IsCoreOf, IsFreeIn, IsLentRow, IsPerformed, Performs, Asks, opened_core, shared_of}
-use Rattle.world_core.specs.Slots.{State, Rows, FitsRow, FitsAll, IsAwake, IsNobodyAwake, IsBefore, free_row, lent_row, waiting_clock}
+use Rattle.world_core.specs.Slots.{State, Rows, FitsRow, IsRowOf, IsAwake, IsNobodyAwake, IsBefore, free_row, lent_row, waiting_clock}
 use Rattle.world_core.proofs.Leases.{core_fits_set, core_set, opened_fits}
 use Rattle.book.specs.Desks.{Desk, IsDesk, IsAt, IsEvent, IsPiece, IsEnd, StandsBefore, Held, IsLent, opened_desk, lent_desk}
 use Rattle.book.proofs.Desks.{lend_keeps, bring_keeps, settle_keeps, parked_asks, waits_alone, waits_before, nobody_awake}
@@ -45,7 +45,6 @@ opened_is_desk code limit v le =
     record {
       verified = v;
       limit = le;
-      count = λ e. omega arith;
       many = omega arith;
       room = omega arith;
       fits = opened_fits code limit v le;
@@ -65,10 +64,9 @@ lent_is_desk d n s h free =
     record {
       verified = h.verified;
       limit = h.limit;
-      count = h.count;
       many = h.many;
       room = h.room;
-      fits = core_fits_set d.code d.limit d.core n (Some (lent_row s)) h.fits (record { frame = fits.frame; clock = fits.clock; last = fits.last });
+      fits = core_fits_set d.code d.limit d.core n (Some (lent_row s)) h.fits (record { state = fits.state; present = fits.state; asks = λ e. absurd (true≢false (sym e)) });
       at = (
         h.at.0,
         at_row r (lend r) m n,
@@ -94,10 +92,9 @@ brought_is_desk d n row s h here leads fits =
     record {
       verified = h.verified;
       limit = h.limit;
-      count = h.count;
       many = h.many;
       room = h.room;
-      fits = core_fits_set d.code d.limit d.core n (Some (back_row d s)) h.fits fits;
+      fits = core_fits_set d.code d.limit d.core n (Some (back_row d s)) h.fits (record { state = fits; present = tt; asks = λ e. e });
       at = (
         h.at.0,
         record m { rows = slice_set m.rows n (Some (back_row d s)) },
@@ -120,17 +117,7 @@ asks_at d n h t =
     let a = h.at.2 in
     let p = parked_asks (rules_of d) (laws (code_kind d.code) d.limit) h.at.1 (moment (code_kind d.code) d.limit h.at.0) a.stands t.key (least_in d h.at.1 a.core (Some t.key) t.least) in
     let here : slice_index_or d.core.rows n None ≡ Some p.0 = subst (λ (rows : Rows). slice_index_or rows n None ≡ Some p.0) (sym a.core.rows) (subst (λ k. slice_index_or h.at.1.rows k None ≡ Some p.0) t.number p.1) in
-    record { row = p.0; here = here; state = subst (FitsRow d.code d.limit) here (h.fits.rows n); asks = p.4 }
-
--- event number 2^62 ends the run
-last_ends : (d : Desk) (m : World) (n : ℕ) (row : Row State) → is_some (asks (code_kind d.code) d.limit row.state) ≡ true → length (shared_of m).events + 1 ≡ 2 ^ 62 → is_some (shared_of (perform_row (rules_of d) m n (Some row))).ending ≡ true
-last_ends d m n row asking e = go (asks (code_kind d.code) d.limit row.state) asking
-  where
-    go : (o : Option Request) → is_some o ≡ true → is_some (performs (code_kind d.code) d.limit m.shared n row.state o).shared.shared.ending ≡ true
-    go None h = absurd (true≢false (sym h))
-    go (Some q) h =
-        let w = shared_of m in
-        ap (λ b. is_some (act w n row.state.clock (cond b Exhausted (asked n q)) (cond b Exhausted (asked n q))).shared.ending) (eq-eqb (length w.events + 1) (2 ^ 62) e)
+    record { row = p.0; here = here; state = (subst (FitsRow d.code d.limit) here (h.fits.rows n)).state; asks = p.4 }
 
 at_end : {A : Type 0} (xs : List A) (x : A) → slice_get (xs ++ x ∷ []) (length xs) ≡ Some x
 at_end [] x = refl
@@ -163,14 +150,7 @@ commits d n event bytes new h t done fits room =
     let stands : Stands r after (moment (code_kind d.code) d.limit (h.at.0 + s.0)) = subst (λ x. Stands r after x) (sym (run_add r L h.at.0 s.0 (opening (code_kind d.code)))) (subst (λ x. Stands r x (run r s.0 w)) settled s.1) in
     let events = ap length p.events ∙ length-append (shared_of m).events (event_of event ∷ []) in
     let one : new.events ≡ d.core.events + 1 = p.core.events ∙ events ∙ ap (λ k. k + 1) (sym a.core.events) in
-    let ask = asks_at d n h t in
-    let here : slice_index_or m.rows n None ≡ Some ask.row = subst (λ (rows : Rows). slice_index_or rows n None ≡ Some ask.row) a.core.rows ask.here in
-    let was = h.count (ap is_some t.going) in
-    let last : d.core.events + 1 ≡ 2 ^ 62 → is_some new.ending ≡ true = λ e. ap is_some p.core.ending ∙ ap (λ (o : Option (Row State)). is_some (shared_of (perform_row r m n o)).ending) here ∙ last_ends d m n ask.row ask.asks (ap (λ k. k + 1) (sym a.core.events) ∙ e) in
-    let count : is_some new.ending ≡ false → new.events < 2 ^ 62 = λ none. elim (cases_lt (d.core.events + 1) (2 ^ 62)) [
-      | inl l ↦ omega (arith, l, one)
-      | inr l ↦ absurd (true≢false (sym (last (omega (arith, l, was))) ∙ none))
-    ] in
+    let was = h.fits.count (ap is_some t.going) in
     let out = p.output in
     let more = ap length out ∙ length-append (shared_of m).output bytes in
     let longer = length-append d.pending bytes in
@@ -180,7 +160,6 @@ commits d n event bytes new h t done fits room =
       desk = record {
         verified = h.verified;
           limit = h.limit;
-        count = count;
         many = omega (arith, was, one);
         room = omega (arith, whole, one, room);
         fits = fits;

@@ -60,7 +60,6 @@ pub record IsAt (d : Desk) (n : ℕ) (m : World) : Type 0 where
 pub record IsDesk (d : Desk) : Type 0 where
   pub verified : IsVerified d.code
   pub limit : d.limit ≤ 2 ^ 62
-  pub count : is_some d.core.ending ≡ false → d.core.events < 2 ^ 62
   pub many : d.core.events ≤ 2 ^ 62
   pub room : d.taken + length d.pending ≤ d.core.events * 2 ^ 64
   pub fits : FitsCore d.code d.limit d.core

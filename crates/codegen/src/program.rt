@@ -36,8 +36,7 @@ fn generate(alloc: Global, function: &FunctionNode) -> Result<Code, AllocError>
     Ok(Code::new(functions, Vec::new(alloc), prints))
 }
 
-/// The code of a checked program, which does what the source does and keeps all rules of the verifier. Its goroutines ask
-/// nothing of each other.
+/// The code of a checked program, which does what the source does and keeps all rules of the verifier.
 ///
 /// Errors: only `Memory`.
 pub fn compile(alloc: Global, typed: &Typed) -> Result<Code, Fault>

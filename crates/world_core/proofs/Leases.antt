@@ -4,7 +4,7 @@ use Rattle.std.specs.Prelude.{slice_index_or, slice_set, unwrap_or}
 use Rattle.bytecode.specs.Rules.{IsVerified}
 use Rattle.bytecode.proofs.Unstuck.{begin_keeps}
 use Rattle.std.proofs.lemmas.Option.{slice_get_within}
-use Rattle.std.proofs.lemmas.Bool.{cases_eq, cases_lt}
+use Rattle.std.proofs.lemmas.Bool.{cases_eq, cases_lt, true≢false}
 use Rattle.std.proofs.lemmas.List.{set_past}
 use Rattle.logical_clock.specs.declared.key.Key.{Key}
 use Rattle.logical_clock.specs.Order.{keys, least}
@@ -12,13 +12,13 @@ use Rattle.logical_clock.proofs.Keys.{IsNext, next_is}
 use Rattle.turn_rule.specs.declared.Row.{Row}
 use Rattle.bytecode.specs.Code.{Code}
 use Rattle.bytecode.specs.Machine.{code_kind, main_of}
-use Rattle.goroutine_vm.specs.Advance.{Goes}
+use Rattle.goroutine_vm.specs.Advance.{Goes, IsStateOf}
 use Rattle.turn_rule.specs.Turns.{moved, Leads}
 use Rattle.turn_rule.proofs.Stable.{moved_add}
 use Rattle.word.specs.Worlds.{rules}
 use Rattle.word.proofs.Laws.{laws}
 use Rattle.world_core.specs.Cores.{World, CoreValue, FitsCore, IsCoreOf, opened_core}
-use Rattle.world_core.specs.Slots.{State, Rows, FitsAll, FitsBeds, FitsRow, free_clock, waiting_clock}
+use Rattle.world_core.specs.Slots.{State, Rows, FitsAll, FitsBeds, FitsRow, IsRowOf, free_clock, free_row, waiting_clock}
 
 pub leads_goes : (code : Code) (limit quantum : ℕ) (base s t : State) → Leads (rules (code_kind code) limit) base s → Goes code limit quantum s t → Leads (rules (code_kind code) limit) base t
 leads_goes code limit quantum base s t h g =
@@ -46,9 +46,13 @@ fits_set code limit rows n row all fits k = elim (cases_eq k n) [
   | inr ne ↦ subst (FitsRow code limit) (sym (get_or-set_other rows n k row None ne)) (all k)
 ]
 
+-- one that may be lent
+pub free_fits : (code : Code) (limit : ℕ) (s : State) → IsStateOf code limit s → IsRowOf code limit (free_row s)
+free_fits code limit s h = record { state = h; present = tt; asks = λ e. absurd (true≢false (sym e)) }
+
 -- so does a core
 pub core_fits_set : (code : Code) (limit : ℕ) (core : CoreValue) (n : ℕ) (row : Option (Row State)) → FitsCore code limit core → FitsRow code limit row → FitsCore code limit (record core { rows = slice_set core.rows n row })
-core_fits_set code limit core n row h fits = record { rows = fits_set code limit core.rows n row h.rows fits; beds = h.beds; size = h.size ∙ sym (length-set core.rows n row); live = h.live; once = h.once }
+core_fits_set code limit core n row h fits = record { rows = fits_set code limit core.rows n row h.rows fits; beds = h.beds; size = h.size ∙ sym (length-set core.rows n row); live = h.live; once = h.once; count = h.count }
 
 -- a row is set in the world as in its core
 pub core_set : (m : World) (core : CoreValue) (n : ℕ) (row : Option (Row State)) → IsCoreOf m core → IsCoreOf (record m { rows = slice_set m.rows n row }) (record core { rows = slice_set core.rows n row })
@@ -72,7 +76,7 @@ main_within code v =
 
 opened_rows_fit : (code : Code) (limit : ℕ) → IsVerified code → limit ≤ 2 ^ 62 → FitsAll code limit (opened_core code).rows
 opened_rows_fit code limit v le zero = tt
-opened_rows_fit code limit v le (suc zero) = record { frame = begin_keeps code v (code_kind code).main [] (main_within code v); clock = omega arith; last = le }
+opened_rows_fit code limit v le (suc zero) = free_fits code limit _ (record { frame = begin_keeps code v (code_kind code).main [] (main_within code v); clock = omega arith; last = le })
 opened_rows_fit code limit v le (suc (suc k)) = tt
 
 opened_beds_fit : (code : Code) (limit : ℕ) → FitsBeds code limit (opened_core code).beds
@@ -81,4 +85,4 @@ opened_beds_fit code limit (suc zero) = tt
 opened_beds_fit code limit (suc (suc k)) = tt
 
 pub opened_fits : (code : Code) (limit : ℕ) → IsVerified code → limit ≤ 2 ^ 62 → FitsCore code limit (opened_core code)
-opened_fits code limit v le = record { rows = opened_rows_fit code limit v le; beds = opened_beds_fit code limit; size = refl; live = omega arith; once = tt }
+opened_fits code limit v le = record { rows = opened_rows_fit code limit v le; beds = opened_beds_fit code limit; size = refl; live = omega arith; once = tt; count = λ e. omega arith }

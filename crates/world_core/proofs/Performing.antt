@@ -25,7 +25,7 @@ use Rattle.word.proofs.Fair.{Fair, Wakes, AllWake, AllStart, IsApart, Lies, fair
 use Rattle.word.proofs.Found.{In}
 use Rattle.world_core.specs.Cores.{World, CoreValue, IsCoreOf, LieIn, FitsCore, Once, Misses, numbers, IsAsked, IsPerformed, Performs, shared_of, meant_after, woken_rows, left_beds, actor_row, actor_beds, new_rows, new_beds, core_after, most_woken}
 use Rattle.world_core.specs.Slots.{State, Rows, Beds, FitsRow, FitsAll, FitsBeds, free_row}
-use Rattle.world_core.proofs.Leases.{fits_set}
+use Rattle.world_core.proofs.Leases.{fits_set, free_fits}
 use Rattle.world_core.proofs.Orderly.{Orderly, orderly, woken_numbers}
 use Rattle.world_core.proofs.Starting.{StartsWithin, starts_within}
 
@@ -216,7 +216,7 @@ module _ (code : Code) (limit : ℕ) where
     where
       go : (o : Option State) → IfSome o (λ s. IsStateOf code limit s) → FitsRow code limit (option_map (λ (s : State). free_row (told (code_kind code) s clock w.1)) o)
       go None f = tt
-      go (Some s) f = told_fits s clock w.1 v le f
+      go (Some s) f = free_fits code limit (told (code_kind code) s clock w.1) (told_fits s clock w.1 v le f)
 
   -- those who are started run functions of the code
   abbrev AllWithin : List (ℕ × List Word) → Type 0
@@ -238,19 +238,7 @@ module _ (code : Code) (limit : ℕ) where
   new_fits (x ∷ xs) rows beds clock v le last w h k =
       let s : State = at clock (code_begin code x.0 x.1) in
       let fits : IsStateOf code limit s = record { frame = begin_keeps code v x.0 x.1 w.0; clock = le; last = last } in
-      new_fits xs (rows ++ Some (free_row s) ∷ []) (beds ++ None ∷ []) clock v le last w.1 (fits_back rows (Some (free_row s)) fits h) (λ j. subst (λ (o : Option State). IfSome o (λ t. IsStateOf code limit t)) (sym (one_new beds j)) (k j))
-
-  actor_fits : (s : State) (f : Fate) → IsVerified code → IsStateOf code limit s → (Passes f → s.clock + 1 ≤ limit) → FitsRow code limit (actor_row code s (s.clock + 1) f)
-  actor_fits s (GoesOn reply) v h le = told_fits s (s.clock + 1) reply v (le tt) h
-  actor_fits s Dozes v h le = tt
-  actor_fits s Leaves v h le = tt
-  actor_fits s Stays v h le = record { frame = h.frame; clock = h.clock; last = h.last }
-
-  actor_beds_fit : (beds : Beds) (n : ℕ) (s : State) (f : Fate) → IsStateOf code limit s → FitsBeds code limit beds → FitsBeds code limit (actor_beds beds n s f)
-  actor_beds_fit beds n s (GoesOn reply) h k = k
-  actor_beds_fit beds n s Dozes h k = beds_set beds n (Some s) k h
-  actor_beds_fit beds n s Leaves h k = k
-  actor_beds_fit beds n s Stays h k = k
+      new_fits xs (rows ++ Some (free_row s) ∷ []) (beds ++ None ∷ []) clock v le last w.1 (fits_back rows (Some (free_row s)) (free_fits code limit s fits) h) (λ j. subst (λ (o : Option State). IfSome o (λ t. IsStateOf code limit t)) (sym (one_new beds j)) (k j))
 
   -- ---- the request of a goroutine, whatever else is shared
 
@@ -327,15 +315,25 @@ module _ (code : Code) (limit : ℕ) where
           × FitsBeds code limit (new_beds (left_beds (actor_beds core.beds n s f) ws) xs)
       go (GoesOn reply) ws xs b q w =
           let l : s.clock + 1 ≤ limit = let k = b tt in omega (arith, k) in
-          let first = fits_set code limit core.rows n (actor_row code s (s.clock + 1) (GoesOn reply)) fits.rows (told_fits s (s.clock + 1) reply v l h) in
+          let first = fits_set code limit core.rows n (actor_row code s (s.clock + 1) (GoesOn reply)) fits.rows (free_fits code limit (told (code_kind code) s (s.clock + 1) reply) (told_fits s (s.clock + 1) reply v l h)) in
           let p = woken_fits ws (slice_set core.rows n (actor_row code s (s.clock + 1) (GoesOn reply))) core.beds (s.clock + 1) v l first fits.beds in
           new_fits xs _ _ (s.clock + 1) v l h.last w p.0 p.1
       go Dozes ws xs b q w = let e = q.0 in let x = q.1 in rw (e, x) (fits_set code limit core.rows n None fits.rows tt, beds_set core.beds n (Some s) fits.beds h)
       go Leaves ws xs b q w = let e = q.0 in let x = q.1 in rw (e, x) (fits_set code limit core.rows n None fits.rows tt, fits.beds)
-      go Stays ws xs b q w = let e = q.0 in let x = q.1 in rw (e, x) (fits_set code limit core.rows n (Some (free_row s)) fits.rows (record { frame = h.frame; clock = h.clock; last = h.last }), fits.beds)
+      go Stays ws xs b q w = let e = q.0 in let x = q.1 in rw (e, x) (fits_set code limit core.rows n (Some (free_row s)) fits.rows (free_fits code limit s h), fits.beds)
 
-  pub fits_by : (core : CoreValue) (n clock : ℕ) (means : Request) (event : Event) (bytes : List ℕ) (new : CoreValue) (a : IsAsked code limit core n clock means) → FitsCore code limit core → LeavesAll core n clock means a.row.state event bytes new → FitsCore code limit new
-  fits_by core n clock means event bytes new a fits all =
+  -- event number 2^62 ends the run
+  below_last : (core : CoreValue) (n clock : ℕ) (means : Request) (s : State) (o : Others) (d : Deed) → IsAsked code limit core n clock means → act (shared_with o core.channels) n clock means means ≡ d → core.events < 2 ^ 62 → is_some d.shared.ending ≡ false → core.events + 1 < 2 ^ 62
+  below_last core n clock means s o d a is more none = elim (cases_lt (core.events + 1) (2 ^ 62)) [
+    | inl l ↦ l
+    | inr l ↦
+      let same : core.events + 1 ≡ 2 ^ 62 = omega (arith, l, more) in
+      let last : means ≡ Exhausted = a.meant ∙ ap (λ b. cond b Exhausted (asked n a.what)) (eq-eqb (core.events + 1) (2 ^ 62) same) in
+      absurd (true≢false (ap (λ q. is_some (act (shared_with o core.channels) n clock means q).shared.ending) (sym last) ∙ ap (λ (x : Deed). is_some x.shared.ending) is ∙ none))
+  ]
+
+  pub fits_by : (core : CoreValue) (n clock : ℕ) (means : Request) (event : Event) (bytes : List ℕ) (new : CoreValue) (a : IsAsked code limit core n clock means) → FitsCore code limit core → core.events < 2 ^ 62 → LeavesAll core n clock means a.row.state event bytes new → FitsCore code limit new
+  fits_by core n clock means event bytes new a fits more all =
       let s = a.row.state in
       let within = there core.rows n a.row a.here in
       let o : Others = record { output = []; live = core.live; made = length core.rows - 1; events = []; ending = core.ending } in
@@ -351,4 +349,4 @@ module _ (code : Code) (limit : ℕ) where
       let u = left_length d.woken (actor_beds core.beds n s d.fate) in
       let z = actor_length core.beds n s d.fate in
       let size = fits.size in
-      subst (FitsCore code limit) g.left (record { rows = both.0; beds = both.1; size = omega (arith, w, x, y, t, u, z, size); live = ord.live fits.live; once = ord.asleep fits.once })
+      subst (FitsCore code limit) g.left (record { rows = both.0; beds = both.1; size = omega (arith, w, x, y, t, u, z, size); live = ord.live fits.live; once = ord.asleep fits.once; count = below_last core n clock means s o d a g.is more })

@@ -15,8 +15,8 @@ use Rattle.word.specs.declared.panic.Panic.{Panic as Cause}
 use Rattle.word.specs.declared.panic.Panic.TheVariants.{TooManyGoroutines}
 use Rattle.word.specs.declared.value.Word.{Word}
 use Rattle.word.specs.Kinds.{at, told}
-use Rattle.word.specs.Requests.{Deed, GoesOn, Dozes, Stays, act, panics}
-use Rattle.word.specs.Values.{Request, Print, Go, Reply, Nothing, Outcome as Came, Done, Sleeps, Panics, Event}
+use Rattle.word.specs.Requests.{Deed, GoesOn, Dozes, Leaves, Stays, act, panics}
+use Rattle.word.specs.Values.{Request, End, Print, Go, Reply, Nothing, Outcome as Came, Done, Sleeps, Panics, Event}
 use Rattle.word.specs.Views.{reply_of}
 use Rattle.world_core.specs.Cores.{CoreValue, IsAsked, answered_rows, woken_rows, left_beds, core_after, most_woken}
 use Rattle.world_core.specs.Slots.{State, Rows, Beds, free_row}
@@ -127,6 +127,20 @@ module _ (code : Code) (limit : ℕ) (core : CoreValue) (n clock : ℕ) (means :
     later = λ p. below;
     events = ap (λ x. o.events ++ x ∷ []) (sym event_is);
     output = refl;
+  }
+
+  -- a goroutine that is no more
+  pub leaves_ended : (event : Event) (new : CoreValue) → means ≡ End → new ≡ record core { rows = slice_set core.rows n None; live = core.live - 1; events = core.events + 1 } → event ≡ recorded clock n means (Done Nothing) []
+      → LeavesAll code limit core n clock means a.row.state event [] new
+  leaves_ended event new ended new_is event_is o b = record {
+    deed = record { fate = Leaves; woken = []; started = []; shared = record (shared_with o core.channels) { live = o.live - 1; events = o.events ++ recorded clock n means (Done Nothing) [] ∷ [] } };
+    is = ap (λ q. act (shared_with o core.channels) n clock means q) ended;
+    left = ap (λ l. record { rows = slice_set core.rows n None; beds = core.beds; channels = core.channels; live = l - 1; events = core.events + 1; ending = o.ending }) b.live
+      ∙ ap (λ x. record core { rows = slice_set core.rows n None; live = core.live - 1; events = core.events + 1; ending = x }) b.ending ∙ sym new_is;
+    quiet = (refl, refl);
+    later = λ p. absurd p;
+    events = ap (λ x. o.events ++ x ∷ []) (sym event_is);
+    output = sym (append-nil o.output);
   }
 
   -- a new goroutine

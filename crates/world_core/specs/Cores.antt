@@ -1,5 +1,5 @@
 -- A world of goroutines without its lists of events and bytes.
-use Rattle.std.specs.Prelude.{◌≡◌, ◌≢◌, ℕ, ◌+◌, ◌≤◌, ◌^◌, ◌==◌, Bool, true, cond, List, [], ◌∷◌, ◌++◌, length, map, Option, Some, None, IfSome, slice_index_or, slice_set}
+use Rattle.std.specs.Prelude.{◌≡◌, ◌≢◌, ℕ, ◌+◌, ◌<◌, ◌≤◌, ◌^◌, ◌==◌, Bool, false, true, cond, List, [], ◌∷◌, ◌++◌, length, map, Option, Some, None, IfSome, slice_index_or, slice_set}
 use Rattle.std.specs.Option.{is_some, option_map}
 use Rattle.bytecode.specs.Code.{Code}
 use Rattle.bytecode.specs.Machine.{Frames, code_begin, code_kind}
@@ -65,13 +65,15 @@ Once (n ∷ ns) = Misses n ns × Once ns
 abbrev pub numbers : List Sleeper → List ℕ
 numbers ss = map (λ (s : Sleeper). s.number) ss
 
--- its goroutines are of this code and limit, at most 1,024 are alive, and each of those asleep sleeps once
+-- its goroutines are of this code and limit, at most 1,024 are alive, each of those asleep sleeps once, and a run that
+-- goes on has had less than 2^62 events
 pub record FitsCore (code : Code) (limit : ℕ) (core : CoreValue) : Type 0 where
   pub rows : FitsAll code limit core.rows
   pub beds : FitsBeds code limit core.beds
   pub size : length core.beds ≡ length core.rows
   pub live : core.live ≤ 1024
   pub once : Once (numbers core.channels.asleep)
+  pub count : is_some core.ending ≡ false → core.events < 2 ^ 62
 
 -- goroutine 1 alone, at the beginning of `main`
 abbrev pub opened_core : Code → CoreValue

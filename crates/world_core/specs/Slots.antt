@@ -2,13 +2,13 @@
 use Rattle.std.specs.Prelude.{◌≡◌, ◌≢◌, ℕ, ◌||◌, Bool, true, false, cond, List, Option, Some, None, IfSome, slice_index_or}
 use Rattle.std.specs.Option.{is_some}
 use Rattle.bytecode.specs.Code.{Code}
-use Rattle.bytecode.specs.Machine.{Frames}
+use Rattle.bytecode.specs.Machine.{Frames, code_kind}
 use Rattle.goroutine_vm.specs.Advance.{IsStateOf}
 use Rattle.logical_clock.specs.declared.key.Key.{Key}
 use Rattle.logical_clock.specs.Order.{is_before}
 use Rattle.turn_rule.specs.declared.Lease.{Lease as Loan}
 use Rattle.turn_rule.specs.declared.Row.{Row}
-use Rattle.word.specs.Kinds.{Clocked}
+use Rattle.word.specs.Kinds.{Clocked, asks}
 use Rattle.world_core.specs.declared.slot.Standing.{Standing}
 use Rattle.world_core.specs.declared.slot.Standing.TheVariants.{Free, Lent, Ahead, Parked}
 
@@ -71,9 +71,14 @@ free_row state = record { state = state; floor = state.clock; lease = None; park
 abbrev pub lent_row : State → Row State
 lent_row state = record { state = state; floor = state.clock; lease = Some (record { present = state; published = state.clock }); parked = false }
 
--- the goroutines are of this code and limit
+-- a goroutine of this code and limit; who is parked asks
+pub record IsRowOf (code : Code) (limit : ℕ) (row : Row State) : Type 0 where
+  pub state : IsStateOf code limit row.state
+  pub present : IfSome row.lease (λ l. IsStateOf code limit l.present)
+  pub asks : row.parked ≡ true → is_some (asks (code_kind code) limit row.state) ≡ true
+
 abbrev pub FitsRow : Code → ℕ → Option (Row State) → Type 0
-FitsRow code limit row = IfSome row (λ r. IsStateOf code limit r.state)
+FitsRow code limit row = IfSome row (IsRowOf code limit)
 
 abbrev pub FitsAll : Code → ℕ → Rows → Type 0
 FitsAll code limit rows = (k : ℕ) → FitsRow code limit (slice_index_or rows k None)

@@ -393,9 +393,7 @@ impl Core {
         ensures bytes { bytes_of result ≡ [] }
         ensures fits { FitsCore code.now limit self.new }
     {
-        put_row(self.rows.as_mut_slice(), number, None);
-        self.live = self.live.saturating_sub(1);
-        self.events += 1;
+        self.take_out(number);
         Event {
             clock,
             number,
@@ -488,6 +486,16 @@ impl Core {
         stay_row(self.rows.as_mut_slice(), number);
         self.events += 1;
         self.ending = Some(end);
+    }
+
+    /// Goroutine `number` is no more.
+    fn take_out(&mut self, number: u64)
+        requires { self.old.events < 2 ^ 62 }
+        ensures { self.new ≡ record self.old { rows = slice_set self.old.rows number None; live = self.old.live - 1; events = self.old.events + 1 } }
+    {
+        put_row(self.rows.as_mut_slice(), number, None);
+        self.live = self.live.saturating_sub(1);
+        self.events += 1;
     }
 
     /// A new goroutine in this state.

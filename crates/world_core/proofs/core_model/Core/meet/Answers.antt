@@ -15,6 +15,9 @@ use Rattle.world_core.proofs.Shapes.{done_core, few_woken, leaves_met, recorded,
 use Rattle.world_core.proofs.Starting.{still_below}
 use Rattle.world_core.proofs.core_model.Core.meet.Goals as goal
 
+pub next_time-later-requires-clause-below : goal.next_time-later-requires-clause-below
+next_time-later-requires-clause-below c = still_below c.args.code.now c.args.limit c.args.self.now c.args.number c.args.clock (request_of c.args.request) c.requires.asked (λ (e : request_of c.args.request ≡ Exhausted). subst IsOfChannels e c.requires.channels)
+
 pub wake_all-requires-clause-room : goal.wake_all-requires-clause-room
 wake_all-requires-clause-room c =
     let core = c.args.self.now in
@@ -61,7 +64,7 @@ returns-in-Done-clause-fits c =
     let is = done_core code n later (reply_of c.in-Done.reply) c.in-Done.woken.items core c.ask.new.self c.go_on.new.self new c.in_ok-reply.ensures.rest c.go_on.ensures c.wake_all.ensures.core in
     let event : Event = recorded c.args.clock n means (Done (reply_of c.in-Done.reply)) (map (λ (w : ℕ × Reply). w.0) c.in-Done.woken.items) in
     let left = leaves_met code c.args.limit core n c.args.clock means asked (outcomes.Done c.in-Done.reply c.in-Done.woken) channels event new does (record { later = later; is = c.next_time-later.ensures; below = below; new = is; event = refl }) in
-    fits_by code c.args.limit core n c.args.clock means event [] new asked c.requires.fits left
+    fits_by code c.args.limit core n c.args.clock means event [] new asked c.requires.fits c.requires.events left
 
 pub returns-in-Sleeps-clause-performs : goal.returns-in-Sleeps-clause-performs
 returns-in-Sleeps-clause-performs c =
@@ -91,7 +94,7 @@ returns-in-Sleeps-clause-fits c =
     let is = slept_core n core c.ask.new.self new c.in_ok-reply.ensures.rest c.fall_asleep.ensures in
     let event : Event = recorded c.args.clock n means (Sleeps) ([]) in
     let left = leaves_met code c.args.limit core n c.args.clock means asked (outcomes.Sleeps) channels event new does (record { new = is; event = refl }) in
-    fits_by code c.args.limit core n c.args.clock means event [] new asked c.requires.fits left
+    fits_by code c.args.limit core n c.args.clock means event [] new asked c.requires.fits c.requires.events left
 
 pub returns-in-Panics-clause-performs : goal.returns-in-Panics-clause-performs
 returns-in-Panics-clause-performs c =
@@ -121,4 +124,4 @@ returns-in-Panics-clause-fits c =
     let is = stopped_core n (Panicked c.in-Panics.cause) core c.ask.new.self new c.in_ok-reply.ensures.rest c.stop.ensures in
     let event : Event = recorded c.args.clock n means (Panics c.in-Panics.cause c.in-Panics.clause) ([]) in
     let left = leaves_met code c.args.limit core n c.args.clock means asked (outcomes.Panics c.in-Panics.cause c.in-Panics.clause) channels event new does (record { new = is; event = refl }) in
-    fits_by code c.args.limit core n c.args.clock means event [] new asked c.requires.fits left
+    fits_by code c.args.limit core n c.args.clock means event [] new asked c.requires.fits c.requires.events left

@@ -15,4 +15,4 @@ returns-clause-fits c =
     let below : c.args.clock < c.args.limit = still_below code c.args.limit core n c.args.clock means asked (λ e. cc) in
     let event = recorded c.args.clock n means (Done Nothing) [] in
     let left = leaves_printed code c.args.limit core n c.args.clock means asked c.args.text.items c.next_time.result event c.go_on.new.self refl c.next_time.ensures below c.go_on.ensures refl in
-    fits_by code c.args.limit core n c.args.clock means event c.args.text.items c.go_on.new.self asked c.requires.fits left
+    fits_by code c.args.limit core n c.args.clock means event c.args.text.items c.go_on.new.self asked c.requires.fits c.requires.events left

@@ -53,4 +53,4 @@ returns-clause-fits c =
     let is = added_core code n later c.in_ok-state.state (at later (code_begin code c.args.function c.args.args.items)) core c.add.new.self new state c.in_ok-add.ensures.ok c.go_on.ensures in
     let event : Event = recorded c.args.clock n means (Done Nothing) (length core.rows ∷ []) in
     let left = leaves_started code c.args.limit core n c.args.clock means asked c.args.function c.args.args.items later event new refl room c.next_time-later.ensures below is refl in
-    fits_by code c.args.limit core n c.args.clock means event [] new asked c.requires.fits left
+    fits_by code c.args.limit core n c.args.clock means event [] new asked c.requires.fits c.requires.events left
