@@ -159,7 +159,7 @@ commits d n event bytes new h t done fits room =
     record {
       desk = record {
         verified = h.verified;
-          limit = h.limit;
+        limit = h.limit;
         many = omega (arith, was, one);
         room = omega (arith, whole, one, room);
         fits = fits;

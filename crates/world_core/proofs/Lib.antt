@@ -3,3 +3,5 @@ pub mod Orderly
 pub mod Starting
 pub mod Performing
 pub mod Shapes
+pub mod Stepping
+pub mod Scheduling

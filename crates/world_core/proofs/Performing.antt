@@ -327,9 +327,9 @@ module _ (code : Code) (limit : ℕ) where
   below_last core n clock means s o d a is more none = elim (cases_lt (core.events + 1) (2 ^ 62)) [
     | inl l ↦ l
     | inr l ↦
-      let same : core.events + 1 ≡ 2 ^ 62 = omega (arith, l, more) in
-      let last : means ≡ Exhausted = a.meant ∙ ap (λ b. cond b Exhausted (asked n a.what)) (eq-eqb (core.events + 1) (2 ^ 62) same) in
-      absurd (true≢false (ap (λ q. is_some (act (shared_with o core.channels) n clock means q).shared.ending) (sym last) ∙ ap (λ (x : Deed). is_some x.shared.ending) is ∙ none))
+        let same : core.events + 1 ≡ 2 ^ 62 = omega (arith, l, more) in
+        let last : means ≡ Exhausted = a.meant ∙ ap (λ b. cond b Exhausted (asked n a.what)) (eq-eqb (core.events + 1) (2 ^ 62) same) in
+        absurd (true≢false (ap (λ q. is_some (act (shared_with o core.channels) n clock means q).shared.ending) (sym last) ∙ ap (λ (x : Deed). is_some x.shared.ending) is ∙ none))
   ]
 
   pub fits_by : (core : CoreValue) (n clock : ℕ) (means : Request) (event : Event) (bytes : List ℕ) (new : CoreValue) (a : IsAsked code limit core n clock means) → FitsCore code limit core → core.events < 2 ^ 62 → LeavesAll core n clock means a.row.state event bytes new → FitsCore code limit new

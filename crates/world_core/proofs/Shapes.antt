@@ -136,7 +136,7 @@ module _ (code : Code) (limit : ℕ) (core : CoreValue) (n clock : ℕ) (means :
     deed = record { fate = Leaves; woken = []; started = []; shared = record (shared_with o core.channels) { live = o.live - 1; events = o.events ++ recorded clock n means (Done Nothing) [] ∷ [] } };
     is = ap (λ q. act (shared_with o core.channels) n clock means q) ended;
     left = ap (λ l. record { rows = slice_set core.rows n None; beds = core.beds; channels = core.channels; live = l - 1; events = core.events + 1; ending = o.ending }) b.live
-      ∙ ap (λ x. record core { rows = slice_set core.rows n None; live = core.live - 1; events = core.events + 1; ending = x }) b.ending ∙ sym new_is;
+        ∙ ap (λ x. record core { rows = slice_set core.rows n None; live = core.live - 1; events = core.events + 1; ending = x }) b.ending ∙ sym new_is;
     quiet = (refl, refl);
     later = λ p. absurd p;
     events = ap (λ x. o.events ++ x ∷ []) (sym event_is);

@@ -8,7 +8,8 @@ ghost use Rattle.word.specs.Kinds.{told};
 ghost use Rattle.word.specs.Values.{End as EndRequest, Go as GoRequest, Panic as PanicRequest, Print as PrintRequest, Reply as AnyReply};
 ghost use Rattle.word.specs.Views.{reply_of, request_of};
 ghost use Rattle.world_core.specs.Cores.{Asks, FitsCore, IsAsked, IsFreeIn, IsLentRow, Performs, answered_rows, bytes_of, last_request, left_beds, meant_after, most_woken, opened_core, printed_by, to_lend, woken_rows};
-ghost use Rattle.world_core.specs.Slots.{free_clock, free_row, lent_row};
+ghost use Rattle.world_core.specs.Slots.{FitsAll, FitsRow, free_clock, free_row, lent_row};
+ghost use Rattle.world_core.specs.Schedules.{stepped_rows};
 
 use crate::slot::Slot;
 use crate::turns::least_free;
@@ -19,6 +20,7 @@ use logical_clock::{Clock, LAST};
 use std::alloc::Global;
 use std::marker::Model;
 use std::mem;
+use turn_rule::Step;
 use verifier::Verified;
 use word::end::End;
 use word::panic::Panic;
@@ -207,6 +209,40 @@ impl Core {
         if (number as usize) < self.rows.len() {
             self.rows[number as usize] = Some(Slot::back(state, parked));
         }
+    }
+
+    /// One step of goroutine `number`, as a schedule names it; of one that is not awake it changes nothing.
+    pub fn step(
+        &mut self,
+        alloc: Global,
+        code: &Verified,
+        limit: u64,
+        number: u64,
+        step: Step,
+    ) -> Result<(), Memory>
+        requires { FitsCore code.now limit self.old }
+        ensures ok { OnOk result (self.new ≡ record self.old { rows = stepped_rows code.now limit step number self.old.rows }) }
+        ensures fits { OnOk result (FitsCore code.now limit self.new) }
+    {
+        self.change_row(alloc, code, limit, number, step)?;
+        Ok(())
+    }
+
+    /// A row changes by a step.
+    fn change_row(
+        &mut self,
+        alloc: Global,
+        code: &Verified,
+        limit: u64,
+        number: u64,
+        step: Step,
+    ) -> Result<(), Memory>
+        requires { FitsAll code.now limit self.old.rows }
+        ensures ok { OnOk result (self.new ≡ record self.old { rows = stepped_rows code.now limit step number self.old.rows }) }
+        ensures fits { OnOk result (FitsRow code.now limit (slice_index_or (stepped_rows code.now limit step number self.old.rows) number None)) }
+    {
+        step_row(alloc, self.rows.as_mut_slice(), code, limit, number, step)?;
+        Ok(())
     }
 
     /// The clock of goroutine `number` and what its request means: a return of goroutine 1 is an exit, and event number
@@ -715,4 +751,25 @@ fn lend_row(
         }
     }
     Ok(None)
+}
+
+/// One step of goroutine `number`, as a schedule names it.
+fn step_row(
+    alloc: Global,
+    rows: &mut [Option<Slot>],
+    code: &Verified,
+    limit: u64,
+    number: u64,
+    step: Step,
+) -> Result<(), Memory>
+    requires { FitsAll code.now limit rows.old }
+    ensures ok { OnOk result (rows.new ≡ stepped_rows code.now limit step number rows.old) }
+    ensures fits { OnOk result (FitsRow code.now limit (slice_index_or (stepped_rows code.now limit step number rows.old) number None)) }
+{
+    if (number as usize) < rows.len() {
+        if let Some(slot) = &mut rows[number as usize] {
+            slot.step(alloc, code, limit, step)?;
+        }
+    }
+    Ok(())
 }

@@ -2,9 +2,12 @@
 #![tactic(auto)]
 
 mod core_model;
+mod schedule;
 mod slot;
 mod turns;
 
 pub use core_model::Core;
+pub use schedule::{World, run_schedule};
 pub use slot::{Slot, Standing};
+pub use turn_rule::Step;
 pub use turns::{blocker, first_awake, least_parked};
