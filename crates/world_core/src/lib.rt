@@ -4,6 +4,8 @@
 mod core_model;
 mod schedule;
 mod slot;
+#[cfg(test)]
+mod tests;
 mod turns;
 
 pub use core_model::Core;
