@@ -21,16 +21,16 @@ use Rattle.turn_rule.proofs.Stable.{opened_stands, run_add}
 use Rattle.word.specs.declared.end.End.{End as Ending}
 use Rattle.word.specs.declared.end.End.TheVariants.{Deadlock}
 use Rattle.word.specs.declared.request.Event.{Event as Recorded}
-use Rattle.word.specs.Kinds.{AsksNoOther, at, asks}
+use Rattle.word.specs.Kinds.{at, asks}
 use Rattle.word.specs.Requests.{act, asked, meant}
 use Rattle.word.specs.Values.{Request, Exhausted, Shared}
 use Rattle.word.specs.Views.{event_of}
 use Rattle.word.specs.Worlds.{Rest, rules, performs, opening, moment, is_deserted, end_by, end_of}
 use Rattle.word.proofs.Laws.{laws}
-use Rattle.book.specs.Cores.{World, CoreValue, IsCoreOf, IsPerformed, Performs, Asks, shared_of}
-use Rattle.book.specs.Desks.{Desk, IsDesk, IsAt, IsEvent, IsPiece, IsEnd, FitsRow, FitsAll, HasTurn, StandsBefore, IsFreeIn, Held, IsLent, IsLentRow, opened_desk, lent_desk}
-use Rattle.book.specs.Slots.{State, Rows, IsAwake, IsNobodyAwake, IsBefore, free_row, lent_row, waiting_clock}
-use Rattle.book.proofs.Leases.{fits_set}
+use Rattle.world_core.specs.Cores.{World, CoreValue, FitsCore, HasTurn, IsCoreOf, IsFreeIn, IsLentRow, IsPerformed, Performs, Asks, opened_core, shared_of}
+use Rattle.world_core.specs.Slots.{State, Rows, FitsRow, IsRowOf, IsAwake, IsNobodyAwake, IsBefore, free_row, lent_row, waiting_clock}
+use Rattle.world_core.proofs.Leases.{core_fits_set, core_set, opened_fits}
+use Rattle.book.specs.Desks.{Desk, IsDesk, IsAt, IsEvent, IsPiece, IsEnd, StandsBefore, Held, IsLent, opened_desk, lent_desk}
 use Rattle.book.proofs.Desks.{lend_keeps, bring_keeps, settle_keeps, parked_asks, waits_alone, waits_before, nobody_awake}
 
 abbrev rules_of : Desk → Rules State (Rest Frames)
@@ -38,29 +38,17 @@ rules_of d = rules (code_kind d.code) d.limit
 
 -- ---- open
 
-main_within : (code : Code) → IsVerified code → (code_kind code).main < length code.functions
-main_within code v =
-    let e : unwrap_or (main_of code.functions) 0 ≡ v.main.number = ap (λ o. unwrap_or o 0) v.main.first in
-    subst (λ k. k < length code.functions) (sym e) (slice_get_within code.functions v.main.number v.main.function v.main.there)
-
-opened_fits : (code : Code) (limit : ℕ) → IsVerified code → limit ≤ 2 ^ 62 → FitsAll code limit (opened_desk code limit).core.rows
-opened_fits code limit v le zero = tt
-opened_fits code limit v le (suc zero) = record { frame = begin_keeps code v (code_kind code).main [] (main_within code v); clock = omega arith; last = le }
-opened_fits code limit v le (suc (suc k)) = tt
-
-pub opened_is_desk : (code : Code) (limit : ℕ) → IsVerified code → AsksNoOther (code_kind code) → limit ≤ 2 ^ 62 → IsDesk (opened_desk code limit)
-opened_is_desk code limit v own le =
+pub opened_is_desk : (code : Code) (limit : ℕ) → IsVerified code → limit ≤ 2 ^ 62 → IsDesk (opened_desk code limit)
+opened_is_desk code limit v le =
     let r = rules (code_kind code) limit in
     let w = opening (code_kind code) in
     record {
       verified = v;
-      alone = own;
       limit = le;
-      count = λ e. omega arith;
       many = omega arith;
       room = omega arith;
-      rows = opened_fits code limit v le;
-      at = (0, opened r w, record { stands = opened_stands r (laws (code_kind code) limit) w; core = record { rows = refl; live = refl; events = refl; ending = refl }; size = refl; bytes = refl });
+      fits = opened_fits code limit v le;
+      at = (0, opened r w, record { stands = opened_stands r (laws (code_kind code) limit) w; core = record { rows = refl; beds = tt; channels = refl; asleep = refl; live = refl; made = refl; events = refl; ending = refl }; size = refl; bytes = refl });
     }
 
 -- ---- lend and bring
@@ -72,26 +60,19 @@ lent_is_desk d n s h free =
     let a = h.at.2 in
     let here : slice_index_or m.rows n None ≡ Some (free_row s) = subst (λ (rows : Rows). slice_index_or rows n None ≡ Some (free_row s)) a.core.rows free in
     let row : option_map (λ (row : Row State). lend r row row.lease) (slice_index_or m.rows n None) ≡ Some (lent_row s) = ap (option_map (λ (row : Row State). lend r row row.lease)) here in
-    let fits : FitsRow d.code d.limit (Some (free_row s)) = subst (FitsRow d.code d.limit) free (h.rows n) in
+    let fits : FitsRow d.code d.limit (Some (free_row s)) = subst (FitsRow d.code d.limit) free (h.fits.rows n) in
     record {
       verified = h.verified;
-      alone = h.alone;
       limit = h.limit;
-      count = h.count;
       many = h.many;
       room = h.room;
-      rows = fits_set d.code d.limit d.core.rows n (Some (lent_row s)) h.rows (record { frame = fits.frame; clock = fits.clock; last = fits.last });
+      fits = core_fits_set d.code d.limit d.core n (Some (lent_row s)) h.fits (record { state = fits.state; present = fits.state; asks = λ e. absurd (true≢false (sym e)) });
       at = (
         h.at.0,
         at_row r (lend r) m n,
         record {
           stands = lend_keeps r (laws (code_kind d.code) d.limit) m (moment (code_kind d.code) d.limit h.at.0) n a.stands;
-          core = record {
-            rows = ap (λ (rows : Rows). slice_set rows n (Some (lent_row s))) a.core.rows ∙ ap (λ (o : Option (Row State)). slice_set m.rows n o) (sym row);
-            live = a.core.live;
-            events = a.core.events;
-            ending = a.core.ending;
-          };
+          core = subst (λ (o : Option (Row State)). IsCoreOf (record m { rows = slice_set m.rows n o }) (lent_desk d n s).core) (sym row) (core_set m d.core n (Some (lent_row s)) a.core);
           size = a.size;
           bytes = a.bytes;
         },
@@ -110,18 +91,16 @@ brought_is_desk d n row s h here leads fits =
     let at : slice_index_or m.rows n None ≡ Some row = subst (λ (rows : Rows). slice_index_or rows n None ≡ Some row) a.core.rows here in
     record {
       verified = h.verified;
-      alone = h.alone;
       limit = h.limit;
-      count = h.count;
       many = h.many;
       room = h.room;
-      rows = fits_set d.code d.limit d.core.rows n (Some (back_row d s)) h.rows fits;
+      fits = core_fits_set d.code d.limit d.core n (Some (back_row d s)) h.fits (record { state = fits; present = tt; asks = λ e. e });
       at = (
         h.at.0,
         record m { rows = slice_set m.rows n (Some (back_row d s)) },
         record {
           stands = bring_keeps r (laws (code_kind d.code) d.limit) m (moment (code_kind d.code) d.limit h.at.0) n row s s.clock refl at leads a.stands;
-          core = record { rows = ap (λ (rows : Rows). slice_set rows n (Some (back_row d s))) a.core.rows; live = a.core.live; events = a.core.events; ending = a.core.ending };
+          core = core_set m d.core n (Some (back_row d s)) a.core;
           size = a.size;
           bytes = a.bytes;
         },
@@ -138,17 +117,7 @@ asks_at d n h t =
     let a = h.at.2 in
     let p = parked_asks (rules_of d) (laws (code_kind d.code) d.limit) h.at.1 (moment (code_kind d.code) d.limit h.at.0) a.stands t.key (least_in d h.at.1 a.core (Some t.key) t.least) in
     let here : slice_index_or d.core.rows n None ≡ Some p.0 = subst (λ (rows : Rows). slice_index_or rows n None ≡ Some p.0) (sym a.core.rows) (subst (λ k. slice_index_or h.at.1.rows k None ≡ Some p.0) t.number p.1) in
-    record { row = p.0; here = here; state = subst (FitsRow d.code d.limit) here (h.rows n); asks = p.4 }
-
--- event number 2^62 ends the run
-last_ends : (d : Desk) (m : World) (n : ℕ) (row : Row State) → is_some (asks (code_kind d.code) d.limit row.state) ≡ true → length (shared_of m).events + 1 ≡ 2 ^ 62 → is_some (shared_of (perform_row (rules_of d) m n (Some row))).ending ≡ true
-last_ends d m n row asking e = go (asks (code_kind d.code) d.limit row.state) asking
-  where
-    go : (o : Option Request) → is_some o ≡ true → is_some (performs (code_kind d.code) d.limit m.shared n row.state o).shared.shared.ending ≡ true
-    go None h = absurd (true≢false (sym h))
-    go (Some q) h =
-        let w = shared_of m in
-        ap (λ b. is_some (act w n row.state.clock (cond b Exhausted (asked n q)) (cond b Exhausted (asked n q))).shared.ending) (eq-eqb (length w.events + 1) (2 ^ 62) e)
+    record { row = p.0; here = here; state = (subst (FitsRow d.code d.limit) here (h.fits.rows n)).state; asks = p.4 }
 
 at_end : {A : Type 0} (xs : List A) (x : A) → slice_get (xs ++ x ∷ []) (length xs) ≡ Some x
 at_end [] x = refl
@@ -164,7 +133,7 @@ pub record Commits (d : Desk) (event : Recorded) (bytes : List ℕ) (new : CoreV
   pub is_event : IsEvent d.code d.limit d.core.events (event_of event)
   pub one_more : new.events ≡ d.core.events + 1
 
-pub commits : (d : Desk) (n : ℕ) (event : Recorded) (bytes : List ℕ) (new : CoreValue) → IsDesk d → HasTurn d.core n → Performs d.code d.limit d.core n event bytes new → (FitsAll d.code d.limit d.core.rows → FitsAll d.code d.limit new.rows) → length (d.pending ++ bytes) < 2 ^ 64 → Commits d event bytes new
+pub commits : (d : Desk) (n : ℕ) (event : Recorded) (bytes : List ℕ) (new : CoreValue) → IsDesk d → HasTurn d.core n → Performs d.code d.limit d.core n event bytes new → FitsCore d.code d.limit new → length (d.pending ++ bytes) < 2 ^ 64 → Commits d event bytes new
 commits d n event bytes new h t done fits room =
     let r = rules_of d in
     let L = laws (code_kind d.code) d.limit in
@@ -181,14 +150,7 @@ commits d n event bytes new h t done fits room =
     let stands : Stands r after (moment (code_kind d.code) d.limit (h.at.0 + s.0)) = subst (λ x. Stands r after x) (sym (run_add r L h.at.0 s.0 (opening (code_kind d.code)))) (subst (λ x. Stands r x (run r s.0 w)) settled s.1) in
     let events = ap length p.events ∙ length-append (shared_of m).events (event_of event ∷ []) in
     let one : new.events ≡ d.core.events + 1 = p.core.events ∙ events ∙ ap (λ k. k + 1) (sym a.core.events) in
-    let ask = asks_at d n h t in
-    let here : slice_index_or m.rows n None ≡ Some ask.row = subst (λ (rows : Rows). slice_index_or rows n None ≡ Some ask.row) a.core.rows ask.here in
-    let was = h.count (ap is_some t.going) in
-    let last : d.core.events + 1 ≡ 2 ^ 62 → is_some new.ending ≡ true = λ e. ap is_some p.core.ending ∙ ap (λ (o : Option (Row State)). is_some (shared_of (perform_row r m n o)).ending) here ∙ last_ends d m n ask.row ask.asks (ap (λ k. k + 1) (sym a.core.events) ∙ e) in
-    let count : is_some new.ending ≡ false → new.events < 2 ^ 62 = λ none. elim (cases_lt (d.core.events + 1) (2 ^ 62)) [
-      | inl l ↦ omega (arith, l, one)
-      | inr l ↦ absurd (true≢false (sym (last (omega (arith, l, was))) ∙ none))
-    ] in
+    let was = h.fits.count (ap is_some t.going) in
     let out = p.output in
     let more = ap length out ∙ length-append (shared_of m).output bytes in
     let longer = length-append d.pending bytes in
@@ -197,12 +159,10 @@ commits d n event bytes new h t done fits room =
     record {
       desk = record {
         verified = h.verified;
-        alone = h.alone;
         limit = h.limit;
-        count = count;
         many = omega (arith, was, one);
         room = omega (arith, whole, one, room);
-        rows = fits h.rows;
+        fits = fits;
         at = (
           h.at.0 + s.0,
           after,

@@ -12,13 +12,13 @@ use Rattle.turn_rule.specs.Turns.{Leads}
 use Rattle.turn_rule.specs.Schedule.{Stands, has_turn}
 use Rattle.word.specs.declared.end.End.{End as Ending}
 use Rattle.word.specs.Values.{Event}
-use Rattle.word.specs.Kinds.{AsksNoOther, asks, at}
+use Rattle.word.specs.Kinds.{asks}
 use Rattle.word.specs.Views.{event_of}
 use Rattle.word.specs.Worlds.{end_of, moment, rules}
 use Rattle.book.specs.declared.settled.Settled.{Settled}
 use Rattle.book.specs.declared.settled.Settled.TheVariants.{Committed, Waiting, Ended}
-use Rattle.book.specs.Cores.{World, CoreValue, IsCoreOf, shared_of}
-use Rattle.book.specs.Slots.{State, Rows, free_clock, free_row, lent_row, waiting_clock}
+use Rattle.world_core.specs.Cores.{World, CoreValue, FitsCore, IsCoreOf, IsLentRow, opened_core, shared_of}
+use Rattle.world_core.specs.Slots.{State, lent_row, waiting_clock}
 
 -- ---- what is seen of the one-thread run of a code
 
@@ -50,12 +50,6 @@ pub record Desk : Type 0 where
   pub taken : ℕ
   pub pending : List ℕ
 
-abbrev pub FitsRow : Code → ℕ → Option (Row State) → Type 0
-FitsRow code limit row = IfSome row (λ r. IsStateOf code limit r.state)
-
-abbrev pub FitsAll : Code → ℕ → Rows → Type 0
-FitsAll code limit rows = (k : ℕ) → FitsRow code limit (slice_index_or rows k None)
-
 -- the machine m is this desk's, and stands where the one-thread run does after n moves
 pub record IsAt (d : Desk) (n : ℕ) (m : World) : Type 0 where
   pub stands : Stands (rules (code_kind d.code) d.limit) m (moment (code_kind d.code) d.limit n)
@@ -65,12 +59,10 @@ pub record IsAt (d : Desk) (n : ℕ) (m : World) : Type 0 where
 
 pub record IsDesk (d : Desk) : Type 0 where
   pub verified : IsVerified d.code
-  pub alone : AsksNoOther (code_kind d.code)
   pub limit : d.limit ≤ 2 ^ 62
-  pub count : is_some d.core.ending ≡ false → d.core.events < 2 ^ 62
   pub many : d.core.events ≤ 2 ^ 62
   pub room : d.taken + length d.pending ≤ d.core.events * 2 ^ 64
-  pub rows : FitsAll d.code d.limit d.core.rows
+  pub fits : FitsCore d.code d.limit d.core
   pub at : (n : ℕ) × (m : World) × IsAt d n m
 
 -- no event is committed, and goroutine 1 is alone
@@ -78,7 +70,7 @@ abbrev pub opened_desk : Code → ℕ → Desk
 opened_desk code limit = record {
   code = code;
   limit = limit;
-  core = record { rows = None ∷ Some (free_row (at 0 (code_begin code (code_kind code).main []))) ∷ []; live = 1; events = 0; ending = None };
+  core = opened_core code;
   taken = 0;
   pending = [];
 }
@@ -92,17 +84,6 @@ pub record Held : Type 0 where
   pub number : ℕ
   pub base : State
   pub present : State
-
--- the first to lend: of those awake, neither lent nor parked, the one of least key
-abbrev pub to_lend : CoreValue → Option Key
-to_lend core = cond (is_some core.ending) None (least (keys free_clock 0 core.rows))
-
-abbrev pub IsFreeIn : Rows → ℕ → State → Type 0
-IsFreeIn rows n state = slice_index_or rows n None ≡ Some (free_row state)
-
--- goroutine n is lent in this state
-abbrev pub IsLentRow : Rows → ℕ → State → Type 0
-IsLentRow rows n base = (row : Row State) × (slice_index_or rows n None ≡ Some row) × (is_some row.lease ≡ true) × (row.state ≡ base)
 
 -- goroutine n is lent in this state
 abbrev pub lent_desk : Desk → ℕ → State → Desk
@@ -127,14 +108,6 @@ brought d l =
         }));
       };
     })
-
--- goroutine number n stands at its request, and has the turn
-pub record HasTurn (core : CoreValue) (n : ℕ) : Type 0 where
-  pub key : Key
-  pub number : key.number ≡ n
-  pub least : least (keys waiting_clock 0 core.rows) ≡ Some key
-  pub turn : has_turn key 0 core.rows ≡ true
-  pub going : core.ending ≡ None
 
 -- ---- settling
 

@@ -2,19 +2,15 @@
 
 ghost use Rattle.std.specs.Prelude.{◌≡◌, ◌+◌, ◌<◌, ◌≤◌, ◌^◌, ◌↔◌, ◌⊎◌, [], IfErr, IfNone, IfOk, IfSome, IsErrOf, IsOk, IsTrue, None, OnErr, OnOk, Some, length, slice_set};
 ghost use Rattle.std.specs.Arc.{arc_value};
-ghost use Rattle.bytecode.specs.Machine.{code_kind};
-ghost use Rattle.bytecode.specs.Rules.{IsVerified};
-ghost use Rattle.word.specs.Kinds.{AsksNoOther};
 ghost use Rattle.output.specs.Progress.{piece_run};
 ghost use Rattle.output.specs.declared.piece.Kind.TheVariants.{Output};
 ghost use Rattle.logical_clock.specs.Order.{keys, least};
-ghost use Rattle.book.specs.Slots.{waiting_clock};
-ghost use Rattle.book.specs.Desks.{HasTurn, IsDesk, IsFreeIn, IsLent, IsPiece, Settles, brought, lent_desk, opened_desk, to_lend};
+ghost use Rattle.world_core.specs.Slots.{waiting_clock};
+ghost use Rattle.world_core.specs.Cores.{HasTurn, IsFreeIn, to_lend};
+ghost use Rattle.book.specs.Desks.{IsDesk, IsLent, IsPiece, Settles, brought, lent_desk, opened_desk};
 
 use crate::lease::Lease;
 use crate::settled::Settled;
-use crate::turns::{blocker, first_awake, least_parked};
-use crate::world_core::Core;
 use go_text::{Fault, Memory, NotYours};
 use logical_clock::LAST;
 use output::{Kind, Piece};
@@ -24,6 +20,7 @@ use std::mem;
 use std::sync::Arc;
 use verifier::Verified;
 use word::end::End;
+use world_core::{Core, blocker, first_awake, least_parked};
 
 /// The book of a run: what is committed, who is lent, and the bytes that were not yet taken out.
 #[derive(Debug, Drop)]
@@ -50,10 +47,8 @@ impl Model for Book {
 }
 
 impl Book {
-    /// The book of this program under this clock limit, 1 to 2^62: no event is committed, and goroutine 1 is alone. The
-    /// program's goroutines ask nothing of each other: that is what runs so far.
+    /// The book of this program under this clock limit, 1 to 2^62: no event is committed, and goroutine 1 is alone.
     pub fn open(alloc: Global, program: Arc<Verified>, limit: u64) -> Result<Book, Fault>
-        requires { AsksNoOther (code_kind (arc_value program)) }
         ensures book { IfOk result (λ book. book ≡ opened_desk (arc_value program) limit) }
         ensures bad_limit { IsErrOf result Fault.BadLimit ↔ ((limit ≡ 0) ⊎ (2 ^ 62 < limit)) }
         ensures only { IfErr result (λ e. (e ≡ Fault.BadLimit) ⊎ (e ≡ Fault.Memory)) }

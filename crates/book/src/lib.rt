@@ -4,9 +4,6 @@
 mod book_model;
 mod lease;
 mod settled;
-mod slot;
-mod turns;
-mod world_core;
 
 pub use book_model::Book;
 pub use lease::Lease;

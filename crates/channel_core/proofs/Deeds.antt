@@ -2,9 +2,10 @@
 use Rattle.std.proofs.Common.{◌≡◌, ℕ, zero, suc, ◌+◌, Bool, true, false, cond, not, List, [], ◌∷◌, ◌++◌, length, drop, slice_set, Option, Some, None, refl, sym, ap, ◌∙◌}
 use Rattle.std.specs.Prelude.{◌==◌}
 use Rattle.std.specs.List.{filter}
-use Rattle.word.specs.Values.{Item, Request, Send, Receive, Channel, Sleeper, Offer}
-use Rattle.word.specs.Requests.{channel_of, receive_from, receive_ready, send_ready, without}
-use Rattle.channel_core.specs.Channels.{ChannelsValue, Others, shared_with, Does, Sends, Receives, IsAlone, IsServed}
+use Rattle.word.specs.declared.request.Case.{Case}
+use Rattle.word.specs.Values.{Item, Request, Send, Receive, Select, Channel, Sleeper, Offer}
+use Rattle.word.specs.Requests.{channel_of, choose, receive_from, receive_ready, send_ready, without}
+use Rattle.channel_core.specs.Channels.{ChannelsValue, Others, shared_with, Does, Sends, Receives, Serves, IsAlone, IsServed}
 use Rattle.channel_core.specs.declared.outcome.Outcome.{Outcome}
 use Rattle.channel_core.specs.declared.outcome.Outcome.TheVariants as outcomes
 
@@ -31,3 +32,18 @@ send_sleeps old n k item ready o c = rw (← ready o n c (Send (Some k) item)) r
 
 pub receive_sleeps : (old : ChannelsValue) (n k : ℕ) → ((o : Others) (m c : ℕ) (q : Request) → false ≡ receive_ready (shared_with o old) m c q k) → Does old n (Receive (Some k)) outcomes.Sleeps (with_sleeper old n (Receive (Some k)))
 receive_sleeps old n k ready o c = rw (← ready o n c (Receive (Some k))) refl
+
+-- ---- select
+
+-- the first clause that is ready
+abbrev pub Chooses : ChannelsValue → List Case → Option (ℕ × Case) → Type 0
+Chooses old cases found = (o : Others) (m c : ℕ) (q : Request) → choose (shared_with o old) m c q 1 cases ≡ found
+
+pub select_done : (old new : ChannelsValue) (n i : ℕ) (x : Case) (cases : List Case) (default : Bool) (outcome : Outcome) → Chooses old cases (Some (i, x)) → Serves old n x i outcome new → Does old n (Select cases default) outcome new
+select_done old new n i x cases default outcome first serves o c = rw (first o n c (Select cases default)) (serves o c (Select cases default))
+
+pub select_sleeps : (old : ChannelsValue) (n : ℕ) (cases : List Case) → Chooses old cases None → Does old n (Select cases false) outcomes.Sleeps (with_sleeper old n (Select cases false))
+select_sleeps old n cases first o c = rw (first o n c (Select cases false)) refl
+
+pub select_nil : (old : ChannelsValue) (n i : ℕ) (x : Case) (cases : List Case) (default : Bool) → Chooses old cases (Some (i, x)) → x.chan ≡ None → Does old n (Select cases default) outcomes.Sleeps (with_sleeper old n (Select cases default))
+select_nil old n i x cases default first nil o c = rw (first o n c (Select cases default)) (rw nil refl)

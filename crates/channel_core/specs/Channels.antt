@@ -1,11 +1,12 @@
 -- The channels and sleepers of a world, and what a request to them does.
-use Rattle.std.specs.Prelude.{◌≡◌, ℕ, ◌==◌, Bool, false, ◌&&◌, not, cond, List, [], ◌∷◌, ◌++◌, drop, map, Option, Some, None, option_map}
+use Rattle.std.specs.Prelude.{◌≡◌, ℕ, ℤ, ◌==◌, Bool, false, ◌&&◌, not, cond, List, [], ◌∷◌, ◌++◌, drop, length, map, slice_index_or, Option, Some, None, option_map}
 use Rattle.std.specs.Option.{is_some}
 use Rattle.word.specs.declared.request.Case.{Case}
 use Rattle.word.specs.declared.end.End.{End as Ending}
 use Rattle.word.specs.declared.end.End.TheVariants.{Panicked}
-use Rattle.word.specs.Values.{Item, Request, Reply, Done, Sleeps, Panics, Event, Channel, Sleeper, Offer, Shared}
-use Rattle.word.specs.Requests.{Deed, GoesOn, Dozes, Stays, happened, act, channel_of, do_send, do_receive, receive_from}
+use Rattle.word.specs.declared.value.Word.TheVariants.{Int}
+use Rattle.word.specs.Values.{Item, Request, Make, Send, Receive, Close, Select, Len, Cap, Reply, Value, Done, Sleeps, Panics, Event, Channel, Sleeper, Offer, Shared}
+use Rattle.word.specs.Requests.{Deed, GoesOn, Dozes, Stays, happened, act, channel_of, close_reply, do_clause, do_send, do_receive, receive_from}
 use Rattle.word.specs.Views.{reply_of}
 use Rattle.channel_core.specs.declared.outcome.Outcome.{Outcome}
 use Rattle.channel_core.specs.declared.outcome.Outcome.TheVariants as outcomes
@@ -75,6 +76,43 @@ Sends old n k item clause outcome new = (o : Others) (c : ℕ) (q : Request) →
 -- so does a receive of this clause on channel k that is ready
 abbrev pub Receives : ChannelsValue → ℕ → ℕ → ℕ → Outcome → ChannelsValue → Type 0
 Receives old n k clause outcome new = (o : Others) (c : ℕ) (q : Request) → do_receive (shared_with o old) n c q k clause ≡ deed_of o n c q outcome new
+
+-- so does a clause of a select, of this number, that is ready
+abbrev pub Serves : ChannelsValue → ℕ → Case → ℕ → Outcome → ChannelsValue → Type 0
+Serves old n x clause outcome new = (o : Others) (c : ℕ) (q : Request) → do_clause (shared_with o old) n c q clause x.chan x.item ≡ deed_of o n c q outcome new
+
+-- the clause at place i of a select, counted from 0
+abbrev pub clause_at : List Case → ℕ → Case
+clause_at cases i = slice_index_or cases i (record { chan = None; item = None })
+
+-- what those are told whom a close wakes, z being the zero item
+abbrev pub closed_for : Item → List (Sleeper × Offer) → List (ℕ × Reply)
+closed_for z ps = map (λ (p : Sleeper × Offer). (p.0.number, close_reply z p.1)) ps
+
+-- the items in a channel's buffer, and its capacity; `nil` has neither
+abbrev pub length_of : List Channel → Option ℕ → ℕ
+length_of cs None = 0
+length_of cs (Some k) = length (channel_of cs k).items
+
+abbrev pub capacity_of : List Channel → Option ℕ → ℕ
+capacity_of cs None = 0
+capacity_of cs (Some k) = (channel_of cs k).capacity
+
+-- a request to channels
+abbrev pub IsOfChannels : Request → Type 0
+IsOfChannels (Make size zero) = Unit {0}
+IsOfChannels (Send c item) = Unit {0}
+IsOfChannels (Receive c) = Unit {0}
+IsOfChannels (Close c) = Unit {0}
+IsOfChannels (Select cases default) = Unit {0}
+IsOfChannels (Len c) = Unit {0}
+IsOfChannels (Cap c) = Unit {0}
+IsOfChannels q = ⊥
+
+-- it is told this number, and nobody is woken
+abbrev pub IsTold : Outcome → ℤ → Type 0
+IsTold (outcomes.Done reply woken) number = (reply_of reply ≡ Value (Int number)) × (woken.items ≡ [])
+IsTold outcome number = ⊥
 
 -- what is left of channel k's buffer when an item entered at its back and one left at its front
 abbrev pub after_passing : List Channel → ℕ → Item → List Item

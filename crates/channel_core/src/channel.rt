@@ -1,6 +1,6 @@
 //! A channel without its sleepers.
 
-ghost use Rattle.std.specs.Prelude.{◌≡◌, ◌<◌, ◌++◌, ◌∷◌, [], false, nat_lt, length, IfOk, IfSome, IfNone, OnErr, OnOk};
+ghost use Rattle.std.specs.Prelude.{◌≡◌, ◌<◌, ◌++◌, ◌∷◌, [], false, nat_lt, pos, true, length, IfOk, IfSome, IfNone, OnErr, OnOk};
 ghost use Rattle.word.specs.Requests.{no_channel};
 
 use std::alloc::{AllocError, Global};
@@ -11,7 +11,7 @@ use word::value::Item;
 /// A channel without its sleepers: its capacity, what is in its buffer, whether it is closed, and the zero item.
 #[derive(Debug, Drop)]
 pub struct Channel {
-    capacity: usize,
+    capacity: u32,
     items: VecDeque<Item>,
     closed: bool,
     zero: Item,
@@ -27,7 +27,7 @@ impl Model for Channel {
 
 impl Channel {
     /// An open channel with nothing in its buffer.
-    pub fn new(alloc: Global, capacity: usize, zero: Item) -> Channel
+    pub fn new(alloc: Global, capacity: u32, zero: Item) -> Channel
         ensures { result ≡ record { capacity = capacity; items = []; closed = false; zero = zero } }
     {
         Channel {
@@ -49,7 +49,28 @@ impl Channel {
     pub fn has_room(&self) -> bool
         ensures { result ≡ nat_lt (length self.now.items) self.now.capacity }
     {
-        self.items.len() < self.capacity
+        self.items.len() < self.capacity as usize
+    }
+
+    /// How many items are in the buffer (Go: Length and capacity).
+    pub fn len(&self) -> i64
+        ensures { result ≡ pos (length self.now.items) }
+    {
+        self.items.len() as i64
+    }
+
+    /// How many items the buffer holds at most (Go: Length and capacity).
+    pub fn capacity(&self) -> i64
+        ensures { result ≡ pos self.now.capacity }
+    {
+        i64::from(self.capacity)
+    }
+
+    /// Nothing more is sent on it (Go: Close).
+    pub fn close(&mut self)
+        ensures { self.new ≡ record self.old { closed = true } }
+    {
+        self.closed = true;
     }
 
     /// Whether an item is in the buffer.

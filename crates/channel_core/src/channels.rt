@@ -1,19 +1,21 @@
 //! The channels of a world, and those who sleep at them.
 
-ghost use Rattle.std.specs.Prelude.{◌≡◌, ℕ, ◌+◌, ◌<◌, ◌≤◌, ◌∷◌, [], ◌++◌, IfOk, IfNone, IfSome, OnErr, OnOk, Some, None, nat_lt, option_map, length, slice_index_or, slice_set, unwrap_or};
-ghost use Rattle.word.specs.Requests.{channel_of, got, no_channel, partner, receive_ready, send_ready, sent, without};
-ghost use Rattle.word.specs.Values.{Make, Receive, Request as AnyRequest, Send};
+ghost use Rattle.std.specs.Prelude.{◌≡◌, ℕ, ◌+◌, ◌<◌, ◌≤◌, ◌∷◌, [], ◌++◌, IfOk, IfNone, IfSome, OnErr, OnOk, Some, None, nat_lt, option_map, pos, suc, true, length, slice_index_or, slice_set, unwrap_or};
+ghost use Rattle.word.specs.Requests.{channel_of, choose, got, is_ready, no_channel, partner, receive_ready, send_ready, sent, without};
+ghost use Rattle.word.specs.Values.{Close, Make, Receive, Request as AnyRequest, Select, Send};
 ghost use Rattle.word.specs.Views.{reply_of, request_of};
-ghost use Rattle.channel_core.specs.Channels.{Does, IsAlone, IsServed, Others, Receives, Sends, after_passing, partner_of, shared_with};
+ghost use Rattle.channel_core.specs.Channels.{Does, IsAlone, IsOfChannels, IsTold, IsServed, Others, Receives, Sends, Serves, after_passing, capacity_of, clause_at, length_of, partner_of, shared_with};
 
 use crate::channel::Channel;
 use crate::outcome::{Outcome, Woken};
-use crate::sleepers::{Partner, Sleeper, enter, find_partner, leave};
+use crate::sleepers::{
+    Partner, Sleeper, copy_of, enter, find_partner, leave, leave_all, woken_by_close,
+};
 use go_text::Memory;
 use std::alloc::Global;
 use std::marker::Model;
 use word::panic::Panic;
-use word::request::{Reply, Request};
+use word::request::{Case, Reply, Request};
 use word::value::{Item, Word};
 
 /// The most channels that a run makes.
@@ -56,6 +58,31 @@ impl Channels {
         })
     }
 
+    /// What goroutine `number` asks of channels: one of the requests below.
+    pub fn perform(&mut self, number: u64, request: &Request) -> Result<Outcome, Memory>
+        requires { IsOfChannels (request_of request.now) }
+        ensures does { IfOk result (λ outcome. Does self.old number (request_of request.now) outcome self.new) }
+        ensures memory { OnErr result (self.new ≡ self.old) }
+    {
+        match request {
+            Request::Make(size, zero) => self.make(number, *size, zero.copy()),
+            Request::Send(chan, item) => self.send(number, *chan, item.copy()),
+            Request::Receive(chan) => self.receive(number, *chan),
+            Request::Close(chan) => self.close(*chan),
+            Request::Select(cases, default) => self.select(number, cases.as_slice(), *default),
+            Request::Len(chan) => Ok(self.counted(self.len(*chan))),
+            Request::Cap(chan) => Ok(self.counted(self.cap(*chan))),
+            _ => unreachable!(),
+        }
+    }
+
+    /// The outcome of a request that is told a number.
+    fn counted(&self, number: i64) -> Outcome
+        ensures { IsTold result number }
+    {
+        Outcome::Done(Reply::Word(Word::Int(number)), Vec::new(self.alloc))
+    }
+
     /// A new channel (Go: Making slices, maps and channels). It panics where the size is negative or over 65,536, and
     /// where 65,536 channels were made.
     pub fn make(&mut self, number: u64, size: i64, zero: Item) -> Result<Outcome, Memory>
@@ -70,7 +97,7 @@ impl Channels {
             return Ok(Outcome::Panics(Panic::TooManyChannels, 0));
         }
         self.channels
-            .push(Channel::new(self.alloc, size as usize, zero))?;
+            .push(Channel::new(self.alloc, size as u32, zero))?;
         let reply = Reply::Word(Word::Chan(Some(place as u32)));
         Ok(Outcome::Done(reply, Vec::new(self.alloc)))
     }
@@ -106,6 +133,134 @@ impl Channels {
             return self.sleep(number, Request::Receive(Some(chan)));
         }
         self.receive_now(chan, 0)
+    }
+
+    /// A close (Go: Close): it panics on `nil` and on a closed channel. Each sleeper with an offer on the channel is woken
+    /// by its first one there: a receiver with the zero item, a sender to panic.
+    pub fn close(&mut self, chan: Option<u32>) -> Result<Outcome, Memory>
+        ensures does { IfOk result (λ outcome. (n : ℕ) → Does self.old n (Close chan) outcome self.new) }
+        ensures memory { OnErr result (self.new ≡ self.old) }
+    {
+        let Some(chan) = chan else {
+            return Ok(Outcome::Panics(Panic::CloseOfNil, 0));
+        };
+        if self.is_closed(chan) {
+            return Ok(Outcome::Panics(Panic::CloseOfClosed, 0));
+        }
+        let zero = self.zero(chan);
+        let woken = woken_by_close(self.alloc, self.asleep.as_slice(), chan, &zero)?;
+        leave_all(&mut self.asleep, woken.as_slice());
+        close_channel(self.channels.as_mut_slice(), chan);
+        Ok(Outcome::Done(Reply::Nothing, woken))
+    }
+
+    /// How many items are in a channel's buffer; 0 for `nil` (Go: Length and capacity).
+    pub fn len(&self, chan: Option<u32>) -> i64
+        ensures { result ≡ pos (length_of self.now.channels chan) }
+    {
+        let Some(chan) = chan else {
+            return 0;
+        };
+        match self.channels.get(chan as usize) {
+            Some(channel) => channel.len(),
+            None => 0,
+        }
+    }
+
+    /// A channel's capacity; 0 for `nil` (Go: Length and capacity).
+    pub fn cap(&self, chan: Option<u32>) -> i64
+        ensures { result ≡ pos (capacity_of self.now.channels chan) }
+    {
+        let Some(chan) = chan else {
+            return 0;
+        };
+        match self.channels.get(chan as usize) {
+            Some(channel) => channel.capacity(),
+            None => 0,
+        }
+    }
+
+    #[tactic(auto, using(crate::proofs::Deeds::select_done, crate::proofs::Deeds::select_sleeps, crate::proofs::Deeds::select_nil))]
+    /// A select by goroutine `number` (Go: Select statements): the first clause in source order that is ready is done, else
+    /// the default, else it sleeps with all its clauses, and being served withdraws them all.
+    pub fn select(&mut self, number: u64, cases: &[Case], default: bool) -> Result<Outcome, Memory>
+        ensures does { IfOk result (λ outcome. Does self.old number (Select cases.now default) outcome self.new) }
+        ensures memory { OnErr result (self.new ≡ self.old) }
+    {
+        let Some(place) = self.first_ready(cases) else {
+            if default {
+                return Ok(Outcome::Done(Reply::Default, Vec::new(self.alloc)));
+            }
+            return self.sleep_in_select(number, cases, default);
+        };
+        let Some(outcome) = self.serve(number, &cases[place], place + 1)? else {
+            return self.sleep_in_select(number, cases, default);
+        };
+        Ok(outcome)
+    }
+
+    /// The first clause that is ready, counted from 0.
+    fn first_ready(&self, cases: &[Case]) -> Option<usize>
+        ensures within { IfSome result (λ i. i < length cases.now) }
+        ensures first { (o : Others) (n c : ℕ) (q : AnyRequest) → choose (shared_with o self.now) n c q 1 cases.now ≡ option_map (λ i. (suc i, clause_at cases.now i)) result }
+    {
+        for i in 0..cases.len() {
+            if self.is_ready(&cases[i]) {
+                return Some(i);
+            }
+        }
+        None
+    }
+
+    /// Whether a clause is ready.
+    fn is_ready(&self, case: &Case) -> bool
+        ensures { (o : Others) (n c : ℕ) (q : AnyRequest) → result ≡ is_ready (shared_with o self.now) n c q case.now.chan case.now.item }
+    {
+        let Some(chan) = case.chan else {
+            return false;
+        };
+        match &case.item {
+            Some(_) => self.can_send(chan),
+            None => self.can_receive(chan),
+        }
+    }
+
+    /// A clause that is ready, of this number; none where it is on `nil`.
+    fn serve(&mut self, number: u64, case: &Case, clause: usize) -> Result<Option<Outcome>, Memory>
+        ensures some { IfOk result (λ found. IfSome found (λ outcome. Serves self.old number case.now clause outcome self.new)) }
+        ensures none { IfOk result (λ found. IfNone found ((case.now.chan ≡ None) × (self.new ≡ self.old))) }
+        ensures memory { OnErr result (self.new ≡ self.old) }
+    {
+        let Some(chan) = case.chan else {
+            return Ok(None);
+        };
+        let outcome = match &case.item {
+            Some(item) => self.send_now(number, chan, item.copy(), clause)?,
+            None => self.receive_now(chan, clause)?,
+        };
+        Ok(Some(outcome))
+    }
+
+    /// Goroutine `number` falls asleep at a select.
+    fn sleep_in_select(
+        &mut self,
+        number: u64,
+        cases: &[Case],
+        default: bool,
+    ) -> Result<Outcome, Memory>
+        ensures sleeps { IfOk result (λ outcome. outcome ≡ Outcome.Sleeps) }
+        ensures asleep { OnOk result (self.new ≡ record self.old { asleep = without self.old.asleep number ++ record { number = number; request = Select cases.now default } ∷ [] }) }
+        ensures memory { OnErr result (self.new ≡ self.old) }
+    {
+        let copy = copy_of_cases(self.alloc, cases)?;
+        self.sleep(number, Request::Select(copy, default))
+    }
+
+    /// How many goroutines are asleep.
+    pub fn asleep(&self) -> usize
+        ensures { result ≡ length self.now.asleep }
+    {
+        self.asleep.len()
     }
 
     /// Whether a send on a channel is ready.
@@ -248,6 +403,29 @@ impl Channels {
             None => Item::new(self.alloc, [].as_slice()),
         }
     }
+}
+
+/// Closes a channel.
+fn close_channel(channels: &mut [Channel], chan: u32)
+    ensures { channels.new ≡ slice_set channels.old chan (record (channel_of channels.old chan) { closed = true }) }
+{
+    if (chan as usize) < channels.len() {
+        channels[chan as usize].close();
+    }
+}
+
+/// The clauses once more.
+fn copy_of_cases(alloc: Global, cases: &[Case]) -> Result<Vec<Case>, Memory>
+    ensures { IfOk result (λ copy. copy.items ≡ cases.now) }
+{
+    let mut copy = Vec::new(alloc);
+    for case in cases {
+        copy.push(Case {
+            chan: case.chan,
+            item: copy_of(&case.item),
+        })?;
+    }
+    Ok(copy)
 }
 
 /// Puts an item at the back of a channel's buffer.

@@ -1,13 +1,14 @@
 //! Goroutines that sleep at channels.
 
-ghost use Rattle.std.specs.Prelude.{◌≡◌, ◌+◌, ◌≤◌, [], ◌∷◌, ◌++◌, OnErr, OnOk, option_map, length, vec_capacity, vec_len};
-ghost use Rattle.word.specs.Requests.{clause_offers, first_offer, offers, partner, without};
-ghost use Rattle.word.specs.Views.{request_of};
-ghost use Rattle.channel_core.specs.Channels.{is_offer, partner_of};
+ghost use Rattle.std.specs.Prelude.{◌≡◌, ◌+◌, ◌≤◌, [], ◌∷◌, ◌++◌, IfOk, OnErr, OnOk, option_map, length, vec_capacity, vec_len};
+ghost use Rattle.word.specs.Requests.{clause_offers, close_reply, first_offer, first_on, offers, partner, partners, without, without_all};
+ghost use Rattle.word.specs.Views.{reply_of, request_of};
+ghost use Rattle.channel_core.specs.Channels.{closed_for, is_offer, partner_of};
 
-use std::alloc::AllocError;
+use crate::outcome::Woken;
+use std::alloc::{AllocError, Global};
 use std::marker::Model;
-use word::request::{Case, Request};
+use word::request::{Case, Reply, Request};
 use word::value::Item;
 
 /// A goroutine that sleeps, and what it asked.
@@ -51,6 +52,21 @@ impl Sleeper {
         self.number
     }
 
+    /// What a close of a channel tells it, by its first offer there: a receiver the zero item, a sender that its item is
+    /// not accepted. None where it has no offer there.
+    fn at_close(&self, chan: u32, zero: &Item) -> Option<Reply>
+        ensures { option_map reply_of result ≡ option_map (close_reply zero.now) (first_on chan (offers self.now.request)) }
+    {
+        match &self.request {
+            Request::Send(Some(to), _) if *to == chan => Some(Reply::Closed),
+            Request::Receive(Some(from)) if *from == chan => {
+                Some(Reply::Received(zero.copy(), false))
+            }
+            Request::Select(cases, _) => clause_at_close(cases.as_slice(), chan, zero),
+            _ => None,
+        }
+    }
+
     /// Its first offer on a channel, to send or to receive.
     fn meets(&self, chan: u32, sends: bool) -> Option<Partner>
         ensures { result ≡ option_map (λ (o : Offer). partner_of (self.now, o)) (first_offer chan sends (offers self.now.request)) }
@@ -90,6 +106,22 @@ fn first_clause(number: u64, cases: &[Case], chan: u32, sends: bool) -> Option<P
     None
 }
 
+/// What a close of a channel tells one that sleeps at a select, by its first clause there.
+fn clause_at_close(cases: &[Case], chan: u32, zero: &Item) -> Option<Reply>
+    ensures { option_map reply_of result ≡ option_map (close_reply zero.now) (first_on chan (clause_offers 1 cases.now)) }
+{
+    for i in 0..cases.len() {
+        let case = &cases[i];
+        if case.chan == Some(chan) {
+            if case.item.is_some() {
+                return Some(Reply::Closed);
+            }
+            return Some(Reply::Clause(i + 1, Some((zero.copy(), false))));
+        }
+    }
+    None
+}
+
 /// Whether a clause is on a channel, and is to send or to receive.
 fn is_offer(case: &Case, chan: u32, sends: bool) -> bool
     ensures { result ≡ is_offer chan sends case.now }
@@ -98,7 +130,7 @@ fn is_offer(case: &Case, chan: u32, sends: bool) -> bool
 }
 
 /// A second item that is the same.
-fn copy_of(item: &Option<Item>) -> Option<Item>
+pub fn copy_of(item: &Option<Item>) -> Option<Item>
     ensures { result ≡ item.now }
 {
     match item {
@@ -126,6 +158,33 @@ pub fn leave(asleep: &mut Vec<Sleeper>, number: u64)
     ensures room { vec_capacity asleep.new ≡ vec_capacity asleep.old }
 {
     asleep.retain(|sleeper| sleeper.number() != number);
+}
+
+/// Those who are woken by a close of a channel, and what they are told.
+pub fn woken_by_close(
+    alloc: Global,
+    asleep: &[Sleeper],
+    chan: u32,
+    zero: &Item,
+) -> Result<Vec<Woken>, AllocError>
+    ensures { IfOk result (λ woken. woken.items ≡ closed_for zero.now (partners chan asleep.now)) }
+{
+    let mut woken = Vec::new(alloc);
+    for sleeper in asleep {
+        if let Some(reply) = sleeper.at_close(chan, zero) {
+            woken.push(Woken::new(sleeper.number(), reply))?;
+        }
+    }
+    Ok(woken)
+}
+
+/// Takes out all those who are woken.
+pub fn leave_all(asleep: &mut Vec<Sleeper>, woken: &[Woken])
+    ensures { asleep.new.items ≡ without_all asleep.old.items woken.now }
+{
+    for one in woken {
+        leave(asleep, one.number());
+    }
 }
 
 /// Puts one at the back, in place of any of its number.

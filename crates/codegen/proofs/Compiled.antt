@@ -12,8 +12,6 @@ use Rattle.syntax.specs.Tree.{Statement, statements, statements_in, Function, Fi
 use Rattle.syntax.proofs.Lists.{statements_in-statements}
 use Rattle.syntax.specs.Measures.{most_entries}
 use Rattle.checker.specs.Built.{function_in}
-use Rattle.codegen.proofs.Alone.{file_alone}
-use Rattle.word.specs.Kinds.{AsksNoOther}
 use Rattle.word.specs.Worlds.{Equal}
 
 same_code : (file : File) (read : Function) (list : List Statement) → read.body ≡ statements list → read ≡ function_in file → code_with read.name list ≡ code_of file
@@ -28,6 +26,3 @@ compiled_equal file read list code is body same program =
 pub compiled_verified : (file : File) (read : Function) (list : List Statement) (code : Code) → code ≡ code_with read.name list → read.body ≡ statements list → read ≡ function_in file → IsProgram file → most_entries file ≤ 64 → IsVerified code
 compiled_verified file read list code is body same program most =
     subst IsVerified (sym (is ∙ same_code file read list body same)) (is_verified file program.main most)
-
-pub compiled_alone : (file : File) (read : Function) (list : List Statement) (code : Code) → code ≡ code_with read.name list → read.body ≡ statements list → read ≡ function_in file → AsksNoOther (code_kind code)
-compiled_alone file read list code is body same = subst (λ (c : Code). AsksNoOther (code_kind c)) (sym (is ∙ same_code file read list body same)) (file_alone file)

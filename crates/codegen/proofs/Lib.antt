@@ -4,4 +4,3 @@ pub mod Follows
 pub mod Fine
 pub mod Compiled
 pub mod Parts
-pub mod Alone

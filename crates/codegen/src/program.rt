@@ -10,7 +10,6 @@ ghost use Rattle.codegen.specs.Generated.{code_with};
 ghost use Rattle.syntax.specs.Measures.{most_entries, statement_size};
 ghost use Rattle.syntax.specs.Spans.{tree_of};
 ghost use Rattle.syntax.specs.View.{statement_of, name_of};
-ghost use Rattle.word.specs.Kinds.{AsksNoOther};
 ghost use Rattle.word.specs.Worlds.{Equal};
 
 use crate::generate::put_body;
@@ -37,15 +36,13 @@ fn generate(alloc: Global, function: &FunctionNode) -> Result<Code, AllocError>
     Ok(Code::new(functions, Vec::new(alloc), prints))
 }
 
-/// The code of a checked program, which does what the source does and keeps all rules of the verifier. Its goroutines ask
-/// nothing of each other.
+/// The code of a checked program, which does what the source does and keeps all rules of the verifier.
 ///
 /// Errors: only `Memory`.
 pub fn compile(alloc: Global, typed: &Typed) -> Result<Code, Fault>
     requires { most_entries (tree_of (tree_in typed.now)) ≤ 64 }
     ensures equal { IfOk result (λ code. Equal (source_kind (tree_of (tree_in typed.now))) (code_kind code)) }
     ensures verified { IfOk result IsVerified }
-    ensures alone { IfOk result (λ code. AsksNoOther (code_kind code)) }
     ensures memory { IfErr result (λ fault. fault ≡ Fault.Memory) }
 {
     let code = generate(alloc, typed.function())?;

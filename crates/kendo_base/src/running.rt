@@ -6,7 +6,6 @@ ghost use Rattle.checker.specs.Source.{source_kind};
 ghost use Rattle.checker.specs.Typed.{tree_in};
 ghost use Rattle.syntax.specs.Spans.{tree_of};
 ghost use Rattle.syntax.specs.Measures.{most_entries};
-ghost use Rattle.word.specs.Kinds.{AsksNoOther};
 ghost use Rattle.kendo_base.specs.Runs.{BeginsOutput, HasEnded, IsInStep, IsLimit, IsSameRun, IsWhole, Written};
 
 use book::{Book, Settled};
@@ -53,7 +52,6 @@ fn run_verified<R: Wait, O: Write>(
     out: &mut O,
 ) -> Result<End, Fault>
     requires limit { IsLimit limit }
-    requires alone { AsksNoOther (code_kind program) }
     ensures begins { BeginsOutput (code_kind program) limit (O.contents out.old) (O.contents out.new) }
     ensures whole { IfOk result (λ end. IsWhole (code_kind program) limit (O.contents out.old) (O.contents out.new) end) }
     ensures write { IsErrOf result Fault.Write → O.has_failed out.new ≡ true }

@@ -1,8 +1,9 @@
 use Rattle.std.proofs.Common.{◌≡◌, ◌++◌, ◌<◌, ◌≤◌, ◌^◌, ◌∙◌, length, sym, subst, ap, arith, refl}
 use Rattle.std.specs.Arc.{arc_value}
 use Rattle.bytecode.specs.Code.{Code}
-use Rattle.book.specs.Cores.{Performs, bytes_of}
-use Rattle.book.specs.Desks.{Desk, HasTurn, FitsAll}
+use Rattle.world_core.specs.Cores.{Performs, bytes_of}
+use Rattle.world_core.specs.Cores.{FitsCore, HasTurn}
+use Rattle.book.specs.Desks.{Desk}
 use Rattle.book.proofs.Books.{asks_at, commits}
 use Rattle.book.proofs.book_model.Book.commit.Goals as goal
 
@@ -21,7 +22,7 @@ invariant_of-self-2 c =
     let new = c.perform.new.self in
     let turn : HasTurn d.core c.args.number = subst (λ (x : Desk). HasTurn x.core c.args.number) (sym c.self.view_is) c.requires in
     let done : Performs d.code d.limit d.core c.args.number event (bytes_of event) new = subst (λ (code : Code). Performs code d.limit d.core c.args.number event (bytes_of event) new) c.deref.ensures c.in_ok-event.ensures.performs in
-    let fits : FitsAll d.code d.limit d.core.rows → FitsAll d.code d.limit new.rows = subst (λ (code : Code). FitsAll code d.limit d.core.rows → FitsAll code d.limit new.rows) c.deref.ensures c.in_ok-event.ensures.fits in
+    let fits : FitsCore d.code d.limit new = subst (λ (code : Code). FitsCore code d.limit new) c.deref.ensures c.in_ok-event.ensures.fits in
     let out = c.in_ok-event.ensures.output in
     let small = c.perform.new.output.small in
     let long = ap length out in
@@ -39,7 +40,7 @@ returns-clause-settles c =
     let new = c.perform.new.self in
     let turn : HasTurn d.core c.args.number = subst (λ (x : Desk). HasTurn x.core c.args.number) (sym c.self.view_is) c.requires in
     let done : Performs d.code d.limit d.core c.args.number event (bytes_of event) new = subst (λ (code : Code). Performs code d.limit d.core c.args.number event (bytes_of event) new) c.deref.ensures c.in_ok-event.ensures.performs in
-    let fits : FitsAll d.code d.limit d.core.rows → FitsAll d.code d.limit new.rows = subst (λ (code : Code). FitsAll code d.limit d.core.rows → FitsAll code d.limit new.rows) c.deref.ensures c.in_ok-event.ensures.fits in
+    let fits : FitsCore d.code d.limit new = subst (λ (code : Code). FitsCore code d.limit new) c.deref.ensures c.in_ok-event.ensures.fits in
     let out = c.in_ok-event.ensures.output in
     let small = c.perform.new.output.small in
     let long = ap length out in

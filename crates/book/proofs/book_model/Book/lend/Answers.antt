@@ -2,7 +2,7 @@ use Rattle.std.proofs.Common.{◌≡◌, Some, refl, sym, subst, ◌∙◌}
 use Rattle.std.specs.Prelude.{slice_set}
 use Rattle.std.specs.Arc.{arc_value}
 use Rattle.book.specs.Desks.{Desk}
-use Rattle.book.specs.Slots.{lent_row}
+use Rattle.world_core.specs.Slots.{lent_row}
 use Rattle.book.proofs.Books.{lent_is_desk, lent_is_lent}
 use Rattle.book.proofs.book_model.Book.lend.Goals as goal
 

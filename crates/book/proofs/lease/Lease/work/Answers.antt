@@ -3,7 +3,7 @@ use Rattle.bytecode.specs.Code.{Code}
 use Rattle.goroutine_vm.specs.Advance.{IsStateOf, Goes}
 use Rattle.std.specs.Arc.{arc_value}
 use Rattle.book.specs.Desks.{Held}
-use Rattle.book.proofs.Leases.{leads_goes}
+use Rattle.world_core.proofs.Leases.{leads_goes}
 use Rattle.book.proofs.lease.Lease.work.Goals as goal
 
 pub invariant_of-self : goal.invariant_of-self
