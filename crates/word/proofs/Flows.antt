@@ -44,7 +44,7 @@ received_snoc c [] e = append-nil (leaves c (deal e) e.partners)
 received_snoc c (x ∷ es) e = ap (λ l. leaves c (deal x) x.partners ++ l) (received_snoc c es e) ∙ sym (append_assoc (leaves c (deal x) x.partners) (received c es) (leaves c (deal e) e.partners))
 
 -- the partner's offer is its first one
-partner_first : (c : ℕ) (sends : Bool) (ss : List Sleeper) (p : Sleeper × Offer) → partner c sends ss ≡ Some p → first_offer c sends (offers p.0.request) ≡ Some p.1
+pub partner_first : (c : ℕ) (sends : Bool) (ss : List Sleeper) (p : Sleeper × Offer) → partner c sends ss ≡ Some p → first_offer c sends (offers p.0.request) ≡ Some p.1
 partner_first c sends [] p h = cc
 partner_first c sends (s ∷ ss) p h = go (partner_first c sends ss p) (first_offer c sends (offers s.request)) refl h
   where
@@ -326,12 +326,12 @@ module _ (w : Shared) (n c : ℕ) (q : Request) (sw : IsSound w) where
       go false = sound_on w.asleep w.channels (Done Nothing) ((w.made + 1) ∷ []) refl (λ x i. i) (λ k x f i t. sw.calm k x f i t) (λ j. subst (λ z. Ord j z ((w.made + 1) ∷ []) (its j)) (sym d) (idle (accepted j w.events) (received j w.events) (its j) (sw.order j)))
 
 pub record Chosen (w : Shared) (n c : ℕ) (q : Request) (xs : List Case) (j : ℕ) (y : ℕ × Case) : Type 0 where
-  k : ℕ
-  is : y.0 ≡ suc (j + k)
-  deals : (g : Option (Item × Bool)) → case_deal xs (suc k) g ≡ clause_deal y.1.chan y.1.item g
-  ready : is_ready w n c q y.1.chan y.1.item ≡ true
+  pub k : ℕ
+  pub is : y.0 ≡ suc (j + k)
+  pub deals : (g : Option (Item × Bool)) → case_deal xs (suc k) g ≡ clause_deal y.1.chan y.1.item g
+  pub ready : is_ready w n c q y.1.chan y.1.item ≡ true
 
-chosen : (w : Shared) (n c : ℕ) (q : Request) (xs : List Case) (j : ℕ) (y : ℕ × Case) → choose w n c q (suc j) xs ≡ Some y → Chosen w n c q xs j y
+pub chosen : (w : Shared) (n c : ℕ) (q : Request) (xs : List Case) (j : ℕ) (y : ℕ × Case) → choose w n c q (suc j) xs ≡ Some y → Chosen w n c q xs j y
 chosen w n c q [] j y h = cc
 chosen w n c q (x ∷ xs) j y h = go (chosen w n c q xs (suc j) y) (is_ready w n c q x.chan x.item) refl h
   where

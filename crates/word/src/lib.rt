@@ -3,6 +3,7 @@
 
 ghost use Rattle.std.specs.Prelude.{List, ℕ};
 ghost use Rattle.turn_rule.specs.Schedule.{Laws};
+ghost use Rattle.word.specs.Closing.{IsShut};
 ghost use Rattle.word.specs.Flow.{InOrder};
 ghost use Rattle.word.specs.Kinds.{Next};
 ghost use Rattle.word.specs.Related.{IsKept, Parts, kind_of};
@@ -31,8 +32,9 @@ pub fn related_kinds_are_equal<S, T, P>()
 {}
 
 /// At every moment each channel has delivered what it accepted, once and in order, but for what is in its buffer; one
-/// sender's items in the order in which they were offered.
+/// sender's items in the order in which they were offered; and nothing is accepted after a close.
 pub fn channels_deliver_in_order<S>()
     ensures order { (K : Parts S) (limit n : ℕ) → InOrder (moment (kind_of K) limit n).shared.shared }
     ensures rising { (K : Parts S) (limit n : ℕ) → IsRising (moment (kind_of K) limit n).shared.shared }
+    ensures shut { (K : Parts S) (limit n : ℕ) → IsShut (moment (kind_of K) limit n).shared.shared }
 {}

@@ -12,6 +12,7 @@ use Rattle.turn_rule.specs.Turns.{Rules}
 use Rattle.turn_rule.specs.Schedule.{Machine, give_back, has_turn, happens, lend, local, look, opened, parked_clock, perform_row, publish, schedule}
 use Rattle.word.specs.declared.end.End.{End as Ending}
 use Rattle.word.specs.declared.end.End.TheVariants.{Deadlock}
+use Rattle.word.specs.Closing.{ShutAfter}
 use Rattle.word.specs.Flow.{accepted, received}
 use Rattle.word.specs.Requests.{channel_of}
 use Rattle.word.specs.Rising.{Rises, entries}
@@ -98,8 +99,9 @@ pub record IsMoment (code : Code) (limit : ℕ) (w : WorldValue) : Type 0 where
   pub output : w.output ≡ (moment (code_kind code) limit moves).shared.shared.output
   pub ending : end_in w.core ≡ end_of (moment (code_kind code) limit moves)
 
--- first in, first out: what a channel accepted is what was received and then its buffer, and one sender's items come in the
--- order in which they were offered
+-- first in, first out: what a channel accepted is what was received and then its buffer, one sender's items come in the
+-- order in which they were offered, and nothing is accepted after a close
 pub record IsFirstInFirstOut (w : WorldValue) : Type 0 where
   pub order : (c : ℕ) → accepted c w.events ≡ received c w.events ++ (channel_of w.core.channels.channels c).items
   pub rising : (c : ℕ) → Rises (entries c w.events)
+  pub shut : (c : ℕ) → ShutAfter c [] w.events
