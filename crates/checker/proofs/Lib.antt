@@ -1,7 +1,4 @@
-pub mod Large
-pub mod Parts
-pub mod Left
 pub mod Sizes
+pub mod Bodies
 pub mod Nodes
 pub mod Fits
-pub mod Function

@@ -1,76 +1,55 @@
--- Which part of the language is compiled today: one function without parameters and result, of empty statements and
--- `println` of sums and differences of integers.
-use Rattle.std.specs.Prelude.{◌≡◌, ℕ, Bool, true, false, Option, Some, None, List, [], ◌∷◌}
-use Rattle.syntax.specs.declared.node.UnaryOperator.{UnaryOperator}
-use Rattle.syntax.specs.declared.node.UnaryOperator.TheVariants.{Negate}
-use Rattle.syntax.specs.declared.node.BinaryOperator.{BinaryOperator}
-use Rattle.syntax.specs.declared.node.BinaryOperator.TheVariants.{Add, Subtract}
-use Rattle.syntax.specs.Tree.{Expression, Integer, Parenthesized, Unary, Binary, Part, Value, Simple, Print, Statement, Empty, Alone, Statements, NoStatement, statements_in, Function, Top, StructTop, FunctionTop, File}
+-- Which part of the language is compiled today: functions without a result, whose statements print, declare or assign one
+-- variable, send, receive, or start a goroutine.
+use Rattle.std.specs.Prelude.{ℕ, Bool, true, false, ◌&&◌, Option, Some, None, List, [], ◌∷◌, IsTrue}
+use Rattle.syntax.specs.Tree.{Part, Value, Text, Statement, statements_in, Declared, Function, Top, StructTop, FunctionTop, File}
+use Rattle.checker.specs.Actions.{Origin, FromValue, FromReceive, FromMake, Action, Idles, Prints, Sends, Receives, Sets, Starts, action}
+use Rattle.checker_base.specs.Expressions.{is_built_expression}
+use Rattle.checker_base.specs.Types.{is_built_type}
 
--- what holds of all
-abbrev pub AreAll : {A : Type 0} → (A → Type 0) → List A → Type 0
-AreAll P [] = Unit {0}
-AreAll P (first ∷ rest) = P first × AreAll P rest
+-- whether all are so
+abbrev pub are_all : {A : Type 0} → (A → Bool) → List A → Bool
+are_all p [] = true
+are_all p (first ∷ rest) = p first && are_all p rest
 
-abbrev pub IsBuiltUnary : UnaryOperator → Type 0
-IsBuiltUnary Negate = Unit {0}
-IsBuiltUnary operator = ⊥
+abbrev pub is_built_part : Part → Bool
+is_built_part (Value value) = is_built_expression value
+is_built_part (Text bytes) = true
 
-abbrev pub IsBuiltBinary : BinaryOperator → Type 0
-IsBuiltBinary Add = Unit {0}
-IsBuiltBinary Subtract = Unit {0}
-IsBuiltBinary operator = ⊥
+abbrev pub is_built_origin : Origin → Bool
+is_built_origin (FromValue value) = is_built_expression value
+is_built_origin (FromReceive channel) = is_built_expression channel
+is_built_origin (FromMake channel) = is_built_type channel
 
-abbrev pub IsBuiltExpression : Expression → Type 0
-IsBuiltExpression (Integer value) = Unit {0}
-IsBuiltExpression (Parenthesized inner) = IsBuiltExpression inner
-IsBuiltExpression (Unary operator operand) = IsBuiltUnary operator × IsBuiltExpression operand
-IsBuiltExpression (Binary operator left right) = IsBuiltBinary operator × IsBuiltExpression left × IsBuiltExpression right
-IsBuiltExpression expression = ⊥
+abbrev pub is_built_action : Action → Bool
+is_built_action Idles = true
+is_built_action (Prints line parts) = are_all is_built_part parts
+is_built_action (Sends channel value) = is_built_expression channel && is_built_expression value
+is_built_action (Receives channel) = is_built_expression channel
+is_built_action (Sets target origin) = is_built_origin origin
+is_built_action (Starts function arguments) = are_all is_built_expression arguments
 
-abbrev pub IsBuiltPart : Part → Type 0
-IsBuiltPart (Value value) = IsBuiltExpression value
-IsBuiltPart part = ⊥
+abbrev pub is_built_in : Option Action → Bool
+is_built_in None = false
+is_built_in (Some action) = is_built_action action
 
-abbrev pub IsBuiltSimple : Simple → Type 0
-IsBuiltSimple (Print true parts trailing) = AreAll IsBuiltPart parts
-IsBuiltSimple simple = ⊥
+abbrev pub is_built_statement : Statement → Bool
+is_built_statement statement = is_built_in (action statement)
 
-abbrev pub IsBuiltStatement : Statement → Type 0
-IsBuiltStatement Empty = Unit {0}
-IsBuiltStatement (Alone simple) = IsBuiltSimple simple
-IsBuiltStatement statement = ⊥
+abbrev pub is_built_parameter : Declared → Bool
+is_built_parameter declared = is_built_type declared.kind
 
--- nothing is there
-abbrev pub IsEmpty : {A : Type 0} → List A → Type 0
-IsEmpty [] = Unit {0}
-IsEmpty (first ∷ rest) = ⊥
+abbrev pub is_absent : {A : Type 0} → Option A → Bool
+is_absent None = true
+is_absent (Some x) = false
 
-abbrev pub IsAbsent : {A : Type 0} → Option A → Type 0
-IsAbsent None = Unit {0}
-IsAbsent (Some x) = ⊥
+abbrev pub is_built_function : Function → Bool
+is_built_function function =
+    are_all is_built_parameter function.parameters && is_absent function.result && are_all is_built_statement (statements_in function.body)
 
--- neither parameters nor a result
-abbrev pub IsBuiltFunction : Function → Type 0
-IsBuiltFunction function =
-    IsEmpty function.parameters × IsAbsent function.result × AreAll IsBuiltStatement (statements_in function.body)
-
-abbrev pub AreBuiltTops : List Top → Type 0
-AreBuiltTops (FunctionTop function ∷ []) = IsBuiltFunction function
-AreBuiltTops tops = ⊥
+abbrev pub is_built_top : Top → Bool
+is_built_top (StructTop struct) = false
+is_built_top (FunctionTop function) = is_built_function function
 
 -- the file is of the part of the language that is compiled today
 abbrev pub IsBuilt : File → Type 0
-IsBuilt file = AreBuiltTops file.tops
-
-abbrev pub nothing : Function
-nothing = record { name = []; parameters = []; trailing = false; result = None; body = NoStatement }
-
-abbrev pub first_function : List Top → Function
-first_function [] = nothing
-first_function (StructTop struct ∷ rest) = first_function rest
-first_function (FunctionTop function ∷ rest) = function
-
--- the first function of a file
-abbrev pub function_in : File → Function
-function_in file = first_function file.tops
+IsBuilt file = IsTrue (are_all is_built_top file.tops)

@@ -1,7 +1,7 @@
+pub mod Actions
 pub mod Built
-pub mod Constants
 pub mod Rules
 pub mod Program
 pub mod Typed
 pub mod Source
-pub mod OneWay
+pub mod Refusals

@@ -1,14 +1,19 @@
 //! The part of the language that is compiled today.
 
-ghost use Rattle.std.specs.Prelude.{◌≡◌, ℕ, ◌+◌, ◌^◌, ◌<◌, ◌≤◌, ◌↔◌, IsTrue, IfOk, IfErr, map, option_map, sum_by};
-ghost use Rattle.syntax.specs.Measures.{expression_size, part_size, statement_size, function_size, size};
-ghost use Rattle.syntax.specs.View.{type_of, declared_of, expression_of, part_of, statement_of, function_of, file_of};
-ghost use Rattle.checker.specs.Built.{AreAll, IsBuiltExpression, IsBuiltPart, IsBuiltStatement, IsEmpty, IsAbsent, IsBuiltFunction, IsBuilt, function_in};
+ghost use Rattle.std.specs.Prelude.{◌≡◌, ℕ, ◌+◌, ◌^◌, ◌<◌, ◌≤◌, IsTrue, IfOk, IfErr, map, option_map, sum_by};
+ghost use Rattle.checker_base.specs.Expressions.{is_built_expression};
+ghost use Rattle.checker_base.specs.Types.{is_built_type};
+ghost use Rattle.syntax.specs.Measures.{type_size, expression_size, part_size, statement_size, declared_size, function_size, top_size, size};
+ghost use Rattle.syntax.specs.View.{type_of, declared_of, expression_of, part_of, statement_of, function_of, top_of, file_of};
+ghost use Rattle.checker.specs.Actions.{origin_of, action_of, target_size, origin_size, action_size, target_of};
+ghost use Rattle.checker.specs.Built.{are_all, is_built_part, is_built_origin, is_built_action, is_built_statement, is_built_parameter, is_built_function, is_built_top, IsBuilt};
 
-use crate::size::expression_size;
+use crate::action::{Action, Origin, Target, action_in};
+use crate::size::{expression_size, type_size};
+use checker_base::types::is_built_type;
 use syntax::{
     BinaryOperator, DeclaredNode, ExpressionNode, FileNode, FunctionNode, NodeId, PartNode,
-    SimpleNode, StatementNode, TopNode, TypeNode, UnaryOperator,
+    StatementNode, TopNode, TypeNode, UnaryOperator,
 };
 
 /// The number behind an expression whose nodes have numbers from `first` on.
@@ -16,13 +21,20 @@ use syntax::{
 /// Errors: the first node by its first byte that is not built yet.
 fn expression(first: NodeId, expression: &ExpressionNode) -> Result<NodeId, NodeId>
     requires { first + expression_size (expression_of expression.now) < 2 ^ 32 }
-    ensures built { IfOk result (λ end. IsBuiltExpression (expression_of expression.now)) }
+    ensures built { IfOk result (λ end. IsTrue (is_built_expression (expression_of expression.now))) }
     ensures end { IfOk result (λ end. end ≡ first + expression_size (expression_of expression.now)) }
-    ensures other { IfErr result (λ node. ¬ (IsBuiltExpression (expression_of expression.now))) }
+    ensures other { IfErr result (λ node. ¬ (IsTrue (is_built_expression (expression_of expression.now)))) }
     ensures node { IfErr result (λ node. node < first + expression_size (expression_of expression.now)) }
 {
     match expression {
         ExpressionNode::Integer(_) => Ok(first + 1),
+        ExpressionNode::Named(name) => {
+            if name.bytes.as_slice() == b"nil".as_slice() {
+                Err(first)
+            } else {
+                Ok(first + 1)
+            }
+        }
         ExpressionNode::Parenthesized(inner) => Ok(crate::built::expression(first, inner)? + 1),
         ExpressionNode::Unary(UnaryOperator::Negate, operand) => {
             Ok(crate::built::expression(first, operand)? + 1)
@@ -35,55 +47,144 @@ fn expression(first: NodeId, expression: &ExpressionNode) -> Result<NodeId, Node
     }
 }
 
-/// The number behind an argument whose nodes have numbers from `first` on.
+/// The number behind a type whose nodes have numbers from `first` on.
+///
+/// Errors: the type's own node, where it is not built yet.
+fn kind(first: NodeId, kind: &TypeNode) -> Result<NodeId, NodeId>
+    requires { first + type_size (type_of kind.now) < 2 ^ 32 }
+    ensures built { IfOk result (λ end. IsTrue (is_built_type (type_of kind.now))) }
+    ensures end { IfOk result (λ end. end ≡ first + type_size (type_of kind.now)) }
+    ensures other { IfErr result (λ node. ¬ (IsTrue (is_built_type (type_of kind.now)))) }
+    ensures node { IfErr result (λ node. node < first + type_size (type_of kind.now)) }
+{
+    let end = first + type_size(kind);
+    if is_built_type(kind) {
+        Ok(end)
+    } else {
+        Err(end - 1)
+    }
+}
+
+/// The number behind an argument of a print whose nodes have numbers from `first` on.
 ///
 /// Errors: the first node by its first byte that is not built yet.
 fn part(first: NodeId, part: &PartNode) -> Result<NodeId, NodeId>
     requires { first + part_size (part_of part.now) < 2 ^ 32 }
-    ensures built { IfOk result (λ end. IsBuiltPart (part_of part.now)) }
+    ensures built { IfOk result (λ end. IsTrue (is_built_part (part_of part.now))) }
     ensures end { IfOk result (λ end. end ≡ first + part_size (part_of part.now)) }
-    ensures other { IfErr result (λ node. ¬ (IsBuiltPart (part_of part.now))) }
+    ensures other { IfErr result (λ node. ¬ (IsTrue (is_built_part (part_of part.now)))) }
     ensures node { IfErr result (λ node. node < first + part_size (part_of part.now)) }
 {
     match part {
         PartNode::Value(value) => expression(first, value),
-        PartNode::Text(_) => Err(first),
+        PartNode::Text(_) => Ok(first + 1),
     }
+}
+
+/// The number behind arguments of a print whose nodes have numbers from `first` on.
+///
+/// Errors: the first node by its first byte that is not built yet.
+fn parts(first: NodeId, parts: &[PartNode]) -> Result<NodeId, NodeId>
+    requires { first + sum_by part_size (map part_of parts.now) < 2 ^ 32 }
+    ensures built { IfOk result (λ end. IsTrue (are_all is_built_part (map part_of parts.now))) }
+    ensures end { IfOk result (λ end. end ≡ first + sum_by part_size (map part_of parts.now)) }
+    ensures other { IfErr result (λ node. ¬ (IsTrue (are_all is_built_part (map part_of parts.now)))) }
+    ensures node { IfErr result (λ node. node < first + sum_by part_size (map part_of parts.now)) }
+{
+    let Some((one, rest)) = parts.split_first() else {
+        return Ok(first);
+    };
+    let middle = part(first, one)?;
+    let end = crate::built::parts(middle, rest)?;
+    Ok(end)
 }
 
 /// The number behind arguments whose nodes have numbers from `first` on.
 ///
 /// Errors: the first node by its first byte that is not built yet.
-fn parts(first: NodeId, parts: &[PartNode]) -> Result<NodeId, NodeId>
-    requires { first + sum_by part_size (map part_of parts.now) < 2 ^ 32 }
-    ensures built { IfOk result (λ end. AreAll IsBuiltPart (map part_of parts.now)) }
-    ensures end { IfOk result (λ end. end ≡ first + sum_by part_size (map part_of parts.now)) }
-    ensures other { IfErr result (λ node. ¬ (AreAll IsBuiltPart (map part_of parts.now))) }
-    ensures node { IfErr result (λ node. node < first + sum_by part_size (map part_of parts.now)) }
+fn values(first: NodeId, values: &[ExpressionNode]) -> Result<NodeId, NodeId>
+    requires { first + sum_by expression_size (map expression_of values.now) < 2 ^ 32 }
+    ensures built { IfOk result (λ end. IsTrue (are_all is_built_expression (map expression_of values.now))) }
+    ensures end { IfOk result (λ end. end ≡ first + sum_by expression_size (map expression_of values.now)) }
+    ensures other { IfErr result (λ node. ¬ (IsTrue (are_all is_built_expression (map expression_of values.now)))) }
+    ensures node { IfErr result (λ node. node < first + sum_by expression_size (map expression_of values.now)) }
 {
-    let mut end = first;
-    for one in parts {
-        end = part(end, one)?;
-    }
+    let Some((one, rest)) = values.split_first() else {
+        return Ok(first);
+    };
+    let middle = expression(first, one)?;
+    let end = crate::built::values(middle, rest)?;
     Ok(end)
+}
+
+/// The number behind what a value comes from, whose nodes have numbers from `first` on.
+///
+/// Errors: the first node by its first byte that is not built yet.
+fn origin(first: NodeId, origin: &Origin<'_>) -> Result<NodeId, NodeId>
+    requires { first + origin_size (origin_of origin.now) < 2 ^ 32 }
+    ensures built { IfOk result (λ end. IsTrue (is_built_origin (origin_of origin.now))) }
+    ensures end { IfOk result (λ end. end ≡ first + origin_size (origin_of origin.now)) }
+    ensures other { IfErr result (λ node. ¬ (IsTrue (is_built_origin (origin_of origin.now)))) }
+    ensures node { IfErr result (λ node. node < first + origin_size (origin_of origin.now)) }
+{
+    match origin {
+        Origin::Value(value) => expression(first, value),
+        Origin::Receive(channel) => Ok(expression(first, channel)? + 1),
+        Origin::Make(made) => Ok(kind(first, made)? + 1),
+    }
+}
+
+/// The first node of the value that goes to a variable.
+fn behind(first: NodeId, target: &Target<'_>) -> NodeId
+    requires { first + target_size (target_of target.now) < 2 ^ 32 }
+    ensures { result ≡ first + target_size (target_of target.now) }
+{
+    match target {
+        Target::Declares(_) => first,
+        Target::Assigns(_) => first + 1,
+    }
+}
+
+/// The number behind an action whose statement's nodes have numbers from `first` on.
+///
+/// Errors: the first node by its first byte that is not built yet.
+fn act(first: NodeId, action: &Action<'_>) -> Result<NodeId, NodeId>
+    requires { first + action_size (action_of action.now) < 2 ^ 32 }
+    ensures built { IfOk result (λ end. IsTrue (is_built_action (action_of action.now))) }
+    ensures end { IfOk result (λ end. end ≡ first + action_size (action_of action.now)) }
+    ensures other { IfErr result (λ node. ¬ (IsTrue (is_built_action (action_of action.now)))) }
+    ensures node { IfErr result (λ node. node < first + action_size (action_of action.now)) }
+{
+    match action {
+        Action::Idle => Ok(first + 1),
+        Action::Print(_, all) => Ok(parts(first, all)? + 1),
+        Action::Send(channel, value) => {
+            let middle = expression(first, channel)?;
+            Ok(expression(middle, value)? + 1)
+        }
+        Action::Receive(channel) => Ok(expression(first, channel)? + 1),
+        Action::Set(target, from) => Ok(origin(behind(first, target), from)? + 1),
+        Action::Start(_, arguments) => Ok(values(first, arguments)? + 1),
+    }
 }
 
 /// The number behind a statement whose nodes have numbers from `first` on.
 ///
 /// Errors: the first node by its first byte that is not built yet; of a statement that is not, the first node in it.
+#[tactic(auto, using(crate::proofs::Sizes::action_size_is, crate::proofs::Sizes::statement_positive))]
 fn statement(first: NodeId, statement: &StatementNode) -> Result<NodeId, NodeId>
     requires { first + statement_size (statement_of statement.now) < 2 ^ 32 }
-    ensures built { IfOk result (λ end. IsBuiltStatement (statement_of statement.now)) }
+    ensures built { IfOk result (λ end. IsTrue (is_built_statement (statement_of statement.now))) }
     ensures end { IfOk result (λ end. end ≡ first + statement_size (statement_of statement.now)) }
-    ensures other { IfErr result (λ node. ¬ (IsBuiltStatement (statement_of statement.now))) }
+    ensures other { IfErr result (λ node. ¬ (IsTrue (is_built_statement (statement_of statement.now)))) }
     ensures node { IfErr result (λ node. node < first + statement_size (statement_of statement.now)) }
 {
-    match statement {
-        StatementNode::Empty => Ok(first + 1),
-        StatementNode::Simple(SimpleNode::Print(true, all, _)) => {
-            Ok(parts(first, all.as_slice())? + 1)
+    match action_in(statement) {
+        Some(action) => {
+            let end = act(first, &action)?;
+            Ok(end)
         }
-        _ => Err(first),
+        None => Err(first),
     }
 }
 
@@ -92,9 +193,9 @@ fn statement(first: NodeId, statement: &StatementNode) -> Result<NodeId, NodeId>
 /// Errors: the first node by its first byte that is not built yet.
 fn statements(first: NodeId, statements: &[StatementNode]) -> Result<NodeId, NodeId>
     requires { first + sum_by statement_size (map statement_of statements.now) < 2 ^ 32 }
-    ensures built { IfOk result (λ end. AreAll IsBuiltStatement (map statement_of statements.now)) }
+    ensures built { IfOk result (λ end. IsTrue (are_all is_built_statement (map statement_of statements.now))) }
     ensures end { IfOk result (λ end. end ≡ first + sum_by statement_size (map statement_of statements.now)) }
-    ensures other { IfErr result (λ node. ¬ (AreAll IsBuiltStatement (map statement_of statements.now))) }
+    ensures other { IfErr result (λ node. ¬ (IsTrue (are_all is_built_statement (map statement_of statements.now)))) }
     ensures node { IfErr result (λ node. node < first + sum_by statement_size (map statement_of statements.now)) }
 {
     let mut end = first;
@@ -104,64 +205,70 @@ fn statements(first: NodeId, statements: &[StatementNode]) -> Result<NodeId, Nod
     Ok(end)
 }
 
-/// Whether these are no parameters.
-fn has_no_parameters(parameters: &[DeclaredNode]) -> bool
-    ensures { IsTrue result ↔ IsEmpty (map declared_of parameters.now) }
-{
-    match parameters {
-        [] => true,
-        _ => false,
-    }
-}
-
-/// Whether this is no result.
-fn has_no_result(kind: &Option<TypeNode>) -> bool
-    ensures { IsTrue result ↔ IsAbsent (option_map type_of kind.now) }
-{
-    match kind {
-        None => true,
-        Some(_) => false,
-    }
-}
-
-/// How many nodes the statements of a function have.
+/// The number behind parameters whose nodes have numbers from `first` on.
 ///
-/// Errors: the first node by its first byte that is not built yet; of parameters or a result, the first one below the
-/// function.
-fn function(function: &FunctionNode) -> Result<NodeId, NodeId>
-    requires { function_size (function_of function.now) < 2 ^ 32 }
-    ensures built { IfOk result (λ end. IsBuiltFunction (function_of function.now)) }
-    ensures statements { IfOk result (λ end. AreAll IsBuiltStatement (map statement_of function.now.body.items)) }
-    ensures small { IfOk result (λ end. end + 2 ≤ function_size (function_of function.now)) }
-    ensures end { IfOk result (λ end. end ≡ sum_by statement_size (map statement_of function.now.body.items)) }
-    ensures other { IfErr result (λ node. ¬ (IsBuiltFunction (function_of function.now))) }
-    ensures node { IfErr result (λ node. node < function_size (function_of function.now)) }
+/// Errors: the first node by its first byte that is not built yet.
+fn parameters(first: NodeId, declared: &[DeclaredNode]) -> Result<NodeId, NodeId>
+    requires { first + sum_by declared_size (map declared_of declared.now) < 2 ^ 32 }
+    ensures built { IfOk result (λ end. IsTrue (are_all is_built_parameter (map declared_of declared.now))) }
+    ensures end { IfOk result (λ end. end ≡ first + sum_by declared_size (map declared_of declared.now)) }
+    ensures other { IfErr result (λ node. ¬ (IsTrue (are_all is_built_parameter (map declared_of declared.now)))) }
+    ensures node { IfErr result (λ node. node < first + sum_by declared_size (map declared_of declared.now)) }
 {
-    if !has_no_parameters(function.parameters.as_slice()) || !has_no_result(&function.result) {
-        return Err(0);
-    }
-    let end = statements(0, function.body.as_slice())?;
+    let Some((one, rest)) = declared.split_first() else {
+        return Ok(first);
+    };
+    let middle = kind(first, &one.kind)? + 1;
+    let end = parameters(middle, rest)?;
     Ok(end)
 }
 
-/// The function of a file, and how many nodes its statements have.
+/// The number behind a function whose nodes have numbers from `first` on.
 ///
-/// Errors: the first node by its first byte that is not built yet; of another declaration, the first node of the file.
-pub fn built(file: &FileNode) -> Result<(&FunctionNode, NodeId), NodeId>
+/// Errors: the first node by its first byte that is not built yet; of a function with a result, the first node in it.
+fn function(first: NodeId, function: &FunctionNode) -> Result<NodeId, NodeId>
+    requires { first + function_size (function_of function.now) < 2 ^ 32 }
+    ensures built { IfOk result (λ end. IsTrue (is_built_function (function_of function.now))) }
+    ensures end { IfOk result (λ end. end ≡ first + function_size (function_of function.now)) }
+    ensures other { IfErr result (λ node. ¬ (IsTrue (is_built_function (function_of function.now)))) }
+    ensures node { IfErr result (λ node. node < first + function_size (function_of function.now)) }
+{
+    let middle = parameters(first, function.parameters.as_slice())?;
+    if function.result.is_some() {
+        return Err(first);
+    }
+    let last = statements(middle, function.body.as_slice())?;
+    Ok(last + 2)
+}
+
+/// The number behind a declaration whose nodes have numbers from `first` on.
+///
+/// Errors: the first node by its first byte that is not built yet; of a type's declaration, the first node in it.
+fn top(first: NodeId, top: &TopNode) -> Result<NodeId, NodeId>
+    requires { first + top_size (top_of top.now) < 2 ^ 32 }
+    ensures built { IfOk result (λ end. IsTrue (is_built_top (top_of top.now))) }
+    ensures end { IfOk result (λ end. end ≡ first + top_size (top_of top.now)) }
+    ensures other { IfErr result (λ node. ¬ (IsTrue (is_built_top (top_of top.now)))) }
+    ensures node { IfErr result (λ node. node < first + top_size (top_of top.now)) }
+{
+    match top {
+        TopNode::Function(one) => function(first, one),
+        TopNode::Struct(_) => Err(first),
+    }
+}
+
+/// Whether a file is of the part of the language that is compiled today.
+///
+/// Errors: the first node by its first byte that is not built yet.
+pub fn built(file: &FileNode) -> Result<(), NodeId>
     requires { size (file_of file.now) < 2 ^ 32 }
-    ensures built { IfOk result (λ x. IsBuilt (file_of file.now)) }
-    ensures statements { IfOk result (λ x. AreAll IsBuiltStatement (map statement_of x.0.now.body.items)) }
-    ensures small { IfOk result (λ x. x.1 + 3 ≤ size (file_of file.now)) }
-    ensures function { IfOk result (λ x. function_of x.0.now ≡ function_in (file_of file.now)) }
-    ensures end { IfOk result (λ x. x.1 ≡ sum_by statement_size (map statement_of x.0.now.body.items)) }
+    ensures built { IfOk result (λ _. IsBuilt (file_of file.now)) }
     ensures other { IfErr result (λ node. ¬ (IsBuilt (file_of file.now))) }
     ensures node { IfErr result (λ node. node < size (file_of file.now)) }
 {
-    match file.tops.as_slice() {
-        [TopNode::Function(only)] => {
-            let end = function(only)?;
-            Ok((only, end))
-        }
-        _ => Err(0),
+    let mut end = 0;
+    for one in file.tops.as_slice() {
+        end = top(end, one)?;
     }
+    Ok(())
 }

@@ -1,17 +1,19 @@
 //! The check of a tree against the typing rules and the limits.
 #![tactic(auto)]
 
-mod body;
+pub mod action;
+mod arguments;
 mod built;
-mod constant;
 mod file;
-mod flaw;
+mod header;
+mod refusal;
+mod set;
+mod signature;
 mod size;
-#[cfg(test)]
-mod tests;
+mod statement;
 mod tree;
 mod typed;
+mod value;
 
-pub use constant::value;
 pub use tree::check;
 pub use typed::Typed;

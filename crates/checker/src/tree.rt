@@ -1,18 +1,21 @@
 //! The check of a tree.
 
-ghost use Rattle.std.specs.Prelude.{◌≡◌, ◌<◌, ◌↔◌, IsOk, IfOk, IfErr};
+ghost use Rattle.std.specs.Prelude.{◌≡◌, ◌<◌, ◌⊎◌, IfOk, IfErr};
 ghost use Rattle.syntax.specs.Measures.{size};
 ghost use Rattle.checker.specs.Built.{IsBuilt};
 ghost use Rattle.syntax.specs.Spans.{tree_of};
-ghost use Rattle.checker.specs.Rules.{node_of, FileHas, IsTyped};
+ghost use Rattle.checker_base.specs.Flaws.{node_of};
+ghost use Rattle.checker.specs.Rules.{FileHas, IsTyped};
 ghost use Rattle.checker.specs.Program.{Tells};
 ghost use Rattle.checker.specs.Typed.{tree_in};
 
 use crate::built::built;
-use crate::file::check_function;
-use crate::flaw::Flaw;
+use crate::file::check_file;
+use crate::refusal::Refusal;
 use crate::typed::Typed;
+use checker_base::flaw::Flaw;
 use go_text::{Fault, Place};
+use std::alloc::Global;
 use syntax::Tree;
 
 /// The refusal of a tree with this flaw, with the place of the node.
@@ -35,22 +38,24 @@ fn fault_of(tree: &Tree, flaw: Flaw) -> Fault
     }
 }
 
-/// Checks a tree: first that each form in it is compiled today, then its function's header, then that it has a `main`, then the function's body, where statements and
-/// arguments come in order, and operands before their operators.
+/// Checks a tree: first that each form in it is compiled today, then what its functions declare, then that it has a `main`,
+/// then the bodies of the functions, where statements come in order, and operands before their operators.
 ///
-/// Errors: `NotYet` at the first form, by its first byte, that is not compiled yet; `Typing` with a rule that is broken, or `Limit` with a limit that is exceeded, each at the node named; of
-/// several the first one in this order. Takes no memory.
-pub fn check(tree: Tree) -> Result<Typed, Fault>
-    ensures exact { IsOk result ↔ (IsBuilt (tree_of tree) × IsTyped (tree_of tree)) }
+/// Errors: `NotYet` at the first form, by its first byte, that is not compiled yet; `Typing` with a rule that is broken, or
+/// `Limit` with a limit that is exceeded, each at the node named; of several the first one in this order; `Memory`.
+pub fn check(alloc: Global, tree: Tree) -> Result<Typed, Fault>
     ensures tree { IfOk result (λ typed. tree_in typed ≡ tree) }
-    ensures fault { IfErr result (Tells tree) }
+    ensures built { IfOk result (λ _. IsBuilt (tree_of tree)) }
+    ensures typed { IfOk result (λ _. IsTyped (tree_of tree)) }
+    ensures wrong { IfErr result (λ fault. (fault ≡ Fault.Memory) ⊎ (IsBuilt (tree_of tree) → IsTyped (tree_of tree) → ⊥)) }
+    ensures fault { IfErr result (λ fault. (fault ≡ Fault.Memory) ⊎ Tells tree fault) }
 {
-    let (function, nodes) = match built(tree.file()) {
-        Ok(found) => found,
-        Err(node) => return Err(Fault::NotYet(Place::from(tree.span(node)))),
-    };
-    match check_function(function, nodes) {
+    if let Err(node) = built(tree.file()) {
+        return Err(Fault::NotYet(Place::from(tree.span(node))));
+    }
+    match check_file(alloc, tree.file()) {
         Ok(()) => Ok(Typed::new(tree)),
-        Err(flaw) => Err(fault_of(&tree, flaw)),
+        Err(Refusal::Flawed(flaw)) => Err(fault_of(&tree, flaw)),
+        Err(Refusal::Memory) => Err(Fault::Memory),
     }
 }

@@ -1,6 +1,8 @@
-pub mod Prints
 pub mod Lists
+pub mod Values
+pub mod Steps
+pub mod Evaluates
+pub mod Stands
 pub mod Follows
 pub mod Fine
-pub mod Compiled
-pub mod Parts
+pub mod Functions

@@ -1,53 +1,180 @@
 -- The code that is generated for a file.
-use Rattle.std.specs.Prelude.{ℕ, ◌+◌, pos, true, Option, Some, None, List, [], ◌∷◌, ◌++◌, map, length, replicate, unwrap_or}
+use Rattle.std.specs.Str.{is_utf8}
+use Rattle.std.specs.Prelude.{ℕ, ℤ, ◌+◌, pos, Bool, Option, Some, None, List, [], ◌∷◌, ◌++◌, map, length, unwrap_or, if◌then◌else◌, bytes_eq, codes}
 use Rattle.bytecode.specs.declared.instr.Instr.{Instr}
 use Rattle.bytecode.specs.declared.instr.Instr.TheVariants as instrs
+use Rattle.bytecode.specs.declared.instr.Kind.{Kind}
+use Rattle.bytecode.specs.declared.instr.Kind.TheVariants as kinds
+use Rattle.bytecode.specs.declared.table.Part.{Part as TablePart}
 use Rattle.bytecode.specs.declared.table.Part.TheVariants as parts
-use Rattle.bytecode.specs.Code.{Function, PrintTable, Code}
-use Rattle.checker.specs.Built.{function_in}
-use Rattle.checker.specs.Constants.{constant}
-use Rattle.checker.specs.Source.{printed_parts}
-use Rattle.syntax.specs.Tree.{Expression, Part, Value, Statement, statements_in, File}
+use Rattle.bytecode.specs.Code.{Function as CodeFunction, PrintTable, Code}
+use Rattle.checker_base.specs.declared.types.Scalar.{Scalar}
+use Rattle.checker_base.specs.declared.types.Scalar.TheVariants as scalars
+use Rattle.checker_base.specs.declared.types.ValueType.{ValueType}
+use Rattle.checker_base.specs.declared.types.ValueType.TheVariants as types
+use Rattle.checker_base.specs.declared.worth.Worth.{Worth}
+use Rattle.checker_base.specs.declared.worth.Worth.TheVariants.{Typed, Constant}
+use Rattle.checker_base.specs.Types.{type_in}
+use Rattle.checker_base.specs.Scopes.{Variable, Scope, is_blank, is_truth, place_of}
+use Rattle.checker_base.specs.Worths.{is_int, worth}
+use Rattle.checker.specs.Actions.{Target, Declares, Assigns, Origin, FromValue, FromReceive, FromMake, Action, Idles, Prints, Sends, Receives, Sets, Starts, action}
+use Rattle.checker.specs.Rules.{element_of, channel_type, Signature, callee, after, after_all, parameters, signatures}
+use Rattle.syntax.specs.declared.node.BinaryOperator.{BinaryOperator}
+use Rattle.syntax.specs.declared.node.BinaryOperator.TheVariants.{Subtract}
+use Rattle.syntax.specs.Tree.{Expression, Integer, Named, Parenthesized, Unary, Binary, Part, Value, Text, Statement, statements_in, Function, Top, StructTop, FunctionTop, File}
+use Rattle.word.specs.declared.apply.Op.{Op}
+use Rattle.word.specs.declared.apply.Op.TheVariants as ops
 
--- an argument's value is pushed
-abbrev pub push_of : Expression → Instr
-push_of expression = instrs.Int (unwrap_or (constant expression) (pos 0))
+-- ---- kinds and shapes
 
--- strings are not built yet
-abbrev pub part_push : Part → Instr
-part_push (Value value) = push_of value
-part_push part = instrs.Int (pos 0)
+-- the shape of a channel's items: those of ints have shape 0, those of bools shape 1
+abbrev pub shape_of : Scalar → ℕ
+shape_of scalars.Int = 0
+shape_of scalars.Bool = 1
 
--- the instructions of a statement that prints this, where the first print table has the number q
-abbrev pub step_code : ℕ → Option (List Part) → (ℕ → List Instr) → List Instr
-step_code q None rest = rest q
-step_code q (Some printed) rest = map part_push printed ++ (instrs.Print q ∷ rest (q + 1))
+abbrev pub shape_in : Option Scalar → ℕ
+shape_in None = 0
+shape_in (Some s) = shape_of s
 
--- the instructions of statements, whose first print table has the number q
-abbrev pub body_code : ℕ → List Statement → List Instr
-body_code q [] = []
-body_code q (statement ∷ rest) = step_code q (printed_parts statement) (λ n. body_code n rest)
+abbrev pub kind_of : Option ValueType → Kind
+kind_of (Some (types.Scalar scalars.Bool)) = kinds.Bool
+kind_of (Some (types.Channel s)) = kinds.Chan (shape_of s)
+kind_of kind = kinds.Int
 
--- a line of so many ints
-abbrev pub ints : ℕ → PrintTable
-ints n = record { parts = replicate n parts.Int; line = true }
+abbrev pub shapes : List (List Kind)
+shapes = (kinds.Int ∷ []) ∷ ((kinds.Bool ∷ []) ∷ [])
 
-abbrev pub step_tables : Option (List Part) → List PrintTable → List PrintTable
-step_tables None rest = rest
-step_tables (Some printed) rest = ints (length printed) ∷ rest
+-- ---- expressions
+
+-- a constant as an int; one that no int can be is never pushed
+abbrev pub int_of : ℤ → ℤ
+int_of value = if is_int value then value else pos 0
+
+-- a constant is pushed as it is
+abbrev pub folded : Option Worth → List Instr → List Instr
+folded (Some (Constant value)) is = instrs.Int (int_of value) ∷ []
+folded worth is = is
+
+abbrev pub load : Option ℕ → List Instr
+load None = []
+load (Some place) = instrs.Load place 1 ∷ []
+
+abbrev pub operator : BinaryOperator → Op
+operator Subtract = ops.Sub
+operator other = ops.Add
+
+-- an expression's value is pushed
+abbrev pub pushes : Scope → Expression → List Instr
+pushes scope (Integer value) = folded (worth scope (Integer value)) []
+pushes scope (Named name) = if is_truth name then instrs.Bool (bytes_eq name (codes "true")) ∷ [] else load (place_of scope name)
+pushes scope (Parenthesized inner) = pushes scope inner
+pushes scope (Unary o operand) = folded (worth scope (Unary o operand)) (pushes scope operand ++ instrs.Apply ops.Neg ∷ [])
+pushes scope (Binary o left right) = folded (worth scope (Binary o left right)) (pushes scope left ++ (pushes scope right ++ instrs.Apply (operator o) ∷ []))
+pushes scope expression = []
+
+-- arguments are pushed in order
+abbrev pub pushes_all : Scope → List Expression → List Instr
+pushes_all scope [] = []
+pushes_all scope (argument ∷ rest) = pushes scope argument ++ pushes_all scope rest
+
+-- ---- what is printed
+
+abbrev pub pushes_parts : Scope → List Part → List Instr
+pushes_parts scope [] = []
+pushes_parts scope (Value value ∷ rest) = pushes scope value ++ pushes_parts scope rest
+pushes_parts scope (Text bytes ∷ rest) = pushes_parts scope rest
+
+abbrev pub printed_as : Option Worth → TablePart
+printed_as (Some (Typed (types.Scalar scalars.Bool))) = parts.Bool
+printed_as worth = parts.Int
+
+abbrev pub part_in : Scope → Part → TablePart
+part_in scope (Value value) = printed_as (worth scope value)
+part_in scope (Text bytes) = parts.Text bytes
+
+-- the print table of an action
+abbrev pub table_in : Scope → Option Action → List PrintTable
+table_in scope (Some (Prints line all)) = record { parts = map (part_in scope) all; line = line } ∷ []
+table_in scope action = []
+
+-- ---- statements
+
+-- the value on the stack goes to a local, or nowhere
+abbrev pub store : Option ℕ → List Instr
+store None = []
+store (Some place) = instrs.Store place 1 ∷ (instrs.Tick ∷ [])
+
+abbrev pub keeps : Scope → Target → List Instr
+keeps scope (Declares name) = store (Some (length scope))
+keeps scope (Assigns name) = if is_blank name then instrs.Discard 1 ∷ (instrs.Tick ∷ []) else store (place_of scope name)
+
+abbrev pub receive : Scope → Expression → List Instr
+receive scope channel = pushes scope channel ++ instrs.Receive (shape_in (element_of (worth scope channel))) ∷ []
+
+-- the value that a variable is given is pushed; of a receive without whether it was sent
+abbrev pub gives : Scope → Origin → List Instr
+gives scope (FromValue value) = pushes scope value
+gives scope (FromReceive channel) = receive scope channel ++ instrs.Discard 1 ∷ []
+gives scope (FromMake channel) = instrs.Int (pos 0) ∷ (instrs.Make (shape_in (channel_type (type_in channel))) ∷ [])
+
+-- the instructions of an action; its print table has the number q
+abbrev pub action_code : List Signature → Scope → ℕ → Option Action → List Instr
+action_code functions scope q None = []
+action_code functions scope q (Some Idles) = []
+action_code functions scope q (Some (Prints line all)) = pushes_parts scope all ++ instrs.Print q ∷ []
+action_code functions scope q (Some (Sends channel value)) =
+    pushes scope channel ++ (pushes scope value ++ instrs.Send (shape_in (element_of (worth scope channel))) ∷ [])
+action_code functions scope q (Some (Receives channel)) = receive scope channel ++ instrs.Discard 2 ∷ []
+action_code functions scope q (Some (Sets target origin)) = gives scope origin ++ keeps scope target
+action_code functions scope q (Some (Starts function arguments)) = pushes_all scope arguments ++ instrs.Go (unwrap_or (callee functions scope function) 0) ∷ []
+
+-- the instructions of statements, and a return; their first print table has the number q
+abbrev pub body_code : List Signature → Scope → ℕ → List Statement → List Instr
+body_code functions scope q [] = instrs.Return ∷ []
+body_code functions scope q (statement ∷ rest) =
+    action_code functions scope q (action statement)
+    ++ body_code functions (after scope (action statement)) (q + length (table_in scope (action statement))) rest
 
 -- their print tables
-abbrev pub tables_of : List Statement → List PrintTable
-tables_of [] = []
-tables_of (statement ∷ rest) = step_tables (printed_parts statement) (tables_of rest)
+abbrev pub tables_of : Scope → List Statement → List PrintTable
+tables_of scope [] = []
+tables_of scope (statement ∷ rest) = table_in scope (action statement) ++ tables_of (after scope (action statement)) rest
 
--- the one function, of this name and these statements
-abbrev pub main_with : List ℕ → List Statement → Function
-main_with name body = record { name = name; params = 0; locals = []; results = []; instrs = body_code 0 body ++ instrs.Return ∷ [] }
+-- ---- functions
 
--- the code of a file whose one function has this name and these statements
-abbrev pub code_with : List ℕ → List Statement → Code
-code_with name body = record { functions = main_with name body ∷ []; shapes = []; prints = tables_of body }
+abbrev pub local_kinds : Scope → List Kind
+local_kinds scope = map (λ (v : Variable). kind_of v.kind) scope
+
+-- a function's name as text, which it always is
+abbrev pub label : List ℕ → List ℕ
+label name = if is_utf8 name then name else []
+
+-- the code of a function; its parameters are the first locals
+abbrev pub function_with : List Signature → ℕ → List ℕ → Scope → List Statement → CodeFunction
+function_with functions q name parameters body = record {
+  name = label name;
+  params = length parameters;
+  locals = local_kinds (after_all parameters body);
+  results = [];
+  instrs = body_code functions parameters q body;
+}
+
+abbrev pub function_code : List Signature → ℕ → Function → CodeFunction
+function_code functions q function = function_with functions q function.name (parameters function) (statements_in function.body)
+
+abbrev pub function_tables : Function → List PrintTable
+function_tables function = tables_of (parameters function) (statements_in function.body)
+
+abbrev pub functions_code : List Signature → ℕ → List Top → List CodeFunction
+functions_code functions q [] = []
+functions_code functions q (StructTop struct ∷ rest) = functions_code functions q rest
+functions_code functions q (FunctionTop function ∷ rest) =
+    function_code functions q function ∷ functions_code functions (q + length (function_tables function)) rest
+
+abbrev pub all_tables : List Top → List PrintTable
+all_tables [] = []
+all_tables (StructTop struct ∷ rest) = all_tables rest
+all_tables (FunctionTop function ∷ rest) = function_tables function ++ all_tables rest
 
 abbrev pub code_of : File → Code
-code_of file = code_with (function_in file).name (statements_in (function_in file).body)
+code_of file = record { functions = functions_code (signatures file.tops) 0 file.tops; shapes = shapes; prints = all_tables file.tops }

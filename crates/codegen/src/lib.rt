@@ -1,7 +1,9 @@
 //! The compiler's last step: code that does what the source does.
 #![tactic(auto)]
 
-mod generate;
+mod expression;
+mod function;
 mod program;
+mod statement;
 
 pub use program::compile;
