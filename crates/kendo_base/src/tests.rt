@@ -116,7 +116,7 @@ fn sums(rt: HostRuntime) -> Result<(), Fail> {
         ("println(/* 1)", "", "kendo: 6 OpenComment at 1:37\n", 1),
         ("println(/* 1, */ 2) // 3\n", "2\n", "", 0),
         ("println(1 / 2)", "", "kendo: 17 NotYet at 1:37\n", 1),
-        ("println(x)", "", "kendo: 17 NotYet at 1:37\n", 1),
+        ("println(x)", "", "kendo: 9 Type rule 3 at 1:37\n", 1),
         ("println(+1)", "", "kendo: 17 NotYet at 1:37\n", 1),
         ("println((1 < 2))", "", "kendo: 17 NotYet at 1:38\n", 1),
         ("println(1, 2 * 3)", "", "kendo: 17 NotYet at 1:40\n", 1),
