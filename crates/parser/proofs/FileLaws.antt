@@ -5,13 +5,14 @@ use Rattle.syntax.specs.Tree.{Statement, Statements, statements_in, statements a
 use Rattle.syntax.specs.Measures.{Listing, Entries as EntriesLimit, SelectClauses, entries, highest, statement_height, statements_height, statement_longest, statements_longest, top_longest, longest, height, most_entries, most_clauses}
 use Rattle.syntax.proofs.Lists.{statements-statements_in, statements_in-statements, statements_height-of, statements_longest-of}
 use Rattle.parser_base.specs.Lexemes.{Lexeme, Literal, Name, Mark}
-use Rattle.parser_base.specs.Spelling.{is_builtin, separated, joined, AreAll, AreSome}
+use Rattle.parser_base.specs.Spelling.{is_builtin, behind, separated, joined, AreAll, AreSome}
 use Rattle.parser_base.specs.Reading.{Refusal, Syntax, TooDeep, TooMany, Reading, ◌>>=◌, expect, expect_name, plain_name, listed}
 use Rattle.parser_base.proofs.Marks.{bind_ok, unless_ok, ok_is, expect_is, expect_name_is, plain_name_is}
 use Rattle.parser_base.proofs.ListLaws.{AreFew, Found as AllFound, High as AllHigh, Many as AllMany, Full, all_again, IsReadAgain, listed_again, listed_sound}
 use Rattle.parser_base.proofs.ExpressionAgain.{entries-le}
 use Rattle.parser.specs.Spelling.{statement_words, IsStatement, header_words, tops_words, words, IsFunction, AreTops, Spells}
 use Rattle.parser.specs.Reading.{header, statement, statement_next, made, ended, file}
+use Rattle.parser.proofs.Sizes.{statement_longer, separated_longer}
 use Rattle.parser.proofs.StatementLaws.{Ends, statements, statement_again, statements_separate, statements_sound}
 
 -- ---- what is spelt is read
@@ -25,13 +26,9 @@ header_again : (name : List ℕ) (rest : List Lexeme) → is_builtin name ≡ fa
 unfolding header expect expect_name plain_name
 header_again name rest named = rw named refl
 
-length_separated : {A : Type 0} (each : A → List Lexeme) (separator : Lexeme) (xs : List A) → length xs ≤ length (separated each separator xs)
-length_separated each separator [] = omega arith
-length_separated each separator (x ∷ xs) = omega (arith, length_separated each separator xs, length-append (each x) (separated each separator xs))
-
 -- a file's statements and what follows them
 abbrev body_words : List Statement → List Lexeme
-body_words body = joined statement_words (Mark kinds.Semicolon) body ++ (Mark kinds.RightBrace ∷ Mark kinds.Semicolon ∷ [])
+body_words body = joined statement_words (behind kinds.Semicolon) body (Mark kinds.RightBrace ∷ Mark kinds.Semicolon ∷ [])
 
 -- the longest list of a file without parameters
 made_longest : (listing : Listing) (name : List ℕ) (body : List Statement) → longest listing (made name body) ≡ max (entries listing 0) (highest (statement_longest listing) body)
@@ -46,21 +43,17 @@ unfolding expect ended
 body_again room most name [] some = absurd some
 body_again room most name (s ∷ ss) some =
     let ending = Mark kinds.RightBrace ∷ Mark kinds.Semicolon ∷ [] in
-    let behind = separated statement_words (Mark kinds.Semicolon) ss in
+    let behind' = separated statement_words (behind kinds.Semicolon) ss ending in
     let turns = length (body_words (s ∷ ss)) in
-    let regroup : body_words (s ∷ ss) ≡ statement_words s ++ (behind ++ ending) = append_assoc (statement_words s) behind ending in
-    let enough : length (s ∷ ss) ≤ turns =
-    omega (arith, length_separated statement_words (Mark kinds.Semicolon) ss, length-append (statement_words s ++ behind) ending, length-append (statement_words s) behind) in
+    let enough : length (s ∷ ss) ≤ turns = omega (arith, separated_longer ss ending some.1 (omega arith), statement_longer s behind' some.0) in
     let each = all_again IsStatement (IsReadAgain (statements room most) Ends) (statement_again room most) (s ∷ ss) some in
     let again = listed_again (statements room most) Ends false (Mark kinds.Semicolon ∷ []) Syntax (statements_separate room most (Mark kinds.Semicolon ∷ [])) ss turns s some each in
     let step : Reading (List Statement × Bool) → Result File Refusal = λ read. read >>= λ found. expect kinds.Semicolon found.1 >>= λ rest. ended (made name found.0.0) rest in
-    let begins : step (listed (statement most room) statement_next Syntax turns (body_words (s ∷ ss))) ≡ step (listed (statement most room) statement_next Syntax turns (statement_words s ++ (behind ++ ending))) =
-    ap (λ (ws : List Lexeme). step (listed (statement most room) statement_next Syntax turns ws)) regroup in
     let high = made_height name (s ∷ ss) in
     elim again [
-      | AllFound low few count e ↦ Found (omega (arith, high)) (λ listing. omega (arith, few listing, made_longest listing name (s ∷ ss), entries-le listing 0)) (begins ∙ ap step e)
-      | AllHigh above e ↦ High (omega (arith, high)) (begins ∙ ap step e)
-      | AllMany listing many e ↦ Many listing (omega (arith, many, made_longest listing name (s ∷ ss))) (begins ∙ ap step e)
+      | AllFound low few count e ↦ Found (omega (arith, high)) (λ listing. omega (arith, few listing, made_longest listing name (s ∷ ss), entries-le listing 0)) (ap step e)
+      | AllHigh above e ↦ High (omega (arith, high)) (ap step e)
+      | AllMany listing many e ↦ Many listing (omega (arith, many, made_longest listing name (s ∷ ss))) (ap step e)
       | Full count e ↦ absurd (omega arith)
     ]
 
@@ -170,7 +163,7 @@ file_sound room most ws f e =
     let s = expect_is kinds.Semicolon b.0.1 c.0 c.1 ∙ ap (λ (x : List Lexeme). Mark kinds.Semicolon ∷ x) d.0 in
     let same : statements_in (made_statements body) ≡ body = statements_in-statements body in
     let all : a.0.1 ≡ body_words (statements_in (made_statements body)) =
-    l.parts ∙ ap (λ (x : List Lexeme). joined statement_words (Mark kinds.Semicolon) body ++ (Mark kinds.RightBrace ∷ x)) s ∙ ap body_words (sym same) in
+    l.parts ∙ ap (λ (x : List Lexeme). joined statement_words (behind kinds.Semicolon) body (Mark kinds.RightBrace ∷ x)) s ∙ ap body_words (sym same) in
     subst (λ (x : File). IsFound room most ws x) d.1 (record {
       spelt = record {
         words = h.0 ∙ ap (header_words name) all;

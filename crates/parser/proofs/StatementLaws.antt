@@ -1,98 +1,25 @@
 -- Statements: what is spelt is read, and what is read is spelt so.
-use Rattle.std.proofs.Common.{◌≡◌, ℕ, zero, suc, ◌≤◌, max, Bool, true, false, cond, ◌||◌, List, [], ◌∷◌, ◌++◌, length, Ok, Err, refl, sym, ap, ◌∙◌, subst, arith, append_assoc, bytes_eq, codes}
+use Rattle.std.proofs.Common.{◌≡◌, ℕ, zero, suc, ◌≤◌, Bool, true, false, cond, ◌||◌, List, [], ◌∷◌, Ok, Err, inl, inr, refl, sym, ap, ◌∙◌, subst, arith}
 use Rattle.scanner.specs.declared.kind.Kind.{Kind}
 use Rattle.scanner.specs.declared.kind.Kind.TheVariants as kinds
-use Rattle.syntax.specs.Tree.{Expression, Part, Value, Text as TextPart, Simple, CallAlone, Close, Print, ReceiveAlone, Send, Increment, Decrement, Assign, Define, Update, Statement, Empty, Alone, VarTyped, VarUntyped, Block, If, For, Select, Go, Return, Break, Continue}
-use Rattle.syntax.specs.Measures.{Listing, Entries as EntriesLimit, entries, highest, part_height, part_longest, expression_height, expression_longest, statement_height, statement_longest, list_longest}
+use Rattle.syntax.specs.Tree.{Simple, CallAlone, Close, Print, ReceiveAlone, Send, Increment, Decrement, Assign, Define, Update, Statement, Empty, Alone, VarTyped, VarUntyped, Block, If, For, Select, Go, Return, Break, Continue}
+use Rattle.syntax.specs.Measures.{statement_height, statement_longest}
 use Rattle.parser_base.specs.declared.list.Next.{Next}
 use Rattle.parser_base.specs.declared.list.Next.TheVariants.{More, End}
 use Rattle.parser_base.specs.Lexemes.{Lexeme, Literal, Name, Text, Mark}
-use Rattle.parser_base.specs.Spelling.{expression_words, IsGrouped, separated, joined, closing, AreAll, AreSome}
-use Rattle.parser_base.specs.Reading.{Syntax, TooMany, Reading, ◌>>=◌, is_kind, expect, expression, listed, value_next}
-use Rattle.parser_base.proofs.Marks.{bind_ok, when_ok, ok_is, kind_is, expect_is, expect_again, bytes_are}
-use Rattle.parser_base.proofs.ListLaws.{AreFew, Outcome, Found, High, Many, Found as AllFound, High as AllHigh, Many as AllMany, Full, Entries, IsReadAgain, Separates, listed_again, all_again, IsEntry, ReadsSoundly, listed_sound}
-use Rattle.parser_base.proofs.ExpressionAgain.{reads, EndsExpression, entries-le, parenthesis_closes, comma_ends, closing_ends, closing_again, more_values}
-use Rattle.parser_base.proofs.ExpressionSound.{expression_sound, value_more_sound, value_end_sound}
-use Rattle.parser.specs.Spelling.{part_words, IsPart, simple_words, IsSimple, statement_words, IsStatement}
-use Rattle.parser.specs.Reading.{part, println_call, statement, statement_next}
-
--- ---- arguments of println
-
-abbrev parts : (room most : ℕ) → Entries Part
-parts room most = record {
-  one = part most room;
-  next = value_next kinds.RightParenthesis;
-  each = part_words;
-  separator = Mark kinds.Comma;
-  ending = closing kinds.RightParenthesis;
-  height = part_height;
-  longest = part_longest;
-  room = room;
-  most = most;
-  IsOne = IsPart;
-}
-
-part_again : (room most : ℕ) (p : Part) → IsPart p → IsReadAgain (parts room most) (EndsExpression true) p
-unfolding part
-part_again room most (TextPart bytes) is rest ends = absurd is
-part_again room most (Value v) is rest ends =
-    elim (reads true most v is room 0 rest (omega arith) ends.none ends.shut) [
-      | Found low few e ↦ Found low few (rw e refl)
-      | High high e ↦ High high (rw e refl)
-      | Many listing many e ↦ Many listing many (rw e refl)
-    ]
-
-more_parts : (p : Part) (rest : List Lexeme) → IsPart p → value_next kinds.RightParenthesis (Mark kinds.Comma ∷ (part_words p ++ rest)) ≡ Ok (More, part_words p ++ rest)
-more_parts (TextPart bytes) rest is = absurd is
-more_parts (Value v) rest is = more_values true kinds.RightParenthesis v rest is
-
-parts_separate : (room most : ℕ) (trailing : Bool) (rest : List Lexeme) → Separates (parts room most) (EndsExpression true) trailing rest
-parts_separate room most trailing rest = record {
-  separator = comma_ends true;
-  more = λ p words one. more_parts p words one;
-  ending = closing_ends true kinds.RightParenthesis trailing rest parenthesis_closes;
-  end = closing_again kinds.RightParenthesis trailing rest parenthesis_closes;
-}
-
--- a call behind its name
-abbrev call_words : List Part → Bool → List Lexeme
-call_words ps trailing = Mark kinds.LeftParenthesis ∷ (joined part_words (Mark kinds.Comma) ps ++ closing kinds.RightParenthesis trailing)
-
-call_again : (room most : ℕ) (ps : List Part) (trailing : Bool) (rest : List Lexeme) → AreSome IsPart ps
-    → Outcome (println_call most room (call_words ps trailing ++ rest)) (Alone (Print true ps trailing)) rest (highest part_height ps) room (λ listing. list_longest part_longest listing ps) most
-unfolding println_call
-call_again room most [] trailing rest some = absurd some
-call_again room most (t ∷ ts) trailing rest some =
-    let behind = separated part_words (Mark kinds.Comma) ts in
-    let regroup : call_words (t ∷ ts) trailing ++ rest ≡ Mark kinds.LeftParenthesis ∷ (part_words t ++ (behind ++ (closing kinds.RightParenthesis trailing ++ rest))) =
-    ap (λ (ws : List Lexeme). Mark kinds.LeftParenthesis ∷ ws)
-    (append_assoc (part_words t ++ behind) (closing kinds.RightParenthesis trailing) rest ∙ append_assoc (part_words t) behind (closing kinds.RightParenthesis trailing ++ rest)) in
-    let opened = expect_again kinds.LeftParenthesis (part_words t ++ (behind ++ (closing kinds.RightParenthesis trailing ++ rest))) in
-    let again = all_again IsPart (IsReadAgain (parts room most) (EndsExpression true)) (part_again room most) (t ∷ ts) some in
-    rw (regroup, opened) (elim (listed_again (parts room most) (EndsExpression true) trailing rest (TooMany EntriesLimit) (parts_separate room most trailing rest) ts most t some again) [
-      | AllFound low few count e ↦ Found low (λ listing. omega (arith, few listing, entries-le listing (length (t ∷ ts)))) (rw e refl)
-      | AllHigh high e ↦ High high (rw e refl)
-      | AllMany listing many e ↦ Many listing (omega (arith, many)) (rw e refl)
-      | Full count e ↦ Many EntriesLimit (omega (arith, count)) (rw e refl)
-    ])
-
-abbrev with_part : Part → List Lexeme → Part × List Lexeme
-with_part p rest = (p, rest)
-
-abbrev of_value : Expression → List Lexeme → Part × List Lexeme
-of_value v rest = (Value v, rest)
-
-part_sound : (room most : ℕ) (ws : List Lexeme) (p : Part) (rest : List Lexeme) → part most room ws ≡ Ok (p, rest) → IsEntry (parts room most) ws p rest
-unfolding part
-part_sound room most ws p rest e =
-    let a = bind_ok (expression true most room 0 ws) (λ value. Ok (of_value value.0 value.1)) (with_part p rest) e in
-    let s = expression_sound true most room 0 ws a.0.0 a.0.1 (omega arith) a.1 in
-    subst (λ (x : Part × List Lexeme). IsEntry (parts room most) ws x.0 x.1) (ok_is (of_value a.0.0 a.0.1) (with_part p rest) a.2) (record { parts = s.parts; is = s.grouped; low = s.low; few = s.few })
-
-parts_sound : (room most : ℕ) → ReadsSoundly (parts room most)
-parts_sound room most = record { one = part_sound room most; more = value_more_sound kinds.RightParenthesis; end = value_end_sound kinds.RightParenthesis }
-
--- ---- statements
+use Rattle.parser_base.specs.Spelling.{behind, before}
+use Rattle.parser_base.specs.Reading.{Syntax, Reading, ◌>>=◌, is_kind, begins, step_at}
+use Rattle.parser_base.proofs.Marks.{ok_is, kind_is}
+use Rattle.parser_base.proofs.ListLaws.{Outcome, Found, High, Entries, IsReadAgain, Separates, IsEntry, ReadsSoundly}
+use Rattle.parser_base.proofs.ExpressionAgain.{shut}
+use Rattle.parser_base.proofs.Steps.{made_again, gave, made_is, either}
+use Rattle.parser_simple.specs.Spelling.{simple_words, IsSimple}
+use Rattle.parser_simple.specs.Reading.{as_one, begins_with, simple}
+use Rattle.parser_simple.proofs.RightLaws.{Stops}
+use Rattle.parser_simple.proofs.SimpleLaws.{simple_again, simple_sound}
+use Rattle.parser_simple.proofs.HeaderLaws.{value_not}
+use Rattle.parser.specs.Spelling.{statement_words, IsStatement}
+use Rattle.parser.specs.Reading.{statement, statement_next}
 
 -- what may follow a statement
 pub data Ends : List Lexeme → Type 0 where
@@ -104,8 +31,8 @@ statements room most = record {
   one = statement most room;
   next = statement_next;
   each = statement_words;
-  separator = Mark kinds.Semicolon;
-  ending = λ trailing. Mark kinds.RightBrace ∷ [];
+  separator = behind kinds.Semicolon;
+  ending = λ trailing rest. Mark kinds.RightBrace ∷ rest;
   height = statement_height;
   longest = statement_longest;
   room = room;
@@ -113,40 +40,55 @@ statements room most = record {
   IsOne = IsStatement;
 }
 
+ends_stop : (rest : List Lexeme) → Ends rest → Stops true rest
+unfolding step_at begins_with
+ends_stop _ (AtSemicolon rest) = record { ends = record { none = refl; shut = shut true kinds.Semicolon rest refl }; comma = refl; open' = refl }
+ends_stop _ (AtBrace rest) = record { ends = record { none = refl; shut = shut true kinds.RightBrace rest refl }; comma = refl; open' = refl }
+
 empty_again : (room most : ℕ) (rest : List Lexeme) → Ends rest → Outcome (statement most (suc room) rest) Empty rest 1 (suc room) (λ listing. 0) most
 unfolding statement
 empty_again room most _ (AtSemicolon rest) = Found (omega arith) (λ listing. omega arith) refl
 empty_again room most _ (AtBrace rest) = Found (omega arith) (λ listing. omega arith) refl
 
-println_again : (room most : ℕ) (ps : List Part) (trailing : Bool) (rest : List Lexeme) → AreSome IsPart ps
-    → Outcome (statement most (suc room) (statement_words (Alone (Print true ps trailing)) ++ rest)) (Alone (Print true ps trailing)) rest (suc (highest part_height ps)) (suc room) (λ listing. list_longest part_longest listing ps) most
-unfolding statement
-println_again room most ps trailing rest some =
-    elim (call_again room most ps trailing rest some) [
-      | Found low few e ↦ Found (omega arith) few e
-      | High high e ↦ High (omega arith) e
-      | Many listing many e ↦ Many listing many e
-    ]
+-- no simple statement begins as a statement ends
+begins_not : (kind : Kind) (s : Simple) (ws : List Lexeme) → IsSimple true true s → is_kind kinds.Arrow kind ≡ false → ((rest : List Lexeme) → begins (Mark kind ∷ rest) ≡ false) → begins_with kind (simple_words s ws) ≡ false
+unfolding begins_with
+begins_not kind (CallAlone f all) ws is arrow none = refl
+begins_not kind (Close c) ws is arrow none = refl
+begins_not kind (Print line ps trailing) ws is arrow none = refl
+begins_not kind (ReceiveAlone c) ws is arrow none = arrow
+begins_not kind (Send c v) ws is arrow none = value_not kind true c (Mark kinds.Arrow ∷ before v ws) is.0.0 none
+begins_not kind (Increment p) ws is arrow none = refl
+begins_not kind (Decrement p) ws is arrow none = refl
+begins_not kind (Assign [] r) ws is arrow none = absurd is.0
+begins_not kind (Assign (p ∷ ps) r) ws is arrow none = refl
+begins_not kind (Define [] r) ws is arrow none = absurd is.1
+begins_not kind (Define (n ∷ ns) r) ws is arrow none = refl
+begins_not kind (Update p o v) ws is arrow none = refl
 
-no_room : (most : ℕ) (s : Statement) (rest : List Lexeme) → 1 ≤ statement_height s → Outcome (statement most 0 (statement_words s ++ rest)) s rest (statement_height s) 0 (λ listing. statement_longest listing s) most
+is_alone : (room most : ℕ) (ws : List Lexeme) → begins_with kinds.Semicolon ws ≡ false → begins_with kinds.RightBrace ws ≡ false → statement most (suc room) ws ≡ as_one Alone (simple true true most room ws)
+unfolding statement begins_with
+is_alone room most [] semicolon brace = refl
+is_alone room most (Literal value ∷ ws) semicolon brace = refl
+is_alone room most (Name name ∷ ws) semicolon brace = refl
+is_alone room most (Text bytes ∷ ws) semicolon brace = refl
+is_alone room most (Mark kind ∷ ws) semicolon brace = rw (semicolon, brace) refl
+
+alone_again : (room most : ℕ) (s : Simple) → IsSimple true true s → IsReadAgain (statements (suc room) most) Ends (Alone s)
+unfolding begins
+alone_again room most s is rest ends =
+    rw (is_alone room most (simple_words s rest) (begins_not kinds.Semicolon s rest is refl (λ after. refl)) (begins_not kinds.RightBrace s rest is refl (λ after. refl)))
+    (made_again Alone (simple_again true true most room s rest is (ends_stop rest ends)) (λ high. omega arith) (λ low. omega arith) (λ listing. refl))
+
+no_room : (most : ℕ) (s : Statement) (rest : List Lexeme) → 1 ≤ statement_height s → Outcome (statement most 0 (statement_words s rest)) s rest (statement_height s) 0 (λ listing. statement_longest listing s) most
 unfolding statement
 no_room most s rest high = High high refl
 
 pub statement_again : (room most : ℕ) (s : Statement) → IsStatement s → IsReadAgain (statements room most) Ends s
 statement_again zero most Empty is rest ends = no_room most Empty rest (omega arith)
 statement_again (suc room) most Empty is rest ends = empty_again room most rest ends
-statement_again zero most (Alone (Print true ps trailing)) is rest ends = no_room most (Alone (Print true ps trailing)) rest (omega arith)
-statement_again (suc room) most (Alone (Print true ps trailing)) is rest ends = println_again room most ps trailing rest is
-statement_again room most (Alone (Print false ps trailing)) is rest ends = absurd is
-statement_again room most (Alone (CallAlone f a)) is rest ends = absurd is
-statement_again room most (Alone (Close c)) is rest ends = absurd is
-statement_again room most (Alone (ReceiveAlone c)) is rest ends = absurd is
-statement_again room most (Alone (Send c v)) is rest ends = absurd is
-statement_again room most (Alone (Increment p)) is rest ends = absurd is
-statement_again room most (Alone (Decrement p)) is rest ends = absurd is
-statement_again room most (Alone (Assign p r)) is rest ends = absurd is
-statement_again room most (Alone (Define n r)) is rest ends = absurd is
-statement_again room most (Alone (Update p o v)) is rest ends = absurd is
+statement_again zero most (Alone s) is rest ends = no_room most (Alone s) rest (omega arith)
+statement_again (suc room) most (Alone s) is rest ends = alone_again room most s is rest ends
 statement_again room most (VarTyped n k r) is rest ends = absurd is
 statement_again room most (VarUntyped n r) is rest ends = absurd is
 statement_again room most (Block b) is rest ends = absurd is
@@ -161,7 +103,7 @@ statement_again room most Continue is rest ends = absurd is
 pub statements_separate : (room most : ℕ) (rest : List Lexeme) → Separates (statements room most) Ends false rest
 unfolding statement_next
 statements_separate room most rest = record {
-  separator = AtSemicolon;
+  separator = λ s words one. AtSemicolon (statement_words s words);
   more = λ s words one. refl;
   ending = AtBrace rest;
   end = refl;
@@ -169,45 +111,30 @@ statements_separate room most rest = record {
 
 -- ---- what is read is spelt so
 
+alone_sound : (room most : ℕ) (ws : List Lexeme) (s : Statement) (rest : List Lexeme) → as_one Alone (simple true true most room ws) ≡ gave s rest → IsEntry (statements (suc room) most) ws s rest
+alone_sound room most ws s rest e =
+    let a = made_is Alone (simple true true most room ws) s rest e in
+    let p = simple_sound true true most room ws a.0 rest a.1 in
+    subst (λ (x : Statement). IsEntry (statements (suc room) most) ws x rest) a.2 (record { parts = p.parts; is = p.is; low = omega (arith, p.low); few = p.few })
+
+pub statement_sound : (room most : ℕ) (ws : List Lexeme) (s : Statement) (rest : List Lexeme) → statement most room ws ≡ Ok (s, rest) → IsEntry (statements room most) ws s rest
+unfolding statement
+statement_sound zero most ws s rest e = absurd cc
+statement_sound (suc room) most [] s rest e = alone_sound room most [] s rest e
+statement_sound (suc room) most (Literal value ∷ ws) s rest e = alone_sound room most (Literal value ∷ ws) s rest e
+statement_sound (suc room) most (Text bytes ∷ ws) s rest e = alone_sound room most (Text bytes ∷ ws) s rest e
+statement_sound (suc room) most (Name name ∷ ws) s rest e = alone_sound room most (Name name ∷ ws) s rest e
+statement_sound (suc room) most (Mark kind ∷ ws) s rest e =
+    elim (either (is_kind kind kinds.Semicolon || is_kind kind kinds.RightBrace) (gave Empty (Mark kind ∷ ws)) (as_one Alone (simple true true most room (Mark kind ∷ ws))) (s, rest) e) [
+      | inl ends ↦ subst (λ (x : Statement × List Lexeme). IsEntry (statements (suc room) most) (Mark kind ∷ ws) x.0 x.1) (ok_is (Empty, Mark kind ∷ ws) (s, rest) ends.1) (record { parts = refl; is = tt; low = omega arith; few = λ listing. omega arith })
+      | inr other ↦ alone_sound room most (Mark kind ∷ ws) s rest other.1
+    ]
+
 abbrev ends_with : Bool → List Lexeme → Next × List Lexeme
 ends_with trailing rest = (End trailing, rest)
 
 abbrev goes_on_with : List Lexeme → Next × List Lexeme
 goes_on_with rest = (More, rest)
-
--- a statement, its words apart
-abbrev said : Statement → List Lexeme → Statement × List Lexeme
-said s rest = (s, rest)
-
-call_sound : (room most : ℕ) (ws : List Lexeme) (s : Statement) (rest : List Lexeme) → println_call most room ws ≡ Ok (said s rest) → IsEntry (statements (suc room) most) (Name (codes "println") ∷ ws) s rest
-unfolding println_call
-call_sound room most ws s rest e =
-    let a = bind_ok (expect kinds.LeftParenthesis ws) (λ inside. listed (part most room) (value_next kinds.RightParenthesis) (TooMany EntriesLimit) most inside >>= λ ps. Ok (said (Alone (Print true ps.0.0 ps.0.1)) ps.1)) (said s rest) e in
-    let b = bind_ok (listed (part most room) (value_next kinds.RightParenthesis) (TooMany EntriesLimit) most a.0) (λ ps. Ok (said (Alone (Print true ps.0.0 ps.0.1)) ps.1)) (said s rest) a.2 in
-    let l = listed_sound (parts room most) (TooMany EntriesLimit) (parts_sound room most) most a.0 b.0 b.1 in
-    let ps = b.0.0.0 in
-    let trailing = b.0.0.1 in
-    let opened = expect_is kinds.LeftParenthesis ws a.0 a.1 in
-    let all = opened ∙ ap (λ (x : List Lexeme). Mark kinds.LeftParenthesis ∷ x) (l.parts ∙ sym (append_assoc (joined part_words (Mark kinds.Comma) ps) (closing kinds.RightParenthesis trailing) b.0.1)) in
-    subst (λ (x : Statement × List Lexeme). IsEntry (statements (suc room) most) (Name (codes "println") ∷ ws) x.0 x.1) (ok_is (said (Alone (Print true ps trailing)) b.0.1) (said s rest) b.2) (record {
-      parts = ap (λ (x : List Lexeme). Name (codes "println") ∷ x) all;
-      is = l.are;
-      low = omega (arith, l.low);
-      few = λ listing. omega (arith, l.few listing, l.count, entries-le listing (length ps));
-    })
-
-pub statement_sound : (room most : ℕ) (ws : List Lexeme) (s : Statement) (rest : List Lexeme) → statement most room ws ≡ Ok (s, rest) → IsEntry (statements room most) ws s rest
-unfolding statement
-statement_sound zero most ws s rest e = absurd cc
-statement_sound (suc room) most [] s rest e = absurd cc
-statement_sound (suc room) most (Literal value ∷ ws) s rest e = absurd cc
-statement_sound (suc room) most (Text bytes ∷ ws) s rest e = absurd cc
-statement_sound (suc room) most (Name name ∷ ws) s rest e =
-    let w = when_ok (bytes_eq name (codes "println")) Syntax (println_call most room ws) (said s rest) e in
-    subst (λ (x : List ℕ). IsEntry (statements (suc room) most) (Name x ∷ ws) s rest) (sym (bytes_are name (codes "println") w.0)) (call_sound room most ws s rest w.1)
-statement_sound (suc room) most (Mark kind ∷ ws) s rest e =
-    let w = when_ok (is_kind kind kinds.Semicolon || is_kind kind kinds.RightBrace) Syntax (Ok (said Empty (Mark kind ∷ ws))) (said s rest) e in
-    subst (λ (x : Statement × List Lexeme). IsEntry (statements (suc room) most) (Mark kind ∷ ws) x.0 x.1) (ok_is (said Empty (Mark kind ∷ ws)) (said s rest) w.1) (record { parts = refl; is = tt; low = omega arith; few = λ listing. omega arith })
 
 brace_sound : (kind : Kind) (b : Bool) (ws : List Lexeme) (next : Next × List Lexeme) → is_kind kind kinds.RightBrace ≡ b → cond b (Ok (ends_with false ws)) (Err Syntax) ≡ Ok next → (Mark kind ∷ ws ≡ Mark kinds.RightBrace ∷ ws) × (ends_with false ws ≡ next)
 brace_sound kind true ws next is e = (ap (λ (k : Kind). Mark k ∷ ws) (kind_is kind kinds.RightBrace is), ok_is (ends_with false ws) next e)

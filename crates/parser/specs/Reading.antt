@@ -1,35 +1,21 @@
 -- Reading from left to right.
-use Rattle.std.specs.Prelude.{◌≡◌, ℕ, zero, suc, ◌+◌, Bool, true, false, ◌||◌, List, [], ◌∷◌, Option, None, Result, Ok, Err, if◌then◌else◌, length, bytes_eq, codes}
+use Rattle.std.specs.Prelude.{◌≡◌, ℕ, zero, suc, ◌+◌, Bool, true, false, ◌||◌, List, [], ◌∷◌, None, Result, Ok, Err, if◌then◌else◌, length, codes}
 use Rattle.scanner.specs.declared.kind.Kind.TheVariants as kinds
-use Rattle.syntax.specs.Tree.{Part, Value, Print, Statement, Empty, Alone, statements, FunctionTop, File}
-use Rattle.syntax.specs.Measures.{Entries}
+use Rattle.syntax.specs.Tree.{Statement, Empty, Alone, statements, FunctionTop, File}
 use Rattle.parser_base.specs.declared.list.Next.{Next}
 use Rattle.parser_base.specs.declared.list.Next.TheVariants.{More, End}
 use Rattle.parser_base.specs.Lexemes.{Lexeme, Literal, Name, Text, Mark}
-use Rattle.parser_base.specs.Reading.{Refusal, Syntax, TooDeep, TooMany, Reading, ◌>>=◌, is_kind, expect, expect_name, plain_name, listed, value_next, expression}
+use Rattle.parser_base.specs.Reading.{Refusal, Syntax, TooDeep, Reading, ◌>>=◌, is_kind, expect, expect_name, plain_name, listed}
+use Rattle.parser_simple.specs.Reading.{as_one, simple}
 
 -- ---- statements
-
--- an argument of println
-unfoldable pub part : ℕ → ℕ → List Lexeme → Reading Part
-part most room words = expression true most room 0 words >>= λ value. Ok (Value value.0, value.1)
-
--- a call of println behind its name
-unfoldable pub println_call : ℕ → ℕ → List Lexeme → Reading Statement
-println_call most room words = do
-  inside ← expect kinds.LeftParenthesis words
-  parts ← listed (part most room) (value_next kinds.RightParenthesis) (TooMany Entries) most inside
-  Ok (Alone (Print true parts.0.0 parts.0.1), parts.1)
 
 -- a statement of at most so many levels, whose lists have at most so many entries
 unfoldable pub statement : ℕ → ℕ → List Lexeme → Reading Statement
 statement most zero words = Err TooDeep
-statement most (suc room) [] = Err Syntax
-statement most (suc room) (Literal value ∷ rest) = Err Syntax
-statement most (suc room) (Text bytes ∷ rest) = Err Syntax
-statement most (suc room) (Name name ∷ rest) = if bytes_eq name (codes "println") then println_call most room rest else Err Syntax
 statement most (suc room) (Mark kind ∷ rest) =
-    if is_kind kind kinds.Semicolon || is_kind kind kinds.RightBrace then Ok (Empty, Mark kind ∷ rest) else Err Syntax
+    if is_kind kind kinds.Semicolon || is_kind kind kinds.RightBrace then Ok (Empty, Mark kind ∷ rest) else as_one Alone (simple true true most room (Mark kind ∷ rest))
+statement most (suc room) words = as_one Alone (simple true true most room words)
 
 -- what follows a statement
 unfoldable pub statement_next : List Lexeme → Reading Next

@@ -1,40 +1,24 @@
 -- The one list of lexemes that spells a tree.
 --
--- Forms that are not read yet are not well-formed here: all statements but the empty one and `println` of values, all
--- declarations but one function without parameters and result.
-use Rattle.std.specs.Prelude.{◌≡◌, ℕ, Bool, true, false, None, List, [], ◌∷◌, ◌++◌, codes}
+-- Forms that are not read yet are not well-formed here: all statements but the empty one and simple statements, all
+-- declarations but one function without parameters and result. `statement_words statement rest` is the statement, and
+-- then `rest`.
+use Rattle.std.specs.Prelude.{◌≡◌, ℕ, true, false, None, List, [], ◌∷◌, codes}
 use Rattle.scanner.specs.declared.kind.Kind.TheVariants as kinds
-use Rattle.syntax.specs.Tree.{Part, Value, Text as TextPart, Simple, Print, Statement, Empty, Alone, statements_in, Function, Top, FunctionTop, File}
-use Rattle.parser_base.specs.Lexemes.{Lexeme, Name, Text, Mark}
-use Rattle.parser_base.specs.Spelling.{is_builtin, joined, AreSome, AreAll, IsTrailing, closing, expression_words, IsGrouped}
+use Rattle.syntax.specs.Tree.{Statement, Empty, Alone, statements_in, Function, Top, FunctionTop, File}
+use Rattle.parser_base.specs.Lexemes.{Lexeme, Name, Mark}
+use Rattle.parser_base.specs.Spelling.{is_builtin, behind, joined, AreSome}
+use Rattle.parser_simple.specs.Spelling.{simple_words, IsSimple}
 
 -- ---- statements
 
-abbrev pub part_words : Part → List Lexeme
-part_words (Value value) = expression_words value
-part_words (TextPart bytes) = Text bytes ∷ []
-
--- strings are not read yet
-abbrev pub IsPart : Part → Type 0
-IsPart (Value value) = IsGrouped true value
-IsPart (TextPart bytes) = ⊥
-
-abbrev pub simple_words : Simple → List Lexeme
-simple_words (Print true parts trailing) =
-    Name (codes "println") ∷ Mark kinds.LeftParenthesis ∷ (joined part_words (Mark kinds.Comma) parts ++ closing kinds.RightParenthesis trailing)
-simple_words simple = []
-
-abbrev pub IsSimple : Simple → Type 0
-IsSimple (Print true parts trailing) = AreSome IsPart parts
-IsSimple simple = ⊥
-
-abbrev pub statement_words : Statement → List Lexeme
-statement_words (Alone simple) = simple_words simple
-statement_words statement = []
+abbrev pub statement_words : Statement → List Lexeme → List Lexeme
+statement_words (Alone simple) rest = simple_words simple rest
+statement_words statement rest = rest
 
 abbrev pub IsStatement : Statement → Type 0
 IsStatement Empty = Unit {0}
-IsStatement (Alone simple) = IsSimple simple
+IsStatement (Alone simple) = IsSimple true true simple
 IsStatement statement = ⊥
 
 -- ---- files
@@ -47,7 +31,7 @@ header_words name rest =
 
 abbrev pub tops_words : List Top → List Lexeme
 tops_words (FunctionTop function ∷ []) =
-    header_words function.name (joined statement_words (Mark kinds.Semicolon) (statements_in function.body) ++ (Mark kinds.RightBrace ∷ Mark kinds.Semicolon ∷ []))
+    header_words function.name (joined statement_words (behind kinds.Semicolon) (statements_in function.body) (Mark kinds.RightBrace ∷ Mark kinds.Semicolon ∷ []))
 tops_words tops = []
 
 abbrev pub words : File → List Lexeme

@@ -14,9 +14,9 @@ use Rattle.parser_base.specs.declared.operator.Step.{Step}
 use Rattle.parser_base.specs.declared.operator.Step.TheVariants.{Operator, Period}
 use Rattle.parser_base.specs.declared.list.Next.TheVariants.{More, End}
 use Rattle.parser_base.specs.Lexemes.{Lexeme, Literal, Name, Text, Mark}
-use Rattle.parser_base.specs.Spelling.{is_builtin, joined, separated, closing, AreAll, IsTrailing, HasLast, expression_words, expressions_words, more_words, outer_precedence, precedence, IsGrouped, AreGrouped, unary_kind, binary_kind}
-use Rattle.parser_base.specs.Reading.{Reading, TooDeep, TooMany, ◌>>=◌, is_kind, expect, begins, value_next, values, composite, named, plain_name, binary_of, step_of, strength, binding, step_at, negated, parenthesized, operand, applied, operation, operations, expression, listed}
-use Rattle.parser_base.proofs.Marks.{expect_again, plain_name_again}
+use Rattle.parser_base.specs.Spelling.{is_builtin, behind, joined, separated, closing, before, AreAll, IsTrailing, HasLast, expression_words, expressions_words, more_words, outer_precedence, precedence, IsGrouped, AreGrouped, unary_kind, binary_kind}
+use Rattle.parser_base.specs.Reading.{Reading, TooDeep, TooMany, ◌>>=◌, is_kind, expect, begins, entry_next, value_next, values, composite, named, plain_name, binary_of, step_of, strength, binding, step_at, negated, parenthesized, operand, applied, operation, operations, expression, listed}
+use Rattle.parser_base.proofs.Marks.{is_kind_same, expect_again, plain_name_again}
 use Rattle.parser_base.proofs.ListLaws.{AreFew, Outcome, Found, High, Many, Found as AllFound, High as AllHigh, Many as AllMany, Full, Entries as Listed, IsReadAgain, Separates, listed_again, all_again}
 
 -- ---- operators
@@ -221,13 +221,26 @@ count_in : (vs : Expressions) → length (expressions_in vs) ≡ expressions_cou
 count_in NoMore = refl
 count_in (Behind v vs) = omega (arith, count_in vs)
 
-more_words_in : (vs : Expressions) → more_words vs ≡ separated expression_words (Mark kinds.Comma) (expressions_in vs)
-more_words_in NoMore = refl
-more_words_in (Behind v vs) = ap (λ (ws : List Lexeme). Mark kinds.Comma ∷ (expression_words v ++ ws)) (more_words_in vs)
+more_words_in : (vs : Expressions) (rest : List Lexeme) → more_words vs ++ rest ≡ separated before (behind kinds.Comma) (expressions_in vs) rest
+more_words_in NoMore rest = refl
+more_words_in (Behind v vs) rest =
+    ap (λ (ws : List Lexeme). Mark kinds.Comma ∷ ws) (append_assoc (expression_words v) (more_words vs) rest ∙ ap (λ (ws : List Lexeme). expression_words v ++ ws) (more_words_in vs rest))
 
-pub words_in : (vs : Expressions) → expressions_words vs ≡ joined expression_words (Mark kinds.Comma) (expressions_in vs)
-words_in NoMore = refl
-words_in (Behind v vs) = ap (λ (ws : List Lexeme). expression_words v ++ ws) (more_words_in vs)
+pub words_in : (vs : Expressions) (rest : List Lexeme) → expressions_words vs ++ rest ≡ joined before (behind kinds.Comma) (expressions_in vs) rest
+words_in NoMore rest = refl
+words_in (Behind v vs) rest = append_assoc (expression_words v) (more_words vs) rest ∙ ap (λ (ws : List Lexeme). expression_words v ++ ws) (more_words_in vs rest)
+
+-- what closes a list, before what follows
+pub closing_before : (separator close : Kind) (trailing : Bool) (rest : List Lexeme) → closing separator close trailing [] ++ rest ≡ closing separator close trailing rest
+closing_before separator close true rest = refl
+closing_before separator close false rest = refl
+
+pub composite_words : (vs : Expressions) (trailing : Bool) (rest : List Lexeme)
+    → (expressions_words vs ++ closing kinds.Comma kinds.RightBrace trailing []) ++ rest ≡ joined before (behind kinds.Comma) (expressions_in vs) (closing kinds.Comma kinds.RightBrace trailing rest)
+composite_words vs trailing rest =
+    append_assoc (expressions_words vs) (closing kinds.Comma kinds.RightBrace trailing []) rest
+    ∙ ap (λ (ws : List Lexeme). expressions_words vs ++ ws) (closing_before kinds.Comma kinds.RightBrace trailing rest)
+    ∙ words_in vs (closing kinds.Comma kinds.RightBrace trailing rest)
 
 pub grouped_in : (literals : Bool) (vs : Expressions) → AreGrouped literals vs → AreAll (IsGrouped literals) (expressions_in vs)
 grouped_in literals NoMore all = tt
@@ -392,9 +405,9 @@ abbrev pub listed_values : (literals : Bool) (most room : ℕ) (close : Kind) �
 listed_values literals most room close = record {
   one = expression literals most room 0;
   next = value_next close;
-  each = expression_words;
-  separator = Mark kinds.Comma;
-  ending = closing close;
+  each = before;
+  separator = behind kinds.Comma;
+  ending = closing kinds.Comma close;
   height = expression_height;
   longest = expression_longest;
   room = room;
@@ -425,22 +438,31 @@ pub close_ends : (literals : Bool) (close : Kind) (rest : List Lexeme) → IsClo
 unfolding step_at
 close_ends literals close rest is = record { none = rw is.step refl; shut = shut literals close rest is.brace }
 
-pub closing_ends : (literals : Bool) (close : Kind) (trailing : Bool) (rest : List Lexeme) → IsClose close → EndsExpression literals (closing close trailing ++ rest)
+pub closing_ends : (literals : Bool) (close : Kind) (trailing : Bool) (rest : List Lexeme) → IsClose close → EndsExpression literals (closing kinds.Comma close trailing rest)
 closing_ends literals close true rest is = comma_ends literals (Mark close ∷ rest)
 closing_ends literals close false rest is = close_ends literals close rest is
 
-pub closing_again : (close : Kind) (trailing : Bool) (rest : List Lexeme) → IsClose close → value_next close (closing close trailing ++ rest) ≡ Ok (End trailing, rest)
-unfolding value_next
-closing_again close true rest is = rw (is.begin rest, expect_again close rest) refl
-closing_again close false rest is = rw (is.comma, expect_again close rest) refl
+-- a list's end is read, where no entry starts with its closing mark
+pub ending_again : (separator : Kind) (starts : List Lexeme → Bool) (close : Kind) (trailing : Bool) (rest : List Lexeme) → is_kind close separator ≡ false → starts (Mark close ∷ rest) ≡ false
+    → entry_next separator starts close (closing separator close trailing rest) ≡ Ok (End trailing, rest)
+unfolding entry_next
+ending_again separator starts close true rest other none = rw (is_kind_same separator, none, expect_again close rest) refl
+ending_again separator starts close false rest other none = rw (other, expect_again close rest) refl
+
+-- another entry is read behind a separator, where one starts so
+pub more_entries : (separator : Kind) (starts : List Lexeme → Bool) (close : Kind) (words : List Lexeme) → starts words ≡ true → entry_next separator starts close (Mark separator ∷ words) ≡ Ok (More, words)
+unfolding entry_next
+more_entries separator starts close words is = rw (is_kind_same separator, is) refl
+
+pub closing_again : (close : Kind) (trailing : Bool) (rest : List Lexeme) → IsClose close → value_next close (closing kinds.Comma close trailing rest) ≡ Ok (End trailing, rest)
+closing_again close trailing rest is = ending_again kinds.Comma begins close trailing rest is.comma (is.begin rest)
 
 pub more_values : (literals : Bool) (close : Kind) (t : Expression) (rest : List Lexeme) → IsGrouped literals t → value_next close (Mark kinds.Comma ∷ (expression_words t ++ rest)) ≡ Ok (More, expression_words t ++ rest)
-unfolding value_next
-more_values literals close t rest g = rw (begins_again literals t rest g) refl
+more_values literals close t rest g = more_entries kinds.Comma begins close (expression_words t ++ rest) (begins_again literals t rest g)
 
 values_separate : (literals : Bool) (most room : ℕ) (close : Kind) (trailing : Bool) (rest : List Lexeme) → IsClose close → Separates (listed_values literals most room close) (EndsExpression literals) trailing rest
 values_separate literals most room close trailing rest is = record {
-  separator = comma_ends literals;
+  separator = λ t words one. comma_ends literals (before t words);
   more = λ t words one. more_values literals close t words one;
   ending = closing_ends literals close trailing rest is;
   end = closing_again close trailing rest is;
@@ -458,13 +480,13 @@ none_values literals most room close rest is =
 
 some_values : (literals : Bool) (most room : ℕ) (close : Kind) (v : Expression) (vs : List Expression) (trailing : Bool) (rest : List Lexeme) → IsClose close
     → AreAll (IsGrouped literals) (v ∷ vs) → AreAll (IsRead literals most) (v ∷ vs)
-    → Outcome (values (expression literals most room) close most (expression_words v ++ (separated expression_words (Mark kinds.Comma) vs ++ (closing close trailing ++ rest)))) (v ∷ vs, trailing) rest
+    → Outcome (values (expression literals most room) close most (joined before (behind kinds.Comma) (v ∷ vs) (closing kinds.Comma close trailing rest))) (v ∷ vs, trailing) rest
     (highest expression_height (v ∷ vs)) room (all_longest (v ∷ vs)) most
 unfolding values
 some_values literals most room close v vs trailing rest is grouped read =
     let l = listed_values literals most room close in
     let again = all_again (IsRead literals most) (IsReadAgain l (EndsExpression literals)) (λ t one rest ends. one room 0 rest (omega arith) ends.none ends.shut) (v ∷ vs) read in
-    let b = begins_again literals v (separated expression_words (Mark kinds.Comma) vs ++ (closing close trailing ++ rest)) grouped.0 in
+    let b = begins_again literals v (separated before (behind kinds.Comma) vs (closing kinds.Comma close trailing rest)) grouped.0 in
     rw b (elim (listed_again l (EndsExpression literals) trailing rest (TooMany Entries) (values_separate literals most room close trailing rest is) vs most v grouped again) [
       | AllFound low few count e ↦ Found low (λ listing. omega (arith, few listing, entries-le listing (length (v ∷ vs)))) (rw e refl)
       | AllHigh high e ↦ High high (rw e refl)
@@ -474,13 +496,11 @@ some_values literals most room close v vs trailing rest is grouped read =
 
 pub values_again : (literals : Bool) (most room : ℕ) (close : Kind) (vs : List Expression) (trailing : Bool) (rest : List Lexeme) → IsClose close
     → AreAll (IsGrouped literals) vs → AreAll (IsRead literals most) vs → IsTrailing vs trailing
-    → Outcome (values (expression literals most room) close most (joined expression_words (Mark kinds.Comma) vs ++ (closing close trailing ++ rest))) (vs, trailing) rest
+    → Outcome (values (expression literals most room) close most (joined before (behind kinds.Comma) vs (closing kinds.Comma close trailing rest))) (vs, trailing) rest
     (highest expression_height vs) room (all_longest vs) most
 values_again literals most room close [] true rest is grouped read last = absurd cc
 values_again literals most room close [] false rest is grouped read last = none_values literals most room close rest is
-values_again literals most room close (v ∷ vs) trailing rest is grouped read last =
-    let regroup = append_assoc (expression_words v) (separated expression_words (Mark kinds.Comma) vs) (closing close trailing ++ rest) in
-    rw regroup (some_values literals most room close v vs trailing rest is grouped read)
+values_again literals most room close (v ∷ vs) trailing rest is grouped read last = some_values literals most room close v vs trailing rest is grouped read
 
 -- ---- composite literals
 
@@ -492,9 +512,9 @@ goes_behind most room least first = operations (expression true most room) (suc 
 
 composite_goes : (most room least : ℕ) (name : List ℕ) (vs : Expressions) (trailing : Bool) (rest : List Lexeme)
     → expression true most (suc room) least (expression_words (Composite name vs trailing) ++ rest)
-    ≡ ((values (expression true most room) kinds.RightBrace most (joined expression_words (Mark kinds.Comma) (expressions_in vs) ++ (closing kinds.RightBrace trailing ++ rest)) >>= composed name)
+    ≡ ((values (expression true most room) kinds.RightBrace most (joined before (behind kinds.Comma) (expressions_in vs) (closing kinds.Comma kinds.RightBrace trailing rest)) >>= composed name)
     >>= goes_behind most room least)
-    → Outcome (values (expression true most room) kinds.RightBrace most (joined expression_words (Mark kinds.Comma) (expressions_in vs) ++ (closing kinds.RightBrace trailing ++ rest))) (expressions_in vs, trailing) rest
+    → Outcome (values (expression true most room) kinds.RightBrace most (joined before (behind kinds.Comma) (expressions_in vs) (closing kinds.Comma kinds.RightBrace trailing rest))) (expressions_in vs, trailing) rest
     (highest expression_height (expressions_in vs)) room (all_longest (expressions_in vs)) most
     → Reads true most room least (Composite name vs trailing) rest
 composite_goes most room least name vs trailing rest begin (Found low few e) =
@@ -509,9 +529,7 @@ reads_composite : (literals : Bool) (most : ℕ) (name : List ℕ) (vs : Express
 unfolding expression operand named composite
 reads_composite false most name vs trailing read g room least rest le none is_shut = let bad = g.0 in absurd cc
 reads_composite true most name vs trailing read g room least rest le none is_shut =
-    let regroup : (expressions_words vs ++ closing kinds.RightBrace trailing) ++ rest ≡ joined expression_words (Mark kinds.Comma) (expressions_in vs) ++ (closing kinds.RightBrace trailing ++ rest) =
-    append_assoc (expressions_words vs) (closing kinds.RightBrace trailing) rest ∙ ap (λ (ws : List Lexeme). ws ++ (closing kinds.RightBrace trailing ++ rest)) (words_in vs) in
-    composite_goes most room least name vs trailing rest (rw (g.1, regroup) refl)
+    composite_goes most room least name vs trailing rest (rw (g.1, composite_words vs trailing rest) refl)
     (values_again true most room kinds.RightBrace (expressions_in vs) trailing rest brace_closes (grouped_in true vs g.2) read (last_in vs trailing g.3))
 
 mutual

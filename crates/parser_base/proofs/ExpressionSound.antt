@@ -1,5 +1,5 @@
 -- What is read as an expression is spelt so.
-use Rattle.std.proofs.Common.{◌≡◌, ℕ, zero, suc, ◌+◌, ◌<◌, ◌≤◌, max, List, [], ◌∷◌, ◌++◌, length, Option, Some, None, Ok, Err, Bool, true, false, cond, leb, inl, inr, refl, ap, ◌∙◌, sym, subst, arith, append_assoc}
+use Rattle.std.proofs.Common.{◌≡◌, ℕ, zero, suc, ◌+◌, ◌<◌, ◌≤◌, max, min, List, [], ◌∷◌, ◌++◌, length, Option, Some, None, Ok, Err, Bool, true, false, cond, leb, inl, inr, refl, ap, ◌∙◌, sym, subst, arith, append_assoc}
 use Rattle.std.proofs.lemmas.Bool.{le-leb, lt-leb, leb-false, cases_lt}
 use Rattle.scanner.specs.declared.kind.Kind.{Kind}
 use Rattle.scanner.specs.declared.kind.Kind.TheVariants as kinds
@@ -15,11 +15,11 @@ use Rattle.parser_base.specs.declared.operator.Step.TheVariants.{Operator, Perio
 use Rattle.parser_base.specs.declared.list.Next.{Next}
 use Rattle.parser_base.specs.declared.list.Next.TheVariants.{More, End}
 use Rattle.parser_base.specs.Lexemes.{Lexeme, Literal, Name, Text, Mark}
-use Rattle.parser_base.specs.Spelling.{is_builtin, joined, closing, AreAll, AreSome, IsTrailing, HasLast, expression_words, expressions_words, outer_precedence, precedence, IsGrouped, AreGrouped, unary_kind, binary_kind}
-use Rattle.parser_base.specs.Reading.{Reading, Syntax, TooDeep, TooMany, ◌>>=◌, is_kind, expect, begins, closed, behind_comma, value_next, values, composite, named, plain_name, binary_of, unary_of, operator_step, step_of, strength, binding, step_at, negated, parenthesized, operand, applied, operation, operations, expression, listed}
+use Rattle.parser_base.specs.Spelling.{is_builtin, behind, joined, closing, before, AreAll, AreSome, IsTrailing, HasLast, expression_words, expressions_words, outer_precedence, precedence, IsGrouped, AreGrouped, unary_kind, binary_kind}
+use Rattle.parser_base.specs.Reading.{Reading, Syntax, TooDeep, TooMany, ◌>>=◌, is_kind, expect, begins, closed, behind_separator, entry_next, value_next, values, composite, named, plain_name, binary_of, unary_of, operator_step, step_of, strength, binding, step_at, negated, parenthesized, operand, applied, operation, operations, expression, listed}
 use Rattle.parser_base.proofs.Marks.{bind_ok, unless_ok, when_ok, ok_is, kind_is, expect_is, plain_name_is}
 use Rattle.parser_base.proofs.ListLaws.{AreFew, Entries as Listed, IsEntry, ReadsSoundly as EntriesSoundly, listed_sound}
-use Rattle.parser_base.proofs.ExpressionAgain.{step_kind, precedence-lt, strength-lt, outer_precedence-le, none_above, none_strong, at_step, entries-le, words_in, listed_values}
+use Rattle.parser_base.proofs.ExpressionAgain.{step_kind, precedence-lt, strength-lt, outer_precedence-le, none_above, none_strong, at_step, entries-le, composite_words}
 
 abbrev some : {A : Type 0} → A → Option A
 some x = Some x
@@ -102,11 +102,12 @@ pub record IsSound (literals : Bool) (most room least : ℕ) (ws : List Lexeme) 
   pub grouped : IsGrouped literals t
   pub low : expression_height t ≤ room
   pub few : AreFew (λ listing. expression_longest listing t) most
-  pub strong : least ≤ outer_precedence t
+  -- a unary operator is read even where only a selection binds so strongly
+  pub strong : min least 6 ≤ outer_precedence t
   pub none : step_at least rest ≡ None
 
 abbrev pub ReadsSoundly : Bool → ℕ → (ℕ → List Lexeme → Reading Expression) → ℕ → Type 0
-ReadsSoundly literals most deeper room = (least : ℕ) (ws : List Lexeme) (t : Expression) (rest : List Lexeme) → least ≤ 6 → deeper least ws ≡ Ok (t, rest) → IsSound literals most room least ws t rest
+ReadsSoundly literals most deeper room = (least : ℕ) (ws : List Lexeme) (t : Expression) (rest : List Lexeme) → deeper least ws ≡ Ok (t, rest) → IsSound literals most room least ws t rest
 
 -- what is no operation and no selection
 record IsOperand (literals : Bool) (most room : ℕ) (ws : List Lexeme) (t : Expression) (rest : List Lexeme) : Type 0 where
@@ -128,7 +129,7 @@ unfolding parenthesized
 parenthesized_sound literals most deeper room sound ws t rest e =
     let a = bind_ok (deeper 0 ws) closes (t, rest) e in
     let b = bind_ok (expect kinds.RightParenthesis a.0.1) (λ after. Ok (Parenthesized a.0.0, after)) (t, rest) a.2 in
-    let s = sound 0 ws a.0.0 a.0.1 (omega arith) a.1 in
+    let s = sound 0 ws a.0.0 a.0.1 a.1 in
     let c = expect_is kinds.RightParenthesis a.0.1 b.0 b.1 in
     subst (λ (x : Expression × List Lexeme). IsOperand literals most (suc room) (Mark kinds.LeftParenthesis ∷ ws) x.0 x.1) (ok_is (with_rest (Parenthesized a.0.0) b.0) (t, rest) b.2) (record {
       parts = ap (λ (x : List Lexeme). Mark kinds.LeftParenthesis ∷ x) (s.parts ∙ ap (λ (x : List Lexeme). expression_words a.0.0 ++ x) c ∙ sym (append_assoc (expression_words a.0.0) (Mark kinds.RightParenthesis ∷ []) b.0));
@@ -143,10 +144,10 @@ negated_sound : (literals : Bool) (most : ℕ) (deeper : ℕ → List Lexeme →
 negated_sound literals most deeper room sound kind ws None t rest is e = absurd cc
 negated_sound literals most deeper room sound kind ws (Some o) t rest is e =
     let a = bind_ok (deeper 6 ws) (λ inner. Ok (Unary o inner.0, inner.1)) (t, rest) e in
-    let s = sound 6 ws a.0.0 a.0.1 (omega arith) a.1 in
+    let s = sound 6 ws a.0.0 a.0.1 a.1 in
     subst (λ (x : Expression × List Lexeme). IsOperand literals most (suc room) (Mark kind ∷ ws) x.0 x.1) (ok_is (with_rest (Unary o a.0.0) a.0.1) (t, rest) a.2) (record {
       parts = λ i. Mark (unary_is kind o is i) ∷ s.parts i;
-      grouped = (s.grouped, s.strong);
+      grouped = (s.grouped, omega (arith, s.strong));
       low = omega (arith, s.low);
       few = s.few;
       strong = omega arith;
@@ -179,55 +180,55 @@ close_no_more close before ws rest e =
     let kind : End before ≡ More = ap (λ (x : Next × List Lexeme). x.0) same in
     cc
 
-comma_more : (close : Kind) (b : Bool) (ws rest : List Lexeme) → cond b (Ok (goes_on_with ws)) (closed close true ws) ≡ Ok (goes_on_with rest) → ws ≡ rest
-comma_more close true ws rest e = ap (λ (x : Next × List Lexeme). x.1) (ok_is (goes_on_with ws) (goes_on_with rest) e)
-comma_more close false ws rest e = absurd (close_no_more close true ws rest e)
+separator_more : (close : Kind) (b : Bool) (ws rest : List Lexeme) → cond b (Ok (goes_on_with ws)) (closed close true ws) ≡ Ok (goes_on_with rest) → ws ≡ rest
+separator_more close true ws rest e = ap (λ (x : Next × List Lexeme). x.1) (ok_is (goes_on_with ws) (goes_on_with rest) e)
+separator_more close false ws rest e = absurd (close_no_more close true ws rest e)
 
-comma_end : (close : Kind) (b : Bool) (ws : List Lexeme) (trailing : Bool) (rest : List Lexeme) → cond b (Ok (goes_on_with ws)) (closed close true ws) ≡ Ok (ends_with trailing rest) → (true ≡ trailing) × (ws ≡ Mark close ∷ rest)
-comma_end close true ws trailing rest e =
+separator_end : (close : Kind) (b : Bool) (ws : List Lexeme) (trailing : Bool) (rest : List Lexeme) → cond b (Ok (goes_on_with ws)) (closed close true ws) ≡ Ok (ends_with trailing rest) → (true ≡ trailing) × (ws ≡ Mark close ∷ rest)
+separator_end close true ws trailing rest e =
     let same = ok_is (goes_on_with ws) (ends_with trailing rest) e in
     let kind : More ≡ End trailing = ap (λ (x : Next × List Lexeme). x.0) same in
     absurd cc
-comma_end close false ws trailing rest e = close_sound close true ws trailing rest e
+separator_end close false ws trailing rest e = close_sound close true ws trailing rest e
 
-mark_more : (close kind : Kind) (b : Bool) (ws rest : List Lexeme) → is_kind kind kinds.Comma ≡ b → cond b (behind_comma close ws) (closed close false (Mark kind ∷ ws)) ≡ Ok (goes_on_with rest) → Mark kind ∷ ws ≡ Mark kinds.Comma ∷ rest
-mark_more close kind true ws rest is e = λ i. Mark (kind_is kind kinds.Comma is i) ∷ comma_more close (begins ws) ws rest e i
-mark_more close kind false ws rest is e = absurd (close_no_more close false (Mark kind ∷ ws) rest e)
+mark_more : (separator : Kind) (starts : List Lexeme → Bool) (close kind : Kind) (b : Bool) (ws rest : List Lexeme) → is_kind kind separator ≡ b → cond b (behind_separator starts close ws) (closed close false (Mark kind ∷ ws)) ≡ Ok (goes_on_with rest) → Mark kind ∷ ws ≡ Mark separator ∷ rest
+mark_more separator starts close kind true ws rest is e = λ i. Mark (kind_is kind separator is i) ∷ separator_more close (starts ws) ws rest e i
+mark_more separator starts close kind false ws rest is e = absurd (close_no_more close false (Mark kind ∷ ws) rest e)
 
-pub value_more_sound : (close : Kind) (ws rest : List Lexeme) → value_next close ws ≡ Ok (goes_on_with rest) → ws ≡ Mark kinds.Comma ∷ rest
-unfolding value_next
-value_more_sound close [] rest e = absurd cc
-value_more_sound close (Literal value ∷ ws) rest e = absurd cc
-value_more_sound close (Name bytes ∷ ws) rest e = absurd cc
-value_more_sound close (Text bytes ∷ ws) rest e = absurd cc
-value_more_sound close (Mark kind ∷ ws) rest e = mark_more close kind (is_kind kind kinds.Comma) ws rest refl e
+pub entry_more_sound : (separator : Kind) (starts : List Lexeme → Bool) (close : Kind) (ws rest : List Lexeme) → entry_next separator starts close ws ≡ Ok (goes_on_with rest) → ws ≡ Mark separator ∷ rest
+unfolding entry_next
+entry_more_sound separator starts close [] rest e = absurd cc
+entry_more_sound separator starts close (Literal value ∷ ws) rest e = absurd cc
+entry_more_sound separator starts close (Name bytes ∷ ws) rest e = absurd cc
+entry_more_sound separator starts close (Text bytes ∷ ws) rest e = absurd cc
+entry_more_sound separator starts close (Mark kind ∷ ws) rest e = mark_more separator starts close kind (is_kind kind separator) ws rest refl e
 
-mark_end : (close kind : Kind) (b : Bool) (ws : List Lexeme) (trailing : Bool) (rest : List Lexeme) → is_kind kind kinds.Comma ≡ b → cond b (behind_comma close ws) (closed close false (Mark kind ∷ ws)) ≡ Ok (ends_with trailing rest) → Mark kind ∷ ws ≡ closing close trailing ++ rest
-mark_end close kind true ws trailing rest is e =
-    let a = comma_end close (begins ws) ws trailing rest e in
-    let both : Mark kind ∷ ws ≡ closing close true ++ rest = λ i. Mark (kind_is kind kinds.Comma is i) ∷ a.1 i in
-    both ∙ ap (λ (b : Bool). closing close b ++ rest) a.0
-mark_end close kind false ws trailing rest is e =
+mark_end : (separator : Kind) (starts : List Lexeme → Bool) (close kind : Kind) (b : Bool) (ws : List Lexeme) (trailing : Bool) (rest : List Lexeme) → is_kind kind separator ≡ b → cond b (behind_separator starts close ws) (closed close false (Mark kind ∷ ws)) ≡ Ok (ends_with trailing rest) → Mark kind ∷ ws ≡ closing separator close trailing rest
+mark_end separator starts close kind true ws trailing rest is e =
+    let a = separator_end close (starts ws) ws trailing rest e in
+    let both : Mark kind ∷ ws ≡ closing separator close true rest = λ i. Mark (kind_is kind separator is i) ∷ a.1 i in
+    both ∙ ap (λ (b : Bool). closing separator close b rest) a.0
+mark_end separator starts close kind false ws trailing rest is e =
     let a = close_sound close false (Mark kind ∷ ws) trailing rest e in
-    let both : Mark kind ∷ ws ≡ closing close false ++ rest = a.1 in
-    both ∙ ap (λ (b : Bool). closing close b ++ rest) a.0
+    let both : Mark kind ∷ ws ≡ closing separator close false rest = a.1 in
+    both ∙ ap (λ (b : Bool). closing separator close b rest) a.0
 
-pub value_end_sound : (close : Kind) (ws : List Lexeme) (trailing : Bool) (rest : List Lexeme) → value_next close ws ≡ Ok (ends_with trailing rest) → ws ≡ closing close trailing ++ rest
-unfolding value_next
-value_end_sound close [] trailing rest e = absurd cc
-value_end_sound close (Literal value ∷ ws) trailing rest e = absurd cc
-value_end_sound close (Name bytes ∷ ws) trailing rest e = absurd cc
-value_end_sound close (Text bytes ∷ ws) trailing rest e = absurd cc
-value_end_sound close (Mark kind ∷ ws) trailing rest e = mark_end close kind (is_kind kind kinds.Comma) ws trailing rest refl e
+pub entry_end_sound : (separator : Kind) (starts : List Lexeme → Bool) (close : Kind) (ws : List Lexeme) (trailing : Bool) (rest : List Lexeme) → entry_next separator starts close ws ≡ Ok (ends_with trailing rest) → ws ≡ closing separator close trailing rest
+unfolding entry_next
+entry_end_sound separator starts close [] trailing rest e = absurd cc
+entry_end_sound separator starts close (Literal value ∷ ws) trailing rest e = absurd cc
+entry_end_sound separator starts close (Name bytes ∷ ws) trailing rest e = absurd cc
+entry_end_sound separator starts close (Text bytes ∷ ws) trailing rest e = absurd cc
+entry_end_sound separator starts close (Mark kind ∷ ws) trailing rest e = mark_end separator starts close kind (is_kind kind separator) ws trailing rest refl e
 
 -- values read by a reader that is sound
 abbrev deeper_values : (literals : Bool) (most room : ℕ) (close : Kind) (deeper : ℕ → List Lexeme → Reading Expression) → Listed Expression
 deeper_values literals most room close deeper = record {
   one = deeper 0;
   next = value_next close;
-  each = expression_words;
-  separator = Mark kinds.Comma;
-  ending = closing close;
+  each = before;
+  separator = behind kinds.Comma;
+  ending = closing kinds.Comma close;
   height = expression_height;
   longest = expression_longest;
   room = room;
@@ -237,13 +238,13 @@ deeper_values literals most room close deeper = record {
 
 deeper_sound : (literals : Bool) (most room : ℕ) (close : Kind) (deeper : ℕ → List Lexeme → Reading Expression) → ReadsSoundly literals most deeper room → EntriesSoundly (deeper_values literals most room close deeper)
 deeper_sound literals most room close deeper sound = record {
-  one = λ ws t rest e. let s = sound 0 ws t rest (omega arith) e in record { parts = s.parts; is = s.grouped; low = s.low; few = s.few };
-  more = value_more_sound close;
-  end = value_end_sound close;
+  one = λ ws t rest e. let s = sound 0 ws t rest e in record { parts = s.parts; is = s.grouped; low = s.low; few = s.few };
+  more = entry_more_sound kinds.Comma begins close;
+  end = entry_end_sound kinds.Comma begins close;
 }
 
 pub record AreValues (literals : Bool) (most room : ℕ) (close : Kind) (ws : List Lexeme) (vs : List Expression) (trailing : Bool) (rest : List Lexeme) : Type 0 where
-  pub parts : ws ≡ joined expression_words (Mark kinds.Comma) vs ++ (closing close trailing ++ rest)
+  pub parts : ws ≡ joined before (behind kinds.Comma) vs (closing kinds.Comma close trailing rest)
   pub are : AreAll (IsGrouped literals) vs
   pub last : IsTrailing vs trailing
   pub low : highest expression_height vs ≤ room
@@ -303,8 +304,8 @@ composite_sound most deeper room sound name ws t rest plain e =
     let vs = a.0.0.0 in
     let trailing = a.0.0.1 in
     let v = values_sound true most room kinds.RightBrace deeper sound ws vs trailing a.0.1 a.1 in
-    let words : joined expression_words (Mark kinds.Comma) vs ≡ expressions_words (expressions vs) = sym (words_in (expressions vs) ∙ ap (joined expression_words (Mark kinds.Comma)) (expressions_in-expressions vs)) in
-    let parts = v.parts ∙ ap (λ (x : List Lexeme). x ++ (closing kinds.RightBrace trailing ++ a.0.1)) words ∙ sym (append_assoc (expressions_words (expressions vs)) (closing kinds.RightBrace trailing) a.0.1) in
+    let same = ap (λ (xs : List Expression). joined before (behind kinds.Comma) xs (closing kinds.Comma kinds.RightBrace trailing a.0.1)) (expressions_in-expressions vs) in
+    let parts = v.parts ∙ sym same ∙ sym (composite_words (expressions vs) trailing a.0.1) in
     subst (λ (x : Expression × List Lexeme). IsOperand true most (suc room) (Name name ∷ Mark kinds.LeftBrace ∷ ws) x.0 x.1) (ok_is (with_rest (Composite name (expressions vs) trailing) a.0.1) (with_rest t rest) a.2) (record {
       parts = ap (λ (x : List Lexeme). Name name ∷ Mark kinds.LeftBrace ∷ x) parts;
       grouped = (refl, plain, grouped_of true vs v.are, last_of vs trailing v.last);
@@ -360,7 +361,7 @@ operand_sound literals most deeper room sound (Text bytes ∷ ws) t rest e = abs
 operand_sound literals most deeper room sound (Mark kind ∷ ws) t rest e = mark_sound literals most deeper room sound kind ws (is_kind kind kinds.LeftParenthesis) t rest refl e
 
 abbrev GoesOn : Bool → ℕ → (Expression → List Lexeme → Reading Expression) → (room least : ℕ) → Type 0
-GoesOn literals most next room least = (left : Expression) (ws : List Lexeme) (t : Expression) (rest : List Lexeme) → IsGrouped literals left → expression_height left ≤ room → AreFew (λ listing. expression_longest listing left) most → least ≤ outer_precedence left → step_at (suc (outer_precedence left)) ws ≡ None → next left ws ≡ Ok (t, rest)
+GoesOn literals most next room least = (left : Expression) (ws : List Lexeme) (t : Expression) (rest : List Lexeme) → IsGrouped literals left → expression_height left ≤ room → AreFew (λ listing. expression_longest listing left) most → min least 6 ≤ outer_precedence left → step_at (suc (outer_precedence left)) ws ≡ None → next left ws ≡ Ok (t, rest)
     → IsSound literals most room least (expression_words left ++ ws) t rest
 
 -- what a step makes of what was read before
@@ -377,10 +378,10 @@ applied_sound : (literals : Bool) (most : ℕ) (deeper : ℕ → List Lexeme →
 applied_sound literals most deeper room sound left (Operator o) after t rest grouped low few order e =
     let a = bind_ok (deeper (precedence o + 1) after) (λ right. Ok (with_rest (Binary o left right.0) right.1)) (with_rest t rest) e in
     let one_more : precedence o + 1 ≡ suc (precedence o) = omega arith in
-    let r = sound (precedence o + 1) after a.0.0 a.0.1 (omega (arith, precedence-lt o)) a.1 in
+    let r = sound (precedence o + 1) after a.0.0 a.0.1 a.1 in
     subst (λ (x : Expression × List Lexeme). IsApplied literals most room left (Operator o) after x.0 x.1) (ok_is (with_rest (Binary o left a.0.0) a.0.1) (with_rest t rest) a.2) (record {
       parts = ap (λ (x : List Lexeme). expression_words left ++ (Mark (binary_kind o) ∷ x)) r.parts ∙ sym (append_assoc (expression_words left) (Mark (binary_kind o) ∷ expression_words a.0.0) a.0.1);
-      grouped = (grouped, r.grouped, order, omega (arith, r.strong));
+      grouped = (grouped, r.grouped, order, omega (arith, r.strong, precedence-lt o));
       low = omega (arith, r.low);
       few = λ listing. omega (arith, few listing, r.few listing);
       strong = refl;
@@ -399,7 +400,7 @@ applied_sound literals most deeper room sound left Period after t rest grouped l
     })
 
 operation_sound : (literals : Bool) (most : ℕ) (deeper : ℕ → List Lexeme → Reading Expression) (next : Expression → List Lexeme → Reading Expression) (room least : ℕ) → ReadsSoundly literals most deeper room → GoesOn literals most next (suc room) least
-    → (left : Expression) (ws : List Lexeme) (found : Option (Step × List Lexeme)) (t : Expression) (rest : List Lexeme) → IsGrouped literals left → expression_height left ≤ suc room → AreFew (λ listing. expression_longest listing left) most → least ≤ outer_precedence left → step_at (suc (outer_precedence left)) ws ≡ None
+    → (left : Expression) (ws : List Lexeme) (found : Option (Step × List Lexeme)) (t : Expression) (rest : List Lexeme) → IsGrouped literals left → expression_height left ≤ suc room → AreFew (λ listing. expression_longest listing left) most → min least 6 ≤ outer_precedence left → step_at (suc (outer_precedence left)) ws ≡ None
     → step_at least ws ≡ found → operation deeper next (suc room) left ws found ≡ Ok (t, rest) → IsSound literals most (suc room) least (expression_words left ++ ws) t rest
 unfolding operation
 operation_sound literals most deeper next room least sound goes left ws None t rest grouped low few strong none is e =
@@ -431,8 +432,8 @@ operations_sound literals most deeper room least sound (suc turns) left ws t res
 
 pub expression_sound : (literals : Bool) (most room : ℕ) → ReadsSoundly literals most (expression literals most room) room
 unfolding expression
-expression_sound literals most zero least ws t rest six e = absurd cc
-expression_sound literals most (suc room) least ws t rest six e =
+expression_sound literals most zero least ws t rest e = absurd cc
+expression_sound literals most (suc room) least ws t rest e =
     let a = bind_ok (operand literals (expression literals most room) most ws) (λ first. operations (expression literals most room) (suc room) least (suc room) first.0 first.1) (t, rest) e in
     let first = operand_sound literals most (expression literals most room) room (expression_sound literals most room) ws a.0.0 a.0.1 a.1 in
     let s = operations_sound literals most (expression literals most room) room least (expression_sound literals most room) (suc room) a.0.0 a.0.1 t rest first.grouped first.low first.few (omega (arith, first.strong)) first.none a.2 in

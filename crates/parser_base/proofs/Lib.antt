@@ -8,3 +8,4 @@ pub mod ExpressionAgain
 pub mod ExpressionSound
 pub mod Sizes
 pub mod TypeLaws
+pub mod Steps

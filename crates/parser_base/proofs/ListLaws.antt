@@ -30,9 +30,10 @@ pub data ListOutcome {X : Type 0} (read : Reading (List X × Bool)) (xs : List X
 pub record Entries (X : Type 0) : Type 1 where
   pub one : List Lexeme → Reading X
   pub next : List Lexeme → Reading Next
-  pub each : X → List Lexeme
-  pub separator : Lexeme
-  pub ending : Bool → List Lexeme
+  -- an entry, a separator, or the list's ending, and then these
+  pub each : X → List Lexeme → List Lexeme
+  pub separator : List Lexeme → List Lexeme
+  pub ending : Bool → List Lexeme → List Lexeme
   pub height : X → ℕ
   pub longest : Listing → X → ℕ
   pub room : ℕ
@@ -42,25 +43,25 @@ pub record Entries (X : Type 0) : Type 1 where
 -- ---- what is spelt is read
 
 abbrev pub IsReadAgain : {X : Type 0} → Entries X → (List Lexeme → Type 0) → X → Type 0
-IsReadAgain l Ends x = (rest : List Lexeme) → Ends rest → Outcome (l.one (l.each x ++ rest)) x rest (l.height x) l.room (λ listing. l.longest listing x) l.most
+IsReadAgain l Ends x = (rest : List Lexeme) → Ends rest → Outcome (l.one (l.each x rest)) x rest (l.height x) l.room (λ listing. l.longest listing x) l.most
 
 -- what may follow an entry, and how it is read
 pub record Separates {X : Type 0} (l : Entries X) (Ends : List Lexeme → Type 0) (trailing : Bool) (rest : List Lexeme) : Type 0 where
-  pub separator : (words : List Lexeme) → Ends (l.separator ∷ words)
-  pub more : (x : X) (words : List Lexeme) → l.IsOne x → l.next (l.separator ∷ (l.each x ++ words)) ≡ Ok (More, l.each x ++ words)
-  pub ending : Ends (l.ending trailing ++ rest)
-  pub end : l.next (l.ending trailing ++ rest) ≡ Ok (End trailing, rest)
+  pub separator : (x : X) (words : List Lexeme) → l.IsOne x → Ends (l.separator (l.each x words))
+  pub more : (x : X) (words : List Lexeme) → l.IsOne x → l.next (l.separator (l.each x words)) ≡ Ok (More, l.each x words)
+  pub ending : Ends (l.ending trailing rest)
+  pub end : l.next (l.ending trailing rest) ≡ Ok (End trailing, rest)
 
 abbrev AreReadAgain : {X : Type 0} → Entries X → Bool → List Lexeme → Refusal → ℕ → X → List X → Type 0
 AreReadAgain l trailing rest full turns x xs =
-    ListOutcome (listed l.one l.next full turns (l.each x ++ (separated l.each l.separator xs ++ (l.ending trailing ++ rest)))) (x ∷ xs) trailing rest
+    ListOutcome (listed l.one l.next full turns (l.each x (separated l.each l.separator xs (l.ending trailing rest)))) (x ∷ xs) trailing rest
     (highest l.height (x ∷ xs)) l.room (λ listing. highest (l.longest listing) (x ∷ xs)) l.most turns full
 
 last_again : {X : Type 0} (l : Entries X) (Ends : List Lexeme → Type 0) (trailing : Bool) (rest : List Lexeme) (full : Refusal) → Separates l Ends trailing rest
     → (turns : ℕ) (x : X) → IsReadAgain l Ends x → AreReadAgain l trailing rest full (suc turns) x []
 unfolding listed
 last_again l Ends trailing rest full separates turns x again =
-    elim (again (l.ending trailing ++ rest) separates.ending) [
+    elim (again (l.ending trailing rest) separates.ending) [
       | Found low few e ↦ Found (omega arith) (λ listing. omega (arith, few listing)) (omega arith) (rw (e, separates.end) refl)
       | High high e ↦ High (omega arith) (rw e refl)
       | Many listing many e ↦ Many listing (omega arith) (rw e refl)
@@ -70,10 +71,8 @@ first_again : {X : Type 0} (l : Entries X) (Ends : List Lexeme → Type 0) (trai
     → (turns : ℕ) (x y : X) (ys : List X) → IsReadAgain l Ends x → l.IsOne y → AreReadAgain l trailing rest full turns y ys → AreReadAgain l trailing rest full (suc turns) x (y ∷ ys)
 unfolding listed
 first_again l Ends trailing rest full separates turns x y ys again one others =
-    let tail = separated l.each l.separator ys ++ (l.ending trailing ++ rest) in
-    let regroup : separated l.each l.separator (y ∷ ys) ++ (l.ending trailing ++ rest) ≡ l.separator ∷ (l.each y ++ tail) =
-    ap (λ (ws : List Lexeme). l.separator ∷ ws) (append_assoc (l.each y) (separated l.each l.separator ys) (l.ending trailing ++ rest)) in
-    rw regroup (elim (again (l.separator ∷ (l.each y ++ tail)) (separates.separator (l.each y ++ tail))) [
+    let tail = separated l.each l.separator ys (l.ending trailing rest) in
+    elim (again (l.separator (l.each y tail)) (separates.separator y tail one)) [
       | High high e ↦ High (omega arith) (rw e refl)
       | Many listing many e ↦ Many listing (omega arith) (rw e refl)
       | Found low few e ↦ elim others [
@@ -82,7 +81,7 @@ first_again l Ends trailing rest full separates turns x y ys again one others =
         | Many listing many e' ↦ Many listing (omega arith) (rw (e, separates.more y tail one, e') refl)
         | Full count e' ↦ Full (omega arith) (rw (e, separates.more y tail one, e') refl)
       ]
-    ])
+    ]
 
 none_again : {X : Type 0} (l : Entries X) (trailing : Bool) (rest : List Lexeme) (full : Refusal) (x : X) (xs : List X) → AreReadAgain l trailing rest full 0 x xs
 unfolding listed
@@ -103,27 +102,27 @@ all_again P Q f (x ∷ xs) all = (f x all.0, all_again P Q f xs all.1)
 -- ---- what is read is spelt so
 
 pub record IsEntry {X : Type 0} (l : Entries X) (words : List Lexeme) (x : X) (rest : List Lexeme) : Type 0 where
-  pub parts : words ≡ l.each x ++ rest
+  pub parts : words ≡ l.each x rest
   pub is : l.IsOne x
   pub low : l.height x ≤ l.room
   pub few : AreFew (λ listing. l.longest listing x) l.most
 
 pub record ReadsSoundly {X : Type 0} (l : Entries X) : Type 0 where
   pub one : (words : List Lexeme) (x : X) (rest : List Lexeme) → l.one words ≡ Ok (x, rest) → IsEntry l words x rest
-  pub more : (words rest : List Lexeme) → l.next words ≡ Ok (More, rest) → words ≡ l.separator ∷ rest
-  pub end : (words : List Lexeme) (trailing : Bool) (rest : List Lexeme) → l.next words ≡ Ok (End trailing, rest) → words ≡ l.ending trailing ++ rest
+  pub more : (words rest : List Lexeme) → l.next words ≡ Ok (More, rest) → words ≡ l.separator rest
+  pub end : (words : List Lexeme) (trailing : Bool) (rest : List Lexeme) → l.next words ≡ Ok (End trailing, rest) → words ≡ l.ending trailing rest
 
 pub record AreEntries {X : Type 0} (l : Entries X) (turns : ℕ) (words : List Lexeme) (found : (List X × Bool) × List Lexeme) : Type 0 where
-  pub parts : words ≡ joined l.each l.separator found.0.0 ++ (l.ending found.0.1 ++ found.1)
+  pub parts : words ≡ joined l.each l.separator found.0.0 (l.ending found.0.1 found.1)
   pub are : AreSome l.IsOne found.0.0
   pub low : highest l.height found.0.0 ≤ l.room
   pub few : AreFew (λ listing. highest (l.longest listing) found.0.0) l.most
   pub count : length found.0.0 ≤ turns
 
 -- the entries behind a separator
-behind_one : {X : Type 0} (l : Entries X) (xs : List X) → AreSome l.IsOne xs → separated l.each l.separator xs ≡ l.separator ∷ joined l.each l.separator xs
-behind_one l [] some = absurd some
-behind_one l (x ∷ xs) some = refl
+behind_one : {X : Type 0} (l : Entries X) (xs : List X) (rest : List Lexeme) → AreSome l.IsOne xs → separated l.each l.separator xs rest ≡ l.separator (joined l.each l.separator xs rest)
+behind_one l [] rest some = absurd some
+behind_one l (x ∷ xs) rest some = refl
 
 all_of : {X : Type 0} (P : X → Type 0) (xs : List X) → AreSome P xs → AreAll P xs
 all_of P [] some = absurd some
@@ -136,12 +135,12 @@ followed_sound l sound turns others deeper words x after entry (More, rest) foun
     let a = bind_ok (others rest) (λ found. Ok ((x ∷ found.0.0, found.0.1), found.1)) found e in
     let s = deeper rest a.0 a.1 in
     let xs = a.0.0.0 in
-    let tail = l.ending a.0.0.1 ++ a.0.1 in
+    let tail = l.ending a.0.0.1 a.0.1 in
     let made : (List _ × Bool) × List Lexeme = ((x ∷ xs, a.0.0.1), a.0.1) in
-    let behind : after ≡ separated l.each l.separator xs ++ tail =
-    sound.more after rest n ∙ ap (λ (ws : List Lexeme). l.separator ∷ ws) s.parts ∙ ap (λ (ws : List Lexeme). ws ++ tail) (sym (behind_one l xs s.are)) in
+    let behind : after ≡ separated l.each l.separator xs tail =
+    sound.more after rest n ∙ ap l.separator s.parts ∙ sym (behind_one l xs tail s.are) in
     subst (λ (y : (List _ × Bool) × List Lexeme). AreEntries l (suc turns) words y) (ok_is made found a.2) (record {
-      parts = entry.parts ∙ ap (λ (ws : List Lexeme). l.each x ++ ws) behind ∙ sym (append_assoc (l.each x) (separated l.each l.separator xs) tail);
+      parts = entry.parts ∙ ap (l.each x) behind;
       are = (entry.is, all_of l.IsOne xs s.are);
       low = omega (arith, entry.low, s.low);
       few = λ listing. omega (arith, entry.few listing, s.few listing);
@@ -150,7 +149,7 @@ followed_sound l sound turns others deeper words x after entry (More, rest) foun
 followed_sound l sound turns others deeper words x after entry (End trailing, rest) found n e =
     let made : (List _ × Bool) × List Lexeme = ((x ∷ [], trailing), rest) in
     subst (λ (y : (List _ × Bool) × List Lexeme). AreEntries l (suc turns) words y) (ok_is made found e) (record {
-      parts = entry.parts ∙ ap (λ (ws : List Lexeme). l.each x ++ ws) (sound.end after trailing rest n) ∙ sym (append_assoc (l.each x) [] (l.ending trailing ++ rest));
+      parts = entry.parts ∙ ap (l.each x) (sound.end after trailing rest n);
       are = (entry.is, tt);
       low = omega (arith, entry.low);
       few = λ listing. omega (arith, entry.few listing);

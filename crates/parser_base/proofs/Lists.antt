@@ -1,5 +1,5 @@
 -- The entries of a list one after the other, as a loop reads them.
-use Rattle.std.proofs.Common.{◌≡◌, ℕ, suc, ◌-◌, ◌+◌, ◌<◌, ◌≤◌, Bool, List, [], ◌∷◌, ◌++◌, Ok, Err, map, max, sum_by, refl, sym, ap, ◌∙◌, arith, append_assoc}
+use Rattle.std.proofs.Common.{◌≡◌, ℕ, suc, ◌-◌, ◌+◌, ◌<◌, ◌≤◌, Bool, List, [], ◌∷◌, ◌++◌, Ok, Err, map, max, sum_by, refl, sym, ap, ◌∙◌, arith, append_assoc, length, length-append}
 use Rattle.std.proofs.lemmas.List.{map-append}
 use Rattle.std.proofs.lemmas.List.Sums.{sum_by-append}
 use Rattle.go_text.specs.declared.fault.Fault.{Fault}
@@ -88,3 +88,7 @@ highest-append height (y ∷ front) x = omega (arith, highest-append height fron
 -- the highest of what was pushed
 pub highest-pushed : {A X : Type 0} (view : A → X) (height : X → ℕ) (front : List A) (x : A) → highest height (map view (front ++ x ∷ [])) ≡ max (highest height (map view front)) (height (view x))
 highest-pushed view height front x = ap (highest height) (one_more view front x) ∙ highest-append height (map view front) (view x)
+
+-- the number of those that were pushed
+pub length-pushed : {A X : Type 0} (view : A → X) (front : List A) (x : A) → length (map view (front ++ x ∷ [])) ≡ length (map view front) + 1
+length-pushed view front x = ap length (one_more view front x) ∙ length-append (map view front) (view x ∷ [])

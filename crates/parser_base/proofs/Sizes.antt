@@ -13,7 +13,7 @@ mutual
   expression_size-le (Named name) = omega arith
   expression_size-le (Parenthesized inner) = omega (arith, expression_size-le inner, length-append (expression_words inner) (Mark kinds.RightParenthesis ∷ []))
   expression_size-le (Selection whole field) = omega (arith, expression_size-le whole, length-append (expression_words whole) (Mark kinds.Period ∷ Name field ∷ []))
-  expression_size-le (Composite name vs trailing) = omega (arith, expressions_size-le vs, length-append (expressions_words vs) (closing kinds.RightBrace trailing))
+  expression_size-le (Composite name vs trailing) = omega (arith, expressions_size-le vs, length-append (expressions_words vs) (closing kinds.Comma kinds.RightBrace trailing []))
   expression_size-le (Unary o operand) = omega (arith, expression_size-le operand)
   expression_size-le (Binary o l r) = omega (arith, expression_size-le l, expression_size-le r, length-append (expression_words l) (Mark (binary_kind o) ∷ expression_words r))
 

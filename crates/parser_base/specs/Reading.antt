@@ -107,14 +107,19 @@ begins (Mark kind ∷ rest) =
 abbrev pub closed : Kind → Bool → List Lexeme → Reading Next
 closed close trailing words = expect close words >>= λ after. Ok (End trailing, after)
 
--- what follows the comma of a list
-abbrev pub behind_comma : Kind → List Lexeme → Reading Next
-behind_comma close words = if begins words then Ok (More, words) else closed close true words
+-- what follows a list's separator, behind which another entry `starts`, or the list ends
+abbrev pub behind_separator : (List Lexeme → Bool) → Kind → List Lexeme → Reading Next
+behind_separator starts close words = if starts words then Ok (More, words) else closed close true words
 
--- what follows an entry of a list
-unfoldable pub value_next : Kind → List Lexeme → Reading Next
-value_next close (Mark kind ∷ rest) = if is_kind kind kinds.Comma then behind_comma close rest else closed close false (Mark kind ∷ rest)
-value_next close words = Err Syntax
+-- what follows an entry of a list to a closing mark
+unfoldable pub entry_next : Kind → (List Lexeme → Bool) → Kind → List Lexeme → Reading Next
+entry_next separator starts close (Mark kind ∷ rest) =
+    if is_kind kind separator then behind_separator starts close rest else closed close false (Mark kind ∷ rest)
+entry_next separator starts close words = Err Syntax
+
+-- what follows a value of a list to a closing mark
+abbrev pub value_next : Kind → List Lexeme → Reading Next
+value_next close = entry_next kinds.Comma begins close
 
 -- ---- expressions
 

@@ -19,15 +19,19 @@ is_builtin name =
 
 -- ---- lists
 
--- each of these behind a separator
-abbrev pub separated : {A : Type 0} → (A → List Lexeme) → Lexeme → List A → List Lexeme
-separated each separator [] = []
-separated each separator (first ∷ rest) = separator ∷ (each first ++ separated each separator rest)
+-- a mark, and then these
+abbrev pub behind : Kind → List Lexeme → List Lexeme
+behind kind rest = Mark kind ∷ rest
 
--- these, with a separator between each two
-abbrev pub joined : {A : Type 0} → (A → List Lexeme) → Lexeme → List A → List Lexeme
-joined each separator [] = []
-joined each separator (first ∷ rest) = each first ++ separated each separator rest
+-- each of a list behind a separator, and then these; `each x` and `separator` say what stands before what follows
+abbrev pub separated : {A : Type 0} → (A → List Lexeme → List Lexeme) → (List Lexeme → List Lexeme) → List A → List Lexeme → List Lexeme
+separated each separator [] rest = rest
+separated each separator (first ∷ others) rest = separator (each first (separated each separator others rest))
+
+-- the same with a separator between each two alone
+abbrev pub joined : {A : Type 0} → (A → List Lexeme → List Lexeme) → (List Lexeme → List Lexeme) → List A → List Lexeme → List Lexeme
+joined each separator [] rest = rest
+joined each separator (first ∷ others) rest = each first (separated each separator others rest)
 
 -- what holds of all
 abbrev pub AreAll : {A : Type 0} → (A → Type 0) → List A → Type 0
@@ -39,12 +43,12 @@ abbrev pub AreSome : {A : Type 0} → (A → Type 0) → List A → Type 0
 AreSome P [] = ⊥
 AreSome P (first ∷ rest) = P first × AreAll P rest
 
--- what closes a list of values, behind whose last one a comma may stand
-abbrev pub closing : Kind → (trailing : Bool) → List Lexeme
-closing close true = Mark kinds.Comma ∷ Mark close ∷ []
-closing close false = Mark close ∷ []
+-- what closes a list, behind whose last entry a separator may stand, and then these
+abbrev pub closing : (separator close : Kind) → (trailing : Bool) → List Lexeme → List Lexeme
+closing separator close true rest = Mark separator ∷ Mark close ∷ rest
+closing separator close false rest = Mark close ∷ rest
 
--- A comma follows a value.
+-- A separator stands only behind an entry.
 abbrev pub IsTrailing : {A : Type 0} → List A → (trailing : Bool) → Type 0
 IsTrailing [] trailing = trailing ≡ false
 IsTrailing (first ∷ rest) trailing = Unit {0}
@@ -107,7 +111,7 @@ abbrev mutual
   expression_words (Parenthesized inner) = Mark kinds.LeftParenthesis ∷ (expression_words inner ++ (Mark kinds.RightParenthesis ∷ []))
   expression_words (Selection whole field) = expression_words whole ++ (Mark kinds.Period ∷ Name field ∷ [])
   expression_words (Composite name values trailing) =
-      Name name ∷ Mark kinds.LeftBrace ∷ (expressions_words values ++ closing kinds.RightBrace trailing)
+      Name name ∷ Mark kinds.LeftBrace ∷ (expressions_words values ++ closing kinds.Comma kinds.RightBrace trailing [])
   expression_words (Unary operator operand) = Mark (unary_kind operator) ∷ expression_words operand
   expression_words (Binary operator left right) = expression_words left ++ (Mark (binary_kind operator) ∷ expression_words right)
 
@@ -121,10 +125,14 @@ abbrev mutual
   more_words NoMore = []
   more_words (Behind first rest) = Mark kinds.Comma ∷ (expression_words first ++ more_words rest)
 
--- A comma follows a value of a literal.
+-- A comma stands only behind a value of a literal.
 abbrev pub HasLast : Expressions → (trailing : Bool) → Type 0
 HasLast NoMore trailing = trailing ≡ false
 HasLast (Behind first rest) trailing = Unit {0}
+
+-- an expression, and then these
+abbrev pub before : Expression → List Lexeme → List Lexeme
+before expression rest = expression_words expression ++ rest
 
 -- Operators of equal precedence associate to the left, and weaker operands stand in parentheses. Composite literals
 -- stand only where `literals` holds: not in the header of an if or a for.

@@ -7,7 +7,7 @@ ghost use Rattle.syntax.specs.Measures.{Entries, highest, expression_height, exp
 ghost use Rattle.syntax.specs.View.{expression_of};
 ghost use Rattle.parser_base.specs.Cursor.{ahead};
 ghost use Rattle.parser_base.specs.Lexemes.{Lexeme};
-ghost use Rattle.parser_base.specs.Reading.{Gives, Reading, TooMany, begins, closed, behind_comma, value_next, listed, values, composite, named, step_at, parenthesized, negated, operand, applied, expression};
+ghost use Rattle.parser_base.specs.Reading.{Gives, Reading, TooMany, begins, closed, value_next, listed, values, composite, named, step_at, parenthesized, negated, operand, applied, expression};
 
 use crate::cursor::{Cursor, Word, is_builtin};
 use crate::list::{MAX_ENTRIES, Next};
@@ -90,7 +90,7 @@ pub fn closed(
 }
 
 /// What follows a value of a list, with the span of its last token.
-#[tactic(auto, unfolding(crate::specs::Reading::value_next))]
+#[tactic(auto, unfolding(crate::specs::Reading::entry_next))]
 pub fn value_next(close: Kind, cursor: Cursor<'_>) -> Result<(Next, Span, Cursor<'_>), Fault>
     ensures { Gives (λ x. (x.0, ahead x.2)) result (value_next close (ahead cursor.entry)) }
 {

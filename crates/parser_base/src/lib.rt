@@ -6,4 +6,5 @@ pub mod expression;
 pub mod list;
 pub mod literal;
 pub mod operator;
+pub mod text;
 pub mod types;

@@ -1,0 +1,211 @@
+-- What stands behind a place, and what that says of a statement.
+use Rattle.std.proofs.Common.{◌≡◌, ℕ, ◌≤◌, Bool, true, false, cond, Option, Some, None, List, [], ◌∷◌, ◌++◌, Ok, refl, sym, ap, ◌∙◌, subst, arith, append_assoc, inl, inr}
+use Rattle.scanner.specs.declared.kind.Kind.{Kind}
+use Rattle.scanner.specs.declared.kind.Kind.TheVariants as kinds
+use Rattle.syntax.specs.declared.node.BinaryOperator.{BinaryOperator}
+use Rattle.syntax.specs.declared.node.BinaryOperator.TheVariants as binaries
+use Rattle.syntax.specs.declared.node.UnaryOperator.TheVariants as unaries
+use Rattle.syntax.specs.Tree.{Expression, Integer, Named, Parenthesized, Selection, Composite, Unary, Binary, Place, Simple}
+use Rattle.parser_base.specs.Lexemes.{Lexeme, Literal, Name, Text, Mark}
+use Rattle.parser_base.specs.Spelling.{is_builtin, behind, separated, joined, before, expression_words, precedence, binary_kind}
+use Rattle.parser_base.specs.Reading.{Reading, is_kind}
+use Rattle.parser_simple.specs.declared.form.Form.{Form}
+use Rattle.parser_simple.specs.declared.form.Form.TheVariants as forms
+use Rattle.parser_simple.specs.Spelling.{name_words, IsPlace, place_words, update_kind}
+use Rattle.parser_simple.specs.Reading.{begins_with, update_of, update_form, form_at, form_of, defines, begins_operation, formed, led}
+
+-- ---- operators
+
+operator_form : (o : BinaryOperator) (ws : List Lexeme) → form_of false (Mark (binary_kind o) ∷ ws) ≡ forms.Other
+unfolding form_of
+operator_form binaries.Add ws = refl
+operator_form binaries.Subtract ws = refl
+operator_form binaries.Multiply ws = refl
+operator_form binaries.Divide ws = refl
+operator_form binaries.Remainder ws = refl
+operator_form binaries.And ws = refl
+operator_form binaries.Or ws = refl
+operator_form binaries.ExclusiveOr ws = refl
+operator_form binaries.AndNot ws = refl
+operator_form binaries.ShiftLeft ws = refl
+operator_form binaries.ShiftRight ws = refl
+operator_form binaries.Equal ws = refl
+operator_form binaries.NotEqual ws = refl
+operator_form binaries.Less ws = refl
+operator_form binaries.LessEqual ws = refl
+operator_form binaries.Greater ws = refl
+operator_form binaries.GreaterEqual ws = refl
+operator_form binaries.LogicalAnd ws = refl
+operator_form binaries.LogicalOr ws = refl
+
+pub update_again : (o : BinaryOperator) (ws : List Lexeme) → 4 ≤ precedence o → form_of false (Mark (update_kind o) ∷ ws) ≡ forms.Update o
+unfolding form_of
+update_again binaries.Add ws strong = refl
+update_again binaries.Subtract ws strong = refl
+update_again binaries.Multiply ws strong = refl
+update_again binaries.Divide ws strong = refl
+update_again binaries.Remainder ws strong = refl
+update_again binaries.And ws strong = refl
+update_again binaries.Or ws strong = refl
+update_again binaries.ExclusiveOr ws strong = refl
+update_again binaries.AndNot ws strong = refl
+update_again binaries.ShiftLeft ws strong = refl
+update_again binaries.ShiftRight ws strong = refl
+update_again binaries.Equal ws strong = absurd (omega arith)
+update_again binaries.NotEqual ws strong = absurd (omega arith)
+update_again binaries.Less ws strong = absurd (omega arith)
+update_again binaries.LessEqual ws strong = absurd (omega arith)
+update_again binaries.Greater ws strong = absurd (omega arith)
+update_again binaries.GreaterEqual ws strong = absurd (omega arith)
+update_again binaries.LogicalAnd ws strong = absurd (omega arith)
+update_again binaries.LogicalOr ws strong = absurd (omega arith)
+
+pub update_shut : (o : BinaryOperator) → is_kind (update_kind o) kinds.LeftParenthesis ≡ false
+update_shut binaries.Add = refl
+update_shut binaries.Subtract = refl
+update_shut binaries.Multiply = refl
+update_shut binaries.Divide = refl
+update_shut binaries.Remainder = refl
+update_shut binaries.And = refl
+update_shut binaries.Or = refl
+update_shut binaries.ExclusiveOr = refl
+update_shut binaries.AndNot = refl
+update_shut binaries.ShiftLeft = refl
+update_shut binaries.ShiftRight = refl
+update_shut binaries.Equal = refl
+update_shut binaries.NotEqual = refl
+update_shut binaries.Less = refl
+update_shut binaries.LessEqual = refl
+update_shut binaries.Greater = refl
+update_shut binaries.GreaterEqual = refl
+update_shut binaries.LogicalAnd = refl
+update_shut binaries.LogicalOr = refl
+
+pub update_no_field : (o : BinaryOperator) → is_kind (update_kind o) kinds.Period ≡ false
+update_no_field binaries.Add = refl
+update_no_field binaries.Subtract = refl
+update_no_field binaries.Multiply = refl
+update_no_field binaries.Divide = refl
+update_no_field binaries.Remainder = refl
+update_no_field binaries.And = refl
+update_no_field binaries.Or = refl
+update_no_field binaries.ExclusiveOr = refl
+update_no_field binaries.AndNot = refl
+update_no_field binaries.ShiftLeft = refl
+update_no_field binaries.ShiftRight = refl
+update_no_field binaries.Equal = refl
+update_no_field binaries.NotEqual = refl
+update_no_field binaries.Less = refl
+update_no_field binaries.LessEqual = refl
+update_no_field binaries.Greater = refl
+update_no_field binaries.GreaterEqual = refl
+update_no_field binaries.LogicalAnd = refl
+update_no_field binaries.LogicalOr = refl
+
+-- only the operators of arithmetic assign
+abbrev updates : BinaryOperator → Form
+updates o = forms.Update o
+
+strong_as : (o p : BinaryOperator) → updates o ≡ updates p → 4 ≤ precedence o → 4 ≤ precedence p
+strong_as o p e strong =
+    let same : o ≡ p = cc in
+    subst (λ (x : BinaryOperator). 4 ≤ precedence x) same strong
+
+mark_strong : (k : Kind) (ws : List Lexeme) (o : BinaryOperator) → form_at k ws ≡ forms.Update o → 4 ≤ precedence o
+mark_strong kinds.PlusAssign ws o e = strong_as binaries.Add o e (omega arith)
+mark_strong kinds.MinusAssign ws o e = strong_as binaries.Subtract o e (omega arith)
+mark_strong kinds.StarAssign ws o e = strong_as binaries.Multiply o e (omega arith)
+mark_strong kinds.SlashAssign ws o e = strong_as binaries.Divide o e (omega arith)
+mark_strong kinds.PercentAssign ws o e = strong_as binaries.Remainder o e (omega arith)
+mark_strong kinds.AmpersandAssign ws o e = strong_as binaries.And o e (omega arith)
+mark_strong kinds.BarAssign ws o e = strong_as binaries.Or o e (omega arith)
+mark_strong kinds.CaretAssign ws o e = strong_as binaries.ExclusiveOr o e (omega arith)
+mark_strong kinds.AndNotAssign ws o e = strong_as binaries.AndNot o e (omega arith)
+mark_strong kinds.ShiftLeftAssign ws o e = strong_as binaries.ShiftLeft o e (omega arith)
+mark_strong kinds.ShiftRightAssign ws o e = strong_as binaries.ShiftRight o e (omega arith)
+mark_strong _ ws o e = absurd cc
+
+period_strong : (k : Kind) (b : Bool) (ws : List Lexeme) (o : BinaryOperator) → (form_of true ws ≡ forms.Update o → 4 ≤ precedence o) → cond b (form_of true ws) (form_at k ws) ≡ forms.Update o → 4 ≤ precedence o
+period_strong k true ws o deeper e = deeper e
+period_strong k false ws o deeper e = mark_strong k ws o e
+
+pub form_strong : (named : Bool) (ws : List Lexeme) (o : BinaryOperator) → form_of named ws ≡ forms.Update o → 4 ≤ precedence o
+unfolding form_of
+form_strong true [] o e = absurd cc
+form_strong true (Literal value ∷ ws) o e = absurd cc
+form_strong true (Text bytes ∷ ws) o e = absurd cc
+form_strong true (Mark kind ∷ ws) o e = absurd cc
+form_strong true (Name name ∷ ws) o e = form_strong false ws o e
+form_strong false [] o e = absurd cc
+form_strong false (Literal value ∷ ws) o e = absurd cc
+form_strong false (Text bytes ∷ ws) o e = absurd cc
+form_strong false (Name name ∷ ws) o e = absurd cc
+form_strong false (Mark kind ∷ ws) o e = period_strong kind (is_kind kind kinds.Period) ws o (form_strong true ws o) e
+
+-- ---- places
+
+pub fields_form : (fs : List (List ℕ)) (ws : List Lexeme) → form_of false (separated name_words (behind kinds.Period) fs ws) ≡ form_of false ws
+unfolding form_of
+fields_form [] ws = refl
+fields_form (f ∷ fs) ws = fields_form fs ws
+
+fields_shut : (fs : List (List ℕ)) (ws : List Lexeme) → begins_with kinds.LeftParenthesis ws ≡ false → begins_with kinds.LeftParenthesis (separated name_words (behind kinds.Period) fs ws) ≡ false
+unfolding begins_with
+fields_shut [] ws shut = shut
+fields_shut (f ∷ fs) ws shut = refl
+
+-- a statement that begins with a place has the form of what follows that
+pub led_formed : (literals defining : Bool) (most room : ℕ) (p : Place) (ws : List Lexeme) → IsPlace p → begins_with kinds.LeftParenthesis ws ≡ false
+    → led literals defining most room (place_words p ws) ≡ formed literals defining most room (form_of false ws) (place_words p ws)
+unfolding led form_of
+led_formed literals defining most room p ws is shut =
+    rw (is.0, fields_shut p.fields ws shut, fields_form p.fields ws) refl
+
+-- ---- names and places before a mark
+
+pub defines_names : (name : List ℕ) (ns : List (List ℕ)) (ws : List Lexeme) → defines true (joined name_words (behind kinds.Comma) (name ∷ ns) (Mark kinds.Define ∷ ws)) ≡ true
+unfolding defines
+defines_names name [] ws = refl
+defines_names name (n ∷ ns) ws = defines_names n ns ws
+
+no_defines_fields : (fs : List (List ℕ)) (ws : List Lexeme) → defines false ws ≡ false → defines false (separated name_words (behind kinds.Period) fs ws) ≡ false
+unfolding defines
+no_defines_fields [] ws none = none
+no_defines_fields (f ∷ fs) ws none = refl
+
+pub no_defines : (p : Place) (ps : List Place) (ws : List Lexeme) → defines true (joined place_words (behind kinds.Comma) (p ∷ ps) (Mark kinds.Assign ∷ ws)) ≡ false
+unfolding defines
+no_defines p [] ws = no_defines_fields p.fields (Mark kinds.Assign ∷ ws) refl
+no_defines p (q ∷ ps) ws = no_defines_fields p.fields (Mark kinds.Comma ∷ joined place_words (behind kinds.Comma) (q ∷ ps) (Mark kinds.Assign ∷ ws)) (no_defines q ps ws)
+
+-- ---- values
+
+-- behind a value there is no form but where one follows it
+pub no_form : (e : Expression) (ws : List Lexeme) → form_of false ws ≡ forms.Other → form_of true (before e ws) ≡ forms.Other
+unfolding form_of
+no_form (Integer value) ws none = refl
+no_form (Named name) ws none = none
+no_form (Parenthesized inner) ws none = refl
+no_form (Selection whole field) ws none =
+    ap (form_of true) (append_assoc (expression_words whole) (Mark kinds.Period ∷ Name field ∷ []) ws) ∙ no_form whole (Mark kinds.Period ∷ Name field ∷ ws) none
+no_form (Composite name vs trailing) ws none = refl
+no_form (Unary o inner) ws none = refl
+no_form (Binary o l r) ws none =
+    ap (form_of true) (append_assoc (expression_words l) (Mark (binary_kind o) ∷ expression_words r) ws) ∙ no_form l (Mark (binary_kind o) ∷ (expression_words r ++ ws)) (operator_form o (expression_words r ++ ws))
+
+named_none : (literals defining : Bool) (most room : ℕ) (name : List ℕ) (b c : Bool) (ws : List Lexeme) (calls : Reading (Option Simple)) → cond b true c ≡ false → form_of true (Name name ∷ ws) ≡ forms.Other
+    → (operation : Reading (Option Simple)) → cond b operation (cond c calls (formed literals defining most room (form_of true (Name name ∷ ws)) (Name name ∷ ws))) ≡ Ok (None, Name name ∷ ws)
+unfolding formed
+named_none literals defining most room name true c ws calls none form operation = absurd cc
+named_none literals defining most room name false true ws calls none form operation = absurd cc
+named_none literals defining most room name false false ws calls none form operation = rw form refl
+
+-- no simple statement but a send begins with a value
+pub led_none : (literals defining : Bool) (most room : ℕ) (ws : List Lexeme) → begins_operation ws ≡ false → form_of true ws ≡ forms.Other → led literals defining most room ws ≡ Ok (None, ws)
+unfolding led begins_operation
+led_none literals defining most room [] none form = refl
+led_none literals defining most room (Literal value ∷ ws) none form = refl
+led_none literals defining most room (Text bytes ∷ ws) none form = refl
+led_none literals defining most room (Mark kind ∷ ws) none form = rw none refl
+led_none literals defining most room (Name name ∷ ws) none form =
+    named_none literals defining most room name (is_builtin name) (begins_with kinds.LeftParenthesis ws) ws _ none form _

@@ -1,0 +1,5 @@
+pub mod PlaceLaws
+pub mod RightLaws
+pub mod FormLaws
+pub mod SimpleLaws
+pub mod HeaderLaws

@@ -1,0 +1,549 @@
+-- Simple statements: what is spelt is read, and what is read is spelt so.
+use Rattle.std.proofs.Common.{◌≡◌, ℕ, zero, suc, ◌<◌, ◌≤◌, Bool, true, false, cond, ◌&&◌, Option, Some, None, max, List, [], ◌∷◌, ◌++◌, length, Ok, Err, inl, inr, refl, sym, ap, ◌∙◌, subst, arith, bytes_eq, codes, IsTrue}
+use Rattle.scanner.specs.declared.kind.Kind.{Kind}
+use Rattle.scanner.specs.declared.kind.Kind.TheVariants as kinds
+use Rattle.syntax.specs.declared.node.BinaryOperator.{BinaryOperator}
+use Rattle.syntax.specs.Tree.{Expression, Arguments, Right, Place, Part, Value, Text as TextPart, Simple, CallAlone, Close, Print, ReceiveAlone, Send, Increment, Decrement, Assign, Define, Update}
+use Rattle.syntax.specs.Measures.{Listing, Entries as EntriesLimit, entries, highest, expression_height, expression_longest, right_height, right_longest, part_height, part_longest, simple_height, simple_longest}
+use Rattle.parser_base.specs.Lexemes.{Lexeme, Literal, Name, Text, Mark}
+use Rattle.parser_base.specs.Spelling.{is_builtin, behind, separated, joined, closing, before, AreAll, AreSome, IsTrailing, precedence, IsGrouped}
+use Rattle.parser_base.specs.Reading.{Syntax, TooDeep, TooMany, Reading, ◌>>=◌, is_kind, expect, begins, step_at, entry_next, expression, listed}
+use Rattle.parser_base.proofs.Marks.{bind_ok, when_ok, ok_is, kind_is, expect_is, expect_again, bytes_are}
+use Rattle.parser_base.proofs.ListLaws.{AreFew, Outcome, Found, High, Many, Entries, IsReadAgain, Separates, listed_again, all_again, IsEntry, ReadsSoundly, listed_sound}
+use Rattle.parser_base.proofs.ExpressionAgain.{EndsExpression, shut, entries-le, height_positive, parenthesis_closes, comma_ends, closing_ends, begins_again, ending_again, more_entries}
+use Rattle.parser_base.proofs.ExpressionSound.{entry_more_sound, entry_end_sound}
+use Rattle.parser_base.proofs.Steps.{then_again, made_again, listed_outcome, gave, Sound, made_is, either}
+use Rattle.parser_simple.specs.declared.form.Form.{Form}
+use Rattle.parser_simple.specs.declared.form.Form.TheVariants as forms
+use Rattle.parser_simple.specs.Spelling.{name_words, IsName, place_words, IsPlace, IsPrimary, right_words, IsRight, part_words, IsPart, print_name, update_kind, simple_words, IsSimple}
+use Rattle.parser_simple.specs.Reading.{as_one, begins_with, defines, form_of, names, place, places, primary, arguments, argument, right, begins_part, part, parts, print, builtin_call, assigned, defined, stepped, updated, formed, led, sent, led_or_sent, simple}
+use Rattle.parser_simple.proofs.PlaceLaws.{names_again, names_sound, place_again, place_sound, places_again, places_sound}
+use Rattle.parser_simple.proofs.FormLaws.{update_again, update_shut, update_no_field, form_strong, fields_form, led_formed, defines_names, no_defines, no_form, led_none}
+use Rattle.parser_simple.proofs.RightLaws.{Stops, value_again, primary_again, arguments_again, argument_again, no_operation, right_again, value_sound, primary_sound, arguments_sound, argument_sound, right_sound}
+
+-- ---- arguments of print and println
+
+part_value : (literals : Bool) (most room : ℕ) (ws : List Lexeme) → begins ws ≡ true → part literals most (suc room) ws ≡ as_one Value (expression literals most (suc room) 0 ws)
+unfolding part begins
+part_value literals most room [] is = absurd cc
+part_value literals most room (Literal value ∷ ws) is = refl
+part_value literals most room (Name name ∷ ws) is = refl
+part_value literals most room (Text bytes ∷ ws) is = absurd cc
+part_value literals most room (Mark kind ∷ ws) is = refl
+
+begins_value : (ws : List Lexeme) → begins ws ≡ true → begins_part ws ≡ true
+unfolding begins_part begins
+begins_value [] is = absurd cc
+begins_value (Literal value ∷ ws) is = refl
+begins_value (Name name ∷ ws) is = is
+begins_value (Text bytes ∷ ws) is = refl
+begins_value (Mark kind ∷ ws) is = is
+
+part_begins : (literals : Bool) (p : Part) (rest : List Lexeme) → IsPart literals p → begins_part (part_words p rest) ≡ true
+unfolding begins_part
+part_begins literals (Value v) rest is = begins_value (before v rest) (begins_again literals v rest is)
+part_begins literals (TextPart bytes) rest is = refl
+
+abbrev listed_parts : (literals : Bool) (most room : ℕ) → Entries Part
+listed_parts literals most room = record {
+  one = part literals most room;
+  next = entry_next kinds.Comma begins_part kinds.RightParenthesis;
+  each = part_words;
+  separator = behind kinds.Comma;
+  ending = closing kinds.Comma kinds.RightParenthesis;
+  height = part_height;
+  longest = part_longest;
+  room = room;
+  most = most;
+  IsOne = IsPart literals;
+}
+
+part_positive : (p : Part) → 1 ≤ part_height p
+part_positive (Value v) = height_positive v
+part_positive (TextPart bytes) = omega arith
+
+part_again : (literals : Bool) (most room : ℕ) (p : Part) → IsPart literals p → IsReadAgain (listed_parts literals most room) (EndsExpression literals) p
+unfolding part
+part_again literals most zero p is rest ends = High (part_positive p) refl
+part_again literals most (suc room) (TextPart bytes) is rest ends = Found (omega arith) (λ listing. omega arith) refl
+part_again literals most (suc room) (Value v) is rest ends =
+    rw (part_value literals most room (before v rest) (begins_again literals v rest is))
+    (made_again Value (value_again literals most (suc room) v rest is ends) (λ high. high) (λ low. low) (λ listing. refl))
+
+no_part : (rest : List Lexeme) → begins_part (Mark kinds.RightParenthesis ∷ rest) ≡ false
+unfolding begins_part begins
+no_part rest = refl
+
+parts_separate : (literals : Bool) (most room : ℕ) (trailing : Bool) (rest : List Lexeme) → Separates (listed_parts literals most room) (EndsExpression literals) trailing rest
+parts_separate literals most room trailing rest = record {
+  separator = λ p words one. comma_ends literals (part_words p words);
+  more = λ p words one. more_entries kinds.Comma begins_part kinds.RightParenthesis (part_words p words) (part_begins literals p words one);
+  ending = closing_ends literals kinds.RightParenthesis trailing rest parenthesis_closes;
+  end = ending_again kinds.Comma begins_part kinds.RightParenthesis trailing rest refl (no_part rest);
+}
+
+parts_again : (literals : Bool) (most room : ℕ) (ps : List Part) (trailing : Bool) (rest : List Lexeme) → AreAll (IsPart literals) ps → IsTrailing ps trailing
+    → Outcome (parts literals most room (joined part_words (behind kinds.Comma) ps (closing kinds.Comma kinds.RightParenthesis trailing rest))) (ps, trailing) rest (highest part_height ps) room
+    (λ listing. max (entries listing (length ps)) (highest (part_longest listing) ps)) most
+unfolding parts expect
+parts_again literals most room [] true rest all last = absurd cc
+parts_again literals most room [] false rest all last = Found (omega arith) (λ listing. omega (arith, entries-le listing 0)) (rw (no_part rest) refl)
+parts_again literals most room (p ∷ ps) trailing rest all last =
+    let l = listed_parts literals most room in
+    let each = all_again (IsPart literals) (IsReadAgain l (EndsExpression literals)) (part_again literals most room) (p ∷ ps) all in
+    rw (part_begins literals p (separated part_words (behind kinds.Comma) ps (closing kinds.Comma kinds.RightParenthesis trailing rest)) all.0)
+    (listed_outcome (listed_again l (EndsExpression literals) trailing rest (TooMany EntriesLimit) (parts_separate literals most room trailing rest) ps most p all each))
+
+-- ---- each form
+
+abbrev pub SimpleOutcome : (most room : ℕ) → Reading Simple → Simple → List Lexeme → Type 0
+SimpleOutcome most room read s rest = Outcome read s rest (simple_height s) room (λ listing. simple_longest listing s) most
+
+print_again : (line literals : Bool) (most room : ℕ) (ps : List Part) (trailing : Bool) (rest : List Lexeme) → AreAll (IsPart literals) ps → IsTrailing ps trailing
+    → SimpleOutcome most room (print line literals most room (Mark kinds.LeftParenthesis ∷ joined part_words (behind kinds.Comma) ps (closing kinds.Comma kinds.RightParenthesis trailing rest))) (Print line ps trailing) rest
+unfolding print expect
+print_again line literals most room ps trailing rest all last =
+    then_again _ (parts_again literals most room ps trailing rest all last) (λ high. high) (λ listing. omega arith) (λ low few. Found low few refl)
+
+assigned_again : (literals : Bool) (most room : ℕ) (p : Place) (ps : List Place) (r : Right) (rest : List Lexeme) → AreAll IsPlace (p ∷ ps) → IsRight literals r → Stops literals rest
+    → SimpleOutcome most room (assigned literals most room (simple_words (Assign (p ∷ ps) r) rest)) (Assign (p ∷ ps) r) rest
+unfolding assigned expect begins_with
+assigned_again literals most room p ps r rest all is stops =
+    then_again _ (places_again most p ps (Mark kinds.Assign ∷ right_words r rest) all refl refl) (λ high. omega arith) (λ listing. omega arith) (λ low few.
+    then_again _ (right_again literals most room r rest is stops) (λ high. high) (λ listing. omega arith) (λ low' few'.
+    Found low' (λ listing. omega (arith, few listing, few' listing)) refl))
+
+defined_again : (literals : Bool) (most room : ℕ) (n : List ℕ) (ns : List (List ℕ)) (r : Right) (rest : List Lexeme) → AreAll IsName (n ∷ ns) → IsRight literals r → Stops literals rest
+    → SimpleOutcome most room (defined literals most room (simple_words (Define (n ∷ ns) r) rest)) (Define (n ∷ ns) r) rest
+unfolding defined expect begins_with
+defined_again literals most room n ns r rest all is stops =
+    then_again _ (names_again kinds.Comma most n ns (Mark kinds.Define ∷ right_words r rest) all refl) (λ high. omega arith) (λ listing. omega arith) (λ low few.
+    then_again _ (right_again literals most room r rest is stops) (λ high. high) (λ listing. omega arith) (λ low' few'.
+    Found low' (λ listing. omega (arith, few listing, few' listing)) refl))
+
+no_field_update : (o : BinaryOperator) (ws : List Lexeme) → begins_with kinds.Period (Mark (update_kind o) ∷ ws) ≡ false
+unfolding begins_with
+no_field_update o ws = update_no_field o
+
+updated_again : (literals : Bool) (most room : ℕ) (p : Place) (o : BinaryOperator) (v : Expression) (rest : List Lexeme) → IsPlace p → IsGrouped literals v → Stops literals rest
+    → SimpleOutcome most room (updated literals most room o (simple_words (Update p o v) rest)) (Update p o v) rest
+unfolding updated
+updated_again literals most room p o v rest is grouped stops =
+    rw (place_again p (Mark (update_kind o) ∷ before v rest) is (no_field_update o (before v rest)), expect_again (update_kind o) (before v rest))
+    (then_again _ (value_again literals most room v rest grouped stops.ends) (λ high. high) (λ listing. omega arith) (λ low few. Found low few refl))
+
+arrow_ends : (literals : Bool) (ws : List Lexeme) → EndsExpression literals (Mark kinds.Arrow ∷ ws)
+unfolding step_at
+arrow_ends literals ws = record { none = refl; shut = shut literals kinds.Arrow ws refl }
+
+-- a send, as any of what is made of one
+pub sent_again : {A : Type 0} (make : Expression → Expression → A) (literals : Bool) (most room : ℕ) (c v : Expression) (rest : List Lexeme) → IsPrimary literals c → IsGrouped literals v → EndsExpression literals rest
+    → Outcome (sent make literals most room (before c (Mark kinds.Arrow ∷ before v rest))) (make c v) rest (max (expression_height c) (expression_height v)) room (λ listing. max (expression_longest listing c) (expression_longest listing v)) most
+unfolding sent expect
+sent_again make literals most room c v rest is grouped ends =
+    then_again _ (primary_again literals most room c (Mark kinds.Arrow ∷ before v rest) is (arrow_ends literals (before v rest))) (λ high. omega arith) (λ listing. omega arith) (λ low few.
+    then_again _ (value_again literals most room v rest grouped ends) (λ high. omega arith) (λ listing. omega arith) (λ low' few'.
+    Found (omega arith) (λ listing. omega (arith, few listing, few' listing)) refl))
+
+-- ---- all but sends
+
+abbrev LedOutcome : (most room : ℕ) → Reading (Option Simple) → Simple → List Lexeme → Type 0
+LedOutcome most room read s rest = Outcome read (Some s) rest (simple_height s) room (λ listing. simple_longest listing s) most
+
+some_again : (most room : ℕ) (read : Reading Simple) (s : Simple) (rest : List Lexeme) → SimpleOutcome most room read s rest → LedOutcome most room (as_one (λ (x : Simple). Some x) read) s rest
+some_again most room read s rest again = made_again (λ (x : Simple). Some x) again (λ high. high) (λ low. low) (λ listing. refl)
+
+led_print : (line literals defining : Bool) (most room : ℕ) (ps : List Part) (trailing : Bool) (rest : List Lexeme) → AreAll (IsPart literals) ps → IsTrailing ps trailing
+    → LedOutcome most room (led literals defining most room (simple_words (Print line ps trailing) rest)) (Print line ps trailing) rest
+unfolding led builtin_call
+led_print true literals defining most room ps trailing rest all last = some_again most room _ (Print true ps trailing) rest (print_again true literals most room ps trailing rest all last)
+led_print false literals defining most room ps trailing rest all last = some_again most room _ (Print false ps trailing) rest (print_again false literals most room ps trailing rest all last)
+
+led_alone : (literals defining : Bool) (most room : ℕ) (function : List ℕ) (all : Arguments) (rest : List Lexeme) → IsSimple literals defining (CallAlone function all) → LedOutcome most room (led literals defining most room (simple_words (CallAlone function all) rest)) (CallAlone function all) rest
+unfolding led begins_with
+led_alone literals defining most room function all rest is =
+    rw is.0 (made_again (λ (x : Arguments). Some (CallAlone function x)) (arguments_again literals most room all rest is.1) (λ high. high) (λ low. low) (λ listing. refl))
+
+led_close : (literals defining : Bool) (most room : ℕ) (c : Expression) (rest : List Lexeme) → IsGrouped literals c → LedOutcome most room (led literals defining most room (simple_words (Close c) rest)) (Close c) rest
+unfolding led builtin_call
+led_close literals defining most room c rest is =
+    some_again most room _ (Close c) rest (made_again Close (argument_again literals most room c rest is) (λ high. high) (λ low. low) (λ listing. refl))
+
+led_receive : (literals defining : Bool) (most room : ℕ) (c : Expression) (rest : List Lexeme) → IsPrimary literals c → Stops literals rest → LedOutcome most room (led literals defining most room (simple_words (ReceiveAlone c) rest)) (ReceiveAlone c) rest
+unfolding led
+led_receive literals defining most room c rest is stops =
+    made_again (λ (x : Expression). Some (ReceiveAlone x)) (primary_again literals most room c rest is stops.ends) (λ high. high) (λ low. low) (λ listing. refl)
+
+led_increment : (literals defining : Bool) (most room : ℕ) (p : Place) (rest : List Lexeme) → IsPlace p → LedOutcome most room (led literals defining most room (simple_words (Increment p) rest)) (Increment p) rest
+unfolding formed form_of stepped begins_with expect
+led_increment literals defining most room p rest is =
+    rw (led_formed literals defining most room p (Mark kinds.Increment ∷ rest) is refl, place_again p (Mark kinds.Increment ∷ rest) is refl) (Found (omega arith) (λ listing. omega arith) refl)
+
+led_decrement : (literals defining : Bool) (most room : ℕ) (p : Place) (rest : List Lexeme) → IsPlace p → LedOutcome most room (led literals defining most room (simple_words (Decrement p) rest)) (Decrement p) rest
+unfolding formed form_of stepped begins_with expect
+led_decrement literals defining most room p rest is =
+    rw (led_formed literals defining most room p (Mark kinds.Decrement ∷ rest) is refl, place_again p (Mark kinds.Decrement ∷ rest) is refl) (Found (omega arith) (λ listing. omega arith) refl)
+
+shut_update : (o : BinaryOperator) (ws : List Lexeme) → begins_with kinds.LeftParenthesis (Mark (update_kind o) ∷ ws) ≡ false
+unfolding begins_with
+shut_update o ws = update_shut o
+
+led_update : (literals defining : Bool) (most room : ℕ) (p : Place) (o : BinaryOperator) (v : Expression) (rest : List Lexeme) → IsPlace p → 4 ≤ precedence o → IsGrouped literals v → Stops literals rest
+    → LedOutcome most room (led literals defining most room (simple_words (Update p o v) rest)) (Update p o v) rest
+unfolding formed
+led_update literals defining most room p o v rest is strong grouped stops =
+    rw (led_formed literals defining most room p (Mark (update_kind o) ∷ before v rest) is (shut_update o (before v rest)), update_again o (before v rest) strong)
+    (some_again most room _ (Update p o v) rest (updated_again literals most room p o v rest is grouped stops))
+
+choose_second : {A : Type 0} (a b : Bool) (first second : A) → b ≡ false → cond (a && b) first second ≡ second
+choose_second true b first second is = rw is refl
+choose_second false b first second is = refl
+
+led_assign : (literals defining : Bool) (most room : ℕ) (p : Place) (ps : List Place) (r : Right) (rest : List Lexeme) → AreAll IsPlace (p ∷ ps) → IsRight literals r → Stops literals rest
+    → LedOutcome most room (led literals defining most room (simple_words (Assign (p ∷ ps) r) rest)) (Assign (p ∷ ps) r) rest
+unfolding formed form_of begins_with
+led_assign literals defining most room p [] r rest all is stops =
+    rw (led_formed literals defining most room p (Mark kinds.Assign ∷ right_words r rest) all.0 refl)
+    (some_again most room _ (Assign (p ∷ []) r) rest (assigned_again literals most room p [] r rest all is stops))
+led_assign literals defining most room p (q ∷ ps) r rest all is stops =
+    rw (
+      led_formed literals defining most room p (Mark kinds.Comma ∷ joined place_words (behind kinds.Comma) (q ∷ ps) (Mark kinds.Assign ∷ right_words r rest)) all.0 refl,
+      choose_second defining _ (defined literals most room (simple_words (Assign (p ∷ q ∷ ps) r) rest)) (assigned literals most room (simple_words (Assign (p ∷ q ∷ ps) r) rest)) (no_defines p (q ∷ ps) (right_words r rest)),
+    )
+    (some_again most room _ (Assign (p ∷ q ∷ ps) r) rest (assigned_again literals most room p (q ∷ ps) r rest all is stops))
+
+choose_first : {A : Type 0} (a b : Bool) (first second : A) → a ≡ true → b ≡ true → cond (a && b) first second ≡ first
+choose_first true b first second yes' is = rw is refl
+choose_first false b first second yes' is = absurd cc
+
+led_named : (literals defining : Bool) (most room : ℕ) (n : List ℕ) (ws : List Lexeme) → IsName n → begins_with kinds.LeftParenthesis ws ≡ false
+    → led literals defining most room (Name n ∷ ws) ≡ formed literals defining most room (form_of false ws) (Name n ∷ ws)
+unfolding led form_of
+led_named literals defining most room n ws is shut = rw (is, shut) refl
+
+led_define : (literals defining : Bool) (most room : ℕ) (n : List ℕ) (ns : List (List ℕ)) (r : Right) (rest : List Lexeme) → defining ≡ true → AreAll IsName (n ∷ ns) → IsRight literals r → Stops literals rest
+    → LedOutcome most room (led literals defining most room (simple_words (Define (n ∷ ns) r) rest)) (Define (n ∷ ns) r) rest
+unfolding formed form_of begins_with
+led_define literals defining most room n [] r rest is_defining all is stops =
+    rw (led_named literals defining most room n (Mark kinds.Define ∷ right_words r rest) all.0 refl, is_defining)
+    (some_again most room _ (Define (n ∷ []) r) rest (defined_again literals most room n [] r rest all is stops))
+led_define literals defining most room n (m ∷ ns) r rest is_defining all is stops =
+    rw (
+      led_named literals defining most room n (Mark kinds.Comma ∷ joined name_words (behind kinds.Comma) (m ∷ ns) (Mark kinds.Define ∷ right_words r rest)) all.0 refl,
+      choose_first defining _ (defined literals most room (simple_words (Define (n ∷ m ∷ ns) r) rest)) (assigned literals most room (simple_words (Define (n ∷ m ∷ ns) r) rest)) is_defining (defines_names n (m ∷ ns) (right_words r rest)),
+    )
+    (some_again most room _ (Define (n ∷ m ∷ ns) r) rest (defined_again literals most room n (m ∷ ns) r rest all is stops))
+
+abbrev pub is_send : Simple → Bool
+is_send (Send c v) = true
+is_send s = false
+
+-- what is spelt is read, where it is no send
+pub led_again : (literals defining : Bool) (most room : ℕ) (s : Simple) (rest : List Lexeme) → IsSimple literals defining s → is_send s ≡ false → Stops literals rest
+    → LedOutcome most room (led literals defining most room (simple_words s rest)) s rest
+led_again literals defining most room (CallAlone f all) rest is other stops = led_alone literals defining most room f all rest is
+led_again literals defining most room (Close c) rest is other stops = led_close literals defining most room c rest is
+led_again literals defining most room (Print line ps trailing) rest is other stops = led_print line literals defining most room ps trailing rest is.0 is.1
+led_again literals defining most room (ReceiveAlone c) rest is other stops = led_receive literals defining most room c rest is stops
+led_again literals defining most room (Send c v) rest is other stops = absurd cc
+led_again literals defining most room (Increment p) rest is other stops = led_increment literals defining most room p rest is
+led_again literals defining most room (Decrement p) rest is other stops = led_decrement literals defining most room p rest is
+led_again literals defining most room (Assign [] r) rest is other stops = absurd is.0
+led_again literals defining most room (Assign (p ∷ ps) r) rest is other stops = led_assign literals defining most room p ps r rest is.0 is.1 stops
+led_again literals defining most room (Define [] r) rest is other stops = absurd is.1
+led_again literals defining most room (Define (n ∷ ns) r) rest is other stops = led_define literals defining most room n ns r rest is.0 is.1 is.2 stops
+led_again literals defining most room (Update p o v) rest is other stops = led_update literals defining most room p o v rest is.0 is.1 is.2 stops
+
+-- a channel is no other statement
+pub led_channel : (literals defining : Bool) (most room : ℕ) (c : Expression) (ws : List Lexeme) → IsPrimary literals c → led literals defining most room (before c (Mark kinds.Arrow ∷ ws)) ≡ Ok (None, before c (Mark kinds.Arrow ∷ ws))
+unfolding form_of begins_with
+led_channel literals defining most room c ws is =
+    led_none literals defining most room (before c (Mark kinds.Arrow ∷ ws)) (no_operation literals c (Mark kinds.Arrow ∷ ws) is.0 refl) (no_form c (Mark kinds.Arrow ∷ ws) refl)
+
+pub found_again : (literals defining : Bool) (most room : ℕ) (s : Simple) (rest : List Lexeme) → LedOutcome most room (led literals defining most room (simple_words s rest)) s rest → SimpleOutcome most room (simple literals defining most room (simple_words s rest)) s rest
+unfolding simple
+found_again literals defining most room s rest again = then_again _ again (λ high. high) (λ listing. omega arith) (λ low few. Found low few refl)
+
+send_again : (literals defining : Bool) (most room : ℕ) (c v : Expression) (rest : List Lexeme) → IsSimple literals defining (Send c v) → Stops literals rest → SimpleOutcome most room (simple literals defining most room (simple_words (Send c v) rest)) (Send c v) rest
+unfolding simple
+send_again literals defining most room c v rest is stops =
+    rw (led_channel literals defining most room c (before v rest) is.0) (sent_again Send literals most room c v rest is.0 is.1 stops.ends)
+
+-- what is spelt is read, or is too high, or has too long a list
+pub simple_again : (literals defining : Bool) (most room : ℕ) (s : Simple) (rest : List Lexeme) → IsSimple literals defining s → Stops literals rest
+    → SimpleOutcome most room (simple literals defining most room (simple_words s rest)) s rest
+simple_again literals defining most room (Send c v) rest is stops = send_again literals defining most room c v rest is stops
+simple_again literals defining most room (CallAlone f all) rest is stops = found_again literals defining most room _ rest (led_again literals defining most room (CallAlone f all) rest is refl stops)
+simple_again literals defining most room (Close c) rest is stops = found_again literals defining most room _ rest (led_again literals defining most room (Close c) rest is refl stops)
+simple_again literals defining most room (Print line ps trailing) rest is stops = found_again literals defining most room _ rest (led_again literals defining most room (Print line ps trailing) rest is refl stops)
+simple_again literals defining most room (ReceiveAlone c) rest is stops = found_again literals defining most room _ rest (led_again literals defining most room (ReceiveAlone c) rest is refl stops)
+simple_again literals defining most room (Increment p) rest is stops = found_again literals defining most room _ rest (led_again literals defining most room (Increment p) rest is refl stops)
+simple_again literals defining most room (Decrement p) rest is stops = found_again literals defining most room _ rest (led_again literals defining most room (Decrement p) rest is refl stops)
+simple_again literals defining most room (Assign ps r) rest is stops = found_again literals defining most room _ rest (led_again literals defining most room (Assign ps r) rest is refl stops)
+simple_again literals defining most room (Define ns r) rest is stops = found_again literals defining most room _ rest (led_again literals defining most room (Define ns r) rest is refl stops)
+simple_again literals defining most room (Update p o v) rest is stops = found_again literals defining most room _ rest (led_again literals defining most room (Update p o v) rest is refl stops)
+
+-- ---- what is read is spelt so
+
+abbrev pub SimpleSound : (literals defining : Bool) (most room : ℕ) → List Lexeme → Simple → List Lexeme → Type 0
+SimpleSound literals defining most room = Sound simple_words (IsSimple literals defining) simple_height room simple_longest most
+
+part_value_sound : (literals : Bool) (most room : ℕ) (ws : List Lexeme) (p : Part) (rest : List Lexeme) → as_one Value (expression literals most (suc room) 0 ws) ≡ gave p rest → IsEntry (listed_parts literals most (suc room)) ws p rest
+part_value_sound literals most room ws p rest e =
+    let a = made_is Value (expression literals most (suc room) 0 ws) p rest e in
+    let v = value_sound literals most (suc room) ws a.0 rest a.1 in
+    subst (λ (x : Part). IsEntry (listed_parts literals most (suc room)) ws x rest) a.2 (record { parts = v.parts; is = v.is; low = v.low; few = v.few })
+
+part_sound : (literals : Bool) (most room : ℕ) (ws : List Lexeme) (p : Part) (rest : List Lexeme) → part literals most room ws ≡ gave p rest → IsEntry (listed_parts literals most room) ws p rest
+unfolding part
+part_sound literals most zero ws p rest e = absurd cc
+part_sound literals most (suc room) (Text bytes ∷ ws) p rest e =
+    subst (λ (x : Part × List Lexeme). IsEntry (listed_parts literals most (suc room)) (Text bytes ∷ ws) x.0 x.1) (ok_is (TextPart bytes, ws) (p, rest) e) (record { parts = refl; is = tt; low = omega arith; few = λ listing. omega arith })
+part_sound literals most (suc room) [] p rest e = part_value_sound literals most room [] p rest e
+part_sound literals most (suc room) (Literal value ∷ ws) p rest e = part_value_sound literals most room (Literal value ∷ ws) p rest e
+part_sound literals most (suc room) (Name name ∷ ws) p rest e = part_value_sound literals most room (Name name ∷ ws) p rest e
+part_sound literals most (suc room) (Mark kind ∷ ws) p rest e = part_value_sound literals most room (Mark kind ∷ ws) p rest e
+
+record AreParts (literals : Bool) (most room : ℕ) (ws : List Lexeme) (found : (List Part × Bool) × List Lexeme) : Type 0 where
+  parts : ws ≡ joined part_words (behind kinds.Comma) found.0.0 (closing kinds.Comma kinds.RightParenthesis found.0.1 found.1)
+  are : AreAll (IsPart literals) found.0.0
+  last : IsTrailing found.0.0 found.0.1
+  low : highest part_height found.0.0 ≤ room
+  few : AreFew (λ listing. max (entries listing (length found.0.0)) (highest (part_longest listing) found.0.0)) most
+
+some_parts : (literals : Bool) (ps : List Part) (trailing : Bool) → AreSome (IsPart literals) ps → AreAll (IsPart literals) ps × IsTrailing ps trailing
+some_parts literals [] trailing some = absurd some
+some_parts literals (p ∷ ps) trailing some = (some, tt)
+
+either_parts : (literals : Bool) (most room : ℕ) (b : Bool) (ws : List Lexeme) (found : (List Part × Bool) × List Lexeme)
+    → cond b (listed (part literals most room) (entry_next kinds.Comma begins_part kinds.RightParenthesis) (TooMany EntriesLimit) most ws) (expect kinds.RightParenthesis ws >>= λ after. gave ([], false) after) ≡ Ok found → AreParts literals most room ws found
+either_parts literals most room true ws found e =
+    let sound : ReadsSoundly (listed_parts literals most room) = record { one = part_sound literals most room; more = entry_more_sound kinds.Comma begins_part kinds.RightParenthesis; end = entry_end_sound kinds.Comma begins_part kinds.RightParenthesis } in
+    let s = listed_sound (listed_parts literals most room) (TooMany EntriesLimit) sound most ws found e in
+    let all = some_parts literals found.0.0 found.0.1 s.are in
+    record { parts = s.parts; are = all.0; last = all.1; low = s.low; few = λ listing. omega (arith, s.few listing, s.count, entries-le listing (length found.0.0)) }
+either_parts literals most room false ws found e =
+    let a = bind_ok (expect kinds.RightParenthesis ws) (λ after. gave ([], false) after) found e in
+    subst (λ (x : (List Part × Bool) × List Lexeme). AreParts literals most room ws x) (ok_is (([], false), a.0) found a.2) (record {
+      parts = expect_is kinds.RightParenthesis ws a.0 a.1;
+      are = tt;
+      last = refl;
+      low = omega arith;
+      few = λ listing. omega (arith, entries-le listing 0);
+    })
+
+abbrev print_of : Bool → List Part × Bool → Simple
+print_of line all = Print line all.0 all.1
+
+print_sound : (line literals defining : Bool) (most room : ℕ) (ws : List Lexeme) (s : Simple) (rest : List Lexeme) → print line literals most room ws ≡ gave s rest → SimpleSound literals defining most room (Name (print_name line) ∷ ws) s rest
+unfolding print parts
+print_sound line literals defining most room ws s rest e =
+    let a = bind_ok (expect kinds.LeftParenthesis ws) (λ inside. parts literals most room inside >>= λ all. gave (print_of line all.0) all.1) (s, rest) e in
+    let b = made_is (print_of line) (parts literals most room a.0) s rest a.2 in
+    let p = either_parts literals most room (begins_part a.0) a.0 (b.0, rest) b.1 in
+    subst (λ (x : Simple). SimpleSound literals defining most room (Name (print_name line) ∷ ws) x rest) b.2 (record {
+      parts = ap (λ (x : List Lexeme). Name (print_name line) ∷ x) (expect_is kinds.LeftParenthesis ws a.0 a.1 ∙ ap (λ (x : List Lexeme). Mark kinds.LeftParenthesis ∷ x) p.parts);
+      is = (p.are, p.last);
+      low = p.low;
+      few = p.few;
+    })
+
+close_sound : (literals defining : Bool) (most room : ℕ) (ws : List Lexeme) (s : Simple) (rest : List Lexeme) → as_one Close (argument literals most room ws) ≡ gave s rest → SimpleSound literals defining most room (Name (codes "close") ∷ ws) s rest
+close_sound literals defining most room ws s rest e =
+    let a = made_is Close (argument literals most room ws) s rest e in
+    let v = argument_sound literals most room ws a.0 rest a.1 in
+    subst (λ (x : Simple). SimpleSound literals defining most room (Name (codes "close") ∷ ws) x rest) a.2
+    (record { parts = ap (λ (x : List Lexeme). Name (codes "close") ∷ x) v.parts; is = v.is; low = v.low; few = v.few })
+
+builtin_call_sound : (literals defining : Bool) (most room : ℕ) (name : List ℕ) (ws : List Lexeme) (s : Simple) (rest : List Lexeme) → builtin_call literals most room name ws ≡ gave s rest → SimpleSound literals defining most room (Name name ∷ ws) s rest
+unfolding builtin_call
+builtin_call_sound literals defining most room name ws s rest e =
+    elim (either (bytes_eq name (codes "println")) (print true literals most room ws) (cond (bytes_eq name (codes "print")) (print false literals most room ws) (cond (bytes_eq name (codes "close")) (as_one Close (argument literals most room ws)) (Err Syntax))) (s, rest) e) [
+      | inl p ↦ subst (λ (x : List ℕ). SimpleSound literals defining most room (Name x ∷ ws) s rest) (sym (bytes_are name (codes "println") p.0)) (print_sound true literals defining most room ws s rest p.1)
+      | inr other ↦ elim (either (bytes_eq name (codes "print")) (print false literals most room ws) (cond (bytes_eq name (codes "close")) (as_one Close (argument literals most room ws)) (Err Syntax)) (s, rest) other.1) [
+        | inl p ↦ subst (λ (x : List ℕ). SimpleSound literals defining most room (Name x ∷ ws) s rest) (sym (bytes_are name (codes "print") p.0)) (print_sound false literals defining most room ws s rest p.1)
+        | inr neither ↦
+            let w = when_ok (bytes_eq name (codes "close")) Syntax (as_one Close (argument literals most room ws)) (s, rest) neither.1 in
+            subst (λ (x : List ℕ). SimpleSound literals defining most room (Name x ∷ ws) s rest) (sym (bytes_are name (codes "close") w.0)) (close_sound literals defining most room ws s rest w.1)
+      ]
+    ]
+
+assigned_sound : (literals defining : Bool) (most room : ℕ) (ws : List Lexeme) (s : Simple) (rest : List Lexeme) → assigned literals most room ws ≡ gave s rest → SimpleSound literals defining most room ws s rest
+unfolding assigned
+assigned_sound literals defining most room ws s rest e =
+    let a = bind_ok (places most ws) (λ all. expect kinds.Assign all.1 >>= λ after. right literals most room after >>= λ value. gave (Assign all.0.0 value.0) value.1) (s, rest) e in
+    let b = bind_ok (expect kinds.Assign a.0.1) (λ after. right literals most room after >>= λ value. gave (Assign a.0.0.0 value.0) value.1) (s, rest) a.2 in
+    let c = made_is (λ (r : Right). Assign a.0.0.0 r) (right literals most room b.0) s rest b.2 in
+    let p = places_sound most ws a.0 a.1 in
+    let r = right_sound literals most room b.0 c.0 rest c.1 in
+    subst (λ (x : Simple). SimpleSound literals defining most room ws x rest) c.2 (record {
+      parts = p.parts ∙ ap (joined place_words (behind kinds.Comma) a.0.0.0) (expect_is kinds.Assign a.0.1 b.0 b.1 ∙ ap (λ (x : List Lexeme). Mark kinds.Assign ∷ x) r.parts);
+      is = (p.are, r.is);
+      low = r.low;
+      few = λ listing. omega (arith, r.few listing, p.count, entries-le listing (length a.0.0.0));
+    })
+
+defined_sound : (literals : Bool) (most room : ℕ) (ws : List Lexeme) (s : Simple) (rest : List Lexeme) → defined literals most room ws ≡ gave s rest → SimpleSound literals true most room ws s rest
+unfolding defined
+defined_sound literals most room ws s rest e =
+    let a = bind_ok (names kinds.Comma most ws) (λ all. expect kinds.Define all.1 >>= λ after. right literals most room after >>= λ value. gave (Define all.0.0 value.0) value.1) (s, rest) e in
+    let b = bind_ok (expect kinds.Define a.0.1) (λ after. right literals most room after >>= λ value. gave (Define a.0.0.0 value.0) value.1) (s, rest) a.2 in
+    let c = made_is (λ (r : Right). Define a.0.0.0 r) (right literals most room b.0) s rest b.2 in
+    let n = names_sound kinds.Comma most ws a.0 a.1 in
+    let r = right_sound literals most room b.0 c.0 rest c.1 in
+    subst (λ (x : Simple). SimpleSound literals true most room ws x rest) c.2 (record {
+      parts = n.parts ∙ ap (joined name_words (behind kinds.Comma) a.0.0.0) (expect_is kinds.Define a.0.1 b.0 b.1 ∙ ap (λ (x : List Lexeme). Mark kinds.Define ∷ x) r.parts);
+      is = (refl, n.are, r.is);
+      low = r.low;
+      few = λ listing. omega (arith, r.few listing, n.count, entries-le listing (length a.0.0.0));
+    })
+
+stepped_sound : (make : Place → Simple) (kind : Kind) (literals defining : Bool) (most room : ℕ) → ((p : Place) (rest : List Lexeme) → place_words p (Mark kind ∷ rest) ≡ simple_words (make p) rest) → ((p : Place) → IsPlace p → IsSimple literals defining (make p))
+    → ((p : Place) → simple_height (make p) ≡ 0) → ((p : Place) (listing : Listing) → simple_longest listing (make p) ≡ 0)
+    → (ws : List Lexeme) (s : Simple) (rest : List Lexeme) → stepped make kind ws ≡ gave s rest → SimpleSound literals defining most room ws s rest
+unfolding stepped
+stepped_sound make kind literals defining most room words is high long ws s rest e =
+    let a = bind_ok (place ws) (λ target. expect kind target.1 >>= λ after. gave (make target.0) after) (s, rest) e in
+    let b = bind_ok (expect kind a.0.1) (λ after. gave (make a.0.0) after) (s, rest) a.2 in
+    let p = place_sound ws a.0.0 a.0.1 a.1 in
+    subst (λ (x : Simple × List Lexeme). SimpleSound literals defining most room ws x.0 x.1) (ok_is (make a.0.0, b.0) (s, rest) b.2) (record {
+      parts = p.0 ∙ ap (place_words a.0.0) (expect_is kind a.0.1 b.0 b.1) ∙ words a.0.0 b.0;
+      is = is a.0.0 p.1;
+      low = omega (arith, high a.0.0);
+      few = λ listing. omega (arith, long a.0.0 listing);
+    })
+
+updated_sound : (literals defining : Bool) (most room : ℕ) (o : BinaryOperator) (ws : List Lexeme) (s : Simple) (rest : List Lexeme) → 4 ≤ precedence o → updated literals most room o ws ≡ gave s rest → SimpleSound literals defining most room ws s rest
+unfolding updated
+updated_sound literals defining most room o ws s rest strong e =
+    let a = bind_ok (place ws) (λ target. expect (update_kind o) target.1 >>= λ after. expression literals most room 0 after >>= λ value. gave (Update target.0 o value.0) value.1) (s, rest) e in
+    let b = bind_ok (expect (update_kind o) a.0.1) (λ after. expression literals most room 0 after >>= λ value. gave (Update a.0.0 o value.0) value.1) (s, rest) a.2 in
+    let c = made_is (λ (v : Expression). Update a.0.0 o v) (expression literals most room 0 b.0) s rest b.2 in
+    let p = place_sound ws a.0.0 a.0.1 a.1 in
+    let v = value_sound literals most room b.0 c.0 rest c.1 in
+    subst (λ (x : Simple). SimpleSound literals defining most room ws x rest) c.2 (record {
+      parts = p.0 ∙ ap (place_words a.0.0) (expect_is (update_kind o) a.0.1 b.0 b.1 ∙ ap (λ (x : List Lexeme). Mark (update_kind o) ∷ x) v.parts);
+      is = (p.1, strong, v.is);
+      low = v.low;
+      few = v.few;
+    })
+
+-- a send that was read, as what was made of it
+pub record IsSent {A : Type 0} (make : Expression → Expression → A) (literals : Bool) (most room : ℕ) (ws : List Lexeme) (x : A) (rest : List Lexeme) : Type 0 where
+  pub channel : Expression
+  pub value : Expression
+  pub made : make channel value ≡ x
+  pub parts : ws ≡ before channel (Mark kinds.Arrow ∷ before value rest)
+  pub is : IsPrimary literals channel × IsGrouped literals value
+  pub low : max (expression_height channel) (expression_height value) ≤ room
+  pub few : AreFew (λ listing. max (expression_longest listing channel) (expression_longest listing value)) most
+
+pub sent_sound : {A : Type 0} (make : Expression → Expression → A) (literals : Bool) (most room : ℕ) (ws : List Lexeme) (x : A) (rest : List Lexeme) → sent make literals most room ws ≡ gave x rest → IsSent make literals most room ws x rest
+unfolding sent
+sent_sound make literals most room ws x rest e =
+    let a = bind_ok (primary literals most room ws) (λ channel. expect kinds.Arrow channel.1 >>= λ after. expression literals most room 0 after >>= λ value. gave (make channel.0 value.0) value.1) (x, rest) e in
+    let b = bind_ok (expect kinds.Arrow a.0.1) (λ after. expression literals most room 0 after >>= λ value. gave (make a.0.0 value.0) value.1) (x, rest) a.2 in
+    let c = made_is (make a.0.0) (expression literals most room 0 b.0) x rest b.2 in
+    let p = primary_sound literals most room ws a.0.0 a.0.1 a.1 in
+    let v = value_sound literals most room b.0 c.0 rest c.1 in
+    record {
+      channel = a.0.0;
+      value = c.0;
+      made = c.2;
+      parts = p.parts ∙ ap (before a.0.0) (expect_is kinds.Arrow a.0.1 b.0 b.1 ∙ ap (λ (y : List Lexeme). Mark kinds.Arrow ∷ y) v.parts);
+      is = (p.is, v.is);
+      low = omega (arith, p.low, v.low);
+      few = λ listing. omega (arith, p.few listing, v.few listing);
+    }
+
+-- what was read is a statement, or nothing
+abbrev pub LedSound : (literals defining : Bool) (most room : ℕ) → List Lexeme → Option Simple → List Lexeme → Type 0
+LedSound literals defining most room ws None rest = ws ≡ rest
+LedSound literals defining most room ws (Some s) rest = SimpleSound literals defining most room ws s rest
+
+some_sound : (literals defining : Bool) (most room : ℕ) (ws : List Lexeme) (read : Reading Simple) → ((s : Simple) (rest : List Lexeme) → read ≡ gave s rest → SimpleSound literals defining most room ws s rest)
+    → (found : Option Simple) (rest : List Lexeme) → as_one (λ (s : Simple). Some s) read ≡ gave found rest → LedSound literals defining most room ws found rest
+some_sound literals defining most room ws read sound found rest e =
+    let a = made_is (λ (s : Simple). Some s) read found rest e in
+    subst (λ (x : Option Simple). LedSound literals defining most room ws x rest) a.2 (sound a.0 rest a.1)
+
+either_defined : (literals defining b : Bool) (most room : ℕ) (ws : List Lexeme) → IsTrue defining → (s : Simple) (rest : List Lexeme) → cond b (defined literals most room ws) (assigned literals most room ws) ≡ gave s rest → SimpleSound literals defining most room ws s rest
+either_defined literals true true most room ws is s rest e = defined_sound literals most room ws s rest e
+either_defined literals true false most room ws is s rest e = assigned_sound literals true most room ws s rest e
+either_defined literals false b most room ws is s rest e = absurd cc
+
+define_sound : (literals defining : Bool) (most room : ℕ) (ws : List Lexeme) (s : Simple) (rest : List Lexeme) → cond defining (defined literals most room ws) (assigned literals most room ws) ≡ gave s rest → SimpleSound literals defining most room ws s rest
+define_sound literals true most room ws s rest e = defined_sound literals most room ws s rest e
+define_sound literals false most room ws s rest e = assigned_sound literals false most room ws s rest e
+
+list_sound : (literals defining b : Bool) (most room : ℕ) (ws : List Lexeme) (s : Simple) (rest : List Lexeme) → cond (defining && b) (defined literals most room ws) (assigned literals most room ws) ≡ gave s rest → SimpleSound literals defining most room ws s rest
+list_sound literals true b most room ws s rest e = either_defined literals true b most room ws refl s rest e
+list_sound literals false b most room ws s rest e = assigned_sound literals false most room ws s rest e
+
+formed_sound : (literals defining : Bool) (most room : ℕ) (form : Form) (ws : List Lexeme) (found : Option Simple) (rest : List Lexeme) → ((o : BinaryOperator) → form ≡ forms.Update o → 4 ≤ precedence o) → formed literals defining most room form ws ≡ gave found rest → LedSound literals defining most room ws found rest
+unfolding formed
+formed_sound literals defining most room forms.Increment ws found rest strong e =
+    some_sound literals defining most room ws (stepped Increment kinds.Increment ws) (stepped_sound Increment kinds.Increment literals defining most room (λ p after. refl) (λ p is. is) (λ p. refl) (λ p listing. refl) ws) found rest e
+formed_sound literals defining most room forms.Decrement ws found rest strong e =
+    some_sound literals defining most room ws (stepped Decrement kinds.Decrement ws) (stepped_sound Decrement kinds.Decrement literals defining most room (λ p after. refl) (λ p is. is) (λ p. refl) (λ p listing. refl) ws) found rest e
+formed_sound literals defining most room (forms.Update o) ws found rest strong e =
+    some_sound literals defining most room ws (updated literals most room o ws) (λ s after. updated_sound literals defining most room o ws s after (strong o refl)) found rest e
+formed_sound literals defining most room (forms.Assign ranges) ws found rest strong e =
+    some_sound literals defining most room ws (assigned literals most room ws) (assigned_sound literals defining most room ws) found rest e
+formed_sound literals defining most room (forms.Define ranges) ws found rest strong e =
+    some_sound literals defining most room ws (cond defining (defined literals most room ws) (assigned literals most room ws)) (define_sound literals defining most room ws) found rest e
+formed_sound literals defining most room forms.List ws found rest strong e =
+    some_sound literals defining most room ws (cond (defining && defines true ws) (defined literals most room ws) (assigned literals most room ws)) (list_sound literals defining (defines true ws) most room ws) found rest e
+formed_sound literals defining most room forms.Other ws found rest strong e =
+    subst (λ (x : Option Simple × List Lexeme). LedSound literals defining most room ws x.0 x.1) (ok_is (None, ws) (found, rest) e) refl
+
+receive_sound : (literals defining : Bool) (most room : ℕ) (ws : List Lexeme) (found : Option Simple) (rest : List Lexeme) → as_one (λ (channel : Expression). Some (ReceiveAlone channel)) (primary literals most room ws) ≡ gave found rest → LedSound literals defining most room (Mark kinds.Arrow ∷ ws) found rest
+receive_sound literals defining most room ws found rest e =
+    let a = made_is (λ (channel : Expression). Some (ReceiveAlone channel)) (primary literals most room ws) found rest e in
+    let p = primary_sound literals most room ws a.0 rest a.1 in
+    subst (λ (x : Option Simple). LedSound literals defining most room (Mark kinds.Arrow ∷ ws) x rest) a.2
+    (record { parts = ap (λ (x : List Lexeme). Mark kinds.Arrow ∷ x) p.parts; is = p.is; low = p.low; few = p.few })
+
+call_sound : (literals defining : Bool) (most room : ℕ) (name : List ℕ) (ws : List Lexeme) (found : Option Simple) (rest : List Lexeme) → IsName name → as_one (λ (all : Arguments). Some (CallAlone name all)) (arguments literals most room ws) ≡ gave found rest → LedSound literals defining most room (Name name ∷ ws) found rest
+call_sound literals defining most room name ws found rest plain e =
+    let a = made_is (λ (all : Arguments). Some (CallAlone name all)) (arguments literals most room ws) found rest e in
+    let p = arguments_sound literals most room ws a.0 rest a.1 in
+    subst (λ (x : Option Simple). LedSound literals defining most room (Name name ∷ ws) x rest) a.2
+    (record { parts = ap (λ (x : List Lexeme). Name name ∷ x) p.parts; is = (plain, p.is); low = p.low; few = p.few })
+
+pub led_sound : (literals defining : Bool) (most room : ℕ) (ws : List Lexeme) (found : Option Simple) (rest : List Lexeme) → led literals defining most room ws ≡ gave found rest → LedSound literals defining most room ws found rest
+unfolding led
+led_sound literals defining most room [] found rest e = subst (λ (x : Option Simple × List Lexeme). LedSound literals defining most room [] x.0 x.1) (ok_is (None, []) (found, rest) e) refl
+led_sound literals defining most room (Literal value ∷ ws) found rest e = subst (λ (x : Option Simple × List Lexeme). LedSound literals defining most room (Literal value ∷ ws) x.0 x.1) (ok_is (None, Literal value ∷ ws) (found, rest) e) refl
+led_sound literals defining most room (Text bytes ∷ ws) found rest e = subst (λ (x : Option Simple × List Lexeme). LedSound literals defining most room (Text bytes ∷ ws) x.0 x.1) (ok_is (None, Text bytes ∷ ws) (found, rest) e) refl
+led_sound literals defining most room (Mark kind ∷ ws) found rest e =
+    elim (either (is_kind kind kinds.Arrow) (as_one (λ (channel : Expression). Some (ReceiveAlone channel)) (primary literals most room ws)) (gave None (Mark kind ∷ ws)) (found, rest) e) [
+      | inl r ↦ subst (λ (x : Kind). LedSound literals defining most room (Mark x ∷ ws) found rest) (sym (kind_is kind kinds.Arrow r.0)) (receive_sound literals defining most room ws found rest r.1)
+      | inr other ↦ subst (λ (x : Option Simple × List Lexeme). LedSound literals defining most room (Mark kind ∷ ws) x.0 x.1) (ok_is (None, Mark kind ∷ ws) (found, rest) other.1) refl
+    ]
+led_sound literals defining most room (Name name ∷ ws) found rest e =
+    elim (either (is_builtin name) (as_one (λ (s : Simple). Some s) (builtin_call literals most room name ws)) (cond (begins_with kinds.LeftParenthesis ws) (as_one (λ (all : Arguments). Some (CallAlone name all)) (arguments literals most room ws)) (formed literals defining most room (form_of true (Name name ∷ ws)) (Name name ∷ ws))) (found, rest) e) [
+      | inl b ↦ some_sound literals defining most room (Name name ∷ ws) (builtin_call literals most room name ws) (builtin_call_sound literals defining most room name ws) found rest b.1
+      | inr other ↦ elim (either (begins_with kinds.LeftParenthesis ws) (as_one (λ (all : Arguments). Some (CallAlone name all)) (arguments literals most room ws)) (formed literals defining most room (form_of true (Name name ∷ ws)) (Name name ∷ ws)) (found, rest) other.1) [
+        | inl c ↦ call_sound literals defining most room name ws found rest other.0 c.1
+        | inr f ↦ formed_sound literals defining most room (form_of true (Name name ∷ ws)) (Name name ∷ ws) found rest (form_strong true (Name name ∷ ws)) f.1
+      ]
+    ]
+
+pub send_sound : (literals defining : Bool) (most room : ℕ) (ws : List Lexeme) (s : Simple) (rest : List Lexeme) → sent Send literals most room ws ≡ gave s rest → SimpleSound literals defining most room ws s rest
+send_sound literals defining most room ws s rest e =
+    let a = sent_sound Send literals most room ws s rest e in
+    subst (λ (x : Simple). SimpleSound literals defining most room ws x rest) a.made (record { parts = a.parts; is = a.is; low = a.low; few = a.few })
+
+led_or_sent_sound : (literals defining : Bool) (most room : ℕ) (ws : List Lexeme) (found : Option Simple) (after : List Lexeme) → LedSound literals defining most room ws found after → (s : Simple) (rest : List Lexeme) → led_or_sent literals most room (found, after) ≡ gave s rest → SimpleSound literals defining most room ws s rest
+led_or_sent_sound literals defining most room ws None after same s rest e =
+    subst (λ (x : List Lexeme). SimpleSound literals defining most room x s rest) (sym same) (send_sound literals defining most room after s rest e)
+led_or_sent_sound literals defining most room ws (Some x) after sound s rest e =
+    subst (λ (y : Simple × List Lexeme). SimpleSound literals defining most room ws y.0 y.1) (ok_is (x, after) (s, rest) e) sound
+
+-- what is read is spelt so, and is within the limits
+pub simple_sound : (literals defining : Bool) (most room : ℕ) (ws : List Lexeme) (s : Simple) (rest : List Lexeme) → simple literals defining most room ws ≡ gave s rest → SimpleSound literals defining most room ws s rest
+unfolding simple
+simple_sound literals defining most room ws s rest e =
+    let a = bind_ok (led literals defining most room ws) (led_or_sent literals most room) (s, rest) e in
+    led_or_sent_sound literals defining most room ws a.0.0 a.0.1 (led_sound literals defining most room ws a.0.0 a.0.1 a.1) s rest a.2

@@ -1,0 +1,32 @@
+use Rattle.std.proofs.Common.{◌≤◌, ◌<◌, length, is_ok, ap, arith}
+use Rattle.std.proofs.ResultArms.{chosen}
+use Rattle.std.proofs.lemmas.Result.{err_from_is_err_and}
+use Rattle.syntax.specs.View.{expression_of}
+use Rattle.parser_base.specs.Cursor.{ahead}
+use Rattle.parser_base.proofs.Lists.{more, ends, one_fails, next_fails, is_full, sum_by-pushed, length-pushed}
+use Rattle.syntax.specs.Measures.{Entries, expression_size}
+use Rattle.scanner.specs.declared.kind.Kind.TheVariants as kinds
+use Rattle.parser_base.specs.Reading.{TooMany, expression}
+use Rattle.parser_simple.specs.Reading.{separator_next}
+use Rattle.parser_simple.proofs.right.value_list.Goals as goal
+
+pub returns-in_err-one-clause-values : goal.returns-in_err-one-clause-values
+returns-in_err-one-clause-values c =
+    let p = err_from_is_err_and c.from_residual.result c.from_residual.ensures.1 in
+    rw (p.1, p.2) (one_fails c.in_err-one.field-0.0 (expression c.args.literals 64 c.args.room 0) (separator_next kinds.Comma) (TooMany Entries) (64) c.loop.counter _ (ahead c.loop.rest) _ c.loop-test.true c.in_err-one.ensures.tree c.loop.invariant.total)
+
+pub returns-in-End-clause-values : goal.returns-in-End-clause-values
+returns-in-End-clause-values c =
+    let pushed = chosen _ _ _ _ c.push.ensures.items (ap is_ok c.in_ok-push.was) in
+    rw pushed (ends expression_of (expression c.args.literals 64 c.args.room 0) (separator_next kinds.Comma) (TooMany Entries) (64) c.loop.counter c.loop.entries.items (ahead c.loop.rest) c.in_ok-one.one.expression c.in-End.trailing (ahead c.in_ok-one.one.rest) (ahead c.separator_next-next.result.1) _ c.loop-test.true c.in_ok-one.ensures.tree (rw c.in-End.is at c.separator_next-next.ensures) c.loop.invariant.total)
+
+pub loop-preserved : goal.loop-preserved
+loop-preserved c =
+    let pushed = chosen _ _ _ _ c.push.ensures.items (ap is_ok c.in_ok-push.was) in
+    record {
+      total = rw pushed (more expression_of (expression c.args.literals 64 c.args.room 0) (separator_next kinds.Comma) (TooMany Entries) (64) c.loop.counter c.loop.entries.items (ahead c.loop.rest) c.in_ok-one.one.expression (ahead c.in_ok-one.one.rest) (ahead c.separator_next-next.result.1) _ c.loop-test.true c.in_ok-one.ensures.tree (rw c.in-More.is at c.separator_next-next.ensures) c.loop.invariant.total);
+      nodes = rw pushed (omega (arith, sum_by-pushed expression_of expression_size c.loop.entries.items c.in_ok-one.one.expression, c.loop.invariant.nodes, c.in_ok-one.ensures.nodes));
+    }
+
+pub returns-clause-values : goal.returns-clause-values
+returns-clause-values c = is_full (expression c.args.literals 64 c.args.room 0) (separator_next kinds.Comma) (TooMany Entries) (64) c.loop.counter _ (ahead c.loop.rest) _ c.loop-test.false c.loop.invariant.total

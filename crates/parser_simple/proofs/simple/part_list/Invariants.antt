@@ -1,0 +1,16 @@
+use Rattle.std.proofs.Common.{◌≡◌, ◌-◌, ◌+◌, map, length, sum_by, vec_len}
+use Rattle.syntax.specs.View.{part_of}
+use Rattle.parser_base.specs.Cursor.{ahead}
+use Rattle.parser_base.specs.Reading.{listed}
+use Rattle.parser_base.proofs.Lists.{with_front}
+use Rattle.syntax.specs.Measures.{Entries, part_size}
+use Rattle.scanner.specs.declared.kind.Kind.TheVariants as kinds
+use Rattle.parser_base.specs.Reading.{TooMany, entry_next}
+use Rattle.parser_simple.specs.Reading.{part, begins_part}
+use Rattle.parser_simple.proofs.simple.part_list.Given as goal
+
+abbrev pub invariant-loop : goal.invariant-loop
+invariant-loop l = record {
+  total : with_front (map part_of l.entries.items) (listed (part l.literals 64 l.room) (entry_next kinds.Comma begins_part kinds.RightParenthesis) (TooMany Entries) (64 - l.counter) (ahead l.rest)) ≡ listed (part l.literals 64 l.room) (entry_next kinds.Comma begins_part kinds.RightParenthesis) (TooMany Entries) (64) (ahead l.fn.cursor);
+  nodes : vec_len l.spans ≡ vec_len l.fn.spans + sum_by part_size (map part_of l.entries.items);
+}

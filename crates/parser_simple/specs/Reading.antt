@@ -1,0 +1,407 @@
+-- Reading simple statements from left to right.
+use Rattle.std.specs.Prelude.{◌≡◌, ℕ, zero, suc, Bool, true, false, ◌&&◌, ◌||◌, ◌==◌, List, [], ◌∷◌, Option, Some, None, Result, Ok, Err, if◌then◌else◌, length, bytes_eq, codes}
+use Rattle.scanner.specs.declared.kind.Kind.{Kind}
+use Rattle.scanner.specs.declared.kind.Kind.TheVariants as kinds
+use Rattle.syntax.specs.declared.node.BinaryOperator.{BinaryOperator}
+use Rattle.syntax.specs.declared.node.BinaryOperator.TheVariants as binaries
+use Rattle.syntax.specs.Tree.{Expression, TypeExpression, Arguments, Operation, Call, Receive, Make, Length, Capacity, Right, RightOperation, Values, Place, Part, Value, Text as TextPart, Simple, CallAlone, Close, Print, ReceiveAlone, Send, Increment, Decrement, Assign, Define, Update, Comm, CommSend, CommReceive, CommDefine, CommAssign, IfHead, Bare, Semicolon, First, Target, NoTarget, DefineTarget, AssignTarget, ForHead, Forever, While, ForClauses, Range}
+use Rattle.syntax.specs.Measures.{Entries}
+use Rattle.parser_base.specs.declared.list.Next.{Next}
+use Rattle.parser_base.specs.declared.list.Next.TheVariants.{More, End}
+use Rattle.parser_base.specs.Lexemes.{Lexeme, Literal, Name, Text, Mark}
+use Rattle.parser_base.specs.Spelling.{is_builtin, outer_precedence}
+use Rattle.parser_base.specs.Reading.{Refusal, Syntax, TooDeep, TooMany, Reading, ◌>>=◌, is_kind, expect, plain_name, begins, listed, entry_next, values, expression}
+use Rattle.parser_base.specs.TypeReading.{type_at}
+use Rattle.parser_simple.specs.declared.form.Form.{Form}
+use Rattle.parser_simple.specs.declared.form.Form.TheVariants as forms
+use Rattle.parser_simple.specs.Spelling.{update_kind}
+
+-- what was read, as one of several
+abbrev pub as_one : {A B : Type 0} → (A → B) → Reading A → Reading B
+as_one make read = read >>= λ found. Ok (make found.0, found.1)
+
+-- this mark comes next
+unfoldable pub begins_with : Kind → List Lexeme → Bool
+begins_with kind (Mark first ∷ rest) = is_kind first kind
+begins_with kind words = false
+
+-- ---- names and places
+
+-- what follows an entry of a list without a closing mark
+unfoldable pub separator_next : Kind → List Lexeme → Reading Next
+separator_next separator (Mark kind ∷ rest) = if is_kind kind separator then Ok (More, rest) else Ok (End false, Mark kind ∷ rest)
+separator_next separator words = Ok (End false, words)
+
+-- names with a separator between each two, of which there are at most so many
+abbrev pub names : Kind → ℕ → List Lexeme → Reading (List (List ℕ) × Bool)
+names separator most words = listed plain_name (separator_next separator) (TooMany Entries) most words
+
+-- the fields of a place, each behind a period
+unfoldable pub fields : List Lexeme → Reading (List (List ℕ))
+fields words =
+    if begins_with kinds.Period words
+    then (expect kinds.Period words >>= λ first. names kinds.Period (length first) first >>= λ all. Ok (all.0.0, all.1))
+    else Ok ([], words)
+
+unfoldable pub place : List Lexeme → Reading Place
+place words = do
+  name ← plain_name words
+  path ← fields name.1
+  Ok (record { name = name.0; fields = path.0 }, path.1)
+
+-- places with a comma between each two
+abbrev pub places : ℕ → List Lexeme → Reading (List Place × Bool)
+places most words = listed place (separator_next kinds.Comma) (TooMany Entries) most words
+
+-- ---- what stands behind a place
+
+-- the operator of an assignment with an operator
+abbrev pub update_of : Kind → Option BinaryOperator
+update_of kinds.PlusAssign = Some binaries.Add
+update_of kinds.MinusAssign = Some binaries.Subtract
+update_of kinds.StarAssign = Some binaries.Multiply
+update_of kinds.SlashAssign = Some binaries.Divide
+update_of kinds.PercentAssign = Some binaries.Remainder
+update_of kinds.AmpersandAssign = Some binaries.And
+update_of kinds.BarAssign = Some binaries.Or
+update_of kinds.CaretAssign = Some binaries.ExclusiveOr
+update_of kinds.AndNotAssign = Some binaries.AndNot
+update_of kinds.ShiftLeftAssign = Some binaries.ShiftLeft
+update_of kinds.ShiftRightAssign = Some binaries.ShiftRight
+update_of kind = None
+
+abbrev pub update_form : Option BinaryOperator → Form
+update_form None = forms.Other
+update_form (Some operator) = forms.Update operator
+
+-- the form that a mark behind a place begins
+abbrev pub form_at : Kind → List Lexeme → Form
+form_at kinds.Increment rest = forms.Increment
+form_at kinds.Decrement rest = forms.Decrement
+form_at kinds.Comma rest = forms.List
+form_at kinds.Assign rest = forms.Assign (begins_with kinds.Range rest)
+form_at kinds.Define rest = forms.Define (begins_with kinds.Range rest)
+form_at kind rest = update_form (update_of kind)
+
+-- the form behind a place, of which a name comes next where `named` holds
+unfoldable pub form_of : (named : Bool) → List Lexeme → Form
+form_of true (Name name ∷ rest) = form_of false rest
+form_of true words = forms.Other
+form_of false (Mark kind ∷ rest) = if is_kind kind kinds.Period then form_of true rest else form_at kind rest
+form_of false words = forms.Other
+
+-- names with commas between them stand before a `:=`; a name comes next where `named` holds
+unfoldable pub defines : (named : Bool) → List Lexeme → Bool
+defines true (Name name ∷ rest) = defines false rest
+defines true words = false
+defines false (Mark kind ∷ rest) = if is_kind kind kinds.Define then true else (if is_kind kind kinds.Comma then defines true rest else false)
+defines false words = false
+
+-- ---- right sides
+
+-- whether an operand of a send or a receive can begin so
+unfoldable pub begins_primary : List Lexeme → Bool
+begins_primary [] = false
+begins_primary (Literal value ∷ rest) = true
+begins_primary (Name name ∷ rest) = if is_builtin name then false else true
+begins_primary (Text bytes ∷ rest) = false
+begins_primary (Mark kind ∷ rest) = is_kind kind kinds.LeftParenthesis
+
+-- an operand of a send or a receive
+unfoldable pub primary : Bool → ℕ → ℕ → List Lexeme → Reading Expression
+primary literals most room words = if begins_primary words then expression literals most room 7 words else Err Syntax
+
+-- arguments in parentheses
+unfoldable pub arguments : Bool → ℕ → ℕ → List Lexeme → Reading Arguments
+arguments literals most room words = do
+  inside ← expect kinds.LeftParenthesis words
+  all ← values (expression literals most room) kinds.RightParenthesis most inside
+  Ok (record { values = all.0.0; trailing = all.0.1 }, all.1)
+
+-- one argument in parentheses
+unfoldable pub argument : Bool → ℕ → ℕ → List Lexeme → Reading Expression
+argument literals most room words = do
+  inside ← expect kinds.LeftParenthesis words
+  value ← expression literals most room 0 inside
+  after ← expect kinds.RightParenthesis value.1
+  Ok (value.0, after)
+
+-- the size of a channel's buffer behind a comma, if there is one
+unfoldable pub size : Bool → ℕ → ℕ → List Lexeme → Reading (Option Expression)
+size literals most room words =
+    if begins_with kinds.Comma words then (expect kinds.Comma words >>= λ behind. as_one (λ value. Some value) (expression literals most room 0 behind))
+    else Ok (None, words)
+
+-- what stands behind `make`
+unfoldable pub make : Bool → ℕ → ℕ → List Lexeme → Reading Operation
+make literals most room words = do
+  inside ← expect kinds.LeftParenthesis words
+  channel ← type_at room inside
+  buffer ← size literals most room channel.1
+  after ← expect kinds.RightParenthesis buffer.1
+  Ok (Make channel.0 buffer.0, after)
+
+-- a built-in function that makes or measures a channel, behind its name
+unfoldable pub builtin_operation : Bool → ℕ → ℕ → List ℕ → List Lexeme → Reading Operation
+builtin_operation literals most room name rest =
+    if bytes_eq name (codes "make") then make literals most room rest
+    else (if bytes_eq name (codes "len") then as_one Length (argument literals most room rest)
+    else (if bytes_eq name (codes "cap") then as_one Capacity (argument literals most room rest)
+    else Err Syntax))
+
+-- whether an operation begins so, where no other value can
+unfoldable pub begins_operation : List Lexeme → Bool
+begins_operation (Mark kind ∷ rest) = is_kind kind kinds.Arrow
+begins_operation (Name name ∷ rest) = if is_builtin name then true else begins_with kinds.LeftParenthesis rest
+begins_operation words = false
+
+-- an operation, below which there are at most so many levels
+unfoldable pub operation : Bool → ℕ → ℕ → List Lexeme → Reading Operation
+operation literals most room (Mark kind ∷ rest) = if is_kind kind kinds.Arrow then as_one Receive (primary literals most room rest) else Err Syntax
+operation literals most room (Name name ∷ rest) =
+    if is_builtin name then builtin_operation literals most room name rest
+    else as_one (Call name) (arguments literals most room rest)
+operation literals most room words = Err Syntax
+
+-- values with a comma between each two
+abbrev pub value_list : Bool → ℕ → ℕ → List Lexeme → Reading (List Expression × Bool)
+value_list literals most room words = listed (expression literals most room 0) (separator_next kinds.Comma) (TooMany Entries) most words
+
+-- the right side of an assignment, of at most so many levels
+unfoldable pub right : Bool → ℕ → ℕ → List Lexeme → Reading Right
+right literals most zero words = Err TooDeep
+right literals most (suc room) words =
+    if begins_operation words then as_one RightOperation (operation literals most room words)
+    else (value_list literals most (suc room) words >>= λ all. Ok (Values all.0.0, all.1))
+
+-- ---- simple statements
+
+-- whether an argument of print or println begins so
+unfoldable pub begins_part : List Lexeme → Bool
+begins_part (Text bytes ∷ rest) = true
+begins_part words = begins words
+
+-- an argument of print or println
+unfoldable pub part : Bool → ℕ → ℕ → List Lexeme → Reading Part
+part literals most zero words = Err TooDeep
+part literals most (suc room) (Text bytes ∷ rest) = Ok (TextPart bytes, rest)
+part literals most (suc room) words = as_one Value (expression literals most (suc room) 0 words)
+
+-- the arguments of print or println, behind the first parenthesis
+unfoldable pub parts : Bool → ℕ → ℕ → List Lexeme → Reading (List Part × Bool)
+parts literals most room words =
+    if begins_part words then listed (part literals most room) (entry_next kinds.Comma begins_part kinds.RightParenthesis) (TooMany Entries) most words
+    else (expect kinds.RightParenthesis words >>= λ after. Ok (([], false), after))
+
+-- a print or, where `line` holds, a println, behind its name
+unfoldable pub print : (line : Bool) → Bool → ℕ → ℕ → List Lexeme → Reading Simple
+print line literals most room words = do
+  inside ← expect kinds.LeftParenthesis words
+  all ← parts literals most room inside
+  Ok (Print line all.0.0 all.0.1, all.1)
+
+-- a built-in function that is called alone, behind its name
+unfoldable pub builtin_call : Bool → ℕ → ℕ → List ℕ → List Lexeme → Reading Simple
+builtin_call literals most room name rest =
+    if bytes_eq name (codes "println") then print true literals most room rest
+    else (if bytes_eq name (codes "print") then print false literals most room rest
+    else (if bytes_eq name (codes "close") then as_one Close (argument literals most room rest)
+    else Err Syntax))
+
+-- an assignment to places
+unfoldable pub assigned : Bool → ℕ → ℕ → List Lexeme → Reading Simple
+assigned literals most room words = do
+  all ← places most words
+  after ← expect kinds.Assign all.1
+  value ← right literals most room after
+  Ok (Assign all.0.0 value.0, value.1)
+
+-- a `:=`
+unfoldable pub defined : Bool → ℕ → ℕ → List Lexeme → Reading Simple
+defined literals most room words = do
+  all ← names kinds.Comma most words
+  after ← expect kinds.Define all.1
+  value ← right literals most room after
+  Ok (Define all.0.0 value.0, value.1)
+
+-- a `++` or `--` behind a place
+unfoldable pub stepped : (Place → Simple) → Kind → List Lexeme → Reading Simple
+stepped make kind words = place words >>= λ target. expect kind target.1 >>= λ after. Ok (make target.0, after)
+
+-- an assignment with an operator
+unfoldable pub updated : Bool → ℕ → ℕ → BinaryOperator → List Lexeme → Reading Simple
+updated literals most room operator words = do
+  target ← place words
+  after ← expect (update_kind operator) target.1
+  value ← expression literals most room 0 after
+  Ok (Update target.0 operator value.0, value.1)
+
+-- a statement of this form, or None where it has none of them
+unfoldable pub formed : (literals defining : Bool) → ℕ → ℕ → Form → List Lexeme → Reading (Option Simple)
+formed literals defining most room forms.Increment words = as_one (λ s. Some s) (stepped Increment kinds.Increment words)
+formed literals defining most room forms.Decrement words = as_one (λ s. Some s) (stepped Decrement kinds.Decrement words)
+formed literals defining most room (forms.Update operator) words = as_one (λ s. Some s) (updated literals most room operator words)
+formed literals defining most room (forms.Assign ranges) words = as_one (λ s. Some s) (assigned literals most room words)
+formed literals defining most room (forms.Define ranges) words =
+    as_one (λ s. Some s) (if defining then defined literals most room words else assigned literals most room words)
+formed literals defining most room forms.List words =
+    as_one (λ s. Some s) (if defining && defines true words then defined literals most room words else assigned literals most room words)
+formed literals defining most room forms.Other words = Ok (None, words)
+
+-- a simple statement, or None where a value or a send comes next, or nothing that is one
+unfoldable pub led : (literals defining : Bool) → ℕ → ℕ → List Lexeme → Reading (Option Simple)
+led literals defining most room (Mark kind ∷ rest) =
+    if is_kind kind kinds.Arrow then as_one (λ channel. Some (ReceiveAlone channel)) (primary literals most room rest) else Ok (None, Mark kind ∷ rest)
+led literals defining most room (Name name ∷ rest) =
+    if is_builtin name then as_one (λ s. Some s) (builtin_call literals most room name rest)
+    else (if begins_with kinds.LeftParenthesis rest then as_one (λ all. Some (CallAlone name all)) (arguments literals most room rest)
+    else formed literals defining most room (form_of true (Name name ∷ rest)) (Name name ∷ rest))
+led literals defining most room words = Ok (None, words)
+
+-- a send
+unfoldable pub sent : {A : Type 0} → (Expression → Expression → A) → Bool → ℕ → ℕ → List Lexeme → Reading A
+sent make literals most room words = do
+  channel ← primary literals most room words
+  after ← expect kinds.Arrow channel.1
+  value ← expression literals most room 0 after
+  Ok (make channel.0 value.0, value.1)
+
+-- a simple statement, or a send where none was read yet
+abbrev pub led_or_sent : Bool → ℕ → ℕ → Option Simple × List Lexeme → Reading Simple
+led_or_sent literals most room (Some simple, rest) = Ok (simple, rest)
+led_or_sent literals most room (None, rest) = sent Send literals most room rest
+
+-- a simple statement below which there are at most so many levels, whose lists have at most so many entries. Composite
+-- literals stand only where `literals` holds, and a `:=` where `defining` does.
+unfoldable pub simple : (literals defining : Bool) → ℕ → ℕ → List Lexeme → Reading Simple
+simple literals defining most room words = led literals defining most room words >>= led_or_sent literals most room
+
+-- ---- headers
+
+-- what stands behind `if` or `for`
+pub data Head : Type 0 where
+  HeadSimple : (simple : Simple) → Head
+  HeadCondition : (condition : Expression) → Head
+
+-- no operation but selections
+abbrev pub is_primary : Expression → Bool
+is_primary expression = outer_precedence expression == 7
+
+-- a condition, or a send on it
+abbrev pub condition_or_sent : ℕ → ℕ → Expression × List Lexeme → Reading Head
+condition_or_sent most room (channel, rest) =
+    if begins_with kinds.Arrow rest && is_primary channel
+    then (expect kinds.Arrow rest >>= λ after. as_one (λ value. HeadSimple (Send channel value)) (expression false most room 0 after))
+    else Ok (HeadCondition channel, rest)
+
+abbrev pub led_or_condition : ℕ → ℕ → Option Simple × List Lexeme → Reading Head
+led_or_condition most room (Some simple, rest) = Ok (HeadSimple simple, rest)
+led_or_condition most room (None, rest) = expression false most room 0 rest >>= condition_or_sent most room
+
+-- a simple statement or a condition
+unfoldable pub head : ℕ → ℕ → List Lexeme → Reading Head
+head most room words = led false true most room words >>= led_or_condition most room
+
+-- ---- what a clause of a select waits for
+
+unfoldable pub second : {A : Type 0} → (List Lexeme → Reading A) → List Lexeme → Reading (Option A)
+second one words =
+    if begins_with kinds.Comma words then (expect kinds.Comma words >>= λ behind. as_one (λ x. Some x) (one behind)) else Ok (None, words)
+
+-- a receive with a `:=` of one name or two
+unfoldable pub comm_defined : ℕ → ℕ → List Lexeme → Reading Comm
+comm_defined most room words = do
+  item ← plain_name words
+  ok ← second plain_name item.1
+  mark ← expect kinds.Define ok.1
+  arrow ← expect kinds.Arrow mark
+  channel ← primary true most room arrow
+  Ok (CommDefine item.0 ok.0 channel.0, channel.1)
+
+-- a receive with an assignment to one place or two
+unfoldable pub comm_assigned : ℕ → ℕ → List Lexeme → Reading Comm
+comm_assigned most room words = do
+  item ← place words
+  ok ← second place item.1
+  mark ← expect kinds.Assign ok.1
+  arrow ← expect kinds.Arrow mark
+  channel ← primary true most room arrow
+  Ok (CommAssign item.0 ok.0 channel.0, channel.1)
+
+unfoldable pub comm_formed : ℕ → ℕ → Form → List Lexeme → Reading Comm
+comm_formed most room (forms.Define ranges) words = comm_defined most room words
+comm_formed most room (forms.Assign ranges) words = comm_assigned most room words
+comm_formed most room forms.List words = if defines true words then comm_defined most room words else comm_assigned most room words
+comm_formed most room form words = sent CommSend true most room words
+
+-- what a clause of a select waits for, below which there are at most so many levels
+unfoldable pub comm : ℕ → ℕ → List Lexeme → Reading Comm
+comm most room (Mark kind ∷ rest) =
+    if is_kind kind kinds.Arrow then as_one CommReceive (primary true most room rest) else comm_formed most room (form_of true (Mark kind ∷ rest)) (Mark kind ∷ rest)
+comm most room words = comm_formed most room (form_of true words) words
+
+-- ---- headers of an if and a for
+
+-- a condition
+abbrev pub condition : ℕ → ℕ → List Lexeme → Reading Expression
+condition most room words = expression false most room 0 words
+
+-- a condition behind a semicolon, with what stands before that
+abbrev pub behind_head : IfHead → ℕ → ℕ → List Lexeme → Reading (IfHead × Expression)
+behind_head first most room words = expect kinds.Semicolon words >>= λ after. as_one (λ test. (first, test)) (condition most room after)
+
+-- what stands before the condition, and the condition
+abbrev pub if_headed : ℕ → ℕ → Head × List Lexeme → Reading (IfHead × Expression)
+if_headed most room (HeadSimple simple, rest) = behind_head (First simple) most room rest
+if_headed most room (HeadCondition test, rest) = Ok ((Bare, test), rest)
+
+-- what stands between an `if` and its block
+unfoldable pub if_header : ℕ → ℕ → List Lexeme → Reading (IfHead × Expression)
+if_header most room words =
+    if begins_with kinds.Semicolon words then behind_head Semicolon most room words else (head most room words >>= if_headed most room)
+
+-- what is there, unless this mark comes next
+abbrev pub unless_next : {A : Type 0} → Kind → (List Lexeme → Reading A) → List Lexeme → Reading (Option A)
+unless_next kind one words = if begins_with kind words then Ok (None, words) else as_one (λ x. Some x) (one words)
+
+-- the clauses of a `for`, behind the first semicolon
+unfoldable pub for_clauses : Option Simple → ℕ → ℕ → List Lexeme → Reading ForHead
+for_clauses first most room words = do
+  test ← unless_next kinds.Semicolon (condition most room) words
+  after ← expect kinds.Semicolon test.1
+  post ← unless_next kinds.LeftBrace (simple false false most room) after
+  Ok (ForClauses first test.0 post.0, post.1)
+
+-- the `range` of a `for`, from its word on
+unfoldable pub ranged : Target → ℕ → ℕ → List Lexeme → Reading ForHead
+ranged target most room words = expect kinds.Range words >>= λ after. as_one (Range target) (condition most room after)
+
+unfoldable pub range_defined : ℕ → ℕ → List Lexeme → Reading ForHead
+range_defined most room words = plain_name words >>= λ name. expect kinds.Define name.1 >>= λ after. ranged (DefineTarget name.0) most room after
+
+unfoldable pub range_assigned : ℕ → ℕ → List Lexeme → Reading ForHead
+range_assigned most room words = place words >>= λ target. expect kinds.Assign target.1 >>= λ after. ranged (AssignTarget target.0) most room after
+
+abbrev pub for_headed : ℕ → ℕ → Head × List Lexeme → Reading ForHead
+for_headed most room (HeadSimple simple, rest) = expect kinds.Semicolon rest >>= λ after. for_clauses (Some simple) most room after
+for_headed most room (HeadCondition test, rest) = Ok (While test, rest)
+
+-- whether `range` follows an assignment's mark
+abbrev pub ranges : Form → Bool
+ranges (forms.Assign is) = is
+ranges (forms.Define is) = is
+ranges form = false
+
+-- what stands between a `for` and its block, where that is no mark
+unfoldable pub for_begun : ℕ → ℕ → List Lexeme → Reading ForHead
+for_begun most room words =
+    if ranges (form_of true words) then (if defines true words then range_defined most room words else range_assigned most room words)
+    else (head most room words >>= for_headed most room)
+
+-- what stands between a `for` and its block
+unfoldable pub for_header : ℕ → ℕ → List Lexeme → Reading ForHead
+for_header most room words =
+    if begins_with kinds.LeftBrace words then Ok (Forever, words)
+    else (if begins_with kinds.Semicolon words then (expect kinds.Semicolon words >>= λ after. for_clauses None most room after)
+    else (if begins_with kinds.Range words then ranged NoTarget most room words
+    else for_begun most room words))

@@ -1,0 +1,201 @@
+-- The one list of lexemes that spells a simple statement, or what a clause of a select waits for.
+--
+-- Each of the words below is what stands before what follows: `name_words name rest` is the name, and then `rest`.
+use Rattle.std.specs.Prelude.{◌≡◌, ℕ, ◌≤◌, Bool, true, false, List, [], ◌∷◌, ◌++◌, Option, Some, None, IsTrue, codes}
+use Rattle.scanner.specs.declared.kind.Kind.{Kind}
+use Rattle.scanner.specs.declared.kind.Kind.TheVariants as kinds
+use Rattle.syntax.specs.declared.node.BinaryOperator.{BinaryOperator}
+use Rattle.syntax.specs.declared.node.BinaryOperator.TheVariants as binaries
+use Rattle.syntax.specs.Tree.{Expression, TypeExpression, Arguments, Operation, Call, Receive, Make, Length, Capacity, Right, RightOperation, Values, Place, Part, Value, Text as TextPart, Simple, CallAlone, Close, Print, ReceiveAlone, Send, Increment, Decrement, Assign, Define, Update, Comm, CommSend, CommReceive, CommDefine, CommAssign, IfHead, Bare, Semicolon, First, Target, NoTarget, DefineTarget, AssignTarget, ForHead, Forever, While, ForClauses, Range}
+use Rattle.parser_base.specs.Lexemes.{Lexeme, Literal, Name, Text, Mark}
+use Rattle.parser_base.specs.Spelling.{is_builtin, behind, separated, joined, closing, before, AreAll, AreSome, IsTrailing, outer_precedence, precedence, IsGrouped}
+use Rattle.parser_base.specs.TypeReading.{type_words, IsType}
+
+-- ---- names and places
+
+abbrev pub name_words : List ℕ → List Lexeme → List Lexeme
+name_words name rest = Name name ∷ rest
+
+-- a name that may be declared
+abbrev pub IsName : List ℕ → Type 0
+IsName name = is_builtin name ≡ false
+
+-- a name, and fields each behind a period
+abbrev pub place_words : Place → List Lexeme → List Lexeme
+place_words place rest = Name place.name ∷ separated name_words (behind kinds.Period) place.fields rest
+
+abbrev pub IsPlace : Place → Type 0
+IsPlace place = IsName place.name × AreAll IsName place.fields
+
+-- ---- right sides
+
+-- an operand of a send or a receive: no operation but selections
+abbrev pub IsPrimary : (literals : Bool) → Expression → Type 0
+IsPrimary literals expression = IsGrouped literals expression × (outer_precedence expression ≡ 7)
+
+abbrev pub arguments_words : Arguments → List Lexeme → List Lexeme
+arguments_words arguments rest =
+    Mark kinds.LeftParenthesis ∷ joined before (behind kinds.Comma) arguments.values (closing kinds.Comma kinds.RightParenthesis arguments.trailing rest)
+
+abbrev pub AreArguments : (literals : Bool) → Arguments → Type 0
+AreArguments literals arguments = AreAll (IsGrouped literals) arguments.values × IsTrailing arguments.values arguments.trailing
+
+-- the size of a channel's buffer behind a comma, if there is one
+abbrev pub size_words : Option Expression → List Lexeme → List Lexeme
+size_words None rest = rest
+size_words (Some size) rest = Mark kinds.Comma ∷ before size rest
+
+abbrev pub IsSize : (literals : Bool) → Option Expression → Type 0
+IsSize literals None = Unit {0}
+IsSize literals (Some size) = IsGrouped literals size
+
+-- a built-in function of this name, with what is passed to it
+abbrev pub builtin_words : List ℕ → List Lexeme → List Lexeme
+builtin_words name rest = Name name ∷ Mark kinds.LeftParenthesis ∷ rest
+
+abbrev pub operation_words : Operation → List Lexeme → List Lexeme
+operation_words (Call function arguments) rest = Name function ∷ arguments_words arguments rest
+operation_words (Receive channel) rest = Mark kinds.Arrow ∷ before channel rest
+operation_words (Make channel size) rest = builtin_words (codes "make") (type_words channel ++ size_words size (Mark kinds.RightParenthesis ∷ rest))
+operation_words (Length channel) rest = builtin_words (codes "len") (before channel (Mark kinds.RightParenthesis ∷ rest))
+operation_words (Capacity channel) rest = builtin_words (codes "cap") (before channel (Mark kinds.RightParenthesis ∷ rest))
+
+abbrev pub IsOperation : (literals : Bool) → Operation → Type 0
+IsOperation literals (Call function arguments) = IsName function × AreArguments literals arguments
+IsOperation literals (Receive channel) = IsPrimary literals channel
+IsOperation literals (Make channel size) = IsType channel × IsSize literals size
+IsOperation literals (Length channel) = IsGrouped literals channel
+IsOperation literals (Capacity channel) = IsGrouped literals channel
+
+abbrev pub right_words : Right → List Lexeme → List Lexeme
+right_words (RightOperation operation) rest = operation_words operation rest
+right_words (Values values) rest = joined before (behind kinds.Comma) values rest
+
+abbrev pub IsRight : (literals : Bool) → Right → Type 0
+IsRight literals (RightOperation operation) = IsOperation literals operation
+IsRight literals (Values values) = AreSome (IsGrouped literals) values
+
+-- ---- simple statements
+
+abbrev pub part_words : Part → List Lexeme → List Lexeme
+part_words (Value value) rest = before value rest
+part_words (TextPart bytes) rest = Text bytes ∷ rest
+
+abbrev pub IsPart : (literals : Bool) → Part → Type 0
+IsPart literals (Value value) = IsGrouped literals value
+IsPart literals (TextPart bytes) = Unit {0}
+
+-- `println` where `line` holds, else `print`
+abbrev pub print_name : (line : Bool) → List ℕ
+print_name true = codes "println"
+print_name false = codes "print"
+
+-- the mark of an assignment with an operator
+abbrev pub update_kind : BinaryOperator → Kind
+update_kind binaries.Add = kinds.PlusAssign
+update_kind binaries.Subtract = kinds.MinusAssign
+update_kind binaries.Multiply = kinds.StarAssign
+update_kind binaries.Divide = kinds.SlashAssign
+update_kind binaries.Remainder = kinds.PercentAssign
+update_kind binaries.And = kinds.AmpersandAssign
+update_kind binaries.Or = kinds.BarAssign
+update_kind binaries.ExclusiveOr = kinds.CaretAssign
+update_kind binaries.AndNot = kinds.AndNotAssign
+update_kind binaries.ShiftLeft = kinds.ShiftLeftAssign
+update_kind binaries.ShiftRight = kinds.ShiftRightAssign
+update_kind operator = kinds.Assign
+
+abbrev pub simple_words : Simple → List Lexeme → List Lexeme
+simple_words (CallAlone function arguments) rest = Name function ∷ arguments_words arguments rest
+simple_words (Close channel) rest = builtin_words (codes "close") (before channel (Mark kinds.RightParenthesis ∷ rest))
+simple_words (Print line parts trailing) rest =
+    builtin_words (print_name line) (joined part_words (behind kinds.Comma) parts (closing kinds.Comma kinds.RightParenthesis trailing rest))
+simple_words (ReceiveAlone channel) rest = Mark kinds.Arrow ∷ before channel rest
+simple_words (Send channel value) rest = before channel (Mark kinds.Arrow ∷ before value rest)
+simple_words (Increment place) rest = place_words place (Mark kinds.Increment ∷ rest)
+simple_words (Decrement place) rest = place_words place (Mark kinds.Decrement ∷ rest)
+simple_words (Assign places right) rest = joined place_words (behind kinds.Comma) places (Mark kinds.Assign ∷ right_words right rest)
+simple_words (Define names right) rest = joined name_words (behind kinds.Comma) names (Mark kinds.Define ∷ right_words right rest)
+simple_words (Update place operator value) rest = place_words place (Mark (update_kind operator) ∷ before value rest)
+
+-- Composite literals stand only where `literals` holds, and a `:=` where `defining` does. The operators that assign are
+-- those of arithmetic, whose precedence is 4 or 5.
+abbrev pub IsSimple : (literals defining : Bool) → Simple → Type 0
+IsSimple literals defining (CallAlone function arguments) = IsName function × AreArguments literals arguments
+IsSimple literals defining (Close channel) = IsGrouped literals channel
+IsSimple literals defining (Print line parts trailing) = AreAll (IsPart literals) parts × IsTrailing parts trailing
+IsSimple literals defining (ReceiveAlone channel) = IsPrimary literals channel
+IsSimple literals defining (Send channel value) = IsPrimary literals channel × IsGrouped literals value
+IsSimple literals defining (Increment place) = IsPlace place
+IsSimple literals defining (Decrement place) = IsPlace place
+IsSimple literals defining (Assign places right) = AreSome IsPlace places × IsRight literals right
+IsSimple literals defining (Define names right) = IsTrue defining × AreSome IsName names × IsRight literals right
+IsSimple literals defining (Update place operator value) = IsPlace place × (4 ≤ precedence operator) × IsGrouped literals value
+
+-- ---- what a clause of a select waits for
+
+abbrev pub second_name_words : Option (List ℕ) → List Lexeme → List Lexeme
+second_name_words None rest = rest
+second_name_words (Some name) rest = Mark kinds.Comma ∷ name_words name rest
+
+abbrev pub second_place_words : Option Place → List Lexeme → List Lexeme
+second_place_words None rest = rest
+second_place_words (Some place) rest = Mark kinds.Comma ∷ place_words place rest
+
+abbrev pub comm_words : Comm → List Lexeme → List Lexeme
+comm_words (CommSend channel value) rest = before channel (Mark kinds.Arrow ∷ before value rest)
+comm_words (CommReceive channel) rest = Mark kinds.Arrow ∷ before channel rest
+comm_words (CommDefine item ok channel) rest = name_words item (second_name_words ok (Mark kinds.Define ∷ Mark kinds.Arrow ∷ before channel rest))
+comm_words (CommAssign item ok channel) rest = place_words item (second_place_words ok (Mark kinds.Assign ∷ Mark kinds.Arrow ∷ before channel rest))
+
+-- what holds of the second, if there is one
+abbrev pub IsAny : {A : Type 0} → (A → Type 0) → Option A → Type 0
+IsAny P None = Unit {0}
+IsAny P (Some x) = P x
+
+abbrev pub IsComm : Comm → Type 0
+IsComm (CommSend channel value) = IsPrimary true channel × IsGrouped true value
+IsComm (CommReceive channel) = IsPrimary true channel
+IsComm (CommDefine item ok channel) = IsName item × IsAny IsName ok × IsPrimary true channel
+IsComm (CommAssign item ok channel) = IsPlace item × IsAny IsPlace ok × IsPrimary true channel
+
+-- ---- headers, without composite literals
+
+abbrev pub if_head_words : IfHead → List Lexeme → List Lexeme
+if_head_words Bare rest = rest
+if_head_words Semicolon rest = Mark kinds.Semicolon ∷ rest
+if_head_words (First simple) rest = simple_words simple (Mark kinds.Semicolon ∷ rest)
+
+abbrev pub IsIfHead : IfHead → Type 0
+IsIfHead Bare = Unit {0}
+IsIfHead Semicolon = Unit {0}
+IsIfHead (First simple) = IsSimple false true simple
+
+-- what is there, if anything is, and then these
+abbrev pub optional : {A : Type 0} → (A → List Lexeme → List Lexeme) → Option A → List Lexeme → List Lexeme
+optional words None rest = rest
+optional words (Some x) rest = words x rest
+
+abbrev pub target_words : Target → List Lexeme → List Lexeme
+target_words NoTarget rest = rest
+target_words (DefineTarget name) rest = Name name ∷ Mark kinds.Define ∷ rest
+target_words (AssignTarget place) rest = place_words place (Mark kinds.Assign ∷ rest)
+
+abbrev pub IsTarget : Target → Type 0
+IsTarget NoTarget = Unit {0}
+IsTarget (DefineTarget name) = IsName name
+IsTarget (AssignTarget place) = IsPlace place
+
+abbrev pub for_head_words : ForHead → List Lexeme → List Lexeme
+for_head_words Forever rest = rest
+for_head_words (While condition) rest = before condition rest
+for_head_words (ForClauses first condition post) rest =
+    optional simple_words first (Mark kinds.Semicolon ∷ optional before condition (Mark kinds.Semicolon ∷ optional simple_words post rest))
+for_head_words (Range target channel) rest = target_words target (Mark kinds.Range ∷ before channel rest)
+
+-- what is done behind each turn is no `:=`
+abbrev pub IsForHead : ForHead → Type 0
+IsForHead Forever = Unit {0}
+IsForHead (While condition) = IsGrouped false condition
+IsForHead (ForClauses first condition post) = IsAny (IsSimple false true) first × IsAny (IsGrouped false) condition × IsAny (IsSimple false false) post
+IsForHead (Range target channel) = IsTarget target × IsGrouped false channel

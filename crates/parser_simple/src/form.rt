@@ -1,0 +1,164 @@
+//! What stands behind a place, by which the forms of a statement differ.
+
+ghost use Rattle.std.specs.Prelude.{◌≡◌, Ok, true};
+ghost use Rattle.parser_base.specs.Cursor.{ahead};
+ghost use Rattle.parser_simple.specs.Spelling.{update_kind};
+ghost use Rattle.parser_simple.specs.Reading.{begins_with, separator_next, update_of, form_at, form_of, defines};
+
+use parser_base::cursor::{Cursor, Word};
+use parser_base::list::Next;
+use scanner::Kind;
+use syntax::BinaryOperator;
+
+/// What follows a place, or a list of places that begins with it.
+#[derive(Clone, Copy, Debug, PartialEq, Eq)]
+pub enum Form {
+    /// `++`
+    Increment,
+    /// `--`
+    Decrement,
+    /// The mark of an assignment with an operator, as `+=`.
+    Update(BinaryOperator),
+    /// `=`, and whether `range` follows it.
+    Assign(bool),
+    /// `:=`, and whether `range` follows it.
+    Define(bool),
+    /// A comma.
+    List,
+    /// Anything else.
+    Other,
+}
+
+/// Whether this mark comes next.
+#[tactic(auto, unfolding(crate::specs::Reading::begins_with))]
+pub fn begins_with(kind: Kind, cursor: Cursor<'_>) -> bool
+    ensures { result ≡ begins_with kind (ahead cursor.entry) }
+{
+    match cursor.next() {
+        Some((Word::Mark(first), _, _)) => first == kind,
+        _ => false,
+    }
+}
+
+/// What follows an entry of a list without a closing mark, and the place of the next entry or behind the list.
+#[tactic(auto, unfolding(crate::specs::Reading::separator_next))]
+pub fn separator_next(separator: Kind, cursor: Cursor<'_>) -> (Next, Cursor<'_>)
+    ensures { separator_next separator (ahead cursor.entry) ≡ Ok (result.0, ahead result.1) }
+{
+    match cursor.next() {
+        Some((Word::Mark(kind), _, rest)) if kind == separator => (Next::More, rest),
+        _ => (Next::End(false), cursor),
+    }
+}
+
+/// The operator of the mark of an assignment with an operator.
+fn update_of(kind: Kind) -> Option<BinaryOperator>
+    ensures { result ≡ update_of kind }
+{
+    Some(match kind {
+        Kind::PlusAssign => BinaryOperator::Add,
+        Kind::MinusAssign => BinaryOperator::Subtract,
+        Kind::StarAssign => BinaryOperator::Multiply,
+        Kind::SlashAssign => BinaryOperator::Divide,
+        Kind::PercentAssign => BinaryOperator::Remainder,
+        Kind::AmpersandAssign => BinaryOperator::And,
+        Kind::BarAssign => BinaryOperator::Or,
+        Kind::CaretAssign => BinaryOperator::ExclusiveOr,
+        Kind::AndNotAssign => BinaryOperator::AndNot,
+        Kind::ShiftLeftAssign => BinaryOperator::ShiftLeft,
+        Kind::ShiftRightAssign => BinaryOperator::ShiftRight,
+        _ => return None,
+    })
+}
+
+/// The mark of an assignment with this operator ("Assignment statements" of the Go specification).
+pub fn update_kind(operator: BinaryOperator) -> Kind
+    ensures { result ≡ update_kind operator }
+{
+    match operator {
+        BinaryOperator::Add => Kind::PlusAssign,
+        BinaryOperator::Subtract => Kind::MinusAssign,
+        BinaryOperator::Multiply => Kind::StarAssign,
+        BinaryOperator::Divide => Kind::SlashAssign,
+        BinaryOperator::Remainder => Kind::PercentAssign,
+        BinaryOperator::And => Kind::AmpersandAssign,
+        BinaryOperator::Or => Kind::BarAssign,
+        BinaryOperator::ExclusiveOr => Kind::CaretAssign,
+        BinaryOperator::AndNot => Kind::AndNotAssign,
+        BinaryOperator::ShiftLeft => Kind::ShiftLeftAssign,
+        BinaryOperator::ShiftRight => Kind::ShiftRightAssign,
+        _ => Kind::Assign,
+    }
+}
+
+/// The form that a mark behind a place begins, before what follows the mark.
+fn form_at(kind: Kind, rest: Cursor<'_>) -> Form
+    ensures { result ≡ form_at kind (ahead rest.entry) }
+{
+    match kind {
+        Kind::Increment => Form::Increment,
+        Kind::Decrement => Form::Decrement,
+        Kind::Comma => Form::List,
+        Kind::Assign => Form::Assign(begins_with(Kind::Range, rest)),
+        Kind::Define => Form::Define(begins_with(Kind::Range, rest)),
+        kind => match update_of(kind) {
+            Some(operator) => Form::Update(operator),
+            None => Form::Other,
+        },
+    }
+}
+
+/// The form of what begins here with a place.
+#[tactic(auto, unfolding(crate::specs::Reading::form_of))]
+pub fn form_of(cursor: Cursor<'_>) -> Form
+    ensures { result ≡ form_of true (ahead cursor.entry) }
+{
+    let mut named = true;
+    let mut rest = cursor;
+    for _ in 0..cursor.len() {
+        match (named, rest.next()) {
+            (true, Some((Word::Name(_), _, after))) => {
+                named = false;
+                rest = after;
+            }
+            (false, Some((Word::Mark(kind), _, after))) => {
+                if kind != Kind::Period {
+                    return form_at(kind, after);
+                }
+                named = true;
+                rest = after;
+            }
+            _ => return Form::Other,
+        }
+    }
+    Form::Other
+}
+
+/// Whether names with commas between them stand here before a `:=`.
+#[tactic(auto, unfolding(crate::specs::Reading::defines))]
+pub fn defines(cursor: Cursor<'_>) -> bool
+    ensures { result ≡ defines true (ahead cursor.entry) }
+{
+    let mut named = true;
+    let mut rest = cursor;
+    for _ in 0..cursor.len() {
+        match (named, rest.next()) {
+            (true, Some((Word::Name(_), _, after))) => {
+                named = false;
+                rest = after;
+            }
+            (false, Some((Word::Mark(kind), _, after))) => {
+                if kind == Kind::Define {
+                    return true;
+                }
+                if kind != Kind::Comma {
+                    return false;
+                }
+                named = true;
+                rest = after;
+            }
+            _ => return false,
+        }
+    }
+    false
+}

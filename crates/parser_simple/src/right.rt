@@ -1,0 +1,416 @@
+//! Right sides of assignments, and the operands and arguments of calls, sends and receives.
+
+ghost use Rattle.std.specs.Prelude.{◌≡◌, ◌+◌, Some, IfOk, map, option_map, sum_by, vec_len};
+ghost use Rattle.syntax.specs.Tree.{Length, Capacity, Call, Receive};
+ghost use Rattle.syntax.specs.Measures.{Entries, if_any, expression_size, arguments_size, operation_size, right_size};
+ghost use Rattle.syntax.specs.View.{expression_of, arguments_of, operation_of, right_of};
+ghost use Rattle.parser_base.specs.Cursor.{ahead};
+ghost use Rattle.parser_base.specs.Reading.{Gives, expression};
+ghost use Rattle.parser_simple.specs.Reading.{as_one, begins_primary, primary, arguments, argument, size, make, builtin_operation, begins_operation, operation, value_list, right};
+
+use crate::form::{begins_with, separator_next};
+use go_text::{Fault, LimitKind, Place, Span};
+use parser_base::cursor::{Cursor, Word, is_builtin};
+use parser_base::expression::{Found, expression, name_node, values};
+use parser_base::list::{List, MAX_ENTRIES, Next};
+use parser_base::types::type_at;
+use scanner::Kind;
+use std::alloc::Global;
+use syntax::{ArgumentsNode, ExpressionNode, OperationNode, RightNode};
+
+/// Arguments that were read, and what follows them.
+#[derive(Drop)]
+pub struct FoundArguments<'a> {
+    pub arguments: ArgumentsNode,
+    /// The span of the closing parenthesis.
+    pub last: Span,
+    pub rest: Cursor<'a>,
+}
+
+/// An argument that was read with its parentheses, and what follows it.
+#[derive(Drop)]
+pub struct FoundArgument<'a> {
+    pub value: ExpressionNode,
+    /// The span of the closing parenthesis.
+    pub last: Span,
+    pub rest: Cursor<'a>,
+}
+
+/// An operation that was read, and what follows it.
+#[derive(Drop)]
+pub struct FoundOperation<'a> {
+    pub operation: OperationNode,
+    /// Its bytes, from its first token to its last.
+    pub span: Span,
+    pub rest: Cursor<'a>,
+}
+
+/// A right side that was read, and what follows it.
+#[derive(Drop)]
+pub struct FoundRight<'a> {
+    pub right: RightNode,
+    /// Its last token's span, or a span that ends where that ends.
+    pub last: Span,
+    pub rest: Cursor<'a>,
+}
+
+/// Whether an operand of a send or a receive can begin here.
+#[tactic(auto, unfolding(crate::specs::Reading::begins_primary))]
+fn begins_primary(cursor: Cursor<'_>) -> bool
+    ensures { result ≡ begins_primary (ahead cursor.entry) }
+{
+    match cursor.next() {
+        Some((Word::Literal(_), _, _)) => true,
+        Some((Word::Name(name), _, _)) => !is_builtin(name),
+        Some((Word::Mark(kind), _, _)) => kind == Kind::LeftParenthesis,
+        _ => false,
+    }
+}
+
+/// An operand of a send or a receive: an expression without operators but selections.
+#[tactic(auto, unfolding(crate::specs::Reading::primary))]
+pub fn primary<'a>(
+    alloc: Global,
+    literals: bool,
+    room: u32,
+    cursor: Cursor<'a>,
+    spans: &mut Vec<Span>,
+) -> Result<Found<'a>, Fault>
+    ensures value { Gives (λ x. (expression_of x.expression, ahead x.rest)) result (primary literals MAX_ENTRIES room (ahead cursor.entry)) }
+    ensures nodes { IfOk result (λ x. vec_len spans.new ≡ vec_len spans.old + expression_size (expression_of x.expression)) }
+{
+    if !begins_primary(cursor) {
+        return Err(Fault::Syntax(cursor.place()));
+    }
+    expression(alloc, literals, room, 7, cursor, spans)
+}
+
+/// Arguments in parentheses.
+#[tactic(auto, unfolding(crate::specs::Reading::arguments))]
+pub fn arguments<'a>(
+    alloc: Global,
+    literals: bool,
+    room: u32,
+    cursor: Cursor<'a>,
+    spans: &mut Vec<Span>,
+) -> Result<FoundArguments<'a>, Fault>
+    ensures arguments { Gives (λ x. (arguments_of x.arguments, ahead x.rest)) result (arguments literals MAX_ENTRIES room (ahead cursor.entry)) }
+    ensures nodes { IfOk result (λ x. vec_len spans.new ≡ vec_len spans.old + arguments_size (arguments_of x.arguments)) }
+{
+    let (_, inside) = cursor.expect(Kind::LeftParenthesis)?;
+    let all = values(alloc, literals, room, Kind::RightParenthesis, inside, spans)?;
+    Ok(FoundArguments {
+        arguments: ArgumentsNode {
+            values: all.values,
+            trailing: all.trailing,
+        },
+        last: all.last,
+        rest: all.rest,
+    })
+}
+
+/// One argument in parentheses, without a comma behind it.
+#[tactic(auto, unfolding(crate::specs::Reading::argument))]
+pub fn argument<'a>(
+    alloc: Global,
+    literals: bool,
+    room: u32,
+    cursor: Cursor<'a>,
+    spans: &mut Vec<Span>,
+) -> Result<FoundArgument<'a>, Fault>
+    ensures value { Gives (λ x. (expression_of x.value, ahead x.rest)) result (argument literals MAX_ENTRIES room (ahead cursor.entry)) }
+    ensures nodes { IfOk result (λ x. vec_len spans.new ≡ vec_len spans.old + expression_size (expression_of x.value)) }
+{
+    let (_, inside) = cursor.expect(Kind::LeftParenthesis)?;
+    let value = expression(alloc, literals, room, 0, inside, spans)?;
+    let (last, rest) = value.rest.expect(Kind::RightParenthesis)?;
+    Ok(FoundArgument {
+        value: value.expression,
+        last,
+        rest,
+    })
+}
+
+/// The size of a channel's buffer behind a comma, if there is one.
+#[tactic(auto, unfolding(crate::specs::Reading::size))]
+fn size<'a>(
+    alloc: Global,
+    literals: bool,
+    room: u32,
+    cursor: Cursor<'a>,
+    spans: &mut Vec<Span>,
+) -> Result<(Option<ExpressionNode>, Cursor<'a>), Fault>
+    ensures size { Gives (λ x. (option_map expression_of x.0, ahead x.1)) result (size literals MAX_ENTRIES room (ahead cursor.entry)) }
+    ensures nodes { IfOk result (λ x. vec_len spans.new ≡ vec_len spans.old + if_any expression_size (option_map expression_of x.0)) }
+{
+    if !begins_with(Kind::Comma, cursor) {
+        return Ok((None, cursor));
+    }
+    let (_, behind) = cursor.expect(Kind::Comma)?;
+    let value = expression(alloc, literals, room, 0, behind, spans)?;
+    Ok((Some(value.expression), value.rest))
+}
+
+/// What stands behind `make`, whose name stands at `name`.
+#[tactic(auto, unfolding(crate::specs::Reading::make))]
+fn make<'a>(
+    alloc: Global,
+    literals: bool,
+    room: u32,
+    name: Span,
+    cursor: Cursor<'a>,
+    spans: &mut Vec<Span>,
+) -> Result<FoundOperation<'a>, Fault>
+    ensures operation { Gives (λ x. (operation_of x.operation, ahead x.rest)) result (make literals MAX_ENTRIES room (ahead cursor.entry)) }
+    ensures nodes { IfOk result (λ x. vec_len spans.new ≡ vec_len spans.old + operation_size (operation_of x.operation)) }
+{
+    let (_, inside) = cursor.expect(Kind::LeftParenthesis)?;
+    let channel = type_at(alloc, room, inside, spans)?;
+    let (size, rest) = size(alloc, literals, room, channel.rest, spans)?;
+    let (last, rest) = rest.expect(Kind::RightParenthesis)?;
+    let span = Span {
+        from: name.from,
+        to: last.to,
+    };
+    spans.push(span)?;
+    Ok(FoundOperation {
+        operation: OperationNode::Make(channel.kind, size),
+        span,
+        rest,
+    })
+}
+
+/// What stands behind `len`, whose name stands at `name`.
+fn length<'a>(
+    alloc: Global,
+    literals: bool,
+    room: u32,
+    name: Span,
+    cursor: Cursor<'a>,
+    spans: &mut Vec<Span>,
+) -> Result<FoundOperation<'a>, Fault>
+    ensures operation { Gives (λ x. (operation_of x.operation, ahead x.rest)) result (as_one Length (argument literals MAX_ENTRIES room (ahead cursor.entry))) }
+    ensures nodes { IfOk result (λ x. vec_len spans.new ≡ vec_len spans.old + operation_size (operation_of x.operation)) }
+{
+    let channel = argument(alloc, literals, room, cursor, spans)?;
+    let span = Span {
+        from: name.from,
+        to: channel.last.to,
+    };
+    spans.push(span)?;
+    Ok(FoundOperation {
+        operation: OperationNode::Length(channel.value),
+        span,
+        rest: channel.rest,
+    })
+}
+
+/// What stands behind `cap`, whose name stands at `name`.
+fn capacity<'a>(
+    alloc: Global,
+    literals: bool,
+    room: u32,
+    name: Span,
+    cursor: Cursor<'a>,
+    spans: &mut Vec<Span>,
+) -> Result<FoundOperation<'a>, Fault>
+    ensures operation { Gives (λ x. (operation_of x.operation, ahead x.rest)) result (as_one Capacity (argument literals MAX_ENTRIES room (ahead cursor.entry))) }
+    ensures nodes { IfOk result (λ x. vec_len spans.new ≡ vec_len spans.old + operation_size (operation_of x.operation)) }
+{
+    let channel = argument(alloc, literals, room, cursor, spans)?;
+    let span = Span {
+        from: name.from,
+        to: channel.last.to,
+    };
+    spans.push(span)?;
+    Ok(FoundOperation {
+        operation: OperationNode::Capacity(channel.value),
+        span,
+        rest: channel.rest,
+    })
+}
+
+/// A built-in function that makes or measures a channel, behind its name, which stands at `first`.
+#[tactic(auto, unfolding(crate::specs::Reading::builtin_operation))]
+fn builtin_operation<'a>(
+    alloc: Global,
+    literals: bool,
+    room: u32,
+    name: &[u8],
+    first: Span,
+    cursor: Cursor<'a>,
+    spans: &mut Vec<Span>,
+) -> Result<FoundOperation<'a>, Fault>
+    ensures operation { Gives (λ x. (operation_of x.operation, ahead x.rest)) result (builtin_operation literals MAX_ENTRIES room name.now (ahead cursor.entry)) }
+    ensures nodes { IfOk result (λ x. vec_len spans.new ≡ vec_len spans.old + operation_size (operation_of x.operation)) }
+{
+    if name == b"make".as_slice() {
+        return make(alloc, literals, room, first, cursor, spans);
+    }
+    if name == b"len".as_slice() {
+        return length(alloc, literals, room, first, cursor, spans);
+    }
+    if name == b"cap".as_slice() {
+        return capacity(alloc, literals, room, first, cursor, spans);
+    }
+    Err(Fault::Syntax(Place::from(first)))
+}
+
+/// A call of a function behind its name, which stands at `first`.
+fn call<'a>(
+    alloc: Global,
+    literals: bool,
+    room: u32,
+    name: &[u8],
+    first: Span,
+    cursor: Cursor<'a>,
+    spans: &mut Vec<Span>,
+) -> Result<FoundOperation<'a>, Fault>
+    ensures operation { Gives (λ x. (operation_of x.operation, ahead x.rest)) result (as_one (Call name.now) (arguments literals MAX_ENTRIES room (ahead cursor.entry))) }
+    ensures nodes { IfOk result (λ x. vec_len spans.new ≡ vec_len spans.old + operation_size (operation_of x.operation)) }
+{
+    let found = arguments(alloc, literals, room, cursor, spans)?;
+    let span = Span {
+        from: first.from,
+        to: found.last.to,
+    };
+    let name = name_node(alloc, name)?;
+    spans.push(span)?;
+    Ok(FoundOperation {
+        operation: OperationNode::Call(name, found.arguments),
+        span,
+        rest: found.rest,
+    })
+}
+
+/// A receive behind its arrow, which stands at `first`.
+fn receive<'a>(
+    alloc: Global,
+    literals: bool,
+    room: u32,
+    first: Span,
+    cursor: Cursor<'a>,
+    spans: &mut Vec<Span>,
+) -> Result<FoundOperation<'a>, Fault>
+    ensures operation { Gives (λ x. (operation_of x.operation, ahead x.rest)) result (as_one Receive (primary literals MAX_ENTRIES room (ahead cursor.entry))) }
+    ensures nodes { IfOk result (λ x. vec_len spans.new ≡ vec_len spans.old + operation_size (operation_of x.operation)) }
+{
+    let channel = primary(alloc, literals, room, cursor, spans)?;
+    let span = Span {
+        from: first.from,
+        to: channel.span.to,
+    };
+    spans.push(span)?;
+    Ok(FoundOperation {
+        operation: OperationNode::Receive(channel.expression),
+        span,
+        rest: channel.rest,
+    })
+}
+
+/// Whether an operation begins here, where no other value can.
+#[tactic(auto, unfolding(crate::specs::Reading::begins_operation))]
+pub fn begins_operation(cursor: Cursor<'_>) -> bool
+    ensures { result ≡ begins_operation (ahead cursor.entry) }
+{
+    match cursor.next() {
+        Some((Word::Mark(kind), _, _)) => kind == Kind::Arrow,
+        Some((Word::Name(name), _, rest)) => is_builtin(name)
+            || begins_with(Kind::LeftParenthesis, rest),
+        _ => false,
+    }
+}
+
+/// An operation, below which there are at most so many levels.
+#[tactic(auto, unfolding(crate::specs::Reading::operation))]
+pub fn operation<'a>(
+    alloc: Global,
+    literals: bool,
+    room: u32,
+    cursor: Cursor<'a>,
+    spans: &mut Vec<Span>,
+) -> Result<FoundOperation<'a>, Fault>
+    ensures operation { Gives (λ x. (operation_of x.operation, ahead x.rest)) result (operation literals MAX_ENTRIES room (ahead cursor.entry)) }
+    ensures nodes { IfOk result (λ x. vec_len spans.new ≡ vec_len spans.old + operation_size (operation_of x.operation)) }
+{
+    match cursor.next() {
+        Some((Word::Mark(kind), first, rest)) => {
+            if kind != Kind::Arrow {
+                return Err(Fault::Syntax(Place::from(first)));
+            }
+            receive(alloc, literals, room, first, rest, spans)
+        }
+        Some((Word::Name(name), first, rest)) => {
+            if is_builtin(name) {
+                return builtin_operation(alloc, literals, room, name, first, rest, spans);
+            }
+            call(alloc, literals, room, name, first, rest, spans)
+        }
+        _ => Err(Fault::Syntax(cursor.place())),
+    }
+}
+
+/// Values with a comma between each two.
+fn value_list<'a>(
+    alloc: Global,
+    literals: bool,
+    room: u32,
+    cursor: Cursor<'a>,
+    spans: &mut Vec<Span>,
+) -> Result<List<'a, ExpressionNode>, Fault>
+    ensures values { Gives (λ x. ((map expression_of x.entries.items, x.trailing), ahead x.rest)) result (value_list literals MAX_ENTRIES room (ahead cursor.entry)) }
+    ensures nodes { IfOk result (λ x. vec_len spans.new ≡ vec_len spans.old + sum_by expression_size (map expression_of x.entries.items)) }
+{
+    let mut entries = Vec::new(alloc);
+    let mut rest = cursor;
+    for _ in 0..MAX_ENTRIES {
+        let one = expression(alloc, literals, room, 0, rest, spans)?;
+        entries.push(one.expression)?;
+        let (next, after) = separator_next(Kind::Comma, one.rest);
+        match next {
+            Next::More => rest = after,
+            Next::End(trailing) => return Ok(List {
+                entries,
+                trailing,
+                last: one.span,
+                rest: after,
+            }),
+        }
+    }
+    Err(Fault::Limit {
+        kind: LimitKind::ListEntries,
+        node: None,
+        place: rest.place(),
+    })
+}
+
+/// The right side of an assignment, of at most so many levels.
+#[tactic(auto, unfolding(crate::specs::Reading::right))]
+pub fn right<'a>(
+    alloc: Global,
+    literals: bool,
+    room: u32,
+    cursor: Cursor<'a>,
+    spans: &mut Vec<Span>,
+) -> Result<FoundRight<'a>, Fault>
+    ensures right { Gives (λ x. (right_of x.right, ahead x.rest)) result (right literals MAX_ENTRIES room (ahead cursor.entry)) }
+    ensures nodes { IfOk result (λ x. vec_len spans.new ≡ vec_len spans.old + right_size (right_of x.right)) }
+{
+    if room == 0 {
+        return Err(Fault::TooDeep(cursor.place()));
+    }
+    if begins_operation(cursor) {
+        let found = operation(alloc, literals, room - 1, cursor, spans)?;
+        return Ok(FoundRight {
+            right: RightNode::Operation(found.operation),
+            last: found.span,
+            rest: found.rest,
+        });
+    }
+    let values = value_list(alloc, literals, room, cursor, spans)?;
+    Ok(FoundRight {
+        right: RightNode::Values(values.entries),
+        last: values.last,
+        rest: values.rest,
+    })
+}

@@ -1,0 +1,556 @@
+//! Simple statements.
+
+ghost use Rattle.std.specs.Prelude.{◌≡◌, ◌+◌, true, false, List as Lists, Some, IfOk, map, option_map, sum_by, vec_len};
+ghost use Rattle.syntax.specs.Tree.{Value, CallAlone, Close, ReceiveAlone, Send, Increment, Decrement};
+ghost use Rattle.syntax.specs.Measures.{Entries, if_any, part_size, simple_size};
+ghost use Rattle.syntax.specs.View.{part_of, simple_of};
+ghost use Rattle.parser_base.specs.Cursor.{ahead};
+ghost use Rattle.parser_base.specs.Reading.{Gives, TooMany, entry_next, listed, closed};
+ghost use Rattle.parser_simple.specs.Reading.{as_one, begins_part, part, parts, print, primary, argument, arguments, builtin_call, assigned, defined, stepped, updated, formed, led, sent, led_or_sent, simple, defines};
+
+use crate::form::{Form, begins_with, defines, form_of, update_kind};
+use crate::place::{names, place, places};
+use crate::right::{argument, arguments, primary, right};
+use go_text::{Fault, LimitKind, Place, Span};
+use parser_base::cursor::{Cursor, Word, is_builtin};
+use parser_base::expression::{begins, closed, expression, name_node};
+use parser_base::list::{List, MAX_ENTRIES, Next};
+use parser_base::text::text;
+use scanner::Kind;
+use std::alloc::Global;
+use syntax::{BinaryOperator, PartNode, SimpleNode};
+
+/// A simple statement that was read, and what follows it.
+#[derive(Drop)]
+pub struct FoundSimple<'a> {
+    pub simple: SimpleNode,
+    /// Its bytes, from its first token to its last.
+    pub span: Span,
+    pub rest: Cursor<'a>,
+}
+
+/// A simple statement that was read, or none where a value or a send comes next, and what follows.
+#[derive(Drop)]
+pub struct FoundLed<'a> {
+    pub simple: Option<SimpleNode>,
+    /// The bytes of the statement, from its first token to its last.
+    pub span: Span,
+    pub rest: Cursor<'a>,
+}
+
+/// Whether an argument of `print` or `println` can begin here.
+#[tactic(auto, unfolding(crate::specs::Reading::begins_part))]
+fn begins_part(cursor: Cursor<'_>) -> bool
+    ensures { result ≡ begins_part (ahead cursor.entry) }
+{
+    match cursor.next() {
+        Some((Word::Text(_), _, _)) => true,
+        _ => begins(cursor),
+    }
+}
+
+/// An argument of `print` or `println`, of at most so many levels.
+#[tactic(auto, unfolding(crate::specs::Reading::part))]
+fn part<'a>(
+    alloc: Global,
+    room: u32,
+    literals: bool,
+    cursor: Cursor<'a>,
+    spans: &mut Vec<Span>,
+) -> Result<(PartNode, Cursor<'a>), Fault>
+    ensures part { Gives (λ x. (part_of x.0, ahead x.1)) result (part literals MAX_ENTRIES room (ahead cursor.entry)) }
+    ensures nodes { IfOk result (λ x. vec_len spans.new ≡ vec_len spans.old + part_size (part_of x.0)) }
+{
+    if room == 0 {
+        return Err(Fault::TooDeep(cursor.place()));
+    }
+    if let Some((Word::Text(quoted), span, rest)) = cursor.next() {
+        let bytes = text(alloc, quoted)?;
+        spans.push(span)?;
+        return Ok((PartNode::Text(bytes), rest));
+    }
+    let value = expression(alloc, literals, room, 0, cursor, spans)?;
+    Ok((PartNode::Value(value.expression), value.rest))
+}
+
+/// What follows an argument of `print` or `println`, with the span of its last token.
+#[tactic(auto, unfolding(parser_base::specs::Reading::entry_next))]
+fn part_next(cursor: Cursor<'_>) -> Result<(Next, Span, Cursor<'_>), Fault>
+    ensures { Gives (λ x. (x.0, ahead x.2)) result (entry_next Kind.Comma begins_part Kind.RightParenthesis (ahead cursor.entry)) }
+{
+    let Some((Word::Mark(kind), span, rest)) = cursor.next() else {
+        return Err(Fault::Syntax(cursor.place()));
+    };
+    if kind != Kind::Comma {
+        return closed(Kind::RightParenthesis, false, cursor);
+    }
+    if begins_part(rest) {
+        Ok((Next::More, span, rest))
+    } else {
+        closed(Kind::RightParenthesis, true, rest)
+    }
+}
+
+/// At least one argument of `print` or `println`, to the closing parenthesis.
+fn part_list<'a>(
+    alloc: Global,
+    room: u32,
+    literals: bool,
+    cursor: Cursor<'a>,
+    spans: &mut Vec<Span>,
+) -> Result<List<'a, PartNode>, Fault>
+    ensures parts { Gives (λ x. ((map part_of x.entries.items, x.trailing), ahead x.rest)) result (listed (part literals MAX_ENTRIES room) (entry_next Kind.Comma begins_part Kind.RightParenthesis) (TooMany Entries) MAX_ENTRIES (ahead cursor.entry)) }
+    ensures nodes { IfOk result (λ x. vec_len spans.new ≡ vec_len spans.old + sum_by part_size (map part_of x.entries.items)) }
+{
+    let mut entries = Vec::new(alloc);
+    let mut rest = cursor;
+    for _ in 0..MAX_ENTRIES {
+        let (one, behind) = part(alloc, room, literals, rest, spans)?;
+        entries.push(one)?;
+        let (next, last, after) = part_next(behind)?;
+        match next {
+            Next::More => rest = after,
+            Next::End(trailing) => return Ok(List {
+                entries,
+                trailing,
+                last,
+                rest: after,
+            }),
+        }
+    }
+    Err(Fault::Limit {
+        kind: LimitKind::ListEntries,
+        node: None,
+        place: rest.place(),
+    })
+}
+
+/// The arguments of `print` or `println`, behind the first parenthesis.
+#[tactic(auto, unfolding(crate::specs::Reading::parts))]
+fn parts<'a>(
+    alloc: Global,
+    room: u32,
+    literals: bool,
+    cursor: Cursor<'a>,
+    spans: &mut Vec<Span>,
+) -> Result<List<'a, PartNode>, Fault>
+    ensures parts { Gives (λ x. ((map part_of x.entries.items, x.trailing), ahead x.rest)) result (parts literals MAX_ENTRIES room (ahead cursor.entry)) }
+    ensures nodes { IfOk result (λ x. vec_len spans.new ≡ vec_len spans.old + sum_by part_size (map part_of x.entries.items)) }
+{
+    if begins_part(cursor) {
+        return part_list(alloc, room, literals, cursor, spans);
+    }
+    let (last, rest) = cursor.expect(Kind::RightParenthesis)?;
+    Ok(List {
+        entries: Vec::new(alloc),
+        trailing: false,
+        last,
+        rest,
+    })
+}
+
+/// A `print` or, where `line` holds, a `println`, behind its name, which stands at `first`.
+#[tactic(auto, unfolding(crate::specs::Reading::print))]
+fn print<'a>(
+    alloc: Global,
+    line: bool,
+    literals: bool,
+    room: u32,
+    first: Span,
+    cursor: Cursor<'a>,
+    spans: &mut Vec<Span>,
+) -> Result<FoundSimple<'a>, Fault>
+    ensures simple { Gives (λ x. (simple_of x.simple, ahead x.rest)) result (print line literals MAX_ENTRIES room (ahead cursor.entry)) }
+    ensures nodes { IfOk result (λ x. vec_len spans.new ≡ vec_len spans.old + simple_size (simple_of x.simple)) }
+{
+    let (_, inside) = cursor.expect(Kind::LeftParenthesis)?;
+    let all = parts(alloc, room, literals, inside, spans)?;
+    let span = Span {
+        from: first.from,
+        to: all.last.to,
+    };
+    spans.push(span)?;
+    Ok(FoundSimple {
+        simple: SimpleNode::Print(line, all.entries, all.trailing),
+        span,
+        rest: all.rest,
+    })
+}
+
+/// A `close` behind its name, which stands at `first`.
+fn close<'a>(
+    alloc: Global,
+    literals: bool,
+    room: u32,
+    first: Span,
+    cursor: Cursor<'a>,
+    spans: &mut Vec<Span>,
+) -> Result<FoundSimple<'a>, Fault>
+    ensures simple { Gives (λ x. (simple_of x.simple, ahead x.rest)) result (as_one Close (argument literals MAX_ENTRIES room (ahead cursor.entry))) }
+    ensures nodes { IfOk result (λ x. vec_len spans.new ≡ vec_len spans.old + simple_size (simple_of x.simple)) }
+{
+    let channel = argument(alloc, literals, room, cursor, spans)?;
+    let span = Span {
+        from: first.from,
+        to: channel.last.to,
+    };
+    spans.push(span)?;
+    Ok(FoundSimple {
+        simple: SimpleNode::Close(channel.value),
+        span,
+        rest: channel.rest,
+    })
+}
+
+/// A built-in function that is called alone, behind its name, which stands at `first`.
+#[tactic(auto, unfolding(crate::specs::Reading::builtin_call))]
+fn builtin_call<'a>(
+    alloc: Global,
+    literals: bool,
+    room: u32,
+    name: &[u8],
+    first: Span,
+    cursor: Cursor<'a>,
+    spans: &mut Vec<Span>,
+) -> Result<FoundSimple<'a>, Fault>
+    ensures simple { Gives (λ x. (simple_of x.simple, ahead x.rest)) result (builtin_call literals MAX_ENTRIES room name.now (ahead cursor.entry)) }
+    ensures nodes { IfOk result (λ x. vec_len spans.new ≡ vec_len spans.old + simple_size (simple_of x.simple)) }
+{
+    if name == b"println".as_slice() {
+        return print(alloc, true, literals, room, first, cursor, spans);
+    }
+    if name == b"print".as_slice() {
+        return print(alloc, false, literals, room, first, cursor, spans);
+    }
+    if name == b"close".as_slice() {
+        return close(alloc, literals, room, first, cursor, spans);
+    }
+    Err(Fault::Syntax(Place::from(first)))
+}
+
+/// A call of a function alone, behind its name, which stands at `first`.
+fn call<'a>(
+    alloc: Global,
+    literals: bool,
+    room: u32,
+    name: &[u8],
+    first: Span,
+    cursor: Cursor<'a>,
+    spans: &mut Vec<Span>,
+) -> Result<FoundSimple<'a>, Fault>
+    ensures simple { Gives (λ x. (simple_of x.simple, ahead x.rest)) result (as_one (CallAlone name.now) (arguments literals MAX_ENTRIES room (ahead cursor.entry))) }
+    ensures nodes { IfOk result (λ x. vec_len spans.new ≡ vec_len spans.old + simple_size (simple_of x.simple)) }
+{
+    let found = arguments(alloc, literals, room, cursor, spans)?;
+    let span = Span {
+        from: first.from,
+        to: found.last.to,
+    };
+    let name = name_node(alloc, name)?;
+    spans.push(span)?;
+    Ok(FoundSimple {
+        simple: SimpleNode::Call(name, found.arguments),
+        span,
+        rest: found.rest,
+    })
+}
+
+/// A receive alone, behind its arrow, which stands at `first`.
+fn receive<'a>(
+    alloc: Global,
+    literals: bool,
+    room: u32,
+    first: Span,
+    cursor: Cursor<'a>,
+    spans: &mut Vec<Span>,
+) -> Result<FoundSimple<'a>, Fault>
+    ensures simple { Gives (λ x. (simple_of x.simple, ahead x.rest)) result (as_one ReceiveAlone (primary literals MAX_ENTRIES room (ahead cursor.entry))) }
+    ensures nodes { IfOk result (λ x. vec_len spans.new ≡ vec_len spans.old + simple_size (simple_of x.simple)) }
+{
+    let channel = primary(alloc, literals, room, cursor, spans)?;
+    let span = Span {
+        from: first.from,
+        to: channel.span.to,
+    };
+    spans.push(span)?;
+    Ok(FoundSimple {
+        simple: SimpleNode::Receive(channel.expression),
+        span,
+        rest: channel.rest,
+    })
+}
+
+/// An assignment to places.
+#[tactic(auto, unfolding(crate::specs::Reading::assigned, crate::specs::Reading::right))]
+fn assigned<'a>(
+    alloc: Global,
+    literals: bool,
+    room: u32,
+    cursor: Cursor<'a>,
+    spans: &mut Vec<Span>,
+) -> Result<FoundSimple<'a>, Fault>
+    ensures simple { Gives (λ x. (simple_of x.simple, ahead x.rest)) result (assigned literals MAX_ENTRIES room (ahead cursor.entry)) }
+    ensures nodes { IfOk result (λ x. vec_len spans.new ≡ vec_len spans.old + simple_size (simple_of x.simple)) }
+{
+    let first = cursor.place().span;
+    let all = places(alloc, cursor, spans)?;
+    let (mark, rest) = all.rest.expect(Kind::Assign)?;
+    if room == 0 {
+        return Err(Fault::TooDeep(Place::from(mark)));
+    }
+    let value = right(alloc, literals, room, rest, spans)?;
+    let span = Span {
+        from: first.from,
+        to: value.last.to,
+    };
+    spans.push(span)?;
+    Ok(FoundSimple {
+        simple: SimpleNode::Assign(all.entries, value.right),
+        span,
+        rest: value.rest,
+    })
+}
+
+/// A `:=`.
+#[tactic(auto, unfolding(crate::specs::Reading::defined, crate::specs::Reading::right))]
+fn defined<'a>(
+    alloc: Global,
+    literals: bool,
+    room: u32,
+    cursor: Cursor<'a>,
+    spans: &mut Vec<Span>,
+) -> Result<FoundSimple<'a>, Fault>
+    ensures simple { Gives (λ x. (simple_of x.simple, ahead x.rest)) result (defined literals MAX_ENTRIES room (ahead cursor.entry)) }
+    ensures nodes { IfOk result (λ x. vec_len spans.new ≡ vec_len spans.old + simple_size (simple_of x.simple)) }
+{
+    let first = cursor.place().span;
+    let all = names(alloc, Kind::Comma, MAX_ENTRIES as usize, cursor)?;
+    let (mark, rest) = all.rest.expect(Kind::Define)?;
+    if room == 0 {
+        return Err(Fault::TooDeep(Place::from(mark)));
+    }
+    let value = right(alloc, literals, room, rest, spans)?;
+    let span = Span {
+        from: first.from,
+        to: value.last.to,
+    };
+    spans.push(span)?;
+    Ok(FoundSimple {
+        simple: SimpleNode::Define(all.entries, value.right),
+        span,
+        rest: value.rest,
+    })
+}
+
+/// A `++` behind a place.
+#[tactic(auto, unfolding(crate::specs::Reading::stepped))]
+fn increment<'a>(
+    alloc: Global,
+    cursor: Cursor<'a>,
+    spans: &mut Vec<Span>,
+) -> Result<FoundSimple<'a>, Fault>
+    ensures simple { Gives (λ x. (simple_of x.simple, ahead x.rest)) result (stepped Increment Kind.Increment (ahead cursor.entry)) }
+    ensures nodes { IfOk result (λ x. vec_len spans.new ≡ vec_len spans.old + simple_size (simple_of x.simple)) }
+{
+    let target = place(alloc, cursor, spans)?;
+    let (mark, rest) = target.rest.expect(Kind::Increment)?;
+    let span = Span {
+        from: target.span.from,
+        to: mark.to,
+    };
+    spans.push(span)?;
+    Ok(FoundSimple {
+        simple: SimpleNode::Increment(target.place),
+        span,
+        rest,
+    })
+}
+
+/// A `--` behind a place.
+#[tactic(auto, unfolding(crate::specs::Reading::stepped))]
+fn decrement<'a>(
+    alloc: Global,
+    cursor: Cursor<'a>,
+    spans: &mut Vec<Span>,
+) -> Result<FoundSimple<'a>, Fault>
+    ensures simple { Gives (λ x. (simple_of x.simple, ahead x.rest)) result (stepped Decrement Kind.Decrement (ahead cursor.entry)) }
+    ensures nodes { IfOk result (λ x. vec_len spans.new ≡ vec_len spans.old + simple_size (simple_of x.simple)) }
+{
+    let target = place(alloc, cursor, spans)?;
+    let (mark, rest) = target.rest.expect(Kind::Decrement)?;
+    let span = Span {
+        from: target.span.from,
+        to: mark.to,
+    };
+    spans.push(span)?;
+    Ok(FoundSimple {
+        simple: SimpleNode::Decrement(target.place),
+        span,
+        rest,
+    })
+}
+
+/// An assignment with an operator.
+#[tactic(auto, unfolding(crate::specs::Reading::updated))]
+fn updated<'a>(
+    alloc: Global,
+    literals: bool,
+    room: u32,
+    operator: BinaryOperator,
+    cursor: Cursor<'a>,
+    spans: &mut Vec<Span>,
+) -> Result<FoundSimple<'a>, Fault>
+    ensures simple { Gives (λ x. (simple_of x.simple, ahead x.rest)) result (updated literals MAX_ENTRIES room operator (ahead cursor.entry)) }
+    ensures nodes { IfOk result (λ x. vec_len spans.new ≡ vec_len spans.old + simple_size (simple_of x.simple)) }
+{
+    let target = place(alloc, cursor, spans)?;
+    let (_, rest) = target.rest.expect(update_kind(operator))?;
+    let value = expression(alloc, literals, room, 0, rest, spans)?;
+    let span = Span {
+        from: target.span.from,
+        to: value.span.to,
+    };
+    spans.push(span)?;
+    Ok(FoundSimple {
+        simple: SimpleNode::Update(target.place, operator, value.expression),
+        span,
+        rest: value.rest,
+    })
+}
+
+/// A simple statement, as what was looked for.
+fn led_by(found: FoundSimple<'_>) -> FoundLed<'_>
+    ensures simple { option_map simple_of result.simple ≡ Some (simple_of found.entry.simple) }
+    ensures rest { ahead result.rest ≡ ahead found.entry.rest }
+{
+    FoundLed {
+        simple: Some(found.simple),
+        span: found.span,
+        rest: found.rest,
+    }
+}
+
+/// A statement that begins with a place and has this form, if it has any.
+#[tactic(auto, unfolding(crate::specs::Reading::formed))]
+fn formed<'a>(
+    alloc: Global,
+    literals: bool,
+    defining: bool,
+    room: u32,
+    form: Form,
+    cursor: Cursor<'a>,
+    spans: &mut Vec<Span>,
+) -> Result<FoundLed<'a>, Fault>
+    ensures simple { Gives (λ x. (option_map simple_of x.simple, ahead x.rest)) result (formed literals defining MAX_ENTRIES room form (ahead cursor.entry)) }
+    ensures nodes { IfOk result (λ x. vec_len spans.new ≡ vec_len spans.old + if_any simple_size (option_map simple_of x.simple)) }
+{
+    let found = match form {
+        Form::Increment => increment(alloc, cursor, spans)?,
+        Form::Decrement => decrement(alloc, cursor, spans)?,
+        Form::Update(operator) => updated(alloc, literals, room, operator, cursor, spans)?,
+        Form::Assign(_) => assigned(alloc, literals, room, cursor, spans)?,
+        Form::Define(_) if defining => defined(alloc, literals, room, cursor, spans)?,
+        Form::Define(_) => assigned(alloc, literals, room, cursor, spans)?,
+        Form::List if defining && defines(cursor) => defined(alloc, literals, room, cursor, spans)?,
+        Form::List => assigned(alloc, literals, room, cursor, spans)?,
+        Form::Other => return Ok(FoundLed {
+            simple: None,
+            span: cursor.place().span,
+            rest: cursor,
+        }),
+    };
+    Ok(led_by(found))
+}
+
+/// A simple statement, if anything else comes next than a value or a send.
+#[tactic(auto, unfolding(crate::specs::Reading::led))]
+pub fn led<'a>(
+    alloc: Global,
+    literals: bool,
+    defining: bool,
+    room: u32,
+    cursor: Cursor<'a>,
+    spans: &mut Vec<Span>,
+) -> Result<FoundLed<'a>, Fault>
+    ensures simple { Gives (λ x. (option_map simple_of x.simple, ahead x.rest)) result (led literals defining MAX_ENTRIES room (ahead cursor.entry)) }
+    ensures nodes { IfOk result (λ x. vec_len spans.new ≡ vec_len spans.old + if_any simple_size (option_map simple_of x.simple)) }
+{
+    match cursor.next() {
+        Some((Word::Mark(Kind::Arrow), first, rest)) => {
+            let found = receive(alloc, literals, room, first, rest, spans)?;
+            Ok(led_by(found))
+        }
+        Some((Word::Name(name), first, rest)) => {
+            if is_builtin(name) {
+                let found = builtin_call(alloc, literals, room, name, first, rest, spans)?;
+                return Ok(led_by(found));
+            }
+            if begins_with(Kind::LeftParenthesis, rest) {
+                let found = call(alloc, literals, room, name, first, rest, spans)?;
+                return Ok(led_by(found));
+            }
+            formed(
+                alloc,
+                literals,
+                defining,
+                room,
+                form_of(cursor),
+                cursor,
+                spans,
+            )
+        }
+        _ => Ok(FoundLed {
+            simple: None,
+            span: cursor.place().span,
+            rest: cursor,
+        }),
+    }
+}
+
+/// A send.
+#[tactic(auto, unfolding(crate::specs::Reading::sent))]
+fn send<'a>(
+    alloc: Global,
+    literals: bool,
+    room: u32,
+    cursor: Cursor<'a>,
+    spans: &mut Vec<Span>,
+) -> Result<FoundSimple<'a>, Fault>
+    ensures simple { Gives (λ x. (simple_of x.simple, ahead x.rest)) result (sent Send literals MAX_ENTRIES room (ahead cursor.entry)) }
+    ensures nodes { IfOk result (λ x. vec_len spans.new ≡ vec_len spans.old + simple_size (simple_of x.simple)) }
+{
+    let channel = primary(alloc, literals, room, cursor, spans)?;
+    let (_, rest) = channel.rest.expect(Kind::Arrow)?;
+    let value = expression(alloc, literals, room, 0, rest, spans)?;
+    let span = Span {
+        from: channel.span.from,
+        to: value.span.to,
+    };
+    spans.push(span)?;
+    Ok(FoundSimple {
+        simple: SimpleNode::Send(channel.expression, value.expression),
+        span,
+        rest: value.rest,
+    })
+}
+
+/// A simple statement, below which there are at most so many levels ("Simple statements" of the Go specification).
+/// Composite literals stand in it only where `literals` holds, and it is a `:=` only where `defining` does.
+#[tactic(auto, unfolding(crate::specs::Reading::simple))]
+pub fn simple<'a>(
+    alloc: Global,
+    literals: bool,
+    defining: bool,
+    room: u32,
+    cursor: Cursor<'a>,
+    spans: &mut Vec<Span>,
+) -> Result<FoundSimple<'a>, Fault>
+    ensures simple { Gives (λ x. (simple_of x.simple, ahead x.rest)) result (simple literals defining MAX_ENTRIES room (ahead cursor.entry)) }
+    ensures nodes { IfOk result (λ x. vec_len spans.new ≡ vec_len spans.old + simple_size (simple_of x.simple)) }
+{
+    let FoundLed { simple, span, rest } = led(alloc, literals, defining, room, cursor, spans)?;
+    match simple {
+        Some(simple) => Ok(FoundSimple { simple, span, rest }),
+        None => send(alloc, literals, room, rest, spans),
+    }
+}
