@@ -54,5 +54,6 @@ unread bytes text ts us {told} same list utf8 scanned (inr w) = explains bytes t
 abbrev pub Wrong : List ℕ → Tree → Fault → Type 0
 Wrong text tree told = (fault : Fault) × Tells tree fault × (told ≡ located_in text fault)
 
-pub wrong : (bytes text : List ℕ) (ts : List Token) (tree : Tree) {told : Fault} → text ≡ bytes → IsUtf8 text → tokens_of text ≡ Ok ts → Spells (lexemes text ts) (tree_of tree) → height (tree_of tree) ≤ 200 → most_entries (tree_of tree) ≤ 64 → most_clauses (tree_of tree) ≤ 64 → Wrong text tree told → Explained bytes told
-wrong bytes text ts tree same utf8 scanned spelt low few clauses w = explains bytes text same (inr (w.0, IsWrong utf8 tree (record { tokens = ts; scanned = scanned; spelt = spelt; low = low; few = few; clauses = clauses }) w.1, w.2))
+pub wrong : (bytes text : List ℕ) (ts : List Token) (tree : Tree) {told : Fault} → text ≡ bytes → IsUtf8 text → tokens_of text ≡ Ok ts → Spells (lexemes text ts) (tree_of tree) → height (tree_of tree) ≤ 200 → most_entries (tree_of tree) ≤ 64 → most_clauses (tree_of tree) ≤ 64 → (told ≡ faults.Memory) ⊎ Wrong text tree told → Explained bytes told
+wrong bytes text ts tree same utf8 scanned spelt low few clauses (inl memory) = inl memory
+wrong bytes text ts tree same utf8 scanned spelt low few clauses (inr w) = explains bytes text same (inr (w.0, IsWrong utf8 tree (record { tokens = ts; scanned = scanned; spelt = spelt; low = low; few = few; clauses = clauses }) w.1, w.2))

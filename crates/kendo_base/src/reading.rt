@@ -34,7 +34,7 @@ pub fn read(alloc: Global, bytes: Vec<u8>) -> Result<Typed, Fault>
     prove!(text.len() <= 1_048_576);
     let tokens = tokens(alloc, &source)?;
     let tree = tree(alloc, &source, tokens.as_slice())?;
-    Ok(checked(&source, tree)?)
+    Ok(checked(alloc, &source, tree)?)
 }
 
 /// The tokens of a text.
@@ -73,15 +73,15 @@ fn tree(alloc: Global, source: &Source, tokens: &[Token]) -> Result<Tree, Fault>
 }
 
 /// The tree, if it is a program.
-fn checked(source: &Source, tree: Tree) -> Result<Typed, Fault>
+fn checked(alloc: Global, source: &Source, tree: Tree) -> Result<Typed, Fault>
     ensures tree { IfOk result (λ typed. tree_in typed ≡ tree) }
     ensures built { IfOk result (λ _. IsBuilt (tree_of tree)) }
     ensures typed { IfOk result (λ _. IsTyped (tree_of tree)) }
-    ensures refused { IfErr result (λ _. IsBuilt (tree_of tree) → IsTyped (tree_of tree) → ⊥) }
-    ensures why { IfErr result (λ told. (fault : OneFault) × Tells tree fault × (told ≡ located_in (bytes_of source.now) fault)) }
-    ensures only { IfErr result IsRefusal }
+    ensures refused { IfErr result (λ fault. IsRefusal fault → IsBuilt (tree_of tree) → IsTyped (tree_of tree) → ⊥) }
+    ensures why { IfErr result (λ told. (told ≡ Fault.Memory) ⊎ ((fault : OneFault) × Tells tree fault × (told ≡ located_in (bytes_of source.now) fault))) }
+    ensures only { IfErr result IsOfText }
 {
-    match check(tree) {
+    match check(alloc, tree) {
         Ok(typed) => Ok(typed),
         Err(fault) => Err(located(source, fault)),
     }

@@ -28,7 +28,7 @@ returns-in_err-checked-clause-refused c =
     let file = tree_of c.in_ok-tree.tree in
     let spelt : Spells (lexemes text ts) file = subst (λ (us : List Token). Spells (lexemes text us) file) c.as_slice.ensures.value c.in_ok-tree.ensures.spelt in
     rw (p.1, p.2) (λ refusal. subst HasNoReading c.in_ok-source.ensures.text
-    (untyped text ts file c.in_ok-tokens.ensures.tokens spelt c.in_err-checked.ensures.refused))
+    (untyped text ts file c.in_ok-tokens.ensures.tokens spelt (c.in_err-checked.ensures.refused refusal)))
 
 pub returns-in_err-tree-clause-why : goal.returns-in_err-tree-clause-why
 returns-in_err-tree-clause-why c =
