@@ -2,3 +2,4 @@ pub mod Sizes
 pub mod Bodies
 pub mod Nodes
 pub mod Fits
+pub mod Rows

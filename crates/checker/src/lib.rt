@@ -11,6 +11,8 @@ mod set;
 mod signature;
 mod size;
 mod statement;
+#[cfg(test)]
+mod tests;
 mod tree;
 mod typed;
 mod value;
