@@ -111,7 +111,7 @@ fn sums(rt: HostRuntime) -> Result<(), Fail> {
         ("println(07)", "", "kendo: 4 BadNumber at 1:37\n", 1),
         ("println(0x1f, 0XF)", "31 15\n", "", 0),
         ("println(0x)", "", "kendo: 4 BadNumber at 1:37\n", 1),
-        ("println(\"a\")", "", "kendo: 7 Syntax at 1:37\n", 1),
+        ("println(\"a\")", "", "kendo: 17 NotYet at 1:37\n", 1),
         ("println(\"a)", "", "kendo: 5 OpenString at 1:37\n", 1),
         ("println(/* 1)", "", "kendo: 6 OpenComment at 1:37\n", 1),
         ("println(/* 1, */ 2) // 3\n", "2\n", "", 0),
@@ -127,7 +127,7 @@ fn sums(rt: HostRuntime) -> Result<(), Fail> {
             "kendo: 17 NotYet at 1:37\n",
             1,
         ),
-        ("println()", "", "kendo: 7 Syntax at 1:37\n", 1),
+        ("println()", "\n", "", 0),
         ("println(1", "", "kendo: 7 Syntax at 1:39\n", 1),
     ] {
         let text = in_main(rt.alloc(), statements)?;
