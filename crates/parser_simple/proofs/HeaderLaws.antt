@@ -669,7 +669,11 @@ comm_sent_sound most room ws c rest e =
 
 comm_formed_sound : (most room : ℕ) (form : Form) (ws : List Lexeme) (c : Comm) (rest : List Lexeme) → comm_formed most room form ws ≡ gave c rest → CommSound most room ws c rest
 unfolding comm_formed
-comm_formed_sound most room (forms.Define is) ws c rest e = comm_defined_sound most room ws c rest e
+comm_formed_sound most room (forms.Define is) ws c rest e =
+    elim (either (defines true ws) (comm_defined most room ws) (comm_assigned most room ws) (c, rest) e) [
+      | inl d ↦ comm_defined_sound most room ws c rest d.1
+      | inr a ↦ comm_assigned_sound most room ws c rest a.1
+    ]
 comm_formed_sound most room (forms.Assign is) ws c rest e = comm_assigned_sound most room ws c rest e
 comm_formed_sound most room forms.List ws c rest e =
     elim (either (defines true ws) (comm_defined most room ws) (comm_assigned most room ws) (c, rest) e) [

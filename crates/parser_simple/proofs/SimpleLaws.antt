@@ -225,7 +225,8 @@ led_define : (literals defining : Bool) (most room : ℕ) (n : List ℕ) (ns : L
     → LedOutcome most room (led literals defining most room (simple_words (Define (n ∷ ns) r) rest)) (Define (n ∷ ns) r) rest
 unfolding formed form_of begins_with
 led_define literals defining most room n [] r rest is_defining all is stops =
-    rw (led_named literals defining most room n (Mark kinds.Define ∷ right_words r rest) all.0 refl, is_defining)
+    rw (led_named literals defining most room n (Mark kinds.Define ∷ right_words r rest) all.0 refl,
+      choose_first defining _ (defined literals most room (simple_words (Define (n ∷ []) r) rest)) (assigned literals most room (simple_words (Define (n ∷ []) r) rest)) is_defining (defines_names n [] (right_words r rest)))
     (some_again most room _ (Define (n ∷ []) r) rest (defined_again literals most room n [] r rest all is stops))
 led_define literals defining most room n (m ∷ ns) r rest is_defining all is stops =
     rw (
@@ -472,10 +473,6 @@ either_defined literals true true most room ws is s rest e = defined_sound liter
 either_defined literals true false most room ws is s rest e = assigned_sound literals true most room ws s rest e
 either_defined literals false b most room ws is s rest e = absurd cc
 
-define_sound : (literals defining : Bool) (most room : ℕ) (ws : List Lexeme) (s : Simple) (rest : List Lexeme) → cond defining (defined literals most room ws) (assigned literals most room ws) ≡ gave s rest → SimpleSound literals defining most room ws s rest
-define_sound literals true most room ws s rest e = defined_sound literals most room ws s rest e
-define_sound literals false most room ws s rest e = assigned_sound literals false most room ws s rest e
-
 list_sound : (literals defining b : Bool) (most room : ℕ) (ws : List Lexeme) (s : Simple) (rest : List Lexeme) → cond (defining && b) (defined literals most room ws) (assigned literals most room ws) ≡ gave s rest → SimpleSound literals defining most room ws s rest
 list_sound literals true b most room ws s rest e = either_defined literals true b most room ws refl s rest e
 list_sound literals false b most room ws s rest e = assigned_sound literals false most room ws s rest e
@@ -491,7 +488,7 @@ formed_sound literals defining most room (forms.Update o) ws found rest strong e
 formed_sound literals defining most room (forms.Assign ranges) ws found rest strong e =
     some_sound literals defining most room ws (assigned literals most room ws) (assigned_sound literals defining most room ws) found rest e
 formed_sound literals defining most room (forms.Define ranges) ws found rest strong e =
-    some_sound literals defining most room ws (cond defining (defined literals most room ws) (assigned literals most room ws)) (define_sound literals defining most room ws) found rest e
+    some_sound literals defining most room ws (cond (defining && defines true ws) (defined literals most room ws) (assigned literals most room ws)) (list_sound literals defining (defines true ws) most room ws) found rest e
 formed_sound literals defining most room forms.List ws found rest strong e =
     some_sound literals defining most room ws (cond (defining && defines true ws) (defined literals most room ws) (assigned literals most room ws)) (list_sound literals defining (defines true ws) most room ws) found rest e
 formed_sound literals defining most room forms.Other ws found rest strong e =

@@ -243,7 +243,7 @@ formed literals defining most room forms.Decrement words = as_one (λ s. Some s)
 formed literals defining most room (forms.Update operator) words = as_one (λ s. Some s) (updated literals most room operator words)
 formed literals defining most room (forms.Assign ranges) words = as_one (λ s. Some s) (assigned literals most room words)
 formed literals defining most room (forms.Define ranges) words =
-    as_one (λ s. Some s) (if defining then defined literals most room words else assigned literals most room words)
+    as_one (λ s. Some s) (if defining && defines true words then defined literals most room words else assigned literals most room words)
 formed literals defining most room forms.List words =
     as_one (λ s. Some s) (if defining && defines true words then defined literals most room words else assigned literals most room words)
 formed literals defining most room forms.Other words = Ok (None, words)
@@ -329,7 +329,7 @@ comm_assigned most room words = do
   Ok (CommAssign item.0 ok.0 channel.0, channel.1)
 
 unfoldable pub comm_formed : ℕ → ℕ → Form → List Lexeme → Reading Comm
-comm_formed most room (forms.Define ranges) words = comm_defined most room words
+comm_formed most room (forms.Define ranges) words = if defines true words then comm_defined most room words else comm_assigned most room words
 comm_formed most room (forms.Assign ranges) words = comm_assigned most room words
 comm_formed most room forms.List words = if defines true words then comm_defined most room words else comm_assigned most room words
 comm_formed most room form words = sent CommSend true most room words

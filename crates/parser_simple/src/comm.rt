@@ -179,15 +179,9 @@ fn formed<'a>(
     ensures nodes { IfOk result (λ x. vec_len spans.new ≡ vec_len spans.old + comm_size (comm_of x.comm)) }
 {
     match form {
-        Form::Define(_) => defined(alloc, room, cursor, spans),
-        Form::Assign(_) => assigned(alloc, room, cursor, spans),
-        Form::List => {
-            if defines(cursor) {
-                defined(alloc, room, cursor, spans)
-            } else {
-                assigned(alloc, room, cursor, spans)
-            }
-        }
+        Form::Define(_) if defines(cursor) => defined(alloc, room, cursor, spans),
+        Form::List if defines(cursor) => defined(alloc, room, cursor, spans),
+        Form::Define(_) | Form::Assign(_) | Form::List => assigned(alloc, room, cursor, spans),
         _ => send(alloc, room, cursor, spans),
     }
 }
