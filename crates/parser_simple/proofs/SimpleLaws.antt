@@ -225,8 +225,10 @@ led_define : (literals defining : Bool) (most room : ℕ) (n : List ℕ) (ns : L
     → LedOutcome most room (led literals defining most room (simple_words (Define (n ∷ ns) r) rest)) (Define (n ∷ ns) r) rest
 unfolding formed form_of begins_with
 led_define literals defining most room n [] r rest is_defining all is stops =
-    rw (led_named literals defining most room n (Mark kinds.Define ∷ right_words r rest) all.0 refl,
-      choose_first defining _ (defined literals most room (simple_words (Define (n ∷ []) r) rest)) (assigned literals most room (simple_words (Define (n ∷ []) r) rest)) is_defining (defines_names n [] (right_words r rest)))
+    rw (
+      led_named literals defining most room n (Mark kinds.Define ∷ right_words r rest) all.0 refl,
+      choose_first defining _ (defined literals most room (simple_words (Define (n ∷ []) r) rest)) (assigned literals most room (simple_words (Define (n ∷ []) r) rest)) is_defining (defines_names n [] (right_words r rest)),
+    )
     (some_again most room _ (Define (n ∷ []) r) rest (defined_again literals most room n [] r rest all is stops))
 led_define literals defining most room n (m ∷ ns) r rest is_defining all is stops =
     rw (

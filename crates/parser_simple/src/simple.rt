@@ -449,7 +449,9 @@ fn formed<'a>(
         Form::Decrement => decrement(alloc, cursor, spans)?,
         Form::Update(operator) => updated(alloc, literals, room, operator, cursor, spans)?,
         Form::Assign(_) => assigned(alloc, literals, room, cursor, spans)?,
-        Form::Define(_) if defining && defines(cursor) => defined(alloc, literals, room, cursor, spans)?,
+        Form::Define(_) if defining && defines(cursor) => defined(
+            alloc, literals, room, cursor, spans,
+        )?,
         Form::Define(_) => assigned(alloc, literals, room, cursor, spans)?,
         Form::List if defining && defines(cursor) => defined(alloc, literals, room, cursor, spans)?,
         Form::List => assigned(alloc, literals, room, cursor, spans)?,
