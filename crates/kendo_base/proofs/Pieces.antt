@@ -5,8 +5,8 @@ use Rattle.std.proofs.lemmas.List.{take-append-le, drop-append-le, length-drop, 
 use Rattle.std.proofs.Math.Seq.{take-add, take-length}
 use Rattle.std.specs.Option.{is_some}
 use Rattle.book.specs.Desks.{Desk, Held, IsPiece, IsEnd, brought, lent_desk}
-use Rattle.book.specs.Slots.{State}
-use Rattle.book.specs.Cores.{CoreValue}
+use Rattle.world_core.specs.Slots.{State}
+use Rattle.world_core.specs.Cores.{CoreValue}
 use Rattle.bytecode.specs.Code.{Code}
 use Rattle.bytecode.specs.Machine.{code_kind}
 use Rattle.turn_rule.specs.Schedule.{IsPrefixOf}
