@@ -224,8 +224,8 @@ fn turn(steps: &mut Vec<Step>, number: u64, local: u32) -> Result<(), AllocError
 fn rounds(alloc: Global, goroutines: u64, count: u32) -> Result<Vec<Step>, AllocError> {
     let mut steps = Vec::new(alloc);
     for _i in 0..count {
-        for number in 1..goroutines + 1 {
-            turn(&mut steps, number, 20)?;
+        for number in 0..goroutines {
+            turn(&mut steps, number + 1, 20)?;
         }
         steps.push(Step::Settle)?;
     }
