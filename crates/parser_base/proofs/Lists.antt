@@ -14,10 +14,10 @@ use Rattle.parser_base.proofs.Results.{fails_on}
 abbrev pub with_front : {X : Type 0} → List X → Reading (List X × Bool) → Reading (List X × Bool)
 with_front front read = read >>= λ found. Ok ((front ++ found.0.0, found.0.1), found.1)
 
-one_more : {A X : Type 0} (view : A → X) (front : List A) (x : A) → map view (front ++ x ∷ []) ≡ map view front ++ view x ∷ []
+pub one_more : {A X : Type 0} (view : A → X) (front : List A) (x : A) → map view (front ++ x ∷ []) ≡ map view front ++ view x ∷ []
 one_more view front x = map-append view front (x ∷ [])
 
-regroup : {A X : Type 0} (view : A → X) (front : List A) (x : A) (read : Reading (List X × Bool))
+pub regroup : {A X : Type 0} (view : A → X) (front : List A) (x : A) (read : Reading (List X × Bool))
     → with_front (map view front) (read >>= λ others. Ok ((view x ∷ others.0.0, others.0.1), others.1)) ≡ with_front (map view (front ++ x ∷ [])) read
 regroup view front x (Ok found) =
     let e : map view front ++ view x ∷ found.0.0 ≡ map view (front ++ x ∷ []) ++ found.0.0 =
@@ -32,7 +32,7 @@ turn one next full turns i ws lt =
     let k : turns - i ≡ suc (turns - (i + 1)) = omega arith in
     ap (λ (n : ℕ). listed one next full n ws) k
 
-same : {X : Type 0} (read : Reading (List X × Bool)) → with_front [] read ≡ read
+pub same : {X : Type 0} (read : Reading (List X × Bool)) → with_front [] read ≡ read
 same (Ok found) = refl
 same (Err refusal) = refl
 
