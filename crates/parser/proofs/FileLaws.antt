@@ -1,176 +1,192 @@
 -- Files: what is spelt is read, what is read is spelt so, and at most one file is spelt.
-use Rattle.std.proofs.Common.{◌≡◌, ℕ, ◌+◌, ◌<◌, ◌≤◌, Bool, false, None, max, List, [], ◌∷◌, ◌++◌, length, Result, Ok, Err, refl, sym, ap, ◌∙◌, subst, arith, append_assoc, length-append, codes}
+use Rattle.std.proofs.Common.{◌≡◌, ℕ, suc, ◌+◌, ◌<◌, ◌≤◌, Bool, true, false, max, List, [], ◌∷◌, length, Result, Ok, Err, refl, sym, ap, ◌∙◌, subst, arith, codes}
 use Rattle.scanner.specs.declared.kind.Kind.TheVariants as kinds
-use Rattle.syntax.specs.Tree.{Statement, Statements, statements_in, statements as made_statements, Function, Top, StructTop, FunctionTop, File}
-use Rattle.syntax.specs.Measures.{Listing, Entries as EntriesLimit, SelectClauses, entries, highest, statement_height, statements_height, statement_longest, statements_longest, top_longest, longest, height, most_entries, most_clauses}
-use Rattle.syntax.proofs.Lists.{statements-statements_in, statements_in-statements, statements_height-of, statements_longest-of}
-use Rattle.parser_base.specs.Lexemes.{Lexeme, Literal, Name, Mark}
-use Rattle.parser_base.specs.Spelling.{is_builtin, behind, separated, joined, AreAll, AreSome}
-use Rattle.parser_base.specs.Reading.{Refusal, Syntax, TooDeep, TooMany, Reading, ◌>>=◌, expect, expect_name, plain_name, listed}
-use Rattle.parser_base.proofs.Marks.{bind_ok, unless_ok, ok_is, expect_is, expect_name_is, plain_name_is}
-use Rattle.parser_base.proofs.ListLaws.{AreFew, Found as AllFound, High as AllHigh, Many as AllMany, Full, all_again, IsReadAgain, listed_again, listed_sound}
-use Rattle.parser_base.proofs.ExpressionAgain.{entries-le}
-use Rattle.parser.specs.Spelling.{statement_words, IsStatement, header_words, tops_words, words, IsFunction, AreTops, Spells}
-use Rattle.parser.specs.Reading.{header, statement, statement_next, made, ended, file}
-use Rattle.parser.proofs.Sizes.{statement_longer, separated_longer}
-use Rattle.parser.proofs.StatementLaws.{Ends, statements, statement_again, statements_separate, statements_sound}
+use Rattle.syntax.specs.Tree.{Top, StructTop, FunctionTop, File}
+use Rattle.syntax.specs.Measures.{Listing, Entries as EntriesLimit, SelectClauses, highest, top_height, top_longest, longest, height, most_entries, most_clauses}
+use Rattle.parser_base.specs.declared.list.Next.{Next}
+use Rattle.parser_base.specs.declared.list.Next.TheVariants.{More, End}
+use Rattle.parser_base.specs.Lexemes.{Lexeme, Name, Mark}
+use Rattle.parser_base.specs.Spelling.{behind, separated, joined, AreAll, AreSome}
+use Rattle.parser_base.specs.Reading.{Refusal, Syntax, TooDeep, TooMany, Reading, ◌>>=◌, expect, expect_name, listed}
+use Rattle.parser_base.proofs.Marks.{bind_ok, ok_is, expect_is, expect_name_is}
+use Rattle.parser_base.proofs.ListLaws.{AreFew, Outcome, Found as OneFound, High as OneHigh, Many as OneMany, Found as AllFound, High as AllHigh, Many as AllMany, Full, Entries, all_again, IsReadAgain, Separates, listed_again, ReadsSoundly, listed_sound}
+use Rattle.parser_base.proofs.Steps.{gave}
+use Rattle.parser.specs.Spelling.{top_words, IsTop, tops_words, words, Spells}
+use Rattle.parser.specs.Reading.{top, more_tops, top_next, tops, file}
+use Rattle.parser.proofs.Sizes.{top_longer, tops_longer}
+use Rattle.parser.proofs.TopLaws.{top_again, top_sound}
+
+-- ---- declarations
+
+abbrev listed_tops : (room most : ℕ) → Entries Top
+listed_tops room most = record {
+  one = top most room;
+  next = top_next;
+  each = top_words;
+  separator = behind kinds.Semicolon;
+  ending = λ trailing rest. Mark kinds.Semicolon ∷ [];
+  height = top_height;
+  longest = top_longest;
+  room = suc (suc room);
+  most = most;
+  IsOne = IsTop;
+}
+
+abbrev Anything : List Lexeme → Type 0
+Anything rest = Unit {0}
+
+another_top : (t : Top) (ws : List Lexeme) → more_tops (top_words t ws) ≡ (More, top_words t ws)
+another_top (StructTop s) ws = refl
+another_top (FunctionTop f) ws = refl
+
+more_again : (t : Top) (ws : List Lexeme) → top_next (Mark kinds.Semicolon ∷ top_words t ws) ≡ Ok (More, top_words t ws)
+unfolding top_next expect
+more_again t ws = ap (λ (x : Next × List Lexeme). Ok x) (another_top t ws)
+
+end_again : top_next (Mark kinds.Semicolon ∷ []) ≡ Ok (End false, [])
+unfolding top_next expect
+end_again = refl
+
+tops_separate : (room most : ℕ) → Separates (listed_tops room most) Anything false []
+tops_separate room most = record {
+  separator = λ t words one. tt;
+  more = λ t words one. more_again t words;
+  ending = tt;
+  end = end_again;
+}
+
+-- declarations with a semicolon behind each are those with one between each two, and one behind them
+tops_joined : (t : Top) (ts : List Top) → tops_words (t ∷ ts) ≡ joined top_words (behind kinds.Semicolon) (t ∷ ts) (Mark kinds.Semicolon ∷ [])
+tops_joined t [] = refl
+tops_joined t (next ∷ ts) = ap (λ (x : List Lexeme). top_words t (Mark kinds.Semicolon ∷ x)) (tops_joined next ts)
 
 -- ---- what is spelt is read
+
+begun_tops : (most room : ℕ) (t : Top) (rest : List Lexeme) → tops most room (top_words t rest) ≡ listed (top most room) top_next Syntax (length (top_words t rest)) (top_words t rest)
+unfolding tops
+begun_tops most room (StructTop s) rest = refl
+begun_tops most room (FunctionTop f) rest = refl
+
+abbrev TopsOutcome : (room most : ℕ) → Reading (List Top × Bool) → List Top → Type 0
+TopsOutcome room most read ts = Outcome read (ts, false) [] (highest top_height ts) (suc (suc room)) (λ listing. highest (top_longest listing) ts) most
+
+some_again : (room most : ℕ) (t : Top) (ts : List Top) → AreAll IsTop (t ∷ ts) → TopsOutcome room most (tops most room (joined top_words (behind kinds.Semicolon) (t ∷ ts) (Mark kinds.Semicolon ∷ []))) (t ∷ ts)
+some_again room most t ts all =
+    let ending = Mark kinds.Semicolon ∷ [] in
+    let behind' = separated top_words (behind kinds.Semicolon) ts ending in
+    let turns = length (top_words t behind') in
+    let enough : length (t ∷ ts) ≤ turns = omega (arith, tops_longer ts ending all.1, top_longer t behind' all.0) in
+    let again : (x : Top) → IsTop x → IsReadAgain (listed_tops room most) Anything x = λ x is rest ends. top_again most room x rest is in
+    let each = all_again IsTop (IsReadAgain (listed_tops room most) Anything) again (t ∷ ts) all in
+    rw (begun_tops most room t behind')
+    (elim (listed_again (listed_tops room most) Anything false [] Syntax (tops_separate room most) ts turns t all each) [
+      | AllFound low few count e ↦ OneFound low few e
+      | AllHigh high e ↦ OneHigh high e
+      | AllMany listing many e ↦ OneMany listing many e
+      | Full count e ↦ absurd (omega arith)
+    ])
+
+tops_again : (room most : ℕ) (ts : List Top) → AreAll IsTop ts → TopsOutcome room most (tops most room (tops_words ts)) ts
+unfolding tops
+tops_again room most [] all = OneFound (omega arith) (λ listing. omega arith) refl
+tops_again room most (t ∷ ts) all = rw (tops_joined t ts) (some_again room most t ts all)
 
 pub data FileOutcome (read : Result File Refusal) (f : File) (room most : ℕ) : Type 0 where
   Found : height f ≤ room + 3 → AreFew (λ listing. longest listing f) most → read ≡ Ok f → FileOutcome read f room most
   High : room + 3 < height f → read ≡ Err TooDeep → FileOutcome read f room most
   Many : (listing : Listing) → most < longest listing f → read ≡ Err (TooMany listing) → FileOutcome read f room most
 
-header_again : (name : List ℕ) (rest : List Lexeme) → is_builtin name ≡ false → header (header_words name rest) ≡ Ok (name, rest)
-unfolding header expect expect_name plain_name
-header_again name rest named = rw named refl
-
--- a file's statements and what follows them
-abbrev body_words : List Statement → List Lexeme
-body_words body = joined statement_words (behind kinds.Semicolon) body (Mark kinds.RightBrace ∷ Mark kinds.Semicolon ∷ [])
-
--- the longest list of a file without parameters
-made_longest : (listing : Listing) (name : List ℕ) (body : List Statement) → longest listing (made name body) ≡ max (entries listing 0) (highest (statement_longest listing) body)
-made_longest listing name body = omega (arith, statements_longest-of listing body)
-
-made_height : (name : List ℕ) (body : List Statement) → height (made name body) ≡ highest statement_height body + 3
-made_height name body = omega (arith, statements_height-of body)
-
-body_again : (room most : ℕ) (name : List ℕ) (body : List Statement) → AreSome IsStatement body
-    → FileOutcome (listed (statement most room) statement_next Syntax (length (body_words body)) (body_words body) >>= λ found. expect kinds.Semicolon found.1 >>= λ rest. ended (made name found.0.0) rest) (made name body) room most
-unfolding expect ended
-body_again room most name [] some = absurd some
-body_again room most name (s ∷ ss) some =
-    let ending = Mark kinds.RightBrace ∷ Mark kinds.Semicolon ∷ [] in
-    let behind' = separated statement_words (behind kinds.Semicolon) ss ending in
-    let turns = length (body_words (s ∷ ss)) in
-    let enough : length (s ∷ ss) ≤ turns = omega (arith, separated_longer ss ending some.1 (omega arith), statement_longer s behind' some.0) in
-    let each = all_again IsStatement (IsReadAgain (statements room most) Ends) (statement_again room most) (s ∷ ss) some in
-    let again = listed_again (statements room most) Ends false (Mark kinds.Semicolon ∷ []) Syntax (statements_separate room most (Mark kinds.Semicolon ∷ [])) ss turns s some each in
-    let step : Reading (List Statement × Bool) → Result File Refusal = λ read. read >>= λ found. expect kinds.Semicolon found.1 >>= λ rest. ended (made name found.0.0) rest in
-    let high = made_height name (s ∷ ss) in
-    elim again [
-      | AllFound low few count e ↦ Found (omega (arith, high)) (λ listing. omega (arith, few listing, made_longest listing name (s ∷ ss), entries-le listing 0)) (ap step e)
-      | AllHigh above e ↦ High (omega (arith, high)) (ap step e)
-      | AllMany listing many e ↦ Many listing (omega (arith, many, made_longest listing name (s ∷ ss))) (ap step e)
-      | Full count e ↦ absurd (omega arith)
+pub file_again : (room most : ℕ) (f : File) → AreAll IsTop f.tops → FileOutcome (file most room (words f)) f room most
+unfolding file expect expect_name
+file_again room most f is =
+    elim (tops_again room most f.tops is) [
+      | OneFound low few e ↦ Found (omega (arith, low)) few (rw e refl)
+      | OneHigh high e ↦ High (omega (arith, high)) (rw e refl)
+      | OneMany listing many e ↦ Many listing many (rw e refl)
     ]
-
-function_again : (room most : ℕ) (function : Function) → IsFunction function → FileOutcome (file most room (tops_words (FunctionTop function ∷ []))) (made function.name (statements_in function.body)) room most
-unfolding file
-function_again room most function is =
-    let h = header_again function.name (body_words (statements_in function.body)) is.named in
-    rw h (body_again room most function.name (statements_in function.body) is.body)
-
-function_is : (function : Function) → IsFunction function → made function.name (statements_in function.body) ≡ record { tops = FunctionTop function ∷ [] }
-function_is function is =
-    λ i. record {
-      tops = FunctionTop (record {
-        name = function.name;
-        parameters = sym is.parameters i;
-        trailing = sym is.trailing i;
-        result = sym is.result i;
-        body = statements-statements_in function.body i;
-      }) ∷ [];
-    }
-
-tops_again : (room most : ℕ) (tops : List Top) → AreTops tops → FileOutcome (file most room (tops_words tops)) (record { tops = tops }) room most
-tops_again room most [] is = absurd is
-tops_again room most (StructTop struct ∷ rest) is = absurd is
-tops_again room most (FunctionTop function ∷ second ∷ rest) is = absurd is
-tops_again room most (FunctionTop function ∷ []) is =
-    subst (λ (f : File). FileOutcome (file most room (tops_words (FunctionTop function ∷ []))) f room most) (function_is function is) (function_again room most function is)
-
-pub file_again : (room most : ℕ) (f : File) → AreTops f.tops → FileOutcome (file most room (words f)) f room most
-file_again room most f is = tops_again room most f.tops is
 
 -- ---- what is read is spelt so
 
-abbrev with_rest : List ℕ → List Lexeme → List ℕ × List Lexeme
-with_rest name rest = (name, rest)
+abbrev ends_with : Bool → List Lexeme → Next × List Lexeme
+ends_with trailing rest = (End trailing, rest)
 
--- the steps of a header
-abbrev brace_step : List ℕ → List Lexeme → Reading (List ℕ)
-brace_step name ws = expect kinds.LeftBrace ws >>= λ rest. Ok (with_rest name rest)
+abbrev goes_on_with : List Lexeme → Next × List Lexeme
+goes_on_with rest = (More, rest)
 
-abbrev close_step : List ℕ → List Lexeme → Reading (List ℕ)
-close_step name ws = expect kinds.RightParenthesis ws >>= brace_step name
+more_is : (ws rest : List Lexeme) → more_tops ws ≡ goes_on_with rest → ws ≡ rest
+more_is [] rest e = let kind : End false ≡ More = ap (λ (x : Next × List Lexeme). x.0) e in absurd cc
+more_is (w ∷ ws) rest e = ap (λ (x : Next × List Lexeme). x.1) e
 
-abbrev open_step : List ℕ → List Lexeme → Reading (List ℕ)
-open_step name ws = expect kinds.LeftParenthesis ws >>= close_step name
+end_is : (ws : List Lexeme) (trailing : Bool) (rest : List Lexeme) → more_tops ws ≡ ends_with trailing rest → (ws ≡ rest) × (rest ≡ [])
+end_is [] trailing rest e = let same = ap (λ (x : Next × List Lexeme). x.1) e in (same, sym same)
+end_is (w ∷ ws) trailing rest e = let kind : More ≡ End trailing = ap (λ (x : Next × List Lexeme). x.0) e in absurd cc
 
-abbrev name_step : List Lexeme → Reading (List ℕ)
-name_step ws = plain_name ws >>= λ name. open_step name.0 name.1
+next_is : (ws : List Lexeme) (next : Next × List Lexeme) → top_next ws ≡ Ok next → (rest : List Lexeme) × (ws ≡ Mark kinds.Semicolon ∷ rest) × (more_tops rest ≡ next)
+unfolding top_next
+next_is ws next e =
+    let a = bind_ok (expect kinds.Semicolon ws) (λ rest. Ok (more_tops rest)) next e in
+    (a.0, expect_is kinds.Semicolon ws a.0 a.1, ok_is (more_tops a.0) next a.2)
 
-abbrev func_step : List Lexeme → Reading (List ℕ)
-func_step ws = expect kinds.Func ws >>= name_step
+tops_soundly : (room most : ℕ) → ReadsSoundly (listed_tops room most)
+tops_soundly room most = record {
+  one = λ ws t rest e. let s = top_sound most room ws t rest e in record { parts = s.parts; is = s.is; low = s.low; few = s.few };
+  more = λ ws rest e. let a = next_is ws (goes_on_with rest) e in a.1 ∙ ap (λ (x : List Lexeme). Mark kinds.Semicolon ∷ x) (more_is a.0 rest a.2);
+  end = λ ws trailing rest e. let a = next_is ws (ends_with trailing rest) e in let b = end_is a.0 trailing rest a.2 in a.1 ∙ ap (λ (x : List Lexeme). Mark kinds.Semicolon ∷ x) (b.0 ∙ b.1);
+}
 
-abbrev semicolon_step : List Lexeme → Reading (List ℕ)
-semicolon_step ws = expect kinds.Semicolon ws >>= func_step
+record AreTopsSound (room most : ℕ) (ws : List Lexeme) (ts : List Top) : Type 0 where
+  parts : ws ≡ tops_words ts
+  are : AreAll IsTop ts
+  low : highest top_height ts ≤ suc (suc room)
+  few : AreFew (λ listing. highest (top_longest listing) ts) most
 
-abbrev main_step : List Lexeme → Reading (List ℕ)
-main_step ws = expect_name (codes "main") ws >>= semicolon_step
+tops_apart : (ts : List Top) → AreSome IsTop ts → joined top_words (behind kinds.Semicolon) ts (Mark kinds.Semicolon ∷ []) ≡ tops_words ts
+tops_apart [] some = absurd some
+tops_apart (t ∷ ts) some = sym (tops_joined t ts)
 
-signature_sound : (name : List ℕ) (ws : List Lexeme) (found : List ℕ × List Lexeme) → open_step name ws ≡ Ok found
-    → (ws ≡ Mark kinds.LeftParenthesis ∷ Mark kinds.RightParenthesis ∷ Mark kinds.LeftBrace ∷ found.1) × (name ≡ found.0)
-signature_sound name ws found e =
-    let a = bind_ok (expect kinds.LeftParenthesis ws) (close_step name) found e in
-    let b = bind_ok (expect kinds.RightParenthesis a.0) (brace_step name) found a.2 in
-    let c = bind_ok (expect kinds.LeftBrace b.0) (λ rest. Ok (with_rest name rest)) found b.2 in
-    let same = ok_is (with_rest name c.0) found c.2 in
-    let last = expect_is kinds.LeftBrace b.0 c.0 c.1 ∙ ap (λ (x : List ℕ × List Lexeme). Mark kinds.LeftBrace ∷ x.1) same in
-    let middle = expect_is kinds.RightParenthesis a.0 b.0 b.1 ∙ ap (λ (x : List Lexeme). Mark kinds.RightParenthesis ∷ x) last in
-    (expect_is kinds.LeftParenthesis ws a.0 a.1 ∙ ap (λ (x : List Lexeme). Mark kinds.LeftParenthesis ∷ x) middle, ap (λ (x : List ℕ × List Lexeme). x.0) same)
+all_of : (ts : List Top) → AreSome IsTop ts → AreAll IsTop ts
+all_of [] some = absurd some
+all_of (t ∷ ts) some = some
 
-header_sound : (ws : List Lexeme) (found : List ℕ × List Lexeme) → header ws ≡ Ok found → (ws ≡ header_words found.0 found.1) × (is_builtin found.0 ≡ false)
-unfolding header
-header_sound ws found e =
-    let a = bind_ok (expect kinds.Package ws) main_step found e in
-    let b = bind_ok (expect_name (codes "main") a.0) semicolon_step found a.2 in
-    let c = bind_ok (expect kinds.Semicolon b.0) func_step found b.2 in
-    let d = bind_ok (expect kinds.Func c.0) name_step found c.2 in
-    let n = bind_ok (plain_name d.0) (λ name. open_step name.0 name.1) found d.2 in
-    let named = plain_name_is d.0 n.0.0 n.0.1 n.1 in
-    let rest = signature_sound n.0.0 n.0.1 found n.2 in
-    let name : d.0 ≡ Name found.0 ∷ Mark kinds.LeftParenthesis ∷ Mark kinds.RightParenthesis ∷ Mark kinds.LeftBrace ∷ found.1 = named.0 ∙ (λ i. Name (rest.1 i) ∷ rest.0 i) in
-    let func = expect_is kinds.Func c.0 d.0 d.1 ∙ ap (λ (x : List Lexeme). Mark kinds.Func ∷ x) name in
-    let semicolon = expect_is kinds.Semicolon b.0 c.0 c.1 ∙ ap (λ (x : List Lexeme). Mark kinds.Semicolon ∷ x) func in
-    let main = expect_name_is (codes "main") a.0 b.0 b.1 ∙ ap (λ (x : List Lexeme). Name (codes "main") ∷ x) semicolon in
-    (expect_is kinds.Package ws a.0 a.1 ∙ ap (λ (x : List Lexeme). Mark kinds.Package ∷ x) main, subst (λ (x : List ℕ). is_builtin x ≡ false) rest.1 named.1)
-
-ended_is : (f g : File) (ws : List Lexeme) → ended f ws ≡ Ok g → (ws ≡ []) × (f ≡ g)
-unfolding ended
-ended_is f g [] e = (refl, ok_is f g e)
-ended_is f g (w ∷ ws) e = absurd cc
+tops_sound : (room most : ℕ) (ws : List Lexeme) (found : (List Top × Bool) × List Lexeme) → tops most room ws ≡ Ok found → AreTopsSound room most ws found.0.0
+unfolding tops
+tops_sound room most [] found e =
+    subst (λ (x : (List Top × Bool) × List Lexeme). AreTopsSound room most [] x.0.0) (ok_is (([], false), []) found e) (record { parts = refl; are = tt; low = omega arith; few = λ listing. omega arith })
+tops_sound room most (w ∷ ws) found e =
+    let s = listed_sound (listed_tops room most) Syntax (tops_soundly room most) (length (w ∷ ws)) (w ∷ ws) found e in
+    record { parts = s.parts ∙ tops_apart found.0.0 s.are; are = all_of found.0.0 s.are; low = s.low; few = s.few }
 
 pub record IsFound (room most : ℕ) (ws : List Lexeme) (f : File) : Type 0 where
   pub spelt : Spells ws f
   pub low : height f ≤ room + 3
   pub few : AreFew (λ listing. longest listing f) most
 
+abbrev made : List Top × Bool → Result File Refusal
+made found = Ok (record { tops = found.0 })
+
+abbrev tops_step : (room most : ℕ) → List Lexeme → Result File Refusal
+tops_step room most ws = tops most room ws >>= λ found. made found.0
+
+abbrev semicolon_step : (room most : ℕ) → List Lexeme → Result File Refusal
+semicolon_step room most ws = expect kinds.Semicolon ws >>= tops_step room most
+
+abbrev main_step : (room most : ℕ) → List Lexeme → Result File Refusal
+main_step room most ws = expect_name (codes "main") ws >>= semicolon_step room most
+
 pub file_sound : (room most : ℕ) (ws : List Lexeme) (f : File) → file most room ws ≡ Ok f → IsFound room most ws f
 unfolding file
 file_sound room most ws f e =
-    let a = bind_ok (header ws) (λ name. listed (statement most room) statement_next Syntax (length name.1) name.1 >>= λ body. expect kinds.Semicolon body.1 >>= λ rest. ended (made name.0 body.0.0) rest) f e in
-    let name = a.0.0 in
-    let b = bind_ok (listed (statement most room) statement_next Syntax (length a.0.1) a.0.1) (λ body. expect kinds.Semicolon body.1 >>= λ rest. ended (made name body.0.0) rest) f a.2 in
-    let c = bind_ok (expect kinds.Semicolon b.0.1) (λ rest. ended (made name b.0.0.0) rest) f b.2 in
-    let body = b.0.0.0 in
-    let d = ended_is (made name body) f c.0 c.2 in
-    let h = header_sound ws a.0 a.1 in
-    let l = listed_sound (statements room most) Syntax (statements_sound room most) (length a.0.1) a.0.1 b.0 b.1 in
-    let s = expect_is kinds.Semicolon b.0.1 c.0 c.1 ∙ ap (λ (x : List Lexeme). Mark kinds.Semicolon ∷ x) d.0 in
-    let same : statements_in (made_statements body) ≡ body = statements_in-statements body in
-    let all : a.0.1 ≡ body_words (statements_in (made_statements body)) =
-    l.parts ∙ ap (λ (x : List Lexeme). joined statement_words (behind kinds.Semicolon) body (Mark kinds.RightBrace ∷ x)) s ∙ ap body_words (sym same) in
-    subst (λ (x : File). IsFound room most ws x) d.1 (record {
-      spelt = record {
-        words = h.0 ∙ ap (header_words name) all;
-        well_formed = record { named = h.1; parameters = refl; trailing = refl; result = refl; body = subst (AreSome IsStatement) (sym same) l.are };
-      };
-      low = omega (arith, l.low, made_height name body);
-      few = λ listing. omega (arith, l.few listing, made_longest listing name body, entries-le listing 0);
+    let a = bind_ok (expect kinds.Package ws) (main_step room most) f e in
+    let b = bind_ok (expect_name (codes "main") a.0) (semicolon_step room most) f a.2 in
+    let c = bind_ok (expect kinds.Semicolon b.0) (tops_step room most) f b.2 in
+    let d = bind_ok (tops most room c.0) (λ found. made found.0) f c.2 in
+    let s = tops_sound room most c.0 d.0 d.1 in
+    let semicolon = expect_is kinds.Semicolon b.0 c.0 c.1 ∙ ap (λ (x : List Lexeme). Mark kinds.Semicolon ∷ x) s.parts in
+    let main = expect_name_is (codes "main") a.0 b.0 b.1 ∙ ap (λ (x : List Lexeme). Name (codes "main") ∷ x) semicolon in
+    subst (λ (x : File). IsFound room most ws x) (ok_is (record { tops = d.0.0.0 }) f d.2) (record {
+      spelt = record { words = expect_is kinds.Package ws a.0 a.1 ∙ ap (λ (x : List Lexeme). Mark kinds.Package ∷ x) main; well_formed = s.are };
+      low = omega (arith, s.low);
+      few = s.few;
     })
 
 -- ---- no other file is spelt

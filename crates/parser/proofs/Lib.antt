@@ -1,4 +1,7 @@
 pub mod StatementLaws
+pub mod DeclaredLists
+pub mod DeclaredLaws
+pub mod TopLaws
 pub mod FileLaws
 pub mod Sizes
 pub mod Parsing

@@ -3,15 +3,15 @@ use Rattle.std.proofs.Common.{◌≡◌, ℕ, ◌+◌, ◌<◌, ◌≤◌, List,
 use Rattle.std.proofs.lemmas.List.Sums.{sum_by-cons}
 use Rattle.scanner.specs.declared.kind.Kind.{Kind}
 use Rattle.scanner.specs.declared.kind.Kind.TheVariants as kinds
-use Rattle.syntax.specs.Tree.{Expression, TypeExpression, Arguments, Operation, Call, Receive, Make, Length, Capacity, Right, RightOperation, Values, Place, Part, Value, Text as TextPart, Simple, CallAlone, Close, Print, ReceiveAlone, Send, Increment, Decrement, Assign, Define, Update, Statement, Statements, NoStatement, Then, Empty, Alone, VarTyped, VarUntyped, Block, If, For, Select, Go, Return, Break, Continue, statements_in, Function, Top, StructTop, FunctionTop, File}
-use Rattle.syntax.specs.Measures.{expression_size, arguments_size, operation_size, right_size, part_size, simple_size, statement_size, statements_size, function_size, size, if_any, type_size, declared_size}
+use Rattle.syntax.specs.Tree.{Expression, TypeExpression, Arguments, Operation, Call, Receive, Make, Length, Capacity, Right, RightOperation, Values, Place, Part, Value, Text as TextPart, Simple, CallAlone, Close, Print, ReceiveAlone, Send, Increment, Decrement, Assign, Define, Update, Statement, Statements, NoStatement, Then, Empty, Alone, VarTyped, VarUntyped, Block, If, For, Select, Go, Return, Break, Continue, statements_in, Declared, Struct, Function, Top, StructTop, FunctionTop, File}
+use Rattle.syntax.specs.Measures.{expression_size, arguments_size, operation_size, right_size, part_size, simple_size, statement_size, statements_size, function_size, top_size, size, if_any, type_size, declared_size}
 use Rattle.parser_base.specs.Lexemes.{Lexeme, Mark}
 use Rattle.parser_base.specs.Spelling.{behind, AreAll, AreSome, separated, joined, closing, before, expression_words}
 use Rattle.parser_base.specs.TypeReading.{type_words}
 use Rattle.parser_base.proofs.Sizes.{expression_size-le}
 use Rattle.parser_base.proofs.TypeLaws.{type_size-le}
-use Rattle.parser_simple.specs.Spelling.{name_words, place_words, arguments_words, size_words, operation_words, right_words, part_words, update_kind, simple_words}
-use Rattle.parser.specs.Spelling.{statement_words, IsStatement, tops_words, words, IsFunction, AreTops}
+use Rattle.parser_simple.specs.Spelling.{name_words, IsName, place_words, arguments_words, size_words, operation_words, right_words, part_words, update_kind, simple_words}
+use Rattle.parser.specs.Spelling.{statement_words, IsStatement, declared_words, IsDeclared, struct_words, IsStruct, result_words, block_words, function_words, IsFunction, top_words, IsTop, tops_words, words}
 
 -- ---- values and lists
 
@@ -143,20 +143,67 @@ joined_grows [] rest are = absurd are
 joined_grows (s ∷ ss) rest are =
     omega (arith, sum_by-cons statement_size s ss, separated_grows ss rest are.1, statement_grows s (separated statement_words (behind kinds.Semicolon) ss rest) are.0)
 
-function_size-le : (function : Function) → IsFunction function → function_size function ≤ statements_size function.body + 2
-function_size-le function is =
-    omega (arith, ap (sum_by declared_size) is.parameters, ap (if_any type_size) is.result)
+-- ---- declarations
+
+declared_grows : (ns : List (List ℕ)) (kind : TypeExpression) (rest : List Lexeme) → AreSome IsName ns → type_size kind + 1 + length rest ≤ length (joined name_words (behind kinds.Comma) ns (type_words kind ++ rest))
+declared_grows [] kind rest some = absurd some
+declared_grows (n ∷ ns) kind rest some =
+    omega (arith, type_size-le kind, length-append (type_words kind) rest, separated_size (λ (n : List ℕ). 0) name_words kinds.Comma ns (type_words kind ++ rest) (λ n ws. omega arith))
+
+more_declared_grow : (separator : Kind) (ds : List Declared) (rest : List Lexeme) → AreAll IsDeclared ds → sum_by declared_size ds + length rest ≤ length (separated declared_words (behind separator) ds rest)
+more_declared_grow separator [] rest are = omega arith
+more_declared_grow separator (d ∷ ds) rest are =
+    let behind' = separated declared_words (behind separator) ds rest in
+    omega (arith, sum_by-cons declared_size d ds, more_declared_grow separator ds rest are.1, declared_grows d.names d.kind behind' are.0.0)
+
+all_declared_grow : (separator : Kind) (ds : List Declared) (rest : List Lexeme) → AreAll IsDeclared ds → sum_by declared_size ds + length rest ≤ length (joined declared_words (behind separator) ds rest)
+all_declared_grow separator [] rest are = omega arith
+all_declared_grow separator (d ∷ ds) rest are =
+    let behind' = separated declared_words (behind separator) ds rest in
+    omega (arith, sum_by-cons declared_size d ds, more_declared_grow separator ds rest are.1, declared_grows d.names d.kind behind' are.0.0)
+
+result_grows : (kind : Option TypeExpression) (rest : List Lexeme) → if_any type_size kind + length rest ≤ length (result_words kind rest)
+result_grows None rest = omega arith
+result_grows (Some kind) rest = omega (arith, type_size-le kind, length-append (type_words kind) rest)
 
 sum_in : (ss : Statements) → sum_by statement_size (statements_in ss) ≡ statements_size ss
 sum_in NoStatement = refl
 sum_in (Then s ss) = omega (arith, sum_by-cons statement_size s (statements_in ss), sum_in ss)
 
-tops_size-le : (tops : List Top) → AreTops tops → size (record { tops = tops }) ≤ length (tops_words tops)
-tops_size-le [] is = absurd is
-tops_size-le (StructTop struct ∷ rest) is = absurd is
-tops_size-le (FunctionTop function ∷ second ∷ rest) is = absurd is
-tops_size-le (FunctionTop function ∷ []) is =
-    omega (arith, function_size-le function is, joined_grows (statements_in function.body) (Mark kinds.RightBrace ∷ Mark kinds.Semicolon ∷ []) is.body, sum_in function.body)
+struct_grows : (s : Struct) (rest : List Lexeme) → IsStruct s → sum_by declared_size s.fields + 1 + length rest ≤ length (struct_words s rest)
+struct_grows s rest is =
+    let closed = closing kinds.Semicolon kinds.RightBrace s.trailing rest in
+    omega (arith, all_declared_grow kinds.Semicolon s.fields closed is.fields, closing_size kinds.Semicolon kinds.RightBrace s.trailing rest)
 
-pub size-le : (f : File) → AreTops f.tops → size f ≤ length (words f)
-size-le f is = tops_size-le f.tops is
+function_grows : (f : Function) (rest : List Lexeme) → IsFunction f → function_size f + length rest ≤ length (function_words f rest)
+function_grows f rest is =
+    let body = statements_in f.body in
+    let after = result_words f.result (block_words body rest) in
+    omega (
+      arith,
+      all_declared_grow kinds.Comma f.parameters (closing kinds.Comma kinds.RightParenthesis f.trailing after) is.parameters,
+      closing_size kinds.Comma kinds.RightParenthesis f.trailing after,
+      result_grows f.result (block_words body rest),
+      joined_grows body (Mark kinds.RightBrace ∷ rest) is.body,
+      sum_in f.body,
+    )
+
+top_grows : (t : Top) (rest : List Lexeme) → IsTop t → top_size t + length rest ≤ length (top_words t rest)
+top_grows (StructTop s) rest is = struct_grows s rest is
+top_grows (FunctionTop f) rest is = function_grows f rest is
+
+tops_grow : (ts : List Top) → AreAll IsTop ts → sum_by top_size ts ≤ length (tops_words ts)
+tops_grow [] are = omega arith
+tops_grow (t ∷ ts) are = omega (arith, sum_by-cons top_size t ts, tops_grow ts are.1, top_grows t (Mark kinds.Semicolon ∷ tops_words ts) are.0)
+
+-- a declaration takes away no word
+pub top_longer : (t : Top) (rest : List Lexeme) → IsTop t → length rest ≤ length (top_words t rest)
+top_longer t rest is = omega (arith, top_grows t rest is)
+
+-- there are no more declarations than words
+pub tops_longer : (ts : List Top) (rest : List Lexeme) → AreAll IsTop ts → length ts + length rest ≤ length (separated top_words (behind kinds.Semicolon) ts rest)
+tops_longer [] rest are = omega arith
+tops_longer (t ∷ ts) rest are = omega (arith, tops_longer ts rest are.1, top_longer t (separated top_words (behind kinds.Semicolon) ts rest) are.0)
+
+pub size-le : (f : File) → AreAll IsTop f.tops → size f ≤ length (words f)
+size-le f is = omega (arith, tops_grow f.tops is)

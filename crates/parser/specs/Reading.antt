@@ -1,12 +1,16 @@
 -- Reading from left to right.
-use Rattle.std.specs.Prelude.{◌≡◌, ℕ, zero, suc, ◌+◌, Bool, true, false, ◌||◌, List, [], ◌∷◌, None, Result, Ok, Err, if◌then◌else◌, length, codes}
+use Rattle.std.specs.Prelude.{◌≡◌, ℕ, zero, suc, ◌+◌, ◌-◌, Bool, true, false, ◌||◌, Option, Some, None, List, [], ◌∷◌, Result, Ok, Err, if◌then◌else◌, length, codes}
+use Rattle.scanner.specs.declared.kind.Kind.{Kind}
 use Rattle.scanner.specs.declared.kind.Kind.TheVariants as kinds
-use Rattle.syntax.specs.Tree.{Statement, Empty, Alone, statements, FunctionTop, File}
+use Rattle.syntax.specs.Tree.{TypeExpression, Statement, Empty, Alone, statements, Declared, Struct, Function, Top, StructTop, FunctionTop, File}
+use Rattle.syntax.specs.Measures.{Entries}
 use Rattle.parser_base.specs.declared.list.Next.{Next}
 use Rattle.parser_base.specs.declared.list.Next.TheVariants.{More, End}
 use Rattle.parser_base.specs.Lexemes.{Lexeme, Literal, Name, Text, Mark}
-use Rattle.parser_base.specs.Reading.{Refusal, Syntax, TooDeep, Reading, ◌>>=◌, is_kind, expect, expect_name, plain_name, listed}
-use Rattle.parser_simple.specs.Reading.{as_one, simple}
+use Rattle.parser_base.specs.Spelling.{is_builtin}
+use Rattle.parser_base.specs.Reading.{Refusal, Syntax, TooDeep, TooMany, Reading, ◌>>=◌, is_kind, expect, expect_name, plain_name, listed, followed, entry_next}
+use Rattle.parser_base.specs.TypeReading.{type_at}
+use Rattle.parser_simple.specs.Reading.{as_one, begins_with, names, simple}
 
 -- ---- statements
 
@@ -24,35 +28,88 @@ statement_next (Mark kind ∷ rest) =
     else (if is_kind kind kinds.RightBrace then Ok (End false, rest) else Err Syntax)
 statement_next words = Err Syntax
 
+-- ---- fields and parameters
+
+-- whether fields or parameters can begin so
+unfoldable pub begins_name : List Lexeme → Bool
+begins_name (Name name ∷ rest) = if is_builtin name then false else true
+begins_name words = false
+
+-- at most so many names, and their type, of at most so many levels
+unfoldable pub declared : ℕ → ℕ → List Lexeme → Reading Declared
+declared most room words = do
+  all ← names kinds.Comma most words
+  kind ← type_at room all.1
+  Ok (record { names = all.0.0; kind = kind.0 }, kind.1)
+
+-- at least one field or parameter, of which there are at most so many, to the closing mark; `left` is how many names
+-- there may still be
+unfoldable pub some_declared : (separator close : Kind) → (room most left : ℕ) → List Lexeme → Reading (List Declared × Bool)
+some_declared separator close room zero left words = Err (TooMany Entries)
+some_declared separator close room (suc most) left words =
+    declared left room words >>= λ first. entry_next separator begins_name close first.1 >>= λ after.
+    followed first.0 (some_declared separator close room most (left - length first.0.names)) after
+
+-- fields or parameters to the closing mark
+unfoldable pub all_declared : (separator close : Kind) → (most room : ℕ) → List Lexeme → Reading (List Declared × Bool)
+all_declared separator close most room words =
+    if begins_name words then some_declared separator close room most most words
+    else (expect close words >>= λ after. Ok (([], false), after))
+
+-- ---- declarations
+
+-- a struct type, with types of at most so many levels
+unfoldable pub structure : ℕ → ℕ → List Lexeme → Reading Top
+structure most room words = do
+  first ← expect kinds.TypeKeyword words
+  name ← plain_name first
+  keyword ← expect kinds.Struct name.1
+  brace ← expect kinds.LeftBrace keyword
+  fields ← all_declared kinds.Semicolon kinds.RightBrace most room brace
+  Ok (StructTop (record { name = name.0; fields = fields.0.0; trailing = fields.0.1 }), fields.1)
+
+-- the type of a function's result, if there is one before its block
+unfoldable pub result_type : ℕ → List Lexeme → Reading (Option TypeExpression)
+result_type room words = if begins_with kinds.LeftBrace words then Ok (None, words) else as_one (λ kind. Some kind) (type_at room words)
+
+-- the statements of a function's block
+unfoldable pub block : ℕ → ℕ → List Lexeme → Reading (List Statement × Bool)
+block most room words = expect kinds.LeftBrace words >>= λ rest. listed (statement most room) statement_next Syntax (length rest) rest
+
+-- a function, with statements and types of parameters of at most so many levels
+unfoldable pub function : ℕ → ℕ → List Lexeme → Reading Top
+function most room words = do
+  first ← expect kinds.Func words
+  name ← plain_name first
+  open' ← expect kinds.LeftParenthesis name.1
+  parameters ← all_declared kinds.Comma kinds.RightParenthesis most room open'
+  kind ← result_type (suc room) parameters.1
+  body ← block most room kind.1
+  Ok (FunctionTop (record { name = name.0; parameters = parameters.0.0; trailing = parameters.0.1; result = kind.0; body = statements body.0.0 }), body.1)
+
+unfoldable pub top : ℕ → ℕ → List Lexeme → Reading Top
+top most room words = if begins_with kinds.TypeKeyword words then structure most room words else function most room words
+
 -- ---- files
 
--- a file to its function's first statement: the function's name
-unfoldable pub header : List Lexeme → Reading (List ℕ)
-header words = do
-  clause ← expect kinds.Package words
-  main ← expect_name (codes "main") clause
-  semicolon ← expect kinds.Semicolon main
-  func ← expect kinds.Func semicolon
-  name ← plain_name func
-  parameters ← expect kinds.LeftParenthesis name.1
-  close ← expect kinds.RightParenthesis parameters
-  brace ← expect kinds.LeftBrace close
-  Ok (name.0, brace)
+-- what follows a declaration: a semicolon, and then another one or the file's end
+abbrev pub more_tops : List Lexeme → Next × List Lexeme
+more_tops [] = (End false, [])
+more_tops (word ∷ rest) = (More, word ∷ rest)
 
-abbrev pub made : List ℕ → List Statement → File
-made name body = record {
-  tops = FunctionTop (record { name = name; parameters = []; trailing = false; result = None; body = statements body }) ∷ [];
-}
+unfoldable pub top_next : List Lexeme → Reading Next
+top_next words = expect kinds.Semicolon words >>= λ rest. Ok (more_tops rest)
 
--- nothing is left
-unfoldable pub ended : {A : Type 0} → A → List Lexeme → Result A Refusal
-ended x [] = Ok x
-ended x (word ∷ rest) = Err Syntax
+-- declarations to the file's end
+unfoldable pub tops : ℕ → ℕ → List Lexeme → Reading (List Top × Bool)
+tops most room [] = Ok (([], false), [])
+tops most room (word ∷ rest) = listed (top most room) top_next Syntax (length (word ∷ rest)) (word ∷ rest)
 
 -- a file with statements of at most so many levels, whose lists have at most so many entries
 unfoldable pub file : ℕ → ℕ → List Lexeme → Result File Refusal
 file most room words = do
-  name ← header words
-  body ← listed (statement most room) statement_next Syntax (length name.1) name.1
-  semicolon ← expect kinds.Semicolon body.1
-  ended (made name.0 body.0.0) semicolon
+  clause ← expect kinds.Package words
+  main ← expect_name (codes "main") clause
+  semicolon ← expect kinds.Semicolon main
+  all ← tops most room semicolon
+  Ok (record { tops = all.0.0 })

@@ -1,91 +1,96 @@
 //! Files.
 
-ghost use Rattle.std.specs.Prelude.{◌≡◌, ◌+◌, IfOk, vec_len};
-ghost use Rattle.syntax.specs.Measures.{size};
-ghost use Rattle.syntax.specs.View.{file_of};
+ghost use Rattle.std.specs.Prelude.{◌≡◌, ◌+◌, IfOk, map, sum_by, length, vec_len};
+ghost use Rattle.syntax.specs.Measures.{size, top_size};
+ghost use Rattle.syntax.specs.View.{file_of, top_of};
 ghost use Rattle.parser_base.specs.Cursor.{ahead};
-ghost use Rattle.parser_base.specs.Reading.{Gives};
-ghost use Rattle.parser.specs.Reading.{header, ended, file};
+ghost use Rattle.parser_base.specs.Reading.{Gives, Syntax, listed};
+ghost use Rattle.parser.specs.Reading.{top, top_next, tops, file};
 
-use crate::statement::statements;
+use crate::top::{STATEMENT_ROOM, top};
 use go_text::{Fault, Span};
 use parser_base::cursor::Cursor;
-use parser_base::expression::name_node;
-use parser_base::list::MAX_ENTRIES;
+use parser_base::list::{List, MAX_ENTRIES, Next};
 use scanner::Kind;
 use std::alloc::Global;
-use syntax::{FileNode, FunctionNode, TopNode};
+use syntax::{FileNode, TopNode};
 
-/// The most levels of a function's statements: above them stand the file, its function and the function's block.
-pub const STATEMENT_ROOM: u32 = 197;
-
-/// A file to its function's first statement.
-#[derive(Clone, Copy)]
-struct Heading<'a> {
-    /// The token `package`.
-    package: Span,
-    /// The token `func`.
-    func: Span,
-    /// The function's name.
-    name: &'a [u8],
-    /// The first brace.
-    brace: Span,
-    rest: Cursor<'a>,
+/// What follows a declaration, with the span of its semicolon.
+#[tactic(auto, unfolding(crate::specs::Reading::top_next))]
+fn top_next(cursor: Cursor<'_>) -> Result<(Next, Span, Cursor<'_>), Fault>
+    ensures { Gives (λ x. (x.0, ahead x.2)) result (top_next (ahead cursor.entry)) }
+{
+    let (last, rest) = cursor.expect(Kind::Semicolon)?;
+    let next = match rest.next() {
+        Some(_) => Next::More,
+        None => Next::End(false),
+    };
+    Ok((next, last, rest))
 }
 
-/// Reads a file to its function's first statement.
-#[tactic(auto, unfolding(crate::specs::Reading::header))]
-fn header(cursor: Cursor<'_>) -> Result<Heading<'_>, Fault>
-    ensures { Gives (λ x. (x.name.now, ahead x.rest)) result (header (ahead cursor.entry)) }
+/// At least one declaration, to the file's end.
+fn some_tops<'a>(
+    alloc: Global,
+    cursor: Cursor<'a>,
+    spans: &mut Vec<Span>,
+) -> Result<List<'a, TopNode>, Fault>
+    ensures tops { Gives (λ x. ((map top_of x.entries.items, x.trailing), ahead x.rest)) result (listed (top MAX_ENTRIES STATEMENT_ROOM) top_next Syntax (length (ahead cursor.entry)) (ahead cursor.entry)) }
+    ensures nodes { IfOk result (λ x. vec_len spans.new ≡ vec_len spans.old + sum_by top_size (map top_of x.entries.items)) }
 {
-    let (package, rest) = cursor.expect(Kind::Package)?;
-    let rest = rest.expect_name(b"main")?;
-    let (_, rest) = rest.expect(Kind::Semicolon)?;
-    let (func, rest) = rest.expect(Kind::Func)?;
-    let (name, _, rest) = rest.plain_name()?;
-    let (_, rest) = rest.expect(Kind::LeftParenthesis)?;
-    let (_, rest) = rest.expect(Kind::RightParenthesis)?;
-    let (brace, rest) = rest.expect(Kind::LeftBrace)?;
-    Ok(Heading {
-        package,
-        func,
-        name,
-        brace,
-        rest,
+    let mut entries = Vec::new(alloc);
+    let mut rest = cursor;
+    for _ in 0..cursor.len() {
+        let (one, behind) = top(alloc, rest, spans)?;
+        entries.push(one)?;
+        let (next, last, after) = top_next(behind)?;
+        match next {
+            Next::More => rest = after,
+            Next::End(trailing) => return Ok(List {
+                entries,
+                trailing,
+                last,
+                rest: after,
+            }),
+        }
+    }
+    Err(Fault::Syntax(rest.place()))
+}
+
+/// The declarations of a file behind the semicolon of its first line, which is `first`.
+#[tactic(auto, unfolding(crate::specs::Reading::tops))]
+fn tops<'a>(
+    alloc: Global,
+    first: Span,
+    cursor: Cursor<'a>,
+    spans: &mut Vec<Span>,
+) -> Result<List<'a, TopNode>, Fault>
+    ensures tops { Gives (λ x. ((map top_of x.entries.items, x.trailing), ahead x.rest)) result (tops MAX_ENTRIES STATEMENT_ROOM (ahead cursor.entry)) }
+    ensures nodes { IfOk result (λ x. vec_len spans.new ≡ vec_len spans.old + sum_by top_size (map top_of x.entries.items)) }
+{
+    if cursor.next().is_some() {
+        return some_tops(alloc, cursor, spans);
+    }
+    Ok(List {
+        entries: Vec::new(alloc),
+        trailing: false,
+        last: first,
+        rest: cursor,
     })
 }
 
 /// A whole file.
-#[tactic(auto, unfolding(crate::specs::Reading::file, crate::specs::Reading::ended))]
+#[tactic(auto, unfolding(crate::specs::Reading::file))]
 pub fn file(alloc: Global, cursor: Cursor<'_>, spans: &mut Vec<Span>) -> Result<FileNode, Fault>
     ensures file { Gives file_of result (file MAX_ENTRIES STATEMENT_ROOM (ahead cursor.entry)) }
     ensures nodes { IfOk result (λ f. vec_len spans.new ≡ vec_len spans.old + size (file_of f)) }
 {
-    let header = header(cursor)?;
-    let body = statements(alloc, STATEMENT_ROOM, header.rest, spans)?;
-    let (last, rest) = body.rest.expect(Kind::Semicolon)?;
-    let None = rest.next() else {
-        return Err(Fault::Syntax(rest.place()));
-    };
+    let (package, rest) = cursor.expect(Kind::Package)?;
+    let rest = rest.expect_name(b"main")?;
+    let (first, rest) = rest.expect(Kind::Semicolon)?;
+    let all = tops(alloc, first, rest, spans)?;
     spans.push(Span {
-        from: header.brace.from,
-        to: body.last.to,
+        from: package.from,
+        to: all.last.to,
     })?;
-    spans.push(Span {
-        from: header.func.from,
-        to: body.last.to,
-    })?;
-    spans.push(Span {
-        from: header.package.from,
-        to: last.to,
-    })?;
-    let function = FunctionNode {
-        name: name_node(alloc, header.name)?,
-        parameters: Vec::new(alloc),
-        trailing: false,
-        result: None,
-        body: body.entries,
-    };
-    let tops = Vec::from_array(alloc, [TopNode::Function(function)])?;
-    Ok(FileNode { tops })
+    Ok(FileNode { tops: all.entries })
 }

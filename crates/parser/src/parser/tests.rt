@@ -102,8 +102,6 @@ fn refuses_headers_at_the_first_wrong_token(rt: HostRuntime) -> Result<(), Fail>
         ("package", 7),
         ("package 1", 8),
         ("package foo;", 8),
-        ("package main", 12),
-        ("package main;", 13),
         ("package main func f(){}", 13),
         ("package main;;func f(){}", 13),
         ("package main;main", 13),
@@ -119,14 +117,12 @@ fn refuses_headers_at_the_first_wrong_token(rt: HostRuntime) -> Result<(), Fail>
         ("package main;func f", 19),
         ("package main;func f{}", 19),
         ("package main;func f(", 20),
-        ("package main;func f(x){}", 20),
+        ("package main;func f(x){}", 21),
         ("package main;func f()", 21),
-        ("package main;func f() int{}", 22),
         ("package main\nfunc f()\n{}", 21),
         ("package main;func f(){", 22),
         ("package main;func f(){}{", 23),
         ("package main;func f(){} func g(){}", 24),
-        ("package main;func f(){}\nfunc g(){}", 24),
         ("package main;func f(){};;", 24),
     ] {
         assert_eq!(rt;
@@ -146,9 +142,148 @@ fn takes_whole_files(rt: HostRuntime) -> Result<(), Fail> {
         "package main\nfunc f() {\n}\n\n",
         "package main;func nil(){}",
         "package main; func main() { println(1 + 2, (3), -4,); ; println(5) }",
+        "package main",
+        "package main;func f(){};func g(){}",
+        "package main\nfunc f() {\n}\nfunc g() {\n}\n",
+        "package main;func f(x int){}",
+        "package main;func f(x int,){}",
+        "package main;func f(x, y int, z chan bool,){}",
+        "package main;func f(x,\ny int){}",
+        "package main;func f() int{}",
+        "package main;func f() (int){}",
+        "package main;func f() chan<- (chan int){}",
+        "package main;func f(nil T) nil{}",
+        "package main;type T struct{}",
+        "package main;type T struct{a int}",
+        "package main;type T struct{a int;}",
+        "package main;type T struct{a, b int; c chan T}",
+        "package main\ntype T struct {\n a int\n b, c <-chan T\n}\nfunc f() {}",
     ] {
         assert_eq!(rt; outcome_of(rt.alloc(), text), Outcome::Tree, "{text}");
     }
+    Ok(())
+}
+
+#[test]
+fn refuses_declarations_at_the_first_wrong_token(rt: HostRuntime) -> Result<(), Fail> {
+    for (text, offset) in [
+        ("package main;func f(x", 21),
+        ("package main;func f(x int", 25),
+        ("package main;func f(,){}", 20),
+        ("package main;func f(x int,,){}", 26),
+        ("package main;func f(x int y int){}", 26),
+        ("package main;func f(x, int){}", 26),
+        ("package main;func f(x,){}", 22),
+        ("package main;func f(x len){}", 22),
+        ("package main;func f(len int){}", 20),
+        ("package main;func f(x int;y int){}", 25),
+        ("package main;func f(x []int){}", 22),
+        ("package main;func f(x chan){}", 26),
+        ("package main;func f(x <-int){}", 24),
+        ("package main;func f(x (int){}", 27),
+        ("package main;func f(x int\n){}", 25),
+        ("package main;func f() (int, bool){}", 26),
+        ("package main;func f() (){}", 23),
+        ("package main;func f() len{}", 22),
+        ("package main;func f() int", 25),
+        ("package main;func f() int;{}", 25),
+        ("package main;func f() {} int", 25),
+        ("package main;type", 17),
+        ("package main;type T", 19),
+        ("package main;type T int", 20),
+        ("package main;type len struct{}", 18),
+        ("package main;type T = struct{}", 20),
+        ("package main;type T struct", 26),
+        ("package main;type T struct{", 27),
+        ("package main;type T struct{;}", 27),
+        ("package main;type T struct{a}", 28),
+        ("package main;type T struct{a,}", 29),
+        ("package main;type T struct{a int,}", 32),
+        ("package main;type T struct{a int b int}", 33),
+        ("package main;type T struct{a int;;}", 33),
+        ("package main;type T struct{a int", 32),
+        ("package main;type T struct{a int} int", 34),
+        ("package main;type (T struct{})", 18),
+        ("package main;var x int", 13),
+        ("package main;const x = 1", 13),
+        ("package main;import \"a\"", 13),
+    ] {
+        assert_eq!(rt;
+            outcome_of(rt.alloc(), text),
+            Outcome::Syntax(offset),
+            "{text}"
+        );
+    }
+    Ok(())
+}
+
+#[test]
+fn limits_names_of_parameters(rt: HostRuntime) -> Result<(), Fail> {
+    let alloc = rt.alloc();
+    for (last, wanted) in [
+        (" int){}", Outcome::Tree),
+        (" int,){}", Outcome::Tree),
+        (",b int){}", Outcome::Entries(148)),
+        (" int, b int){}", Outcome::Entries(153)),
+        (" int, 1){}", Outcome::Syntax(153)),
+    ] {
+        let text = repeated(alloc, "package main;func f(a", ",a", 63, last)?;
+        assert_eq!(rt; outcome_of(alloc, &text), wanted, "64 names and {last}");
+    }
+    for (last, wanted) in [
+        ("}", Outcome::Tree),
+        ("a int}", Outcome::Entries(539)),
+        ("a, b int}", Outcome::Entries(539)),
+    ] {
+        let text = repeated(alloc, "package main;type T struct{", "a int;  ", 64, last)?;
+        assert_eq!(rt; outcome_of(alloc, &text), wanted, "64 fields and {last}");
+    }
+    Ok(())
+}
+
+#[test]
+fn limits_heights_of_types(rt: HostRuntime) -> Result<(), Fail> {
+    let alloc = rt.alloc();
+    for (count, wanted) in [(196, Outcome::Tree), (197, Outcome::TooDeep(218))] {
+        let closing = repeated(alloc, "int", ")", count, "){}")?;
+        let text = repeated(alloc, "package main;func f(x ", "(", count, &closing)?;
+        assert_eq!(rt; outcome_of(alloc, &text), wanted, "{count} parentheses");
+    }
+    for (count, wanted) in [(197, Outcome::Tree), (198, Outcome::TooDeep(219))] {
+        let closing = repeated(alloc, "int", ")", count, "{}")?;
+        let text = repeated(alloc, "package main;func f() ", "(", count, &closing)?;
+        assert_eq!(rt; outcome_of(alloc, &text), wanted, "{count} parentheses");
+    }
+    Ok(())
+}
+
+#[test]
+fn numbers_declarations_in_postorder(rt: HostRuntime) -> Result<(), Fail> {
+    let tree = tree_of(
+        rt.alloc(),
+        "package main;func f(a, b int, c chan int) bool{};type T struct{d int}",
+    )?;
+    let mut node = 0;
+    for (from, to) in [
+        (25, 28),
+        (20, 28),
+        (37, 40),
+        (32, 40),
+        (30, 40),
+        (42, 46),
+        (47, 47),
+        (46, 48),
+        (13, 48),
+        (65, 68),
+        (63, 68),
+        (49, 69),
+        (0, 69),
+    ] {
+        assert!(rt; node < tree.count());
+        assert_eq!(rt; tree.span(node), Span { from, to }, "{node}");
+        node += 1;
+    }
+    assert_eq!(rt; node, tree.count());
     Ok(())
 }
 

@@ -1,0 +1,14 @@
+use Rattle.std.proofs.Common.{◌≡◌, ◌-◌, ◌+◌, map, length, sum_by, vec_len}
+use Rattle.syntax.specs.Measures.{top_size}
+use Rattle.syntax.specs.View.{top_of}
+use Rattle.parser_base.specs.Cursor.{ahead}
+use Rattle.parser_base.specs.Reading.{Syntax, listed}
+use Rattle.parser.specs.Reading.{top, top_next}
+use Rattle.parser_base.proofs.Lists.{with_front}
+use Rattle.parser.proofs.file.some_tops.Given as goal
+
+abbrev pub invariant-loop : goal.invariant-loop
+invariant-loop l = record {
+  total : with_front (map top_of l.entries.items) (listed (top 64 197) top_next Syntax (length (ahead l.fn.cursor) - l.counter) (ahead l.rest)) ≡ listed (top 64 197) top_next Syntax (length (ahead l.fn.cursor)) (ahead l.fn.cursor);
+  nodes : vec_len l.spans ≡ vec_len l.fn.spans + sum_by top_size (map top_of l.entries.items);
+}

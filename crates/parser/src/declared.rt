@@ -1,0 +1,141 @@
+//! Fields of struct types, and parameters of functions.
+
+ghost use Rattle.std.specs.Prelude.{◌≡◌, ◌+◌, IfOk, map, sum_by, vec_len};
+ghost use Rattle.scanner.specs.declared.kind.Kind.{Kind};
+ghost use Rattle.syntax.specs.Measures.{declared_size};
+ghost use Rattle.syntax.specs.View.{declared_of};
+ghost use Rattle.parser_base.specs.Cursor.{ahead};
+ghost use Rattle.parser_base.specs.Reading.{Gives, entry_next};
+ghost use Rattle.parser.specs.Reading.{begins_name, declared, some_declared, all_declared};
+
+use go_text::{Fault, LimitKind, Span};
+use parser_base::cursor::{Cursor, Word, is_builtin};
+use parser_base::expression::closed;
+use parser_base::list::{List, MAX_ENTRIES, Next};
+use parser_base::types::type_at;
+use parser_simple::place::names;
+use scanner::Kind;
+use std::alloc::Global;
+use syntax::DeclaredNode;
+
+/// Whether fields or parameters can begin here.
+#[tactic(auto, unfolding(crate::specs::Reading::begins_name))]
+fn begins_name(cursor: Cursor<'_>) -> bool
+    ensures { result ≡ begins_name (ahead cursor.entry) }
+{
+    match cursor.next() {
+        Some((Word::Name(name), _, _)) => !is_builtin(name),
+        _ => false,
+    }
+}
+
+/// What follows the type of fields or parameters, with the span of its last token.
+#[tactic(auto, unfolding(parser_base::specs::Reading::entry_next))]
+fn declared_next(
+    separator: Kind,
+    close: Kind,
+    cursor: Cursor<'_>,
+) -> Result<(Next, Span, Cursor<'_>), Fault>
+    ensures { Gives (λ x. (x.0, ahead x.2)) result (entry_next separator begins_name close (ahead cursor.entry)) }
+{
+    let Some((Word::Mark(kind), span, rest)) = cursor.next() else {
+        return Err(Fault::Syntax(cursor.place()));
+    };
+    if kind == separator {
+        return match begins_name(rest) {
+            true => Ok((Next::More, span, rest)),
+            false => closed(close, true, rest),
+        };
+    }
+    closed(close, false, cursor)
+}
+
+/// At most so many names and their type, of at most so many levels.
+#[tactic(auto, unfolding(crate::specs::Reading::declared))]
+fn declared<'a>(
+    alloc: Global,
+    most: usize,
+    room: u32,
+    cursor: Cursor<'a>,
+    spans: &mut Vec<Span>,
+) -> Result<(DeclaredNode, Cursor<'a>), Fault>
+    ensures declared { Gives (λ x. (declared_of x.0, ahead x.1)) result (declared most room (ahead cursor.entry)) }
+    ensures nodes { IfOk result (λ x. vec_len spans.new ≡ vec_len spans.old + declared_size (declared_of x.0)) }
+{
+    let from = cursor.place().span.from;
+    let all = names(alloc, Kind::Comma, most, cursor)?;
+    let found = type_at(alloc, room, all.rest, spans)?;
+    spans.push(Span {
+        from,
+        to: found.span.to,
+    })?;
+    Ok((
+        DeclaredNode {
+            names: all.entries,
+            kind: found.kind,
+        },
+        found.rest,
+    ))
+}
+
+/// At least one field or parameter, to the closing mark.
+fn some_declared<'a>(
+    alloc: Global,
+    separator: Kind,
+    close: Kind,
+    room: u32,
+    cursor: Cursor<'a>,
+    spans: &mut Vec<Span>,
+) -> Result<List<'a, DeclaredNode>, Fault>
+    ensures declared { Gives (λ x. ((map declared_of x.entries.items, x.trailing), ahead x.rest)) result (some_declared separator close room MAX_ENTRIES MAX_ENTRIES (ahead cursor.entry)) }
+    ensures nodes { IfOk result (λ x. vec_len spans.new ≡ vec_len spans.old + sum_by declared_size (map declared_of x.entries.items)) }
+{
+    let mut entries = Vec::new(alloc);
+    let mut rest = cursor;
+    let mut left = MAX_ENTRIES as usize;
+    for _ in 0..MAX_ENTRIES {
+        let (one, behind) = declared(alloc, left, room, rest, spans)?;
+        left = left.saturating_sub(one.names.len());
+        entries.push(one)?;
+        let (next, last, after) = declared_next(separator, close, behind)?;
+        match next {
+            Next::More => rest = after,
+            Next::End(trailing) => return Ok(List {
+                entries,
+                trailing,
+                last,
+                rest: after,
+            }),
+        }
+    }
+    Err(Fault::Limit {
+        kind: LimitKind::ListEntries,
+        node: None,
+        place: rest.place(),
+    })
+}
+
+/// Fields or parameters to the closing mark, behind the opening one; their types have at most so many levels.
+#[tactic(auto, unfolding(crate::specs::Reading::all_declared))]
+pub fn all_declared<'a>(
+    alloc: Global,
+    separator: Kind,
+    close: Kind,
+    room: u32,
+    cursor: Cursor<'a>,
+    spans: &mut Vec<Span>,
+) -> Result<List<'a, DeclaredNode>, Fault>
+    ensures declared { Gives (λ x. ((map declared_of x.entries.items, x.trailing), ahead x.rest)) result (all_declared separator close MAX_ENTRIES room (ahead cursor.entry)) }
+    ensures nodes { IfOk result (λ x. vec_len spans.new ≡ vec_len spans.old + sum_by declared_size (map declared_of x.entries.items)) }
+{
+    if begins_name(cursor) {
+        return some_declared(alloc, separator, close, room, cursor, spans);
+    }
+    let (last, rest) = cursor.expect(close)?;
+    Ok(List {
+        entries: Vec::new(alloc),
+        trailing: false,
+        last,
+        rest,
+    })
+}

@@ -1,0 +1,152 @@
+//! Declarations.
+
+ghost use Rattle.std.specs.Prelude.{◌≡◌, ◌+◌, ◌^◌, ◌<◌, IfOk, option_map, map, vec_len};
+ghost use Rattle.syntax.specs.Measures.{type_size, if_any, block_size, top_size};
+ghost use Rattle.syntax.specs.Tree.{statements};
+ghost use Rattle.syntax.specs.View.{statement_of, type_of, top_of};
+ghost use Rattle.parser_base.specs.Cursor.{ahead};
+ghost use Rattle.parser_base.specs.Reading.{Gives};
+ghost use Rattle.parser.specs.Reading.{structure, result_type, block, function, top};
+
+use crate::declared::all_declared;
+use crate::statement::statements;
+use go_text::{Fault, Span};
+use parser_base::cursor::Cursor;
+use parser_base::list::{List, MAX_ENTRIES};
+use parser_base::types::type_at;
+use parser_simple::form::begins_with;
+use parser_simple::place::name_at;
+use scanner::Kind;
+use std::alloc::Global;
+use syntax::{FunctionNode, StatementNode, StructNode, TopNode, TypeNode};
+
+/// The most levels of a function's statements: above them stand the file, its function and the function's block.
+pub const STATEMENT_ROOM: u32 = 197;
+
+/// A declaration of a struct type.
+#[tactic(auto, unfolding(crate::specs::Reading::structure))]
+fn structure<'a>(
+    alloc: Global,
+    cursor: Cursor<'a>,
+    spans: &mut Vec<Span>,
+) -> Result<(TopNode, Cursor<'a>), Fault>
+    ensures top { Gives (λ x. (top_of x.0, ahead x.1)) result (structure MAX_ENTRIES STATEMENT_ROOM (ahead cursor.entry)) }
+    ensures nodes { IfOk result (λ x. vec_len spans.new ≡ vec_len spans.old + top_size (top_of x.0)) }
+{
+    let (first, rest) = cursor.expect(Kind::TypeKeyword)?;
+    let (name, _, rest) = name_at(alloc, rest)?;
+    let (_, rest) = rest.expect(Kind::Struct)?;
+    let (_, rest) = rest.expect(Kind::LeftBrace)?;
+    let fields = all_declared(
+        alloc,
+        Kind::Semicolon,
+        Kind::RightBrace,
+        STATEMENT_ROOM,
+        rest,
+        spans,
+    )?;
+    spans.push(Span {
+        from: first.from,
+        to: fields.last.to,
+    })?;
+    Ok((
+        TopNode::Struct(StructNode {
+            name,
+            fields: fields.entries,
+            trailing: fields.trailing,
+        }),
+        fields.rest,
+    ))
+}
+
+/// The type of a function's result, if there is one before its block.
+#[tactic(auto, unfolding(crate::specs::Reading::result_type))]
+fn result_type<'a>(
+    alloc: Global,
+    cursor: Cursor<'a>,
+    spans: &mut Vec<Span>,
+) -> Result<(Option<TypeNode>, Cursor<'a>), Fault>
+    ensures kind { Gives (λ x. (option_map type_of x.0, ahead x.1)) result (result_type (STATEMENT_ROOM + 1) (ahead cursor.entry)) }
+    ensures nodes { IfOk result (λ x. vec_len spans.new ≡ vec_len spans.old + if_any type_size (option_map type_of x.0)) }
+{
+    if begins_with(Kind::LeftBrace, cursor) {
+        return Ok((None, cursor));
+    }
+    let found = type_at(alloc, STATEMENT_ROOM + 1, cursor, spans)?;
+    Ok((Some(found.kind), found.rest))
+}
+
+/// The statements of a function's block.
+#[tactic(auto, unfolding(crate::specs::Reading::block))]
+fn block<'a>(
+    alloc: Global,
+    cursor: Cursor<'a>,
+    spans: &mut Vec<Span>,
+) -> Result<List<'a, StatementNode>, Fault>
+    ensures block { Gives (λ x. ((map statement_of x.entries.items, x.trailing), ahead x.rest)) result (block MAX_ENTRIES STATEMENT_ROOM (ahead cursor.entry)) }
+    ensures nodes { IfOk result (λ x. vec_len spans.new ≡ vec_len spans.old + block_size (statements (map statement_of x.entries.items))) }
+{
+    let (brace, rest) = cursor.expect(Kind::LeftBrace)?;
+    let body = statements(alloc, STATEMENT_ROOM, rest, spans)?;
+    spans.push(Span {
+        from: brace.from,
+        to: body.last.to,
+    })?;
+    Ok(body)
+}
+
+/// A declaration of a function.
+#[tactic(auto, unfolding(crate::specs::Reading::function))]
+fn function<'a>(
+    alloc: Global,
+    cursor: Cursor<'a>,
+    spans: &mut Vec<Span>,
+) -> Result<(TopNode, Cursor<'a>), Fault>
+    ensures top { Gives (λ x. (top_of x.0, ahead x.1)) result (function MAX_ENTRIES STATEMENT_ROOM (ahead cursor.entry)) }
+    ensures nodes { IfOk result (λ x. vec_len spans.new ≡ vec_len spans.old + top_size (top_of x.0)) }
+{
+    let (first, rest) = cursor.expect(Kind::Func)?;
+    let (name, _, rest) = name_at(alloc, rest)?;
+    let (_, rest) = rest.expect(Kind::LeftParenthesis)?;
+    let parameters = all_declared(
+        alloc,
+        Kind::Comma,
+        Kind::RightParenthesis,
+        STATEMENT_ROOM,
+        rest,
+        spans,
+    )?;
+    let (kind, rest) = result_type(alloc, parameters.rest, spans)?;
+    let body = block(alloc, rest, spans)?;
+    spans.push(Span {
+        from: first.from,
+        to: body.last.to,
+    })?;
+    Ok((
+        TopNode::Function(FunctionNode {
+            name,
+            parameters: parameters.entries,
+            trailing: parameters.trailing,
+            result: kind,
+            body: body.entries,
+        }),
+        body.rest,
+    ))
+}
+
+/// A declaration of a struct type or a function.
+#[tactic(auto, unfolding(crate::specs::Reading::top))]
+pub fn top<'a>(
+    alloc: Global,
+    cursor: Cursor<'a>,
+    spans: &mut Vec<Span>,
+) -> Result<(TopNode, Cursor<'a>), Fault>
+    ensures top { Gives (λ x. (top_of x.0, ahead x.1)) result (top MAX_ENTRIES STATEMENT_ROOM (ahead cursor.entry)) }
+    ensures nodes { IfOk result (λ x. vec_len spans.new ≡ vec_len spans.old + top_size (top_of x.0)) }
+{
+    if begins_with(Kind::TypeKeyword, cursor) {
+        structure(alloc, cursor, spans)
+    } else {
+        function(alloc, cursor, spans)
+    }
+}
