@@ -152,11 +152,16 @@ fn files(rt: HostRuntime) -> Result<(), Fail> {
         (b"\xff".as_slice(), "kendo: 2 NotUtf8\n", 1),
         (b"\xce\xb1".as_slice(), "kendo: 7 Syntax at 1:1\n", 1),
         (b"\xc2\xb1".as_slice(), "kendo: 3 BadCharacter at 1:1\n", 1),
-        (b"package main\n".as_slice(), "kendo: 7 Syntax at 2:1\n", 1),
+        (b"package main\n".as_slice(), unmain, 1),
         (b"package main\nfunc main() {}\n".as_slice(), "", 0),
         (
             b"package main\nfunc main() {}\nfunc f() {}".as_slice(),
-            "kendo: 7 Syntax at 3:1\n",
+            "",
+            0,
+        ),
+        (
+            b"package main\nfunc main() {}\nfunc main() {}".as_slice(),
+            "kendo: 9 Type rule 2 at 3:1\n",
             1,
         ),
         (b"package main; func other() {}".as_slice(), unmain, 1),
@@ -382,3 +387,5 @@ fn events_are_settled(rt: HostRuntime) -> Result<(), Fail> {
     }
     Ok(())
 }
+
+mod meeting;
