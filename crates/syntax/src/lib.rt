@@ -2,6 +2,7 @@
 #![tactic(auto)]
 
 pub mod node;
+pub mod size;
 pub mod tree;
 
 pub use node::{
