@@ -55,7 +55,7 @@ fn values_size(values: &[ExpressionNode]) -> u32
 }
 
 /// How many nodes arguments have.
-pub fn arguments_size(values: &[ExpressionNode]) -> u32
+fn arguments_size(values: &[ExpressionNode]) -> u32
     requires { sum_by expression_size (map expression_of values.now) < 2 ^ 32 }
     ensures { result ≡ sum_by expression_size (map expression_of values.now) }
 {
@@ -114,7 +114,7 @@ fn part_size(part: &PartNode) -> u32
 }
 
 /// How many nodes the arguments of a print have.
-pub fn parts_size(parts: &[PartNode]) -> u32
+fn parts_size(parts: &[PartNode]) -> u32
     requires { sum_by part_size (map part_of parts.now) < 2 ^ 32 }
     ensures { result ≡ sum_by part_size (map part_of parts.now) }
 {
@@ -126,7 +126,7 @@ pub fn parts_size(parts: &[PartNode]) -> u32
 }
 
 /// How many nodes a simple statement has.
-pub fn simple_size(simple: &SimpleNode) -> u32
+fn simple_size(simple: &SimpleNode) -> u32
     requires { simple_size (simple_of simple.now) < 2 ^ 32 }
     ensures { result ≡ simple_size (simple_of simple.now) }
 {
@@ -311,18 +311,6 @@ fn clause_size(clause: &ClauseNode) -> u32
         Some(comm) => comm_size(comm),
     };
     waits + body_size(clause.body.as_slice()) + 1
-}
-
-/// How many nodes the statements of a function have.
-pub fn statements_size(statements: &[StatementNode]) -> u32
-    requires { sum_by statement_size (map statement_of statements.now) < 2 ^ 32 }
-    ensures { result ≡ sum_by statement_size (map statement_of statements.now) }
-{
-    let mut size = 0;
-    for statement in statements {
-        size += statement_size(statement);
-    }
-    size
 }
 
 /// How many nodes fields or parameters have.
