@@ -9,7 +9,7 @@ ghost use Rattle.checker.specs.Actions.{origin_of, action_of, target_size, origi
 ghost use Rattle.checker.specs.Built.{are_all, is_built_part, is_built_origin, is_built_action, is_built_statement, is_built_parameter, is_built_function, is_built_top, IsBuilt};
 
 use crate::action::{Action, Origin, Target, action_in};
-use crate::size::{expression_size, type_size};
+use syntax::size::{expression_size, function_size, statement_size, top_size, type_size};
 use checker_base::types::is_built_type;
 use syntax::{
     BinaryOperator, DeclaredNode, ExpressionNode, FileNode, FunctionNode, NodeId, PartNode,
@@ -170,7 +170,7 @@ fn act(first: NodeId, action: &Action<'_>) -> Result<NodeId, NodeId>
 
 /// The number behind a statement whose nodes have numbers from `first` on.
 ///
-/// Errors: the first node by its first byte that is not built yet; of a statement that is not, the first node in it.
+/// Errors: the first node by its first byte that is not built yet.
 #[tactic(auto, using(crate::proofs::Sizes::action_size_is, crate::proofs::Sizes::statement_positive))]
 fn statement(first: NodeId, statement: &StatementNode) -> Result<NodeId, NodeId>
     requires { first + statement_size (statement_of statement.now) < 2 ^ 32 }
@@ -184,7 +184,7 @@ fn statement(first: NodeId, statement: &StatementNode) -> Result<NodeId, NodeId>
             let end = act(first, &action)?;
             Ok(end)
         }
-        None => Err(first),
+        None => Err(first + statement_size(statement) - 1),
     }
 }
 
@@ -225,7 +225,7 @@ fn parameters(first: NodeId, declared: &[DeclaredNode]) -> Result<NodeId, NodeId
 
 /// The number behind a function whose nodes have numbers from `first` on.
 ///
-/// Errors: the first node by its first byte that is not built yet; of a function with a result, the first node in it.
+/// Errors: the first node by its first byte that is not built yet, which is the function where it has a result.
 fn function(first: NodeId, function: &FunctionNode) -> Result<NodeId, NodeId>
     requires { first + function_size (function_of function.now) < 2 ^ 32 }
     ensures built { IfOk result (λ end. IsTrue (is_built_function (function_of function.now))) }
@@ -233,17 +233,17 @@ fn function(first: NodeId, function: &FunctionNode) -> Result<NodeId, NodeId>
     ensures other { IfErr result (λ node. ¬ (IsTrue (is_built_function (function_of function.now)))) }
     ensures node { IfErr result (λ node. node < first + function_size (function_of function.now)) }
 {
-    let middle = parameters(first, function.parameters.as_slice())?;
     if function.result.is_some() {
-        return Err(first);
+        return Err(first + function_size(function) - 1);
     }
+    let middle = parameters(first, function.parameters.as_slice())?;
     let last = statements(middle, function.body.as_slice())?;
     Ok(last + 2)
 }
 
 /// The number behind a declaration whose nodes have numbers from `first` on.
 ///
-/// Errors: the first node by its first byte that is not built yet; of a type's declaration, the first node in it.
+/// Errors: the first node by its first byte that is not built yet, which is a type's whole declaration.
 fn top(first: NodeId, top: &TopNode) -> Result<NodeId, NodeId>
     requires { first + top_size (top_of top.now) < 2 ^ 32 }
     ensures built { IfOk result (λ end. IsTrue (is_built_top (top_of top.now))) }
@@ -253,7 +253,7 @@ fn top(first: NodeId, top: &TopNode) -> Result<NodeId, NodeId>
 {
     match top {
         TopNode::Function(one) => function(first, one),
-        TopNode::Struct(_) => Err(first),
+        TopNode::Struct(_) => Err(first + top_size(top) - 1),
     }
 }
 

@@ -12,7 +12,7 @@ ghost use Rattle.checker.specs.Rules.{is_taken, NamesHave, with_names, Parameter
 
 use crate::refusal::Refusal;
 use crate::signature::{FunctionType, function_of_name};
-use crate::size::{function_size, type_size};
+use syntax::size::{function_size, type_size};
 use crate::statement::declare;
 use checker_base::flaw::Flaw;
 use checker_base::scope::{Entry, is_blank, is_reserved, place_of};

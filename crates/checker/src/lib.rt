@@ -9,7 +9,6 @@ mod header;
 mod refusal;
 mod set;
 mod signature;
-mod size;
 mod statement;
 #[cfg(test)]
 mod tests;

@@ -13,7 +13,7 @@ ghost use Rattle.checker.specs.Built.{is_built_origin};
 ghost use Rattle.checker.specs.Rules.{OriginHas, origin_worth, is_new, DeclaresHas, AssignsHas, default_type};
 
 use crate::action::Origin;
-use crate::size::type_size;
+use syntax::size::type_size;
 use crate::value::{channel, default_type, value};
 use checker_base::flaw::Flaw;
 use checker_base::operand::{Operand, checked};

@@ -30,7 +30,10 @@ use Rattle.syntax.specs.declared.node.ReturnNode.{ReturnNode}
 use Rattle.syntax.specs.declared.node.ReturnNode.TheVariants as returns
 use Rattle.syntax.specs.declared.node.StatementNode.{StatementNode}
 use Rattle.syntax.specs.declared.node.ElseNode.TheOpen as open_statements
-use Rattle.syntax.specs.declared.node.ElseNode.TheFolds.{fold-StatementNode}
+use Rattle.syntax.specs.declared.node.ElseNode.TheFolds.{fold-StatementNode, fold-IfNode, fold-ElseNode, fold-ClauseNode}
+use Rattle.syntax.specs.declared.node.IfNode.{IfNode}
+use Rattle.syntax.specs.declared.node.ElseNode.{ElseNode}
+use Rattle.syntax.specs.declared.node.ClauseNode.{ClauseNode}
 use Rattle.syntax.specs.declared.node.DeclaredNode.{DeclaredNode}
 use Rattle.syntax.specs.declared.node.StructNode.{StructNode}
 use Rattle.syntax.specs.declared.node.FunctionNode.{FunctionNode}
@@ -165,6 +168,15 @@ branch_layer branch = Conditional (if_head_of branch.header) (expression_of bran
 
 abbrev pub statement_of : StatementNode → Statement
 statement_of = fold-StatementNode Otherwise Statement OneClause Branch else_layer statement_layer clause_layer branch_layer
+
+abbrev pub branch_of : IfNode → Branch
+branch_of = fold-IfNode Otherwise Statement OneClause Branch else_layer statement_layer clause_layer branch_layer
+
+abbrev pub otherwise_of : ElseNode → Otherwise
+otherwise_of = fold-ElseNode Otherwise Statement OneClause Branch else_layer statement_layer clause_layer branch_layer
+
+abbrev pub clause_of : ClauseNode → OneClause
+clause_of = fold-ClauseNode Otherwise Statement OneClause Branch else_layer statement_layer clause_layer branch_layer
 
 -- the statements of a block
 abbrev pub body_of : List StatementNode → Statements

@@ -12,8 +12,8 @@ pub statements-requires : goal.statements-requires
 statements-requires c =
     omega (arith, function_size_of c.args.function.now, c.requires, c.in_ok-middle.ensures.end, ap (λ (xs : List DeclaredNode). sum_by declared_size (map declared_of xs)) c.as_slice.ensures.value, ap (λ (xs : List StatementNode). sum_by statement_size (map statement_of xs)) c.as_slice-2.ensures.value)
 
-pub overflow_add-result : goal.overflow_add-result
-overflow_add-result c =
+pub overflow_add-result-2 : goal.overflow_add-result-2
+overflow_add-result-2 c =
     omega (arith, function_size_of c.args.function.now, c.requires, c.in_ok-middle.ensures.end, c.in_ok-last.ensures.end, ap (λ (xs : List DeclaredNode). sum_by declared_size (map declared_of xs)) c.as_slice.ensures.value, ap (λ (xs : List StatementNode). sum_by statement_size (map statement_of xs)) c.as_slice-2.ensures.value)
 
 pub returns-clause-end : goal.returns-clause-end
