@@ -1,4 +1,3 @@
-pub mod StatementLaws
 pub mod DeclaredLists
 pub mod DeclaredLaws
 pub mod TopLaws

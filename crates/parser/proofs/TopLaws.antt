@@ -15,10 +15,12 @@ use Rattle.parser_base.proofs.Steps.{then_again, made_again, gave, made_is, eith
 use Rattle.parser_base.proofs.TypeLaws.{TypeOutcome, Found as TypeFound, High as TypeHigh, type_again, type_sound}
 use Rattle.parser_base.proofs.ExpressionAgain.{entries-le}
 use Rattle.parser_simple.specs.Reading.{as_one, begins_with}
-use Rattle.parser.specs.Spelling.{statement_words, IsStatement, declared_words, struct_words, IsStruct, result_words, IsResult, block_words, function_words, IsFunction, top_words, IsTop}
-use Rattle.parser.specs.Reading.{statement, statement_next, all_declared, structure, result_type, block, function, top}
-use Rattle.parser.proofs.Sizes.{statement_longer, separated_longer}
-use Rattle.parser.proofs.StatementLaws.{Ends, statements, statement_again, statements_separate, statements_sound}
+use Rattle.parser_statement.specs.Spelling.{statement_words, IsStatement}
+use Rattle.parser_statement.specs.Reading.{statement, statement_next}
+use Rattle.parser.specs.Spelling.{declared_words, struct_words, IsStruct, result_words, IsResult, block_words, function_words, IsFunction, top_words, IsTop}
+use Rattle.parser.specs.Reading.{all_declared, structure, result_type, block, function, top}
+use Rattle.parser_statement.proofs.Sizes.{statement_longer, separated_longer}
+use Rattle.parser_statement.proofs.StatementLaws.{Ends, statements, statement_again, statements_separate, statements_sound}
 use Rattle.parser.proofs.DeclaredLaws.{type_begins, count_of, all_again as declared_again, all_sound as declared_sound}
 
 -- ---- what is spelt is read

@@ -2,7 +2,7 @@
 use Rattle.std.specs.Prelude.{◌≡◌, ℕ, zero, suc, ◌+◌, ◌-◌, Bool, true, false, ◌||◌, Option, Some, None, List, [], ◌∷◌, Result, Ok, Err, if◌then◌else◌, length, codes}
 use Rattle.scanner.specs.declared.kind.Kind.{Kind}
 use Rattle.scanner.specs.declared.kind.Kind.TheVariants as kinds
-use Rattle.syntax.specs.Tree.{TypeExpression, Statement, Empty, Alone, statements, Declared, Struct, Function, Top, StructTop, FunctionTop, File}
+use Rattle.syntax.specs.Tree.{TypeExpression, Statement, statements, Declared, Struct, Function, Top, StructTop, FunctionTop, File}
 use Rattle.syntax.specs.Measures.{Entries}
 use Rattle.parser_base.specs.declared.list.Next.{Next}
 use Rattle.parser_base.specs.declared.list.Next.TheVariants.{More, End}
@@ -10,23 +10,8 @@ use Rattle.parser_base.specs.Lexemes.{Lexeme, Literal, Name, Text, Mark}
 use Rattle.parser_base.specs.Spelling.{is_builtin}
 use Rattle.parser_base.specs.Reading.{Refusal, Syntax, TooDeep, TooMany, Reading, ◌>>=◌, is_kind, expect, expect_name, plain_name, listed, followed, entry_next}
 use Rattle.parser_base.specs.TypeReading.{type_at}
-use Rattle.parser_simple.specs.Reading.{as_one, begins_with, names, simple}
-
--- ---- statements
-
--- a statement of at most so many levels, whose lists have at most so many entries
-unfoldable pub statement : ℕ → ℕ → List Lexeme → Reading Statement
-statement most zero words = Err TooDeep
-statement most (suc room) (Mark kind ∷ rest) =
-    if is_kind kind kinds.Semicolon || is_kind kind kinds.RightBrace then Ok (Empty, Mark kind ∷ rest) else as_one Alone (simple true true most room (Mark kind ∷ rest))
-statement most (suc room) words = as_one Alone (simple true true most room words)
-
--- what follows a statement
-unfoldable pub statement_next : List Lexeme → Reading Next
-statement_next (Mark kind ∷ rest) =
-    if is_kind kind kinds.Semicolon then Ok (More, rest)
-    else (if is_kind kind kinds.RightBrace then Ok (End false, rest) else Err Syntax)
-statement_next words = Err Syntax
+use Rattle.parser_simple.specs.Reading.{as_one, begins_with, names}
+use Rattle.parser_statement.specs.Reading.{statement, statement_next}
 
 -- ---- fields and parameters
 

@@ -1,25 +1,14 @@
 -- The one list of lexemes that spells a tree.
 --
--- Forms that are not read yet are not well-formed here: all statements but the empty one and simple statements.
--- `statement_words statement rest` is the statement, and then `rest`; so with the others.
-use Rattle.std.specs.Prelude.{◌≡◌, true, Option, Some, None, List, [], ◌∷◌, ◌++◌, codes}
+-- `top_words top rest` is the declaration, and then `rest`; so with the others.
+use Rattle.std.specs.Prelude.{◌≡◌, Option, Some, None, List, [], ◌∷◌, ◌++◌, codes}
 use Rattle.scanner.specs.declared.kind.Kind.TheVariants as kinds
-use Rattle.syntax.specs.Tree.{TypeExpression, Statement, Empty, Alone, statements_in, Declared, Struct, Function, Top, StructTop, FunctionTop, File}
+use Rattle.syntax.specs.Tree.{TypeExpression, Statement, statements_in, Declared, Struct, Function, Top, StructTop, FunctionTop, File}
 use Rattle.parser_base.specs.Lexemes.{Lexeme, Name, Mark}
 use Rattle.parser_base.specs.Spelling.{behind, joined, closing, AreAll, AreSome, IsTrailing}
 use Rattle.parser_base.specs.TypeReading.{type_words, IsType}
-use Rattle.parser_simple.specs.Spelling.{name_words, IsName, simple_words, IsSimple}
-
--- ---- statements
-
-abbrev pub statement_words : Statement → List Lexeme → List Lexeme
-statement_words (Alone simple) rest = simple_words simple rest
-statement_words statement rest = rest
-
-abbrev pub IsStatement : Statement → Type 0
-IsStatement Empty = Unit {0}
-IsStatement (Alone simple) = IsSimple true true simple
-IsStatement statement = ⊥
+use Rattle.parser_simple.specs.Spelling.{name_words, IsName}
+use Rattle.parser_statement.specs.Spelling.{statement_words, IsStatement}
 
 -- ---- fields and parameters
 

@@ -4,7 +4,6 @@
 mod declared;
 mod file;
 mod parser;
-mod statement;
 mod top;
 
 pub use parser::{one_tree, parse};

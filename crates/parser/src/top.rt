@@ -9,13 +9,13 @@ ghost use Rattle.parser_base.specs.Reading.{Gives};
 ghost use Rattle.parser.specs.Reading.{structure, result_type, block, function, top};
 
 use crate::declared::all_declared;
-use crate::statement::statements;
 use go_text::{Fault, Span};
 use parser_base::cursor::Cursor;
 use parser_base::list::{List, MAX_ENTRIES};
 use parser_base::types::type_at;
 use parser_simple::form::begins_with;
 use parser_simple::place::name_at;
+use parser_statement::statement::statements;
 use scanner::Kind;
 use std::alloc::Global;
 use syntax::{FunctionNode, StatementNode, StructNode, TopNode, TypeNode};
