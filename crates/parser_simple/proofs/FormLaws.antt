@@ -1,10 +1,9 @@
 -- What stands behind a place, and what that says of a statement.
-use Rattle.std.proofs.Common.{◌≡◌, ℕ, ◌≤◌, Bool, true, false, cond, Option, Some, None, List, [], ◌∷◌, ◌++◌, Ok, refl, sym, ap, ◌∙◌, subst, arith, append_assoc, inl, inr}
+use Rattle.std.proofs.Common.{◌≡◌, ℕ, ◌≤◌, Bool, true, false, cond, Option, None, List, [], ◌∷◌, ◌++◌, Ok, refl, ap, ◌∙◌, subst, arith, append_assoc}
 use Rattle.scanner.specs.declared.kind.Kind.{Kind}
 use Rattle.scanner.specs.declared.kind.Kind.TheVariants as kinds
 use Rattle.syntax.specs.declared.node.BinaryOperator.{BinaryOperator}
 use Rattle.syntax.specs.declared.node.BinaryOperator.TheVariants as binaries
-use Rattle.syntax.specs.declared.node.UnaryOperator.TheVariants as unaries
 use Rattle.syntax.specs.Tree.{Expression, Integer, Named, Parenthesized, Selection, Composite, Unary, Binary, Place, Simple}
 use Rattle.parser_base.specs.Lexemes.{Lexeme, Literal, Name, Text, Mark}
 use Rattle.parser_base.specs.Spelling.{is_builtin, behind, separated, joined, before, expression_words, precedence, binary_kind}
@@ -12,7 +11,7 @@ use Rattle.parser_base.specs.Reading.{Reading, is_kind}
 use Rattle.parser_simple.specs.declared.form.Form.{Form}
 use Rattle.parser_simple.specs.declared.form.Form.TheVariants as forms
 use Rattle.parser_simple.specs.Spelling.{name_words, IsPlace, place_words, update_kind}
-use Rattle.parser_simple.specs.Reading.{begins_with, update_of, update_form, form_at, form_of, defines, begins_operation, formed, led}
+use Rattle.parser_simple.specs.Reading.{begins_with, form_at, form_of, defines, begins_operation, formed, led}
 
 -- ---- operators
 

@@ -1,16 +1,16 @@
 -- Names and places: what is spelt is read, and what is read is spelt so.
-use Rattle.std.proofs.Common.{◌≡◌, ℕ, ◌<◌, ◌≤◌, ◌+◌, Bool, true, false, cond, List, [], ◌∷◌, length, Ok, Err, refl, sym, ap, ◌∙◌, subst, arith}
+use Rattle.std.proofs.Common.{◌≡◌, ℕ, ◌<◌, ◌≤◌, Bool, true, false, cond, List, [], ◌∷◌, length, Ok, refl, ap, ◌∙◌, subst, arith}
 use Rattle.scanner.specs.declared.kind.Kind.{Kind}
 use Rattle.scanner.specs.declared.kind.Kind.TheVariants as kinds
 use Rattle.syntax.specs.Tree.{Place}
-use Rattle.syntax.specs.Measures.{Listing, Entries as EntriesLimit, SelectClauses, entries, highest}
+use Rattle.syntax.specs.Measures.{Entries as EntriesLimit, SelectClauses, entries}
 use Rattle.parser_base.specs.declared.list.Next.{Next}
 use Rattle.parser_base.specs.declared.list.Next.TheVariants.{More, End}
 use Rattle.parser_base.specs.Lexemes.{Lexeme, Literal, Name, Text, Mark}
-use Rattle.parser_base.specs.Spelling.{is_builtin, behind, separated, joined, AreAll, AreSome}
-use Rattle.parser_base.specs.Reading.{Syntax, TooMany, Reading, ◌>>=◌, is_kind, expect, plain_name, listed}
-use Rattle.parser_base.proofs.Marks.{bind_ok, ok_is, kind_is, is_kind_same, expect_is, expect_again, plain_name_is, plain_name_again}
-use Rattle.parser_base.proofs.ListLaws.{AreFew, Outcome, Found, High, Many, Found as AllFound, High as AllHigh, Many as AllMany, Full, Entries, IsReadAgain, Separates, listed_again, all_again, IsEntry, ReadsSoundly, AreEntries, listed_sound}
+use Rattle.parser_base.specs.Spelling.{behind, separated, joined, AreAll, AreSome}
+use Rattle.parser_base.specs.Reading.{TooMany, Reading, ◌>>=◌, is_kind, expect, plain_name}
+use Rattle.parser_base.proofs.Marks.{bind_ok, ok_is, kind_is, is_kind_same, expect_is, plain_name_is, plain_name_again}
+use Rattle.parser_base.proofs.ListLaws.{Outcome, Found, High, Many, Entries, IsReadAgain, Separates, listed_again, all_again, ReadsSoundly, listed_sound}
 use Rattle.parser_base.proofs.Steps.{listed_outcome, highest_none}
 use Rattle.parser_simple.specs.Spelling.{name_words, IsName, place_words, IsPlace}
 use Rattle.parser_simple.specs.Reading.{begins_with, separator_next, names, fields, place, places}

@@ -1,20 +1,19 @@
 -- Right sides: what is spelt is read, and what is read is spelt so.
-use Rattle.std.proofs.Common.{◌≡◌, ℕ, zero, suc, ◌<◌, ◌≤◌, ◌+◌, Bool, true, false, cond, Option, Some, None, max, List, [], ◌∷◌, ◌++◌, length, Ok, Err, inl, inr, refl, sym, ap, ◌∙◌, subst, arith, append_assoc, bytes_eq, codes}
+use Rattle.std.proofs.Common.{◌≡◌, ℕ, zero, suc, ◌≤◌, Bool, true, false, cond, Option, Some, None, max, List, [], ◌∷◌, ◌++◌, length, Err, inl, inr, refl, sym, ap, ◌∙◌, subst, arith, append_assoc, bytes_eq, codes}
 use Rattle.scanner.specs.declared.kind.Kind.{Kind}
 use Rattle.scanner.specs.declared.kind.Kind.TheVariants as kinds
 use Rattle.syntax.specs.declared.node.BinaryOperator.{BinaryOperator}
 use Rattle.syntax.specs.declared.node.BinaryOperator.TheVariants as binaries
 use Rattle.syntax.specs.declared.node.UnaryOperator.TheVariants as unaries
 use Rattle.syntax.specs.Tree.{Expression, Integer, Named, Parenthesized, Selection, Composite, Unary, Binary, TypeExpression, Arguments, Operation, Call, Receive, Make, Length, Capacity, Right, RightOperation, Values}
-use Rattle.syntax.specs.Measures.{Listing, Entries as EntriesLimit, SelectClauses, entries, highest, if_any, type_height, expression_height, expression_longest, arguments_height, arguments_longest, operation_height, operation_longest, right_height, right_longest}
-use Rattle.parser_base.specs.declared.list.Next.TheVariants.{More, End}
+use Rattle.syntax.specs.Measures.{Listing, Entries as EntriesLimit, entries, highest, if_any, type_height, expression_height, expression_longest, arguments_height, arguments_longest, operation_height, operation_longest, right_height, right_longest}
 use Rattle.parser_base.specs.Lexemes.{Lexeme, Literal, Name, Text, Mark}
-use Rattle.parser_base.specs.Spelling.{is_builtin, behind, separated, joined, closing, before, AreAll, AreSome, IsTrailing, expression_words, outer_precedence, precedence, IsGrouped, binary_kind}
-use Rattle.parser_base.specs.Reading.{Syntax, TooDeep, TooMany, Reading, ◌>>=◌, is_kind, expect, step_at, expression, values, listed}
+use Rattle.parser_base.specs.Spelling.{is_builtin, behind, separated, joined, before, AreAll, expression_words, outer_precedence, IsGrouped, binary_kind}
+use Rattle.parser_base.specs.Reading.{Syntax, TooMany, Reading, ◌>>=◌, is_kind, expect, step_at, expression, values}
 use Rattle.parser_base.specs.TypeReading.{type_words, IsType, type_at}
-use Rattle.parser_base.proofs.Marks.{bind_ok, when_ok, unless_ok, ok_is, kind_is, expect_is, expect_again, bytes_are}
-use Rattle.parser_base.proofs.ListLaws.{AreFew, Outcome, Found, High, Many, Found as AllFound, High as AllHigh, Many as AllMany, Full, Entries, IsReadAgain, Separates, listed_again, all_again, IsEntry, ReadsSoundly, listed_sound}
-use Rattle.parser_base.proofs.ExpressionAgain.{reads, EndsExpression, Shut, shut, entries-le, height_positive, precedence-lt, none_above, parenthesis_closes, comma_ends, values_again}
+use Rattle.parser_base.proofs.Marks.{bind_ok, when_ok, ok_is, kind_is, expect_is, bytes_are}
+use Rattle.parser_base.proofs.ListLaws.{Outcome, Found, High, Entries, IsReadAgain, Separates, listed_again, all_again, ReadsSoundly, listed_sound}
+use Rattle.parser_base.proofs.ExpressionAgain.{reads, EndsExpression, shut, entries-le, height_positive, precedence-lt, none_above, parenthesis_closes, comma_ends, values_again}
 use Rattle.parser_base.proofs.ExpressionSound.{expression_sound, values_sound}
 use Rattle.parser_base.proofs.TypeLaws.{type_again, type_sound, Found as TypeFound, High as TypeHigh}
 use Rattle.parser_base.proofs.Steps.{then_again, made_again, listed_outcome, gave, Sound, made_is, either}
@@ -121,7 +120,7 @@ below_is (Make channel s) = refl
 below_is (Length channel) = refl
 below_is (Capacity channel) = refl
 
-type_outcome : (room most : ℕ) (t : TypeExpression) (rest : List Lexeme) → IsType t → Outcome (type_at room (type_words t ++ rest)) t rest (type_height t) room (λ listing. 0) most
+pub type_outcome : (room most : ℕ) (t : TypeExpression) (rest : List Lexeme) → IsType t → Outcome (type_at room (type_words t ++ rest)) t rest (type_height t) room (λ listing. 0) most
 type_outcome room most t rest is =
     elim (type_again room t rest is) [
       | TypeFound low e ↦ Found low (λ listing. omega arith) e
@@ -136,7 +135,7 @@ make_again literals most room t s rest is size_is =
     then_again _ (size_again literals most room s rest size_is) (λ high. omega arith) (λ listing. omega arith) (λ low' few'.
     Found (omega arith) few' refl))
 
-operation_again : (literals : Bool) (most room : ℕ) (o : Operation) (rest : List Lexeme) → IsOperation literals o → Stops literals rest
+pub operation_again : (literals : Bool) (most room : ℕ) (o : Operation) (rest : List Lexeme) → IsOperation literals o → Stops literals rest
     → Outcome (operation literals most room (operation_words o rest)) o rest (below o) room (λ listing. operation_longest listing o) most
 unfolding operation builtin_operation
 operation_again literals most room (Call function all) rest is stops =
@@ -149,7 +148,7 @@ operation_again literals most room (Length channel) rest is stops =
 operation_again literals most room (Capacity channel) rest is stops =
     made_again Capacity (argument_again literals most room channel rest is) (λ high. high) (λ low. low) (λ listing. refl)
 
-operation_begins : (literals : Bool) (o : Operation) (rest : List Lexeme) → IsOperation literals o → begins_operation (operation_words o rest) ≡ true
+pub operation_begins : (literals : Bool) (o : Operation) (rest : List Lexeme) → IsOperation literals o → begins_operation (operation_words o rest) ≡ true
 unfolding begins_operation begins_with
 operation_begins literals (Call function all) rest is = rw is.0 refl
 operation_begins literals (Receive channel) rest is = refl
@@ -303,7 +302,7 @@ argument_sound literals most room ws e rest is =
 -- ---- operations
 
 -- an operation, which has so many levels below it
-abbrev OperationSound : (literals : Bool) (most room : ℕ) → List Lexeme → Operation → List Lexeme → Type 0
+abbrev pub OperationSound : (literals : Bool) (most room : ℕ) → List Lexeme → Operation → List Lexeme → Type 0
 OperationSound literals most room = Sound operation_words (IsOperation literals) below room operation_longest most
 
 either_size : (literals : Bool) (most room : ℕ) (b : Bool) (ws : List Lexeme) (s : Option Expression) (rest : List Lexeme)
@@ -382,7 +381,7 @@ receive_sound literals most room ws o rest e =
     subst (λ (x : Operation). OperationSound literals most room (Mark kinds.Arrow ∷ ws) x rest) a.2
     (record { parts = ap (λ (x : List Lexeme). Mark kinds.Arrow ∷ x) s.parts; is = s.is; low = s.low; few = s.few })
 
-operation_sound : (literals : Bool) (most room : ℕ) (ws : List Lexeme) (o : Operation) (rest : List Lexeme) → operation literals most room ws ≡ gave o rest → OperationSound literals most room ws o rest
+pub operation_sound : (literals : Bool) (most room : ℕ) (ws : List Lexeme) (o : Operation) (rest : List Lexeme) → operation literals most room ws ≡ gave o rest → OperationSound literals most room ws o rest
 unfolding operation
 operation_sound literals most room [] o rest e = absurd cc
 operation_sound literals most room (Literal value ∷ ws) o rest e = absurd cc

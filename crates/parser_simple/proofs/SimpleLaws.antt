@@ -1,15 +1,15 @@
 -- Simple statements: what is spelt is read, and what is read is spelt so.
-use Rattle.std.proofs.Common.{◌≡◌, ℕ, zero, suc, ◌<◌, ◌≤◌, Bool, true, false, cond, ◌&&◌, Option, Some, None, max, List, [], ◌∷◌, ◌++◌, length, Ok, Err, inl, inr, refl, sym, ap, ◌∙◌, subst, arith, bytes_eq, codes, IsTrue}
+use Rattle.std.proofs.Common.{◌≡◌, ℕ, zero, suc, ◌≤◌, Bool, true, false, cond, ◌&&◌, Option, Some, None, max, List, [], ◌∷◌, length, Ok, Err, inl, inr, refl, sym, ap, ◌∙◌, subst, arith, bytes_eq, codes, IsTrue}
 use Rattle.scanner.specs.declared.kind.Kind.{Kind}
 use Rattle.scanner.specs.declared.kind.Kind.TheVariants as kinds
 use Rattle.syntax.specs.declared.node.BinaryOperator.{BinaryOperator}
 use Rattle.syntax.specs.Tree.{Expression, Arguments, Right, Place, Part, Value, Text as TextPart, Simple, CallAlone, Close, Print, ReceiveAlone, Send, Increment, Decrement, Assign, Define, Update}
-use Rattle.syntax.specs.Measures.{Listing, Entries as EntriesLimit, entries, highest, expression_height, expression_longest, right_height, right_longest, part_height, part_longest, simple_height, simple_longest}
+use Rattle.syntax.specs.Measures.{Listing, Entries as EntriesLimit, entries, highest, expression_height, expression_longest, part_height, part_longest, simple_height, simple_longest}
 use Rattle.parser_base.specs.Lexemes.{Lexeme, Literal, Name, Text, Mark}
 use Rattle.parser_base.specs.Spelling.{is_builtin, behind, separated, joined, closing, before, AreAll, AreSome, IsTrailing, precedence, IsGrouped}
-use Rattle.parser_base.specs.Reading.{Syntax, TooDeep, TooMany, Reading, ◌>>=◌, is_kind, expect, begins, step_at, entry_next, expression, listed}
+use Rattle.parser_base.specs.Reading.{Syntax, TooMany, Reading, ◌>>=◌, is_kind, expect, begins, step_at, entry_next, expression, listed}
 use Rattle.parser_base.proofs.Marks.{bind_ok, when_ok, ok_is, kind_is, expect_is, expect_again, bytes_are}
-use Rattle.parser_base.proofs.ListLaws.{AreFew, Outcome, Found, High, Many, Entries, IsReadAgain, Separates, listed_again, all_again, IsEntry, ReadsSoundly, listed_sound}
+use Rattle.parser_base.proofs.ListLaws.{AreFew, Outcome, Found, High, Entries, IsReadAgain, Separates, listed_again, all_again, IsEntry, ReadsSoundly, listed_sound}
 use Rattle.parser_base.proofs.ExpressionAgain.{EndsExpression, shut, entries-le, height_positive, parenthesis_closes, comma_ends, closing_ends, begins_again, ending_again, more_entries}
 use Rattle.parser_base.proofs.ExpressionSound.{entry_more_sound, entry_end_sound}
 use Rattle.parser_base.proofs.Steps.{then_again, made_again, listed_outcome, gave, Sound, made_is, either}
@@ -18,7 +18,7 @@ use Rattle.parser_simple.specs.declared.form.Form.TheVariants as forms
 use Rattle.parser_simple.specs.Spelling.{name_words, IsName, place_words, IsPlace, IsPrimary, right_words, IsRight, part_words, IsPart, print_name, update_kind, simple_words, IsSimple}
 use Rattle.parser_simple.specs.Reading.{as_one, begins_with, defines, form_of, names, place, places, primary, arguments, argument, right, begins_part, part, parts, print, builtin_call, assigned, defined, stepped, updated, formed, led, sent, led_or_sent, simple}
 use Rattle.parser_simple.proofs.PlaceLaws.{names_again, names_sound, place_again, place_sound, places_again, places_sound}
-use Rattle.parser_simple.proofs.FormLaws.{update_again, update_shut, update_no_field, form_strong, fields_form, led_formed, defines_names, no_defines, no_form, led_none}
+use Rattle.parser_simple.proofs.FormLaws.{update_again, update_shut, update_no_field, form_strong, led_formed, defines_names, no_defines, no_form, led_none}
 use Rattle.parser_simple.proofs.RightLaws.{Stops, value_again, primary_again, arguments_again, argument_again, no_operation, right_again, value_sound, primary_sound, arguments_sound, argument_sound, right_sound}
 
 -- ---- arguments of print and println

@@ -1,16 +1,16 @@
 -- Reading simple statements from left to right.
-use Rattle.std.specs.Prelude.{◌≡◌, ℕ, zero, suc, Bool, true, false, ◌&&◌, ◌||◌, ◌==◌, List, [], ◌∷◌, Option, Some, None, Result, Ok, Err, if◌then◌else◌, length, bytes_eq, codes}
+use Rattle.std.specs.Prelude.{ℕ, zero, suc, Bool, true, false, ◌&&◌, List, [], ◌∷◌, Option, Some, None, Ok, Err, if◌then◌else◌, length, bytes_eq, codes}
 use Rattle.scanner.specs.declared.kind.Kind.{Kind}
 use Rattle.scanner.specs.declared.kind.Kind.TheVariants as kinds
 use Rattle.syntax.specs.declared.node.BinaryOperator.{BinaryOperator}
 use Rattle.syntax.specs.declared.node.BinaryOperator.TheVariants as binaries
-use Rattle.syntax.specs.Tree.{Expression, TypeExpression, Arguments, Operation, Call, Receive, Make, Length, Capacity, Right, RightOperation, Values, Place, Part, Value, Text as TextPart, Simple, CallAlone, Close, Print, ReceiveAlone, Send, Increment, Decrement, Assign, Define, Update, Comm, CommSend, CommReceive, CommDefine, CommAssign, IfHead, Bare, Semicolon, First, Target, NoTarget, DefineTarget, AssignTarget, ForHead, Forever, While, ForClauses, Range}
+use Rattle.syntax.specs.Tree.{Expression, Arguments, Operation, Call, Receive, Make, Length, Capacity, Right, RightOperation, Values, Place, Part, Value, Text as TextPart, Simple, CallAlone, Close, Print, ReceiveAlone, Send, Increment, Decrement, Assign, Define, Update}
 use Rattle.syntax.specs.Measures.{Entries}
 use Rattle.parser_base.specs.declared.list.Next.{Next}
 use Rattle.parser_base.specs.declared.list.Next.TheVariants.{More, End}
 use Rattle.parser_base.specs.Lexemes.{Lexeme, Literal, Name, Text, Mark}
-use Rattle.parser_base.specs.Spelling.{is_builtin, outer_precedence}
-use Rattle.parser_base.specs.Reading.{Refusal, Syntax, TooDeep, TooMany, Reading, ◌>>=◌, is_kind, expect, plain_name, begins, listed, entry_next, values, expression}
+use Rattle.parser_base.specs.Spelling.{is_builtin}
+use Rattle.parser_base.specs.Reading.{Syntax, TooDeep, TooMany, Reading, ◌>>=◌, is_kind, expect, plain_name, begins, listed, entry_next, values, expression}
 use Rattle.parser_base.specs.TypeReading.{type_at}
 use Rattle.parser_simple.specs.declared.form.Form.{Form}
 use Rattle.parser_simple.specs.declared.form.Form.TheVariants as forms
@@ -275,133 +275,3 @@ led_or_sent literals most room (None, rest) = sent Send literals most room rest
 -- literals stand only where `literals` holds, and a `:=` where `defining` does.
 unfoldable pub simple : (literals defining : Bool) → ℕ → ℕ → List Lexeme → Reading Simple
 simple literals defining most room words = led literals defining most room words >>= led_or_sent literals most room
-
--- ---- headers
-
--- what stands behind `if` or `for`
-pub data Head : Type 0 where
-  HeadSimple : (simple : Simple) → Head
-  HeadCondition : (condition : Expression) → Head
-
--- no operation but selections
-abbrev pub is_primary : Expression → Bool
-is_primary expression = outer_precedence expression == 7
-
--- a condition, or a send on it
-abbrev pub condition_or_sent : ℕ → ℕ → Expression × List Lexeme → Reading Head
-condition_or_sent most room (channel, rest) =
-    if begins_with kinds.Arrow rest && is_primary channel
-    then (expect kinds.Arrow rest >>= λ after. as_one (λ value. HeadSimple (Send channel value)) (expression false most room 0 after))
-    else Ok (HeadCondition channel, rest)
-
-abbrev pub led_or_condition : ℕ → ℕ → Option Simple × List Lexeme → Reading Head
-led_or_condition most room (Some simple, rest) = Ok (HeadSimple simple, rest)
-led_or_condition most room (None, rest) = expression false most room 0 rest >>= condition_or_sent most room
-
--- a simple statement or a condition
-unfoldable pub head : ℕ → ℕ → List Lexeme → Reading Head
-head most room words = led false true most room words >>= led_or_condition most room
-
--- ---- what a clause of a select waits for
-
-unfoldable pub second : {A : Type 0} → (List Lexeme → Reading A) → List Lexeme → Reading (Option A)
-second one words =
-    if begins_with kinds.Comma words then (expect kinds.Comma words >>= λ behind. as_one (λ x. Some x) (one behind)) else Ok (None, words)
-
--- a receive with a `:=` of one name or two
-unfoldable pub comm_defined : ℕ → ℕ → List Lexeme → Reading Comm
-comm_defined most room words = do
-  item ← plain_name words
-  ok ← second plain_name item.1
-  mark ← expect kinds.Define ok.1
-  arrow ← expect kinds.Arrow mark
-  channel ← primary true most room arrow
-  Ok (CommDefine item.0 ok.0 channel.0, channel.1)
-
--- a receive with an assignment to one place or two
-unfoldable pub comm_assigned : ℕ → ℕ → List Lexeme → Reading Comm
-comm_assigned most room words = do
-  item ← place words
-  ok ← second place item.1
-  mark ← expect kinds.Assign ok.1
-  arrow ← expect kinds.Arrow mark
-  channel ← primary true most room arrow
-  Ok (CommAssign item.0 ok.0 channel.0, channel.1)
-
-unfoldable pub comm_formed : ℕ → ℕ → Form → List Lexeme → Reading Comm
-comm_formed most room (forms.Define ranges) words = if defines true words then comm_defined most room words else comm_assigned most room words
-comm_formed most room (forms.Assign ranges) words = comm_assigned most room words
-comm_formed most room forms.List words = if defines true words then comm_defined most room words else comm_assigned most room words
-comm_formed most room form words = sent CommSend true most room words
-
--- what a clause of a select waits for, below which there are at most so many levels
-unfoldable pub comm : ℕ → ℕ → List Lexeme → Reading Comm
-comm most room (Mark kind ∷ rest) =
-    if is_kind kind kinds.Arrow then as_one CommReceive (primary true most room rest) else comm_formed most room (form_of true (Mark kind ∷ rest)) (Mark kind ∷ rest)
-comm most room words = comm_formed most room (form_of true words) words
-
--- ---- headers of an if and a for
-
--- a condition
-abbrev pub condition : ℕ → ℕ → List Lexeme → Reading Expression
-condition most room words = expression false most room 0 words
-
--- a condition behind a semicolon, with what stands before that
-abbrev pub behind_head : IfHead → ℕ → ℕ → List Lexeme → Reading (IfHead × Expression)
-behind_head first most room words = expect kinds.Semicolon words >>= λ after. as_one (λ test. (first, test)) (condition most room after)
-
--- what stands before the condition, and the condition
-abbrev pub if_headed : ℕ → ℕ → Head × List Lexeme → Reading (IfHead × Expression)
-if_headed most room (HeadSimple simple, rest) = behind_head (First simple) most room rest
-if_headed most room (HeadCondition test, rest) = Ok ((Bare, test), rest)
-
--- what stands between an `if` and its block
-unfoldable pub if_header : ℕ → ℕ → List Lexeme → Reading (IfHead × Expression)
-if_header most room words =
-    if begins_with kinds.Semicolon words then behind_head Semicolon most room words else (head most room words >>= if_headed most room)
-
--- what is there, unless this mark comes next
-abbrev pub unless_next : {A : Type 0} → Kind → (List Lexeme → Reading A) → List Lexeme → Reading (Option A)
-unless_next kind one words = if begins_with kind words then Ok (None, words) else as_one (λ x. Some x) (one words)
-
--- the clauses of a `for`, behind the first semicolon
-unfoldable pub for_clauses : Option Simple → ℕ → ℕ → List Lexeme → Reading ForHead
-for_clauses first most room words = do
-  test ← unless_next kinds.Semicolon (condition most room) words
-  after ← expect kinds.Semicolon test.1
-  post ← unless_next kinds.LeftBrace (simple false false most room) after
-  Ok (ForClauses first test.0 post.0, post.1)
-
--- the `range` of a `for`, from its word on
-unfoldable pub ranged : Target → ℕ → ℕ → List Lexeme → Reading ForHead
-ranged target most room words = expect kinds.Range words >>= λ after. as_one (Range target) (condition most room after)
-
-unfoldable pub range_defined : ℕ → ℕ → List Lexeme → Reading ForHead
-range_defined most room words = plain_name words >>= λ name. expect kinds.Define name.1 >>= λ after. ranged (DefineTarget name.0) most room after
-
-unfoldable pub range_assigned : ℕ → ℕ → List Lexeme → Reading ForHead
-range_assigned most room words = place words >>= λ target. expect kinds.Assign target.1 >>= λ after. ranged (AssignTarget target.0) most room after
-
-abbrev pub for_headed : ℕ → ℕ → Head × List Lexeme → Reading ForHead
-for_headed most room (HeadSimple simple, rest) = expect kinds.Semicolon rest >>= λ after. for_clauses (Some simple) most room after
-for_headed most room (HeadCondition test, rest) = Ok (While test, rest)
-
--- whether `range` follows an assignment's mark
-abbrev pub ranges : Form → Bool
-ranges (forms.Assign is) = is
-ranges (forms.Define is) = is
-ranges form = false
-
--- what stands between a `for` and its block, where that is no mark
-unfoldable pub for_begun : ℕ → ℕ → List Lexeme → Reading ForHead
-for_begun most room words =
-    if ranges (form_of true words) then (if defines true words then range_defined most room words else range_assigned most room words)
-    else (head most room words >>= for_headed most room)
-
--- what stands between a `for` and its block
-unfoldable pub for_header : ℕ → ℕ → List Lexeme → Reading ForHead
-for_header most room words =
-    if begins_with kinds.LeftBrace words then Ok (Forever, words)
-    else (if begins_with kinds.Semicolon words then (expect kinds.Semicolon words >>= λ after. for_clauses None most room after)
-    else (if begins_with kinds.Range words then ranged NoTarget most room words
-    else for_begun most room words))

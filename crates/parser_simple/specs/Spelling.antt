@@ -1,13 +1,13 @@
--- The one list of lexemes that spells a simple statement, or what a clause of a select waits for.
+-- The one list of lexemes that spells a simple statement.
 --
 -- Each of the words below is what stands before what follows: `name_words name rest` is the name, and then `rest`.
-use Rattle.std.specs.Prelude.{◌≡◌, ℕ, ◌≤◌, Bool, true, false, List, [], ◌∷◌, ◌++◌, Option, Some, None, IsTrue, codes}
+use Rattle.std.specs.Prelude.{◌≡◌, ℕ, ◌≤◌, Bool, true, false, List, ◌∷◌, ◌++◌, Option, Some, None, IsTrue, codes}
 use Rattle.scanner.specs.declared.kind.Kind.{Kind}
 use Rattle.scanner.specs.declared.kind.Kind.TheVariants as kinds
 use Rattle.syntax.specs.declared.node.BinaryOperator.{BinaryOperator}
 use Rattle.syntax.specs.declared.node.BinaryOperator.TheVariants as binaries
-use Rattle.syntax.specs.Tree.{Expression, TypeExpression, Arguments, Operation, Call, Receive, Make, Length, Capacity, Right, RightOperation, Values, Place, Part, Value, Text as TextPart, Simple, CallAlone, Close, Print, ReceiveAlone, Send, Increment, Decrement, Assign, Define, Update, Comm, CommSend, CommReceive, CommDefine, CommAssign, IfHead, Bare, Semicolon, First, Target, NoTarget, DefineTarget, AssignTarget, ForHead, Forever, While, ForClauses, Range}
-use Rattle.parser_base.specs.Lexemes.{Lexeme, Literal, Name, Text, Mark}
+use Rattle.syntax.specs.Tree.{Expression, Arguments, Operation, Call, Receive, Make, Length, Capacity, Right, RightOperation, Values, Place, Part, Value, Text as TextPart, Simple, CallAlone, Close, Print, ReceiveAlone, Send, Increment, Decrement, Assign, Define, Update}
+use Rattle.parser_base.specs.Lexemes.{Lexeme, Name, Text, Mark}
 use Rattle.parser_base.specs.Spelling.{is_builtin, behind, separated, joined, closing, before, AreAll, AreSome, IsTrailing, outer_precedence, precedence, IsGrouped}
 use Rattle.parser_base.specs.TypeReading.{type_words, IsType}
 
@@ -131,71 +131,3 @@ IsSimple literals defining (Decrement place) = IsPlace place
 IsSimple literals defining (Assign places right) = AreSome IsPlace places × IsRight literals right
 IsSimple literals defining (Define names right) = IsTrue defining × AreSome IsName names × IsRight literals right
 IsSimple literals defining (Update place operator value) = IsPlace place × (4 ≤ precedence operator) × IsGrouped literals value
-
--- ---- what a clause of a select waits for
-
-abbrev pub second_name_words : Option (List ℕ) → List Lexeme → List Lexeme
-second_name_words None rest = rest
-second_name_words (Some name) rest = Mark kinds.Comma ∷ name_words name rest
-
-abbrev pub second_place_words : Option Place → List Lexeme → List Lexeme
-second_place_words None rest = rest
-second_place_words (Some place) rest = Mark kinds.Comma ∷ place_words place rest
-
-abbrev pub comm_words : Comm → List Lexeme → List Lexeme
-comm_words (CommSend channel value) rest = before channel (Mark kinds.Arrow ∷ before value rest)
-comm_words (CommReceive channel) rest = Mark kinds.Arrow ∷ before channel rest
-comm_words (CommDefine item ok channel) rest = name_words item (second_name_words ok (Mark kinds.Define ∷ Mark kinds.Arrow ∷ before channel rest))
-comm_words (CommAssign item ok channel) rest = place_words item (second_place_words ok (Mark kinds.Assign ∷ Mark kinds.Arrow ∷ before channel rest))
-
--- what holds of the second, if there is one
-abbrev pub IsAny : {A : Type 0} → (A → Type 0) → Option A → Type 0
-IsAny P None = Unit {0}
-IsAny P (Some x) = P x
-
-abbrev pub IsComm : Comm → Type 0
-IsComm (CommSend channel value) = IsPrimary true channel × IsGrouped true value
-IsComm (CommReceive channel) = IsPrimary true channel
-IsComm (CommDefine item ok channel) = IsName item × IsAny IsName ok × IsPrimary true channel
-IsComm (CommAssign item ok channel) = IsPlace item × IsAny IsPlace ok × IsPrimary true channel
-
--- ---- headers, without composite literals
-
-abbrev pub if_head_words : IfHead → List Lexeme → List Lexeme
-if_head_words Bare rest = rest
-if_head_words Semicolon rest = Mark kinds.Semicolon ∷ rest
-if_head_words (First simple) rest = simple_words simple (Mark kinds.Semicolon ∷ rest)
-
-abbrev pub IsIfHead : IfHead → Type 0
-IsIfHead Bare = Unit {0}
-IsIfHead Semicolon = Unit {0}
-IsIfHead (First simple) = IsSimple false true simple
-
--- what is there, if anything is, and then these
-abbrev pub optional : {A : Type 0} → (A → List Lexeme → List Lexeme) → Option A → List Lexeme → List Lexeme
-optional words None rest = rest
-optional words (Some x) rest = words x rest
-
-abbrev pub target_words : Target → List Lexeme → List Lexeme
-target_words NoTarget rest = rest
-target_words (DefineTarget name) rest = Name name ∷ Mark kinds.Define ∷ rest
-target_words (AssignTarget place) rest = place_words place (Mark kinds.Assign ∷ rest)
-
-abbrev pub IsTarget : Target → Type 0
-IsTarget NoTarget = Unit {0}
-IsTarget (DefineTarget name) = IsName name
-IsTarget (AssignTarget place) = IsPlace place
-
-abbrev pub for_head_words : ForHead → List Lexeme → List Lexeme
-for_head_words Forever rest = rest
-for_head_words (While condition) rest = before condition rest
-for_head_words (ForClauses first condition post) rest =
-    optional simple_words first (Mark kinds.Semicolon ∷ optional before condition (Mark kinds.Semicolon ∷ optional simple_words post rest))
-for_head_words (Range target channel) rest = target_words target (Mark kinds.Range ∷ before channel rest)
-
--- what is done behind each turn is no `:=`
-abbrev pub IsForHead : ForHead → Type 0
-IsForHead Forever = Unit {0}
-IsForHead (While condition) = IsGrouped false condition
-IsForHead (ForClauses first condition post) = IsAny (IsSimple false true) first × IsAny (IsGrouped false) condition × IsAny (IsSimple false false) post
-IsForHead (Range target channel) = IsTarget target × IsGrouped false channel

@@ -1,9 +1,7 @@
-//! Reading simple statements, and what a clause of a select waits for.
+//! Reading simple statements.
 #![tactic(auto)]
 
-pub mod comm;
 pub mod form;
-pub mod header;
 pub mod place;
 pub mod right;
 pub mod simple;

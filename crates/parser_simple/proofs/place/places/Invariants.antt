@@ -1,4 +1,4 @@
-use Rattle.std.proofs.Common.{◌≡◌, ◌-◌, ◌+◌, map, length, sum_by, vec_len}
+use Rattle.std.proofs.Common.{◌≡◌, ◌-◌, ◌+◌, map, length, vec_len}
 use Rattle.syntax.specs.View.{place_of}
 use Rattle.parser_base.specs.Cursor.{ahead}
 use Rattle.parser_base.specs.Reading.{listed}

@@ -1,9 +1,9 @@
-use Rattle.std.proofs.Common.{◌≤◌, ◌<◌, length, is_ok, ap, arith}
+use Rattle.std.proofs.Common.{is_ok, ap, arith}
 use Rattle.std.proofs.ResultArms.{chosen}
 use Rattle.std.proofs.lemmas.Result.{err_from_is_err_and}
 use Rattle.syntax.specs.View.{expression_of}
 use Rattle.parser_base.specs.Cursor.{ahead}
-use Rattle.parser_base.proofs.Lists.{more, ends, one_fails, next_fails, is_full, sum_by-pushed, length-pushed}
+use Rattle.parser_base.proofs.Lists.{more, ends, one_fails, is_full, sum_by-pushed}
 use Rattle.syntax.specs.Measures.{Entries, expression_size}
 use Rattle.scanner.specs.declared.kind.Kind.TheVariants as kinds
 use Rattle.parser_base.specs.Reading.{TooMany, expression}

@@ -5,16 +5,17 @@ ghost use Rattle.syntax.specs.Measures.{if_any, expression_size, simple_size, if
 ghost use Rattle.syntax.specs.View.{expression_of, simple_of, if_head_of, target_of, for_head_of};
 ghost use Rattle.parser_base.specs.Cursor.{ahead};
 ghost use Rattle.parser_base.specs.Reading.{Gives};
-ghost use Rattle.parser_simple.specs.Reading.{as_one, is_primary, condition_or_sent, head, simple, condition, behind_head, if_header, unless_next, for_clauses, ranged, range_defined, range_assigned, ranges, for_begun, for_header};
-ghost use Rattle.parser_simple.specs.Heads.{head_of, head_size};
+ghost use Rattle.parser_simple.specs.Reading.{as_one, simple};
+ghost use Rattle.parser_statement.specs.HeaderReading.{is_primary, condition_or_sent, head, condition, behind_head, if_header, unless_next, for_clauses, ranged, range_defined, range_assigned, ranges, for_begun, for_header};
+ghost use Rattle.parser_statement.specs.Heads.{head_of, head_size};
 
-use crate::form::{Form, begins_with, defines, form_of};
-use crate::place::{name_at, place};
-use crate::simple::{FoundLed, led, simple};
 use go_text::{Fault, Span};
 use parser_base::cursor::Cursor;
 use parser_base::expression::{Found, expression};
 use parser_base::list::MAX_ENTRIES;
+use parser_simple::form::{Form, begins_with, defines, form_of};
+use parser_simple::place::{name_at, place};
+use parser_simple::simple::{FoundLed, led, simple};
 use scanner::Kind;
 use std::alloc::Global;
 use syntax::{ExpressionNode, ForHeader, IfHeader, RangeTarget, SimpleNode};
@@ -72,7 +73,7 @@ fn condition_or_send<'a>(
 }
 
 /// A simple statement or a condition, without composite literals, below which there are at most so many levels.
-#[tactic(auto, unfolding(crate::specs::Reading::head))]
+#[tactic(auto, unfolding(crate::specs::HeaderReading::head))]
 pub fn head<'a>(
     alloc: Global,
     room: u32,
@@ -136,7 +137,7 @@ fn if_condition<'a>(
 
 /// What stands between an `if` and its block ("If statements" of the Go specification), below which there are at most
 /// so many levels.
-#[tactic(auto, unfolding(crate::specs::Reading::if_header))]
+#[tactic(auto, unfolding(crate::specs::HeaderReading::if_header))]
 pub fn if_header<'a>(
     alloc: Global,
     room: u32,
@@ -201,7 +202,7 @@ fn post<'a>(
 }
 
 /// The clauses of a `for` behind the first semicolon, before which `first` stands.
-#[tactic(auto, unfolding(crate::specs::Reading::for_clauses))]
+#[tactic(auto, unfolding(crate::specs::HeaderReading::for_clauses))]
 fn clauses<'a>(
     alloc: Global,
     room: u32,
@@ -222,7 +223,7 @@ fn clauses<'a>(
 }
 
 /// The `range` of a `for` from its word on, which stands behind `target`.
-#[tactic(auto, unfolding(crate::specs::Reading::ranged))]
+#[tactic(auto, unfolding(crate::specs::HeaderReading::ranged))]
 fn ranged<'a>(
     alloc: Global,
     room: u32,
@@ -242,7 +243,7 @@ fn ranged<'a>(
 }
 
 /// A `range` that defines a name.
-#[tactic(auto, unfolding(crate::specs::Reading::range_defined))]
+#[tactic(auto, unfolding(crate::specs::HeaderReading::range_defined))]
 fn range_defined<'a>(
     alloc: Global,
     room: u32,
@@ -258,7 +259,7 @@ fn range_defined<'a>(
 }
 
 /// A `range` that assigns to a place.
-#[tactic(auto, unfolding(crate::specs::Reading::range_assigned))]
+#[tactic(auto, unfolding(crate::specs::HeaderReading::range_assigned))]
 fn range_assigned<'a>(
     alloc: Global,
     room: u32,
@@ -281,7 +282,7 @@ fn ranges(form: Form) -> bool
 }
 
 /// What stands between a `for` and its block, where that begins with no mark of its own.
-#[tactic(auto, unfolding(crate::specs::Reading::for_begun))]
+#[tactic(auto, unfolding(crate::specs::HeaderReading::for_begun))]
 fn for_begun<'a>(
     alloc: Global,
     room: u32,
@@ -312,7 +313,7 @@ fn for_begun<'a>(
 
 /// What stands between a `for` and its block ("For statements" of the Go specification), below which there are at most
 /// so many levels.
-#[tactic(auto, unfolding(crate::specs::Reading::for_header))]
+#[tactic(auto, unfolding(crate::specs::HeaderReading::for_header))]
 pub fn for_header<'a>(
     alloc: Global,
     room: u32,

@@ -7,15 +7,16 @@ ghost use Rattle.syntax.specs.Measures.{if_any, comm_size};
 ghost use Rattle.syntax.specs.View.{name_of, place_of, comm_of};
 ghost use Rattle.parser_base.specs.Cursor.{ahead};
 ghost use Rattle.parser_base.specs.Reading.{Gives, plain_name};
-ghost use Rattle.parser_simple.specs.Reading.{as_one, primary, place, sent, second, comm_defined, comm_assigned, comm_formed, comm};
+ghost use Rattle.parser_simple.specs.Reading.{as_one, primary, place, sent};
+ghost use Rattle.parser_statement.specs.HeaderReading.{second, comm_defined, comm_assigned, comm_formed, comm};
 
-use crate::form::{Form, begins_with, defines, form_of};
-use crate::place::{name_at, place};
-use crate::right::primary;
 use go_text::{Fault, Span};
 use parser_base::cursor::{Cursor, Word};
 use parser_base::expression::expression;
 use parser_base::list::MAX_ENTRIES;
+use parser_simple::form::{Form, begins_with, defines, form_of};
+use parser_simple::place::{name_at, place};
+use parser_simple::right::primary;
 use scanner::Kind;
 use std::alloc::Global;
 use syntax::{CommNode, Name, PlaceNode};
@@ -28,7 +29,7 @@ pub struct FoundComm<'a> {
 }
 
 /// A second name behind a comma, if there is one.
-#[tactic(auto, unfolding(crate::specs::Reading::second))]
+#[tactic(auto, unfolding(crate::specs::HeaderReading::second))]
 fn second_name(alloc: Global, cursor: Cursor<'_>) -> Result<(Option<Name>, Cursor<'_>), Fault>
     ensures { Gives (λ x. (option_map name_of x.0, ahead x.1)) result (second plain_name (ahead cursor.entry)) }
 {
@@ -41,7 +42,7 @@ fn second_name(alloc: Global, cursor: Cursor<'_>) -> Result<(Option<Name>, Curso
 }
 
 /// A second place behind a comma, if there is one.
-#[tactic(auto, unfolding(crate::specs::Reading::second))]
+#[tactic(auto, unfolding(crate::specs::HeaderReading::second))]
 fn second_place<'a>(
     alloc: Global,
     cursor: Cursor<'a>,
@@ -75,7 +76,7 @@ fn push_receive(first: u32, arrow: Span, channel: Span, spans: &mut Vec<Span>) -
 }
 
 /// A receive with a `:=` of one name or two.
-#[tactic(auto, unfolding(crate::specs::Reading::comm_defined))]
+#[tactic(auto, unfolding(crate::specs::HeaderReading::comm_defined))]
 fn defined<'a>(
     alloc: Global,
     room: u32,
@@ -98,7 +99,7 @@ fn defined<'a>(
 }
 
 /// A receive with an assignment to one place or two.
-#[tactic(auto, unfolding(crate::specs::Reading::comm_assigned))]
+#[tactic(auto, unfolding(crate::specs::HeaderReading::comm_assigned))]
 fn assigned<'a>(
     alloc: Global,
     room: u32,
@@ -121,7 +122,7 @@ fn assigned<'a>(
 }
 
 /// A send.
-#[tactic(auto, unfolding(crate::specs::Reading::sent))]
+#[tactic(auto, unfolding(parser_simple::specs::Reading::sent))]
 fn send<'a>(
     alloc: Global,
     room: u32,
@@ -167,7 +168,7 @@ fn receive<'a>(
 }
 
 /// What begins with a place in this form, or with the operand of a send.
-#[tactic(auto, unfolding(crate::specs::Reading::comm_formed))]
+#[tactic(auto, unfolding(crate::specs::HeaderReading::comm_formed))]
 fn formed<'a>(
     alloc: Global,
     room: u32,
@@ -188,7 +189,7 @@ fn formed<'a>(
 
 /// What a clause of a `select` waits for, below which there are at most so many levels ("Select statements" of the Go
 /// specification).
-#[tactic(auto, unfolding(crate::specs::Reading::comm))]
+#[tactic(auto, unfolding(crate::specs::HeaderReading::comm))]
 pub fn comm<'a>(
     alloc: Global,
     room: u32,

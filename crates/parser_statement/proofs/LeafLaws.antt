@@ -1,0 +1,317 @@
+-- Statements in which no other stands: what is spelt is read, and what is read is spelt so.
+use Rattle.std.proofs.Common.{◌≡◌, ℕ, zero, suc, ◌<◌, ◌≤◌, true, false, cond, Option, Some, None, max, List, [], ◌∷◌, ◌++◌, length, inl, inr, refl, ap, ◌∙◌, subst, arith}
+use Rattle.scanner.specs.declared.kind.Kind.{Kind}
+use Rattle.scanner.specs.declared.kind.Kind.TheVariants as kinds
+use Rattle.syntax.specs.declared.node.Direction.TheVariants as directions
+use Rattle.syntax.specs.Tree.{Expression, TypeExpression, NamedType, ParenthesizedType, Channel, Arguments, Operation, Call, Receive, Make, Length, Capacity, Right, Returned, NoValue, ReturnedOperation, ReturnedValue, Statement, Empty, Alone, VarTyped, VarUntyped, Go, Return, Break, Continue}
+use Rattle.syntax.specs.Measures.{Listing, if_any, type_height, right_height, right_longest, returned_height, returned_longest, statement_height, statement_longest}
+use Rattle.parser_base.specs.Lexemes.{Lexeme, Literal, Name, Text, Mark}
+use Rattle.parser_base.specs.Spelling.{before, AreSome, IsGrouped}
+use Rattle.parser_base.specs.Reading.{Reading, ◌>>=◌, expect, plain_name, begins, step_at, expression}
+use Rattle.parser_base.specs.TypeReading.{type_words, IsType, type_at}
+use Rattle.parser_base.proofs.Marks.{bind_ok, ok_is, expect_is, plain_name_is, plain_name_again}
+use Rattle.parser_base.proofs.ListLaws.{AreFew, Outcome, Found, High, Many}
+use Rattle.parser_base.proofs.ExpressionAgain.{shut, begins_again, height_positive, entries-le}
+use Rattle.parser_base.proofs.TypeLaws.{type_sound}
+use Rattle.parser_base.proofs.Steps.{then_again, made_again, gave, Sound, made_is, either}
+use Rattle.parser_simple.specs.Spelling.{IsName, AreArguments, arguments_words, operation_words, IsOperation, right_words, IsRight}
+use Rattle.parser_simple.specs.Reading.{as_one, begins_with, names, arguments, begins_operation, operation, right, simple}
+use Rattle.parser_simple.proofs.PlaceLaws.{names_again, names_sound}
+use Rattle.parser_simple.proofs.RightLaws.{Stops, value_again, arguments_again, below_is, type_outcome, operation_again, operation_begins, no_operation, right_again, value_sound, arguments_sound, operation_sound, right_sound}
+use Rattle.parser_simple.proofs.SimpleLaws.{simple_sound}
+use Rattle.parser_statement.specs.HeaderSpelling.{IsAny}
+use Rattle.parser_statement.specs.Spelling.{returned_words, IsReturned, initial_words, names_words, statement_words, IsStatement}
+use Rattle.parser_statement.specs.Reading.{is_end, ends_statement, returned_value, returned, started, behind_next, typed, untyped, variable, leaf}
+
+-- ---- what may follow a statement
+
+pub data Ends : List Lexeme → Type 0 where
+  AtSemicolon : (rest : List Lexeme) → Ends (Mark kinds.Semicolon ∷ rest)
+  AtBrace : (rest : List Lexeme) → Ends (Mark kinds.RightBrace ∷ rest)
+  AtCase : (rest : List Lexeme) → Ends (Mark kinds.Case ∷ rest)
+  AtDefault : (rest : List Lexeme) → Ends (Mark kinds.Default ∷ rest)
+
+pub ends_stop : (rest : List Lexeme) → Ends rest → Stops true rest
+unfolding step_at begins_with
+ends_stop _ (AtSemicolon rest) = record { ends = record { none = refl; shut = shut true kinds.Semicolon rest refl }; comma = refl; open' = refl }
+ends_stop _ (AtBrace rest) = record { ends = record { none = refl; shut = shut true kinds.RightBrace rest refl }; comma = refl; open' = refl }
+ends_stop _ (AtCase rest) = record { ends = record { none = refl; shut = shut true kinds.Case rest refl }; comma = refl; open' = refl }
+ends_stop _ (AtDefault rest) = record { ends = record { none = refl; shut = shut true kinds.Default rest refl }; comma = refl; open' = refl }
+
+ends_end : (rest : List Lexeme) → Ends rest → ends_statement rest ≡ true
+unfolding ends_statement
+ends_end _ (AtSemicolon rest) = refl
+ends_end _ (AtBrace rest) = refl
+ends_end _ (AtCase rest) = refl
+ends_end _ (AtDefault rest) = refl
+
+ends_no_value : (rest : List Lexeme) → Ends rest → begins_with kinds.Assign rest ≡ false
+unfolding begins_with
+ends_no_value _ (AtSemicolon rest) = refl
+ends_no_value _ (AtBrace rest) = refl
+ends_no_value _ (AtCase rest) = refl
+ends_no_value _ (AtDefault rest) = refl
+
+-- the same of what is read, within more
+pub widened : {A : Type 0} {read : Reading A} {x : A} {rest : List Lexeme} {part room height room' : ℕ} {longest longest' : Listing → ℕ} {most : ℕ}
+    → Outcome read x rest part room longest most → (room < part → room' < height) → (part ≤ room → height ≤ room') → ((listing : Listing) → longest listing ≤ longest' listing) → (AreFew longest most → AreFew longest' most)
+    → Outcome read x rest height room' longest' most
+widened (Found low few e) up down more down' = Found (down low) (down' few) e
+widened (High high e) up down more down' = High (up high) e
+widened (Many listing many e) up down more down' = Many listing (omega (arith, more listing, many)) e
+
+abbrev pub StatementOutcome : (most room : ℕ) → Reading Statement → Statement → List Lexeme → Type 0
+StatementOutcome most room read s rest = Outcome read s rest (statement_height s) room (λ listing. statement_longest listing s) most
+
+-- ---- what is spelt is read
+
+started_again : (most room : ℕ) (f : List ℕ) (all : Arguments) (rest : List Lexeme) → IsName f → AreArguments true all → StatementOutcome most (suc room) (started most room (Name f ∷ arguments_words all rest)) (Go f all) rest
+unfolding started
+started_again most room f all rest plain are =
+    rw (plain_name_again f (arguments_words all rest) plain)
+    (made_again (Go f) (arguments_again true most room all rest are) (λ high. omega arith) (λ low. omega arith) (λ listing. refl))
+
+abbrev ReturnedOutcome : (most room : ℕ) → Reading Returned → Returned → List Lexeme → Type 0
+ReturnedOutcome most room read r rest = Outcome read r rest (returned_height r) room (λ listing. returned_longest listing r) most
+
+returned_operation : (most room : ℕ) (o : Operation) (rest : List Lexeme) → IsOperation true o → Stops true rest → ReturnedOutcome most room (returned_value most room (operation_words o rest)) (ReturnedOperation o) rest
+unfolding returned_value
+returned_operation most zero o rest is stops = High (omega (arith, below_is o)) refl
+returned_operation most (suc room) o rest is stops =
+    rw (operation_begins true o rest is)
+    (made_again ReturnedOperation (operation_again true most room o rest is stops) (λ high. omega (arith, below_is o)) (λ low. omega (arith, below_is o)) (λ listing. refl))
+
+returned_expression : (most room : ℕ) (v : Expression) (rest : List Lexeme) → IsGrouped true v → Stops true rest → ReturnedOutcome most room (returned_value most room (before v rest)) (ReturnedValue v) rest
+unfolding returned_value
+returned_expression most zero v rest is stops = High (height_positive v) refl
+returned_expression most (suc room) v rest is stops =
+    rw (no_operation true v rest is stops.open')
+    (made_again ReturnedValue (value_again true most (suc room) v rest is stops.ends) (λ high. high) (λ low. low) (λ listing. refl))
+
+-- no value ends a statement
+begun_no_end : (ws : List Lexeme) → begins ws ≡ true → ends_statement ws ≡ false
+unfolding begins ends_statement
+begun_no_end [] begun = refl
+begun_no_end (Literal value ∷ ws) begun = refl
+begun_no_end (Name name ∷ ws) begun = refl
+begun_no_end (Text bytes ∷ ws) begun = refl
+begun_no_end (Mark kinds.Semicolon ∷ ws) begun = absurd cc
+begun_no_end (Mark kinds.RightBrace ∷ ws) begun = absurd cc
+begun_no_end (Mark kinds.Case ∷ ws) begun = absurd cc
+begun_no_end (Mark kinds.Default ∷ ws) begun = absurd cc
+begun_no_end (Mark kind ∷ ws) begun = refl
+
+operation_no_end : (o : Operation) (rest : List Lexeme) → ends_statement (operation_words o rest) ≡ false
+unfolding ends_statement
+operation_no_end (Call f all) rest = refl
+operation_no_end (Receive c) rest = refl
+operation_no_end (Make t s) rest = refl
+operation_no_end (Length c) rest = refl
+operation_no_end (Capacity c) rest = refl
+
+returned_again : (most room : ℕ) (r : Returned) (rest : List Lexeme) → IsReturned r → Ends rest → ReturnedOutcome most room (returned most room (returned_words r rest)) r rest
+unfolding returned
+returned_again most room NoValue rest is ends = rw (ends_end rest ends) (Found (omega arith) (λ listing. omega arith) refl)
+returned_again most room (ReturnedOperation o) rest is ends = rw (operation_no_end o rest) (returned_operation most room o rest is (ends_stop rest ends))
+returned_again most room (ReturnedValue v) rest is ends =
+    rw (begun_no_end (before v rest) (begins_again true v rest is)) (returned_expression most room v rest is (ends_stop rest ends))
+
+initial_again : (most room : ℕ) (r : Option Right) (rest : List Lexeme) → IsAny (IsRight true) r → Ends rest
+    → Outcome (behind_next kinds.Assign (right true most room) (initial_words r rest)) r rest (if_any right_height r) room (λ listing. if_any (right_longest listing) r) most
+unfolding begins_with expect
+initial_again most room None rest is ends = rw (ends_no_value rest ends) (Found (omega arith) (λ listing. omega arith) refl)
+initial_again most room (Some r) rest is ends =
+    made_again (λ (x : Right). Some x) (right_again true most room r rest is (ends_stop rest ends)) (λ high. high) (λ low. low) (λ listing. refl)
+
+typed_again : (most room : ℕ) (all : List (List ℕ)) (t : TypeExpression) (r : Option Right) (rest : List Lexeme) → IsType t → IsAny (IsRight true) r → Ends rest
+    → Outcome (typed all most room (type_words t ++ initial_words r rest)) (VarTyped all t r) rest (max (type_height t) (if_any right_height r)) room (λ listing. if_any (right_longest listing) r) most
+unfolding typed
+typed_again most room all t r rest is right_is ends =
+    then_again _ (type_outcome room most t (initial_words r rest) is) (λ high. omega arith) (λ listing. omega arith) (λ low few.
+    made_again (VarTyped all t) (initial_again most room r rest right_is ends) (λ high. omega arith) (λ low'. omega arith) (λ listing. refl))
+
+untyped_again : (most room : ℕ) (all : List (List ℕ)) (r : Right) (rest : List Lexeme) → IsRight true r → Ends rest
+    → Outcome (untyped all most room (Mark kinds.Assign ∷ right_words r rest)) (VarUntyped all r) rest (right_height r) room (λ listing. right_longest listing r) most
+unfolding untyped expect
+untyped_again most room all r rest is ends =
+    made_again (VarUntyped all) (right_again true most room r rest is (ends_stop rest ends)) (λ high. high) (λ low. low) (λ listing. refl)
+
+-- no type begins as values do
+type_no_value : (t : TypeExpression) (rest : List Lexeme) → (begins_with kinds.Assign (type_words t ++ rest) ≡ false) × (begins_with kinds.Comma (type_words t ++ rest) ≡ false)
+unfolding begins_with
+type_no_value (NamedType name) rest = (refl, refl)
+type_no_value (ParenthesizedType inner) rest = (refl, refl)
+type_no_value (Channel directions.Both element) rest = (refl, refl)
+type_no_value (Channel directions.Send element) rest = (refl, refl)
+type_no_value (Channel directions.Receive element) rest = (refl, refl)
+
+variable_untyped : (most room : ℕ) (n : List ℕ) (ns : List (List ℕ)) (r : Right) (rest : List Lexeme) → AreSome IsName (n ∷ ns) → IsRight true r → Ends rest
+    → StatementOutcome most (suc room) (variable most room (names_words (n ∷ ns) (Mark kinds.Assign ∷ right_words r rest))) (VarUntyped (n ∷ ns) r) rest
+unfolding variable begins_with
+variable_untyped most room n ns r rest are is ends =
+    then_again _ (names_again kinds.Comma most n ns (Mark kinds.Assign ∷ right_words r rest) are refl) (λ high. omega arith) (λ listing. omega arith) (λ low few.
+    widened (untyped_again most room (n ∷ ns) r rest is ends) (λ high. omega arith) (λ low'. omega arith) (λ listing. omega arith) (λ few' listing. omega (arith, few listing, few' listing)))
+
+variable_typed : (most room : ℕ) (n : List ℕ) (ns : List (List ℕ)) (t : TypeExpression) (r : Option Right) (rest : List Lexeme) → AreSome IsName (n ∷ ns) → IsType t → IsAny (IsRight true) r → Ends rest
+    → StatementOutcome most (suc room) (variable most room (names_words (n ∷ ns) (type_words t ++ initial_words r rest))) (VarTyped (n ∷ ns) t r) rest
+unfolding variable
+variable_typed most room n ns t r rest are is right_is ends =
+    let none = type_no_value t (initial_words r rest) in
+    then_again _ (names_again kinds.Comma most n ns (type_words t ++ initial_words r rest) are none.1) (λ high. omega arith) (λ listing. omega arith) (λ low few.
+    rw none.0 (widened (typed_again most room (n ∷ ns) t r rest is right_is ends) (λ high. omega arith) (λ low'. omega arith) (λ listing. omega arith) (λ few' listing. omega (arith, few listing, few' listing))))
+
+-- a statement that begins with a mark of its own, or with none
+pub leaf_go : (most room : ℕ) (f : List ℕ) (all : Arguments) (rest : List Lexeme) → IsStatement (Go f all) → StatementOutcome most (suc room) (leaf most room kinds.Go (Name f ∷ arguments_words all rest)) (Go f all) rest
+leaf_go most room f all rest is = started_again most room f all rest is.0 is.1
+
+pub leaf_return : (most room : ℕ) (r : Returned) (rest : List Lexeme) → IsReturned r → Ends rest → StatementOutcome most (suc room) (leaf most room kinds.Return (returned_words r rest)) (Return r) rest
+leaf_return most room r rest is ends = made_again Return (returned_again most room r rest is ends) (λ high. omega arith) (λ low. omega arith) (λ listing. refl)
+
+pub leaf_untyped : (most room : ℕ) (ns : List (List ℕ)) (r : Right) (rest : List Lexeme) → IsStatement (VarUntyped ns r) → Ends rest
+    → StatementOutcome most (suc room) (leaf most room kinds.Var (names_words ns (Mark kinds.Assign ∷ right_words r rest))) (VarUntyped ns r) rest
+leaf_untyped most room [] r rest is ends = absurd is.0
+leaf_untyped most room (n ∷ ns) r rest is ends = variable_untyped most room n ns r rest is.0 is.1 ends
+
+pub leaf_typed : (most room : ℕ) (ns : List (List ℕ)) (t : TypeExpression) (r : Option Right) (rest : List Lexeme) → IsStatement (VarTyped ns t r) → Ends rest
+    → StatementOutcome most (suc room) (leaf most room kinds.Var (names_words ns (type_words t ++ initial_words r rest))) (VarTyped ns t r) rest
+leaf_typed most room [] t r rest is ends = absurd is.0
+leaf_typed most room (n ∷ ns) t r rest is ends = variable_typed most room n ns t r rest is.0 is.1 is.2 ends
+
+-- ---- what is read is spelt so
+
+abbrev pub StatementSound : (most room : ℕ) → List Lexeme → Statement → List Lexeme → Type 0
+StatementSound most room = Sound statement_words IsStatement statement_height room statement_longest most
+
+pub alone_sound : (most room : ℕ) (ws : List Lexeme) (s : Statement) (rest : List Lexeme) → as_one Alone (simple true true most room ws) ≡ gave s rest → StatementSound most (suc room) ws s rest
+alone_sound most room ws s rest e =
+    let a = made_is Alone (simple true true most room ws) s rest e in
+    let p = simple_sound true true most room ws a.0 rest a.1 in
+    subst (λ (x : Statement). StatementSound most (suc room) ws x rest) a.2 (record { parts = p.parts; is = p.is; low = omega (arith, p.low); few = p.few })
+
+started_sound : (most room : ℕ) (ws : List Lexeme) (s : Statement) (rest : List Lexeme) → started most room ws ≡ gave s rest → StatementSound most (suc room) (Mark kinds.Go ∷ ws) s rest
+unfolding started
+started_sound most room ws s rest e =
+    let a = bind_ok (plain_name ws) (λ name. as_one (Go name.0) (arguments true most room name.1)) (s, rest) e in
+    let b = made_is (Go a.0.0) (arguments true most room a.0.1) s rest a.2 in
+    let n = plain_name_is ws a.0.0 a.0.1 a.1 in
+    let p = arguments_sound true most room a.0.1 b.0 rest b.1 in
+    subst (λ (x : Statement). StatementSound most (suc room) (Mark kinds.Go ∷ ws) x rest) b.2 (record {
+      parts = ap (λ (x : List Lexeme). Mark kinds.Go ∷ x) (n.0 ∙ ap (λ (x : List Lexeme). Name a.0.0 ∷ x) p.parts);
+      is = (n.1, p.is);
+      low = omega (arith, p.low);
+      few = p.few;
+    })
+
+abbrev ReturnedSound : (most room : ℕ) → List Lexeme → Returned → List Lexeme → Type 0
+ReturnedSound most room = Sound returned_words IsReturned returned_height room returned_longest most
+
+returned_value_sound : (most room : ℕ) (ws : List Lexeme) (r : Returned) (rest : List Lexeme) → returned_value most room ws ≡ gave r rest → ReturnedSound most room ws r rest
+unfolding returned_value
+returned_value_sound most zero ws r rest e = absurd cc
+returned_value_sound most (suc room) ws r rest e =
+    elim (either (begins_operation ws) (as_one ReturnedOperation (operation true most room ws)) (as_one ReturnedValue (expression true most (suc room) 0 ws)) (r, rest) e) [
+      | inl operates ↦
+          let a = made_is ReturnedOperation (operation true most room ws) r rest operates.1 in
+          let p = operation_sound true most room ws a.0 rest a.1 in
+          subst (λ (x : Returned). ReturnedSound most (suc room) ws x rest) a.2 (record { parts = p.parts; is = p.is; low = omega (arith, p.low, below_is a.0); few = p.few })
+      | inr values ↦
+          let a = made_is ReturnedValue (expression true most (suc room) 0 ws) r rest values.1 in
+          let p = value_sound true most (suc room) ws a.0 rest a.1 in
+          subst (λ (x : Returned). ReturnedSound most (suc room) ws x rest) a.2 (record { parts = p.parts; is = p.is; low = p.low; few = p.few })
+    ]
+
+returned_sound : (most room : ℕ) (ws : List Lexeme) (r : Returned) (rest : List Lexeme) → returned most room ws ≡ gave r rest → ReturnedSound most room ws r rest
+unfolding returned
+returned_sound most room ws r rest e =
+    elim (either (ends_statement ws) (gave NoValue ws) (returned_value most room ws) (r, rest) e) [
+      | inl none ↦ subst (λ (x : Returned × List Lexeme). ReturnedSound most room ws x.0 x.1) (ok_is (NoValue, ws) (r, rest) none.1) (record { parts = refl; is = tt; low = omega arith; few = λ listing. omega arith })
+      | inr some ↦ returned_value_sound most room ws r rest some.1
+    ]
+
+return_sound : (most room : ℕ) (ws : List Lexeme) (s : Statement) (rest : List Lexeme) → as_one Return (returned most room ws) ≡ gave s rest → StatementSound most (suc room) (Mark kinds.Return ∷ ws) s rest
+return_sound most room ws s rest e =
+    let a = made_is Return (returned most room ws) s rest e in
+    let p = returned_sound most room ws a.0 rest a.1 in
+    subst (λ (x : Statement). StatementSound most (suc room) (Mark kinds.Return ∷ ws) x rest) a.2 (record { parts = ap (λ (x : List Lexeme). Mark kinds.Return ∷ x) p.parts; is = p.is; low = omega (arith, p.low); few = p.few })
+
+abbrev InitialSound : (most room : ℕ) → List Lexeme → Option Right → List Lexeme → Type 0
+InitialSound most room = Sound initial_words (IsAny (IsRight true)) (if_any right_height) room (λ listing. if_any (right_longest listing)) most
+
+initial_sound : (most room : ℕ) (ws : List Lexeme) (r : Option Right) (rest : List Lexeme) → behind_next kinds.Assign (right true most room) ws ≡ gave r rest → InitialSound most room ws r rest
+initial_sound most room ws r rest e =
+    elim (either (begins_with kinds.Assign ws) (expect kinds.Assign ws >>= λ after. as_one (λ (x : Right). Some x) (right true most room after)) (gave None ws) (r, rest) e) [
+      | inl some ↦
+          let a = bind_ok (expect kinds.Assign ws) (λ after. as_one (λ (x : Right). Some x) (right true most room after)) (r, rest) some.1 in
+          let b = made_is (λ (x : Right). Some x) (right true most room a.0) r rest a.2 in
+          let p = right_sound true most room a.0 b.0 rest b.1 in
+          subst (λ (x : Option Right). InitialSound most room ws x rest) b.2 (record {
+            parts = expect_is kinds.Assign ws a.0 a.1 ∙ ap (λ (x : List Lexeme). Mark kinds.Assign ∷ x) p.parts;
+            is = p.is;
+            low = p.low;
+            few = p.few;
+          })
+      | inr none ↦ subst (λ (x : Option Right × List Lexeme). InitialSound most room ws x.0 x.1) (ok_is (None, ws) (r, rest) none.1) (record { parts = refl; is = tt; low = omega arith; few = λ listing. omega arith })
+    ]
+
+-- some names were read, and these words follow them
+abbrev AreVariables : (most : ℕ) → List Lexeme → List (List ℕ) → List Lexeme → Type 0
+AreVariables most all ns ws = (all ≡ names_words ns ws) × AreSome IsName ns × (length ns ≤ most)
+
+typed_sound : (most room : ℕ) (all : List Lexeme) (ns : List (List ℕ)) (ws : List Lexeme) → AreVariables most all ns ws → (s : Statement) (rest : List Lexeme) → typed ns most room ws ≡ gave s rest → StatementSound most (suc room) (Mark kinds.Var ∷ all) s rest
+unfolding typed
+typed_sound most room all ns ws are s rest e =
+    let a = bind_ok (type_at room ws) (λ kind. behind_next kinds.Assign (right true most room) kind.1 >>= λ value. gave (VarTyped ns kind.0 value.0) value.1) (s, rest) e in
+    let b = made_is (VarTyped ns a.0.0) (behind_next kinds.Assign (right true most room) a.0.1) s rest a.2 in
+    let t = type_sound room ws a.0.0 a.0.1 a.1 in
+    let p = initial_sound most room a.0.1 b.0 rest b.1 in
+    subst (λ (x : Statement). StatementSound most (suc room) (Mark kinds.Var ∷ all) x rest) b.2 (record {
+      parts = ap (λ (x : List Lexeme). Mark kinds.Var ∷ x) (are.0 ∙ ap (names_words ns) (t.parts ∙ ap (λ (x : List Lexeme). type_words a.0.0 ++ x) p.parts));
+      is = (are.1, t.is, p.is);
+      low = omega (arith, t.low, p.low);
+      few = λ listing. omega (arith, p.few listing, are.2, entries-le listing (length ns));
+    })
+
+untyped_sound : (most room : ℕ) (all : List Lexeme) (ns : List (List ℕ)) (ws : List Lexeme) → AreVariables most all ns ws → (s : Statement) (rest : List Lexeme) → untyped ns most room ws ≡ gave s rest → StatementSound most (suc room) (Mark kinds.Var ∷ all) s rest
+unfolding untyped
+untyped_sound most room all ns ws are s rest e =
+    let a = bind_ok (expect kinds.Assign ws) (λ after. as_one (VarUntyped ns) (right true most room after)) (s, rest) e in
+    let b = made_is (VarUntyped ns) (right true most room a.0) s rest a.2 in
+    let p = right_sound true most room a.0 b.0 rest b.1 in
+    subst (λ (x : Statement). StatementSound most (suc room) (Mark kinds.Var ∷ all) x rest) b.2 (record {
+      parts = ap (λ (x : List Lexeme). Mark kinds.Var ∷ x) (are.0 ∙ ap (names_words ns) (expect_is kinds.Assign ws a.0 a.1 ∙ ap (λ (x : List Lexeme). Mark kinds.Assign ∷ x) p.parts));
+      is = (are.1, p.is);
+      low = omega (arith, p.low);
+      few = λ listing. omega (arith, p.few listing, are.2, entries-le listing (length ns));
+    })
+
+variable_sound : (most room : ℕ) (ws : List Lexeme) (s : Statement) (rest : List Lexeme) → variable most room ws ≡ gave s rest → StatementSound most (suc room) (Mark kinds.Var ∷ ws) s rest
+unfolding variable
+variable_sound most room ws s rest e =
+    let a = bind_ok (names kinds.Comma most ws) (λ all. cond (begins_with kinds.Assign all.1) (untyped all.0.0 most room all.1) (typed all.0.0 most room all.1)) (s, rest) e in
+    let n = names_sound kinds.Comma most ws a.0 a.1 in
+    let are : AreVariables most ws a.0.0.0 a.0.1 = (n.parts, n.are, n.count) in
+    elim (either (begins_with kinds.Assign a.0.1) (untyped a.0.0.0 most room a.0.1) (typed a.0.0.0 most room a.0.1) (s, rest) a.2) [
+      | inl values ↦ untyped_sound most room ws a.0.0.0 a.0.1 are s rest values.1
+      | inr types ↦ typed_sound most room ws a.0.0.0 a.0.1 are s rest types.1
+    ]
+
+word_sound : (most room : ℕ) (ws : List Lexeme) (word : Statement) (s : Statement) (after rest : List Lexeme) → ws ≡ statement_words word after → IsStatement word → statement_height word ≤ suc room → AreFew (λ listing. statement_longest listing word) most
+    → gave word after ≡ gave s rest → StatementSound most (suc room) ws s rest
+word_sound most room ws word s after rest parts is low few e =
+    subst (λ (x : Statement × List Lexeme). StatementSound most (suc room) ws x.0 x.1) (ok_is (word, after) (s, rest) e) (record { parts = parts; is = is; low = low; few = few })
+
+other_sound : (most room : ℕ) (kind : Kind) (ws : List Lexeme) (s : Statement) (rest : List Lexeme) → cond (is_end kind) (gave Empty (Mark kind ∷ ws)) (as_one Alone (simple true true most room (Mark kind ∷ ws))) ≡ gave s rest
+    → StatementSound most (suc room) (Mark kind ∷ ws) s rest
+other_sound most room kind ws s rest e =
+    elim (either (is_end kind) (gave Empty (Mark kind ∷ ws)) (as_one Alone (simple true true most room (Mark kind ∷ ws))) (s, rest) e) [
+      | inl ends ↦ word_sound most room (Mark kind ∷ ws) Empty s (Mark kind ∷ ws) rest refl tt (omega arith) (λ listing. omega arith) ends.1
+      | inr other ↦ alone_sound most room (Mark kind ∷ ws) s rest other.1
+    ]
+
+pub leaf_sound : (most room : ℕ) (kind : Kind) (ws : List Lexeme) (s : Statement) (rest : List Lexeme) → leaf most room kind ws ≡ gave s rest → StatementSound most (suc room) (Mark kind ∷ ws) s rest
+leaf_sound most room kinds.Go ws s rest e = started_sound most room ws s rest e
+leaf_sound most room kinds.Var ws s rest e = variable_sound most room ws s rest e
+leaf_sound most room kinds.Return ws s rest e = return_sound most room ws s rest e
+leaf_sound most room kinds.Break ws s rest e = word_sound most room (Mark kinds.Break ∷ ws) Break s ws rest refl tt (omega arith) (λ listing. omega arith) e
+leaf_sound most room kinds.Continue ws s rest e = word_sound most room (Mark kinds.Continue ∷ ws) Continue s ws rest refl tt (omega arith) (λ listing. omega arith) e
+leaf_sound most room kind ws s rest e = other_sound most room kind ws s rest e

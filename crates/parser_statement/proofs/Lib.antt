@@ -1,0 +1,8 @@
+pub mod HeaderLaws
+pub mod Sizes
+pub mod LeafLaws
+pub mod StatementLists
+pub mod StatementAgain
+pub mod StatementSound
+pub mod StatementLaws
+pub mod Rooms

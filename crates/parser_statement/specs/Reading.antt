@@ -1,0 +1,182 @@
+-- Reading statements from left to right.
+use Rattle.std.specs.Prelude.{ℕ, zero, suc, Bool, true, false, List, [], ◌∷◌, Option, Some, None, Ok, Err, if◌then◌else◌, length}
+use Rattle.scanner.specs.declared.kind.Kind.{Kind}
+use Rattle.scanner.specs.declared.kind.Kind.TheVariants as kinds
+use Rattle.syntax.specs.Tree.{Comm, Returned, NoValue, ReturnedOperation, ReturnedValue, Statement, Empty, Alone, VarTyped, VarUntyped, Block, If, For, Select, Go, Return, Break, Continue, Statements, statements, Branch, Conditional, Otherwise, NoElse, ElseBlock, ElseIf, Clauses}
+use Rattle.syntax.specs.Measures.{SelectClauses}
+use Rattle.syntax.specs.View.{OneClause, clauses}
+use Rattle.parser_base.specs.declared.list.Next.{Next}
+use Rattle.parser_base.specs.declared.list.Next.TheVariants.{More, End}
+use Rattle.parser_base.specs.Lexemes.{Lexeme, Mark}
+use Rattle.parser_base.specs.Reading.{Syntax, TooDeep, TooMany, Reading, ◌>>=◌, expect, plain_name, listed, expression}
+use Rattle.parser_base.specs.TypeReading.{type_at}
+use Rattle.parser_simple.specs.Reading.{as_one, begins_with, names, arguments, begins_operation, operation, right, simple}
+use Rattle.parser_statement.specs.HeaderReading.{comm, if_header, for_header}
+
+-- ---- what ends a statement
+
+-- a statement ends before this mark
+abbrev pub is_end : Kind → Bool
+is_end kinds.Semicolon = true
+is_end kinds.RightBrace = true
+is_end kinds.Case = true
+is_end kinds.Default = true
+is_end kind = false
+
+-- nothing of a statement is left
+unfoldable pub ends_statement : List Lexeme → Bool
+ends_statement (Mark kind ∷ rest) = is_end kind
+ends_statement words = false
+
+-- what follows a statement of a block
+unfoldable pub statement_next : List Lexeme → Reading Next
+statement_next (Mark kinds.Semicolon ∷ rest) = Ok (More, rest)
+statement_next (Mark kinds.RightBrace ∷ rest) = Ok (End false, rest)
+statement_next words = Err Syntax
+
+-- what follows a statement of a clause
+unfoldable pub clause_next : List Lexeme → Reading Next
+clause_next (Mark kinds.Semicolon ∷ rest) = Ok (More, rest)
+clause_next words = if ends_statement words then Ok (End false, words) else Err Syntax
+
+-- ---- statements in which none stands
+
+-- a value behind `return`, of at most so many levels
+unfoldable pub returned_value : ℕ → ℕ → List Lexeme → Reading Returned
+returned_value most zero words = Err TooDeep
+returned_value most (suc room) words =
+    if begins_operation words then as_one ReturnedOperation (operation true most room words)
+    else as_one ReturnedValue (expression true most (suc room) 0 words)
+
+-- what stands behind `return`
+unfoldable pub returned : ℕ → ℕ → List Lexeme → Reading Returned
+returned most room words = if ends_statement words then Ok (NoValue, words) else returned_value most room words
+
+-- what stands behind `go`
+unfoldable pub started : ℕ → ℕ → List Lexeme → Reading Statement
+started most room words = plain_name words >>= λ name. as_one (Go name.0) (arguments true most room name.1)
+
+-- what is there, if this mark comes next, behind it
+abbrev pub behind_next : {A : Type 0} → Kind → (List Lexeme → Reading A) → List Lexeme → Reading (Option A)
+behind_next kind one words = if begins_with kind words then (expect kind words >>= λ after. as_one (λ x. Some x) (one after)) else Ok (None, words)
+
+-- the type and the values of what is declared
+unfoldable pub typed : List (List ℕ) → ℕ → ℕ → List Lexeme → Reading Statement
+typed all most room words = do
+  kind ← type_at room words
+  value ← behind_next kinds.Assign (right true most room) kind.1
+  Ok (VarTyped all kind.0 value.0, value.1)
+
+-- the values of what is declared without a type
+unfoldable pub untyped : List (List ℕ) → ℕ → ℕ → List Lexeme → Reading Statement
+untyped all most room words = expect kinds.Assign words >>= λ after. as_one (VarUntyped all) (right true most room after)
+
+-- what stands behind `var`
+unfoldable pub variable : ℕ → ℕ → List Lexeme → Reading Statement
+variable most room words =
+    names kinds.Comma most words >>= λ all.
+    if begins_with kinds.Assign all.1 then untyped all.0.0 most room all.1 else typed all.0.0 most room all.1
+
+-- a statement behind this mark, in which no other stands and below which there are at most so many levels
+abbrev pub leaf : ℕ → ℕ → Kind → List Lexeme → Reading Statement
+leaf most room kinds.Go rest = started most room rest
+leaf most room kinds.Var rest = variable most room rest
+leaf most room kinds.Return rest = as_one Return (returned most room rest)
+leaf most room kinds.Break rest = Ok (Break, rest)
+leaf most room kinds.Continue rest = Ok (Continue, rest)
+leaf most room kind rest = if is_end kind then Ok (Empty, Mark kind ∷ rest) else as_one Alone (simple true true most room (Mark kind ∷ rest))
+
+-- ---- statements in which others stand
+
+-- a block, whose statements `one` reads
+unfoldable pub braced : (one : List Lexeme → Reading Statement) → List Lexeme → Reading Statements
+braced one words = do
+  inside ← expect kinds.LeftBrace words
+  all ← listed one statement_next Syntax (length inside) inside
+  Ok (statements all.0.0, all.1)
+
+-- what stands behind `else`
+unfoldable pub other : (block : List Lexeme → Reading Statements) → (branch : List Lexeme → Reading Branch) → List Lexeme → Reading Otherwise
+other block branch words =
+    if begins_with kinds.If words then (expect kinds.If words >>= λ after. as_one ElseIf (branch after)) else as_one ElseBlock (block words)
+
+-- an `else`, if there is one
+unfoldable pub otherwise : (block : List Lexeme → Reading Statements) → (branch : List Lexeme → Reading Branch) → List Lexeme → Reading Otherwise
+otherwise block branch words =
+    if begins_with kinds.Else words then (expect kinds.Else words >>= λ after. other block branch after) else Ok (NoElse, words)
+
+-- what stands behind `if`
+unfoldable pub branched : ℕ → ℕ → (block : List Lexeme → Reading Statements) → (branch : List Lexeme → Reading Branch) → List Lexeme → Reading Branch
+branched most room block branch words = do
+  header ← if_header most room words
+  body ← block header.1
+  last ← otherwise block branch body.1
+  Ok (Conditional header.0.0 header.0.1 body.0 last.0, last.1)
+
+-- what stands behind `for`
+unfoldable pub repeated : ℕ → ℕ → (block : List Lexeme → Reading Statements) → List Lexeme → Reading Statement
+repeated most room block words = for_header most room words >>= λ header. as_one (For header.0) (block header.1)
+
+-- what a clause of a select waits for, of at most so many levels
+unfoldable pub waited : ℕ → ℕ → List Lexeme → Reading Comm
+waited most zero words = Err TooDeep
+waited most (suc room) words = comm most room words
+
+-- the statements of a clause, behind its colon
+unfoldable pub clause_body : (one : List Lexeme → Reading Statement) → Option Comm → List Lexeme → Reading OneClause
+clause_body one waits words = do
+  inside ← expect kinds.Colon words
+  all ← listed one clause_next Syntax (length inside) inside
+  Ok (record { comm = waits; body = statements all.0.0 }, all.1)
+
+-- a clause, below which there are at most so many levels
+unfoldable pub one_clause : ℕ → ℕ → (one : List Lexeme → Reading Statement) → List Lexeme → Reading OneClause
+one_clause most room one (Mark kinds.Case ∷ rest) = waited most room rest >>= λ waits. clause_body one (Some waits.0) waits.1
+one_clause most room one (Mark kinds.Default ∷ rest) = clause_body one None rest
+one_clause most room one words = Err Syntax
+
+-- what follows a clause
+unfoldable pub clauses_next : List Lexeme → Reading Next
+clauses_next words = if begins_with kinds.RightBrace words then (expect kinds.RightBrace words >>= λ after. Ok (End false, after)) else Ok (More, words)
+
+-- what stands behind `select`
+unfoldable pub selected : ℕ → (clause : List Lexeme → Reading OneClause) → List Lexeme → Reading Clauses
+selected most clause words =
+    expect kinds.LeftBrace words >>= λ inside.
+    if begins_with kinds.RightBrace inside then (expect kinds.RightBrace inside >>= λ after. Ok (clauses [], after))
+    else (listed clause clauses_next (TooMany SelectClauses) most inside >>= λ all. Ok (clauses all.0.0, all.1))
+
+-- a statement behind this mark, below which there are at most so many levels
+abbrev pub marked : ℕ → ℕ → (block : List Lexeme → Reading Statements) → (branch : List Lexeme → Reading Branch) → (clause : List Lexeme → Reading OneClause) → Kind → List Lexeme → Reading Statement
+marked most room block branch clause kinds.LeftBrace rest = as_one Block (block (Mark kinds.LeftBrace ∷ rest))
+marked most room block branch clause kinds.If rest = as_one If (branched most room block branch rest)
+marked most room block branch clause kinds.For rest = repeated most room block rest
+marked most room block branch clause kinds.Select rest = as_one Select (selected most clause rest)
+marked most room block branch clause kind rest = leaf most room kind rest
+
+-- a statement, below which there are at most so many levels
+unfoldable pub stated : ℕ → ℕ → (block : List Lexeme → Reading Statements) → (branch : List Lexeme → Reading Branch) → (clause : List Lexeme → Reading OneClause) → List Lexeme → Reading Statement
+stated most room block branch clause (Mark kind ∷ rest) = marked most room block branch clause kind rest
+stated most room block branch clause words = as_one Alone (simple true true most room words)
+
+-- of at most so many levels, whose lists have at most so many entries
+unfoldable mutual
+  -- a statement
+  pub statement : ℕ → ℕ → List Lexeme → Reading Statement
+  statement most zero words = Err TooDeep
+  statement most (suc room) words = stated most room (block most room) (branch most room) (clause most room) words
+
+  -- a block
+  pub block : ℕ → ℕ → List Lexeme → Reading Statements
+  block most zero words = Err TooDeep
+  block most (suc room) words = braced (statement most room) words
+
+  -- what stands behind an `if`
+  pub branch : ℕ → ℕ → List Lexeme → Reading Branch
+  branch most zero words = Err TooDeep
+  branch most (suc room) words = branched most room (block most room) (branch most room) words
+
+  -- a clause of a select
+  pub clause : ℕ → ℕ → List Lexeme → Reading OneClause
+  clause most zero words = Err TooDeep
+  clause most (suc room) words = one_clause most room (statement most room) words

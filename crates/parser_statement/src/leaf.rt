@@ -1,0 +1,291 @@
+//! Statements in which no other one stands.
+
+ghost use Rattle.std.specs.Prelude.{◌≡◌, ◌+◌, ◌∷◌, true, IfOk, IfErr, map, option_map, vec_len};
+ghost use Rattle.go_text.specs.declared.fault.Fault.TheVariants as faults;
+ghost use Rattle.scanner.specs.declared.kind.Kind.TheVariants as kinds;
+ghost use Rattle.syntax.specs.Tree.{Alone, Return};
+ghost use Rattle.syntax.specs.Measures.{if_any, right_size, returned_size, statement_size};
+ghost use Rattle.syntax.specs.View.{name_of, right_of, returned_of, statement_of};
+ghost use Rattle.parser_base.specs.Lexemes.{Mark};
+ghost use Rattle.parser_base.specs.Cursor.{ahead};
+ghost use Rattle.parser_base.specs.Reading.{Gives};
+ghost use Rattle.parser_simple.specs.Reading.{as_one, right, simple};
+ghost use Rattle.parser_statement.specs.Reading.{is_end, ends_statement, returned_value, returned, started, behind_next, typed, untyped, variable, leaf};
+
+use go_text::{Fault, Span};
+use parser_base::cursor::{Cursor, Word};
+use parser_base::expression::expression;
+use parser_base::list::MAX_ENTRIES;
+use parser_base::types::type_at;
+use parser_simple::form::begins_with;
+use parser_simple::place::{name_at, names};
+use parser_simple::right::{arguments, begins_operation, operation, right};
+use parser_simple::simple::simple;
+use scanner::Kind;
+use std::alloc::Global;
+use syntax::{Name, ReturnNode, RightNode, StatementNode};
+
+/// Whether a statement ends before this mark.
+pub fn is_end(kind: Kind) -> bool
+    ensures { result ≡ is_end kind }
+{
+    matches!(
+        kind,
+        Kind::Semicolon | Kind::RightBrace | Kind::Case | Kind::Default
+    )
+}
+
+/// Whether nothing of a statement is left here.
+#[tactic(auto, unfolding(crate::specs::Reading::ends_statement))]
+pub fn ends_statement(cursor: Cursor<'_>) -> bool
+    ensures { result ≡ ends_statement (ahead cursor.entry) }
+{
+    match cursor.next() {
+        Some((Word::Mark(kind), _, _)) => is_end(kind),
+        _ => false,
+    }
+}
+
+/// A simple statement, below which there are at most so many levels.
+pub fn alone<'a>(
+    alloc: Global,
+    room: u32,
+    cursor: Cursor<'a>,
+    spans: &mut Vec<Span>,
+) -> Result<(StatementNode, Cursor<'a>), Fault>
+    ensures statement { Gives (λ x. (statement_of x.0, ahead x.1)) result (as_one Alone (simple true true MAX_ENTRIES room (ahead cursor.entry))) }
+    ensures nodes { IfOk result (λ x. vec_len spans.new ≡ vec_len spans.old + statement_size (statement_of x.0)) }
+{
+    let found = simple(alloc, true, true, room, cursor, spans)?;
+    Ok((StatementNode::Simple(found.simple), found.rest))
+}
+
+/// A `go`, behind its word, which stands at `first`, below which there are at most so many levels.
+#[tactic(auto, unfolding(crate::specs::Reading::started))]
+pub fn started<'a>(
+    alloc: Global,
+    room: u32,
+    first: Span,
+    cursor: Cursor<'a>,
+    spans: &mut Vec<Span>,
+) -> Result<(StatementNode, Cursor<'a>), Fault>
+    ensures statement { Gives (λ x. (statement_of x.0, ahead x.1)) result (started MAX_ENTRIES room (ahead cursor.entry)) }
+    ensures nodes { IfOk result (λ x. vec_len spans.new ≡ vec_len spans.old + statement_size (statement_of x.0)) }
+{
+    let (function, _, rest) = name_at(alloc, cursor)?;
+    let passed = arguments(alloc, true, room, rest, spans)?;
+    spans.push(Span {
+        from: first.from,
+        to: passed.last.to,
+    })?;
+    Ok((StatementNode::Go(function, passed.arguments), passed.rest))
+}
+
+/// What was read behind `return`, and what follows it.
+#[derive(Drop)]
+struct FoundReturned<'a> {
+    returned: ReturnNode,
+    /// Where its last token ends.
+    end: u32,
+    rest: Cursor<'a>,
+}
+
+/// A value behind `return`, of at most so many levels.
+#[tactic(auto, unfolding(crate::specs::Reading::returned_value))]
+fn returned_value<'a>(
+    alloc: Global,
+    room: u32,
+    cursor: Cursor<'a>,
+    spans: &mut Vec<Span>,
+) -> Result<FoundReturned<'a>, Fault>
+    ensures returned { Gives (λ x. (returned_of x.returned, ahead x.rest)) result (returned_value MAX_ENTRIES room (ahead cursor.entry)) }
+    ensures nodes { IfOk result (λ x. vec_len spans.new ≡ vec_len spans.old + returned_size (returned_of x.returned)) }
+{
+    if room == 0 {
+        return Err(Fault::TooDeep(cursor.place()));
+    }
+    if begins_operation(cursor) {
+        let found = operation(alloc, true, room - 1, cursor, spans)?;
+        return Ok(FoundReturned {
+            returned: ReturnNode::Operation(found.operation),
+            end: found.span.to,
+            rest: found.rest,
+        });
+    }
+    let found = expression(alloc, true, room, 0, cursor, spans)?;
+    Ok(FoundReturned {
+        returned: ReturnNode::Value(found.expression),
+        end: found.span.to,
+        rest: found.rest,
+    })
+}
+
+/// What stands behind a `return` at `first`.
+#[tactic(auto, unfolding(crate::specs::Reading::returned))]
+fn returned<'a>(
+    alloc: Global,
+    room: u32,
+    first: Span,
+    cursor: Cursor<'a>,
+    spans: &mut Vec<Span>,
+) -> Result<FoundReturned<'a>, Fault>
+    ensures returned { Gives (λ x. (returned_of x.returned, ahead x.rest)) result (returned MAX_ENTRIES room (ahead cursor.entry)) }
+    ensures nodes { IfOk result (λ x. vec_len spans.new ≡ vec_len spans.old + returned_size (returned_of x.returned)) }
+{
+    if ends_statement(cursor) {
+        return Ok(FoundReturned {
+            returned: ReturnNode::Nothing,
+            end: first.to,
+            rest: cursor,
+        });
+    }
+    returned_value(alloc, room, cursor, spans)
+}
+
+/// A `return`, behind its word, which stands at `first`, below which there are at most so many levels.
+pub fn return_statement<'a>(
+    alloc: Global,
+    room: u32,
+    first: Span,
+    cursor: Cursor<'a>,
+    spans: &mut Vec<Span>,
+) -> Result<(StatementNode, Cursor<'a>), Fault>
+    ensures statement { Gives (λ x. (statement_of x.0, ahead x.1)) result (as_one Return (returned MAX_ENTRIES room (ahead cursor.entry))) }
+    ensures nodes { IfOk result (λ x. vec_len spans.new ≡ vec_len spans.old + statement_size (statement_of x.0)) }
+{
+    let found = returned(alloc, room, first, cursor, spans)?;
+    spans.push(Span {
+        from: first.from,
+        to: found.end,
+    })?;
+    Ok((StatementNode::Return(found.returned), found.rest))
+}
+
+/// Values behind `=`, if it comes next, and where the last token ends: that of the values, or `end` if there are none.
+fn initial<'a>(
+    alloc: Global,
+    room: u32,
+    end: u32,
+    cursor: Cursor<'a>,
+    spans: &mut Vec<Span>,
+) -> Result<(Option<RightNode>, u32, Cursor<'a>), Fault>
+    ensures right { Gives (λ x. (option_map right_of x.0, ahead x.2)) result (behind_next kinds.Assign (right true MAX_ENTRIES room) (ahead cursor.entry)) }
+    ensures nodes { IfOk result (λ x. vec_len spans.new ≡ vec_len spans.old + if_any right_size (option_map right_of x.0)) }
+{
+    if !begins_with(Kind::Assign, cursor) {
+        return Ok((None, end, cursor));
+    }
+    let (_, rest) = cursor.expect(Kind::Assign)?;
+    let found = right(alloc, true, room, rest, spans)?;
+    Ok((Some(found.right), found.last.to, found.rest))
+}
+
+/// The type of these names, which a `var` at `first` declares, and their values, if there are any.
+#[tactic(auto, unfolding(crate::specs::Reading::typed))]
+fn typed<'a>(
+    alloc: Global,
+    room: u32,
+    first: Span,
+    names: Vec<Name>,
+    cursor: Cursor<'a>,
+    spans: &mut Vec<Span>,
+) -> Result<(StatementNode, Cursor<'a>), Fault>
+    ensures statement { Gives (λ x. (statement_of x.0, ahead x.1)) result (typed (map name_of names.items) MAX_ENTRIES room (ahead cursor.entry)) }
+    ensures nodes { IfOk result (λ x. vec_len spans.new ≡ vec_len spans.old + statement_size (statement_of x.0)) }
+{
+    let found = type_at(alloc, room, cursor, spans)?;
+    let (right, end, rest) = initial(alloc, room, found.span.to, found.rest, spans)?;
+    spans.push(Span {
+        from: first.from,
+        to: end,
+    })?;
+    Ok((StatementNode::Typed(names, found.kind, right), rest))
+}
+
+/// The values of these names, which a `var` at `first` declares without a type.
+#[tactic(auto, unfolding(crate::specs::Reading::untyped))]
+fn untyped<'a>(
+    alloc: Global,
+    room: u32,
+    first: Span,
+    names: Vec<Name>,
+    cursor: Cursor<'a>,
+    spans: &mut Vec<Span>,
+) -> Result<(StatementNode, Cursor<'a>), Fault>
+    ensures statement { Gives (λ x. (statement_of x.0, ahead x.1)) result (untyped (map name_of names.items) MAX_ENTRIES room (ahead cursor.entry)) }
+    ensures nodes { IfOk result (λ x. vec_len spans.new ≡ vec_len spans.old + statement_size (statement_of x.0)) }
+{
+    let (_, rest) = cursor.expect(Kind::Assign)?;
+    let found = right(alloc, true, room, rest, spans)?;
+    spans.push(Span {
+        from: first.from,
+        to: found.last.to,
+    })?;
+    Ok((StatementNode::Untyped(names, found.right), found.rest))
+}
+
+/// A `var`, behind its word, which stands at `first`, below which there are at most so many levels.
+#[tactic(auto, unfolding(crate::specs::Reading::variable))]
+pub fn variable<'a>(
+    alloc: Global,
+    room: u32,
+    first: Span,
+    cursor: Cursor<'a>,
+    spans: &mut Vec<Span>,
+) -> Result<(StatementNode, Cursor<'a>), Fault>
+    ensures statement { Gives (λ x. (statement_of x.0, ahead x.1)) result (variable MAX_ENTRIES room (ahead cursor.entry)) }
+    ensures nodes { IfOk result (λ x. vec_len spans.new ≡ vec_len spans.old + statement_size (statement_of x.0)) }
+{
+    let names = names(alloc, Kind::Comma, MAX_ENTRIES as usize, cursor)?;
+    if begins_with(Kind::Assign, names.rest) {
+        return untyped(alloc, room, first, names.entries, names.rest, spans);
+    }
+    typed(alloc, room, first, names.entries, names.rest, spans)
+}
+
+/// A word that is a statement, which stands at `first`.
+fn word<'a>(
+    statement: StatementNode,
+    first: Span,
+    rest: Cursor<'a>,
+    spans: &mut Vec<Span>,
+) -> Result<(StatementNode, Cursor<'a>), Fault>
+    ensures statement { IfOk result (λ x. (x.0 ≡ statement) × (x.1 ≡ rest.entry)) }
+    ensures nodes { IfOk result (λ x. vec_len spans.new ≡ vec_len spans.old + 1) }
+    ensures err { IfErr result (λ e. e ≡ faults.Memory) }
+{
+    spans.push(first)?;
+    Ok((statement, rest))
+}
+
+/// A statement that begins with this mark at `first`, in which no other one stands and below which there are at most so
+/// many levels.
+pub fn leaf<'a>(
+    alloc: Global,
+    room: u32,
+    kind: Kind,
+    first: Span,
+    rest: Cursor<'a>,
+    cursor: Cursor<'a>,
+    spans: &mut Vec<Span>,
+) -> Result<(StatementNode, Cursor<'a>), Fault>
+    requires { ahead cursor ≡ Mark kind ∷ ahead rest }
+    ensures statement { Gives (λ x. (statement_of x.0, ahead x.1)) result (leaf MAX_ENTRIES room kind (ahead rest.entry)) }
+    ensures nodes { IfOk result (λ x. vec_len spans.new ≡ vec_len spans.old + statement_size (statement_of x.0)) }
+{
+    match kind {
+        Kind::Go => started(alloc, room, first, rest, spans),
+        Kind::Var => variable(alloc, room, first, rest, spans),
+        Kind::Return => return_statement(alloc, room, first, rest, spans),
+        Kind::Break => word(StatementNode::Break, first, rest, spans),
+        Kind::Continue => word(StatementNode::Continue, first, rest, spans),
+        kind if is_end(kind) => {
+            let empty = Span {
+                from: first.from,
+                to: first.from,
+            };
+            word(StatementNode::Empty, empty, cursor, spans)
+        }
+        _ => alone(alloc, room, cursor, spans),
+    }
+}

@@ -1,0 +1,7 @@
+//! Reading statements, with the headers of an if and a for, and what a clause of a select waits for.
+#![tactic(auto)]
+
+pub mod comm;
+pub mod header;
+mod leaf;
+pub mod statement;

@@ -1,0 +1,552 @@
+//! Statements.
+
+ghost use Rattle.std.specs.Prelude.{◌≡◌, ◌+◌, ◌∷◌, IfOk, IfErr, map, option_map, sum_by, length, vec_len};
+ghost use Rattle.go_text.specs.declared.fault.Fault.TheVariants as faults;
+ghost use Rattle.syntax.specs.Tree.{If, ElseIf, Select};
+ghost use Rattle.syntax.specs.Measures.{SelectClauses, if_any, comm_size, statement_size, block_size, branch_size, otherwise_size};
+ghost use Rattle.syntax.specs.View.{comm_of, statement_of, body_of, clauses};
+ghost use Rattle.parser_base.specs.Lexemes.{Mark};
+ghost use Rattle.parser_base.specs.Cursor.{ahead};
+ghost use Rattle.parser_base.specs.Reading.{Gives, Syntax, TooMany, listed};
+ghost use Rattle.parser_simple.specs.Reading.{as_one};
+ghost use Rattle.parser_statement.specs.Reading.{statement_next, clause_next, clauses_next, waited, clause_body, other, otherwise, branched, repeated, one_clause, selected, marked, stated, statement, block, branch, clause};
+ghost use Rattle.parser_statement.specs.Views.{branch_of, otherwise_of, clause_of, one_clause_size};
+
+use crate::comm::{FoundComm, comm};
+use crate::header::{for_header, if_header};
+use crate::leaf::{alone, ends_statement, leaf};
+use go_text::{Fault, LimitKind, Place, Span};
+use parser_base::cursor::{Cursor, Word};
+use parser_base::list::{List, MAX_ENTRIES, Next};
+use parser_simple::form::begins_with;
+use scanner::Kind;
+use std::alloc::Global;
+use syntax::{ClauseNode, CommNode, ElseNode, IfNode, StatementNode};
+
+/// What was read behind `if`, and what follows it.
+#[derive(Drop)]
+struct FoundBranch<'a> {
+    branch: IfNode,
+    /// Where its last token ends.
+    end: u32,
+    rest: Cursor<'a>,
+}
+
+/// What was read behind the block of an `if`, and what follows it.
+#[derive(Drop)]
+struct FoundOtherwise<'a> {
+    otherwise: ElseNode,
+    /// Where its last token ends.
+    end: u32,
+    rest: Cursor<'a>,
+}
+
+/// A clause that was read, and what follows it.
+#[derive(Drop)]
+struct FoundClause<'a> {
+    clause: ClauseNode,
+    rest: Cursor<'a>,
+}
+
+// ---- what follows a statement or a clause
+
+/// What follows a statement of a block, with the span of its token.
+#[tactic(auto, unfolding(crate::specs::Reading::statement_next))]
+pub fn statement_next(cursor: Cursor<'_>) -> Result<(Next, Span, Cursor<'_>), Fault>
+    ensures { Gives (λ x. (x.0, ahead x.2)) result (statement_next (ahead cursor.entry)) }
+{
+    match cursor.next() {
+        Some((Word::Mark(Kind::Semicolon), span, rest)) => Ok((Next::More, span, rest)),
+        Some((Word::Mark(Kind::RightBrace), span, rest)) => Ok((Next::End(false), span, rest)),
+        _ => Err(Fault::Syntax(cursor.place())),
+    }
+}
+
+/// What follows a statement of a clause.
+#[tactic(auto, unfolding(crate::specs::Reading::clause_next))]
+fn clause_next(cursor: Cursor<'_>) -> Result<(Next, Cursor<'_>), Fault>
+    ensures { Gives (λ x. (x.0, ahead x.1)) result (clause_next (ahead cursor.entry)) }
+{
+    if let Some((Word::Mark(Kind::Semicolon), _, rest)) = cursor.next() {
+        return Ok((Next::More, rest));
+    }
+    if ends_statement(cursor) {
+        return Ok((Next::End(false), cursor));
+    }
+    Err(Fault::Syntax(cursor.place()))
+}
+
+/// What follows a clause, with the span of the brace, if that comes next.
+#[tactic(auto, unfolding(crate::specs::Reading::clauses_next))]
+fn clauses_next(cursor: Cursor<'_>) -> Result<(Next, Span, Cursor<'_>), Fault>
+    ensures { Gives (λ x. (x.0, ahead x.2)) result (clauses_next (ahead cursor.entry)) }
+{
+    if begins_with(Kind::RightBrace, cursor) {
+        let (brace, rest) = cursor.expect(Kind::RightBrace)?;
+        return Ok((Next::End(false), brace, rest));
+    }
+    Ok((Next::More, cursor.place().span, cursor))
+}
+
+// ---- nodes
+
+/// An `if`, as a statement.
+fn if_node(alloc: Global, branch: IfNode) -> Result<StatementNode, Fault>
+    ensures ok { IfOk result (λ node. statement_of node ≡ If (branch_of branch)) }
+    ensures err { IfErr result (λ e. e ≡ faults.Memory) }
+{
+    Ok(StatementNode::If(Box::new(alloc, branch)?))
+}
+
+/// An `if` behind an `else`.
+fn else_node(alloc: Global, branch: IfNode) -> Result<ElseNode, Fault>
+    ensures ok { IfOk result (λ node. otherwise_of node ≡ ElseIf (branch_of branch)) }
+    ensures err { IfErr result (λ e. e ≡ faults.Memory) }
+{
+    Ok(ElseNode::If(Box::new(alloc, branch)?))
+}
+
+/// A `select` of these clauses.
+fn select_node(all: Vec<ClauseNode>) -> StatementNode
+    ensures { statement_of result ≡ Select (clauses (map clause_of all.items)) }
+{
+    StatementNode::Select(all)
+}
+
+/// A clause that waits for this, or is the default, with these statements.
+fn clause_node(comm: Option<CommNode>, body: Vec<StatementNode>) -> ClauseNode
+    ensures comm { (clause_of result).comm ≡ option_map comm_of comm }
+    ensures body { (clause_of result).body ≡ body_of body.items }
+{
+    ClauseNode { comm, body }
+}
+
+/// Where the last node that was read ends, or `end` if there is none.
+fn end_of(spans: &[Span], end: u32) -> u32 {
+    match spans.last() {
+        Some(span) => span.to,
+        None => end,
+    }
+}
+
+// ---- blocks
+
+/// The statements of a block, each of at most so many levels, behind its first brace.
+#[cycle(statement)]
+pub fn statements<'a>(
+    alloc: Global,
+    room: u32,
+    cursor: Cursor<'a>,
+    spans: &mut Vec<Span>,
+) -> Result<List<'a, StatementNode>, Fault>
+    ensures statements { Gives (λ x. ((map statement_of x.entries.items, x.trailing), ahead x.rest)) result (listed (statement MAX_ENTRIES room) statement_next Syntax (length (ahead cursor.entry)) (ahead cursor.entry)) }
+    ensures nodes { IfOk result (λ x. vec_len spans.new ≡ vec_len spans.old + sum_by statement_size (map statement_of x.entries.items)) }
+{
+    let mut entries = Vec::new(alloc);
+    let mut rest = cursor;
+    for _ in 0..cursor.len() {
+        let (one, behind) = statement(alloc, room, rest, spans)?;
+        entries.push(one)?;
+        let (next, last, after) = statement_next(behind)?;
+        match next {
+            Next::More => rest = after,
+            Next::End(trailing) => return Ok(List {
+                entries,
+                trailing,
+                last,
+                rest: after,
+            }),
+        }
+    }
+    Err(Fault::Syntax(rest.place()))
+}
+
+/// A block of at most so many levels ("Blocks" of the Go specification).
+#[cycle(statement)]
+#[tactic(auto, unfolding(crate::specs::Reading::statement, crate::specs::Reading::braced))]
+fn block<'a>(
+    alloc: Global,
+    room: u32,
+    cursor: Cursor<'a>,
+    spans: &mut Vec<Span>,
+) -> Result<List<'a, StatementNode>, Fault>
+    ensures block { Gives (λ x. (body_of x.entries.items, ahead x.rest)) result (block MAX_ENTRIES room (ahead cursor.entry)) }
+    ensures nodes { IfOk result (λ x. vec_len spans.new ≡ vec_len spans.old + block_size (body_of x.entries.items)) }
+{
+    if room == 0 {
+        return Err(Fault::TooDeep(cursor.place()));
+    }
+    let (first, rest) = cursor.expect(Kind::LeftBrace)?;
+    let all = statements(alloc, room - 1, rest, spans)?;
+    spans.push(Span {
+        from: first.from,
+        to: all.last.to,
+    })?;
+    Ok(all)
+}
+
+// ---- if and for
+
+/// What stands behind `else`: an `if` or a block, of at most so many levels.
+#[cycle(statement)]
+#[tactic(auto, unfolding(crate::specs::Reading::statement, crate::specs::Reading::other))]
+fn other<'a>(
+    alloc: Global,
+    room: u32,
+    cursor: Cursor<'a>,
+    spans: &mut Vec<Span>,
+) -> Result<FoundOtherwise<'a>, Fault>
+    ensures otherwise { Gives (λ x. (otherwise_of x.otherwise, ahead x.rest)) result (other (block MAX_ENTRIES room) (branch MAX_ENTRIES room) (ahead cursor.entry)) }
+    ensures nodes { IfOk result (λ x. vec_len spans.new ≡ vec_len spans.old + otherwise_size (otherwise_of x.otherwise)) }
+{
+    if begins_with(Kind::If, cursor) {
+        let (first, rest) = cursor.expect(Kind::If)?;
+        if room == 0 {
+            return Err(Fault::TooDeep(Place::from(first)));
+        }
+        let found = branched(alloc, room - 1, first, rest, spans)?;
+        return Ok(FoundOtherwise {
+            otherwise: else_node(alloc, found.branch)?,
+            end: found.end,
+            rest: found.rest,
+        });
+    }
+    let body = block(alloc, room, cursor, spans)?;
+    Ok(FoundOtherwise {
+        otherwise: ElseNode::Block(body.entries),
+        end: body.last.to,
+        rest: body.rest,
+    })
+}
+
+/// An `else` of at most so many levels, if there is one, behind a block that ends at `end`.
+#[cycle(statement)]
+#[tactic(auto, unfolding(crate::specs::Reading::otherwise))]
+fn otherwise<'a>(
+    alloc: Global,
+    room: u32,
+    end: u32,
+    cursor: Cursor<'a>,
+    spans: &mut Vec<Span>,
+) -> Result<FoundOtherwise<'a>, Fault>
+    ensures otherwise { Gives (λ x. (otherwise_of x.otherwise, ahead x.rest)) result (otherwise (block MAX_ENTRIES room) (branch MAX_ENTRIES room) (ahead cursor.entry)) }
+    ensures nodes { IfOk result (λ x. vec_len spans.new ≡ vec_len spans.old + otherwise_size (otherwise_of x.otherwise)) }
+{
+    if !begins_with(Kind::Else, cursor) {
+        return Ok(FoundOtherwise {
+            otherwise: ElseNode::Nothing,
+            end,
+            rest: cursor,
+        });
+    }
+    let (_, rest) = cursor.expect(Kind::Else)?;
+    other(alloc, room, rest, spans)
+}
+
+/// What stands behind an `if` at `first` ("If statements" of the Go specification), below which there are at most so many
+/// levels.
+#[cycle(statement)]
+#[tactic(auto, unfolding(crate::specs::Reading::branched))]
+fn branched<'a>(
+    alloc: Global,
+    room: u32,
+    first: Span,
+    cursor: Cursor<'a>,
+    spans: &mut Vec<Span>,
+) -> Result<FoundBranch<'a>, Fault>
+    ensures branch { Gives (λ x. (branch_of x.branch, ahead x.rest)) result (branched MAX_ENTRIES room (block MAX_ENTRIES room) (branch MAX_ENTRIES room) (ahead cursor.entry)) }
+    ensures nodes { IfOk result (λ x. vec_len spans.new ≡ vec_len spans.old + branch_size (branch_of x.branch)) }
+{
+    let header = if_header(alloc, room, cursor, spans)?;
+    let body = block(alloc, room, header.rest, spans)?;
+    let last = otherwise(alloc, room, body.last.to, body.rest, spans)?;
+    spans.push(Span {
+        from: first.from,
+        to: last.end,
+    })?;
+    Ok(FoundBranch {
+        branch: IfNode {
+            header: header.header,
+            condition: header.condition,
+            body: body.entries,
+            otherwise: last.otherwise,
+        },
+        end: last.end,
+        rest: last.rest,
+    })
+}
+
+/// What stands behind a `for` at `first` ("For statements" of the Go specification), below which there are at most so
+/// many levels.
+#[cycle(statement)]
+#[tactic(auto, unfolding(crate::specs::Reading::repeated))]
+fn repeated<'a>(
+    alloc: Global,
+    room: u32,
+    first: Span,
+    cursor: Cursor<'a>,
+    spans: &mut Vec<Span>,
+) -> Result<(StatementNode, Cursor<'a>), Fault>
+    ensures statement { Gives (λ x. (statement_of x.0, ahead x.1)) result (repeated MAX_ENTRIES room (block MAX_ENTRIES room) (ahead cursor.entry)) }
+    ensures nodes { IfOk result (λ x. vec_len spans.new ≡ vec_len spans.old + statement_size (statement_of x.0)) }
+{
+    let header = for_header(alloc, room, cursor, spans)?;
+    let body = block(alloc, room, header.rest, spans)?;
+    spans.push(Span {
+        from: first.from,
+        to: body.last.to,
+    })?;
+    Ok((StatementNode::For(header.header, body.entries), body.rest))
+}
+
+// ---- select
+
+/// What a clause waits for, of at most so many levels.
+#[tactic(auto, unfolding(crate::specs::Reading::waited))]
+fn waited<'a>(
+    alloc: Global,
+    room: u32,
+    cursor: Cursor<'a>,
+    spans: &mut Vec<Span>,
+) -> Result<FoundComm<'a>, Fault>
+    ensures comm { Gives (λ x. (comm_of x.comm, ahead x.rest)) result (waited MAX_ENTRIES room (ahead cursor.entry)) }
+    ensures nodes { IfOk result (λ x. vec_len spans.new ≡ vec_len spans.old + comm_size (comm_of x.comm)) }
+{
+    if room == 0 {
+        return Err(Fault::TooDeep(cursor.place()));
+    }
+    comm(alloc, room - 1, cursor, spans)
+}
+
+/// The statements of a clause, each of at most so many levels, behind its colon. The flag is false: no separator ends them.
+#[cycle(statement)]
+fn clause_statements<'a>(
+    alloc: Global,
+    room: u32,
+    cursor: Cursor<'a>,
+    spans: &mut Vec<Span>,
+) -> Result<(Vec<StatementNode>, bool, Cursor<'a>), Fault>
+    ensures statements { Gives (λ x. ((map statement_of x.0.items, x.1), ahead x.2)) result (listed (statement MAX_ENTRIES room) clause_next Syntax (length (ahead cursor.entry)) (ahead cursor.entry)) }
+    ensures nodes { IfOk result (λ x. vec_len spans.new ≡ vec_len spans.old + sum_by statement_size (map statement_of x.0.items)) }
+{
+    let mut entries = Vec::new(alloc);
+    let mut rest = cursor;
+    for _ in 0..cursor.len() {
+        let (one, behind) = statement(alloc, room, rest, spans)?;
+        entries.push(one)?;
+        let (next, after) = clause_next(behind)?;
+        match next {
+            Next::More => rest = after,
+            Next::End(trailing) => return Ok((entries, trailing, after)),
+        }
+    }
+    Err(Fault::Syntax(rest.place()))
+}
+
+/// A clause from its colon on, whose word stands at `first`, with statements of at most so many levels.
+#[cycle(statement)]
+#[tactic(auto, unfolding(crate::specs::Reading::clause_body))]
+fn clause_body<'a>(
+    alloc: Global,
+    room: u32,
+    first: Span,
+    waits: Option<CommNode>,
+    cursor: Cursor<'a>,
+    spans: &mut Vec<Span>,
+) -> Result<FoundClause<'a>, Fault>
+    ensures clause { Gives (λ x. (clause_of x.clause, ahead x.rest)) result (clause_body (statement MAX_ENTRIES room) (option_map comm_of waits) (ahead cursor.entry)) }
+    ensures nodes { IfOk result (λ x. vec_len spans.new + if_any comm_size (option_map comm_of waits) ≡ vec_len spans.old + one_clause_size (clause_of x.clause)) }
+{
+    let (colon, rest) = cursor.expect(Kind::Colon)?;
+    let (body, _, rest) = clause_statements(alloc, room, rest, spans)?;
+    let end = end_of(spans.as_slice(), colon.to);
+    spans.push(Span {
+        from: first.from,
+        to: end,
+    })?;
+    Ok(FoundClause {
+        clause: clause_node(waits, body),
+        rest,
+    })
+}
+
+/// A clause, below which there are at most so many levels.
+#[cycle(statement)]
+#[tactic(auto, unfolding(crate::specs::Reading::one_clause))]
+fn one_clause<'a>(
+    alloc: Global,
+    room: u32,
+    cursor: Cursor<'a>,
+    spans: &mut Vec<Span>,
+) -> Result<FoundClause<'a>, Fault>
+    ensures clause { Gives (λ x. (clause_of x.clause, ahead x.rest)) result (one_clause MAX_ENTRIES room (statement MAX_ENTRIES room) (ahead cursor.entry)) }
+    ensures nodes { IfOk result (λ x. vec_len spans.new ≡ vec_len spans.old + one_clause_size (clause_of x.clause)) }
+{
+    match cursor.next() {
+        Some((Word::Mark(Kind::Case), first, rest)) => {
+            let waits = waited(alloc, room, rest, spans)?;
+            clause_body(alloc, room, first, Some(waits.comm), waits.rest, spans)
+        }
+        Some((Word::Mark(Kind::Default), first, rest)) => clause_body(
+            alloc, room, first, None, rest, spans,
+        ),
+        _ => Err(Fault::Syntax(cursor.place())),
+    }
+}
+
+/// A clause of at most so many levels.
+#[cycle(statement)]
+#[tactic(auto, unfolding(crate::specs::Reading::statement))]
+fn clause<'a>(
+    alloc: Global,
+    room: u32,
+    cursor: Cursor<'a>,
+    spans: &mut Vec<Span>,
+) -> Result<FoundClause<'a>, Fault>
+    ensures clause { Gives (λ x. (clause_of x.clause, ahead x.rest)) result (clause MAX_ENTRIES room (ahead cursor.entry)) }
+    ensures nodes { IfOk result (λ x. vec_len spans.new ≡ vec_len spans.old + one_clause_size (clause_of x.clause)) }
+{
+    if room == 0 {
+        return Err(Fault::TooDeep(cursor.place()));
+    }
+    one_clause(alloc, room - 1, cursor, spans)
+}
+
+/// The clauses of a `select`, each of at most so many levels.
+#[cycle(statement)]
+fn clauses<'a>(
+    alloc: Global,
+    room: u32,
+    cursor: Cursor<'a>,
+    spans: &mut Vec<Span>,
+) -> Result<List<'a, ClauseNode>, Fault>
+    ensures clauses { Gives (λ x. ((map clause_of x.entries.items, x.trailing), ahead x.rest)) result (listed (clause MAX_ENTRIES room) clauses_next (TooMany SelectClauses) MAX_ENTRIES (ahead cursor.entry)) }
+    ensures nodes { IfOk result (λ x. vec_len spans.new ≡ vec_len spans.old + sum_by one_clause_size (map clause_of x.entries.items)) }
+{
+    let mut entries = Vec::new(alloc);
+    let mut rest = cursor;
+    for _ in 0..MAX_ENTRIES {
+        let found = clause(alloc, room, rest, spans)?;
+        entries.push(found.clause)?;
+        let (next, last, after) = clauses_next(found.rest)?;
+        match next {
+            Next::More => rest = after,
+            Next::End(trailing) => return Ok(List {
+                entries,
+                trailing,
+                last,
+                rest: after,
+            }),
+        }
+    }
+    Err(Fault::Limit {
+        kind: LimitKind::SelectClauses,
+        node: None,
+        place: rest.place(),
+    })
+}
+
+/// What stands behind a `select` at `first` ("Select statements" of the Go specification), below which there are at most
+/// so many levels.
+#[cycle(statement)]
+#[tactic(auto, unfolding(crate::specs::Reading::selected))]
+fn selected<'a>(
+    alloc: Global,
+    room: u32,
+    first: Span,
+    cursor: Cursor<'a>,
+    spans: &mut Vec<Span>,
+) -> Result<(StatementNode, Cursor<'a>), Fault>
+    ensures statement { Gives (λ x. (statement_of x.0, ahead x.1)) result (as_one Select (selected MAX_ENTRIES (clause MAX_ENTRIES room) (ahead cursor.entry))) }
+    ensures nodes { IfOk result (λ x. vec_len spans.new ≡ vec_len spans.old + statement_size (statement_of x.0)) }
+{
+    let (_, inside) = cursor.expect(Kind::LeftBrace)?;
+    if begins_with(Kind::RightBrace, inside) {
+        let (last, rest) = inside.expect(Kind::RightBrace)?;
+        spans.push(Span {
+            from: first.from,
+            to: last.to,
+        })?;
+        return Ok((select_node(Vec::new(alloc)), rest));
+    }
+    let all = clauses(alloc, room, inside, spans)?;
+    spans.push(Span {
+        from: first.from,
+        to: all.last.to,
+    })?;
+    Ok((select_node(all.entries), all.rest))
+}
+
+// ---- statements
+
+/// A statement that begins with this mark at `first`, below which there are at most so many levels.
+#[cycle(statement)]
+fn marked<'a>(
+    alloc: Global,
+    room: u32,
+    kind: Kind,
+    first: Span,
+    rest: Cursor<'a>,
+    cursor: Cursor<'a>,
+    spans: &mut Vec<Span>,
+) -> Result<(StatementNode, Cursor<'a>), Fault>
+    requires { ahead cursor ≡ Mark kind ∷ ahead rest }
+    ensures statement { Gives (λ x. (statement_of x.0, ahead x.1)) result (marked MAX_ENTRIES room (block MAX_ENTRIES room) (branch MAX_ENTRIES room) (clause MAX_ENTRIES room) kind (ahead rest.entry)) }
+    ensures nodes { IfOk result (λ x. vec_len spans.new ≡ vec_len spans.old + statement_size (statement_of x.0)) }
+{
+    match kind {
+        Kind::LeftBrace => {
+            let body = block(alloc, room, cursor, spans)?;
+            spans.push(Span {
+                from: first.from,
+                to: body.last.to,
+            })?;
+            Ok((StatementNode::Block(body.entries), body.rest))
+        }
+        Kind::If => {
+            let found = branched(alloc, room, first, rest, spans)?;
+            Ok((if_node(alloc, found.branch)?, found.rest))
+        }
+        Kind::For => repeated(alloc, room, first, rest, spans),
+        Kind::Select => selected(alloc, room, first, rest, spans),
+        kind => leaf(alloc, room, kind, first, rest, cursor, spans),
+    }
+}
+
+/// A statement, below which there are at most so many levels.
+#[cycle(statement)]
+#[tactic(auto, unfolding(crate::specs::Reading::stated))]
+fn stated<'a>(
+    alloc: Global,
+    room: u32,
+    cursor: Cursor<'a>,
+    spans: &mut Vec<Span>,
+) -> Result<(StatementNode, Cursor<'a>), Fault>
+    ensures statement { Gives (λ x. (statement_of x.0, ahead x.1)) result (stated MAX_ENTRIES room (block MAX_ENTRIES room) (branch MAX_ENTRIES room) (clause MAX_ENTRIES room) (ahead cursor.entry)) }
+    ensures nodes { IfOk result (λ x. vec_len spans.new ≡ vec_len spans.old + statement_size (statement_of x.0)) }
+{
+    match cursor.next() {
+        Some((Word::Mark(kind), first, rest)) => marked(
+            alloc, room, kind, first, rest, cursor, spans,
+        ),
+        _ => alone(alloc, room, cursor, spans),
+    }
+}
+
+/// A statement of at most so many levels ("Statements" of the Go specification).
+#[cycle(statement)]
+#[tactic(auto, unfolding(crate::specs::Reading::statement))]
+pub fn statement<'a>(
+    alloc: Global,
+    room: u32,
+    cursor: Cursor<'a>,
+    spans: &mut Vec<Span>,
+) -> Result<(StatementNode, Cursor<'a>), Fault>
+    ensures statement { Gives (λ x. (statement_of x.0, ahead x.1)) result (statement MAX_ENTRIES room (ahead cursor.entry)) }
+    ensures nodes { IfOk result (λ x. vec_len spans.new ≡ vec_len spans.old + statement_size (statement_of x.0)) }
+{
+    if room == 0 {
+        return Err(Fault::TooDeep(cursor.place()));
+    }
+    stated(alloc, room - 1, cursor, spans)
+}
