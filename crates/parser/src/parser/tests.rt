@@ -23,6 +23,8 @@ enum Outcome {
     TooDeep(u32),
     /// The limit of a list's entries at an offset.
     Entries(u32),
+    /// The limit of a select's clauses at an offset.
+    Clauses(u32),
     /// Any other fault.
     Other,
 }
@@ -50,6 +52,13 @@ fn outcome_of(alloc: Global, text: &str) -> Outcome {
                 place,
             },
         ) => Outcome::Entries(place.span.from),
+        Err(
+            Fault::Limit {
+                kind: LimitKind::SelectClauses,
+                node: None,
+                place,
+            },
+        ) => Outcome::Clauses(place.span.from),
         Err(_) => Outcome::Other,
     }
 }
@@ -70,6 +79,7 @@ fn body_outcome(alloc: Global, body: &str) -> Result<Outcome, Fail> {
         Outcome::Syntax(offset) => Outcome::Syntax(offset.saturating_sub(start)),
         Outcome::TooDeep(offset) => Outcome::TooDeep(offset.saturating_sub(start)),
         Outcome::Entries(offset) => Outcome::Entries(offset.saturating_sub(start)),
+        Outcome::Clauses(offset) => Outcome::Clauses(offset.saturating_sub(start)),
         other => other,
     })
 }
@@ -295,8 +305,6 @@ fn refuses_statements_at_the_first_wrong_token(rt: HostRuntime) -> Result<(), Fa
         ("1}", 1),
         ("(1)}", 3),
         ("x}", 1),
-        ("{}}", 0),
-        ("return}", 0),
         ("println}", 7),
         ("println 1}", 8),
         ("println", 7),
@@ -716,3 +724,5 @@ fn groups_stronger_operators_within_weaker_ones(rt: HostRuntime) -> Result<(), F
     assert!(rt; matches!(&**operand, ExpressionNode::Selection(_, _)));
     Ok(())
 }
+
+mod statements;

@@ -1,0 +1,354 @@
+//! Statements in which others stand, and those that begin with a keyword.
+
+use super::{Outcome, body_outcome, repeated};
+use std::process::Abort;
+use std::test::Fail;
+
+/// Compares where texts are refused.
+fn refused<R: AllocGlobal + Abort>(rt: &R, cases: &[(&str, u32)]) -> Result<(), Fail> {
+    for (body, offset) in cases {
+        assert_eq!(rt;
+            body_outcome(rt.alloc(), body)?,
+            Outcome::Syntax(*offset),
+            "{body}"
+        );
+    }
+    Ok(())
+}
+
+/// Compares which texts are read.
+fn taken<R: AllocGlobal + Abort>(rt: &R, bodies: &[&str]) -> Result<(), Fail> {
+    for body in bodies {
+        assert_eq!(rt; body_outcome(rt.alloc(), body)?, Outcome::Tree, "{body}");
+    }
+    Ok(())
+}
+
+#[test]
+fn blocks(rt: HostRuntime) -> Result<(), Fail> {
+    taken(
+        &rt,
+        &[
+            "{}}",
+            "{;}}",
+            "{};}",
+            "{{};{}}}",
+            "{x := 1}; x := 2}",
+            "{\nx := 1\n}\nx := 2\n}",
+        ],
+    )?;
+    refused(
+        &rt,
+        &[
+            ("{", 1),
+            ("{}", 2),
+            ("{};", 3),
+            ("{x}}", 2),
+            ("{1}}", 2),
+            ("{} {}}", 3),
+            ("{} x := 1}", 3),
+            ("{)}}", 1),
+        ],
+    )
+}
+
+#[test]
+fn branches(rt: HostRuntime) -> Result<(), Fail> {
+    taken(
+        &rt,
+        &[
+            "if x {}}",
+            "if ; x {}}",
+            "if x := 1; x == y {}}",
+            "if f(); x {}}",
+            "if <-c; x {}}",
+            "if (x) {} else {}}",
+            "if x {} else if y {}}",
+            "if x {} else if y {} else if ; z {} else {}}",
+            "if x {\nreturn\n} else {\nreturn\n}\n}",
+            "if x.y == (a) {T{}.c <- 1}}",
+        ],
+    )?;
+    refused(
+        &rt,
+        &[
+            ("if}", 2),
+            ("if {}}", 3),
+            ("if x", 4),
+            ("if x}", 4),
+            ("if x {", 6),
+            ("if x {}", 7),
+            ("if x; y {}}", 4),
+            ("if x = 1 {}}", 9),
+            ("if x := 1 {}}", 10),
+            ("if x := 1; {}}", 11),
+            ("if x := 1; y := 2; x {}}", 13),
+            ("if ;; x {}}", 4),
+            ("if (x {}}", 6),
+            ("if x y {}}", 5),
+            ("if T{} == x {}}", 7),
+            ("if x == T{1} {}}", 11),
+            ("if f(T{1}) {}}", 6),
+            ("if x {} if y {}}", 8),
+            ("if x {} else}", 12),
+            ("if x {} else x {}}", 13),
+            ("if x {} else {} else {}}", 16),
+            ("if x {}\nelse {}}", 8),
+            ("if x {} else\n{} {}}", 16),
+        ],
+    )
+}
+
+#[test]
+fn loops(rt: HostRuntime) -> Result<(), Fail> {
+    taken(
+        &rt,
+        &[
+            "for {}}",
+            "for x {}}",
+            "for x < y {}}",
+            "for ;; {}}",
+            "for i := 0; i < 3; i++ {}}",
+            "for i = 0; ; i += 2 {}}",
+            "for ; x; f() {}}",
+            "for ; ; c <- 1 {}}",
+            "for <-c; x; {}}",
+            "for range c {}}",
+            "for x := range c {}}",
+            "for x.y = range c {}}",
+            "for _ = range (c) {}}",
+            "for {\nbreak\ncontinue\n}\n}",
+        ],
+    )?;
+    refused(
+        &rt,
+        &[
+            ("for}", 3),
+            ("for {", 5),
+            ("for {}", 6),
+            ("for x}", 5),
+            ("for x; y; z++ {}}", 5),
+            ("for x := 1; {}}", 12),
+            ("for x := 1 {}}", 11),
+            ("for ; {}}", 6),
+            ("for ;;; {}}", 6),
+            ("for ;;x := 1 {}}", 8),
+            ("for ;;x {}}", 8),
+            ("for i := 0; i < 3 {}}", 18),
+            ("for i := 0; i := 3; {}}", 14),
+            ("for c <- 1 {}}", 11),
+            ("for <-c {}}", 8),
+            ("for range}", 9),
+            ("for range {}}", 10),
+            ("for range c}", 11),
+            ("for range c; x {}}", 11),
+            ("for x := range {}}", 15),
+            ("for x = range c}", 15),
+            ("for x, y := range c {}}", 12),
+            ("for x.y := range c {}}", 8),
+            ("for x range c {}}", 6),
+            ("for T{}.x {}}", 7),
+        ],
+    )
+}
+
+#[test]
+fn selects(rt: HostRuntime) -> Result<(), Fail> {
+    taken(
+        &rt,
+        &[
+            "select {}}",
+            "select {default:}}",
+            "select {case <-c:}}",
+            "select {case <-c: case <-d:}}",
+            "select {case c <- 1: x := 1; case d <- 2:}}",
+            "select {case x := <-c: f(x); default: return}}",
+            "select {case x, ok := <-c:}}",
+            "select {case x.y, ok = <-c:}}",
+            "select {case _ = <-c:}}",
+            "select {case T{1}.c <- T{2}:}}",
+            "select {\ncase <-c:\nx := 1\ndefault:\n}\n}",
+        ],
+    )?;
+    refused(
+        &rt,
+        &[
+            ("select}", 6),
+            ("select {", 8),
+            ("select x {}}", 7),
+            ("select {x}}", 8),
+            ("select {;}}", 8),
+            ("select {{}}}", 8),
+            ("select {case}}", 12),
+            ("select {case :}}", 13),
+            ("select {case <-c}}", 16),
+            ("select {case <-c:", 17),
+            ("select {case <-:}}", 15),
+            ("select {case x:}}", 14),
+            ("select {case x := c:}}", 18),
+            ("select {case x := <-c, d:}}", 21),
+            ("select {case x, y, z := <-c:}}", 17),
+            ("select {case x, y.z := <-c:}}", 20),
+            ("select {case x.y := <-c:}}", 17),
+            ("select {case c <- :}}", 18),
+            ("select {case -c <- 1:}}", 13),
+            ("select {case f():}}", 14),
+            ("select {default}}", 15),
+            ("select {default x:}}", 16),
+            ("case <-c:}", 0),
+            ("default:}", 0),
+        ],
+    )
+}
+
+#[test]
+fn starts_and_returns(rt: HostRuntime) -> Result<(), Fail> {
+    taken(
+        &rt,
+        &[
+            "go f()}",
+            "go f(1, x,)}",
+            "go f(T{})}",
+            "return}",
+            "return;}",
+            "return 1}",
+            "return T{x}}",
+            "return f(x)}",
+            "return <-c}",
+            "return len(c)}",
+            "break}",
+            "continue;}",
+        ],
+    )?;
+    refused(
+        &rt,
+        &[
+            ("go}", 2),
+            ("go f}", 4),
+            ("go f(}", 5),
+            ("go f(1}", 6),
+            ("go f()", 6),
+            ("go f() x}", 7),
+            ("go f.g()}", 4),
+            ("go (f)()}", 3),
+            ("go make(chan int)}", 3),
+            ("go println(1)}", 3),
+            ("go func() {}()}", 3),
+            ("return", 6),
+            ("return 1, 2}", 8),
+            ("return f(}", 9),
+            ("return f(1) + 1}", 12),
+            ("return <-}", 9),
+            ("return x := 1}", 9),
+            ("return println(1)}", 7),
+            ("return *x}", 7),
+            ("return (1}", 9),
+            ("break", 5),
+            ("break x}", 6),
+            ("continue x}", 9),
+        ],
+    )
+}
+
+#[test]
+fn variables(rt: HostRuntime) -> Result<(), Fail> {
+    taken(
+        &rt,
+        &[
+            "var x int}",
+            "var x, y int}",
+            "var x = 1}",
+            "var x, y = 1, 2}",
+            "var x int = 1}",
+            "var v, ok = <-c}",
+            "var c chan<- int = make(chan int)}",
+            "var _ (T) = T{1}}",
+        ],
+    )?;
+    refused(
+        &rt,
+        &[
+            ("var}", 3),
+            ("var x}", 5),
+            ("var x,}", 6),
+            ("var x =}", 7),
+            ("var x := 1}", 6),
+            ("var x.y int}", 5),
+            ("var (x int)}", 4),
+            ("var x [3]int}", 6),
+            ("var len int}", 4),
+            ("var x int =}", 11),
+            ("var x int 1}", 10),
+            ("var x int, y int}", 9),
+            ("var x int = 1, }", 15),
+            ("var x chan}", 10),
+        ],
+    )
+}
+
+#[test]
+fn other_keywords_begin_no_statement(rt: HostRuntime) -> Result<(), Fail> {
+    refused(
+        &rt,
+        &[
+            ("goto x}", 0),
+            ("defer f()}", 0),
+            ("switch {}}", 0),
+            ("fallthrough}", 0),
+            ("func() {}}", 0),
+            ("type T struct{}}", 0),
+            ("const x = 1}", 0),
+            ("else {}}", 0),
+            ("import x}", 0),
+            ("interface{}}", 0),
+            ("map[x]y}", 0),
+            ("package x}", 0),
+            ("range c}", 0),
+            ("struct{}}", 0),
+            ("chan int}", 0),
+        ],
+    )
+}
+
+#[test]
+fn limits_heights_of_statements(rt: HostRuntime) -> Result<(), Fail> {
+    let alloc = rt.alloc();
+    for (open, last, close, count, wanted) in [
+        ("{", "", "}", 98, Outcome::Tree),
+        ("{", "", "}", 99, Outcome::TooDeep(98)),
+        ("for{", "", "}", 98, Outcome::Tree),
+        ("if x{", "", "}", 98, Outcome::Tree),
+        ("select{default:", "", "}", 98, Outcome::Tree),
+    ] {
+        let closing = repeated(alloc, last, close, count, "}")?;
+        let body = repeated(alloc, "", open, count, &closing)?;
+        assert_eq!(rt; body_outcome(alloc, &body)?, wanted, "{count} times {open}");
+    }
+    let body = repeated(alloc, "if x{}", " else if x{}", 194, "}")?;
+    assert_eq!(rt;
+        body_outcome(alloc, &body)?,
+        Outcome::Tree,
+        "194 times else"
+    );
+    Ok(())
+}
+
+#[test]
+fn limits_clauses(rt: HostRuntime) -> Result<(), Fail> {
+    let alloc = rt.alloc();
+    for (count, last, wanted) in [
+        (63, "default:}}", Outcome::Tree),
+        (64, "}}", Outcome::Tree),
+        (64, "default:}}", Outcome::Clauses(520)),
+        (65, "}}", Outcome::Clauses(520)),
+        (64, "x}}", Outcome::Syntax(521)),
+    ] {
+        let body = repeated(alloc, "select {", "case<-c:", count, last)?;
+        assert_eq!(rt;
+            body_outcome(alloc, &body)?,
+            wanted,
+            "{count} clauses and {last}"
+        );
+    }
+    Ok(())
+}
