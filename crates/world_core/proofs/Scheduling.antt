@@ -17,6 +17,7 @@ use Rattle.word.specs.Worlds.{Rest, is_deserted, moment, opening, rules}
 use Rattle.word.proofs.Flows.{in_order}
 use Rattle.word.proofs.Rise.{rising}
 use Rattle.word.proofs.Shut.{shut}
+use Rattle.word.proofs.Zeros.{zero_last}
 use Rattle.word.proofs.Laws.{laws}
 use Rattle.word.specs.declared.end.End.{End as Ending}
 use Rattle.word.specs.declared.end.End.TheVariants.{Deadlock}
@@ -226,4 +227,5 @@ module _ (code : Code) (limit : ℕ) where
         order = λ c. rw (events, channels) (in_order (code_kind code) limit q.0 c);
         rising = λ c. rw events (rising (code_kind code) limit q.0 c);
         shut = λ c. rw events (shut (code_kind code) limit q.0 c);
+        zero = λ c. rw events (zero_last (code_kind code) limit q.0 c);
       }

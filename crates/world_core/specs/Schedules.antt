@@ -17,6 +17,7 @@ use Rattle.word.specs.Requests.{channel_of}
 use Rattle.word.specs.Rising.{Rises, entries}
 use Rattle.word.specs.Values.{Event}
 use Rattle.word.specs.Worlds.{end_of, is_deserted, moment, opening, rules}
+use Rattle.word.specs.Zeros.{ZeroAfter}
 use Rattle.world_core_base.specs.Cores.{World, CoreValue, IsCoreOf, shared_of}
 use Rattle.world_core_base.specs.Slots.{State}
 
@@ -86,9 +87,11 @@ pub record IsMoment (code : Code) (limit : ℕ) (w : WorldValue) : Type 0 where
   pub output : w.output ≡ (moment (code_kind code) limit moves).shared.shared.output
   pub ending : end_in w.core ≡ end_of (moment (code_kind code) limit moves)
 
--- first in, first out: what a channel accepted is what was received and then its buffer, one sender's items come in the
--- order in which they were offered, and nothing is accepted after a close
+-- first in, first out: what a channel accepted is what was received and then its buffer; one sender's items come in the
+-- order in which they were offered; nothing is accepted after a close; and zero with false is given only in or after a
+-- close, where all that was accepted was received
 pub record IsFirstInFirstOut (w : WorldValue) : Type 0 where
   pub order : (c : ℕ) → accepted c w.events ≡ received c w.events ++ (channel_of w.core.channels.channels c).items
   pub rising : (c : ℕ) → Rises (entries c w.events)
   pub shut : (c : ℕ) → ShutAfter c [] w.events
+  pub zero : (c : ℕ) → ZeroAfter c [] w.events
