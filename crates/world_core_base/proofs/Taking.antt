@@ -1,10 +1,17 @@
 -- A state is taken out and put back.
-use Rattle.std.proofs.Common.{◌≡◌, ◌≢◌, ℕ, Option, Some, None, ap, ◌∙◌, refl, sym, inl, inr, get_or-set_same, get_or-set_other}
+use Rattle.std.proofs.Common.{◌≡◌, ◌≢◌, ℕ, ◌≤◌, ◌^◌, [], Option, Some, None, ap, ◌∙◌, refl, sym, subst, inl, inr, arith, get_or-set_same, get_or-set_other}
 use Rattle.std.specs.Prelude.{option_map, slice_index_or, slice_set}
 use Rattle.std.proofs.lemmas.Bool.{cases_eq}
+use Rattle.std.proofs.lemmas.Option.{same_Some}
 use Rattle.turn_rule.specs.declared.Row.{Row}
-use Rattle.world_core_base.specs.Cores.{CoreValue, IsAway, IsHere, or_taken, put_back, state_of, taken_out}
-use Rattle.world_core_base.specs.Slots.{State, Rows, back_row}
+use Rattle.bytecode.specs.Code.{Code}
+use Rattle.bytecode.specs.Machine.{code_begin, code_kind}
+use Rattle.bytecode.specs.Rules.{IsVerified}
+use Rattle.goroutine_vm.specs.Advance.{IsStateOf}
+use Rattle.word.specs.Kinds.{at}
+use Rattle.world_core_base.specs.Cores.{CoreValue, IsAway, IsHere, opened_core, or_taken, put_back, state_of, taken_out}
+use Rattle.world_core_base.specs.Slots.{State, Rows, back_row, free_row}
+use Rattle.world_core_base.proofs.Leases.{opened_fits}
 use Rattle.world_core_base.proofs.Performing.{there}
 
 -- another goroutine's state is what it was
@@ -37,3 +44,10 @@ put_state core n s h =
 
 pub put_others : (core : CoreValue) (n k : ℕ) (s : State) → k ≢ n → state_of (put_back core n s) k ≡ state_of core k
 put_others core n k s ne = other_state core (put_back core n s) n k (option_map (λ (row : Row State). back_row s row.parked) (slice_index_or core.taken n None)) None refl refl ne
+
+-- goroutine 1 alone is at the beginning of `main`
+pub main_is_here : (code : Code) → IsHere (opened_core code) 1
+main_is_here code = record { row = free_row (at 0 (code_begin code (code_kind code).main [])); here = refl; free = refl; place = omega arith }
+
+pub main_fits : (code : Code) (limit : ℕ) (s : State) → IsVerified code → limit ≤ 2 ^ 62 → state_of (opened_core code) 1 ≡ Some s → IsStateOf code limit s
+main_fits code limit s v le h = subst (IsStateOf code limit) (same_Some (at 0 (code_begin code (code_kind code).main [])) s h) ((opened_fits code limit v le).rows 1).state
