@@ -2,6 +2,7 @@
 
 use crate::{Book, Lease, Settled};
 use bytecode::{Code, Function, Instr, Kind, Part, PrintTable, Shape};
+use go_text::NotYours;
 use std::alloc::{AllocError, Global};
 use std::process::Abort;
 use std::sync::Arc;
@@ -224,13 +225,20 @@ fn lease_of_another_book_comes_back(rt: HostRuntime) -> Result<(), Fail> {
     let Some(lease) = lent(&rt, &mut one) else {
         panic!(rt; "nobody is lent");
     };
-    let Some(_own) = lent(&rt, &mut other) else {
+    let Some(own) = lent(&rt, &mut other) else {
         panic!(rt; "nobody is lent");
     };
-    let Err((back, _)) = other.bring(lease) else {
+    let key = lease.key();
+    let Err((back, NotYours)) = other.bring(lease) else {
         panic!(rt; "taken");
     };
+    let Err((own_back, NotYours)) = one.bring(own) else {
+        panic!(rt; "taken");
+    };
+    assert_eq!(rt; back.key(), key);
+    assert!(rt; lent(&rt, &mut one).is_none());
     assert!(rt; one.bring(back).is_ok());
+    assert!(rt; other.bring(own_back).is_ok());
     Ok(())
 }
 

@@ -420,6 +420,9 @@ module _ (K : Kind) (limit : ℕ) where
   empty_items zero = refl
   empty_items (suc k) = refl
 
+  pub opening_sound : IsSound (opening K).shared.shared
+  opening_sound = record { asleep = λ x i. elim i [ ]; calm = λ k x f i t. elim i [ ]; order = λ k. sym (empty_items k) }
+
   pub in_order : (n : ℕ) → InOrder (moment K limit n).shared.shared
   unfolding SoundIn
-  in_order n = (run_sound n (opening K) (record { asleep = λ x i. elim i [ ]; calm = λ k x f i t. elim i [ ]; order = λ k. sym (empty_items k) })).order
+  in_order n = (run_sound n (opening K) opening_sound).order

@@ -20,7 +20,7 @@ use Rattle.word.proofs.Flows.{Chosen, chosen, partner_first}
 
 -- ---- lists of events
 
-or_cases : (a b : Bool) → (a || b) ≡ true → (a ≡ true) ⊎ (b ≡ true)
+pub or_cases : (a b : Bool) → (a || b) ≡ true → (a ≡ true) ⊎ (b ≡ true)
 or_cases true b h = inl refl
 or_cases false b h = inr h
 
@@ -28,7 +28,7 @@ or_assoc : (a b c : Bool) → (a || (b || c)) ≡ ((a || b) || c)
 or_assoc true b c = refl
 or_assoc false b c = refl
 
-or_false : (a : Bool) → (a || false) ≡ a
+pub or_false : (a : Bool) → (a || false) ≡ a
 or_false true = refl
 or_false false = refl
 
@@ -36,7 +36,7 @@ made_snoc : (es : List Event) (e : Event) → made_in (es ++ e ∷ []) ≡ made_
 made_snoc [] e = omega arith
 made_snoc (x ∷ es) e = let h = made_snoc es e in omega (arith, h)
 
-closed_snoc : (c m : ℕ) (es : List Event) (e : Event) → closed_after c m (es ++ e ∷ []) ≡ (closed_after c m es || (closes c e && nat_le c (m + made_in es)))
+pub closed_snoc : (c m : ℕ) (es : List Event) (e : Event) → closed_after c m (es ++ e ∷ []) ≡ (closed_after c m es || (closes c e && nat_le c (m + made_in es)))
 closed_snoc c m [] e =
     let z : m ≡ m + 0 = omega arith in
     or_false (closes c e && nat_le c m) ∙ ap (λ k. closes c e && nat_le c k) z
@@ -59,7 +59,7 @@ past_open : (cs : List Channel) (c : ℕ) → (channel_of cs c).closed ≡ true 
 past_open cs c h = elim (cases_lt c (length cs)) [ inl l ↦ l | inr l ↦ absurd (true≢false (sym h ∙ ap (λ (x : Channel). x.closed) (get_or_past cs c no_channel l))) ]
 
 -- a channel is written that stays closed or open
-closed_kept : (cs : List Channel) (k : ℕ) (ch : Channel) → ch.closed ≡ (channel_of cs k).closed → (j : ℕ) → (channel_of (slice_set cs k ch) j).closed ≡ (channel_of cs j).closed
+pub closed_kept : (cs : List Channel) (k : ℕ) (ch : Channel) → ch.closed ≡ (channel_of cs k).closed → (j : ℕ) → (channel_of (slice_set cs k ch) j).closed ≡ (channel_of cs j).closed
 closed_kept cs k ch h j = elim (cases_eq j k) [
   | inl e ↦ ap (λ i. (channel_of (slice_set cs k ch) i).closed) e ∙ elim (cases_lt k (length cs)) [
     | inl l ↦ ap (λ (x : Channel). x.closed) (get_or-set_same cs k ch no_channel l) ∙ h
@@ -68,7 +68,7 @@ closed_kept cs k ch h j = elim (cases_eq j k) [
   | inr ne ↦ ap (λ (x : Channel). x.closed) (get_or-set_other cs k j ch no_channel ne)
 ]
 
-made_open : (cs : List Channel) (ch : Channel) → ch.closed ≡ false → (j : ℕ) → (channel_of (cs ++ ch ∷ []) j).closed ≡ (channel_of cs j).closed
+pub made_open : (cs : List Channel) (ch : Channel) → ch.closed ≡ false → (j : ℕ) → (channel_of (cs ++ ch ∷ []) j).closed ≡ (channel_of cs j).closed
 made_open cs ch h j = elim (cases_lt j (length cs)) [
   | inl l ↦ ap (λ (x : Channel). x.closed) (get_or_append_left cs (ch ∷ []) no_channel j l)
   | inr l ↦ ap (λ (x : Channel). x.closed) (get_or-append_right cs (ch ∷ []) (length cs) j no_channel refl l) ∙ go (j - length cs) ∙ sym (ap (λ (x : Channel). x.closed) (get_or_past cs j no_channel l))
@@ -406,6 +406,9 @@ module _ (K : Kind) (limit : ℕ) where
   never_closed zero = refl
   never_closed (suc c) = refl
 
+  pub opening_tight : IsTight (opening K).shared.shared
+  opening_tight = record { count = refl; shut = λ c h. absurd (true≢false (sym h)); calm = λ c x h i. elim i [ ]; law = λ c. tt }
+
   pub shut : (n : ℕ) → IsShut (moment K limit n).shared.shared
   unfolding TightIn
-  shut n = (run_tight n (opening K) (record { count = refl; shut = λ c h. absurd (true≢false (sym h)); calm = λ c x h i. elim i [ ]; law = λ c. tt })).law
+  shut n = (run_tight n (opening K) opening_tight).law

@@ -10,6 +10,7 @@ ghost use Rattle.word.specs.Related.{IsKept, Parts, kind_of};
 ghost use Rattle.word.specs.Rising.{IsRising};
 ghost use Rattle.word.specs.Values.{Reply, Word};
 ghost use Rattle.word.specs.Worlds.{Equal, moment, rules};
+ghost use Rattle.word.specs.Zeros.{IsZeroLast};
 
 pub mod apply;
 pub mod end;
@@ -32,9 +33,11 @@ pub fn related_kinds_are_equal<S, T, P>()
 {}
 
 /// At every moment each channel has delivered what it accepted, once and in order, but for what is in its buffer; one
-/// sender's items in the order in which they were offered; and nothing is accepted after a close.
+/// sender's items in the order in which they were offered; nothing is accepted after a close; and zero with false is given
+/// only in or after a close, where all that was accepted was received.
 pub fn channels_deliver_in_order<S>()
     ensures order { (K : Parts S) (limit n : ℕ) → InOrder (moment (kind_of K) limit n).shared.shared }
     ensures rising { (K : Parts S) (limit n : ℕ) → IsRising (moment (kind_of K) limit n).shared.shared }
     ensures shut { (K : Parts S) (limit n : ℕ) → IsShut (moment (kind_of K) limit n).shared.shared }
+    ensures zero { (K : Parts S) (limit n : ℕ) → IsZeroLast (moment (kind_of K) limit n).shared.shared }
 {}

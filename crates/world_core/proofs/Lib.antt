@@ -1,7 +1,2 @@
-pub mod Leases
-pub mod Orderly
-pub mod Starting
-pub mod Performing
-pub mod Shapes
-pub mod Stepping
 pub mod Scheduling
+pub use Rattle.world_core_base.proofs.Leases

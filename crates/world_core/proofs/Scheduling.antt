@@ -1,8 +1,8 @@
 -- Steps of a schedule, on a world and its core.
-use Rattle.std.proofs.Common.{◌≡◌, ◌≢◌, ℕ, zero, suc, ◌+◌, ◌<◌, ◌≤◌, ◌^◌, Bool, true, false, not, cond, List, [], ◌∷◌, ◌++◌, map, length, take, drop, Option, Some, None, refl, sym, ap, ◌∙◌, subst, inl, inr, arith, length-set, get_or-set_other}
-use Rattle.std.specs.Prelude.{option_map, slice_index_or, slice_set, ◌&&◌}
+use Rattle.std.proofs.Common.{◌≡◌, ℕ, zero, suc, ◌+◌, ◌<◌, Bool, true, false, cond, List, [], ◌∷◌, map, length, take, Option, Some, None, refl, sym, ap, ◌∙◌, subst, arith}
+use Rattle.std.specs.Prelude.{option_map, slice_index_or, slice_set}
 use Rattle.std.specs.Option.{is_some}
-use Rattle.std.proofs.lemmas.Bool.{cases_eq, true≢false}
+use Rattle.std.proofs.lemmas.Bool.{true≢false}
 use Rattle.std.proofs.lemmas.Option.{same_Some}
 use Rattle.bytecode.specs.Code.{Code}
 use Rattle.bytecode.specs.Machine.{Frames, code_kind}
@@ -11,20 +11,20 @@ use Rattle.logical_clock.specs.Order.{keys, least}
 use Rattle.turn_rule.specs.declared.Row.{Row}
 use Rattle.turn_rule.specs.declared.Step.{Step}
 use Rattle.turn_rule.specs.declared.Step.TheVariants.{Lend, Local, Publish, Look, Return, Settle}
-use Rattle.turn_rule.specs.Schedule.{happens, step as stepped_machine, has_turn, opened, parked_clock, perform_row, schedule, settle_key, Stands, RowStands}
+use Rattle.turn_rule.specs.Schedule.{happens, step as stepped_machine, has_turn, parked_clock, perform_row, schedule, settle_key, RowStands}
 use Rattle.turn_rule.proofs.Stable.{opened_stands, schedule_stands}
-use Rattle.word.specs.Requests.{channel_of}
-use Rattle.word.specs.Worlds.{Rest, end_of, is_deserted, moment, opening, rules}
+use Rattle.word.specs.Worlds.{Rest, is_deserted, moment, opening, rules}
 use Rattle.word.proofs.Flows.{in_order}
 use Rattle.word.proofs.Rise.{rising}
 use Rattle.word.proofs.Shut.{shut}
+use Rattle.word.proofs.Zeros.{zero_last}
 use Rattle.word.proofs.Laws.{laws}
 use Rattle.word.specs.declared.end.End.{End as Ending}
 use Rattle.word.specs.declared.end.End.TheVariants.{Deadlock}
-use Rattle.world_core.specs.Cores.{World, CoreValue, Asks, FitsCore, HasTurn, IsCoreOf, shared_of, opened_core}
-use Rattle.world_core.specs.Schedules.{WorldValue, IsWorldOf, IsMoment, IsFirstInFirstOut, end_in, first_world, has_turn_with, is_turn, number_of, scheduled, stepped_row, stepped_rows, turns_at, turns_in}
-use Rattle.world_core.specs.Slots.{State, Rows, FitsAll, FitsRow, IsAwake, IsNobodyAwake, waiting_clock}
-use Rattle.world_core.proofs.Leases.{core_set, waiting_found}
+use Rattle.world_core_base.specs.Cores.{World, CoreValue, Asks, FitsCore, HasTurn, IsCoreOf, shared_of, opened_core}
+use Rattle.world_core.specs.Schedules.{WorldValue, IsWorldOf, IsMoment, IsFirstInFirstOut, end_in, first_world, has_turn_with, is_turn, number_of, scheduled, turns_at, turns_in}
+use Rattle.world_core_base.specs.Slots.{State, Rows, FitsRow, IsAwake, IsNobodyAwake, stepped_row, stepped_rows, waiting_clock}
+use Rattle.world_core_base.proofs.Leases.{core_set, waiting_found}
 
 -- ---- who is awake, and who asks
 
@@ -69,19 +69,6 @@ none_of None h = refl
 none_of (Some x) h = absurd (h x refl)
 
 -- ---- one step
-
-pub rows_fit : (code : Code) (limit : ℕ) (step : Step) (n : ℕ) (core : CoreValue) → FitsCore code limit core → FitsRow code limit (slice_index_or (stepped_rows code limit step n core.rows) n None) → FitsCore code limit (record core { rows = stepped_rows code limit step n core.rows })
-rows_fit code limit step n core fits here = record {
-  rows = λ k. elim (cases_eq k n) [
-    | inl e ↦ subst (λ j. FitsRow code limit (slice_index_or (stepped_rows code limit step n core.rows) j None)) (sym e) here
-    | inr ne ↦ subst (FitsRow code limit) (sym (get_or-set_other core.rows n k (option_map (stepped_row code limit step) (slice_index_or core.rows n None)) None ne)) (fits.rows k)
-  ];
-  beds = fits.beds;
-  size = fits.size ∙ sym (length-set core.rows n (option_map (stepped_row code limit step) (slice_index_or core.rows n None)));
-  live = fits.live;
-  once = fits.once;
-  count = fits.count;
-}
 
 module _ (code : Code) (limit : ℕ) where
   still : (m : World) (w : WorldValue) → IsWorldOf m w → w.core.ending ≡ None → is_some (shared_of m).ending ≡ false
@@ -240,4 +227,5 @@ module _ (code : Code) (limit : ℕ) where
         order = λ c. rw (events, channels) (in_order (code_kind code) limit q.0 c);
         rising = λ c. rw events (rising (code_kind code) limit q.0 c);
         shut = λ c. rw events (shut (code_kind code) limit q.0 c);
+        zero = λ c. rw events (zero_last (code_kind code) limit q.0 c);
       }

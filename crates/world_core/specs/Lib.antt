@@ -1,3 +1,3 @@
-pub mod Slots
-pub mod Cores
 pub mod Schedules
+pub use Rattle.world_core_base.specs.Slots
+pub use Rattle.world_core_base.specs.Cores

@@ -1,25 +1,25 @@
 -- Lists of steps, and what they commit.
-use Rattle.std.specs.Prelude.{◌≡◌, ℕ, ◌+◌, Bool, true, false, cond, List, [], ◌∷◌, ◌++◌, length, map, Option, Some, None, IfSome, option_map, slice_index_or, slice_set}
+use Rattle.std.specs.Prelude.{◌≡◌, ℕ, ◌+◌, Bool, false, cond, List, [], ◌∷◌, ◌++◌, length, map, Option, Some, None, slice_index_or}
 use Rattle.std.specs.Option.{is_some}
 use Rattle.bytecode.specs.Code.{Code}
-use Rattle.bytecode.specs.Machine.{Frames, code_kind}
+use Rattle.bytecode.specs.Machine.{code_kind}
 use Rattle.logical_clock.specs.declared.key.Key.{Key}
 use Rattle.logical_clock.specs.Order.{keys, least}
 use Rattle.turn_rule.specs.declared.Row.{Row}
 use Rattle.turn_rule.specs.declared.Step.{Step}
 use Rattle.turn_rule.specs.declared.Step.TheVariants.{Lend, Local, Publish, Look, Return, Settle}
-use Rattle.turn_rule.specs.Turns.{Rules}
-use Rattle.turn_rule.specs.Schedule.{Machine, give_back, has_turn, happens, lend, local, look, opened, parked_clock, perform_row, publish, schedule}
+use Rattle.turn_rule.specs.Schedule.{has_turn, happens, opened, parked_clock, perform_row, schedule}
 use Rattle.word.specs.declared.end.End.{End as Ending}
 use Rattle.word.specs.declared.end.End.TheVariants.{Deadlock}
 use Rattle.word.specs.Closing.{ShutAfter}
 use Rattle.word.specs.Flow.{accepted, received}
 use Rattle.word.specs.Requests.{channel_of}
 use Rattle.word.specs.Rising.{Rises, entries}
-use Rattle.word.specs.Values.{Event, Shared}
-use Rattle.word.specs.Worlds.{Rest, end_of, is_deserted, moment, opening, rules}
-use Rattle.world_core.specs.Cores.{World, CoreValue, IsCoreOf, shared_of}
-use Rattle.world_core.specs.Slots.{State, Rows}
+use Rattle.word.specs.Values.{Event}
+use Rattle.word.specs.Worlds.{end_of, is_deserted, moment, opening, rules}
+use Rattle.word.specs.Zeros.{ZeroAfter}
+use Rattle.world_core_base.specs.Cores.{World, CoreValue, IsCoreOf, shared_of}
+use Rattle.world_core_base.specs.Slots.{State}
 
 pub record WorldValue : Type 0 where
   pub core : CoreValue
@@ -46,18 +46,6 @@ number_of (Publish n) = Some n
 number_of (Look n) = Some n
 number_of (Return n) = Some n
 number_of Settle = None
-
--- a row after a step of its goroutine
-abbrev pub stepped_row : Code → ℕ → Step → Row State → Row State
-stepped_row code limit (Lend n) row = lend (rules (code_kind code) limit) row row.lease
-stepped_row code limit (Local n) row = local (rules (code_kind code) limit) row row.lease
-stepped_row code limit (Publish n) row = publish (rules (code_kind code) limit) row row.lease
-stepped_row code limit (Look n) row = look (rules (code_kind code) limit) row row.lease
-stepped_row code limit (Return n) row = give_back (rules (code_kind code) limit) row row.lease
-stepped_row code limit Settle row = row
-
-abbrev pub stepped_rows : Code → ℕ → Step → ℕ → Rows → Rows
-stepped_rows code limit step n rows = slice_set rows n (option_map (stepped_row code limit step) (slice_index_or rows n None))
 
 -- whether a step is a Settle that has a turn, once that least key is parked
 abbrev pub has_turn_with : List (Option (Row State)) → Option Key → Bool
@@ -99,9 +87,11 @@ pub record IsMoment (code : Code) (limit : ℕ) (w : WorldValue) : Type 0 where
   pub output : w.output ≡ (moment (code_kind code) limit moves).shared.shared.output
   pub ending : end_in w.core ≡ end_of (moment (code_kind code) limit moves)
 
--- first in, first out: what a channel accepted is what was received and then its buffer, one sender's items come in the
--- order in which they were offered, and nothing is accepted after a close
+-- first in, first out: what a channel accepted is what was received and then its buffer; one sender's items come in the
+-- order in which they were offered; nothing is accepted after a close; and zero with false is given only in or after a
+-- close, where all that was accepted was received
 pub record IsFirstInFirstOut (w : WorldValue) : Type 0 where
   pub order : (c : ℕ) → accepted c w.events ≡ received c w.events ++ (channel_of w.core.channels.channels c).items
   pub rising : (c : ℕ) → Rises (entries c w.events)
   pub shut : (c : ℕ) → ShutAfter c [] w.events
+  pub zero : (c : ℕ) → ZeroAfter c [] w.events

@@ -1,15 +1,9 @@
-//! The world of a run: goroutines that are awake, lent, parked or asleep, and the channels at which they sleep.
+//! Schedules of goroutines that run ahead of their turn, and the world that they lead to.
 #![tactic(auto)]
 
-mod core_model;
 mod schedule;
-mod slot;
 #[cfg(test)]
 mod tests;
-mod turns;
 
-pub use core_model::Core;
 pub use schedule::{World, run_schedule};
-pub use slot::{Slot, Standing};
-pub use turn_rule::Step;
-pub use turns::{blocker, first_awake, least_parked};
+pub use world_core_base::{Away, Core, Slot, Standing, Step, blocker, first_awake, least_parked};

@@ -1,15 +1,13 @@
 //! Schedules: whoever runs ahead, what is committed is what the one-thread run commits.
 
-ghost use Rattle.std.specs.Prelude.{◌≡◌, ◌≤◌, ◌+◌, ◌^◌, [], IfOk, None, OnOk, length, map};
+ghost use Rattle.std.specs.Prelude.{◌≡◌, ◌≤◌, ◌+◌, ◌^◌, [], IfOk, None, OnErr, OnOk, length, map};
 ghost use Rattle.bytecode.specs.Machine.{code_kind};
 ghost use Rattle.turn_rule.specs.Schedule.{happens};
 ghost use Rattle.word.specs.Views.{event_of};
 ghost use Rattle.word.specs.Worlds.{rules};
-ghost use Rattle.world_core.specs.Cores.{FitsCore, HasTurn, World as WorldOf, opened_core};
+ghost use Rattle.world_core_base.specs.Cores.{FitsCore, HasTurn, World as WorldOf, opened_core};
 ghost use Rattle.world_core.specs.Schedules.{Commits, IsFirstInFirstOut, IsMoment, IsWorldOf, end_in, first_world, number_of, scheduled, turns_at, turns_in};
 
-use crate::core_model::Core;
-use crate::turns::{blocker, first_awake, least_parked};
 use go_text::Memory;
 use std::alloc::Global;
 use std::marker::Model;
@@ -17,6 +15,7 @@ use turn_rule::Step;
 use verifier::Verified;
 use word::end::End;
 use word::request::Event;
+use world_core_base::{Core, blocker, first_awake, least_parked};
 
 /// A world of goroutines that run ahead of their turn, and all that was committed.
 #[derive(Debug, Drop)]
@@ -77,12 +76,13 @@ impl World {
         })
     }
 
-    /// One step; after an end none changes anything.
+    /// One step; after an end, or without the memory that it needs, it changes nothing.
     fn step(&mut self, alloc: Global, code: &Verified, limit: u64, step: Step) -> Result<(), Memory>
         requires { FitsCore code.now limit self.old.core }
         ensures happens { OnOk result ((m : WorldOf) → IsWorldOf m self.old → IsWorldOf (happens (rules (code_kind code.now) limit) m step) self.new) }
         ensures turns { OnOk result ((m : WorldOf) → IsWorldOf m self.old → length self.new.events ≡ length self.old.events + turns_at code.now limit m step) }
         ensures fits { OnOk result (FitsCore code.now limit self.new.core) }
+        ensures memory { OnErr result (self.new ≡ self.old) }
     {
         if self.core.ending().is_some() {
             return Ok(());
@@ -100,6 +100,7 @@ impl World {
         ensures happens { OnOk result ((m : WorldOf) → IsWorldOf m self.old → IsWorldOf (happens (rules (code_kind code.now) limit) m Step.Settle) self.new) }
         ensures turns { OnOk result ((m : WorldOf) → IsWorldOf m self.old → length self.new.events ≡ length self.old.events + turns_at code.now limit m Step.Settle) }
         ensures fits { OnOk result (FitsCore code.now limit self.new.core) }
+        ensures memory { OnErr result (self.new ≡ self.old) }
     {
         let Some(key) = least_parked(self.core.rows()) else {
             return Ok(());
@@ -123,6 +124,7 @@ impl World {
         requires fits { FitsCore code.now limit self.old.core }
         ensures commits { OnOk result (Commits code.now limit self.old number self.new) }
         ensures fits { OnOk result (FitsCore code.now limit self.new.core) }
+        ensures memory { OnErr result (self.new ≡ self.old) }
     {
         self.events.reserve(1)?;
         let event = self

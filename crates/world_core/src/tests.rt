@@ -1,6 +1,7 @@
 //! Schedules of small programs that are written by hand.
 
 use crate::schedule::run_schedule;
+use crate::{Core, first_awake, least_parked};
 use bytecode::{Code, Function, Instr, Kind, Part, PrintTable, Shape};
 use std::alloc::{AllocError, Global};
 use std::process::Abort;
@@ -210,6 +211,25 @@ fn closes_on_a_sender(alloc: Global) -> Result<Code, AllocError> {
     code(alloc, functions, Kind::Int)
 }
 
+/// `main` and `f` are both `go f(); c := make(chan int); <-c`.
+fn starts_more(alloc: Global) -> Result<Code, AllocError> {
+    let body = [
+        Instr::Go(1),
+        Instr::Int(0),
+        Instr::Make(0),
+        Instr::Store(0, 1),
+        Instr::Tick,
+        Instr::Load(0, 1),
+        Instr::Receive(0),
+        Instr::Discard(2),
+        Instr::Return,
+    ];
+    let mut functions = Vec::new(alloc);
+    functions.push(function(alloc, "main", 0, [CHAN].as_slice(), body.as_slice())?)?;
+    functions.push(function(alloc, "f", 0, [CHAN].as_slice(), body.as_slice())?)?;
+    code(alloc, functions, Kind::Int)
+}
+
 /// The goroutine is lent, makes so many local steps, and comes back.
 fn turn(steps: &mut Vec<Step>, number: u64, local: u32) -> Result<(), AllocError> {
     steps.push(Step::Lend(number))?;
@@ -385,5 +405,47 @@ fn foolish_steps_change_nothing(rt: HostRuntime) -> Result<(), Fail> {
         [].as_slice(),
         ("", None),
     );
+    Ok(())
+}
+
+#[test]
+fn goroutine_1025_is_one_too_many(rt: HostRuntime) -> Result<(), Fail> {
+    let alloc = rt.alloc();
+    let mut steps = Vec::new(alloc);
+    for time in 0..1024u64 {
+        // Whoever may act at this clock: the newest goroutine, and the two before it.
+        for number in time..time + 3 {
+            turn(&mut steps, number.saturating_sub(1), 6)?;
+        }
+        for _i in 0..3 {
+            steps.push(Step::Settle)?;
+        }
+    }
+    let code = checked(&rt, alloc, starts_more(alloc)?);
+    let Ok(world) = run_schedule(alloc, &code, LIMIT, steps.as_slice()) else {
+        panic!(rt; "no memory");
+    };
+    let events = world.events();
+    assert_eq!(rt; events.len(), 3068);
+    assert_eq!(rt; told(&events[3065]), (1023, 1021, '?', 's'));
+    assert_eq!(rt; told(&events[3066]), (1023, 1023, 'm', '.'));
+    assert_eq!(rt; told(&events[3067]), (1023, 1024, 'g', 'p'));
+    assert_eq!(rt; world.end(), Some(End::Panicked(Panic::TooManyGoroutines)));
+    Ok(())
+}
+
+#[test]
+fn state_is_taken_out_and_put_back(rt: HostRuntime) -> Result<(), Fail> {
+    let alloc = rt.alloc();
+    let code = checked(&rt, alloc, hands_over(alloc)?);
+    let Ok(mut core) = Core::open(alloc, &code) else {
+        panic!(rt; "no memory");
+    };
+    let mut state = core.take_state(1);
+    assert!(rt; first_awake(core.rows()).is_none());
+    assert!(rt; state.advance(alloc, &code, LIMIT, 100).is_ok());
+    core.put_state(1, state);
+    assert_eq!(rt; first_awake(core.rows()), Some(1));
+    assert_eq!(rt; least_parked(core.rows()), None);
     Ok(())
 }

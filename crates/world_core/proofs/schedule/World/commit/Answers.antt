@@ -1,5 +1,5 @@
-use Rattle.std.proofs.Common.{ap, sym, subst}
-use Rattle.world_core.specs.Cores.{Asks}
+use Rattle.std.proofs.Common.{sym, subst}
+use Rattle.world_core_base.specs.Cores.{Asks}
 use Rattle.world_core.specs.Schedules.{WorldValue}
 use Rattle.world_core.proofs.Scheduling.{turn_asks}
 use Rattle.world_core.proofs.schedule.World.commit.Goals as goal

@@ -1,7 +1,7 @@
 use Rattle.std.proofs.Common.{◌≡◌, Some, None, sym, ◌∙◌, subst}
 use Rattle.word.specs.declared.end.End.TheVariants.{Deadlock}
 use Rattle.world_core.specs.Schedules.{WorldValue, end_in}
-use Rattle.world_core.specs.Slots.{Rows, IsAwake, IsNobodyAwake}
+use Rattle.world_core_base.specs.Slots.{Rows, IsAwake, IsNobodyAwake}
 use Rattle.world_core.proofs.Scheduling.{end_awake, end_nobody, none_of}
 use Rattle.world_core.proofs.schedule.World.end.Goals as goal
 

@@ -1,6 +1,6 @@
 use Rattle.std.proofs.Common.{sym, subst}
-use Rattle.world_core.specs.Cores.{FitsCore}
-use Rattle.world_core.proofs.Leases.{opened_fits}
+use Rattle.world_core_base.specs.Cores.{FitsCore}
+use Rattle.world_core_base.proofs.Leases.{opened_fits}
 use Rattle.world_core.proofs.schedule.World.open.Goals as goal
 
 pub returns-clause-fits : goal.returns-clause-fits

@@ -1,0 +1,253 @@
+-- A world of goroutines without its lists of events and bytes.
+use Rattle.std.specs.Prelude.{◌≡◌, ◌≢◌, ℕ, ◌+◌, ◌<◌, ◌≤◌, ◌^◌, ◌==◌, Bool, false, true, cond, List, [], ◌∷◌, ◌++◌, length, map, Option, Some, None, slice_index_or, slice_set}
+use Rattle.std.specs.Option.{is_some, option_map}
+use Rattle.bytecode.specs.Code.{Code}
+use Rattle.bytecode.specs.Machine.{Frames, code_begin, code_kind}
+use Rattle.bytecode.specs.Rules.{IsVerified}
+use Rattle.channel_core.specs.Channels.{ChannelsValue}
+use Rattle.goroutine_vm.specs.Advance.{IsStateOf}
+use Rattle.logical_clock.specs.declared.key.Key.{Key}
+use Rattle.logical_clock.specs.Order.{keys, least}
+use Rattle.turn_rule.specs.declared.Row.{Row}
+use Rattle.turn_rule.specs.Schedule.{Machine, perform_row, has_turn}
+use Rattle.word.specs.declared.end.End.{End as Ending}
+use Rattle.word.specs.declared.request.Event.{Event as Recorded}
+use Rattle.word.specs.declared.request.Request.{Request as Asked}
+use Rattle.word.specs.declared.request.Request.TheVariants as asking
+use Rattle.word.specs.Kinds.{asks, at, told}
+use Rattle.word.specs.Requests.{Deed, Fate, GoesOn, Dozes, Leaves, Stays, asked, no_channel}
+use Rattle.word.specs.declared.value.Word.{Word}
+use Rattle.word.specs.Values.{Request, Close, Exit, Exhausted, Reply, Sleeper, Shared}
+use Rattle.word.specs.Views.{event_of}
+use Rattle.word.specs.Worlds.{Bed, Rest, in_bed, rules}
+use Rattle.world_core_base.specs.Slots.{State, Rows, Beds, FitsAll, FitsBeds, back_row, free_clock, free_row, waiting_clock}
+
+abbrev pub World : Type 0
+World = Machine State (Rest Frames)
+
+-- what all of a world share
+abbrev pub shared_of : World → Shared
+shared_of m = m.shared.shared
+
+pub record CoreValue : Type 0 where
+  pub rows : Rows
+  pub beds : Beds
+  -- goroutine n, if its state is taken out, is at place n
+  pub taken : Rows
+  pub channels : ChannelsValue
+  pub live : ℕ
+  pub events : ℕ
+  pub ending : Option Ending
+
+-- each of these sleeps in the state that is kept for it
+abbrev pub LieIn : Beds → List (Bed Frames) → List Sleeper → Type 0
+LieIn beds all [] = Unit {0}
+LieIn beds all (x ∷ xs) = (slice_index_or beds x.number None ≡ in_bed x.number all) × LieIn beds all xs
+
+-- the world is this one, but for its lists of events and bytes
+pub record IsCoreOf (m : World) (core : CoreValue) : Type 0 where
+  pub rows : core.rows ≡ m.rows
+  pub beds : LieIn core.beds m.shared.beds core.channels.asleep
+  pub channels : core.channels.channels ≡ (shared_of m).channels
+  pub asleep : core.channels.asleep ≡ (shared_of m).asleep
+  pub live : core.live ≡ (shared_of m).live
+  pub made : length core.rows ≡ (shared_of m).made + 1
+  pub events : core.events ≡ length (shared_of m).events
+  pub ending : core.ending ≡ (shared_of m).ending
+
+-- none of these numbers is n; each of them stands there once
+abbrev pub Misses : ℕ → List ℕ → Type 0
+Misses n [] = Unit {0}
+Misses n (m ∷ ms) = (m ≢ n) × Misses n ms
+
+abbrev pub Once : List ℕ → Type 0
+Once [] = Unit {0}
+Once (n ∷ ns) = Misses n ns × Once ns
+
+abbrev pub numbers : List Sleeper → List ℕ
+numbers ss = map (λ (s : Sleeper). s.number) ss
+
+-- its goroutines are of this code and limit, at most 1,024 are alive, each of those asleep sleeps once, a run that goes on
+-- has had less than 2^62 events, and no state is taken out
+pub record FitsCore (code : Code) (limit : ℕ) (core : CoreValue) : Type 0 where
+  pub rows : FitsAll code limit core.rows
+  pub beds : FitsBeds code limit core.beds
+  pub size : length core.beds ≡ length core.rows
+  pub live : core.live ≤ 1024
+  pub once : Once (numbers core.channels.asleep)
+  pub count : is_some core.ending ≡ false → core.events < 2 ^ 62
+  pub places : length core.taken ≡ length core.rows
+  pub here : (n : ℕ) → slice_index_or core.taken n None ≡ None
+
+-- goroutine 1 alone, at the beginning of `main`
+abbrev pub opened_core : Code → CoreValue
+opened_core code = record {
+  rows = None ∷ Some (free_row (at 0 (code_begin code (code_kind code).main []))) ∷ [];
+  beds = None ∷ None ∷ [];
+  taken = None ∷ None ∷ [];
+  channels = record { channels = no_channel ∷ []; asleep = [] };
+  live = 1;
+  events = 0;
+  ending = None;
+}
+
+-- goroutine n is awake and asks
+pub record Asks (code : Code) (limit : ℕ) (rows : Rows) (n : ℕ) : Type 0 where
+  pub row : Row State
+  pub here : slice_index_or rows n None ≡ Some row
+  pub state : IsStateOf code limit row.state
+  pub asks : is_some (asks (code_kind code) limit row.state) ≡ true
+
+-- after so many events, what goroutine n's request means: a return of goroutine 1 is an exit, and event number 2^62 is exhausted
+abbrev pub meant_after : ℕ → ℕ → Request → Request
+meant_after events n q = cond (events + 1 == 2 ^ 62) Exhausted (asked n q)
+
+-- goroutine n stands at this clock, and what it asks means this request
+pub record IsAsked (code : Code) (limit : ℕ) (core : CoreValue) (n clock : ℕ) (means : Request) : Type 0 where
+  pub row : Row State
+  pub what : Request
+  pub here : slice_index_or core.rows n None ≡ Some row
+  pub state : IsStateOf code limit row.state
+  pub time : row.state.clock ≡ clock
+  pub request : asks (code_kind code) limit row.state ≡ Some what
+  pub verified : IsVerified code
+  pub meant : means ≡ meant_after core.events n what
+
+-- what ends a run: an exit, or the clock limit
+abbrev pub last_request : Bool → Request
+last_request finished = cond finished Exit Exhausted
+
+-- how many goroutines a request wakes at most, so many being asleep
+abbrev pub most_woken : Request → ℕ → ℕ
+most_woken (Close c) asleep = asleep
+most_woken q asleep = 1
+
+-- what a request prints
+abbrev pub printed_by : Asked → List ℕ
+printed_by (asking.Print text) = text.items
+printed_by request = []
+
+-- what an event prints
+abbrev pub bytes_of : Recorded → List ℕ
+bytes_of event = printed_by event.request
+
+-- goroutine n's request is performed: this event, these bytes
+pub record IsPerformed (code : Code) (limit : ℕ) (m : World) (n : ℕ) (event : Recorded) (bytes : List ℕ) (new : CoreValue) : Type 0 where
+  pub core : IsCoreOf (perform_row (rules (code_kind code) limit) m n (slice_index_or m.rows n None)) new
+  pub events : (shared_of (perform_row (rules (code_kind code) limit) m n (slice_index_or m.rows n None))).events ≡ (shared_of m).events ++ event_of event ∷ []
+  pub output : (shared_of (perform_row (rules (code_kind code) limit) m n (slice_index_or m.rows n None))).output ≡ (shared_of m).output ++ bytes
+
+-- so it is in each world of which this is the core
+abbrev pub Performs : Code → ℕ → CoreValue → ℕ → Recorded → List ℕ → CoreValue → Type 0
+Performs code limit old n event bytes new = (m : World) → IsCoreOf m old → IsPerformed code limit m n event bytes new
+
+-- ---- lending
+
+-- the first to lend: of those awake, neither lent nor parked, the one of least key
+abbrev pub to_lend : CoreValue → Option Key
+to_lend core = cond (is_some core.ending) None (least (keys free_clock 0 core.rows))
+
+abbrev pub IsFreeIn : Rows → ℕ → State → Type 0
+IsFreeIn rows n state = slice_index_or rows n None ≡ Some (free_row state)
+
+-- goroutine n is lent in this state
+abbrev pub IsLentRow : Rows → ℕ → State → Type 0
+IsLentRow rows n base = (row : Row State) × (slice_index_or rows n None ≡ Some row) × (is_some row.lease ≡ true) × (row.state ≡ base)
+
+-- ---- states that are taken out
+
+abbrev pub or_taken : Option (Row State) → Option (Row State) → Option State
+or_taken (Some row) taken = Some row.state
+or_taken None taken = option_map (λ (row : Row State). row.state) taken
+
+-- the state of goroutine n, if it is awake, also where it is taken out
+abbrev pub state_of : CoreValue → ℕ → Option State
+state_of core n = or_taken (slice_index_or core.rows n None) (slice_index_or core.taken n None)
+
+-- goroutine n is awake, not lent, and its state is not taken out
+pub record IsHere (core : CoreValue) (n : ℕ) : Type 0 where
+  pub row : Row State
+  pub here : slice_index_or core.rows n None ≡ Some row
+  pub free : row.lease ≡ None
+  pub place : n < length core.taken
+
+-- goroutine n's state is taken out
+pub record IsAway (core : CoreValue) (n : ℕ) : Type 0 where
+  pub row : Row State
+  pub away : slice_index_or core.taken n None ≡ Some row
+  pub place : n < length core.rows
+
+-- its state is taken out, and stands among those that are
+abbrev pub taken_out : CoreValue → ℕ → CoreValue
+taken_out core n = record core { rows = slice_set core.rows n None; taken = slice_set core.taken n (slice_index_or core.rows n None) }
+
+-- it is back in this state, parked if it was
+abbrev pub put_back : CoreValue → ℕ → State → CoreValue
+put_back core n state = record core {
+  rows = slice_set core.rows n (option_map (λ (row : Row State). back_row state row.parked) (slice_index_or core.taken n None));
+  taken = slice_set core.taken n None;
+}
+
+-- goroutine number n stands at its request, and has the turn
+pub record HasTurn (core : CoreValue) (n : ℕ) : Type 0 where
+  pub key : Key
+  pub number : key.number ≡ n
+  pub least : least (keys waiting_clock 0 core.rows) ≡ Some key
+  pub turn : has_turn key 0 core.rows ≡ true
+  pub going : core.ending ≡ None
+
+-- ---- what a deed leaves
+
+-- the beds without those who get up
+abbrev pub left_beds : Beds → List (ℕ × Reply) → Beds
+left_beds beds [] = beds
+left_beds beds (w ∷ ws) = left_beds (slice_set beds w.0 None) ws
+
+-- goroutine n's bed, where it falls asleep in this state
+abbrev pub actor_beds : Beds → ℕ → State → Fate → Beds
+actor_beds beds n s Dozes = slice_set beds n (Some s)
+actor_beds beds n s (GoesOn reply) = beds
+actor_beds beds n s Leaves = beds
+actor_beds beds n s Stays = beds
+
+-- an empty place for each that is started
+abbrev pub new_places : {A : Type 0} → List (Option A) → List (ℕ × List Word) → List (Option A)
+new_places places [] = places
+new_places places (x ∷ xs) = new_places (places ++ None ∷ []) xs
+
+-- goroutine n goes on with this reply, at this clock
+abbrev pub answered_rows : Code → Rows → ℕ → ℕ → Reply → Rows
+answered_rows code rows n clock reply = slice_set rows n (option_map (λ (row : Row State). free_row (told (code_kind code) row.state clock reply)) (slice_index_or rows n None))
+
+module _ (code : Code) where
+  -- those who are woken are told so at this clock, and get up
+  abbrev pub woken_rows : Rows → Beds → ℕ → List (ℕ × Reply) → Rows
+  woken_rows rows beds clock [] = rows
+  woken_rows rows beds clock (w ∷ ws) =
+      woken_rows (slice_set rows w.0 (option_map (λ (s : State). free_row (told (code_kind code) s clock w.1)) (slice_index_or beds w.0 None))) (slice_set beds w.0 None) clock ws
+
+  -- where the actor is then
+  abbrev pub actor_row : State → ℕ → Fate → Option (Row State)
+  actor_row s clock (GoesOn reply) = Some (free_row (told (code_kind code) s clock reply))
+  actor_row s clock Dozes = None
+  actor_row s clock Leaves = None
+  actor_row s clock Stays = Some (free_row s)
+
+  -- those who are started
+  abbrev pub new_rows : Rows → ℕ → List (ℕ × List Word) → Rows
+  new_rows rows clock [] = rows
+  new_rows rows clock (x ∷ xs) = new_rows (rows ++ Some (free_row (at clock (code_begin code x.0 x.1))) ∷ []) clock xs
+
+  -- the core after a deed of goroutine n, which was in this state
+  abbrev pub core_after : CoreValue → ℕ → State → Deed → CoreValue
+  core_after core n s d =
+      let clock = s.clock + 1 in
+      record {
+        rows = new_rows (woken_rows (slice_set core.rows n (actor_row s clock d.fate)) (actor_beds core.beds n s d.fate) clock d.woken) clock d.started;
+        beds = new_places (left_beds (actor_beds core.beds n s d.fate) d.woken) d.started;
+        taken = new_places core.taken d.started;
+        channels = record { channels = d.shared.channels; asleep = d.shared.asleep };
+        live = d.shared.live;
+        events = core.events + 1;
+        ending = d.shared.ending;
+      }

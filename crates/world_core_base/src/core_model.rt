@@ -1,0 +1,628 @@
+//! The world of a run, without its lists of events and bytes.
+
+ghost use Rattle.std.specs.Prelude.{◌≡◌, ◌≢◌, ℕ, ◌+◌, ◌-◌, ◌<◌, ◌≤◌, ◌^◌, ◌↔◌, [], ◌∷◌, ◌++◌, IsTrue, IfNone, IfOk, IfSome, OnErr, OnOk, None, Some, length, map, option_map, slice_index_or, slice_set, vec_capacity, vec_len};
+ghost use Rattle.bytecode.specs.Machine.{code_kind};
+ghost use Rattle.bytecode.specs.Rules.{IsFrameOf, IsVerified};
+ghost use Rattle.channel_core.specs.Channels.{Does, IsOfChannels};
+ghost use Rattle.word.specs.Kinds.{told};
+ghost use Rattle.word.specs.Values.{End as EndRequest, Go as GoRequest, Panic as PanicRequest, Print as PrintRequest, Reply as AnyReply};
+ghost use Rattle.word.specs.Views.{reply_of, request_of};
+ghost use Rattle.world_core_base.specs.Cores.{Asks, FitsCore, IsAsked, IsAway, IsFreeIn, IsHere, IsLentRow, Performs, answered_rows, bytes_of, last_request, left_beds, meant_after, most_woken, opened_core, printed_by, put_back, state_of, taken_out, to_lend, woken_rows};
+ghost use Rattle.world_core_base.specs.Slots.{FitsAll, FitsRow, back_row, free_row, lent_row, stepped_rows};
+
+use crate::rows::{answer_row, doze, lend_row, put_at, stay_row, step_row, take_at, wake};
+use crate::slot::{Away, Slot};
+use crate::turns::least_free;
+use channel_core::{Channels, Outcome as Came, Woken};
+use go_text::Memory;
+use goroutine_vm::{GoState, spawn_state};
+use logical_clock::{Clock, LAST};
+use std::alloc::Global;
+use std::marker::Model;
+use turn_rule::Step;
+use verifier::Verified;
+use word::end::End;
+use word::panic::Panic;
+use word::request::{Event, Outcome, Reply, Request};
+use word::value::Word;
+
+/// The most goroutines that are alive, awake or asleep.
+const MOST_ALIVE: u64 = 1024;
+
+/// A world of goroutines that run ahead of their turn, without its lists of events and bytes.
+#[derive(Debug, Drop)]
+pub struct Core {
+    /// Goroutine n, if it is awake, is at place n; place 0 is never taken.
+    rows: Vec<Option<Slot>>,
+    /// Goroutine n, if it is asleep, fell asleep in the state at place n.
+    beds: Vec<Option<GoState>>,
+    /// Goroutine n, if its state is taken out, is at place n, and at no place of the rows.
+    taken: Vec<Option<Away>>,
+    channels: Channels,
+    /// How many goroutines are awake or asleep.
+    live: u64,
+    /// How many events there were.
+    events: u64,
+    ending: Option<End>,
+}
+
+impl Model for Core {
+    ghost use Rattle.world_core_base.specs.Cores.{CoreValue};
+
+    ghost Value = { CoreValue };
+
+    ghost view = { λ c. record { rows = c.rows.items; beds = c.beds.items; taken = c.taken.items; channels = c.channels; live = c.live; events = c.events; ending = c.ending } };
+}
+
+impl Core {
+    /// Goroutine 1 alone, at the beginning of `main`.
+    pub fn open(alloc: Global, code: &Verified) -> Result<Core, Memory>
+        ensures core { IfOk result (λ core. core ≡ opened_core code.now) }
+        ensures verified { IfOk result (λ _. IsVerified code.now) }
+    {
+        let mut rows = Vec::new(alloc);
+        rows.push(None)?;
+        rows.push(Some(Slot::free(spawn_state(alloc, code, code.main(), &[], Clock::START)?)))?;
+        let mut beds = Vec::new(alloc);
+        beds.push(None)?;
+        beds.push(None)?;
+        let mut taken = Vec::new(alloc);
+        taken.push(None)?;
+        taken.push(None)?;
+        Ok(Core {
+            rows,
+            beds,
+            taken,
+            channels: Channels::new(alloc)?,
+            live: 1,
+            events: 0,
+            ending: None,
+        })
+    }
+
+    /// How many events there were.
+    pub fn events(&self) -> u64
+        ensures { result ≡ self.now.events }
+    {
+        self.events
+    }
+
+    /// The end of the run, where an event ended it.
+    pub fn ending(&self) -> Option<End>
+        ensures { result ≡ self.now.ending }
+    {
+        self.ending
+    }
+
+    /// The awake goroutines: goroutine n at place n.
+    pub fn rows(&self) -> &[Option<Slot>]
+        ensures { result.now ≡ self.now.rows }
+    {
+        self.rows.as_slice()
+    }
+
+    /// Performs the request of goroutine `number`, which is awake and asks, while no state is taken out: answers the event,
+    /// and appends to the output what it prints.
+    pub fn perform(
+        &mut self,
+        alloc: Global,
+        code: &Verified,
+        limit: u64,
+        number: u64,
+        output: &mut Vec<u8>,
+    ) -> Result<Event, Memory>
+        requires asks { Asks code.now limit self.old.rows number }
+        requires fits { FitsCore code.now limit self.old }
+        requires events { self.old.events < 2 ^ 62 }
+        ensures performs { IfOk result (λ event. Performs code.now limit self.old number event (bytes_of event) self.new) }
+        ensures output { IfOk result (λ event. output.new.items ≡ output.old.items ++ bytes_of event) }
+        ensures fits { IfOk result (λ _. FitsCore code.now limit self.new) }
+        ensures memory { OnErr result ((self.new ≡ self.old) × (output.new.items ≡ output.old.items)) }
+    {
+        let (clock, request) = self.asked(alloc, code, limit, number)?;
+        match request {
+            Request::Print(text) => {
+                output.extend_from_slice(text.as_slice())?;
+                Ok(self.print(alloc, code, limit, number, clock, text))
+            }
+            Request::Go(function, args) => {
+                self.start(alloc, code, limit, number, clock, function, args)
+            }
+            Request::End => Ok(self.leave(alloc, code, limit, number, clock)),
+            Request::Exit => Ok(self.end(alloc, code, limit, number, clock, true)),
+            Request::Exhausted => Ok(self.end(alloc, code, limit, number, clock, false)),
+            Request::Panic(cause) => Ok(self.panic(alloc, code, limit, number, clock, cause)),
+            other => self.meet(alloc, code, limit, number, clock, other),
+        }
+    }
+
+    /// Lends the least of those that are neither lent nor parked: its number, and two copies of its state.
+    pub fn lend_least(&mut self, alloc: Global) -> Result<Option<(u64, GoState, GoState)>, Memory>
+        ensures none { IfOk result (λ found. IfNone found ((to_lend self.old ≡ None) × (self.new ≡ self.old))) }
+        ensures key { IfOk result (λ found. IfSome found (λ l. to_lend self.old ≡ Some (record { clock = l.1.clock; number = l.0 }))) }
+        ensures free { IfOk result (λ found. IfSome found (λ l. IsFreeIn self.old.rows l.0 l.1 × (l.2 ≡ l.1))) }
+        ensures lent { IfOk result (λ found. IfSome found (λ l. self.new ≡ record self.old { rows = slice_set self.old.rows l.0 (Some (lent_row l.1)) })) }
+        ensures memory { OnErr result (self.new ≡ self.old) }
+    {
+        if self.ending.is_some() {
+            return Ok(None);
+        }
+        let Some(key) = least_free(self.rows.as_slice()) else {
+            return Ok(None);
+        };
+        let Some((base, present)) = lend_row(alloc, self.rows.as_mut_slice(), key.number)? else {
+            unreachable!()
+        };
+        Ok(Some((key.number, base, present)))
+    }
+
+    /// Whether goroutine `number` is lent in this state.
+    pub fn is_lent(&self, number: u64, base: &GoState) -> bool
+        ensures { IsTrue result ↔ IsLentRow self.now.rows number base.now }
+    {
+        match self.rows.get(number as usize) {
+            Some(Some(slot)) => slot.is_lent_in(base),
+            _ => false,
+        }
+    }
+
+    /// Puts goroutine `number` back in this state, parked or not.
+    pub fn take_back(&mut self, number: u64, state: GoState, parked: bool)
+        ensures { self.new ≡ record self.old { rows = slice_set self.old.rows number (Some (back_row state parked)) } }
+    {
+        put_at(
+            self.rows.as_mut_slice(),
+            number,
+            Some(Slot::back(state, parked)),
+        );
+    }
+
+    #[tactic(auto, using(crate::proofs::Taking::taken_same))]
+    /// Takes out the state of goroutine `number`, which is awake and not lent. Contracts still see it.
+    pub fn take_state(&mut self, number: u64) -> GoState
+        requires { IsHere self.old number }
+        ensures state { state_of self.old number ≡ Some result }
+        ensures taken { self.new ≡ taken_out self.old number }
+        ensures same { (k : ℕ) → state_of self.new k ≡ state_of self.old k }
+    {
+        let Some(slot) = take_at(self.rows.as_mut_slice(), number) else {
+            unreachable!()
+        };
+        let (state, away) = slot.take();
+        put_at(self.taken.as_mut_slice(), number, Some(away));
+        state
+    }
+
+    #[tactic(auto, using(crate::proofs::Taking::put_state, crate::proofs::Taking::put_others))]
+    /// Puts this state in, for goroutine `number`, whose state was taken out.
+    pub fn put_state(&mut self, number: u64, state: GoState)
+        requires { IsAway self.old number }
+        ensures put { self.new ≡ put_back self.old number state }
+        ensures state { state_of self.new number ≡ Some state }
+        ensures others { (k : ℕ) → k ≢ number → state_of self.new k ≡ state_of self.old k }
+    {
+        let Some(away) = take_at(self.taken.as_mut_slice(), number) else {
+            unreachable!()
+        };
+        put_at(self.rows.as_mut_slice(), number, Some(away.back(state)));
+    }
+
+    #[tactic(auto, using(crate::proofs::Stepping::rows_fit))]
+    /// One step of goroutine `number`, as a schedule names it; of one that is not awake, or without the memory that it
+    /// needs, it changes nothing.
+    pub fn step(
+        &mut self,
+        alloc: Global,
+        code: &Verified,
+        limit: u64,
+        number: u64,
+        step: Step,
+    ) -> Result<(), Memory>
+        requires { FitsCore code.now limit self.old }
+        ensures ok { OnOk result (self.new ≡ record self.old { rows = stepped_rows code.now limit step number self.old.rows }) }
+        ensures memory { OnErr result (self.new ≡ self.old) }
+        ensures fits { OnOk result (FitsCore code.now limit self.new) }
+    {
+        self.change_row(alloc, code, limit, number, step)?;
+        Ok(())
+    }
+
+    /// A row changes by a step.
+    fn change_row(
+        &mut self,
+        alloc: Global,
+        code: &Verified,
+        limit: u64,
+        number: u64,
+        step: Step,
+    ) -> Result<(), Memory>
+        requires { FitsAll code.now limit self.old.rows }
+        ensures ok { OnOk result (self.new ≡ record self.old { rows = stepped_rows code.now limit step number self.old.rows }) }
+        ensures memory { OnErr result (self.new ≡ self.old) }
+        ensures fits { OnOk result (FitsRow code.now limit (slice_index_or (stepped_rows code.now limit step number self.old.rows) number None)) }
+    {
+        step_row(alloc, self.rows.as_mut_slice(), code, limit, number, step)?;
+        Ok(())
+    }
+
+    /// The clock of goroutine `number` and what its request means: a return of goroutine 1 is an exit, and event number
+    /// 2^62 of a run is `Exhausted`.
+    fn asked(
+        &self,
+        alloc: Global,
+        code: &Verified,
+        limit: u64,
+        number: u64,
+    ) -> Result<(Clock, Request), Memory>
+        requires asks { Asks code.now limit self.now.rows number }
+        requires events { self.now.events < 2 ^ 62 }
+        ensures asked { IfOk result (λ asked. IsAsked code.now limit self.now number asked.0 (request_of asked.1)) }
+    {
+        let Some(Some(slot)) = self.rows.get(number as usize) else {
+            unreachable!()
+        };
+        let Some(request) = slot.state().asked(alloc, code, limit)? else {
+            unreachable!()
+        };
+        Ok((slot.state().clock(), self.meant(number, request)))
+    }
+
+    /// What goroutine `number`'s request means at the next event.
+    fn meant(&self, number: u64, request: Request) -> Request
+        requires { self.now.events < 2 ^ 62 }
+        ensures { request_of result ≡ meant_after self.now.events number (request_of request) }
+    {
+        if self.events + 1 == LAST {
+            return Request::Exhausted;
+        }
+        match request {
+            Request::End => if number == 1 {
+                Request::Exit
+            } else {
+                Request::End
+            },
+            other => other,
+        }
+    }
+
+    /// A print, whose bytes are in the output.
+    fn print(
+        &mut self,
+        alloc: Global,
+        code: &Verified,
+        limit: u64,
+        number: u64,
+        clock: Clock,
+        text: Vec<u8>,
+    ) -> Event
+        requires asked { IsAsked code.now limit self.old number clock (PrintRequest text.items) }
+        requires fits { FitsCore code.now limit self.old }
+        requires events { self.old.events < 2 ^ 62 }
+        ensures performs { Performs code.now limit self.old number result (bytes_of result) self.new }
+        ensures bytes { bytes_of result ≡ text.items }
+        ensures fits { FitsCore code.now limit self.new }
+    {
+        self.go_on(code, number, Reply::Nothing, next_time(clock, limit));
+        Event {
+            clock,
+            number,
+            request: Request::Print(text),
+            outcome: Outcome::Done(Reply::Nothing),
+            partners: Vec::new(alloc),
+        }
+    }
+
+    /// A `go`: a new goroutine, unless too many are alive.
+    fn start(
+        &mut self,
+        alloc: Global,
+        code: &Verified,
+        limit: u64,
+        number: u64,
+        clock: Clock,
+        function: u32,
+        args: Vec<Word>,
+    ) -> Result<Event, Memory>
+        requires asked { IsAsked code.now limit self.old number clock (GoRequest function args.items) }
+        requires fits { FitsCore code.now limit self.old }
+        requires events { self.old.events < 2 ^ 62 }
+        ensures performs { IfOk result (λ event. Performs code.now limit self.old number event [] self.new) }
+        ensures bytes { IfOk result (λ event. bytes_of event ≡ []) }
+        ensures fits { IfOk result (λ _. FitsCore code.now limit self.new) }
+        ensures memory { OnErr result (self.new ≡ self.old) }
+    {
+        if self.live == MOST_ALIVE {
+            self.stop(number, End::Panicked(Panic::TooManyGoroutines));
+            return Ok(Event {
+                clock,
+                number,
+                request: Request::Go(function, args),
+                outcome: Outcome::Panics(Panic::TooManyGoroutines, 0),
+                partners: Vec::new(alloc),
+            });
+        }
+        let mut partners = Vec::new(alloc);
+        partners.push(self.rows.len() as u64)?;
+        let later = next_time(clock, limit);
+        let state = spawn_state(alloc, code, function as usize, args.as_slice(), later)?;
+        self.add(state)?;
+        self.go_on(code, number, Reply::Nothing, later);
+        Ok(Event {
+            clock,
+            number,
+            request: Request::Go(function, args),
+            outcome: Outcome::Done(Reply::Nothing),
+            partners,
+        })
+    }
+
+    /// A request to channels.
+    fn meet(
+        &mut self,
+        alloc: Global,
+        code: &Verified,
+        limit: u64,
+        number: u64,
+        clock: Clock,
+        request: Request,
+    ) -> Result<Event, Memory>
+        requires asked { IsAsked code.now limit self.old number clock (request_of request) }
+        requires channels { IsOfChannels (request_of request) }
+        requires fits { FitsCore code.now limit self.old }
+        requires events { self.old.events < 2 ^ 62 }
+        ensures performs { IfOk result (λ event. Performs code.now limit self.old number event [] self.new) }
+        ensures bytes { IfOk result (λ event. bytes_of event ≡ printed_by request) }
+        ensures fits { IfOk result (λ _. FitsCore code.now limit self.new) }
+        ensures memory { OnErr result (self.new ≡ self.old) }
+    {
+        let mut partners = Vec::with_capacity(alloc, most_woken(&self.channels, &request))?;
+        match self.ask(number, &request)? {
+            Came::Done(reply, woken) => {
+                let later = next_time(clock, limit);
+                let outcome = Outcome::Done(copy_of(&reply));
+                self.go_on(code, number, reply, later);
+                self.wake_all(code, later, woken, &mut partners);
+                Ok(event(clock, number, request, outcome, partners))
+            }
+            Came::Sleeps => {
+                self.fall_asleep(number);
+                Ok(event(clock, number, request, Outcome::Sleeps, partners))
+            }
+            Came::Panics(cause, clause) => {
+                self.stop(number, End::Panicked(cause));
+                let outcome = Outcome::Panics(cause, clause);
+                Ok(event(clock, number, request, outcome, partners))
+            }
+        }
+    }
+
+    /// Goroutine `number` has ended.
+    fn leave(
+        &mut self,
+        alloc: Global,
+        code: &Verified,
+        limit: u64,
+        number: u64,
+        clock: Clock,
+    ) -> Event
+        requires asked { IsAsked code.now limit self.old number clock EndRequest }
+        requires fits { FitsCore code.now limit self.old }
+        requires events { self.old.events < 2 ^ 62 }
+        ensures performs { Performs code.now limit self.old number result [] self.new }
+        ensures bytes { bytes_of result ≡ [] }
+        ensures fits { FitsCore code.now limit self.new }
+    {
+        self.take_out(number);
+        Event {
+            clock,
+            number,
+            request: Request::End,
+            outcome: Outcome::Done(Reply::Nothing),
+            partners: Vec::new(alloc),
+        }
+    }
+
+    /// The run ends by goroutine `number`'s exit, or at the clock limit.
+    fn end(
+        &mut self,
+        alloc: Global,
+        code: &Verified,
+        limit: u64,
+        number: u64,
+        clock: Clock,
+        finished: bool,
+    ) -> Event
+        requires asked { IsAsked code.now limit self.old number clock (last_request finished) }
+        requires fits { FitsCore code.now limit self.old }
+        requires events { self.old.events < 2 ^ 62 }
+        ensures performs { Performs code.now limit self.old number result [] self.new }
+        ensures bytes { bytes_of result ≡ [] }
+        ensures fits { FitsCore code.now limit self.new }
+    {
+        let (request, end) = if finished {
+            (Request::Exit, End::Finished)
+        } else {
+            (Request::Exhausted, End::Exhausted)
+        };
+        self.stop(number, end);
+        Event {
+            clock,
+            number,
+            request,
+            outcome: Outcome::Done(Reply::Nothing),
+            partners: Vec::new(alloc),
+        }
+    }
+
+    /// The run ends by goroutine `number`'s panic.
+    fn panic(
+        &mut self,
+        alloc: Global,
+        code: &Verified,
+        limit: u64,
+        number: u64,
+        clock: Clock,
+        cause: Panic,
+    ) -> Event
+        requires asked { IsAsked code.now limit self.old number clock (PanicRequest cause) }
+        requires fits { FitsCore code.now limit self.old }
+        requires events { self.old.events < 2 ^ 62 }
+        ensures performs { Performs code.now limit self.old number result [] self.new }
+        ensures bytes { bytes_of result ≡ [] }
+        ensures fits { FitsCore code.now limit self.new }
+    {
+        self.stop(number, End::Panicked(cause));
+        Event {
+            clock,
+            number,
+            request: Request::Panic(cause),
+            outcome: Outcome::Panics(cause, 0),
+            partners: Vec::new(alloc),
+        }
+    }
+}
+
+impl Core {
+    /// Goroutine `number`'s request is done: it goes on with this reply, at this clock.
+    fn go_on(&mut self, code: &Verified, number: u64, reply: Reply, later: Clock)
+        requires frame { IfSome (slice_index_or self.old.rows number None) (λ row. IsFrameOf code.now row.state.state) }
+        requires events { self.old.events < 2 ^ 62 }
+        ensures { self.new ≡ record self.old { rows = answered_rows code.now self.old.rows number later (reply_of reply); events = self.old.events + 1 } }
+    {
+        answer_row(self.rows.as_mut_slice(), code, number, reply, later);
+        self.events += 1;
+    }
+
+    /// Goroutine `number`'s request ends the run, and it stays as it was.
+    fn stop(&mut self, number: u64, end: End)
+        requires { self.old.events < 2 ^ 62 }
+        ensures { self.new ≡ record self.old {
+          rows = slice_set self.old.rows number (option_map (λ row. free_row row.state) (slice_index_or self.old.rows number None));
+          events = self.old.events + 1;
+          ending = Some end;
+        } }
+    {
+        stay_row(self.rows.as_mut_slice(), number);
+        self.events += 1;
+        self.ending = Some(end);
+    }
+
+    /// Goroutine `number` is no more.
+    fn take_out(&mut self, number: u64)
+        requires { self.old.events < 2 ^ 62 }
+        ensures { self.new ≡ record self.old { rows = slice_set self.old.rows number None; live = self.old.live - 1; events = self.old.events + 1 } }
+    {
+        put_at(self.rows.as_mut_slice(), number, None);
+        self.live = self.live.saturating_sub(1);
+        self.events += 1;
+    }
+
+    /// A new goroutine in this state.
+    fn add(&mut self, state: GoState) -> Result<(), Memory>
+        requires { self.old.live < 1024 }
+        ensures ok { OnOk result (self.new ≡ record self.old { rows = self.old.rows ++ Some (free_row state) ∷ []; beds = self.old.beds ++ None ∷ []; taken = self.old.taken ++ None ∷ []; live = self.old.live + 1 }) }
+        ensures memory { OnErr result (self.new ≡ self.old) }
+    {
+        self.rows.reserve(1)?;
+        self.beds.reserve(1)?;
+        self.taken.reserve(1)?;
+        self.rows.push_reserved(Some(Slot::free(state)));
+        self.beds.push_reserved(None);
+        self.taken.push_reserved(None);
+        self.live += 1;
+        Ok(())
+    }
+
+    /// What comes of a request to channels; nobody is told yet.
+    fn ask(&mut self, number: u64, request: &Request) -> Result<Came, Memory>
+        requires { IsOfChannels (request_of request.now) }
+        ensures does { IfOk result (λ came. Does self.old.channels number (request_of request.now) came self.new.channels) }
+        ensures rest { self.new ≡ record self.old { channels = self.new.channels } }
+        ensures memory { OnErr result (self.new ≡ self.old) }
+    {
+        self.channels.perform(number, request)
+    }
+
+    /// Goroutine `number` falls asleep.
+    fn fall_asleep(&mut self, number: u64)
+        requires { self.old.events < 2 ^ 62 }
+        ensures { self.new ≡ record self.old {
+          rows = slice_set self.old.rows number None;
+          beds = slice_set self.old.beds number (option_map (λ row. row.state) (slice_index_or self.old.rows number None));
+          events = self.old.events + 1;
+        } }
+    {
+        doze(self.rows.as_mut_slice(), self.beds.as_mut_slice(), number);
+        self.events += 1;
+    }
+
+    /// Those who are woken get up with their replies, at this clock; their numbers are put behind the others.
+    fn wake_all(
+        &mut self,
+        code: &Verified,
+        clock: Clock,
+        woken: Vec<Woken>,
+        partners: &mut Vec<u64>,
+    )
+        requires fits { (k : ℕ) → IfSome (slice_index_or self.old.beds k None) (λ s. IsFrameOf code.now s.state) }
+        requires room { vec_len partners.old + length woken.items ≤ vec_capacity partners.old }
+        ensures core { self.new ≡ record self.old { rows = woken_rows code.now self.old.rows self.old.beds clock woken.items; beds = left_beds self.old.beds woken.items } }
+        ensures numbers { partners.new.items ≡ partners.old.items ++ map (λ (w : ℕ × AnyReply). w.0) woken.items }
+    {
+        wake(
+            self.rows.as_mut_slice(),
+            self.beds.as_mut_slice(),
+            code,
+            clock,
+            woken,
+            partners,
+        );
+    }
+}
+
+/// The event of goroutine `number` at this clock.
+fn event(clock: Clock, number: u64, request: Request, outcome: Outcome, partners: Vec<u64>) -> Event
+    ensures { result ≡ record { clock = clock; number = number; request = request; outcome = outcome; partners = partners } }
+{
+    Event {
+        clock,
+        number,
+        request,
+        outcome,
+        partners,
+    }
+}
+
+/// The clock one later.
+fn next_time(clock: Clock, limit: u64) -> Clock
+    requires below { clock < limit }
+    requires last { limit ≤ 2 ^ 62 }
+    ensures { result ≡ clock + 1 }
+{
+    Clock::at(clock.time() + 1)
+}
+
+/// The most goroutines that a request wakes.
+fn most_woken(channels: &Channels, request: &Request) -> usize
+    ensures { result ≡ most_woken (request_of request.now) (length channels.now.asleep) }
+{
+    match request {
+        Request::Close(_) => channels.asleep(),
+        _ => 1,
+    }
+}
+
+/// A second reply that is the same.
+fn copy_of(reply: &Reply) -> Reply
+    ensures { reply_of result ≡ reply_of reply.now }
+{
+    match reply {
+        Reply::Nothing => Reply::Nothing,
+        Reply::Word(word) => Reply::Word(*word),
+        Reply::Received(item, ok) => Reply::Received(item.copy(), *ok),
+        Reply::Clause(clause, None) => Reply::Clause(*clause, None),
+        Reply::Clause(clause, Some((item, ok))) => Reply::Clause(*clause, Some((item.copy(), *ok))),
+        Reply::Default => Reply::Default,
+        Reply::Closed => Reply::Closed,
+    }
+}

@@ -1,0 +1,163 @@
+//! Rows of awake goroutines and the states of those who are asleep, goroutine n at place n.
+
+ghost use Rattle.std.specs.Prelude.{◌≡◌, ℕ, ◌+◌, ◌≤◌, ◌++◌, IfNone, IfOk, IfSome, OnErr, OnOk, None, Some, length, map, option_map, slice_index_or, slice_set, vec_capacity, vec_len};
+ghost use Rattle.bytecode.specs.Machine.{code_kind};
+ghost use Rattle.bytecode.specs.Rules.{IsFrameOf};
+ghost use Rattle.word.specs.Kinds.{told};
+ghost use Rattle.word.specs.Values.{Reply as AnyReply};
+ghost use Rattle.word.specs.Views.{reply_of};
+ghost use Rattle.world_core_base.specs.Cores.{IsFreeIn, answered_rows, left_beds, woken_rows};
+ghost use Rattle.world_core_base.specs.Slots.{FitsAll, FitsRow, free_clock, free_row, lent_row, stepped_rows};
+
+use crate::slot::Slot;
+use channel_core::Woken;
+use go_text::Memory;
+use goroutine_vm::GoState;
+use logical_clock::Clock;
+use std::alloc::Global;
+use std::mem;
+use turn_rule::Step;
+use verifier::Verified;
+use word::request::Reply;
+
+/// A goroutine's request is done: it goes on with this reply, at this clock.
+pub(crate) fn answer_row(
+    rows: &mut [Option<Slot>],
+    code: &Verified,
+    number: u64,
+    reply: Reply,
+    clock: Clock,
+)
+    requires { IfSome (slice_index_or rows.old number None) (λ row. IsFrameOf code.now row.state.state) }
+    ensures { rows.new ≡ answered_rows code.now rows.old number clock (reply_of reply) }
+{
+    if (number as usize) < rows.len() {
+        if let Some(slot) = &mut rows[number as usize] {
+            slot.answer(code, reply, clock);
+        }
+    }
+}
+
+/// Those who are woken get up with their replies, at this clock; their numbers are put behind the others.
+pub(crate) fn wake(
+    rows: &mut [Option<Slot>],
+    beds: &mut [Option<GoState>],
+    code: &Verified,
+    clock: Clock,
+    woken: Vec<Woken>,
+    partners: &mut Vec<u64>,
+)
+    requires fits { (k : ℕ) → IfSome (slice_index_or beds.old k None) (λ s. IsFrameOf code.now s.state) }
+    requires room { vec_len partners.old + length woken.items ≤ vec_capacity partners.old }
+    ensures rows { rows.new ≡ woken_rows code.now rows.old beds.old clock woken.items }
+    ensures beds { beds.new ≡ left_beds beds.old woken.items }
+    ensures numbers { partners.new.items ≡ partners.old.items ++ map (λ (w : ℕ × AnyReply). w.0) woken.items }
+{
+    for one in woken {
+        let number = one.number();
+        partners.push_reserved(number);
+        wake_one(rows, beds, code, clock, number, one.into_reply());
+    }
+}
+
+/// One who is woken gets up with this reply, at this clock.
+fn wake_one(
+    rows: &mut [Option<Slot>],
+    beds: &mut [Option<GoState>],
+    code: &Verified,
+    clock: Clock,
+    number: u64,
+    reply: Reply,
+)
+    requires { IfSome (slice_index_or beds.old number None) (λ s. IsFrameOf code.now s.state) }
+    ensures rows { rows.new ≡ slice_set rows.old number (option_map (λ s. free_row (told (code_kind code.now) s clock (reply_of reply))) (slice_index_or beds.old number None)) }
+    ensures beds { beds.new ≡ slice_set beds.old number None }
+{
+    let slot = match take_at(beds, number) {
+        Some(mut state) => {
+            state.answer(code, reply, clock);
+            Some(Slot::free(state))
+        }
+        None => None,
+    };
+    put_at(rows, number, slot);
+}
+
+/// A goroutine that is awake falls asleep in its state.
+pub(crate) fn doze(rows: &mut [Option<Slot>], beds: &mut [Option<GoState>], number: u64)
+    ensures rows { rows.new ≡ slice_set rows.old number None }
+    ensures beds { beds.new ≡ slice_set beds.old number (option_map (λ row. row.state) (slice_index_or rows.old number None)) }
+{
+    let bed = take_at(rows, number).map(|slot| slot.into_state());
+    put_at(beds, number, bed);
+}
+
+/// Takes out what stands at place `number`, if anything does.
+pub(crate) fn take_at<T>(places: &mut [Option<T>], number: u64) -> Option<T>
+    ensures item { result ≡ slice_index_or places.old number None }
+    ensures places { places.new ≡ slice_set places.old number None }
+{
+    if (number as usize) < places.len() {
+        return mem::replace(&mut places[number as usize], None);
+    }
+    None
+}
+
+/// Puts this at place `number`, where there is such a place.
+pub(crate) fn put_at<T: Drop>(places: &mut [Option<T>], number: u64, item: Option<T>)
+    ensures { places.new ≡ slice_set places.old number item }
+{
+    if (number as usize) < places.len() {
+        places[number as usize] = item;
+    }
+}
+
+/// A goroutine is as it was, though its request was performed: the run ends.
+pub(crate) fn stay_row(rows: &mut [Option<Slot>], number: u64)
+    ensures { rows.new ≡ slice_set rows.old number (option_map (λ row. free_row row.state) (slice_index_or rows.old number None)) }
+{
+    if (number as usize) < rows.len() {
+        if let Some(slot) = &mut rows[number as usize] {
+            slot.stay();
+        }
+    }
+}
+
+pub(crate) fn lend_row(
+    alloc: Global,
+    rows: &mut [Option<Slot>],
+    number: u64,
+) -> Result<Option<(GoState, GoState)>, Memory>
+    ensures none { IfOk result (λ found. IfNone found ((free_clock (slice_index_or rows.old number None) ≡ None) × (rows.new ≡ rows.old))) }
+    ensures some { IfOk result (λ found. IfSome found (λ l. (l.1 ≡ l.0) × IsFreeIn rows.old number l.0 × (rows.new ≡ slice_set rows.old number (Some (lent_row l.0))))) }
+    ensures memory { OnErr result (rows.new ≡ rows.old) }
+{
+    if (number as usize) < rows.len() {
+        if let Some(slot) = &mut rows[number as usize] {
+            return Ok(slot.lend(alloc)?);
+        }
+    }
+    Ok(None)
+}
+
+/// One step of goroutine `number`, as a schedule names it.
+pub(crate) fn step_row(
+    alloc: Global,
+    rows: &mut [Option<Slot>],
+    code: &Verified,
+    limit: u64,
+    number: u64,
+    step: Step,
+) -> Result<(), Memory>
+    requires { FitsAll code.now limit rows.old }
+    ensures ok { OnOk result (rows.new ≡ stepped_rows code.now limit step number rows.old) }
+    ensures memory { OnErr result (rows.new ≡ rows.old) }
+    ensures fits { OnOk result (FitsRow code.now limit (slice_index_or (stepped_rows code.now limit step number rows.old) number None)) }
+{
+    if (number as usize) < rows.len() {
+        if let Some(slot) = &mut rows[number as usize] {
+            slot.step(alloc, code, limit, step)?;
+        }
+    }
+    Ok(())
+}

@@ -1,0 +1,86 @@
+//! Whose turn it is.
+
+ghost use Rattle.std.specs.Prelude.{◌≡◌, IfSome, MatchOption, None, Some, false, slice_index_or, true};
+ghost use Rattle.logical_clock.specs.Order.{keys, least};
+ghost use Rattle.turn_rule.specs.Schedule.{has_turn};
+ghost use Rattle.world_core_base.specs.Slots.{IsAwake, IsBefore, IsNobodyAwake, free_clock, waiting_clock};
+
+use crate::slot::Slot;
+use logical_clock::{Key, sooner};
+
+#[tactic(auto, using(crate::proofs::Leases::waiting_found))]
+/// The parked goroutine of least key. A goroutine's number is its place in the rows.
+pub fn least_parked(rows: &[Option<Slot>]) -> Option<Key>
+    ensures least { result ≡ least (keys waiting_clock 0 rows.now) }
+    ensures found { IfSome result (λ key. waiting_clock (slice_index_or rows.now key.number None) ≡ Some key.clock) }
+{
+    let mut best: Option<Key> = None;
+    for place in (0..rows.len()).rev() {
+        if let Some(slot) = &rows[place] {
+            if let Some(clock) = slot.parked_clock() {
+                best = Some(sooner(
+                    Key {
+                        clock,
+                        number: place as u64,
+                    },
+                    best,
+                ));
+            }
+        }
+    }
+    best
+}
+
+#[tactic(auto, using(crate::proofs::Leases::free_found))]
+/// The goroutine of least key of those that are neither lent nor parked.
+pub fn least_free(rows: &[Option<Slot>]) -> Option<Key>
+    ensures least { result ≡ least (keys free_clock 0 rows.now) }
+    ensures found { IfSome result (λ key. free_clock (slice_index_or rows.now key.number None) ≡ Some key.clock) }
+{
+    let mut best: Option<Key> = None;
+    for place in (0..rows.len()).rev() {
+        if let Some(slot) = &rows[place] {
+            if let Some(clock) = slot.free_clock() {
+                best = Some(sooner(
+                    Key {
+                        clock,
+                        number: place as u64,
+                    },
+                    best,
+                ));
+            }
+        }
+    }
+    best
+}
+
+/// Who stands before the key: an awake goroutine whose floor the key is not below. None where the key has the turn.
+pub fn blocker(rows: &[Option<Slot>], key: Key) -> Option<u64>
+    ensures { MatchOption result (has_turn key 0 rows.now ≡ true) (λ n. (has_turn key 0 rows.now ≡ false) × IsBefore rows.now key n) }
+{
+    for place in 0..rows.len() {
+        if let Some(slot) = &rows[place] {
+            let number = place as u64;
+            let floor = Key {
+                clock: slot.floor(),
+                number,
+            };
+            if number != key.number && !key.is_before(&floor) {
+                return Some(number);
+            }
+        }
+    }
+    None
+}
+
+/// The first goroutine that is awake.
+pub fn first_awake(rows: &[Option<Slot>]) -> Option<u64>
+    ensures { MatchOption result (IsNobodyAwake rows.now) (λ n. IsAwake rows.now n) }
+{
+    for place in 0..rows.len() {
+        if let Some(_slot) = &rows[place] {
+            return Some(place as u64);
+        }
+    }
+    None
+}
