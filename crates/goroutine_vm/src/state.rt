@@ -6,14 +6,12 @@ ghost use Rattle.bytecode.specs.Code.{Code};
 ghost use Rattle.bytecode.specs.Machine.{code_begin, code_kind, code_next, frames_told, reply_words};
 ghost use Rattle.bytecode.specs.Rules.{IsFrameOf, IsVerified};
 ghost use Rattle.goroutine_vm.specs.Advance.{Advances, Goes, IsFew, IsStateOf, Turns};
-ghost use Rattle.goroutine_vm.specs.Steps.{Does};
+ghost use Rattle.goroutine_vm_base.specs.Steps.{Does};
 ghost use Rattle.word.specs.Kinds.{asks, at, told};
 ghost use Rattle.word.specs.Views.{reply_of, request_of};
 
-use crate::frames::Frames;
-use crate::outcome::Step;
-use crate::told::words_of;
 use go_text::Memory;
+use goroutine_vm_base::{Frames, Step, words_of};
 use logical_clock::Clock;
 use std::alloc::{AllocError, Global};
 use std::marker::Model;
@@ -219,14 +217,18 @@ impl GoState {
     {
         match reply {
             Reply::Closed => self.doom(clock),
-            Reply::Nothing => self.go_on(code, &[], clock),
-            Reply::Word(word) => self.go_on(code, &[word], clock),
+            Reply::Nothing => self.go_on(code, None, &[], clock),
+            Reply::Word(word) => self.go_on(code, None, &[word], clock),
             Reply::Received(item, ok) => {
                 let words = words_of(&item, ok);
-                self.go_on(code, words.words(), clock);
+                self.go_on(code, None, words.words(), clock);
             }
-            Reply::Clause(_, _) => self.go_on(code, &[], clock),
-            Reply::Default => self.go_on(code, &[], clock),
+            Reply::Clause(clause, None) => self.go_on(code, Some(clause), &[], clock),
+            Reply::Clause(clause, Some((item, ok))) => {
+                let words = words_of(&item, ok);
+                self.go_on(code, Some(clause), words.words(), clock);
+            }
+            Reply::Default => self.go_on(code, None, &[], clock),
         }
     }
 
@@ -238,13 +240,14 @@ impl GoState {
         self.doomed = true;
     }
 
-    /// The request is done with these words, and the goroutine goes on behind it at this clock.
-    fn go_on(&mut self, code: &Verified, words: &[Word], clock: Clock)
+    /// The request is done with these words, of a select in this clause or its default, and the goroutine goes on behind it at
+    /// this clock.
+    fn go_on(&mut self, code: &Verified, clause: Option<usize>, words: &[Word], clock: Clock)
         requires { IsFrameOf code.now self.old.state }
-        ensures told { self.new ≡ at clock (frames_told code.now self.old.state words.now) }
+        ensures told { self.new ≡ at clock (frames_told code.now self.old.state clause words.now) }
         ensures frame { IsFrameOf code.now self.new.state }
     {
-        self.frames.tell(code.code(), words);
+        self.frames.tell(code.code(), clause, words);
         self.clock = clock;
         self.doomed = false;
     }

@@ -1,13 +1,13 @@
 use Rattle.std.proofs.Common.{◌≡◌, ◌∙◌, ◌<◌, ◌+◌, ℕ, Bool, true, false, ap, sym, subst, arith, rules}
 use Rattle.bytecode.specs.Code.{Code}
 use Rattle.bytecode.specs.Machine.{Frames, code_next}
-use Rattle.goroutine_vm.specs.Steps.{AsksFor}
+use Rattle.goroutine_vm_base.specs.Steps.{AsksFor}
 use Rattle.word.specs.Kinds.{Clocked}
 use Rattle.goroutine_vm.proofs.Turns.{sound_at, slid_state, ticked_state, asking_stays, asking_request, asking_none, never}
 use Rattle.goroutine_vm.proofs.state.GoState.turn.Goals as goal
 
-pub step-requires : goal.step-requires
-step-requires c = sound_at c.args.code.now c.code.result.now c.args.limit c.args.self.now c.self.inside.frames c.code.ensures.code c.code.ensures.verified c.requires (ap (λ (s : Clocked Frames). s.state) (sym c.self.view_is))
+pub step-requires-clause-sound : goal.step-requires-clause-sound
+step-requires-clause-sound c = sound_at c.args.code.now c.code.result.now c.args.limit c.args.self.now c.self.inside.frames c.code.ensures.code c.code.ensures.verified c.requires (ap (λ (s : Clocked Frames). s.state) (sym c.self.view_is))
 
 pub returns-in_err-request-in-Asking-clause-memory : goal.returns-in_err-request-in-Asking-clause-memory
 returns-in_err-request-in-Asking-clause-memory c =
