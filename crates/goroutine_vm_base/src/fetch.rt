@@ -12,7 +12,7 @@ use bytecode::{Code, Function, Instr, Part};
 use word::apply::Op;
 
 /// How many operands an operator has.
-fn arity(op: Op) -> usize
+pub(crate) fn arity(op: Op) -> usize
     ensures { result ≡ count (operands op) }
 {
     match op {

@@ -19,7 +19,7 @@ use word::value::Word;
 const MAX_DEPTH: usize = 1000;
 
 /// Pushes a word, and goes on to the next instruction.
-fn push(frame: &mut Frame, word: Word) -> Result<(), AllocError>
+pub(crate) fn push(frame: &mut Frame, word: Word) -> Result<(), AllocError>
     requires { frame.old.place + 1 < 2 ^ 64 }
     ensures ok { OnOk result (frame.new ≡ goes_on frame.old (frame.old.stack ++ word ∷ [])) }
     ensures err { OnErr result (frame.new ≡ frame.old) }
@@ -51,7 +51,7 @@ fn put_words(into: &mut [Word], from: usize, words: &[Word])
 }
 
 /// Pops words from a place of the stack on into the locals from another on, and goes on.
-fn store(frame: &mut Frame, from: usize, at: usize)
+pub(crate) fn store(frame: &mut Frame, from: usize, at: usize)
     requires place { frame.old.place + 1 < 2 ^ 64 }
     requires at { at ≤ length frame.old.stack }
     requires within { from + (length frame.old.stack - at) ≤ length frame.old.locals }
@@ -84,7 +84,7 @@ fn pick(
 }
 
 /// Goes to a place with what lies below another place of the stack.
-fn go_to(frame: &mut Frame, to: usize, at: usize)
+pub(crate) fn go_to(frame: &mut Frame, to: usize, at: usize)
     ensures { frame.new ≡ goes_to frame.old to (take at frame.old.stack) }
 {
     frame.stack.truncate(at);
@@ -92,10 +92,11 @@ fn go_to(frame: &mut Frame, to: usize, at: usize)
 }
 
 /// Puts an operator's value in place of its operands, and goes on; or asks to panic.
-fn operate(frame: &mut Frame, op: Op, at: usize) -> Step
+pub(crate) fn operate(frame: &mut Frame, op: Op, at: usize) -> Step
     requires place { frame.old.place + 1 < 2 ^ 64 }
     requires at { at + count (operands op) ≡ length frame.old.stack }
-    ensures { (may : Bool) → (code : CodeValue) → (callers : Frames) → Does may (frame.old ∷ callers) (instr_next code frame.old callers (take at frame.old.stack) (drop at frame.old.stack) (Instr.Apply op)) result (frame.new ∷ callers) }
+    ensures step { (may : Bool) → (code : CodeValue) → (callers : Frames) → Does may (frame.old ∷ callers) (instr_next code frame.old callers (take at frame.old.stack) (drop at frame.old.stack) (Instr.Apply op)) result (frame.new ∷ callers) }
+    ensures same { frame.new.function ≡ frame.old.function }
 {
     let last = frame.stack.len() - 1;
     match checked_apply(op, frame.stack[at], frame.stack[last]) {
@@ -111,11 +112,12 @@ fn operate(frame: &mut Frame, op: Op, at: usize) -> Step
 }
 
 /// Goes on where the truth value on the top is true, else to a place.
-fn choose(frame: &mut Frame, to: usize, at: usize) -> Step
+pub(crate) fn choose(frame: &mut Frame, to: usize, at: usize) -> Step
     requires place { frame.old.place + 1 < 2 ^ 64 }
     requires at { at + 1 ≡ length frame.old.stack }
     requires small { to < 2 ^ 32 }
-    ensures { (may : Bool) → (code : CodeValue) → (callers : Frames) → Does may (frame.old ∷ callers) (instr_next code frame.old callers (take at frame.old.stack) (drop at frame.old.stack) (Instr.Unless to)) result (frame.new ∷ callers) }
+    ensures step { (may : Bool) → (code : CodeValue) → (callers : Frames) → Does may (frame.old ∷ callers) (instr_next code frame.old callers (take at frame.old.stack) (drop at frame.old.stack) (Instr.Unless to)) result (frame.new ∷ callers) }
+    ensures same { frame.new.function ≡ frame.old.function }
 {
     match frame.stack[at] {
         Word::Bool(true) => {
@@ -299,8 +301,9 @@ pub(crate) fn instr(
 }
 
 /// Goes to a place where a tick may be made, with what lies below another place of the stack.
-fn tick_to(may: bool, frame: &mut Frame, to: usize, at: usize) -> Step
-    ensures { (callers : Frames) → Does may (frame.old ∷ callers) (Ticks (goes_to frame.old to (take at frame.old.stack) ∷ callers)) result (frame.new ∷ callers) }
+pub(crate) fn tick_to(may: bool, frame: &mut Frame, to: usize, at: usize) -> Step
+    ensures step { (callers : Frames) → Does may (frame.old ∷ callers) (Ticks (goes_to frame.old to (take at frame.old.stack) ∷ callers)) result (frame.new ∷ callers) }
+    ensures same { frame.new.function ≡ frame.old.function }
 {
     if may {
         go_to(frame, to, at);

@@ -7,6 +7,7 @@ mod frames;
 mod instrs;
 mod outcome;
 mod request;
+mod run;
 mod select;
 mod step;
 mod told;
