@@ -67,6 +67,8 @@ same instrs.Cap instrs.Cap h = refl
 same instrs.Cap j h = cc
 same (instrs.Print a) (instrs.Print d) h = ap instrs.Print ((Decides-eqb a d).0 h)
 same (instrs.Print a) j h = cc
+same (instrs.Select a) (instrs.Select d) h = ap instrs.Select ((Decides-eqb a d).0 h)
+same (instrs.Select a) j h = cc
 
 itself : (i : Instr) → eq-value.it i i ≡ true
 itself (instrs.Int a) = grind arith
@@ -91,6 +93,7 @@ itself instrs.Close = refl
 itself instrs.Len = refl
 itself instrs.Cap = refl
 itself (instrs.Print a) = grind (arith, nat_tests)
+itself (instrs.Select a) = grind (arith, nat_tests)
 
 pub instr_decides : (i j : Instr) → Decides (eq-value.it i j) (i ≡ j)
 instr_decides i j = (same i j, λ e. subst (λ k. eq-value.it i k ≡ true) e (itself i))

@@ -1,6 +1,7 @@
 -- Steps that cost nothing lead forward, so that there are few of them in a row.
 use Rattle.std.proofs.Common.{◌≡◌, ℕ, ℤ, zero, suc, ◌+◌, ◌-◌, ◌*◌, ◌<◌, ◌≤◌, List, [], ◌∷◌, ◌++◌, length, drop, take, map, Option, Some, None, Result, Ok, Err, refl, sym, ap, ◌∙◌, subst, arith, Bool, true, false, cond, nat_lt, slice_get, slice_range}
 use Rattle.std.specs.Prelude.{sum_by}
+use Rattle.std.specs.Option.{is_some}
 use Rattle.std.proofs.lemmas.List.Sums.{sum_by-cons}
 use Rattle.std.proofs.Math.Nat.{suc-mul}
 use Rattle.bytecode.specs.declared.instr.Instr.{Instr}
@@ -8,7 +9,7 @@ use Rattle.bytecode.specs.declared.instr.Instr.TheVariants as instrs
 use Rattle.bytecode.specs.declared.instr.Kind.{Kind}
 use Rattle.bytecode.specs.Code.{Function, Code}
 use Rattle.bytecode.specs.Effects.{top_of, below, wants, count}
-use Rattle.bytecode.specs.Machine.{Frame, Frames, Step, instrs_of, zero_of, begun, goes_on, goes_to, put_at, if_within, if_there, on_truth, on_int, on_chan, applied, on_value, entered, returned, printed, pushed, instr_next, pops, at_instr, at_function, told_first, code_next}
+use Rattle.bytecode.specs.Machine.{Frame, Frames, Step, instrs_of, zero_of, begun, goes_on, goes_to, put_at, if_within, if_there, on_truth, on_int, on_chan, applied, on_value, entered, returned, printed, cases_of, pushed, instr_next, pops, at_instr, at_function, told_first, code_next}
 use Rattle.bytecode.specs.Rules.{Directed, IsVerified, Await, IsFrameOf}
 use Rattle.bytecode.specs.Silence.{instr_count, most_silent}
 use Rattle.bytecode.proofs.Unstuck.{there}
@@ -17,7 +18,7 @@ use Rattle.word.specs.declared.panic.Panic.TheVariants.{CallDepth}
 use Rattle.word.specs.declared.value.Word.{Word}
 use Rattle.word.specs.declared.value.Word.TheVariants.{Int, Bool as Truth, Chan}
 use Rattle.word.specs.Kinds.{Slides, Ticks, Asks, Stuck}
-use Rattle.word.specs.Values.{Make, Go, Send, Receive, Close, Len, Cap, Print, Panic}
+use Rattle.word.specs.Values.{Make, Go, Send, Receive, Close, Select, Len, Cap, Print, Panic}
 
 some_inj : {A : Type 0} {x y : A} → Some x ≡ Some y → x ≡ y
 some_inj e = cc
@@ -113,7 +114,7 @@ module _ (code : Code) where
         let none = told_none d.told aw.4 in
         omega (arith, none, h)
 
-    by_instr : (i : Instr) → Directed c.place i → Falls (ahead (c ∷ cs)) (instr_next code c cs low top i)
+    by_instr : (i : Instr) → Directed code c.place i → Falls (ahead (c ∷ cs)) (instr_next code c cs low top i)
     by_instr (instrs.Int n) d = next_one
     by_instr (instrs.Bool b) d = next_one
     by_instr (instrs.Nil s) d = next_one
@@ -140,6 +141,7 @@ module _ (code : Code) where
     by_instr instrs.Len d = by_chan (ahead (c ∷ cs)) top (λ chan item. Asks (Len chan)) (λ chan item. tt)
     by_instr instrs.Cap d = by_chan (ahead (c ∷ cs)) top (λ chan item. Asks (Cap chan)) (λ chan item. tt)
     by_instr (instrs.Print q) d = by_there (ahead (c ∷ cs)) (slice_get code.prints q) (λ table. Asks (Print (printed table top))) (λ table e. tt)
+    by_instr (instrs.Select q) d = by_there (ahead (c ∷ cs)) (slice_get code.selects q) (λ table. if_there (cases_of code table.clauses top) (λ cases. Asks (Select cases (is_some table.default)))) (λ table e. by_there (ahead (c ∷ cs)) (cases_of code table.clauses top) (λ cases. Asks (Select cases (is_some table.default))) (λ cases h. tt))
 
   module _ (v : IsVerified code) where
     frame_within : (c : Frame) (f : Function) (i : Instr) → slice_get code.functions c.function ≡ Some f → slice_get f.instrs c.place ≡ Some i → c.place < length (instrs_of (slice_get code.functions c.function))

@@ -1,6 +1,8 @@
 -- Verified code never meets a word of another kind, a word too few, or a place that is not there.
 use Rattle.std.proofs.Common.{◌≡◌, ℕ, ℤ, pos, negsuc, zero, suc, ◌+◌, ◌-◌, ◌<◌, ◌≤◌, List, [], ◌∷◌, ◌++◌, length, take, drop, map, Option, Some, None, Result, Ok, Err, refl, sym, ap, ◌∙◌, subst, arith, Bool, true, false, cond, nat_lt, slice_get, slice_range, take-append-drop, append_assoc}
 use Rattle.std.proofs.lemmas.List.{length-take}
+use Rattle.std.proofs.Math.Seq.{drop-append_seam, take-append_seam}
+use Rattle.std.specs.Option.{is_some}
 use Rattle.std.specs.Prelude.{int_rem}
 use Rattle.std.specs.Int.{w64, int_wrapping_div}
 use Rattle.std.proofs.lemmas.List.{append-nil, places, drop-drop}
@@ -9,9 +11,11 @@ use Rattle.bytecode.specs.declared.instr.Kind.{Kind}
 use Rattle.bytecode.specs.declared.instr.Kind.TheVariants as kinds
 use Rattle.bytecode.specs.declared.instr.Instr.{Instr}
 use Rattle.bytecode.specs.declared.instr.Instr.TheVariants as instrs
+use Rattle.bytecode.specs.declared.table.Clause.{Clause as TableClause}
+use Rattle.bytecode.specs.declared.table.Clause.TheVariants as clauses
 use Rattle.bytecode.specs.Code.{Function, PrintTable, Code}
-use Rattle.bytecode.specs.Effects.{top_of, below, params_in, results_in, shape_kinds, kinds_in, print_kinds, locals_in, wants, gives, count, Wants, Meets, Fits, Enough, afterwards, IsChannel, OneIsChannel, TwoAreChannels, operands, outcome}
-use Rattle.bytecode.specs.Machine.{Frame, Frames, Step, fetch, instrs_of, zero_of, as_kind, fitted, begun, goes_on, goes_to, put_at, if_within, if_there, on_truth, on_int, on_chan, applied, on_value, entered, returned, printed, pushed, instr_next, pops, at_instr, at_function, told_first, answered, frames_told, code_next, reply_words, is_told, told_at, told_in, code_answer, code_begin, main_of, code_kind}
+use Rattle.bytecode.specs.Effects.{top_of, below, params_in, results_in, shape_kinds, kinds_in, print_kinds, locals_in, clause_shape, clause_kinds, all_clause_kinds, clauses_in, targets_in, wants, gives, leaves, count, Wants, Meets, Fits, Enough, afterwards, IsChannel, OneIsChannel, TwoAreChannels, operands, outcome}
+use Rattle.bytecode.specs.Machine.{Frame, Frames, Step, fetch, instrs_of, zero_of, as_kind, fitted, begun, goes_on, goes_to, put_at, if_within, if_there, on_truth, on_int, on_chan, applied, on_value, entered, returned, printed, case_of, cases_of, also, pushed, instr_next, pops, at_instr, at_function, told_first, answered, frames_told, code_next, reply_words, choice, is_told, way_of, went, selected, told_at, told_in, code_answer, code_begin, main_of, code_kind}
 use Rattle.bytecode.specs.Rules.{ways, Path, Named, Holds, IsShaped, IsVerified, At, Has, AllHave, Stands, Await, AreGood, IsFrameOf}
 use Rattle.word.specs.declared.apply.Op.{Op}
 use Rattle.word.specs.declared.apply.Op.TheVariants as ops
@@ -21,7 +25,8 @@ use Rattle.word.specs.declared.value.Word.{Word}
 use Rattle.word.specs.declared.value.Word.TheVariants.{Int, Bool as Truth, Chan}
 use Rattle.word.specs.Apply.{Valued, value, int_value, bool_value, chan_value, is_zero, panics, number, shifted_left, shifted_right}
 use Rattle.word.specs.Kinds.{Next, Slides, Ticks, Asks, Stuck}
-use Rattle.word.specs.Values.{Make, Go, Send, Receive, Close, Len, Cap, Print, End, Panic, Reply}
+use Rattle.word.specs.declared.request.Case.{Case}
+use Rattle.word.specs.Values.{Make, Go, Send, Receive, Close, Select, Len, Cap, Print, End, Panic, Reply}
 
 none_some : {A : Type 0} {x : A} → None ≡ Some x → ⊥
 none_some e = cc
@@ -55,6 +60,7 @@ enough_of instrs.Close have m e = e
 enough_of instrs.Len have m e = e
 enough_of instrs.Cap have m e = e
 enough_of (instrs.Print q) have m e = e
+enough_of (instrs.Select q) have m e = e
 
 range_split : {A : Type 0} → (at n : ℕ) (ks : List A) → at + n ≤ length ks → (take at ks ++ slice_range ks at (at + n)) ++ drop (at + n) ks ≡ ks
 range_split at n ks le =
@@ -295,6 +301,33 @@ module _ (code : Code) where
   keeps_return [] ws own (c ∷ cs) e d h a = record { good = (a.0, a.1 ++ own, a.2, all_told (c.stack ++ ws) c.told (a.1 ++ own) a.4 (all_append c.stack ws a.1 own a.3 h), a.5, a.6); depth = omega (arith, d) }
 
   module _ (v : IsVerified code) where
+    -- the operands of a select's clauses are of their kinds
+    case_there : (x : TableClause) (ws : List Word) → clause_shape x < length code.shapes → AllHave ws (clause_kinds code x) → (y : Case) × (case_of x ws ≡ Some y)
+    case_there (clauses.Receive s to) (Chan c ∷ []) le h = (record { chan = c; item = None }, refl)
+    case_there (clauses.Receive s to) [] le h = absurd h
+    case_there (clauses.Receive s to) (Int n ∷ ws) le h = absurd h.0
+    case_there (clauses.Receive s to) (Truth b ∷ ws) le h = absurd h.0
+    case_there (clauses.Receive s to) (Chan c ∷ (w ∷ ws)) le h = absurd h.1
+    case_there (clauses.Send s to) (Chan c ∷ item) le h =
+        let k = get_some code.shapes s le in
+        let most : length (shape_kinds code s) ≤ 16 = subst (λ o. length (kinds_in o) ≤ 16) (sym k.1) (v.shapes s k.0 k.1).most in
+        let same = all_length item (shape_kinds code s) h.1 in
+        let short : nat_lt 16 (length item) ≡ false = grind (arith, nat_tests, most, same) in
+        (record { chan = c; item = Some item }, ap (λ b. cond b None (Some (record { chan = c; item = Some item }))) short)
+    case_there (clauses.Send s to) [] le h = absurd h
+    case_there (clauses.Send s to) (Int n ∷ ws) le h = absurd h.0
+    case_there (clauses.Send s to) (Truth b ∷ ws) le h = absurd h.0
+
+    cases_there : (xs : List TableClause) (ws : List Word) → ((n : ℕ) (x : TableClause) → slice_get xs n ≡ Some x → clause_shape x < length code.shapes) → AllHave ws (all_clause_kinds code xs) → (ys : List Case) × (cases_of code xs ws ≡ Some ys)
+    cases_there [] ws s h = ([], refl)
+    cases_there (x ∷ xs) ws s h =
+        let ks = clause_kinds code x in
+        let n = length ks in
+        let rest = all_clause_kinds code xs in
+        let one = case_there x (take n ws) (s 0 x refl) (subst (AllHave (take n ws)) (take-append_seam ks rest) (all_take n ws (ks ++ rest) h)) in
+        let more = cases_there xs (drop n ws) (λ k y e. s (suc k) y e) (subst (AllHave (drop n ws)) (drop-append_seam ks rest) (all_drop n ws (ks ++ rest) h)) in
+        (one.0 ∷ more.0, ap (λ o. also o (cases_of code xs (drop n ws))) one.1 ∙ ap (also (Some one.0)) more.1)
+
     -- what stands at a place to which a path leads
     pub record There (g place : ℕ) (ks : List Kind) : Type 0 where
       pub function : Function
@@ -303,7 +336,7 @@ module _ (code : Code) where
       pub is-instr : slice_get function.instrs place ≡ Some instr
       pub named : Named code function instr
       pub fits : Fits code function instr ks
-      pub next : (k to : ℕ) → slice_get (ways instr place) k ≡ Some to → At code g to (afterwards code function instr ks)
+      pub next : (k to : ℕ) → slice_get (ways code instr place) k ≡ Some to → At code g to (afterwards code function instr k ks)
 
     pub there : (g place : ℕ) (ks : List Kind) → At code g place ks → There g place ks
     there g place ks a =
@@ -332,7 +365,7 @@ module _ (code : Code) where
         depth = grind (arith, nat_tests, t);
       }
 
-      keeps_instr : (i : Instr) → Named code f i → Enough i (count (wants code f i)) (length low + count (wants code f i)) → Meets (wants code f i) topks → ((k to : ℕ) → slice_get (ways i c.place) k ≡ Some to → At code c.function to (lowks ++ gives code f i topks)) → Keeps (instr_next code c cs low top i)
+      keeps_instr : (i : Instr) → Named code f i → Enough i (count (wants code f i)) (length low + count (wants code f i)) → Meets (wants code f i) topks → ((k to : ℕ) → slice_get (ways code i c.place) k ≡ Some to → At code c.function to (lowks ++ leaves code f i k topks)) → Keeps (instr_next code c cs low top i)
       keeps_instr (instrs.Int n) nm en m next = on (Int n ∷ []) (kinds.Int ∷ []) (tt, tt) (next 0 (c.place + 1) refl)
       keeps_instr (instrs.Bool b) nm en m next = on (Truth b ∷ []) (kinds.Bool ∷ []) (tt, tt) (next 0 (c.place + 1) refl)
       keeps_instr (instrs.Nil s) nm en m next = on (Chan None ∷ []) (kinds.Chan s ∷ []) (tt, tt) (next 0 (c.place + 1) refl)
@@ -369,20 +402,38 @@ module _ (code : Code) where
       keeps_instr instrs.Len nm en m next = keeps_one topks top (λ chan item. Asks (Len chan)) m htop (λ chan item. tt)
       keeps_instr instrs.Cap nm en m next = keeps_one topks top (λ chan item. Asks (Cap chan)) m htop (λ chan item. tt)
       keeps_instr (instrs.Print q) nm en m next = let k = get_some code.prints q nm in there_is (slice_get code.prints q) k.0 (λ table. Asks (Print (printed table top))) k.1 tt
+      keeps_instr (instrs.Select q) nm en m next =
+          let k = get_some code.selects q nm.0 in
+          let have : AllHave top (all_clause_kinds code k.0.clauses) = subst (λ o. AllHave top (all_clause_kinds code (clauses_in o))) k.1 (subst (AllHave top) m htop) in
+          let x = cases_there k.0.clauses top (v.selects q k.0 k.1).there have in
+          there_is (slice_get code.selects q) k.0 (λ table. if_there (cases_of code table.clauses top) (λ cases. Asks (Select cases (is_some table.default)))) k.1
+          (there_is (cases_of code k.0.clauses top) x.0 (λ cases. Asks (Select cases (is_some k.0.default))) x.1 tt)
 
-      told_by : (ks : List Kind) (ws : List Word) → At code c.function (c.place + 1) (lowks ++ ks) → IsFrameOf code (record c { place = c.place + 1; stack = low; told = fitted ks ws } ∷ cs)
-      told_by ks ws e = record { good = (own, lowks ++ ks, (f, hf, hown, hl), all_append low (fitted ks ws) lowks ks hlow (fitted_has ks ws), e, aw); depth = d }
+      told_by : (to : ℕ) (ks : List Kind) (ws : List Word) → At code c.function to (lowks ++ ks) → IsFrameOf code (record c { place = to; stack = low; told = fitted ks ws } ∷ cs)
+      told_by to ks ws e = record { good = (own, lowks ++ ks, (f, hf, hown, hl), all_append low (fitted ks ws) lowks ks hlow (fitted_has ks ws), e, aw); depth = d }
 
-      told_keeps : (i : Instr) (reply : List Word) → IsFrameOf code (c ∷ cs) → ((k to : ℕ) → slice_get (ways i c.place) k ≡ Some to → At code c.function to (lowks ++ gives code f i topks)) → IsFrameOf code (cond (is_told i) (record c { place = c.place + 1; stack = low; told = fitted (gives code f i []) reply }) c ∷ cs)
-      told_keeps (instrs.Make s) reply g next = told_by (kinds.Chan s ∷ []) reply (next 0 (c.place + 1) refl)
-      told_keeps (instrs.Go x) reply g next = told_by ([]) reply (next 0 (c.place + 1) refl)
-      told_keeps (instrs.Send s) reply g next = told_by ([]) reply (next 0 (c.place + 1) refl)
-      told_keeps (instrs.Receive s) reply g next = told_by (shape_kinds code s ++ kinds.Bool ∷ []) reply (next 0 (c.place + 1) refl)
-      told_keeps instrs.Close reply g next = told_by ([]) reply (next 0 (c.place + 1) refl)
-      told_keeps instrs.Len reply g next = told_by (kinds.Int ∷ []) reply (next 0 (c.place + 1) refl)
-      told_keeps instrs.Cap reply g next = told_by (kinds.Int ∷ []) reply (next 0 (c.place + 1) refl)
-      told_keeps (instrs.Print q) reply g next = told_by ([]) reply (next 0 (c.place + 1) refl)
-      told_keeps i reply g next = g
+      -- on to a way that is there
+      went_keeps : (q : ℕ) (ws : List Word) → low ≡ below (pops code f (instrs.Select q)) c.stack → IsFrameOf code (c ∷ cs)
+          → ((k to : ℕ) → slice_get (ways code (instrs.Select q) c.place) k ≡ Some to → At code c.function to (lowks ++ leaves code f (instrs.Select q) k topks))
+          → (k : ℕ) (o : Option ℕ) → slice_get (ways code (instrs.Select q) c.place) k ≡ o → IsFrameOf code (went code c ws f (instrs.Select q) k o ∷ cs)
+      went_keeps q ws is g next k None e = g
+      went_keeps q ws is g next k (Some to) e =
+          subst (λ (l : List Word). IsFrameOf code (record c { place = to; stack = l; told = fitted (leaves code f (instrs.Select q) k []) ws } ∷ cs)) is
+          (told_by to (leaves code f (instrs.Select q) k []) ws (next k to e))
+
+      told_keeps : (i : Instr) (chosen : Option ℕ) (reply : List Word) → low ≡ below (pops code f i) c.stack → IsFrameOf code (c ∷ cs) → ((k to : ℕ) → slice_get (ways code i c.place) k ≡ Some to → At code c.function to (lowks ++ leaves code f i k topks)) → IsFrameOf code (cond (is_told i) (record c { place = c.place + 1; stack = low; told = fitted (gives code f i []) reply }) (selected code c chosen reply f i) ∷ cs)
+      told_keeps (instrs.Make s) chosen reply is g next = told_by (c.place + 1) (kinds.Chan s ∷ []) reply (next 0 (c.place + 1) refl)
+      told_keeps (instrs.Go x) chosen reply is g next = told_by (c.place + 1) [] reply (next 0 (c.place + 1) refl)
+      told_keeps (instrs.Send s) chosen reply is g next = told_by (c.place + 1) [] reply (next 0 (c.place + 1) refl)
+      told_keeps (instrs.Receive s) chosen reply is g next = told_by (c.place + 1) (shape_kinds code s ++ kinds.Bool ∷ []) reply (next 0 (c.place + 1) refl)
+      told_keeps instrs.Close chosen reply is g next = told_by (c.place + 1) [] reply (next 0 (c.place + 1) refl)
+      told_keeps instrs.Len chosen reply is g next = told_by (c.place + 1) (kinds.Int ∷ []) reply (next 0 (c.place + 1) refl)
+      told_keeps instrs.Cap chosen reply is g next = told_by (c.place + 1) (kinds.Int ∷ []) reply (next 0 (c.place + 1) refl)
+      told_keeps (instrs.Print q) chosen reply is g next = told_by (c.place + 1) [] reply (next 0 (c.place + 1) refl)
+      told_keeps (instrs.Select q) chosen reply is g next =
+          let k = way_of (slice_get code.selects q) chosen in
+          went_keeps q reply is g next k (slice_get (targets_in (slice_get code.selects q)) k) refl
+      told_keeps i chosen reply is g next = g
 
     instr_keeps : (c : Frame) (cs : Frames) → c.told ≡ [] → IsFrameOf code (c ∷ cs) → Keeps (told_first code c cs [])
     instr_keeps c cs ht g =
@@ -412,8 +463,8 @@ module _ (code : Code) where
     keeps [] g = absurd g.good
     keeps (c ∷ cs) g = frame_keeps c cs c.told refl g
 
-    instr_answers : (c : Frame) (cs : Frames) (reply : List Word) → c.told ≡ [] → IsFrameOf code (c ∷ cs) → IsFrameOf code (answered code c reply [] ∷ cs)
-    instr_answers c cs reply ht g =
+    instr_answers : (c : Frame) (cs : Frames) (chosen : Option ℕ) (reply : List Word) → c.told ≡ [] → IsFrameOf code (c ∷ cs) → IsFrameOf code (answered code c chosen reply [] ∷ cs)
+    instr_answers c cs chosen reply ht g =
         let own = g.good.0 in
         let ks = g.good.1 in
         let stand = g.good.2 in
@@ -424,21 +475,21 @@ module _ (code : Code) where
         let same : stand.0 ≡ f = some_inj (sym stand.1 ∙ t.is-function) in
         let have : AllHave c.stack ks = none_told c.stack c.told ks ht g.good.3 in
         let fetched : fetch code c.function c.place ≡ Some i = ap (λ o. slice_get (instrs_of o) c.place) t.is-function ∙ t.is-instr in
-        let told : IsFrameOf code (told_at code c reply f i ∷ cs) = told_keeps f c cs (below n c.stack) (top_of n c.stack) own (below n ks) (top_of n ks) t.is-function (subst (λ (x : Function). x.results ≡ own) same stand.2) (subst (λ (x : Function). AllHave c.locals x.locals) same stand.3) (all_below n c.stack ks have) (all_top n c.stack ks have) g.good.5 g.depth ht i reply g t.next in
-        subst (λ o. IsFrameOf code (told_in code c reply o (fetch code c.function c.place) ∷ cs)) (sym t.is-function)
-        (subst (λ o. IsFrameOf code (told_in code c reply (Some f) o ∷ cs)) (sym fetched) told)
+        let told : IsFrameOf code (told_at code c chosen reply f i ∷ cs) = told_keeps f c cs (below n c.stack) (top_of n c.stack) own (below n ks) (top_of n ks) t.is-function (subst (λ (x : Function). x.results ≡ own) same stand.2) (subst (λ (x : Function). AllHave c.locals x.locals) same stand.3) (all_below n c.stack ks have) (all_top n c.stack ks have) g.good.5 g.depth ht i chosen reply refl g t.next in
+        subst (λ o. IsFrameOf code (told_in code c chosen reply o (fetch code c.function c.place) ∷ cs)) (sym t.is-function)
+        (subst (λ o. IsFrameOf code (told_in code c chosen reply (Some f) o ∷ cs)) (sym fetched) told)
 
-    frame_answers : (c : Frame) (cs : Frames) (reply : List Word) (told : List Word) → c.told ≡ told → IsFrameOf code (c ∷ cs) → IsFrameOf code (answered code c reply told ∷ cs)
-    frame_answers c cs reply [] e g = instr_answers c cs reply e g
-    frame_answers c cs reply (w ∷ ws) e g = g
+    frame_answers : (c : Frame) (cs : Frames) (chosen : Option ℕ) (reply : List Word) (told : List Word) → c.told ≡ told → IsFrameOf code (c ∷ cs) → IsFrameOf code (answered code c chosen reply told ∷ cs)
+    frame_answers c cs chosen reply [] e g = instr_answers c cs chosen reply e g
+    frame_answers c cs chosen reply (w ∷ ws) e g = g
 
-    pub words_keep : (s : Frames) (words : List Word) → IsFrameOf code s → IsFrameOf code (frames_told code s words)
-    words_keep [] words g = g
-    words_keep (c ∷ cs) words g = frame_answers c cs words c.told refl g
+    pub words_keep : (s : Frames) (chosen : Option ℕ) (words : List Word) → IsFrameOf code s → IsFrameOf code (frames_told code s chosen words)
+    words_keep [] chosen words g = g
+    words_keep (c ∷ cs) chosen words g = frame_answers c cs chosen words c.told refl g
 
     -- whatever the reply
     pub answer_keeps : (s : Frames) (reply : Reply) → IsFrameOf code s → IsFrameOf code (code_answer code s reply)
-    answer_keeps s reply g = words_keep s (reply_words reply) g
+    answer_keeps s reply g = words_keep s (choice reply) (reply_words reply) g
 
     begin_by : (g : ℕ) (args : List Word) (o : Option Function) (f : Function) → slice_get code.functions g ≡ Some f → o ≡ Some f → IsFrameOf code (begun (locals_in o) g args ∷ [])
     begin_by g args o f e is = subst (λ x. IsFrameOf code (begun (locals_in x) g args ∷ [])) (sym is) (record { good = (f.results, [], (f, e, refl, fitted_has f.locals args), tt, start g f e, tt); depth = omega arith })

@@ -62,6 +62,7 @@ instr_text instrs.Close = codes "close"
 instr_text instrs.Len = codes "len"
 instr_text instrs.Cap = codes "cap"
 instr_text (instrs.Print q) = codes "print " ++ decimal q
+instr_text (instrs.Select q) = codes "select " ++ decimal q
 
 -- on the right of six places, or of more where it is longer
 abbrev pub right_aligned : List ℕ → List ℕ

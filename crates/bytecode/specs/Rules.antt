@@ -2,12 +2,13 @@
 use Rattle.std.specs.Prelude.{◌≡◌, ℕ, zero, suc, ◌+◌, ◌-◌, ◌<◌, ◌≤◌, ◌⊎◌, List, [], ◌∷◌, ◌++◌, length, Option, Some, None, slice_get}
 use Rattle.bytecode.specs.declared.instr.Kind.{Kind}
 use Rattle.bytecode.specs.declared.instr.Kind.TheVariants as kinds
+use Rattle.bytecode.specs.declared.table.Clause.{Clause}
 use Rattle.bytecode.specs.declared.instr.Instr.{Instr}
 use Rattle.bytecode.specs.declared.instr.Instr.TheVariants as instrs
 use Rattle.bytecode.specs.declared.rule.Rule.{Rule}
 use Rattle.bytecode.specs.declared.rule.Rule.TheVariants.{Names, Targets, Paths, Calls, Returns, Locals, Tables, Main}
-use Rattle.bytecode.specs.Code.{Function, PrintTable, Code}
-use Rattle.bytecode.specs.Effects.{wants, Fits, afterwards}
+use Rattle.bytecode.specs.Code.{Function, PrintTable, SelectTable, Code}
+use Rattle.bytecode.specs.Effects.{clause_shape, targets, targets_in, wants, Fits, afterwards}
 use Rattle.bytecode.specs.Machine.{Frame, Frames, main_of}
 use Rattle.word.specs.declared.value.Word.{Word}
 use Rattle.word.specs.declared.value.Word.TheVariants.{Int, Bool as Truth, Chan}
@@ -24,18 +25,19 @@ number_of Tables = 7
 number_of Main = 8
 
 -- the places to which an instruction may lead
-abbrev pub ways : Instr → ℕ → List ℕ
-ways (instrs.Jump to) place = to ∷ []
-ways (instrs.Unless to) place = (place + 1) ∷ (to ∷ [])
-ways (instrs.Loop to) place = to ∷ []
-ways instrs.Return place = []
-ways i place = (place + 1) ∷ []
+abbrev pub ways : Code → Instr → ℕ → List ℕ
+ways code (instrs.Jump to) place = to ∷ []
+ways code (instrs.Unless to) place = (place + 1) ∷ (to ∷ [])
+ways code (instrs.Loop to) place = to ∷ []
+ways code instrs.Return place = []
+ways code (instrs.Select q) place = targets_in (slice_get code.selects q)
+ways code i place = (place + 1) ∷ []
 
 -- a path of n instructions that fit, from a function's start to a place, and the kinds on the stack there
 abbrev pub Path : Code → Function → ℕ → ℕ → List Kind → Type 0
 Path code f zero place ks = (place ≡ 0) × (ks ≡ [])
 Path code f (suc n) place ks =
-    (from : ℕ) × (js : List Kind) × (i : Instr) × (k : ℕ) × Path code f n from js × (slice_get f.instrs from ≡ Some i) × Fits code f i js × (slice_get (ways i from) k ≡ Some place) × (ks ≡ afterwards code f i js)
+    (from : ℕ) × (js : List Kind) × (i : Instr) × (k : ℕ) × Path code f n from js × (slice_get f.instrs from ≡ Some i) × Fits code f i js × (slice_get (ways code i from) k ≡ Some place) × (ks ≡ afterwards code f i k js)
 
 -- a shape that a kind names is there
 abbrev pub IsThere : Code → Kind → Type 0
@@ -45,6 +47,13 @@ IsThere code (kinds.Chan s) = s < length code.shapes
 
 abbrev pub AreThere : Code → List Kind → Type 0
 AreThere code ks = (n : ℕ) (k : Kind) → slice_get ks n ≡ Some k → IsThere code k
+
+-- places are of a function of so many instructions; they lie behind a place
+abbrev pub AreWithin : List ℕ → ℕ → Type 0
+AreWithin places n = (k to : ℕ) → slice_get places k ≡ Some to → to < n
+
+abbrev pub AreBehind : List ℕ → ℕ → Type 0
+AreBehind places place = (k to : ℕ) → slice_get places k ≡ Some to → place < to
 
 -- what an instruction names is there
 abbrev pub Named : Code → Function → Instr → Type 0
@@ -58,6 +67,7 @@ Named code f (instrs.Make s) = s < length code.shapes
 Named code f (instrs.Send s) = s < length code.shapes
 Named code f (instrs.Receive s) = s < length code.shapes
 Named code f (instrs.Print q) = q < length code.prints
+Named code f (instrs.Select q) = (q < length code.selects) × AreWithin (targets_in (slice_get code.selects q)) (length f.instrs)
 Named code f i = Unit {0}
 
 -- its ways lead to places of the function
@@ -68,12 +78,13 @@ Inside f place (instrs.Loop to) = to < length f.instrs
 Inside f place instrs.Return = Unit {0}
 Inside f place i = place + 1 < length f.instrs
 
--- a jump leads forward, a loop back
-abbrev pub Directed : ℕ → Instr → Type 0
-Directed place (instrs.Jump to) = place < to
-Directed place (instrs.Unless to) = place < to
-Directed place (instrs.Loop to) = to ≤ place
-Directed place i = Unit {0}
+-- a jump and a select lead forward, a loop back
+abbrev pub Directed : Code → ℕ → Instr → Type 0
+Directed code place (instrs.Jump to) = place < to
+Directed code place (instrs.Unless to) = place < to
+Directed code place (instrs.Loop to) = to ≤ place
+Directed code place (instrs.Select q) = AreBehind (targets_in (slice_get code.selects q)) place
+Directed code place i = Unit {0}
 
 -- the rule that an instruction breaks which does not fit
 abbrev pub rule_of : Instr → Rule
@@ -94,7 +105,7 @@ pub record IsHeaded (code : Code) (f : Function) : Type 0 where
 pub record Holds (code : Code) (f : Function) : Type 0 where
   pub headed : IsHeaded code f
   pub named : (place : ℕ) (i : Instr) → slice_get f.instrs place ≡ Some i → Named code f i × Inside f place i
-  pub directed : (place : ℕ) (i : Instr) → slice_get f.instrs place ≡ Some i → Directed place i
+  pub directed : (place : ℕ) (i : Instr) → slice_get f.instrs place ≡ Some i → Directed code place i
   pub fit : (n place : ℕ) (ks : List Kind) → Path code f n place ks → (i : Instr) × (slice_get f.instrs place ≡ Some i) × Fits code f i ks
   pub same : (n m place : ℕ) (ks js : List Kind) → Path code f n place ks → Path code f m place js → ks ≡ js
 
@@ -106,6 +117,15 @@ pub record IsShaped (code : Code) (ks : List Kind) : Type 0 where
 
 abbrev pub IsShort : PrintTable → Type 0
 IsShort table = length table.parts ≤ 64
+
+-- the shapes that a select table names are there
+abbrev pub HasShapes : Code → SelectTable → Type 0
+HasShapes code table = (n : ℕ) (x : Clause) → slice_get table.clauses n ≡ Some x → clause_shape x < length code.shapes
+
+-- V7, a default counted too, and, of the shapes that a select table names, V1
+pub record IsSelect (code : Code) (table : SelectTable) : Type 0 where
+  pub most : length (targets table) ≤ 64
+  pub there : HasShapes code table
 
 -- V8
 pub record HasMain (code : Code) : Type 0 where
@@ -120,6 +140,7 @@ pub record HasMain (code : Code) : Type 0 where
 pub record IsVerified (code : Code) : Type 0 where
   pub shapes : (s : ℕ) (ks : List Kind) → slice_get code.shapes s ≡ Some ks → IsShaped code ks
   pub prints : (q : ℕ) (table : PrintTable) → slice_get code.prints q ≡ Some table → IsShort table
+  pub selects : (q : ℕ) (table : SelectTable) → slice_get code.selects q ≡ Some table → IsSelect code table
   pub functions : (g : ℕ) (f : Function) → slice_get code.functions g ≡ Some f → Holds code f
   pub main : HasMain code
 
@@ -136,7 +157,7 @@ Parting code f place =
 -- a rule that a function breaks at a place; its heading stands at place 0
 abbrev pub BrokenIn : Code → Function → Rule → ℕ → Type 0
 BrokenIn code f Names place = ((i : Instr) × (slice_get f.instrs place ≡ Some i) × (Named code f i × Inside f place i → ⊥)) ⊎ ((place ≡ 0) × (IsHeaded code f → ⊥))
-BrokenIn code f Targets place = (i : Instr) × (slice_get f.instrs place ≡ Some i) × (Directed place i → ⊥)
+BrokenIn code f Targets place = (i : Instr) × (slice_get f.instrs place ≡ Some i) × (Directed code place i → ⊥)
 BrokenIn code f Paths place = Misfit code f Paths place ⊎ Parting code f place
 BrokenIn code f Calls place = Misfit code f Calls place
 BrokenIn code f Returns place = Misfit code f Returns place
@@ -144,12 +165,15 @@ BrokenIn code f Locals place = Misfit code f Locals place
 BrokenIn code f Tables place = ⊥
 BrokenIn code f Main place = ⊥
 
--- a rule that code breaks outside its functions, where a shape's or a print table's number stands as the place
+-- a rule that code breaks outside its functions, where a shape's or a table's number stands as the place
 abbrev pub BrokenBeside : Code → Rule → ℕ → Type 0
-BrokenBeside code Names place = (ks : List Kind) × (slice_get code.shapes place ≡ Some ks) × (AreThere code ks → ⊥)
+BrokenBeside code Names place =
+    ((ks : List Kind) × (slice_get code.shapes place ≡ Some ks) × (AreThere code ks → ⊥))
+    ⊎ ((table : SelectTable) × (slice_get code.selects place ≡ Some table) × (HasShapes code table → ⊥))
 BrokenBeside code Tables place =
     ((ks : List Kind) × (slice_get code.shapes place ≡ Some ks) × (IsShaped code ks → ⊥))
     ⊎ ((table : PrintTable) × (slice_get code.prints place ≡ Some table) × (IsShort table → ⊥))
+    ⊎ ((table : SelectTable) × (slice_get code.selects place ≡ Some table) × (IsSelect code table → ⊥))
 BrokenBeside code Main place = (place ≡ 0) × (HasMain code → ⊥)
 BrokenBeside code rule place = ⊥
 

@@ -1,9 +1,9 @@
 //! The code of a program.
 
-ghost use Rattle.std.specs.Prelude.{◌≡◌, ◌↔◌, IsTrue, string_bytes};
+ghost use Rattle.std.specs.Prelude.{◌≡◌, ◌↔◌, [], IsTrue, string_bytes};
 
 use crate::instr::{Instr, Kind};
-use crate::table::{PrintTable, Shape, same_kinds};
+use crate::table::{PrintTable, SelectTable, Shape, same_kinds};
 use std::marker::Model;
 
 /// A function: its name, how many of its locals are parameters, the kinds of its locals (the parameters first) and of its
@@ -93,12 +93,13 @@ impl Function {
     }
 }
 
-/// A program's functions, shapes and print tables, each numbered from 0.
+/// A program's functions, shapes, print tables and select tables, each numbered from 0.
 #[derive(Debug, Drop)]
 pub struct Code {
     functions: Vec<Function>,
     shapes: Vec<Shape>,
     prints: Vec<PrintTable>,
+    selects: Vec<SelectTable>,
 }
 
 impl Model for Code {
@@ -106,18 +107,32 @@ impl Model for Code {
 
     ghost Value = { CodeValue };
 
-    ghost view = { λ c. record { functions = c.functions.items; shapes = c.shapes.items; prints = c.prints.items } };
+    ghost view = { λ c. record { functions = c.functions.items; shapes = c.shapes.items; prints = c.prints.items; selects = c.selects.items } };
 }
 
 impl Code {
-    /// The code of these functions, shapes and print tables.
+    /// The code of these functions, shapes and print tables, without select tables.
     pub fn new(functions: Vec<Function>, shapes: Vec<Shape>, prints: Vec<PrintTable>) -> Code
-        ensures { result ≡ record { functions = functions.items; shapes = shapes.items; prints = prints.items } }
+        ensures { result ≡ record { functions = functions.items; shapes = shapes.items; prints = prints.items; selects = [] } }
     {
+        let selects = Vec::new(*functions.allocator());
         Code {
             functions,
             shapes,
             prints,
+            selects,
+        }
+    }
+
+    /// The same code with these select tables.
+    pub fn with_selects(self, selects: Vec<SelectTable>) -> Code
+        ensures { result ≡ record self { selects = selects.items } }
+    {
+        Code {
+            functions: self.functions,
+            shapes: self.shapes,
+            prints: self.prints,
+            selects,
         }
     }
 
@@ -142,11 +157,19 @@ impl Code {
         self.prints.as_slice()
     }
 
-    /// Whether the two have the same functions, shapes and print tables.
+    /// The select tables, the first one of number 0.
+    pub fn selects(&self) -> &[SelectTable]
+        ensures { result.now ≡ self.now.selects }
+    {
+        self.selects.as_slice()
+    }
+
+    /// Whether the two have the same functions, shapes, print tables and select tables.
     pub fn is_same(&self, other: &Code) -> bool
         ensures { IsTrue result ↔ (self.now ≡ other.now) }
     {
-        same_prints(self.prints.as_slice(), other.prints.as_slice())
+        same_selects(self.selects.as_slice(), other.selects.as_slice())
+            && same_prints(self.prints.as_slice(), other.prints.as_slice())
             && same_shapes(self.shapes.as_slice(), other.shapes.as_slice())
             && are_same(self.functions.as_slice(), other.functions.as_slice())
     }
@@ -194,6 +217,20 @@ fn same_shapes(left: &[Shape], right: &[Shape]) -> bool
 }
 
 fn same_prints(left: &[PrintTable], right: &[PrintTable]) -> bool
+    ensures { IsTrue result ↔ (left.now ≡ right.now) }
+{
+    if left.len() != right.len() {
+        return false;
+    }
+    for i in 0..left.len() {
+        if !left[i].is_same(&right[i]) {
+            return false;
+        }
+    }
+    true
+}
+
+fn same_selects(left: &[SelectTable], right: &[SelectTable]) -> bool
     ensures { IsTrue result ↔ (left.now ≡ right.now) }
 {
     if left.len() != right.len() {

@@ -62,4 +62,7 @@ pub enum Instr {
     Cap,
     /// Pops the values of the print table of this number, and asks to print them.
     Print(u32),
+    /// Pops the operands of the select table of this number, and asks to do one of its clauses; goes on where the clause
+    /// does that was done, or the default. Of a receive the item and a truth value are pushed.
+    Select(u32),
 }

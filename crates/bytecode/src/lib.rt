@@ -13,4 +13,4 @@ pub use code::{Code, Function};
 pub use instr::{Instr, Kind};
 pub use lines::listing;
 pub use rule::Rule;
-pub use table::{Part, PrintTable, Shape, Text, same_kinds};
+pub use table::{Clause, Part, PrintTable, SelectTable, Shape, Text, same_kinds};

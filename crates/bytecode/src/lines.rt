@@ -73,6 +73,7 @@ impl fmt::Display for Instr {
             Instr::Len => write!(f, "len"),
             Instr::Cap => write!(f, "cap"),
             Instr::Print(table) => write!(f, "print {table}"),
+            Instr::Select(table) => write!(f, "select {table}"),
         }
     }
 }

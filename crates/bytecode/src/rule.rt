@@ -8,7 +8,7 @@ ghost use Rattle.bytecode.specs.Rules.{number_of};
 pub enum Rule {
     /// V1: what is named is there, and the last instruction is a return, jump or loop.
     Names,
-    /// V2: a jump leads forward, a loop back.
+    /// V2: a jump and a select lead forward, a loop back.
     Targets,
     /// V3: on every path to an instruction the operand stack has the same kinds, and they fit it.
     Paths,
@@ -18,7 +18,8 @@ pub enum Rule {
     Returns,
     /// V6: what is stored has the kinds of the locals.
     Locals,
-    /// V7: shapes have 1 to 16 kinds, print tables at most 64 parts.
+    /// V7: shapes have 1 to 16 kinds, select tables at most 64 clauses, a default counted too, and print tables at most 64
+    /// parts.
     Tables,
     /// V8: there is a function `main` without parameters and result.
     Main,

@@ -1,6 +1,7 @@
-//! Tables that instructions name: shapes of items, and what a print writes.
+//! Tables that instructions name: shapes of items, what a print writes, and the clauses of a select.
 
-ghost use Rattle.std.specs.Prelude.{◌≡◌, ◌↔◌, IsTrue};
+ghost use Rattle.std.specs.Prelude.{◌≡◌, ◌↔◌, IsTrue, length, slice_get};
+ghost use Rattle.bytecode.specs.Effects.{clause_shape, clause_target, targets as targets_of};
 
 use crate::instr::Kind;
 use std::marker::Model;
@@ -172,6 +173,124 @@ fn same_parts(left: &[Part], right: &[Part]) -> bool
     }
     for i in 0..left.len() {
         if !is_same_part(&left[i], &right[i]) {
+            return false;
+        }
+    }
+    true
+}
+
+/// A clause of a select.
+#[derive(Clone, Copy, Debug, PartialEq, Eq)]
+pub enum Clause {
+    /// Sends an item of the first number's shape, and goes on at the second number's place.
+    Send(u32, u32),
+    /// Receives an item of the first number's shape, and goes on at the second number's place with the item and a truth
+    /// value.
+    Receive(u32, u32),
+}
+
+impl Clause {
+    /// The number of the shape of what is sent or received.
+    pub fn shape(self) -> u32
+        ensures { result ≡ clause_shape self }
+    {
+        match self {
+            Clause::Send(shape, _) => shape,
+            Clause::Receive(shape, _) => shape,
+        }
+    }
+
+    /// The place at which it goes on.
+    pub fn target(self) -> u32
+        ensures { result ≡ clause_target self }
+    {
+        match self {
+            Clause::Send(_, target) => target,
+            Clause::Receive(_, target) => target,
+        }
+    }
+}
+
+/// The clauses of a select, in source order, and where its default goes on, where it has one.
+#[derive(Debug, Drop)]
+pub struct SelectTable {
+    clauses: Vec<Clause>,
+    default: Option<u32>,
+}
+
+impl Model for SelectTable {
+    ghost use Rattle.bytecode.specs.Code.{SelectTable as SelectTableValue};
+
+    ghost Value = { SelectTableValue };
+
+    ghost view = { λ t. record { clauses = t.clauses.items; default = t.default } };
+}
+
+impl SelectTable {
+    /// The table of these clauses, with a default that goes on at this place where there is one.
+    pub fn new(clauses: Vec<Clause>, default: Option<u32>) -> SelectTable
+        ensures { result ≡ record { clauses = clauses.items; default = default } }
+    {
+        SelectTable { clauses, default }
+    }
+
+    /// The clauses: at most 64 in verified code, the default counted too.
+    pub fn clauses(&self) -> &[Clause]
+        ensures { result.now ≡ self.now.clauses }
+    {
+        self.clauses.as_slice()
+    }
+
+    /// Where the default goes on; none where there is no default.
+    pub fn default(&self) -> Option<u32>
+        ensures { result ≡ self.now.default }
+    {
+        self.default
+    }
+
+    /// The places at which it may go on, by their number: those of the clauses in order, and that of the default behind them.
+    pub fn target(&self, number: usize) -> Option<u32>
+        ensures { result ≡ slice_get (targets_of self.now) number }
+    {
+        if number == self.clauses.len() {
+            return self.default;
+        }
+        self.clauses.get(number).map(|clause| clause.target())
+    }
+
+    /// How many there are.
+    pub fn target_count(&self) -> usize
+        ensures { result ≡ length (targets_of self.now) }
+    {
+        match self.default {
+            None => self.clauses.len(),
+            Some(_) => self.clauses.len() + 1,
+        }
+    }
+
+    /// Whether the two have the same clauses and the same default.
+    pub fn is_same(&self, other: &SelectTable) -> bool
+        ensures { IsTrue result ↔ (self.now ≡ other.now) }
+    {
+        same_default(self.default, other.default)
+            && same_clauses(self.clauses.as_slice(), other.clauses.as_slice())
+    }
+}
+
+fn same_default(left: Option<u32>, right: Option<u32>) -> bool
+    ensures { IsTrue result ↔ (left ≡ right) }
+{
+    left == right
+}
+
+fn same_clauses(left: &[Clause], right: &[Clause]) -> bool
+    ensures { IsTrue result ↔ (left.now ≡ right.now) }
+{
+    if left.len() != right.len() {
+        return false;
+    }
+    for i in 0..left.len() {
+        if left[i] != right[i] {
             return false;
         }
     }

@@ -178,6 +178,7 @@ source_next functions state = next_of functions state.bindings state.tasks
 abbrev pub reply_words : Reply → List Word
 reply_words (Value w) = w ∷ []
 reply_words (Received item ok) = item ++ Truth ok ∷ []
+reply_words (Clause k (Some got)) = got.0 ++ Truth got.1 ∷ []
 reply_words reply = []
 
 -- what a reply leaves to be done of the action that asked

@@ -10,7 +10,7 @@ use Rattle.bytecode.specs.declared.instr.Instr.TheVariants as instrs
 use Rattle.bytecode.specs.declared.table.Part.TheVariants as parts
 use Rattle.bytecode.specs.declared.table.Part.{Part as TablePart}
 use Rattle.bytecode.specs.Code.{Function as CodeFunction, PrintTable, Code}
-use Rattle.bytecode.specs.Effects.{below, top_of, part_kinds, print_kinds, kinds_in, shape_kinds, params_in, wants, gives as gives_kinds, count, Enough, Meets, Fits, afterwards}
+use Rattle.bytecode.specs.Effects.{below, top_of, part_kinds, print_kinds, kinds_in, shape_kinds, params_in, wants, gives as gives_kinds, leaves, count, Enough, Meets, Fits, afterwards}
 use Rattle.bytecode.specs.Machine.{main_of}
 use Rattle.bytecode.specs.Rules.{ways, Path, Named, Inside, Directed, AreThere, IsThere, IsHeaded, Holds, IsShaped, IsShort, HasMain, IsVerified}
 use Rattle.checker_base.specs.declared.types.Scalar.{Scalar}
@@ -51,8 +51,9 @@ at_left (y ∷ xs) (suc n) x e = at_left xs n x e
 module _ (code : Code) (f : CodeFunction) where
   -- an instruction that leads to the next one alone
   pub record Plain (i : Instr) : Type 0 where
-    pub ways-is : (place : ℕ) → ways i place ≡ (place + 1) ∷ []
-    pub directed : (place : ℕ) → Directed place i
+    pub ways-is : (place : ℕ) → ways code i place ≡ (place + 1) ∷ []
+    pub leaves-is : (top : List Kind) → leaves code f i 0 top ≡ gives_kinds code f i top
+    pub directed : (place : ℕ) → Directed code place i
     pub inside : (place : ℕ) → place + 1 < length f.instrs → Inside f place i
     pub enough : (n have : ℕ) → n ≤ have → Enough i n have
 
@@ -60,9 +61,9 @@ module _ (code : Code) (f : CodeFunction) where
   abbrev pub Flows : List Kind → List Instr → Type 0
   Flows ks [] = ⊥
   Flows ks (i ∷ []) = (i ≡ instrs.Return) × (ks ≡ [])
-  Flows ks (i ∷ j ∷ is) = Plain i × Named code f i × Fits code f i ks × Flows (afterwards code f i ks) (j ∷ is)
+  Flows ks (i ∷ j ∷ is) = Plain i × Named code f i × Fits code f i ks × Flows (afterwards code f i 0 ks) (j ∷ is)
 
-  flows_cons : (ks : List Kind) (i : Instr) (is : List Instr) → Plain i → Named code f i → Fits code f i ks → Flows (afterwards code f i ks) is → Flows ks (i ∷ is)
+  flows_cons : (ks : List Kind) (i : Instr) (is : List Instr) → Plain i → Named code f i → Fits code f i ks → Flows (afterwards code f i 0 ks) is → Flows ks (i ∷ is)
   flows_cons ks i [] plain named fits rest = absurd rest
   flows_cons ks i (j ∷ is) plain named fits rest = (plain, named, fits, rest)
 
@@ -73,7 +74,7 @@ module _ (code : Code) (f : CodeFunction) where
       let b : below (count (wants code f i)) (low ++ top) ≡ low = below_of low top (count (wants code f i)) n in
       flows_cons (low ++ top) i is plain named
       (plain.enough (count (wants code f i)) (length (low ++ top)) (omega (arith, n, length-append low top)), subst (Meets (wants code f i)) (sym t) meets)
-      (subst (λ (ks : List Kind). Flows ks is) (sym (ap (λ (xs : List Kind). below (count (wants code f i)) (low ++ top) ++ gives_kinds code f i xs) t ∙ ap (λ (xs : List Kind). xs ++ gives_kinds code f i top) b)) rest)
+      (subst (λ (ks : List Kind). Flows ks is) (sym (ap (λ (xs : List Kind). below (count (wants code f i)) (low ++ top) ++ leaves code f i 0 xs) t ∙ ap (λ (xs : List Kind). below (count (wants code f i)) (low ++ top) ++ xs) (plain.leaves-is top) ∙ ap (λ (xs : List Kind). xs ++ gives_kinds code f i top) b)) rest)
 
   pub flows_none : (ks : List Kind) (i : Instr) (is : List Instr) → Plain i → Named code f i → count (wants code f i) ≡ 0 → Meets (wants code f i) [] → Flows (ks ++ gives_kinds code f i []) is → Flows ks (i ∷ is)
   flows_none ks i is plain named n meets rest = subst (λ (xs : List Kind). Flows xs (i ∷ is)) (append-nil ks) (flows_step ks [] i is plain named n meets rest)
@@ -82,7 +83,7 @@ module _ (code : Code) (f : CodeFunction) where
   record Stood (place : ℕ) (i : Instr) : Type 0 where
     named : Named code f i
     inside : Inside f place i
-    directed : Directed place i
+    directed : Directed code place i
 
   shifted : (base p : ℕ) (i : Instr) → Stood (suc base + p) i → Stood (base + suc p) i
   shifted base p i n = let e : suc base + p ≡ base + suc p = omega arith in subst (λ m. Stood m i) e n
@@ -93,7 +94,7 @@ module _ (code : Code) (f : CodeFunction) where
   stood ks base (x ∷ []) g e (suc p) i at = absurd cc
   stood ks base (x ∷ y ∷ xs) g e zero i at =
       subst (Stood (base + 0)) (same_Some x i at) (record { named = g.1; inside = g.0.inside (base + 0) (omega (arith, e)); directed = g.0.directed (base + 0) })
-  stood ks base (x ∷ y ∷ xs) g e (suc p) i at = shifted base p i (stood (afterwards code f x ks) (suc base) (y ∷ xs) g.3 (omega (arith, e)) p i at)
+  stood ks base (x ∷ y ∷ xs) g e (suc p) i at = shifted base p i (stood (afterwards code f x 0 ks) (suc base) (y ∷ xs) g.3 (omega (arith, e)) p i at)
 
   module _ (whole : Flows [] f.instrs) (plain : f.results ≡ []) where
     record On (n place : ℕ) (ks : List Kind) : Type 0 where
@@ -101,8 +102,8 @@ module _ (code : Code) (f : CodeFunction) where
       flows : Flows ks (drop place f.instrs)
 
     -- behind an instruction
-    onward : (n from place : ℕ) (js ks : List Kind) (i : Instr) (k : ℕ) (xs : List Instr) → from ≡ n → Flows js (i ∷ xs) → drop (suc from) f.instrs ≡ xs → slice_get (ways i from) k ≡ Some place → ks ≡ afterwards code f i js → On (suc n) place ks
-    onward n from place js ks i k [] e g left way out = let w : slice_get (ways instrs.Return from) k ≡ Some place = subst (λ j. slice_get (ways j from) k ≡ Some place) g.0 way in absurd cc
+    onward : (n from place : ℕ) (js ks : List Kind) (i : Instr) (k : ℕ) (xs : List Instr) → from ≡ n → Flows js (i ∷ xs) → drop (suc from) f.instrs ≡ xs → slice_get (ways code i from) k ≡ Some place → ks ≡ afterwards code f i k js → On (suc n) place ks
+    onward n from place js ks i k [] e g left way out = let w : slice_get (ways code instrs.Return from) k ≡ Some place = subst (λ j. slice_get (ways code j from) k ≡ Some place) g.0 way in absurd cc
     onward n from place js ks i zero (x ∷ xs) e g left way out =
         let p : place ≡ suc from = sym (same_Some (from + 1) place (sym (ap (λ l. slice_get l 0) (g.0.ways-is from)) ∙ way)) ∙ add-one from in
         record { is-place = p ∙ ap suc e; flows = subst (λ m. Flows ks (drop m f.instrs)) (sym p) (subst (λ (l : List Instr). Flows ks l) (sym left) (subst (λ (l : List Kind). Flows l (x ∷ xs)) (sym out) g.3)) }
@@ -113,6 +114,15 @@ module _ (code : Code) (f : CodeFunction) where
     on_path (suc n) place ks (from, js, i, k, p, here, fits, way, out) =
         let o = on_path n from js p in
         onward n from place js ks i k (drop (suc from) f.instrs) o.is-place (subst (Flows js) (at_left f.instrs from i here) o.flows) refl way out
+
+    -- there is one way at most
+    way_is : (from place : ℕ) (js : List Kind) (i : Instr) (k : ℕ) (xs : List Instr) → Flows js (i ∷ xs) → slice_get (ways code i from) k ≡ Some place → k ≡ 0
+    way_is from place js i k [] g way = let w : slice_get (ways code instrs.Return from) k ≡ Some place = subst (λ j. slice_get (ways code j from) k ≡ Some place) g.0 way in absurd cc
+    way_is from place js i zero (x ∷ xs) g way = refl
+    way_is from place js i (suc k) (x ∷ xs) g way = let w : slice_get ((from + 1) ∷ []) (suc k) ≡ Some place = sym (ap (λ l. slice_get l (suc k)) (g.0.ways-is from)) ∙ way in absurd cc
+
+    only_way : (n from place : ℕ) (js : List Kind) (i : Instr) (k : ℕ) → Path code f n from js → slice_get f.instrs from ≡ Some i → slice_get (ways code i from) k ≡ Some place → k ≡ 0
+    only_way n from place js i k p here way = way_is from place js i k (drop (suc from) f.instrs) (subst (Flows js) (at_left f.instrs from i here) (on_path n from js p).flows) way
 
     fits_at : (ks : List Kind) (xs : List Instr) → Flows ks xs → (i : Instr) × (rest : List Instr) × (xs ≡ i ∷ rest) × Fits code f i ks
     fits_at ks [] g = absurd g
@@ -130,7 +140,7 @@ module _ (code : Code) (f : CodeFunction) where
         let at = (on_path n a us p).is-place ∙ sym (on_path n b vs q).is-place in
         let e : i ≡ j = same_Some i j (sym here ∙ ap (slice_get f.instrs) at ∙ here') in
         let stack = same_steps n a b us vs p q in
-        out ∙ ap (λ x. afterwards code f x us) e ∙ ap (afterwards code f j) stack ∙ sym out'
+        out ∙ ap (λ (m : ℕ). afterwards code f i m us) (only_way n a place us i k p here way ∙ sym (only_way n b there vs j l q here' way')) ∙ ap (λ x. afterwards code f x l us) e ∙ ap (afterwards code f j l) stack ∙ sym out'
 
     same : (n m place : ℕ) (ks js : List Kind) → Path code f n place ks → Path code f m place js → ks ≡ js
     same n m place ks js p q =
@@ -145,7 +155,7 @@ module _ (code : Code) (f : CodeFunction) where
     holds params locals = record {
       headed = record { filled = filled f.instrs whole; params = params; locals = locals; results = λ n k at. absurd (let e : slice_get [] n ≡ Some k = sym (ap (λ (l : List Kind). slice_get l n) plain) ∙ at in cc) };
       named = λ place i at. let s = stood [] 0 f.instrs whole (omega arith) place i at in let z : 0 + place ≡ place = omega arith in (s.named, subst (λ m. Inside f m i) z s.inside);
-      directed = λ place i at. let s = stood [] 0 f.instrs whole (omega arith) place i at in let z : 0 + place ≡ place = omega arith in subst (λ m. Directed m i) z s.directed;
+      directed = λ place i at. let s = stood [] 0 f.instrs whole (omega arith) place i at in let z : 0 + place ≡ place = omega arith in subst (λ m. Directed code m i) z s.directed;
       fit = fit;
       same = same;
     }
@@ -153,40 +163,40 @@ module _ (code : Code) (f : CodeFunction) where
 -- ---- the instructions that are generated
 
 plain_int : (code : Code) (f : CodeFunction) (n : ℤ) → Plain code f (instrs.Int n)
-plain_int code f n = record { ways-is = λ p. refl; directed = λ p. tt; inside = λ p lt. lt; enough = λ a b le. le }
+plain_int code f n = record { ways-is = λ p. refl; leaves-is = λ top. refl; directed = λ p. tt; inside = λ p lt. lt; enough = λ a b le. le }
 
 plain_bool : (code : Code) (f : CodeFunction) (b : Bool) → Plain code f (instrs.Bool b)
-plain_bool code f b = record { ways-is = λ p. refl; directed = λ p. tt; inside = λ p lt. lt; enough = λ a c le. le }
+plain_bool code f b = record { ways-is = λ p. refl; leaves-is = λ top. refl; directed = λ p. tt; inside = λ p lt. lt; enough = λ a c le. le }
 
 plain_load : (code : Code) (f : CodeFunction) (a n : ℕ) → Plain code f (instrs.Load a n)
-plain_load code f a n = record { ways-is = λ p. refl; directed = λ p. tt; inside = λ p lt. lt; enough = λ x y le. le }
+plain_load code f a n = record { ways-is = λ p. refl; leaves-is = λ top. refl; directed = λ p. tt; inside = λ p lt. lt; enough = λ x y le. le }
 
 plain_store : (code : Code) (f : CodeFunction) (a n : ℕ) → Plain code f (instrs.Store a n)
-plain_store code f a n = record { ways-is = λ p. refl; directed = λ p. tt; inside = λ p lt. lt; enough = λ x y le. le }
+plain_store code f a n = record { ways-is = λ p. refl; leaves-is = λ top. refl; directed = λ p. tt; inside = λ p lt. lt; enough = λ x y le. le }
 
 plain_discard : (code : Code) (f : CodeFunction) (n : ℕ) → Plain code f (instrs.Discard n)
-plain_discard code f n = record { ways-is = λ p. refl; directed = λ p. tt; inside = λ p lt. lt; enough = λ x y le. le }
+plain_discard code f n = record { ways-is = λ p. refl; leaves-is = λ top. refl; directed = λ p. tt; inside = λ p lt. lt; enough = λ x y le. le }
 
 plain_apply : (code : Code) (f : CodeFunction) (op : Op) → Plain code f (instrs.Apply op)
-plain_apply code f op = record { ways-is = λ p. refl; directed = λ p. tt; inside = λ p lt. lt; enough = λ x y le. le }
+plain_apply code f op = record { ways-is = λ p. refl; leaves-is = λ top. refl; directed = λ p. tt; inside = λ p lt. lt; enough = λ x y le. le }
 
 plain_tick : (code : Code) (f : CodeFunction) → Plain code f instrs.Tick
-plain_tick code f = record { ways-is = λ p. refl; directed = λ p. tt; inside = λ p lt. lt; enough = λ x y le. le }
+plain_tick code f = record { ways-is = λ p. refl; leaves-is = λ top. refl; directed = λ p. tt; inside = λ p lt. lt; enough = λ x y le. le }
 
 plain_make : (code : Code) (f : CodeFunction) (s : ℕ) → Plain code f (instrs.Make s)
-plain_make code f s = record { ways-is = λ p. refl; directed = λ p. tt; inside = λ p lt. lt; enough = λ x y le. le }
+plain_make code f s = record { ways-is = λ p. refl; leaves-is = λ top. refl; directed = λ p. tt; inside = λ p lt. lt; enough = λ x y le. le }
 
 plain_go : (code : Code) (f : CodeFunction) (g : ℕ) → Plain code f (instrs.Go g)
-plain_go code f g = record { ways-is = λ p. refl; directed = λ p. tt; inside = λ p lt. lt; enough = λ x y le. le }
+plain_go code f g = record { ways-is = λ p. refl; leaves-is = λ top. refl; directed = λ p. tt; inside = λ p lt. lt; enough = λ x y le. le }
 
 plain_send : (code : Code) (f : CodeFunction) (s : ℕ) → Plain code f (instrs.Send s)
-plain_send code f s = record { ways-is = λ p. refl; directed = λ p. tt; inside = λ p lt. lt; enough = λ x y le. le }
+plain_send code f s = record { ways-is = λ p. refl; leaves-is = λ top. refl; directed = λ p. tt; inside = λ p lt. lt; enough = λ x y le. le }
 
 plain_receive : (code : Code) (f : CodeFunction) (s : ℕ) → Plain code f (instrs.Receive s)
-plain_receive code f s = record { ways-is = λ p. refl; directed = λ p. tt; inside = λ p lt. lt; enough = λ x y le. le }
+plain_receive code f s = record { ways-is = λ p. refl; leaves-is = λ top. refl; directed = λ p. tt; inside = λ p lt. lt; enough = λ x y le. le }
 
 plain_print : (code : Code) (f : CodeFunction) (q : ℕ) → Plain code f (instrs.Print q)
-plain_print code f q = record { ways-is = λ p. refl; directed = λ p. tt; inside = λ p lt. lt; enough = λ x y le. le }
+plain_print code f q = record { ways-is = λ p. refl; leaves-is = λ top. refl; directed = λ p. tt; inside = λ p lt. lt; enough = λ x y le. le }
 
 scope_within : (scope : Scope) (name : List ℕ) (p : ℕ) → place_of scope name ≡ Some p → p < length scope
 scope_within scope name p at =
@@ -628,6 +638,7 @@ pub is_verified : (file : File) → IsProgram file → most_entries file ≤ 64 
 is_verified file program most = record {
   shapes = shaped file program most;
   prints = one_short (all_tables file.tops) (short_tops file.tops most);
+  selects = λ q table at. absurd cc;
   functions = function_holds file program most;
   main = main file program most;
 }

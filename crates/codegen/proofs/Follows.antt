@@ -132,7 +132,8 @@ same_words : (reply : Reply) → code_words reply ≡ reply_words reply
 same_words values.Nothing = refl
 same_words (values.Value w) = refl
 same_words (values.Received item ok) = refl
-same_words (values.Clause k got) = refl
+same_words (values.Clause k None) = refl
+same_words (values.Clause k (Some got)) = refl
 same_words values.Default = refl
 same_words values.Closed = refl
 

@@ -8,7 +8,7 @@ use Rattle.bytecode.specs.declared.instr.Instr.{Instr}
 use Rattle.bytecode.specs.declared.instr.Instr.TheVariants as instrs
 use Rattle.bytecode.specs.Code.{Function, PrintTable, Code}
 use Rattle.bytecode.specs.Effects.{below, top_of, part_kinds, print_kinds, kinds_in, shape_kinds, wants, count, gives}
-use Rattle.bytecode.specs.Machine.{Frame, Frames, Step, fetch, instrs_of, if_there, if_within, printed, instr_next, pops, at_instr, at_function, told_first, code_next, told_at, told_in, answered, code_answer, reply_words, put_at, fitted, zero_of, is_told, on_value}
+use Rattle.bytecode.specs.Machine.{Frame, Frames, Step, fetch, instrs_of, if_there, if_within, printed, instr_next, pops, at_instr, at_function, told_first, code_next, told_at, told_in, answered, code_answer, choice, selected, reply_words, put_at, fitted, zero_of, is_told, on_value}
 use Rattle.codegen.proofs.Lists.{first_left, next_left}
 use Rattle.word.specs.declared.apply.Op.{Op}
 use Rattle.word.specs.Apply.{value}
@@ -62,9 +62,9 @@ module _ (code : Code) (g : ℕ) (f : Function) (there : slice_get code.function
       → code_answer code (frames place locals (low ++ xs)) reply ≡ frame (place + 1) locals low (fitted (gives code f i []) (reply_words reply)) ∷ []
   answer place locals low xs i rest reply left n is =
       let c = frame place locals (low ++ xs) [] in
-      ap (λ o. told_in code c (reply_words reply) o (fetch code g place) ∷ []) there
-      ∙ ap (λ o. told_in code c (reply_words reply) (Some f) o ∷ []) (fetched place i rest left)
-      ∙ ap (λ b. cond b (frame (place + 1) locals (below (pops code f i) (low ++ xs)) (fitted (gives code f i []) (reply_words reply))) c ∷ []) is
+      ap (λ o. told_in code c (choice reply) (reply_words reply) o (fetch code g place) ∷ []) there
+      ∙ ap (λ o. told_in code c (choice reply) (reply_words reply) (Some f) o ∷ []) (fetched place i rest left)
+      ∙ ap (λ b. cond b (frame (place + 1) locals (below (pops code f i) (low ++ xs)) (fitted (gives code f i []) (reply_words reply))) (selected code c (choice reply) (reply_words reply) f i) ∷ []) is
       ∙ ap (λ (l : List Word). frame (place + 1) locals l (fitted (gives code f i []) (reply_words reply)) ∷ []) (below_of low xs (pops code f i) n)
 
   -- ---- instructions that cost nothing

@@ -177,4 +177,4 @@ all_tables (StructTop struct ∷ rest) = all_tables rest
 all_tables (FunctionTop function ∷ rest) = function_tables function ++ all_tables rest
 
 abbrev pub code_of : File → Code
-code_of file = record { functions = functions_code (signatures file.tops) 0 file.tops; shapes = shapes; prints = all_tables file.tops }
+code_of file = record { functions = functions_code (signatures file.tops) 0 file.tops; shapes = shapes; prints = all_tables file.tops; selects = [] }

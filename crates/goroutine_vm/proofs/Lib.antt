@@ -1,7 +1,3 @@
-pub mod Calls
-pub mod Fetching
-pub mod Asking
-pub mod Quiet
 pub mod Turns
 pub mod Quanta
 pub mod Beginning

@@ -9,7 +9,9 @@ use Rattle.bytecode.specs.Rules.{IsVerified, IsFrameOf}
 use Rattle.bytecode.specs.Silence.{most_silent}
 use Rattle.bytecode.proofs.Silent.{silent, falls, silent_most}
 use Rattle.bytecode.proofs.Unstuck.{step_keeps, tick_keeps, not_stuck}
-use Rattle.goroutine_vm.specs.Advance.{IsStateOf, IsAsk, steps}
+use Rattle.goroutine_vm.specs.Advance.{IsStateOf, IsAsk, IsFew, IsStop, steps}
+use Rattle.goroutine_vm.specs.declared.state.Stop.{Stop}
+use Rattle.goroutine_vm.specs.declared.state.Stop.TheVariants.{AtOp, Quantum}
 use Rattle.turn_rule.specs.Turns.{stepped}
 use Rattle.turn_rule.proofs.Stable.{moved_climbs, moved_stays}
 use Rattle.word.specs.Worlds.{rules}
@@ -99,3 +101,10 @@ module _ (code : Code) (limit : ℕ) (v : IsVerified code) where
 
   pub reached : (s : Clocked Frames) → IsStateOf code limit s → Reached s
   reached s is = comes (limit - s.clock) (silent code s.state) s is (omega arith) (omega arith) (turn s is)
+
+  -- a quantum without a tick is small
+  pub few_stop : (quantum n : ℕ) (s t : Clocked Frames) (stop : Stop) → IsStateOf code limit s → n ≡ quantum → steps code limit n s ≡ t → IsStop code limit t stop → IsFew code quantum s stop t
+  few_stop quantum n s t (AtOp request) is same e h = tt
+  few_stop quantum n s t Quantum is same e h = λ still.
+      let bound = few n s is (subst (λ (x : Clocked Frames). asks (code_kind code) limit x ≡ None) (sym e) h) (subst (λ (x : Clocked Frames). x.clock ≡ s.clock) (sym e) still) in
+      omega (arith, bound, same)

@@ -8,17 +8,9 @@ ghost use Rattle.bytecode.specs.Rules.{IsVerified};
 ghost use Rattle.goroutine_vm.specs.Advance.{IsAsk, IsStateOf};
 ghost use Rattle.word.specs.Kinds.{Clocked};
 
-mod fetch;
-mod frame;
-mod frames;
-mod instrs;
-mod outcome;
-mod request;
 mod state;
-mod step;
 #[cfg(test)]
 mod tests;
-mod told;
 
 pub use state::{GoState, Stop, spawn_state};
 

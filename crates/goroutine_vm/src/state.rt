@@ -5,15 +5,13 @@ ghost use Rattle.std.specs.Option.{is_some};
 ghost use Rattle.bytecode.specs.Code.{Code};
 ghost use Rattle.bytecode.specs.Machine.{code_begin, code_kind, code_next, frames_told, reply_words};
 ghost use Rattle.bytecode.specs.Rules.{IsFrameOf, IsVerified};
-ghost use Rattle.goroutine_vm.specs.Advance.{Advances, Goes, IsFew, IsStateOf, Turns};
-ghost use Rattle.goroutine_vm.specs.Steps.{Does};
+ghost use Rattle.goroutine_vm.specs.Advance.{Advances, Bursts, Goes, IsFew, IsStateOf, IsStop, Turns, steps};
+ghost use Rattle.goroutine_vm_base.specs.Steps.{Does};
 ghost use Rattle.word.specs.Kinds.{asks, at, told};
 ghost use Rattle.word.specs.Views.{reply_of, request_of};
 
-use crate::frames::Frames;
-use crate::outcome::Step;
-use crate::told::words_of;
 use go_text::Memory;
+use goroutine_vm_base::{Frames, Step, words_of};
 use logical_clock::Clock;
 use std::alloc::{AllocError, Global};
 use std::marker::Model;
@@ -114,51 +112,89 @@ impl GoState {
         ensures few { IfOk result (λ stop. IsFew code.now quantum self.old stop self.new) }
         ensures state { IsStateOf code.now limit self.new }
     {
-        for _made in 0..quantum {
-            if let Some(request) = self.turn(alloc, code, limit)? {
-                return Ok(Stop::AtOp(request));
+        let mut made = 0;
+        while made < quantum {
+            match self.burst(alloc, code, limit, quantum - made)? {
+                Some(steps) => made += steps,
+                None => return Ok(self.stop(alloc, code, limit)?),
             }
         }
+        Ok(self.stop(alloc, code, limit)?)
+    }
+
+    /// The request at which the goroutine stands, or that it stands at none.
+    fn stop(&self, alloc: Global, code: &Verified, limit: u64) -> Result<Stop, Memory>
+        requires { IsStateOf code.now limit self.now }
+        ensures stop { IfOk result (λ stop. IsStop code.now limit self.now stop) }
+        ensures verified { IsVerified code.now }
+    {
         match self.asked(alloc, code, limit)? {
             Some(request) => Ok(Stop::AtOp(request)),
             None => Ok(Stop::Quantum),
         }
     }
 
-    /// One local step, or the request at which the goroutine stands.
-    fn turn(
+    /// Local steps, at least one and at most so many; or none, where the goroutine then stands at a request.
+    fn burst(
         &mut self,
         alloc: Global,
         code: &Verified,
         limit: u64,
-    ) -> Result<Option<Request>, Memory>
+        left: u32,
+    ) -> Result<Option<u32>, Memory>
+        requires state { IsStateOf code.now limit self.old }
+        requires left { 0 < left }
+        ensures steps { Goes code.now limit left self.old self.new }
+        ensures made { IfOk result (λ made. Bursts code.now limit left self.old made self.new) }
+        ensures state { IsStateOf code.now limit self.new }
+    {
+        let ran = self.run(code, limit, left);
+        if ran == left {
+            return Ok(Some(ran));
+        }
+        if self.turn(alloc, code, limit)? {
+            return Ok(None);
+        }
+        Ok(Some(ran + 1))
+    }
+
+    /// Local steps of the running function's own instructions, at most so many: how many there were.
+    fn run(&mut self, code: &Verified, limit: u64, left: u32) -> u32
         requires { IsStateOf code.now limit self.old }
-        ensures turn { IfOk result (λ request. Turns code.now limit self.old request self.new) }
+        ensures steps { steps code.now limit result self.old ≡ self.new }
+        ensures most { result ≤ left }
+        ensures state { IsStateOf code.now limit self.new }
+    {
+        let now = self.clock().time();
+        if self.doomed || now >= limit {
+            return 0;
+        }
+        let (steps, ticks) = self.frames.run(code.code(), left, limit - now);
+        self.clock = Clock::at(now + ticks);
+        steps
+    }
+
+    /// One local step, or whether the goroutine stands at a request instead.
+    fn turn(&mut self, alloc: Global, code: &Verified, limit: u64) -> Result<bool, Memory>
+        requires { IsStateOf code.now limit self.old }
+        ensures turn { IfOk result (λ asks. Turns code.now limit self.old asks self.new) }
         ensures memory { OnErr result (self.new ≡ self.old) }
         ensures state { IsStateOf code.now limit self.new }
     {
         if self.doomed {
-            return Ok(Some(self.last_request(limit)));
+            return Ok(true);
         }
         let may = self.clock.time() < limit;
         match self.frames.step(alloc, code.code(), may)? {
-            Step::Slid => Ok(None),
+            Step::Slid => Ok(false),
             Step::Ticked => {
                 if !may {
-                    return Ok(Some(Request::Exhausted));
+                    return Ok(true);
                 }
                 self.clock = Clock::at(self.clock.time() + 1);
-                Ok(None)
+                Ok(false)
             }
-            Step::Asking => {
-                if !may {
-                    return Ok(Some(Request::Exhausted));
-                }
-                match self.frames.request(alloc, code.code())? {
-                    Some(request) => Ok(Some(request)),
-                    None => unreachable!(),
-                }
-            }
+            Step::Asking => Ok(true),
             Step::Stuck => unreachable!(),
         }
     }
@@ -219,14 +255,18 @@ impl GoState {
     {
         match reply {
             Reply::Closed => self.doom(clock),
-            Reply::Nothing => self.go_on(code, &[], clock),
-            Reply::Word(word) => self.go_on(code, &[word], clock),
+            Reply::Nothing => self.go_on(code, None, &[], clock),
+            Reply::Word(word) => self.go_on(code, None, &[word], clock),
             Reply::Received(item, ok) => {
                 let words = words_of(&item, ok);
-                self.go_on(code, words.words(), clock);
+                self.go_on(code, None, words.words(), clock);
             }
-            Reply::Clause(_, _) => self.go_on(code, &[], clock),
-            Reply::Default => self.go_on(code, &[], clock),
+            Reply::Clause(clause, None) => self.go_on(code, Some(clause), &[], clock),
+            Reply::Clause(clause, Some((item, ok))) => {
+                let words = words_of(&item, ok);
+                self.go_on(code, Some(clause), words.words(), clock);
+            }
+            Reply::Default => self.go_on(code, None, &[], clock),
         }
     }
 
@@ -238,13 +278,14 @@ impl GoState {
         self.doomed = true;
     }
 
-    /// The request is done with these words, and the goroutine goes on behind it at this clock.
-    fn go_on(&mut self, code: &Verified, words: &[Word], clock: Clock)
+    /// The request is done with these words, of a select in this clause or its default, and the goroutine goes on behind it at
+    /// this clock.
+    fn go_on(&mut self, code: &Verified, clause: Option<usize>, words: &[Word], clock: Clock)
         requires { IsFrameOf code.now self.old.state }
-        ensures told { self.new ≡ at clock (frames_told code.now self.old.state words.now) }
+        ensures told { self.new ≡ at clock (frames_told code.now self.old.state clause words.now) }
         ensures frame { IsFrameOf code.now self.new.state }
     {
-        self.frames.tell(code.code(), words);
+        self.frames.tell(code.code(), clause, words);
         self.clock = clock;
         self.doomed = false;
     }

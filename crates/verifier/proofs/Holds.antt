@@ -40,7 +40,7 @@ gone true code f old mid new place g v = omega (arith, g, v)
 gone false code f old mid new place g v = subst (λ t. unknown new < unknown t) g.0 v
 
 module _ (code : Code) (f : Function) (table : Table) (same : length table ≡ length f.instrs) (full : Full' code f table) where
-  settled_at : (place : ℕ) (ks : List Kind) → entry table place ≡ Some ks → (i : Instr) × (slice_get f.instrs place ≡ Some i) × Fits code f i ks × ((k to : ℕ) → slice_get (ways i place) k ≡ Some to → entry table to ≡ Some (afterwards code f i ks))
+  settled_at : (place : ℕ) (ks : List Kind) → entry table place ≡ Some ks → (i : Instr) × (slice_get f.instrs place ≡ Some i) × Fits code f i ks × ((k to : ℕ) → slice_get (ways code i place) k ≡ Some to → entry table to ≡ Some (afterwards code f i k ks))
   settled_at place ks e = full.1 place (subst (λ n. place < n) same (entry_within table place ks e)) ks e
 
   -- each path ends at an entry
@@ -49,7 +49,7 @@ module _ (code : Code) (f : Function) (table : Table) (same : length table ≡ l
   on_path (suc n) place ks (from, js, i, k, p, hi, fits, way, out) =
       let s = settled_at from js (on_path n from js p) in
       let e : s.0 ≡ i = some_inj (sym s.1 ∙ hi) in
-      s.3 k place (subst (λ x. slice_get (ways x from) k ≡ Some place) (sym e) way) ∙ ap Some (ap (λ x. afterwards code f x js) e ∙ sym out)
+      s.3 k place (subst (λ x. slice_get (ways code x from) k ≡ Some place) (sym e) way) ∙ ap Some (ap (λ x. afterwards code f x k js) e ∙ sym out)
 
   pub fit : (n place : ℕ) (ks : List Kind) → Path code f n place ks → (i : Instr) × (slice_get f.instrs place ≡ Some i) × Fits code f i ks
   fit n place ks p = let s = settled_at place ks (on_path n place ks p) in (s.0, s.1, s.2)

@@ -45,14 +45,16 @@ module _ (code : Code) where
   none_in f Main place h b = b
 
   none_beside : (v : IsVerified code) (rule : Rule) (place : ℕ) → BrokenBeside code rule place → ⊥
-  none_beside v Names place b = b.2 (v.shapes place b.0 b.1).there
+  none_beside v Names place (inl b) = b.2 (v.shapes place b.0 b.1).there
+  none_beside v Names place (inr b) = b.2 (v.selects place b.0 b.1).there
   none_beside v Targets place b = b
   none_beside v Paths place b = b
   none_beside v Calls place b = b
   none_beside v Returns place b = b
   none_beside v Locals place b = b
   none_beside v Tables place (inl b) = b.2 (v.shapes place b.0 b.1)
-  none_beside v Tables place (inr b) = b.2 (v.prints place b.0 b.1)
+  none_beside v Tables place (inr (inl b)) = b.2 (v.prints place b.0 b.1)
+  none_beside v Tables place (inr (inr b)) = b.2 (v.selects place b.0 b.1)
   none_beside v Main place b = b.1 v.main
 
   pub never_broken : IsVerified code → (rule : Rule) (g place : ℕ) → Breaks code rule g place → ⊥

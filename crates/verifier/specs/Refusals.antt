@@ -3,9 +3,9 @@ use Rattle.std.specs.Prelude.{◌≡◌, ◌≢◌, ℕ, ◌<◌, List, Some, le
 use Rattle.bytecode.specs.declared.instr.Kind.{Kind}
 use Rattle.bytecode.specs.declared.rule.Rule.{Rule}
 use Rattle.bytecode.specs.declared.rule.Rule.TheVariants.{Names, Tables}
-use Rattle.bytecode.specs.Code.{Function, PrintTable, Code}
+use Rattle.bytecode.specs.Code.{Function, PrintTable, SelectTable, Code}
 use Rattle.bytecode.specs.Machine.{Frames, code_begin, code_next, code_answer}
-use Rattle.bytecode.specs.Rules.{number_of, AreThere, Holds, Breaks, IsShaped, IsShort}
+use Rattle.bytecode.specs.Rules.{number_of, AreThere, Holds, HasShapes, Breaks, IsSelect, IsShaped, IsShort}
 use Rattle.go_text.specs.declared.fault.Fault.{Fault}
 use Rattle.go_text.specs.declared.fault.Fault.TheVariants as faults
 use Rattle.word.specs.declared.value.Word.{Word}
@@ -29,12 +29,15 @@ pub data Comes (code : Code) : Frames → Type 0 where
 abbrev pub NeverStuck : Code → Type 0
 NeverStuck code = (s : Frames) → Comes code s → code_next code s ≢ Stuck
 
--- each shape, each print table, each function keeps its rules
+-- each shape, each table, each function keeps its rules
 abbrev pub ShapesFine : Code → Type 0
 ShapesFine code = (s : ℕ) (ks : List Kind) → slice_get code.shapes s ≡ Some ks → IsShaped code ks
 
 abbrev pub PrintsFine : Code → Type 0
 PrintsFine code = (q : ℕ) (table : PrintTable) → slice_get code.prints q ≡ Some table → IsShort table
+
+abbrev pub SelectsFine : Code → Type 0
+SelectsFine code = (q : ℕ) (table : SelectTable) → slice_get code.selects q ≡ Some table → IsSelect code table
 
 abbrev pub FunctionsFine : Code → Type 0
 FunctionsFine code = (g : ℕ) (f : Function) → slice_get code.functions g ≡ Some f → Holds code f
@@ -44,3 +47,9 @@ abbrev pub ShapeBroken : Code → List Kind → Rule → Type 0
 ShapeBroken code ks Names = AreThere code ks → ⊥
 ShapeBroken code ks Tables = IsShaped code ks → ⊥
 ShapeBroken code ks rule = ⊥
+
+-- the rule that a select table breaks
+abbrev pub SelectBroken : Code → SelectTable → Rule → Type 0
+SelectBroken code table Names = HasShapes code table → ⊥
+SelectBroken code table Tables = IsSelect code table → ⊥
+SelectBroken code table rule = ⊥

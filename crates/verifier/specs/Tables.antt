@@ -6,7 +6,7 @@ use Rattle.bytecode.specs.declared.instr.Instr.{Instr}
 use Rattle.bytecode.specs.declared.rule.Rule.{Rule}
 use Rattle.bytecode.specs.declared.rule.Rule.TheVariants.{Paths}
 use Rattle.bytecode.specs.Code.{Function, Code}
-use Rattle.bytecode.specs.Effects.{Fits, afterwards, Wants, Exactly, Count, OneChannel, TwoChannels}
+use Rattle.bytecode.specs.Effects.{Fits, afterwards, wants, count, Wants, Exactly, Count, OneChannel, TwoChannels}
 use Rattle.bytecode.specs.Rules.{ways, Path, Named, Inside, Directed, IsHeaded, Misfit, Parting, BrokenIn, Holds}
 use Rattle.verifier.specs.declared.effect.Need.{Need}
 use Rattle.verifier.specs.declared.effect.Need.TheVariants.{These, Some as Counted, Channel, Channels}
@@ -14,6 +14,8 @@ use Rattle.verifier.specs.declared.paths.Merge.{Merge}
 use Rattle.verifier.specs.declared.paths.Merge.TheVariants.{Same, New, Differs}
 use Rattle.verifier.specs.declared.paths.Visit.{Visit}
 use Rattle.verifier.specs.declared.paths.Visit.TheVariants.{Settles, Grows, Unfit, Parts}
+use Rattle.verifier.specs.declared.paths.Onward.{Onward}
+use Rattle.verifier.specs.declared.paths.Onward.TheVariants.{Kept, Grown, Apart}
 use Rattle.verifier.specs.declared.paths.Step.{Step}
 use Rattle.verifier.specs.declared.paths.Step.TheVariants.{Dead, Unfits, Leads}
 use Rattle.verifier.specs.declared.paths.Sweep.{Sweep}
@@ -42,7 +44,7 @@ entry table place = kinds_at (slice_get table place)
 -- a place with kinds has an instruction that fits them, and whose ways have what is after it
 abbrev pub Settled : Code → Function → Table → ℕ → Type 0
 Settled code f table place =
-    (ks : List Kind) → entry table place ≡ Some ks → (i : Instr) × (slice_get f.instrs place ≡ Some i) × Fits code f i ks × ((k to : ℕ) → slice_get (ways i place) k ≡ Some to → entry table to ≡ Some (afterwards code f i ks))
+    (ks : List Kind) → entry table place ≡ Some ks → (i : Instr) × (slice_get f.instrs place ≡ Some i) × Fits code f i ks × ((k to : ℕ) → slice_get (ways code i place) k ≡ Some to → entry table to ≡ Some (afterwards code f i k ks))
 
 -- the function starts with nothing on the stack, and each entry has its path
 abbrev pub Reached : Code → Function → Table → Type 0
@@ -65,11 +67,6 @@ Led Same code f old new to ks = (new ≡ old) × (entry old to ≡ Some ks)
 Led Differs code f old new to ks = Parting code f to
 Led New code f old new to ks = unknown new < unknown old
 
--- after a way that may be none
-abbrev pub Followed : Option ℕ → Merge → Code → Function → Table → Table → List Kind → Type 0
-Followed None m code f old new ks = (new ≡ old) × (m ≡ Same)
-Followed (Some to) m code f old new ks = Led m code f old new to ks
-
 -- what a look at one place came to
 abbrev pub Visited : Visit → Code → Function → Table → Table → ℕ → Type 0
 Visited Settles code f old new place = (new ≡ old) × Settled code f new place
@@ -77,27 +74,34 @@ Visited Grows code f old new place = unknown new < unknown old
 Visited (Unfit rule) code f old new place = Misfit code f rule place
 Visited (Parts to) code f old new place = Parting code f to
 
-abbrev pub verdict_of : Merge → Option ℕ → Merge → Option ℕ → Visit
-verdict_of Differs (Some a) two second = Parts a
-verdict_of Differs None two second = Settles
-verdict_of Same first Differs (Some b) = Parts b
-verdict_of Same first Differs None = Settles
-verdict_of Same first New second = Grows
-verdict_of Same first Same second = Settles
-verdict_of New first Differs (Some b) = Parts b
-verdict_of New first Differs None = Grows
-verdict_of New first New second = Grows
-verdict_of New first Same second = Grows
-
--- the instruction there fits the kinds there, and leads to these
-abbrev pub LeadsTo : Code → Function → Table → ℕ → Instr → List Kind → Type 0
-LeadsTo code f table place i out =
-    (slice_get f.instrs place ≡ Some i) × ((ks : List Kind) × (entry table place ≡ Some ks) × Fits code f i ks × (out ≡ afterwards code f i ks))
+-- the instruction there fits the kinds there, of which its operands begin at a number
+pub record LeadsOn (code : Code) (f : Function) (table : Table) (place : ℕ) (i : Instr) (ks : List Kind) (at : ℕ) : Type 0 where
+  pub fetched : slice_get f.instrs place ≡ Some i
+  pub here : entry table place ≡ Some ks
+  pub fits : Fits code f i ks
+  pub operands : at + count (wants code f i) ≡ length ks
 
 abbrev pub Steps : Step → Code → Function → Table → ℕ → Type 0
 Steps Dead code f table place = entry table place ≡ None
 Steps (Unfits rule) code f table place = Misfit code f rule place
-Steps (Leads i out) code f table place = LeadsTo code f table place i out.items
+Steps (Leads i ks at) code f table place = LeadsOn code f table place i ks.items at
+
+-- each way of an instruction leads to its place on a path
+abbrev pub AreReached : Code → Function → ℕ → Instr → List Kind → Type 0
+AreReached code f place i ks = (k to : ℕ) → slice_get (ways code i place) k ≡ Some to → (n : ℕ) × Path code f n to (afterwards code f i k ks)
+
+-- after the way of this number, where there is one
+abbrev pub Followed : Onward → Code → Function → Table → Table → ℕ → Instr → List Kind → ℕ → Type 0
+Followed Kept code f old new place i ks number =
+    (new ≡ old) × ((to : ℕ) → slice_get (ways code i place) number ≡ Some to → entry new to ≡ Some (afterwards code f i number ks))
+Followed Grown code f old new place i ks number = unknown new < unknown old
+Followed (Apart to) code f old new place i ks number = Parting code f to
+
+-- after so many ways of an instruction
+abbrev pub Spread : Bool → Code → Function → Table → Table → ℕ → Instr → List Kind → ℕ → Type 0
+Spread false code f old new place i ks number =
+    (new ≡ old) × ((k to : ℕ) → k < number → slice_get (ways code i place) k ≡ Some to → entry new to ≡ Some (afterwards code f i k ks))
+Spread true code f old new place i ks number = unknown new < unknown old
 
 -- a sweep so far
 abbrev pub Going : Bool → Code → Function → Table → Table → ℕ → Type 0
@@ -119,11 +123,11 @@ Infers (BrokenAt rule place) code f = Misfit code f rule place
 Infers (PartedAt to) code f = Parting code f to
 
 abbrev pub Scanned : Option (Rule × ℕ) → Code → Function → Type 0
-Scanned None code f = (place : ℕ) (i : Instr) → slice_get f.instrs place ≡ Some i → (Named code f i × Inside f place i) × Directed place i
+Scanned None code f = (place : ℕ) (i : Instr) → slice_get f.instrs place ≡ Some i → (Named code f i × Inside f place i) × Directed code place i
 Scanned (Some b) code f = BrokenIn code f b.0 b.1
 
 abbrev pub ScannedAt : Option (Rule × ℕ) → Code → Function → ℕ → Type 0
-ScannedAt None code f place = (i : Instr) → slice_get f.instrs place ≡ Some i → (Named code f i × Inside f place i) × Directed place i
+ScannedAt None code f place = (i : Instr) → slice_get f.instrs place ≡ Some i → (Named code f i × Inside f place i) × Directed code place i
 ScannedAt (Some b) code f place = BrokenIn code f b.0 b.1
 
 abbrev pub judged_of : Inferred → Option (Rule × ℕ)

@@ -1,11 +1,11 @@
 //! What an instruction takes off the operand stack and leaves on it, by kinds.
 
-ghost use Rattle.std.specs.Prelude.{◌≡◌, ◌≤◌, ◌<◌, ◌++◌, ◌↔◌, IsTrue, IfOk, OnOk, MatchOption, length, take, [], ◌∷◌};
-ghost use Rattle.bytecode.specs.Effects.{operands as operands_of, outcome as outcome_of, wants, gives, count, Meets, Fits, afterwards, part_kinds, shape_kinds};
+ghost use Rattle.std.specs.Prelude.{◌≡◌, ◌+◌, ◌≤◌, ◌<◌, ◌++◌, ◌↔◌, IsTrue, IfOk, OnOk, MatchOption, length, slice_get, take, [], ◌∷◌};
+ghost use Rattle.bytecode.specs.Effects.{all_clause_kinds, clause_gives, clauses_in, operands as operands_of, outcome as outcome_of, wants, leaves, count, Meets, Fits, afterwards, part_kinds, shape_kinds};
 ghost use Rattle.bytecode.specs.Rules.{Named};
 ghost use Rattle.verifier.specs.Tables.{wants_of};
 
-use bytecode::{Code, Function, Instr, Kind, Part, same_kinds};
+use bytecode::{Clause, Code, Function, Instr, Kind, Part, same_kinds};
 use std::alloc::{AllocError, Global};
 use word::apply::Op;
 
@@ -79,12 +79,42 @@ fn printed_kinds(alloc: Global, parts: &[Part]) -> Result<Vec<Kind>, AllocError>
     Ok(kinds)
 }
 
-/// The kinds of a shape.
+/// The kinds of a shape; none where it is not there.
 fn kinds_of(code: &Code, s: u32) -> &[Kind]
-    requires { s < length code.now.shapes }
     ensures { result.now ≡ shape_kinds code.now s }
 {
-    code.shapes()[s as usize].kinds()
+    match code.shapes().get(s as usize) {
+        Some(shape) => shape.kinds(),
+        None => &[],
+    }
+}
+
+/// The clauses of a select table; none where it is not there.
+fn clauses_of(code: &Code, q: u32) -> &[Clause]
+    ensures { result.now ≡ clauses_in (slice_get code.now.selects q) }
+{
+    match code.selects().get(q as usize) {
+        Some(table) => table.clauses(),
+        None => &[],
+    }
+}
+
+/// The kinds of the operands of a select's clauses.
+fn operands_of_clauses(
+    alloc: Global,
+    code: &Code,
+    clauses: &[Clause],
+) -> Result<Vec<Kind>, AllocError>
+    ensures ok { IfOk result (λ ks. ks.items ≡ all_clause_kinds code.now clauses.now) }
+{
+    let mut kinds = Vec::new(alloc);
+    for clause in clauses {
+        kinds.push(Kind::Chan(clause.shape()))?;
+        if let Clause::Send(shape, _) = *clause {
+            kinds.extend_from_slice(kinds_of(code, shape))?;
+        }
+    }
+    Ok(kinds)
 }
 
 /// What an instruction wants on the top of the stack.
@@ -118,6 +148,10 @@ fn wanted(alloc: Global, code: &Code, f: &Function, i: Instr) -> Result<Need, Al
         Instr::Print(q) => {
             let kinds = printed_kinds(alloc, code.prints()[q as usize].parts())?;
             Ok(Need::These(kinds))
+        }
+        Instr::Select(q) => {
+            let clauses = clauses_of(code, q);
+            Ok(Need::These(operands_of_clauses(alloc, code, clauses)?))
         }
         Instr::Int(_)
         | Instr::Bool(_)
@@ -193,7 +227,6 @@ fn outcome(op: Op) -> Kind
 
 /// Appends the kinds of an item and of a truth value.
 fn give_item(code: &Code, s: u32, out: &mut Vec<Kind>) -> Result<(), AllocError>
-    requires { s < length code.now.shapes }
     ensures ok { OnOk result (out.new.items ≡ out.old.items ++ (shape_kinds code.now s ++ Kind.Bool ∷ [])) }
 {
     out.extend_from_slice(kinds_of(code, s))?;
@@ -201,17 +234,29 @@ fn give_item(code: &Code, s: u32, out: &mut Vec<Kind>) -> Result<(), AllocError>
     Ok(())
 }
 
-/// Appends what an instruction leaves.
+/// Appends what is left where a clause was done.
+fn give_clause(code: &Code, clause: Option<Clause>, out: &mut Vec<Kind>) -> Result<(), AllocError>
+    ensures ok { OnOk result (out.new.items ≡ out.old.items ++ clause_gives code.now clause) }
+{
+    match clause {
+        Some(Clause::Receive(s, _)) => Ok(give_item(code, s, out)?),
+        Some(Clause::Send(_, _)) => Ok(()),
+        None => Ok(()),
+    }
+}
+
+/// Appends what an instruction leaves on its way of this number.
 fn give(
     code: &Code,
     f: &Function,
     i: Instr,
+    way: usize,
     top: &[Kind],
     out: &mut Vec<Kind>,
 ) -> Result<(), AllocError>
     requires named { Named code.now f.now i }
     requires enough { count (wants code.now f.now i) ≤ length top.now }
-    ensures ok { OnOk result (out.new.items ≡ out.old.items ++ gives code.now f.now i top.now) }
+    ensures ok { OnOk result (out.new.items ≡ out.old.items ++ leaves code.now f.now i way top.now) }
 {
     match i {
         Instr::Int(_) | Instr::Len | Instr::Cap => Ok(out.push(Kind::Int)?),
@@ -230,6 +275,10 @@ fn give(
         Instr::Apply(op) => Ok(out.push(outcome(op))?),
         Instr::Call(g) => Ok(out.extend_from_slice(code.functions()[g as usize].results())?),
         Instr::Receive(s) => Ok(give_item(code, s, out)?),
+        Instr::Select(q) => {
+            let clauses = clauses_of(code, q);
+            Ok(give_clause(code, clauses.get(way).copied(), out)?)
+        }
         Instr::Store(_, _)
         | Instr::Discard(_)
         | Instr::Tick
@@ -244,16 +293,16 @@ fn give(
     }
 }
 
-/// The kinds behind an instruction, or none where it does not fit.
-pub(crate) fn after(
+/// Where the operands of an instruction begin among these kinds, or none where it does not fit them.
+pub(crate) fn operands_at(
     alloc: Global,
     code: &Code,
     f: &Function,
     i: Instr,
     kinds: &[Kind],
-) -> Result<Option<Vec<Kind>>, AllocError>
+) -> Result<Option<usize>, AllocError>
     requires { Named code.now f.now i }
-    ensures ok { IfOk result (λ o. MatchOption o (Fits code.now f.now i kinds.now → ⊥) (λ v. Fits code.now f.now i kinds.now × (v.items ≡ afterwards code.now f.now i kinds.now))) }
+    ensures ok { IfOk result (λ o. MatchOption o (Fits code.now f.now i kinds.now → ⊥) (λ at. Fits code.now f.now i kinds.now × (at + count (wants code.now f.now i) ≡ length kinds.now))) }
 {
     let need = wanted(alloc, code, f, i)?;
     let n = amount(&need);
@@ -267,7 +316,24 @@ pub(crate) fn after(
     if !meets(&need, &kinds[at..]) {
         return Ok(None);
     }
+    Ok(Some(at))
+}
+
+/// The kinds behind an instruction on its way of this number, whose operands begin at a place of these.
+pub(crate) fn behind(
+    alloc: Global,
+    code: &Code,
+    f: &Function,
+    i: Instr,
+    way: usize,
+    kinds: &[Kind],
+    at: usize,
+) -> Result<Vec<Kind>, AllocError>
+    requires named { Named code.now f.now i }
+    requires at { at + count (wants code.now f.now i) ≡ length kinds.now }
+    ensures ok { IfOk result (λ v. v.items ≡ afterwards code.now f.now i way kinds.now) }
+{
     let mut out = Vec::from_slice(alloc, &kinds[..at])?;
-    give(code, f, i, &kinds[at..], &mut out)?;
-    Ok(Some(out))
+    give(code, f, i, way, &kinds[at..], &mut out)?;
+    Ok(out)
 }

@@ -1,12 +1,13 @@
 //! The kinds on the operand stack at each place of a function, path by path.
 
-ghost use Rattle.std.specs.Prelude.{◌≡◌, ◌^◌, IfSome, ℕ, ◌<◌, IfOk, OnErr, length, vec_len, slice_get, Some};
+ghost use Rattle.std.specs.Prelude.{◌≡◌, ◌+◌, ◌^◌, [], ◌∷◌, ℕ, ◌<◌, IfOk, OnErr, length, vec_len, slice_get, Some};
 ghost use Rattle.bytecode.specs.declared.instr.Instr.{Instr};
+ghost use Rattle.bytecode.specs.Effects.{count, wants};
 ghost use Rattle.bytecode.specs.Rules.{Named, Inside, rule_of, ways, Path, IsHeaded};
-ghost use Rattle.verifier.specs.Tables.{Merged, Led, Followed, Visited, Steps, LeadsTo, Swept, Infers, Reached, Judged, judged_of, verdict_of};
+ghost use Rattle.verifier.specs.Tables.{AreReached, Merged, Led, Followed, Visited, Steps, LeadsOn, Swept, Infers, Reached, Judged, judged_of};
 
-use crate::effect::after;
-use crate::scan::scan;
+use crate::effect::{behind, operands_at};
+use crate::scan::{scan, select_way, select_ways};
 use bytecode::{Code, Function, Instr, Kind, Rule, same_kinds};
 use std::alloc::{AllocError, Global};
 
@@ -64,67 +65,16 @@ fn lead(
     enter_kinds(alloc, table, to, kinds)
 }
 
-/// The same for a way that may be none.
-fn follow(
-    alloc: Global,
-    code: &Code,
-    f: &Function,
-    table: &mut Vec<Option<Vec<Kind>>>,
-    way: Option<usize>,
-    kinds: &[Kind],
-) -> Result<Merge, AllocError>
-    requires there { IfSome way (λ to. to < vec_len table.old) }
-    requires path { IfSome way (λ to. (n : ℕ) × Path code.now f.now n to kinds.now) }
-    requires reached { Reached code.now f.now table.old.items }
-    ensures len { vec_len table.new ≡ vec_len table.old }
-    ensures reached { Reached code.now f.now table.new.items }
-    ensures ok { IfOk result (λ m. Followed way m code.now f.now table.old.items table.new.items kinds.now) }
-{
-    match way {
-        None => Ok(Merge::Same),
-        Some(to) => Ok(lead(alloc, code, f, table, to, kinds)?),
-    }
-}
-
-/// Where an instruction may lead first.
-fn first_way(i: Instr, place: usize) -> Option<usize>
-    requires { place < 2 ^ 63 }
-    ensures { result ≡ slice_get (ways i place) 0 }
+/// How many ways an instruction has.
+fn way_count(code: &Code, i: Instr) -> usize
+    ensures { (place : ℕ) → result ≡ length (ways code.now i place) }
 {
     match i {
-        Instr::Jump(to) | Instr::Loop(to) => Some(to as usize),
-        Instr::Return => None,
-        Instr::Int(_)
-        | Instr::Bool(_)
-        | Instr::Nil(_)
-        | Instr::Load(_, _)
-        | Instr::Store(_, _)
-        | Instr::Pick(_, _, _)
-        | Instr::Discard(_)
-        | Instr::Apply(_)
-        | Instr::Tick
-        | Instr::Unless(_)
-        | Instr::Call(_)
-        | Instr::Make(_)
-        | Instr::Go(_)
-        | Instr::Send(_)
-        | Instr::Receive(_)
-        | Instr::Close
-        | Instr::Len
-        | Instr::Cap
-        | Instr::Print(_) => Some(place + 1),
-    }
-}
-
-/// Where it may lead else.
-fn second_way(i: Instr, place: usize) -> Option<usize>
-    ensures { result ≡ slice_get (ways i place) 1 }
-{
-    match i {
-        Instr::Unless(to) => Some(to as usize),
+        Instr::Unless(_) => 2,
+        Instr::Return => 0,
+        Instr::Select(q) => select_ways(code, q),
         Instr::Jump(_)
         | Instr::Loop(_)
-        | Instr::Return
         | Instr::Int(_)
         | Instr::Bool(_)
         | Instr::Nil(_)
@@ -142,7 +92,49 @@ fn second_way(i: Instr, place: usize) -> Option<usize>
         | Instr::Close
         | Instr::Len
         | Instr::Cap
-        | Instr::Print(_) => None,
+        | Instr::Print(_) => 1,
+    }
+}
+
+/// The only way of most instructions, of number 0.
+fn only(to: usize, number: usize) -> Option<usize>
+    ensures { result ≡ slice_get (to ∷ []) number }
+{
+    if number == 0 { Some(to) } else { None }
+}
+
+/// Where an instruction leads on its way of this number.
+fn way(code: &Code, i: Instr, place: usize, number: usize) -> Option<usize>
+    requires { place < 2 ^ 63 }
+    ensures { result ≡ slice_get (ways code.now i place) number }
+{
+    match i {
+        Instr::Jump(to) | Instr::Loop(to) => only(to as usize, number),
+        Instr::Unless(to) => match number {
+            0 => Some(place + 1),
+            1 => Some(to as usize),
+            _ => None,
+        },
+        Instr::Return => None,
+        Instr::Select(q) => select_way(code, q, number),
+        Instr::Int(_)
+        | Instr::Bool(_)
+        | Instr::Nil(_)
+        | Instr::Load(_, _)
+        | Instr::Store(_, _)
+        | Instr::Pick(_, _, _)
+        | Instr::Discard(_)
+        | Instr::Apply(_)
+        | Instr::Tick
+        | Instr::Call(_)
+        | Instr::Make(_)
+        | Instr::Go(_)
+        | Instr::Send(_)
+        | Instr::Receive(_)
+        | Instr::Close
+        | Instr::Len
+        | Instr::Cap
+        | Instr::Print(_) => only(place + 1, number),
     }
 }
 
@@ -180,47 +172,20 @@ fn broken_rule(i: Instr) -> Rule
         | Instr::Close
         | Instr::Len
         | Instr::Cap
-        | Instr::Print(_) => Rule::Paths,
+        | Instr::Print(_)
+        | Instr::Select(_) => Rule::Paths,
     }
 }
 
-/// What two ways came to.
-fn verdict(one: Merge, first: Option<usize>, two: Merge, second: Option<usize>) -> Visit
-    ensures { result ≡ verdict_of one first two second }
-{
-    match one {
-        Merge::Differs => match first {
-            Some(a) => Visit::Parts(a),
-            None => Visit::Settles,
-        },
-        Merge::Same => match two {
-            Merge::Differs => match second {
-                Some(b) => Visit::Parts(b),
-                None => Visit::Settles,
-            },
-            Merge::New => Visit::Grows,
-            Merge::Same => Visit::Settles,
-        },
-        Merge::New => match two {
-            Merge::Differs => match second {
-                Some(b) => Visit::Parts(b),
-                None => Visit::Grows,
-            },
-            Merge::New => Visit::Grows,
-            Merge::Same => Visit::Grows,
-        },
-    }
-}
-
-/// What an instruction does to the kinds at its place.
+/// What an instruction does at its place: it fits the kinds there, of which its operands begin at a number.
 #[derive(Drop)]
 pub enum Step {
     Dead,
     Unfits(Rule),
-    Leads(Instr, Vec<Kind>),
+    Leads(Instr, Vec<Kind>, usize),
 }
 
-/// The kinds after the instruction at a place.
+/// The instruction at a place and the kinds there.
 fn step_at(
     alloc: Global,
     code: &Code,
@@ -238,9 +203,52 @@ fn step_at(
         None => Ok(Step::Dead),
         Some(ks) => {
             let i = f.instrs()[place];
-            match after(alloc, code, f, i, ks)? {
+            match operands_at(alloc, code, f, i, ks)? {
                 None => Ok(Step::Unfits(broken_rule(i))),
-                Some(out) => Ok(Step::Leads(i, out)),
+                Some(at) => Ok(Step::Leads(i, Vec::from_slice(alloc, ks)?, at)),
+            }
+        }
+    }
+}
+
+/// What came of one way of an instruction.
+#[derive(Clone, Copy)]
+pub enum Onward {
+    Kept,
+    Grown,
+    Apart(usize),
+}
+
+/// Follows the way of this number.
+fn follow(
+    alloc: Global,
+    code: &Code,
+    f: &Function,
+    table: &mut Vec<Option<Vec<Kind>>>,
+    place: usize,
+    i: Instr,
+    kinds: &[Kind],
+    at: usize,
+    number: usize,
+) -> Result<Onward, AllocError>
+    requires there { place < length f.now.instrs }
+    requires named { Named code.now f.now i × Inside f.now place i }
+    requires paths { AreReached code.now f.now place i kinds.now }
+    requires at { at + count (wants code.now f.now i) ≡ length kinds.now }
+    requires len { vec_len table.old ≡ length f.now.instrs }
+    requires reached { Reached code.now f.now table.old.items }
+    ensures len { vec_len table.new ≡ vec_len table.old }
+    ensures reached { Reached code.now f.now table.new.items }
+    ensures ok { IfOk result (λ o. Followed o code.now f.now table.old.items table.new.items place i kinds.now number) }
+{
+    match way(code, i, place, number) {
+        None => Ok(Onward::Kept),
+        Some(to) => {
+            let out = behind(alloc, code, f, i, number, kinds, at)?;
+            match lead(alloc, code, f, table, to, &out)? {
+                Merge::Same => Ok(Onward::Kept),
+                Merge::New => Ok(Onward::Grown),
+                Merge::Differs => Ok(Onward::Apart(to)),
             }
         }
     }
@@ -254,22 +262,31 @@ fn spread(
     table: &mut Vec<Option<Vec<Kind>>>,
     place: usize,
     i: Instr,
-    out: &[Kind],
+    kinds: &[Kind],
+    at: usize,
 ) -> Result<Visit, AllocError>
     requires there { place < length f.now.instrs }
-    requires inside { Inside f.now place i }
-    requires leads { LeadsTo code.now f.now table.old.items place i out.now }
+    requires named { Named code.now f.now i × Inside f.now place i }
+    requires leads { LeadsOn code.now f.now table.old.items place i kinds.now at }
     requires len { vec_len table.old ≡ length f.now.instrs }
     requires reached { Reached code.now f.now table.old.items }
     ensures len { vec_len table.new ≡ vec_len table.old }
     ensures reached { Reached code.now f.now table.new.items }
     ensures ok { IfOk result (λ v. Visited v code.now f.now table.old.items table.new.items place) }
 {
-    let first = first_way(i, place);
-    let second = second_way(i, place);
-    let one = follow(alloc, code, f, table, first, out)?;
-    let two = follow(alloc, code, f, table, second, out)?;
-    Ok(verdict(one, first, two, second))
+    let mut grew = false;
+    for number in 0..way_count(code, i) {
+        match follow(alloc, code, f, table, place, i, kinds, at, number)? {
+            Onward::Kept => {}
+            Onward::Grown => grew = true,
+            Onward::Apart(to) => return Ok(Visit::Parts(to)),
+        }
+    }
+    if grew {
+        Ok(Visit::Grows)
+    } else {
+        Ok(Visit::Settles)
+    }
 }
 
 /// One place: its instruction fits its kinds, and its ways have what is after it.
@@ -291,7 +308,7 @@ fn look(
     match step_at(alloc, code, f, table, place)? {
         Step::Dead => Ok(Visit::Settles),
         Step::Unfits(rule) => Ok(Visit::Unfit(rule)),
-        Step::Leads(i, out) => Ok(spread(alloc, code, f, table, place, i, &out)?),
+        Step::Leads(i, kinds, at) => Ok(spread(alloc, code, f, table, place, i, &kinds, at)?),
     }
 }
 

@@ -1,10 +1,59 @@
 //! What an instruction breaks by itself, whatever path leads to it.
 
-ghost use Rattle.std.specs.Prelude.{◌≡◌, ◌↔◌, ◌<◌, IsTrue, length};
-ghost use Rattle.bytecode.specs.Rules.{Named, Inside, Directed};
+ghost use Rattle.std.specs.Prelude.{◌≡◌, ◌↔◌, ◌<◌, IsTrue, length, slice_get};
+ghost use Rattle.bytecode.specs.Effects.{targets_in};
+ghost use Rattle.bytecode.specs.Rules.{AreBehind, AreWithin, Named, Inside, Directed};
 ghost use Rattle.verifier.specs.Tables.{Scanned, ScannedAt};
 
 use bytecode::{Code, Function, Instr, Rule};
+
+/// How many ways a select has.
+pub(crate) fn select_ways(code: &Code, q: u32) -> usize
+    ensures { result ≡ length (targets_in (slice_get code.now.selects q)) }
+{
+    match code.selects().get(q as usize) {
+        Some(table) => table.target_count(),
+        None => 0,
+    }
+}
+
+/// Where a select leads on its way of this number.
+pub(crate) fn select_way(code: &Code, q: u32, number: usize) -> Option<usize>
+    ensures { result ≡ slice_get (targets_in (slice_get code.now.selects q)) number }
+{
+    match code.selects().get(q as usize) {
+        Some(table) => table.target(number).map(|to| to as usize),
+        None => None,
+    }
+}
+
+/// Whether a select leads to places of a function of so many instructions.
+fn are_within(code: &Code, q: u32, n: usize) -> bool
+    ensures { IsTrue result ↔ AreWithin (targets_in (slice_get code.now.selects q)) n }
+{
+    for number in 0..select_ways(code, q) {
+        if let Some(to) = select_way(code, q, number) {
+            if to >= n {
+                return false;
+            }
+        }
+    }
+    true
+}
+
+/// Whether a select leads behind a place.
+fn are_behind(code: &Code, q: u32, place: usize) -> bool
+    ensures { IsTrue result ↔ AreBehind (targets_in (slice_get code.now.selects q)) place }
+{
+    for number in 0..select_ways(code, q) {
+        if let Some(to) = select_way(code, q, number) {
+            if to <= place {
+                return false;
+            }
+        }
+    }
+    true
+}
 
 /// Whether what an instruction names is there.
 fn is_named(code: &Code, f: &Function, i: Instr) -> bool
@@ -21,6 +70,9 @@ fn is_named(code: &Code, f: &Function, i: Instr) -> bool
         Instr::Pick(t, a, n) => n <= t && a <= t - n,
         Instr::Call(g) | Instr::Go(g) => (g as usize) < code.functions().len(),
         Instr::Print(q) => (q as usize) < code.prints().len(),
+        Instr::Select(q) => {
+            (q as usize) < code.selects().len() && are_within(code, q, f.instrs().len())
+        }
         Instr::Int(_)
         | Instr::Bool(_)
         | Instr::Discard(_)
@@ -63,17 +115,19 @@ fn is_inside(f: &Function, place: usize, i: Instr) -> bool
         | Instr::Close
         | Instr::Len
         | Instr::Cap
-        | Instr::Print(_) => place + 1 < n,
+        | Instr::Print(_)
+        | Instr::Select(_) => place + 1 < n,
     }
 }
 
 /// Whether its ways lead in the direction that they must.
-fn is_directed(place: usize, i: Instr) -> bool
-    ensures { IsTrue result ↔ Directed place i }
+fn is_directed(code: &Code, place: usize, i: Instr) -> bool
+    ensures { IsTrue result ↔ Directed code.now place i }
 {
     match i {
         Instr::Jump(to) | Instr::Unless(to) => place < to as usize,
         Instr::Loop(to) => to as usize <= place,
+        Instr::Select(q) => are_behind(code, q, place),
         Instr::Return
         | Instr::Int(_)
         | Instr::Bool(_)
@@ -105,7 +159,7 @@ fn scan_one(code: &Code, f: &Function, place: usize) -> Option<(Rule, usize)>
     if !is_named(code, f, i) || !is_inside(f, place, i) {
         return Some((Rule::Names, place));
     }
-    if !is_directed(place, i) {
+    if !is_directed(code, place, i) {
         return Some((Rule::Targets, place));
     }
     None

@@ -2,12 +2,12 @@
 
 ghost use Rattle.std.specs.Prelude.{◌≡◌, ◌≢◌, ◌↔◌, ◌<◌, ◌≤◌, length, IsTrue, IfOk, IfErr, IfSome, IfNone, MatchOption, Some, slice_get};
 ghost use Rattle.bytecode.specs.Machine.{main_of};
-ghost use Rattle.bytecode.specs.Rules.{AreThere, Breaks, BrokenIn, HasMain, Holds, IsHeaded, IsShaped, IsShort, IsThere, IsVerified};
-ghost use Rattle.verifier.specs.Refusals.{IsRefused, NeverStuck, ShapesFine, PrintsFine, FunctionsFine, ShapeBroken};
+ghost use Rattle.bytecode.specs.Rules.{AreThere, Breaks, BrokenIn, HasMain, HasShapes, Holds, IsHeaded, IsSelect, IsShaped, IsShort, IsThere, IsVerified};
+ghost use Rattle.verifier.specs.Refusals.{IsRefused, NeverStuck, ShapesFine, PrintsFine, SelectsFine, FunctionsFine, ShapeBroken, SelectBroken};
 ghost use Rattle.verifier.specs.Tables.{Judged};
 
 use crate::paths::check_function;
-use bytecode::{Code, Function, Kind, Rule};
+use bytecode::{Code, Function, Kind, Rule, SelectTable};
 use go_text::Fault;
 use std::alloc::{AllocError, Global};
 use std::marker::Model;
@@ -17,6 +17,9 @@ const MAX_WORDS: usize = 16;
 
 /// The most parts of a print table.
 const MAX_PARTS: usize = 64;
+
+/// The most clauses of a select, a default counted too.
+const MAX_CLAUSES: usize = 64;
 
 /// Code that keeps all rules of the verifier.
 #[derive(Debug, Drop)]
@@ -63,8 +66,7 @@ fn main_number(functions: &[Function]) -> Option<usize>
 }
 
 /// Verifies code. Refused 11 with the broken rule, 1 to 8, the function's number and the instruction's place, 0 for the
-/// function's heading. Of a shape or a print table its number stands as the place and the function's number is 0; where there
-/// is no function `main` without parameters and result both are 0. Refused 13 for want of memory.
+/// function's heading. Of a shape or a table its number stands as the place and the function's number is 0; where there is no function `main` without parameters and result both are 0. Refused 13 for want of memory.
 pub fn verify(alloc: Global, code: Code) -> Result<Verified, Fault>
     ensures code { IfOk result (λ verified. verified ≡ code) }
     ensures safe { IfOk result NeverStuck }
@@ -91,6 +93,9 @@ fn broken(alloc: Global, code: &Code) -> Result<Option<(Rule, usize, usize)>, Al
     }
     if let Some(place) = broken_print(code) {
         return Ok(Some((Rule::Tables, 0, place)));
+    }
+    if let Some((rule, place)) = broken_select(code) {
+        return Ok(Some((rule, 0, place)));
     }
     if !has_main(code) {
         return Ok(Some((Rule::Main, 0, 0)));
@@ -166,6 +171,46 @@ fn broken_print(code: &Code) -> Option<usize>
     for number in 0..code.prints().len() {
         if code.prints()[number].parts().len() > MAX_PARTS {
             return Some(number);
+        }
+    }
+    None
+}
+
+/// Whether the shapes that a select table names are there.
+fn has_shapes(code: &Code, table: &SelectTable) -> bool
+    ensures { IsTrue result ↔ HasShapes code.now table.now }
+{
+    let clauses = table.clauses();
+    for number in 0..clauses.len() {
+        if clauses[number].shape() as usize >= code.shapes().len() {
+            return false;
+        }
+    }
+    true
+}
+
+/// The rule that a select table breaks.
+fn select_rule(code: &Code, table: &SelectTable) -> Option<Rule>
+    ensures none { IfNone result (IsSelect code.now table.now) }
+    ensures some { IfSome result (λ rule. SelectBroken code.now table.now rule) }
+{
+    if table.target_count() > MAX_CLAUSES {
+        return Some(Rule::Tables);
+    }
+    if !has_shapes(code, table) {
+        return Some(Rule::Names);
+    }
+    None
+}
+
+/// The rule that the first wrong select table breaks, and the table's number.
+fn broken_select(code: &Code) -> Option<(Rule, usize)>
+    ensures none { IfNone result (SelectsFine code.now) }
+    ensures some { IfSome result (λ b. Breaks code.now b.0 0 b.1) }
+{
+    for number in 0..code.selects().len() {
+        if let Some(rule) = select_rule(code, &code.selects()[number]) {
+            return Some((rule, number));
         }
     }
     None

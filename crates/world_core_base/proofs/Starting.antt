@@ -6,7 +6,7 @@ use Rattle.std.proofs.lemmas.Option.{same_Some, slice_get_within}
 use Rattle.bytecode.specs.declared.instr.Instr.{Instr}
 use Rattle.bytecode.specs.declared.instr.Instr.TheVariants as instrs
 use Rattle.bytecode.specs.Code.{Code}
-use Rattle.bytecode.specs.Machine.{Frame, Frames, Step, code_kind, code_next, told_first, if_there, instr_next, on_truth, on_int, on_chan, on_value, returned, applied, begun, goes_on}
+use Rattle.bytecode.specs.Machine.{Frame, Frames, Step, code_kind, code_next, told_first, if_there, instr_next, on_truth, on_int, on_chan, on_value, returned, applied, begun, goes_on, cases_of}
 use Rattle.word.specs.declared.panic.Panic.{Panic as Cause}
 use Rattle.word.specs.declared.panic.Panic.TheVariants.{CallDepth, SendOnClosed}
 use Rattle.word.specs.declared.value.Word.{Word}
@@ -91,6 +91,7 @@ module _ (code : Code) where
   instr_range c callers low top instrs.Len = chan_range top _ (λ chan item. tt)
   instr_range c callers low top instrs.Cap = chan_range top _ (λ chan item. tt)
   instr_range c callers low top (instrs.Print q) = there_range (slice_get code.prints q) _ (λ table e. tt)
+  instr_range c callers low top (instrs.Select q) = there_range (slice_get code.selects q) _ (λ table e. there_range (cases_of code table.clauses top) _ (λ cases h. tt))
 
   next_range : (s : Frames) → InRange code (code_next code s)
   next_range [] = tt

@@ -9,4 +9,4 @@ pub returns-clause-frame : goal.returns-clause-frame
 returns-clause-frame c =
     let code = c.code.result.now in
     let good : IsFrameOf code c.self.inside.frames = subst (λ x. IsFrameOf x c.self.inside.frames) (sym c.code.ensures.code) (subst (λ (s : Clocked Frames). IsFrameOf c.args.code.now s.state) (sym c.self.view_is) c.requires) in
-    subst (λ x. IsFrameOf x c.tell.new.self) c.code.ensures.code (subst (IsFrameOf code) (sym c.tell.ensures) (words_keep code c.code.ensures.verified c.self.inside.frames c.args.words.now good))
+    subst (λ x. IsFrameOf x c.tell.new.self) c.code.ensures.code (subst (IsFrameOf code) (sym c.tell.ensures) (words_keep code c.code.ensures.verified c.self.inside.frames c.args.clause c.args.words.now good))

@@ -1,0 +1,37 @@
+use Rattle.std.proofs.Common.{◌≡◌, ◌∙◌, ◌<◌, ◌-◌, reverse, List, length, take, drop, Some, ap, sym, rules, slice_get}
+use Rattle.std.proofs.lemmas.List.{take_rest}
+use Rattle.std.proofs.lemmas.Option.{slice_get-get_or}
+use Rattle.bytecode.specs.Code.{PrintTable}
+use Rattle.bytecode.specs.Machine.{Frame, printed}
+use Rattle.goroutine_vm_base.proofs.Asking.{go_for, print_for}
+use Rattle.goroutine_vm_base.proofs.request.ask.Goals as goal
+
+pub returns-in-Apply : goal.returns-in-Apply
+returns-in-Apply c = rw c.in-Apply.is (c.panic_of.ensures c.args.code.now (reverse c.args.callers.now.items))
+
+pub returns-in_ok-make-in-Make : goal.returns-in_ok-make-in-Make
+returns-in_ok-make-in-Make c = rw c.in-Make.is (c.in_ok-make-in-Make.ensures (reverse c.args.callers.now.items))
+
+pub returns-in-Send : goal.returns-in-Send
+returns-in-Send c = rw c.in-Send.is (c.send.ensures c.args.code.now (reverse c.args.callers.now.items))
+
+pub returns-in_ok-select-in-Select : goal.returns-in_ok-select-in-Select
+returns-in_ok-select-in-Select c = rw c.in-Select.is (c.in_ok-select-in-Select.ensures (reverse c.args.callers.now.items))
+
+pub returns-in_ok-args-in-Go : goal.returns-in_ok-args-in-Go
+returns-in_ok-args-in-Go c =
+    let view : c.frame.inside.stack.items ≡ c.args.frame.now.stack = ap (λ (x : Frame). x.stack) c.frame.view_is in
+    let args : c.in_ok-args-in-Go.args.items ≡ drop c.args.at c.args.frame.now.stack = c.in_ok-args-in-Go.ensures.items ∙ take_rest c.deref.result.now c.args.at ∙ ap (drop c.args.at) (c.deref.ensures.value ∙ view) in
+    let below : c.in-Go.function < length c.args.code.now.functions = search rules in
+    rw c.in-Go.is (go_for c.args.code.now.functions c.in-Go.function (drop c.args.at c.args.frame.now.stack) c.in_ok-args-in-Go.args below args)
+
+pub returns-in_ok-text-in-Print : goal.returns-in_ok-text-in-Print
+returns-in_ok-text-in-Print c =
+    let prints : List PrintTable = c.prints-prints.result.now in
+    let table : PrintTable = c.index-prints-table.result in
+    let view : c.frame.inside.stack.items ≡ c.args.frame.now.stack = ap (λ (x : Frame). x.stack) c.frame.view_is in
+    let words : take (length c.deref-in-Print.result.now - c.args.at) (drop c.args.at c.deref-in-Print.result.now) ≡ drop c.args.at c.args.frame.now.stack = take_rest c.deref-in-Print.result.now c.args.at ∙ ap (drop c.args.at) (c.deref-in-Print.ensures.value ∙ view) in
+    let lt : c.in-Print.table < length prints = search rules in
+    let here : slice_get c.args.code.now.prints c.in-Print.table ≡ Some table = ap (λ (xs : List PrintTable). slice_get xs c.in-Print.table) (sym c.prints-prints.ensures) ∙ slice_get-get_or prints c.in-Print.table table lt ∙ ap Some (sym c.index-prints-table.is) in
+    let text : c.in_ok-text-in-Print.text.items ≡ printed table (drop c.args.at c.args.frame.now.stack) = c.in_ok-text-in-Print.ensures ∙ ap (printed table) words in
+    rw c.in-Print.is (print_for c.args.code.now.prints c.in-Print.table table (drop c.args.at c.args.frame.now.stack) c.in_ok-text-in-Print.text here text)

@@ -1,0 +1,312 @@
+//! The local steps of the instructions.
+
+ghost use Rattle.std.specs.Prelude.{◌≡◌, ◌+◌, ◌-◌, ◌<◌, ◌≤◌, ◌^◌, ◌++◌, ◌∷◌, [], Bool, IfOk, OnErr, OnOk, drop, length, reverse, slice_range, take, vec_capacity, vec_len};
+ghost use Rattle.bytecode.specs.Code.{Code as CodeValue};
+ghost use Rattle.bytecode.specs.Effects.{count, operands};
+ghost use Rattle.bytecode.specs.Machine.{Frames, goes_on, goes_to, instr_next, put_at};
+ghost use Rattle.goroutine_vm_base.specs.Steps.{Does, FitsAt, frames_of};
+ghost use Rattle.word.specs.Kinds.{Stuck, Ticks};
+
+use crate::frame::{Frame, begin};
+use crate::outcome::Step;
+use bytecode::{Code, Instr};
+use std::alloc::{AllocError, Global};
+use std::mem::replace;
+use word::apply::{Op, checked_apply};
+use word::value::Word;
+
+/// The most functions that wait for one another, the running one counted.
+const MAX_DEPTH: usize = 1000;
+
+/// Pushes a word, and goes on to the next instruction.
+pub(crate) fn push(frame: &mut Frame, word: Word) -> Result<(), AllocError>
+    requires { frame.old.place + 1 < 2 ^ 64 }
+    ensures ok { OnOk result (frame.new ≡ goes_on frame.old (frame.old.stack ++ word ∷ [])) }
+    ensures err { OnErr result (frame.new ≡ frame.old) }
+{
+    frame.stack.push(word)?;
+    frame.place += 1;
+    Ok(())
+}
+
+/// Pushes the locals of a range, and goes on.
+fn load(frame: &mut Frame, from: usize, to: usize) -> Result<(), AllocError>
+    requires place { frame.old.place + 1 < 2 ^ 64 }
+    requires within { to ≤ length frame.old.locals }
+    requires order { from ≤ to }
+    ensures ok { OnOk result (frame.new ≡ goes_on frame.old (frame.old.stack ++ slice_range frame.old.locals from to)) }
+    ensures err { OnErr result (frame.new ≡ frame.old) }
+{
+    frame.stack.extend_from_slice(&frame.locals[from..to])?;
+    frame.place += 1;
+    Ok(())
+}
+
+/// Copies words into others, from an index on.
+fn put_words(into: &mut [Word], from: usize, words: &[Word])
+    requires { from + length words.now ≤ length into.old }
+    ensures { into.new ≡ put_at from words.now into.old }
+{
+    into[from..from + words.len()].copy_from_slice(words);
+}
+
+/// Pops words from a place of the stack on into the locals from another on, and goes on.
+pub(crate) fn store(frame: &mut Frame, from: usize, at: usize)
+    requires place { frame.old.place + 1 < 2 ^ 64 }
+    requires at { at ≤ length frame.old.stack }
+    requires within { from + (length frame.old.stack - at) ≤ length frame.old.locals }
+    ensures { frame.new ≡ record frame.old { place = frame.old.place + 1; locals = put_at from (drop at frame.old.stack) frame.old.locals; stack = take at frame.old.stack } }
+{
+    put_words(frame.locals.as_mut_slice(), from, &frame.stack[at..]);
+    frame.stack.truncate(at);
+    frame.place += 1;
+}
+
+/// Keeps of the words from a place of the stack on those of a range, and goes on.
+fn pick(
+    alloc: Global,
+    frame: &mut Frame,
+    at: usize,
+    from: usize,
+    to: usize,
+) -> Result<(), AllocError>
+    requires place { frame.old.place + 1 < 2 ^ 64 }
+    requires within { at + to ≤ length frame.old.stack }
+    requires order { from ≤ to }
+    ensures ok { OnOk result (frame.new ≡ goes_on frame.old (take at frame.old.stack ++ slice_range (drop at frame.old.stack) from to)) }
+    ensures err { OnErr result (frame.new ≡ frame.old) }
+{
+    let mut kept = Vec::from_slice(alloc, &frame.stack[..at])?;
+    kept.extend_from_slice(&frame.stack[at + from..at + to])?;
+    frame.stack = kept;
+    frame.place += 1;
+    Ok(())
+}
+
+/// Goes to a place with what lies below another place of the stack.
+pub(crate) fn go_to(frame: &mut Frame, to: usize, at: usize)
+    ensures { frame.new ≡ goes_to frame.old to (take at frame.old.stack) }
+{
+    frame.stack.truncate(at);
+    frame.place = to;
+}
+
+/// Puts an operator's value in place of its operands, and goes on; or asks to panic.
+pub(crate) fn operate(frame: &mut Frame, op: Op, at: usize) -> Step
+    requires place { frame.old.place + 1 < 2 ^ 64 }
+    requires at { at + count (operands op) ≡ length frame.old.stack }
+    ensures step { (may : Bool) → (code : CodeValue) → (callers : Frames) → Does may (frame.old ∷ callers) (instr_next code frame.old callers (take at frame.old.stack) (drop at frame.old.stack) (Instr.Apply op)) result (frame.new ∷ callers) }
+    ensures same { frame.new.function ≡ frame.old.function }
+{
+    let last = frame.stack.len() - 1;
+    match checked_apply(op, frame.stack[at], frame.stack[last]) {
+        None => Step::Stuck,
+        Some(Err(_)) => Step::Asking,
+        Some(Ok(word)) => {
+            frame.stack[at] = word;
+            frame.stack.truncate(at + 1);
+            frame.place += 1;
+            Step::Slid
+        }
+    }
+}
+
+/// Goes on where the truth value on the top is true, else to a place.
+pub(crate) fn choose(frame: &mut Frame, to: usize, at: usize) -> Step
+    requires place { frame.old.place + 1 < 2 ^ 64 }
+    requires at { at + 1 ≡ length frame.old.stack }
+    requires small { to < 2 ^ 32 }
+    ensures step { (may : Bool) → (code : CodeValue) → (callers : Frames) → Does may (frame.old ∷ callers) (instr_next code frame.old callers (take at frame.old.stack) (drop at frame.old.stack) (Instr.Unless to)) result (frame.new ∷ callers) }
+    ensures same { frame.new.function ≡ frame.old.function }
+{
+    match frame.stack[at] {
+        Word::Bool(true) => {
+            let next = frame.place + 1;
+            go_to(frame, next, at);
+            Step::Slid
+        }
+        Word::Bool(false) => {
+            go_to(frame, to, at);
+            Step::Slid
+        }
+        Word::Int(_) => Step::Stuck,
+        Word::Chan(_) => Step::Stuck,
+    }
+}
+
+/// Enters a function with the words from a place of the stack on, where a tick may be made; or asks to panic.
+fn call(
+    alloc: Global,
+    code: &Code,
+    may: bool,
+    frame: &mut Frame,
+    callers: &mut Vec<Frame>,
+    function: u32,
+    at: usize,
+) -> Result<Step, AllocError>
+    requires place { frame.old.place + 1 < 2 ^ 64 }
+    requires at { at ≤ length frame.old.stack }
+    ensures ok { IfOk result (λ step. Does may (frames_of frame.old callers.old.items) (instr_next code.now frame.old (reverse callers.old.items) (take at frame.old.stack) (drop at frame.old.stack) (Instr.Call function)) step (frames_of frame.new callers.new.items)) }
+    ensures err { OnErr result (frames_of frame.new callers.new.items ≡ frames_of frame.old callers.old.items) }
+{
+    let functions = code.functions();
+    if function as usize >= functions.len() {
+        return Ok(Step::Stuck);
+    }
+    if callers.len() + 1 >= MAX_DEPTH {
+        return Ok(Step::Asking);
+    }
+    if !may {
+        return Ok(Step::Ticked);
+    }
+    let locals = functions[function as usize].locals();
+    let entered = begin(alloc, locals, function as usize, &frame.stack[at..])?;
+    callers.reserve(1)?;
+    enter(frame, callers, entered, at);
+    Ok(Step::Ticked)
+}
+
+/// Makes another frame the running one; the present one waits behind its call.
+fn enter(frame: &mut Frame, callers: &mut Vec<Frame>, entered: Frame, at: usize)
+    requires place { frame.old.place + 1 < 2 ^ 64 }
+    requires room { vec_len callers.old < vec_capacity callers.old }
+    ensures frame { frame.new ≡ entered }
+    ensures callers { callers.new.items ≡ callers.old.items ++ goes_on frame.old (take at frame.old.stack) ∷ [] }
+{
+    frame.stack.truncate(at);
+    frame.place += 1;
+    let waiting = replace(frame, entered);
+    callers.push_reserved(waiting);
+}
+
+/// Returns to the caller with the words on the stack; or asks to end.
+fn leave(frame: &mut Frame, callers: &mut Vec<Frame>, at: usize) -> Result<Step, AllocError>
+    requires at { at ≤ length frame.old.stack }
+    ensures ok { IfOk result (λ step. (may : Bool) → (code : CodeValue) → Does may (frames_of frame.old callers.old.items) (instr_next code frame.old (reverse callers.old.items) (take at frame.old.stack) (drop at frame.old.stack) Instr.Return) step (frames_of frame.new callers.new.items)) }
+    ensures err { OnErr result (frames_of frame.new callers.new.items ≡ frames_of frame.old callers.old.items) }
+{
+    if at > 0 {
+        return Ok(Step::Stuck);
+    }
+    match callers.pop() {
+        None => Ok(Step::Asking),
+        Some(caller) => Ok(resume(frame, callers, caller)?),
+    }
+}
+
+/// Makes the caller, which was just popped, the running frame, with the words on the stack of the present one.
+fn resume(
+    frame: &mut Frame,
+    callers: &mut Vec<Frame>,
+    mut caller: Frame,
+) -> Result<Step, AllocError>
+    requires { vec_len callers.old < vec_capacity callers.old }
+    ensures step { IfOk result (λ step. step ≡ Step.Slid) }
+    ensures ok { OnOk result ((frame.new ≡ record caller { stack = caller.stack ++ frame.old.stack }) × (callers.new.items ≡ callers.old.items)) }
+    ensures err { OnErr result ((frame.new ≡ frame.old) × (callers.new.items ≡ callers.old.items ++ caller ∷ [])) }
+{
+    match caller.stack.extend_from_slice(frame.stack.as_slice()) {
+        Ok(_) => {
+            *frame = caller;
+            Ok(Step::Slid)
+        }
+        Err(error) => {
+            callers.push_reserved(caller);
+            Err(error)
+        }
+    }
+}
+
+/// One instruction, whose operands begin at a place of the stack.
+pub(crate) fn instr(
+    alloc: Global,
+    code: &Code,
+    may: bool,
+    frame: &mut Frame,
+    callers: &mut Vec<Frame>,
+    i: Instr,
+    at: usize,
+) -> Result<Step, AllocError>
+    requires place { frame.old.place + 1 < 2 ^ 64 }
+    requires at { FitsAt i at (length frame.old.stack) }
+    requires below { at ≤ length frame.old.stack }
+    requires sound { instr_next code.now frame.old (reverse callers.old.items) (take at frame.old.stack) (drop at frame.old.stack) i ≡ Stuck → ⊥ }
+    ensures ok { IfOk result (λ step. Does may (frames_of frame.old callers.old.items) (instr_next code.now frame.old (reverse callers.old.items) (take at frame.old.stack) (drop at frame.old.stack) i) step (frames_of frame.new callers.new.items)) }
+    ensures err { OnErr result (frames_of frame.new callers.new.items ≡ frames_of frame.old callers.old.items) }
+{
+    match i {
+        Instr::Int(number) => {
+            push(frame, Word::Int(number))?;
+            Ok(Step::Slid)
+        }
+        Instr::Bool(truth) => {
+            push(frame, Word::Bool(truth))?;
+            Ok(Step::Slid)
+        }
+        Instr::Nil(_) => {
+            push(frame, Word::Chan(None))?;
+            Ok(Step::Slid)
+        }
+        Instr::Load(a, n) => {
+            let to = a as usize + n as usize;
+            if to > frame.locals.len() {
+                return Ok(Step::Stuck);
+            }
+            load(frame, a as usize, to)?;
+            Ok(Step::Slid)
+        }
+        Instr::Store(a, n) => {
+            if a as usize + n as usize > frame.locals.len() {
+                return Ok(Step::Stuck);
+            }
+            store(frame, a as usize, at);
+            Ok(Step::Slid)
+        }
+        Instr::Pick(t, a, n) => {
+            let to = a as usize + n as usize;
+            if to > t as usize {
+                return Ok(Step::Stuck);
+            }
+            pick(alloc, frame, at, a as usize, to)?;
+            Ok(Step::Slid)
+        }
+        Instr::Discard(_) => {
+            let next = frame.place + 1;
+            go_to(frame, next, at);
+            Ok(Step::Slid)
+        }
+        Instr::Apply(op) => Ok(operate(frame, op, at)),
+        Instr::Tick => {
+            let next = frame.place + 1;
+            Ok(tick_to(may, frame, next, at))
+        }
+        Instr::Jump(to) => {
+            go_to(frame, to as usize, at);
+            Ok(Step::Slid)
+        }
+        Instr::Unless(to) => Ok(choose(frame, to as usize, at)),
+        Instr::Loop(to) => Ok(tick_to(may, frame, to as usize, at)),
+        Instr::Call(function) => Ok(call(alloc, code, may, frame, callers, function, at)?),
+        Instr::Return => Ok(leave(frame, callers, at)?),
+        Instr::Make(_)
+        | Instr::Go(_)
+        | Instr::Send(_)
+        | Instr::Receive(_)
+        | Instr::Close
+        | Instr::Len
+        | Instr::Cap
+        | Instr::Print(_)
+        | Instr::Select(_) => Ok(Step::Asking),
+    }
+}
+
+/// Goes to a place where a tick may be made, with what lies below another place of the stack.
+pub(crate) fn tick_to(may: bool, frame: &mut Frame, to: usize, at: usize) -> Step
+    ensures step { (callers : Frames) → Does may (frame.old ∷ callers) (Ticks (goes_to frame.old to (take at frame.old.stack) ∷ callers)) result (frame.new ∷ callers) }
+    ensures same { frame.new.function ≡ frame.old.function }
+{
+    if may {
+        go_to(frame, to, at);
+    }
+    Step::Ticked
+}

@@ -1,0 +1,312 @@
+//! What a goroutine asks.
+
+ghost use Rattle.std.specs.Prelude.{◌≡◌, ◌+◌, ◌++◌, ◌<◌, ◌≤◌, IfOk, List, OnOk, drop, length, map, reverse, take};
+ghost use Rattle.bytecode.specs.Code.{Code as CodeValue};
+ghost use Rattle.bytecode.specs.Effects.{count, operands};
+ghost use Rattle.bytecode.specs.Machine.{Frame as FrameValue, Frames, code_next, instr_next, part_rest, part_text, printed, zero_of as zero_word};
+ghost use Rattle.bytecode.specs.Rules.{IsVerified};
+ghost use Rattle.goroutine_vm_base.specs.Steps.{AsksFor, FitsAt, IsChannelOn, frames_of, stops};
+ghost use Rattle.word.specs.declared.value.Word.{Word as WordValue};
+ghost use Rattle.word.specs.Kinds.{Stuck};
+
+use crate::fetch::fetch;
+use crate::frame::{Frame, zero_of};
+use crate::select::select;
+use bytecode::{Code, Instr, Kind, Part, PrintTable};
+use std::alloc::{AllocError, Global};
+use word::apply::{Op, checked_apply};
+use word::panic::Panic;
+use word::request::Request;
+use word::text::append;
+use word::value::{Item, Word};
+
+/// The most words of an item.
+const MAX_WORDS: usize = 16;
+
+/// The most functions that wait for one another, the running one counted.
+const MAX_DEPTH: usize = 1000;
+
+/// Appends the text of a part, which takes its value from the words at an index, and answers the index behind it.
+fn put_part(
+    text: &mut Vec<u8>,
+    part: &Part,
+    words: &[Word],
+    index: usize,
+) -> Result<usize, AllocError>
+    requires { index ≤ length words.now }
+    ensures text { OnOk result (text.new.items ≡ text.old.items ++ part_text part.now (drop index words.now)) }
+    ensures rest { IfOk result (λ next. drop next words.now ≡ part_rest part.now (drop index words.now)) }
+    ensures within { IfOk result (λ next. next ≤ length words.now) }
+{
+    match part {
+        Part::Text(bytes) => {
+            text.extend_from_slice(bytes.bytes())?;
+            Ok(index)
+        }
+        Part::Int => Ok(put_word(text, words, index)?),
+        Part::Bool => Ok(put_word(text, words, index)?),
+    }
+}
+
+/// Appends the text of the word at an index, and answers the index behind it.
+fn put_word(text: &mut Vec<u8>, words: &[Word], index: usize) -> Result<usize, AllocError>
+    requires { index ≤ length words.now }
+    ensures text { OnOk result (text.new.items ≡ text.old.items ++ part_text Part.Int (drop index words.now)) }
+    ensures rest { IfOk result (λ next. drop next words.now ≡ part_rest Part.Int (drop index words.now)) }
+    ensures within { IfOk result (λ next. next ≤ length words.now) }
+{
+    if index >= words.len() {
+        return Ok(index);
+    }
+    append(text, words[index])?;
+    Ok(index + 1)
+}
+
+/// What a print writes of these words.
+pub(crate) fn print(
+    alloc: Global,
+    table: &PrintTable,
+    words: &[Word],
+) -> Result<Vec<u8>, AllocError>
+    ensures { IfOk result (λ text. text.items ≡ printed table.now words.now) }
+{
+    let mut text = Vec::new(alloc);
+    let parts = table.parts();
+    if let Some((first, rest)) = parts.split_first() {
+        let mut index = put_part(&mut text, first, words, 0)?;
+        for part in rest {
+            if table.line() {
+                text.push(b' ')?;
+            }
+            index = put_part(&mut text, part, words, index)?;
+        }
+    }
+    if table.line() {
+        text.push(b'\n')?;
+    }
+    Ok(text)
+}
+
+/// The zero of a shape.
+fn zeros(alloc: Global, kinds: &[Kind]) -> Result<Vec<Word>, AllocError>
+    ensures { IfOk result (λ words. words.items ≡ map zero_word kinds.now) }
+{
+    kinds.iter().map(|kind| zero_of(*kind)).collect(alloc)
+}
+
+/// What a make asks.
+fn make(
+    alloc: Global,
+    code: &Code,
+    frame: &Frame,
+    shape: u32,
+    at: usize,
+) -> Result<Option<Request>, AllocError>
+    requires { at + 1 ≡ length frame.now.stack }
+    ensures { IfOk result (λ o. (callers : Frames) → AsksFor (instr_next code.now frame.now callers (take at frame.now.stack) (drop at frame.now.stack) (Instr.Make shape)) o) }
+{
+    let shapes = code.shapes();
+    if shape as usize >= shapes.len() {
+        return Ok(None);
+    }
+    let kinds = shapes[shape as usize].kinds();
+    if kinds.len() > MAX_WORDS {
+        return Ok(None);
+    }
+    match frame.stack[at] {
+        Word::Int(size) => {
+            let words = zeros(alloc, kinds)?;
+            Ok(Some(Request::Make(size, Item::new(alloc, &words))))
+        }
+        Word::Bool(_) => Ok(None),
+        Word::Chan(_) => Ok(None),
+    }
+}
+
+/// What a send asks.
+fn send(alloc: Global, frame: &Frame, shape: u32, at: usize) -> Option<Request>
+    requires { at ≤ length frame.now.stack }
+    ensures { (code : CodeValue) → (callers : Frames) → AsksFor (instr_next code frame.now callers (take at frame.now.stack) (drop at frame.now.stack) (Instr.Send shape)) result }
+{
+    let _shape = shape;
+    match &frame.stack[at..] {
+        [Word::Chan(chan), item @ ..] => {
+            if item.len() > MAX_WORDS {
+                return None;
+            }
+            Some(Request::Send(*chan, Item::new(alloc, item)))
+        }
+        _ => None,
+    }
+}
+
+/// The channel on the top of the stack.
+fn channel(frame: &Frame, at: usize) -> Option<Option<u32>>
+    requires { at + 1 ≡ length frame.now.stack }
+    ensures { IsChannelOn (drop at frame.now.stack) result }
+{
+    match frame.stack[at] {
+        Word::Chan(chan) => Some(chan),
+        Word::Int(_) => None,
+        Word::Bool(_) => None,
+    }
+}
+
+/// What an instruction asks, whose operands begin at a place of the stack; none where it is a local step.
+fn ask(
+    alloc: Global,
+    code: &Code,
+    frame: &Frame,
+    callers: &Vec<Frame>,
+    i: Instr,
+    at: usize,
+) -> Result<Option<Request>, AllocError>
+    requires at { FitsAt i at (length frame.now.stack) }
+    requires below { at ≤ length frame.now.stack }
+    requires verified { IsVerified code.now }
+    ensures { IfOk result (λ o. AsksFor (instr_next code.now frame.now (reverse callers.now.items) (take at frame.now.stack) (drop at frame.now.stack) i) o) }
+{
+    match i {
+        Instr::Apply(op) => Ok(panic_of(frame, op, at)),
+        Instr::Call(function) => Ok(too_deep(code, callers.len(), function)),
+        Instr::Return => {
+            if at > 0 || callers.len() > 0 {
+                return Ok(None);
+            }
+            Ok(Some(Request::End))
+        }
+        Instr::Make(shape) => Ok(make(alloc, code, frame, shape, at)?),
+        Instr::Go(function) => {
+            if function as usize >= code.functions().len() {
+                return Ok(None);
+            }
+            let args = Vec::from_slice(alloc, &frame.stack[at..])?;
+            Ok(Some(Request::Go(function, args)))
+        }
+        Instr::Send(shape) => Ok(send(alloc, frame, shape, at)),
+        Instr::Receive(_) => Ok(channel(frame, at).map(Request::Receive)),
+        Instr::Close => Ok(channel(frame, at).map(Request::Close)),
+        Instr::Len => Ok(channel(frame, at).map(Request::Len)),
+        Instr::Cap => Ok(channel(frame, at).map(Request::Cap)),
+        Instr::Print(table) => {
+            let prints = code.prints();
+            if table as usize >= prints.len() {
+                return Ok(None);
+            }
+            let text = print(alloc, &prints[table as usize], &frame.stack[at..])?;
+            Ok(Some(Request::Print(text)))
+        }
+        Instr::Select(table) => Ok(select(alloc, code, frame, table, at)?),
+        Instr::Int(_)
+        | Instr::Bool(_)
+        | Instr::Nil(_)
+        | Instr::Load(_, _)
+        | Instr::Store(_, _)
+        | Instr::Pick(_, _, _)
+        | Instr::Discard(_)
+        | Instr::Tick
+        | Instr::Jump(_)
+        | Instr::Unless(_)
+        | Instr::Loop(_) => Ok(None),
+    }
+}
+
+/// The panic that an operator meets.
+fn panic_of(frame: &Frame, op: Op, at: usize) -> Option<Request>
+    requires { at + count (operands op) ≡ length frame.now.stack }
+    ensures { (code : CodeValue) → (callers : Frames) → AsksFor (instr_next code frame.now callers (take at frame.now.stack) (drop at frame.now.stack) (Instr.Apply op)) result }
+{
+    let last = frame.stack.len() - 1;
+    match checked_apply(op, frame.stack[at], frame.stack[last]) {
+        Some(Err(cause)) => Some(Request::Panic(cause)),
+        Some(Ok(_)) => None,
+        None => None,
+    }
+}
+
+/// The panic of a call where so many functions wait for the running one.
+fn too_deep(code: &Code, depth: usize, function: u32) -> Option<Request>
+    ensures { (c : FrameValue) → (callers : Frames) → (low top : List WordValue) → length callers ≡ depth → AsksFor (instr_next code.now c callers low top (Instr.Call function)) result }
+{
+    if function as usize >= code.functions().len() {
+        return None;
+    }
+    if depth >= MAX_DEPTH - 1 {
+        return Some(Request::Panic(Panic::CallDepth));
+    }
+    None
+}
+
+/// Whether an instruction of verified code asks, whose operands begin at a place of the stack; at the limit also whether it
+/// ticks.
+fn asks(at_limit: bool, frame: &Frame, callers: &Vec<Frame>, i: Instr, at: usize) -> bool
+    requires at { FitsAt i at (length frame.now.stack) }
+    requires below { at ≤ length frame.now.stack }
+    ensures { (code : CodeValue) → (instr_next code frame.now (reverse callers.now.items) (take at frame.now.stack) (drop at frame.now.stack) i ≡ Stuck → ⊥) → result ≡ stops at_limit (instr_next code frame.now (reverse callers.now.items) (take at frame.now.stack) (drop at frame.now.stack) i) }
+{
+    match i {
+        Instr::Apply(op) => panic_of(frame, op, at).is_some(),
+        Instr::Call(_) => at_limit || callers.len() + 1 >= MAX_DEPTH,
+        Instr::Return => callers.len() == 0,
+        Instr::Tick => at_limit,
+        Instr::Loop(_) => at_limit,
+        Instr::Make(_)
+        | Instr::Go(_)
+        | Instr::Send(_)
+        | Instr::Receive(_)
+        | Instr::Close
+        | Instr::Len
+        | Instr::Cap
+        | Instr::Print(_)
+        | Instr::Select(_) => true,
+        Instr::Int(_)
+        | Instr::Bool(_)
+        | Instr::Nil(_)
+        | Instr::Load(_, _)
+        | Instr::Store(_, _)
+        | Instr::Pick(_, _, _)
+        | Instr::Discard(_)
+        | Instr::Jump(_)
+        | Instr::Unless(_) => false,
+    }
+}
+
+/// What frames ask that were told nothing; none where they make a local step.
+pub(crate) fn request(
+    alloc: Global,
+    code: &Code,
+    frame: &Frame,
+    callers: &Vec<Frame>,
+) -> Result<Option<Request>, AllocError>
+    requires { IsVerified code.now }
+    ensures { IfOk result (λ o. AsksFor (code_next code.now (frames_of frame.now callers.now.items)) o) }
+{
+    let have = frame.stack.len();
+    match fetch(code, frame) {
+        None => Ok(None),
+        Some((i, wanted)) => {
+            if have < wanted {
+                return Ok(None);
+            }
+            Ok(ask(alloc, code, frame, callers, i, have - wanted)?)
+        }
+    }
+}
+
+/// Whether frames of verified code ask that were told nothing; at the limit also whether they tick.
+pub(crate) fn is_asking(at_limit: bool, code: &Code, frame: &Frame, callers: &Vec<Frame>) -> bool
+    requires verified { IsVerified code.now }
+    requires sound { code_next code.now (frames_of frame.now callers.now.items) ≡ Stuck → ⊥ }
+    ensures { result ≡ stops at_limit (code_next code.now (frames_of frame.now callers.now.items)) }
+{
+    let have = frame.stack.len();
+    match fetch(code, frame) {
+        None => false,
+        Some((i, wanted)) => {
+            if have < wanted {
+                return false;
+            }
+            asks(at_limit, frame, callers, i, have - wanted)
+        }
+    }
+}
