@@ -253,6 +253,24 @@ fn sizes(rt: HostRuntime) -> Result<(), Fail> {
     Ok(())
 }
 
+/// A text of structs, functions, channels and goroutines.
+const STRUCTS: &str =
+    "package main; type T struct { a int; c chan<- int }; func main() { q := make(chan T); go s(q); r := make(chan int); q <- T{20, r}; x := <-r; println(x) }; func s(q <-chan T) { m := <-q; y := m.a + 1; m.c <- y }";
+
+#[test]
+fn beginnings_of_a_text_are_refused(rt: HostRuntime) -> Result<(), Fail> {
+    let alloc = rt.alloc();
+    let text = STRUCTS.as_bytes();
+    for length in 0..text.len() {
+        let bytes = Vec::from_slice(alloc, &text[..length])?;
+        match read(alloc, bytes) {
+            Err(Fault::Syntax(_) | Fault::NotYet(_) | Fault::Typing { .. }) => (),
+            _ => panic!(rt; "{length} bytes"),
+        }
+    }
+    Ok(())
+}
+
 /// Takes one byte a call, and fails at its n-th call and from then on.
 #[derive(Drop)]
 struct Slow {
