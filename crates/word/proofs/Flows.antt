@@ -1,20 +1,19 @@
 -- Each channel delivers once and in order.
-use Rattle.std.proofs.Common.{◌≡◌, ℕ, zero, suc, ◌+◌, ◌-◌, ◌<◌, ◌≤◌, ◌≢◌, ℤ, pos, negsuc, Bool, true, false, ◌&&◌, ◌||◌, not, cond, List, [], ◌∷◌, ◌++◌, map, length, Option, Some, None, refl, sym, ap, ◌∙◌, subst, arith, inl, inr, ◌⊎◌, append_assoc, append-nil, get_or, set, get_or-set_same, get_or-set_other, length-set}
-use Rattle.std.specs.Prelude.{◌==◌, nat_lt, ◌^◌, unwrap_or, slice_index_or, slice_set}
+use Rattle.std.proofs.Common.{◌≡◌, ℕ, zero, suc, ◌+◌, ◌-◌, ◌<◌, ◌≤◌, ℤ, pos, negsuc, Bool, true, false, ◌&&◌, ◌||◌, cond, List, [], ◌∷◌, ◌++◌, map, length, Option, Some, None, refl, sym, ap, ◌∙◌, subst, arith, inl, inr, ◌⊎◌, append_assoc, append-nil, get_or, set, get_or-set_same, get_or-set_other, length-set}
+use Rattle.std.specs.Prelude.{◌==◌, nat_lt, unwrap_or, slice_set}
 use Rattle.std.specs.Option.{is_some}
-use Rattle.std.proofs.lemmas.Bool.{and_parts, eqb-true, eq-eqb, ne_eqb, true≢false, cases_eq, cases_lt}
+use Rattle.std.proofs.lemmas.Bool.{eqb-true, eq-eqb, ne_eqb, true≢false, cases_eq, cases_lt}
 use Rattle.std.proofs.lemmas.Bool.Decides.{nat_tests}
 use Rattle.std.proofs.lemmas.Option.{same_Some}
 use Rattle.std.proofs.lemmas.List.{get_or_past, get_or_append_left, get_or-append_right}
-use Rattle.word.specs.Values.{Word, Int, Chan, Item, Case, Request, Make, Go, Send, Receive, Close, Select, Len, Cap, Print, End, Exit, Panic, Exhausted, Reply, Nothing, Value, Received, Clause, Default, Closed, Outcome, Ending, Finished, Panicked, RanOut, Done, Sleeps, Panics, Event, Sleeper, Offer, Channel, Shared, ChannelSize, CloseOfClosed, CloseOfNil, SendOnClosed, TooManyChannels, TooManyGoroutines}
-use Rattle.word.specs.Requests.{Fate, GoesOn, happened, Deed, no_channel, channel_of, with_offer, clause_offers, offers, first_offer, or_else, partner, without, without_all, sent, got, done, sleeps, ends, panics, with_channel, send_to, do_send, receive_from, do_receive, send_ready, receive_ready, is_ready, choose, do_clause, do_select, do_make, do_go, do_close, close_reply, partners, act, asked, meant, perform}
-use Rattle.logical_clock.specs.declared.key.Key.{Key}
-use Rattle.turn_rule.specs.Turns.{World, Rules, next, move_on, move_at, move_next, perform as perform_in, one, run}
-use Rattle.word.specs.Kinds.{Kind, Clocked, at, asks}
-use Rattle.word.specs.Worlds.{Rest, rules, performs, opening, moment}
+use Rattle.word.specs.Values.{Word, Int, Chan, Item, Case, Request, Make, Go, Send, Receive, Close, Select, Len, Cap, Print, End, Exit, Panic, Exhausted, Reply, Nothing, Value, Clause, Default, Outcome, Ending, Finished, Panicked, RanOut, Done, Sleeps, Panics, Event, Sleeper, Offer, Channel, Shared, ChannelSize, CloseOfClosed, CloseOfNil, SendOnClosed, TooManyChannels, TooManyGoroutines}
+use Rattle.word.specs.Requests.{GoesOn, happened, no_channel, channel_of, with_offer, clause_offers, offers, first_offer, or_else, partner, without, without_all, sent, got, done, sleeps, ends, panics, with_channel, send_to, do_send, receive_from, do_receive, send_ready, receive_ready, is_ready, choose, do_clause, do_select, do_make, do_go, do_close, close_reply, partners, act}
+use Rattle.word.specs.Kinds.{Kind}
+use Rattle.word.specs.Worlds.{opening, moment}
 use Rattle.word.specs.Flow.{clause_deal, Deal, Gives, Takes, NoDeal, reply_deal, case_deal, deal, latest, is_sleeps, dozed, slept, item_of, offered, enters, leaves, accepted_after, accepted, received, InOrder}
 use Rattle.word.proofs.Found.{In}
-use Rattle.word.proofs.Fair.{Partner, partner_is, in_without, in_without_all, in_back}
+use Rattle.word.proofs.Kept.{moment_keeps}
+use Rattle.word.proofs.Fair.{partner_is, in_without, in_without_all, in_back}
 
 and_false : (b : Bool) → (b && false) ≡ false
 and_false true = refl
@@ -382,47 +381,12 @@ sound_act w n c Exit sw = sound_ends w n c Exit sw (Done Nothing) Finished refl 
 sound_act w n c (Panic p) sw = sound_ends w n c (Panic p) sw (Panics p 0) (Panicked p) refl refl
 sound_act w n c Exhausted sw = sound_ends w n c Exhausted sw (Done Nothing) RanOut refl refl
 
-module _ (K : Kind) (limit : ℕ) where
-  SoundIn : World (Clocked K.State) (Rest K.State) → Type 0
-  SoundIn w = IsSound w.shared.shared
+empty_items : (k : ℕ) → (channel_of (no_channel ∷ []) k).items ≡ []
+empty_items zero = refl
+empty_items (suc k) = refl
 
-  performs_sound : (w : Rest K.State) (n : ℕ) (s : Clocked K.State) (o : Option Request) → IsSound w.shared → IsSound (performs K limit w n s o).shared.shared
-  performs_sound w n s None h = h
-  performs_sound w n s (Some q) h = sound_act w.shared n s.clock (meant w.shared n q) h
+pub opening_sound : (K : Kind) → IsSound (opening K).shared.shared
+opening_sound K = record { asleep = λ x i. elim i [ ]; calm = λ k x f i t. elim i [ ]; order = λ k. sym (empty_items k) }
 
-  on_by : (w : World (Clocked K.State) (Rest K.State)) (n : ℕ) (s : Clocked K.State) (b : Bool) → SoundIn w → SoundIn (cond b (perform_in (rules K limit) w n s) w)
-  unfolding SoundIn
-  on_by w n s true h = performs_sound w.shared n s (asks K limit s) h
-  on_by w n s false h = h
-
-  at_by : (w : World (Clocked K.State) (Rest K.State)) (n : ℕ) (s : Clocked K.State) (o : Option (Clocked K.State)) → SoundIn w → SoundIn (move_on (rules K limit) w n s o)
-  unfolding SoundIn
-  at_by w n s (Some t) h = h
-  at_by w n s None h = on_by w n s ((rules K limit).asks s) h
-
-  move_by : (w : World (Clocked K.State) (Rest K.State)) (n : ℕ) (o : Option (Clocked K.State)) → SoundIn w → SoundIn (move_at (rules K limit) w n o)
-  move_by w n None h = h
-  move_by w n (Some s) h = at_by w n s ((rules K limit).local s) h
-
-  next_by : (w : World (Clocked K.State) (Rest K.State)) (o : Option Key) → SoundIn w → SoundIn (move_next (rules K limit) w o)
-  next_by w None h = h
-  next_by w (Some k) h = move_by w k.number (get_or w.awake k.number None) h
-
-  one_by : (w : World (Clocked K.State) (Rest K.State)) (b : Bool) → SoundIn w → SoundIn (cond b w (move_next (rules K limit) w (next (rules K limit) w.awake)))
-  one_by w true h = h
-  one_by w false h = next_by w (next (rules K limit) w.awake) h
-
-  run_sound : (n : ℕ) (w : World (Clocked K.State) (Rest K.State)) → SoundIn w → SoundIn (run (rules K limit) n w)
-  run_sound zero w h = h
-  run_sound (suc n) w h = run_sound n (one (rules K limit) w) (one_by w ((rules K limit).is_over w.shared) h)
-
-  empty_items : (k : ℕ) → (channel_of (no_channel ∷ []) k).items ≡ []
-  empty_items zero = refl
-  empty_items (suc k) = refl
-
-  pub opening_sound : IsSound (opening K).shared.shared
-  opening_sound = record { asleep = λ x i. elim i [ ]; calm = λ k x f i t. elim i [ ]; order = λ k. sym (empty_items k) }
-
-  pub in_order : (n : ℕ) → InOrder (moment K limit n).shared.shared
-  unfolding SoundIn
-  in_order n = (run_sound n (opening K) opening_sound).order
+pub in_order : (K : Kind) (limit n : ℕ) → InOrder (moment K limit n).shared.shared
+in_order K limit n = (moment_keeps IsSound sound_act K limit (opening_sound K) n).order

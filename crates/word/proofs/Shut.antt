@@ -1,22 +1,20 @@
 -- Nothing is accepted after a close.
-use Rattle.std.proofs.Common.{◌≡◌, ℕ, zero, suc, ◌+◌, ◌-◌, ◌<◌, ◌≤◌, ◌≢◌, ℤ, pos, negsuc, Bool, true, false, ◌&&◌, ◌||◌, not, cond, List, [], ◌∷◌, ◌++◌, map, length, Option, Some, None, refl, sym, ap, ◌∙◌, subst, arith, inl, inr, ◌⊎◌, append_assoc, get_or, set, get_or-set_same, get_or-set_other, length-set, length-append}
+use Rattle.std.proofs.Common.{◌≡◌, ℕ, zero, suc, ◌+◌, ◌-◌, ◌<◌, ◌≢◌, ℤ, pos, negsuc, Bool, true, false, ◌&&◌, ◌||◌, not, cond, List, [], ◌∷◌, ◌++◌, map, length, Option, Some, None, refl, sym, ap, ◌∙◌, subst, arith, inl, inr, ◌⊎◌, append_assoc, get_or-set_same, get_or-set_other, length-set, length-append}
 use Rattle.std.specs.Prelude.{◌==◌, nat_le, nat_lt, slice_index_or, slice_set, unwrap_or}
 use Rattle.std.specs.Option.{is_some}
-use Rattle.std.proofs.lemmas.Bool.{and_parts, eqb-true, eq-eqb, ne_eqb, true≢false, cases_eq, cases_lt}
+use Rattle.std.proofs.lemmas.Bool.{and_parts, eqb-true, ne_eqb, true≢false, cases_eq, cases_lt}
 use Rattle.std.proofs.lemmas.Bool.Decides.{nat_tests}
-use Rattle.std.proofs.lemmas.Option.{same_Some}
 use Rattle.std.proofs.lemmas.List.{get_or_past, get_or_append_left, get_or-append_right, set_past, append-nil}
-use Rattle.word.specs.Values.{Cause, Word, Int, Chan, Item, Case, Request, Make, Go, Send, Receive, Close, Select, Len, Cap, Print, End, Exit, Panic, Exhausted, Reply, Nothing, Value, Received, Clause, Default, Closed, Outcome, Ending, Finished, Panicked, RanOut, Done, Sleeps, Panics, Event, Sleeper, Offer, Channel, Shared, ChannelSize, CloseOfClosed, CloseOfNil, SendOnClosed, TooManyChannels, TooManyGoroutines}
-use Rattle.word.specs.Requests.{GoesOn, happened, Deed, no_channel, channel_of, with_offer, clause_offers, offers, first_offer, first_on, also, or_else, partner, without, without_all, sent, got, done, sleeps, ends, panics, with_channel, send_to, do_send, receive_from, do_receive, send_ready, receive_ready, is_ready, choose, do_clause, do_select, do_make, do_go, do_close, close_reply, partners, act, asked, meant, perform}
-use Rattle.logical_clock.specs.declared.key.Key.{Key}
-use Rattle.turn_rule.specs.Turns.{World, next, move_on, move_at, move_next, perform as perform_in, one, run}
-use Rattle.word.specs.Kinds.{Kind, Clocked, asks}
-use Rattle.word.specs.Worlds.{Rest, rules, performs, opening, moment}
-use Rattle.word.specs.Flow.{clause_deal, Deal, Gives, Takes, NoDeal, reply_deal, case_deal, deal, slept, offered, enters}
+use Rattle.word.specs.Values.{Cause, Int, Chan, Item, Case, Request, Make, Go, Send, Receive, Close, Select, Len, Cap, Print, End, Exit, Panic, Exhausted, Reply, Nothing, Value, Clause, Default, Outcome, Ending, Finished, Panicked, RanOut, Done, Sleeps, Panics, Event, Sleeper, Offer, Channel, Shared, ChannelSize, CloseOfClosed, CloseOfNil, SendOnClosed, TooManyChannels, TooManyGoroutines}
+use Rattle.word.specs.Requests.{GoesOn, happened, no_channel, channel_of, with_offer, clause_offers, offers, first_offer, first_on, also, partner, without, without_all, sent, got, done, sleeps, ends, panics, with_channel, send_to, do_send, receive_from, do_receive, send_ready, receive_ready, is_ready, choose, do_clause, do_select, do_make, do_close, close_reply, partners, act}
+use Rattle.word.specs.Kinds.{Kind}
+use Rattle.word.specs.Worlds.{opening, moment}
+use Rattle.word.specs.Flow.{clause_deal, Gives, Takes, NoDeal, reply_deal, deal, slept, offered, enters}
 use Rattle.word.specs.Closing.{is_done, is_make, is_close, makes, made_in, closes, closed_after, is_closed_in, ShutAfter, IsShut}
 use Rattle.word.proofs.Found.{In}
-use Rattle.word.proofs.Fair.{IsApart, Partner, partner_is, in_without, in_without_all, in_back, without_gone}
-use Rattle.word.proofs.Flows.{Chosen, chosen, partner_first}
+use Rattle.word.proofs.Fair.{IsApart, partner_is, in_without, in_without_all, in_back, without_gone}
+use Rattle.word.proofs.Flows.{chosen, partner_first}
+use Rattle.word.proofs.Kept.{moment_keeps}
 
 -- ---- lists of events
 
@@ -368,47 +366,8 @@ tight_act w n c Exhausted tw = tight_ends w n c Exhausted tw (Done Nothing) RanO
 
 -- ---- the run
 
-module _ (K : Kind) (limit : ℕ) where
-  TightIn : World (Clocked K.State) (Rest K.State) → Type 0
-  TightIn w = IsTight w.shared.shared
+pub opening_tight : (K : Kind) → IsTight (opening K).shared.shared
+opening_tight K = record { count = refl; shut = λ c h. absurd (true≢false (sym h)); calm = λ c x h i. elim i [ ]; law = λ c. tt }
 
-  performs_tight : (w : Rest K.State) (n : ℕ) (s : Clocked K.State) (o : Option Request) → IsTight w.shared → IsTight (performs K limit w n s o).shared.shared
-  performs_tight w n s None h = h
-  performs_tight w n s (Some q) h = tight_act w.shared n s.clock (meant w.shared n q) h
-
-  on_by : (w : World (Clocked K.State) (Rest K.State)) (n : ℕ) (s : Clocked K.State) (b : Bool) → TightIn w → TightIn (cond b (perform_in (rules K limit) w n s) w)
-  unfolding TightIn
-  on_by w n s true h = performs_tight w.shared n s (asks K limit s) h
-  on_by w n s false h = h
-
-  at_by : (w : World (Clocked K.State) (Rest K.State)) (n : ℕ) (s : Clocked K.State) (o : Option (Clocked K.State)) → TightIn w → TightIn (move_on (rules K limit) w n s o)
-  unfolding TightIn
-  at_by w n s (Some t) h = h
-  at_by w n s None h = on_by w n s ((rules K limit).asks s) h
-
-  move_by : (w : World (Clocked K.State) (Rest K.State)) (n : ℕ) (o : Option (Clocked K.State)) → TightIn w → TightIn (move_at (rules K limit) w n o)
-  move_by w n None h = h
-  move_by w n (Some s) h = at_by w n s ((rules K limit).local s) h
-
-  next_by : (w : World (Clocked K.State) (Rest K.State)) (o : Option Key) → TightIn w → TightIn (move_next (rules K limit) w o)
-  next_by w None h = h
-  next_by w (Some k) h = move_by w k.number (get_or w.awake k.number None) h
-
-  one_by : (w : World (Clocked K.State) (Rest K.State)) (b : Bool) → TightIn w → TightIn (cond b w (move_next (rules K limit) w (next (rules K limit) w.awake)))
-  one_by w true h = h
-  one_by w false h = next_by w (next (rules K limit) w.awake) h
-
-  run_tight : (n : ℕ) (w : World (Clocked K.State) (Rest K.State)) → TightIn w → TightIn (run (rules K limit) n w)
-  run_tight zero w h = h
-  run_tight (suc n) w h = run_tight n (one (rules K limit) w) (one_by w ((rules K limit).is_over w.shared) h)
-
-  never_closed : (c : ℕ) → (channel_of (no_channel ∷ []) c).closed ≡ false
-  never_closed zero = refl
-  never_closed (suc c) = refl
-
-  pub opening_tight : IsTight (opening K).shared.shared
-  opening_tight = record { count = refl; shut = λ c h. absurd (true≢false (sym h)); calm = λ c x h i. elim i [ ]; law = λ c. tt }
-
-  pub shut : (n : ℕ) → IsShut (moment K limit n).shared.shared
-  unfolding TightIn
-  shut n = (run_tight n (opening K) opening_tight).law
+pub shut : (K : Kind) (limit n : ℕ) → IsShut (moment K limit n).shared.shared
+shut K limit n = (moment_keeps IsTight tight_act K limit (opening_tight K) n).law

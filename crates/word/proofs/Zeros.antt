@@ -1,21 +1,20 @@
 -- Zero with false is given only in or after a close, where all that was accepted was received.
-use Rattle.std.proofs.Common.{◌≡◌, ℕ, zero, suc, ◌+◌, ◌<◌, ℤ, pos, negsuc, Bool, true, false, ◌&&◌, ◌||◌, not, cond, List, [], ◌∷◌, ◌++◌, map, length, Option, Some, None, refl, sym, ap, ◌∙◌, subst, arith, inl, inr, ◌⊎◌, append_assoc, get_or, get_or-set_same, get_or-set_other}
+use Rattle.std.proofs.Common.{◌≡◌, ℕ, zero, suc, ◌+◌, ◌<◌, ℤ, pos, negsuc, Bool, true, false, ◌&&◌, ◌||◌, not, cond, List, [], ◌∷◌, ◌++◌, map, length, Option, Some, None, refl, sym, ap, ◌∙◌, subst, arith, inl, inr, ◌⊎◌, append_assoc, get_or-set_same, get_or-set_other}
 use Rattle.std.specs.Prelude.{◌==◌, nat_le, nat_lt, slice_set, unwrap_or}
 use Rattle.std.specs.Option.{is_some}
 use Rattle.std.proofs.lemmas.Bool.{and_parts, eqb-true, eq-eqb, true≢false, cases_eq, cases_lt}
 use Rattle.std.proofs.lemmas.Bool.Decides.{nat_tests}
 use Rattle.std.proofs.lemmas.List.{append-nil, set_past}
-use Rattle.logical_clock.specs.declared.key.Key.{Key}
-use Rattle.turn_rule.specs.Turns.{World, next, move_on, move_at, move_next, perform as perform_in, one, run}
-use Rattle.word.specs.Kinds.{Kind, Clocked, asks}
+use Rattle.word.specs.Kinds.{Kind}
 use Rattle.word.specs.Values.{Cause, Int, Chan, Item, Case, Request, Make, Go, Send, Receive, Close, Select, Len, Cap, Print, End, Exit, Panic, Exhausted, Reply, Nothing, Value, Clause, Default, Outcome, Done, Sleeps, Panics, Event, Sleeper, Offer, Channel, Shared, ChannelSize, CloseOfClosed, CloseOfNil, SendOnClosed, TooManyChannels, TooManyGoroutines}
-use Rattle.word.specs.Requests.{GoesOn, happened, no_channel, channel_of, offers, first_offer, first_on, also, partner, sent, got, done, sleeps, panics, with_channel, send_to, do_send, receive_from, do_receive, send_ready, receive_ready, is_ready, choose, do_clause, do_select, do_make, do_close, close_reply, partners, act, meant}
-use Rattle.word.specs.Worlds.{Rest, rules, performs, opening, moment}
+use Rattle.word.specs.Requests.{GoesOn, happened, no_channel, channel_of, offers, first_offer, first_on, also, partner, sent, got, done, sleeps, panics, with_channel, send_to, do_send, receive_from, do_receive, send_ready, receive_ready, is_ready, choose, do_clause, do_select, do_make, do_close, close_reply, partners, act}
+use Rattle.word.specs.Worlds.{moment}
 use Rattle.word.specs.Flow.{clause_deal, Deal, Gives, Takes, NoDeal, reply_deal, slept, accepted, received}
 use Rattle.word.specs.Closing.{is_close, made_in, closes, closed_after, is_closed_in}
 use Rattle.word.specs.Zeros.{ZeroAfter, IsZeroLast, any_receives, gives_zero, is_receive, is_zero, receives}
 use Rattle.word.proofs.Found.{In}
 use Rattle.word.proofs.Flows.{IsSound, chosen, opening_sound, sound_act}
+use Rattle.word.proofs.Kept.{moment_keeps}
 use Rattle.word.proofs.Shut.{IsTight, closed_kept, closed_snoc, made_open, opening_tight, or_cases, or_false, tight_act}
 
 -- ---- lists of events
@@ -261,44 +260,9 @@ late_act w n c q l = late_by w (act w n c q q).shared l (sound_act w n c q l.sou
 
 -- ---- the run
 
-module _ (K : Kind) (limit : ℕ) where
-  LateIn : World (Clocked K.State) (Rest K.State) → Type 0
-  LateIn w = Late w.shared.shared
+none_closed : (c : ℕ) → (channel_of (no_channel ∷ []) c).closed ≡ false
+none_closed zero = refl
+none_closed (suc c) = refl
 
-  performs_late : (w : Rest K.State) (n : ℕ) (s : Clocked K.State) (o : Option Request) → Late w.shared → Late (performs K limit w n s o).shared.shared
-  performs_late w n s None h = h
-  performs_late w n s (Some q) h = late_act w.shared n s.clock (meant w.shared n q) h
-
-  on_by : (w : World (Clocked K.State) (Rest K.State)) (n : ℕ) (s : Clocked K.State) (b : Bool) → LateIn w → LateIn (cond b (perform_in (rules K limit) w n s) w)
-  unfolding LateIn
-  on_by w n s true h = performs_late w.shared n s (asks K limit s) h
-  on_by w n s false h = h
-
-  at_by : (w : World (Clocked K.State) (Rest K.State)) (n : ℕ) (s : Clocked K.State) (o : Option (Clocked K.State)) → LateIn w → LateIn (move_on (rules K limit) w n s o)
-  unfolding LateIn
-  at_by w n s (Some t) h = h
-  at_by w n s None h = on_by w n s ((rules K limit).asks s) h
-
-  move_by : (w : World (Clocked K.State) (Rest K.State)) (n : ℕ) (o : Option (Clocked K.State)) → LateIn w → LateIn (move_at (rules K limit) w n o)
-  move_by w n None h = h
-  move_by w n (Some s) h = at_by w n s ((rules K limit).local s) h
-
-  next_by : (w : World (Clocked K.State) (Rest K.State)) (o : Option Key) → LateIn w → LateIn (move_next (rules K limit) w o)
-  next_by w None h = h
-  next_by w (Some k) h = move_by w k.number (get_or w.awake k.number None) h
-
-  one_by : (w : World (Clocked K.State) (Rest K.State)) (b : Bool) → LateIn w → LateIn (cond b w (move_next (rules K limit) w (next (rules K limit) w.awake)))
-  one_by w true h = h
-  one_by w false h = next_by w (next (rules K limit) w.awake) h
-
-  run_late : (n : ℕ) (w : World (Clocked K.State) (Rest K.State)) → LateIn w → LateIn (run (rules K limit) n w)
-  run_late zero w h = h
-  run_late (suc n) w h = run_late n (one (rules K limit) w) (one_by w ((rules K limit).is_over w.shared) h)
-
-  none_closed : (c : ℕ) → (channel_of (no_channel ∷ []) c).closed ≡ false
-  none_closed zero = refl
-  none_closed (suc c) = refl
-
-  pub zero_last : (n : ℕ) → IsZeroLast (moment K limit n).shared.shared
-  unfolding LateIn
-  zero_last n = (run_late n (opening K) (record { sound = opening_sound K limit; tight = opening_tight K limit; known = λ c h. absurd (true≢false (sym h ∙ none_closed c)); law = λ c. tt })).law
+pub zero_last : (K : Kind) (limit n : ℕ) → IsZeroLast (moment K limit n).shared.shared
+zero_last K limit n = (moment_keeps Late late_act K limit (record { sound = opening_sound K; tight = opening_tight K; known = λ c h. absurd (true≢false (sym h ∙ none_closed c)); law = λ c. tt }) n).law

@@ -331,29 +331,21 @@ impl Core {
         ensures fits { IfOk result (λ _. FitsCore code.now limit self.new) }
         ensures memory { OnErr result (self.new ≡ self.old) }
     {
+        let mut partners = Vec::new(alloc);
         if self.live == MOST_ALIVE {
             self.stop(number, End::Panicked(Panic::TooManyGoroutines));
-            return Ok(Event {
-                clock,
-                number,
-                request: Request::Go(function, args),
-                outcome: Outcome::Panics(Panic::TooManyGoroutines, 0),
-                partners: Vec::new(alloc),
-            });
+            let outcome = Outcome::Panics(Panic::TooManyGoroutines, 0);
+            let request = Request::Go(function, args);
+            return Ok(event(clock, number, request, outcome, partners));
         }
-        let mut partners = Vec::new(alloc);
         partners.push(self.rows.len() as u64)?;
         let later = next_time(clock, limit);
         let state = spawn_state(alloc, code, function as usize, args.as_slice(), later)?;
         self.add(state)?;
         self.go_on(code, number, Reply::Nothing, later);
-        Ok(Event {
-            clock,
-            number,
-            request: Request::Go(function, args),
-            outcome: Outcome::Done(Reply::Nothing),
-            partners,
-        })
+        let outcome = Outcome::Done(Reply::Nothing);
+        let request = Request::Go(function, args);
+        Ok(event(clock, number, request, outcome, partners))
     }
 
     /// A request to channels.

@@ -1,4 +1,4 @@
-use Rattle.std.proofs.Common.{◌≡◌, ◌≢◌, ◌<◌, ◌++◌, [], ◌∷◌, length, refl, ap, arith, ◌∙◌}
+use Rattle.std.proofs.Common.{◌≡◌, ◌≢◌, ◌<◌, ◌++◌, [], ◌∷◌, length, refl, sym, ap, subst, arith, ◌∙◌}
 use Rattle.bytecode.specs.Machine.{code_begin}
 use Rattle.word.specs.Kinds.{at}
 use Rattle.word.specs.declared.request.Event.{Event as Recorded}
@@ -7,7 +7,7 @@ use Rattle.word.specs.declared.request.Reply.TheVariants as replies
 use Rattle.word.specs.declared.request.Request.TheVariants as requests
 use Rattle.word.specs.Values.{Done, Go, Nothing, Event}
 use Rattle.word.specs.Views.{event_of}
-use Rattle.world_core_base.specs.Cores.{CoreValue}
+use Rattle.world_core_base.specs.Cores.{CoreValue, Performs}
 use Rattle.world_core_base.proofs.Performing.{fits_by, performs_by}
 use Rattle.world_core_base.proofs.Shapes.{added_core, leaves_started, recorded}
 use Rattle.world_core_base.proofs.Starting.{starts_within, still_below}
@@ -35,7 +35,7 @@ returns-clause-performs c =
     let count : c.len.result ≡ length core.rows = omega (arith, rows, size, same) in
     let event : Recorded = record { clock = c.args.clock; number = n; request = requests.Go c.args.function c.args.args; outcome = came.Done replies.Nothing; partners = c.push.new.self } in
     let left = leaves_started code c.args.limit core n c.args.clock means asked c.args.function c.args.args.items later (event_of event) new refl room c.next_time-later.ensures below is (ap (λ ns. recorded c.args.clock n means (Done Nothing) ns) (c.in_ok-push.ensures.items ∙ ap (λ xs. xs ++ c.len.result ∷ []) c.new-partners.ensures.items ∙ ap (λ k. k ∷ []) count)) in
-    performs_by code c.args.limit core n c.args.clock means event [] new asked c.requires.fits left
+    subst (λ e. Performs code c.args.limit core n e [] new) (sym c.event-2.ensures) (performs_by code c.args.limit core n c.args.clock means event [] new asked c.requires.fits left)
 
 pub returns-clause-fits : goal.returns-clause-fits
 returns-clause-fits c =
