@@ -52,6 +52,7 @@ fn lists_operands(rt: HostRuntime) -> Result<(), Fail> {
         Instr::Tick,
         Instr::Unless(10),
         Instr::Close,
+        Instr::Select(1),
     ];
     let code = code(
         rt.alloc(),
@@ -60,7 +61,7 @@ fn lists_operands(rt: HostRuntime) -> Result<(), Fail> {
     )?;
     let text = listing(rt.alloc(), &code)?;
     let expected =
-        "func main params 0 locals 2 result 0\n     0 int -9223372036854775808\n     1 bool true\n     2 nil 2\n     3 load 1 2\n     4 store 0 3\n     5 pick 5 1 2\n     6 drop 4\n     7 apply andnot\n     8 tick\n     9 unless 10\n    10 close\n";
+        "func main params 0 locals 2 result 0\n     0 int -9223372036854775808\n     1 bool true\n     2 nil 2\n     3 load 1 2\n     4 store 0 3\n     5 pick 5 1 2\n     6 drop 4\n     7 apply andnot\n     8 tick\n     9 unless 10\n    10 close\n    11 select 1\n";
     assert!(rt; text.as_slice() == expected.as_bytes());
     Ok(())
 }

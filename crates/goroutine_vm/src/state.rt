@@ -148,7 +148,7 @@ impl GoState {
         ensures made { IfOk result (λ made. Bursts code.now limit left self.old made self.new) }
         ensures state { IsStateOf code.now limit self.new }
     {
-        let ran = self.run(code, limit, left);
+        let ran = self.run(alloc, code, limit, left);
         if ran == left {
             return Ok(Some(ran));
         }
@@ -158,8 +158,8 @@ impl GoState {
         Ok(Some(ran + 1))
     }
 
-    /// Local steps of the running function's own instructions, at most so many: how many there were.
-    fn run(&mut self, code: &Verified, limit: u64, left: u32) -> u32
+    /// Local steps, at most so many: how many there were. It may stop before any step.
+    fn run(&mut self, alloc: Global, code: &Verified, limit: u64, left: u32) -> u32
         requires { IsStateOf code.now limit self.old }
         ensures steps { steps code.now limit result self.old ≡ self.new }
         ensures most { result ≤ left }
@@ -169,7 +169,7 @@ impl GoState {
         if self.doomed || now >= limit {
             return 0;
         }
-        let (steps, ticks) = self.frames.run(code.code(), left, limit - now);
+        let (steps, ticks) = self.frames.run(alloc, code.code(), left, limit - now);
         self.clock = Clock::at(now + ticks);
         steps
     }

@@ -2,7 +2,7 @@ ghost use Rattle.std.specs.Prelude.{◌≤◌, ◌^◌, IfOk};
 ghost use Rattle.goroutine_vm.specs.Advance.{IsStateOf};
 
 use crate::{GoState, Stop, spawn_state};
-use bytecode::{Code, Function, Instr, Kind, Part, PrintTable, Shape};
+use bytecode::{Clause, Code, Function, Instr, Kind, Part, PrintTable, SelectTable, Shape};
 use go_text::{Fault, Memory};
 use logical_clock::{Clock, LAST};
 use std::alloc::{AllocError, Global};
@@ -29,7 +29,8 @@ fn function(
 }
 
 /// A `main` with two locals of kind int and these instructions; a second function that squares its parameter; a shape of
-/// an int; and the lines of an int and of a bool.
+/// an int; the lines of an int and of a bool; and a select that receives and goes on at 5, sends and goes on at 7, or else goes
+/// on at 9.
 fn program(alloc: Global, instrs: &[Instr]) -> Result<Verified, Fault> {
     let square = [
         Instr::Load(0, 1),
@@ -45,7 +46,13 @@ fn program(alloc: Global, instrs: &[Instr]) -> Result<Verified, Fault> {
     let mut prints = Vec::new(alloc);
     prints.push(PrintTable::new(Vec::from_array(alloc, [Part::Int])?, true))?;
     prints.push(PrintTable::new(Vec::from_array(alloc, [Part::Bool])?, true))?;
-    verify(alloc, Code::new(functions, shapes, prints))
+    let clauses = [Clause::Receive(0, 5), Clause::Send(0, 7)];
+    let table = SelectTable::new(Vec::from_slice(alloc, &clauses)?, Some(9));
+    let selects = Vec::from_array(alloc, [table])?;
+    verify(
+        alloc,
+        Code::new(functions, shapes, prints).with_selects(selects),
+    )
 }
 
 /// Goroutine 1 at its beginning.
@@ -88,10 +95,22 @@ fn printed(request: Option<Request>) -> Option<Vec<u8>> {
     }
 }
 
+/// Whether the first request of a `main` with these instructions prints this text, at this time.
+fn prints(alloc: Global, instrs: &[Instr], text: &str, time: u64) -> Result<bool, Fault> {
+    let (request, when) = first_request(alloc, instrs)?;
+    match printed(request) {
+        Some(bytes) => Ok(bytes.as_slice() == text.as_bytes() && when == time),
+        None => Ok(false),
+    }
+}
+
 #[test]
-fn values_are_printed(rt: HostRuntime) -> Result<(), Fail> {
+fn values_are_pushed(rt: HostRuntime) -> Result<(), Fail> {
+    let alloc = rt.alloc();
     let int = [Instr::Int(7), Instr::Print(0), Instr::Return];
+    assert!(rt; prints(alloc, &int, "7\n", 0)?);
     let truth = [Instr::Bool(true), Instr::Print(1), Instr::Return];
+    assert!(rt; prints(alloc, &truth, "true\n", 0)?);
     let nil = [
         Instr::Nil(0),
         Instr::Nil(0),
@@ -99,6 +118,13 @@ fn values_are_printed(rt: HostRuntime) -> Result<(), Fail> {
         Instr::Print(1),
         Instr::Return,
     ];
+    assert!(rt; prints(alloc, &nil, "true\n", 0)?);
+    Ok(())
+}
+
+#[test]
+fn words_are_moved(rt: HostRuntime) -> Result<(), Fail> {
+    let alloc = rt.alloc();
     let locals = [
         Instr::Int(5),
         Instr::Store(1, 1),
@@ -107,6 +133,7 @@ fn values_are_printed(rt: HostRuntime) -> Result<(), Fail> {
         Instr::Print(0),
         Instr::Return,
     ];
+    assert!(rt; prints(alloc, &locals, "-5\n", 0)?);
     let picked = [
         Instr::Int(1),
         Instr::Int(2),
@@ -115,6 +142,7 @@ fn values_are_printed(rt: HostRuntime) -> Result<(), Fail> {
         Instr::Print(0),
         Instr::Return,
     ];
+    assert!(rt; prints(alloc, &picked, "2\n", 0)?);
     let dropped = [
         Instr::Int(1),
         Instr::Int(2),
@@ -122,7 +150,15 @@ fn values_are_printed(rt: HostRuntime) -> Result<(), Fail> {
         Instr::Print(0),
         Instr::Return,
     ];
+    assert!(rt; prints(alloc, &dropped, "1\n", 0)?);
+    Ok(())
+}
+
+#[test]
+fn places_are_changed(rt: HostRuntime) -> Result<(), Fail> {
+    let alloc = rt.alloc();
     let ticked = [Instr::Tick, Instr::Int(8), Instr::Print(0), Instr::Return];
+    assert!(rt; prints(alloc, &ticked, "8\n", 1)?);
     let jumped = [
         Instr::Jump(2),
         Instr::Return,
@@ -130,6 +166,7 @@ fn values_are_printed(rt: HostRuntime) -> Result<(), Fail> {
         Instr::Print(0),
         Instr::Return,
     ];
+    assert!(rt; prints(alloc, &jumped, "4\n", 0)?);
     let branched = [
         Instr::Bool(false),
         Instr::Unless(4),
@@ -139,67 +176,108 @@ fn values_are_printed(rt: HostRuntime) -> Result<(), Fail> {
         Instr::Print(0),
         Instr::Return,
     ];
+    assert!(rt; prints(alloc, &branched, "2\n", 0)?);
     let called = [
         Instr::Int(-6),
         Instr::Call(1),
         Instr::Print(0),
         Instr::Return,
     ];
-    for (instrs, text, time) in [
-        (int.as_slice(), "7\n", 0),
-        (truth.as_slice(), "true\n", 0),
-        (nil.as_slice(), "true\n", 0),
-        (locals.as_slice(), "-5\n", 0),
-        (picked.as_slice(), "2\n", 0),
-        (dropped.as_slice(), "1\n", 0),
-        (ticked.as_slice(), "8\n", 1),
-        (jumped.as_slice(), "4\n", 0),
-        (branched.as_slice(), "2\n", 0),
-        (called.as_slice(), "36\n", 1),
-    ] {
-        let (request, when) = first_request(rt.alloc(), instrs)?;
-        let Some(bytes) = printed(request) else {
-            panic!(rt; "not printed: {text}");
-        };
-        assert!(rt;
-            bytes.as_slice() == text.as_bytes() && when == time,
-            "{text}"
-        );
-    }
+    assert!(rt; prints(alloc, &called, "36\n", 1)?);
     Ok(())
 }
 
+/// What a request is called, with its channel's number or `nil`.
+fn called(request: &Option<Request>) -> &'static str {
+    match request {
+        Some(Request::Make(3, _)) => "make 3",
+        Some(Request::Go(1, _)) => "go 1",
+        Some(Request::Send(None, _)) => "send nil",
+        Some(Request::Receive(None)) => "receive nil",
+        Some(Request::Close(None)) => "close nil",
+        Some(Request::Len(None)) => "len nil",
+        Some(Request::Cap(None)) => "cap nil",
+        Some(Request::Select(_, true)) => "select with default",
+        Some(Request::End) => "end",
+        _ => "another",
+    }
+}
+
+/// Whether the first request of a `main` with these instructions is called so, at this time.
+fn asks(alloc: Global, instrs: &[Instr], name: &str, time: u64) -> Result<bool, Fault> {
+    let (request, when) = first_request(alloc, instrs)?;
+    Ok(called(&request) == name && when == time)
+}
+
 #[test]
-fn requests_are_told(rt: HostRuntime) -> Result<(), Fail> {
+fn items_are_asked_for(rt: HostRuntime) -> Result<(), Fail> {
     let alloc = rt.alloc();
     let make = [Instr::Int(3), Instr::Make(0), Instr::Close, Instr::Return];
-    let (made, _) = first_request(alloc, &make)?;
-    assert!(rt; matches!(&made, Some(Request::Make(3, _))));
+    assert!(rt; asks(alloc, &make, "make 3", 0)?);
     let go = [Instr::Int(3), Instr::Tick, Instr::Go(1), Instr::Return];
-    let (started, time) = first_request(alloc, &go)?;
-    assert!(rt; matches!(&started, Some(Request::Go(1, _))) && time == 1);
+    assert!(rt; asks(alloc, &go, "go 1", 1)?);
     let send = [Instr::Nil(0), Instr::Int(3), Instr::Send(0), Instr::Return];
-    let (sent, _) = first_request(alloc, &send)?;
-    assert!(rt; matches!(&sent, Some(Request::Send(None, _))));
+    assert!(rt; asks(alloc, &send, "send nil", 0)?);
     let receive = [
         Instr::Nil(0),
         Instr::Receive(0),
         Instr::Discard(2),
         Instr::Return,
     ];
-    let (received, _) = first_request(alloc, &receive)?;
-    assert!(rt; matches!(&received, Some(Request::Receive(None))));
+    assert!(rt; asks(alloc, &receive, "receive nil", 0)?);
+    Ok(())
+}
+
+#[test]
+fn channels_are_asked_for(rt: HostRuntime) -> Result<(), Fail> {
+    let alloc = rt.alloc();
     let close = [Instr::Nil(0), Instr::Close, Instr::Return];
-    let (closed, _) = first_request(alloc, &close)?;
-    assert!(rt; matches!(&closed, Some(Request::Close(None))));
+    assert!(rt; asks(alloc, &close, "close nil", 0)?);
     let length = [Instr::Nil(0), Instr::Len, Instr::Discard(1), Instr::Return];
-    let (counted, _) = first_request(alloc, &length)?;
-    assert!(rt; matches!(&counted, Some(Request::Len(None))));
+    assert!(rt; asks(alloc, &length, "len nil", 0)?);
     let capacity = [Instr::Nil(0), Instr::Cap, Instr::Discard(1), Instr::Return];
-    let (asked, _) = first_request(alloc, &capacity)?;
-    assert!(rt; matches!(&asked, Some(Request::Cap(None))));
-    let (ended, _) = first_request(alloc, &[Instr::Return])?;
-    assert!(rt; matches!(&ended, Some(Request::End)));
+    assert!(rt; asks(alloc, &capacity, "cap nil", 0)?);
+    assert!(rt; asks(alloc, &SELECT, "select with default", 0)?);
+    assert!(rt; asks(alloc, &[Instr::Return], "end", 0)?);
+    Ok(())
+}
+
+/// A `main` that selects: where it received it prints the item; where it sent, 1; in its default, 2.
+const SELECT: [Instr; 12] = [
+    Instr::Nil(0),
+    Instr::Nil(0),
+    Instr::Int(4),
+    Instr::Select(0),
+    Instr::Return,
+    Instr::Discard(1),
+    Instr::Jump(10),
+    Instr::Int(1),
+    Instr::Jump(10),
+    Instr::Int(2),
+    Instr::Print(0),
+    Instr::Return,
+];
+
+/// What that `main` prints behind this reply.
+fn after_select(alloc: Global, reply: Reply) -> Result<Option<Vec<u8>>, Fault> {
+    let program = program(alloc, &SELECT)?;
+    let mut state = main_state(alloc, &program, LAST)?;
+    let first = request_of(alloc, &program, &mut state, LAST)?;
+    drop(first);
+    state.answer(&program, reply, Clock::START);
+    Ok(printed(request_of(alloc, &program, &mut state, LAST)?))
+}
+
+#[test]
+fn select_goes_where_its_clause_does(rt: HostRuntime) -> Result<(), Fail> {
+    let alloc = rt.alloc();
+    let item = Item::new(alloc, [Word::Int(9)].as_slice());
+    let received = after_select(alloc, Reply::Clause(1, Some((item, true))))?;
+    assert!(rt; received.ok_or("none")?.as_slice() == b"9\n".as_slice());
+    let sent = after_select(alloc, Reply::Clause(2, None))?;
+    assert!(rt; sent.ok_or("none")?.as_slice() == b"1\n".as_slice());
+    let idle = after_select(alloc, Reply::Default)?;
+    assert!(rt; idle.ok_or("none")?.as_slice() == b"2\n".as_slice());
     Ok(())
 }
 

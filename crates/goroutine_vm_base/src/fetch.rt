@@ -57,7 +57,7 @@ fn values_of(parts: &[Part]) -> usize
 }
 
 /// How many of the locals are parameters.
-fn params_of(code: &Code, function: u32) -> usize
+pub(crate) fn params_of(code: &Code, function: u32) -> usize
     ensures { result ≡ length (params_in (slice_get code.now.functions function)) }
 {
     match code.functions().get(function as usize) {

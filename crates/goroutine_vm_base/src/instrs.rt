@@ -135,7 +135,7 @@ pub(crate) fn choose(frame: &mut Frame, to: usize, at: usize) -> Step
 }
 
 /// Enters a function with the words from a place of the stack on, where a tick may be made; or asks to panic.
-fn call(
+pub(crate) fn call(
     alloc: Global,
     code: &Code,
     may: bool,
@@ -180,7 +180,7 @@ fn enter(frame: &mut Frame, callers: &mut Vec<Frame>, entered: Frame, at: usize)
 }
 
 /// Returns to the caller with the words on the stack; or asks to end.
-fn leave(frame: &mut Frame, callers: &mut Vec<Frame>, at: usize) -> Result<Step, AllocError>
+pub(crate) fn leave(frame: &mut Frame, callers: &mut Vec<Frame>, at: usize) -> Result<Step, AllocError>
     requires at { at ≤ length frame.old.stack }
     ensures ok { IfOk result (λ step. (may : Bool) → (code : CodeValue) → Does may (frames_of frame.old callers.old.items) (instr_next code frame.old (reverse callers.old.items) (take at frame.old.stack) (drop at frame.old.stack) Instr.Return) step (frames_of frame.new callers.new.items)) }
     ensures err { OnErr result (frames_of frame.new callers.new.items ≡ frames_of frame.old callers.old.items) }

@@ -1,5 +1,5 @@
 use crate::verify;
-use bytecode::{Code, Function, Instr, Kind, Part, PrintTable, Shape};
+use bytecode::{Clause, Code, Function, Instr, Kind, Part, PrintTable, SelectTable, Shape};
 use go_text::Fault;
 use std::alloc::{AllocError, Global};
 use std::test::Fail;
@@ -20,8 +20,30 @@ fn function(
     Ok(Function::new(name, params, locals, results, instrs))
 }
 
+/// The table of these clauses and this default.
+fn select(
+    alloc: Global,
+    clauses: &[Clause],
+    default: Option<u32>,
+) -> Result<SelectTable, AllocError> {
+    Ok(SelectTable::new(Vec::from_slice(alloc, clauses)?, default))
+}
+
+/// A select that receives and goes on at 6, or sends, or does its default, and goes on at 8; one that goes on at 0; one at 9;
+/// one of nothing; and one that receives, or does its default, and goes on at 2.
+fn selects(alloc: Global) -> Result<Vec<SelectTable>, AllocError> {
+    let mut selects = Vec::new(alloc);
+    let both = [Clause::Receive(0, 6), Clause::Send(0, 8)];
+    selects.push(select(alloc, &both, Some(8))?)?;
+    selects.push(select(alloc, &[], Some(0))?)?;
+    selects.push(select(alloc, &[], Some(9))?)?;
+    selects.push(select(alloc, &[], None)?)?;
+    selects.push(select(alloc, &[Clause::Receive(0, 2)], Some(2))?)?;
+    Ok(selects)
+}
+
 /// A `main` with one local of kind int and these instructions; a second function from an int to a bool; one shape of an
-/// int and a channel of that shape; and a print table of an int and a line of a bool.
+/// int and a channel of that shape; a print table of an int and a line of a bool; and the select tables above.
 fn code(alloc: Global, instrs: &[Instr]) -> Result<Code, AllocError> {
     let second = [
         Instr::Load(0, 1),
@@ -37,7 +59,7 @@ fn code(alloc: Global, instrs: &[Instr]) -> Result<Code, AllocError> {
     let mut prints = Vec::new(alloc);
     prints.push(PrintTable::new(Vec::from_array(alloc, [Part::Int])?, false))?;
     prints.push(PrintTable::new(Vec::from_array(alloc, [Part::Bool])?, true))?;
-    Ok(Code::new(functions, shapes, prints))
+    Ok(Code::new(functions, shapes, prints).with_selects(selects(alloc)?))
 }
 
 /// The rule, the function and the place that a code is refused with; none where it is accepted.
@@ -193,6 +215,83 @@ fn good_code_is_accepted(rt: HostRuntime) -> Result<(), Fail> {
         Instr::Print(1),
         Instr::Discard(1),
         Instr::Print(0),
+        Instr::Loop(0),
+    ];
+    let code = code(alloc, &instrs)?;
+    assert!(rt; verify(alloc, code).is_ok());
+    Ok(())
+}
+
+#[test]
+fn bad_selects_are_refused_at_their_place(rt: HostRuntime) -> Result<(), Fail> {
+    let alloc = rt.alloc();
+    let absent = [Instr::Select(5), Instr::Return];
+    let outside = [Instr::Select(2), Instr::Return];
+    let last = [Instr::Select(3)];
+    let back = [Instr::Tick, Instr::Select(1), Instr::Return];
+    let unfed = [
+        Instr::Nil(0),
+        Instr::Select(0),
+        Instr::Return,
+        Instr::Return,
+        Instr::Return,
+        Instr::Return,
+        Instr::Return,
+        Instr::Return,
+        Instr::Return,
+    ];
+    let parted = [Instr::Nil(0), Instr::Select(4), Instr::Return];
+    for (instrs, rule, place) in [
+        (absent.as_slice(), 1, 0),
+        (outside.as_slice(), 1, 0),
+        (last.as_slice(), 1, 0),
+        (back.as_slice(), 2, 1),
+        (unfed.as_slice(), 3, 1),
+        (parted.as_slice(), 3, 2),
+    ] {
+        let code = code(alloc, instrs)?;
+        assert!(rt;
+            refusal(alloc, code) == Some((rule, 0, place)),
+            "rule {rule}"
+        );
+    }
+    Ok(())
+}
+
+/// The code of an empty `main` and this select table.
+fn one_select(alloc: Global, table: SelectTable) -> Result<Code, AllocError> {
+    let mut functions = Vec::new(alloc);
+    functions.push(function(alloc, "main", (0, &[], &[]), &[Instr::Return])?)?;
+    let selects = Vec::from_array(alloc, [table])?;
+    Ok(Code::new(functions, Vec::new(alloc), Vec::new(alloc)).with_selects(selects))
+}
+
+#[test]
+fn bad_select_tables_are_refused(rt: HostRuntime) -> Result<(), Fail> {
+    let alloc = rt.alloc();
+    let mut clauses = Vec::new(alloc);
+    for _ in 0..64 {
+        clauses.push(Clause::Receive(0, 1))?;
+    }
+    let many = one_select(alloc, SelectTable::new(clauses, Some(1)))?;
+    assert!(rt; refusal(alloc, many) == Some((7, 0, 0)));
+    let shapeless = one_select(alloc, select(alloc, &[Clause::Send(0, 1)], None)?)?;
+    assert!(rt; refusal(alloc, shapeless) == Some((1, 0, 0)));
+    Ok(())
+}
+
+#[test]
+fn good_select_is_accepted(rt: HostRuntime) -> Result<(), Fail> {
+    let alloc = rt.alloc();
+    let instrs = [
+        Instr::Nil(0),
+        Instr::Nil(0),
+        Instr::Int(1),
+        Instr::Nil(0),
+        Instr::Select(0),
+        Instr::Return,
+        Instr::Discard(3),
+        Instr::Select(3),
         Instr::Loop(0),
     ];
     let code = code(alloc, &instrs)?;

@@ -72,6 +72,7 @@ pub fn apply(op: Op, x: Word, y: Word) -> Result<Word, Panic>
 }
 
 /// The same of words that may be of other kinds than the operator's: `None` of these.
+#[inline(always)]
 pub fn checked_apply(op: Op, x: Word, y: Word) -> Option<Result<Word, Panic>>
     ensures { result ≡ value op x y }
 {
@@ -112,6 +113,7 @@ fn panics(cause: Panic) -> Option<Result<Word, Panic>>
     Some(Err(cause))
 }
 
+#[inline(always)]
 #[tactic(auto, using(std::proofs::lemmas::Int::wraps))]
 fn on_ints(op: Op, x: i64, y: i64) -> Option<Result<Word, Panic>>
     ensures { result ≡ int_value op x y }
