@@ -60,7 +60,8 @@ pub fn alone<'a>(
     Ok((StatementNode::Simple(found.simple), found.rest))
 }
 
-/// A `go`, behind its word, which stands at `first`, below which there are at most so many levels.
+/// A `go` ("Go statements" of the Go specification), behind its word, which stands at `first`, below which there are at
+/// most so many levels.
 #[tactic(auto, unfolding(crate::specs::Reading::started))]
 pub fn started<'a>(
     alloc: Global,
@@ -142,7 +143,8 @@ fn returned<'a>(
     returned_value(alloc, room, cursor, spans)
 }
 
-/// A `return`, behind its word, which stands at `first`, below which there are at most so many levels.
+/// A `return` ("Return statements" of the Go specification), behind its word, which stands at `first`, below which there
+/// are at most so many levels.
 pub fn return_statement<'a>(
     alloc: Global,
     room: u32,
@@ -224,7 +226,8 @@ fn untyped<'a>(
     Ok((StatementNode::Untyped(names, found.right), found.rest))
 }
 
-/// A `var`, behind its word, which stands at `first`, below which there are at most so many levels.
+/// A `var` ("Variable declarations" of the Go specification), behind its word, which stands at `first`, below which there
+/// are at most so many levels.
 #[tactic(auto, unfolding(crate::specs::Reading::variable))]
 pub fn variable<'a>(
     alloc: Global,

@@ -550,3 +550,6 @@ pub fn statement<'a>(
     }
     stated(alloc, room - 1, cursor, spans)
 }
+
+#[cfg(test)]
+mod tests;
