@@ -62,16 +62,16 @@ pub fn statement_next(cursor: Cursor<'_>) -> Result<(Next, Span, Cursor<'_>), Fa
     }
 }
 
-/// What follows a statement of a clause.
+/// What follows a statement of a clause, with the span of the semicolon, if that comes next.
 #[tactic(auto, unfolding(crate::specs::Reading::clause_next))]
-fn clause_next(cursor: Cursor<'_>) -> Result<(Next, Cursor<'_>), Fault>
-    ensures { Gives (λ x. (x.0, ahead x.1)) result (clause_next (ahead cursor.entry)) }
+fn clause_next(cursor: Cursor<'_>) -> Result<(Next, Span, Cursor<'_>), Fault>
+    ensures { Gives (λ x. (x.0, ahead x.2)) result (clause_next (ahead cursor.entry)) }
 {
-    if let Some((Word::Mark(Kind::Semicolon), _, rest)) = cursor.next() {
-        return Ok((Next::More, rest));
+    if let Some((Word::Mark(Kind::Semicolon), last, rest)) = cursor.next() {
+        return Ok((Next::More, last, rest));
     }
     if ends_statement(cursor) {
-        return Ok((Next::End(false), cursor));
+        return Ok((Next::End(false), cursor.place().span, cursor));
     }
     Err(Fault::Syntax(cursor.place()))
 }
@@ -121,11 +121,11 @@ fn clause_node(comm: Option<CommNode>, body: Vec<StatementNode>) -> ClauseNode
     ClauseNode { comm, body }
 }
 
-/// Where the last node that was read ends, or `end` if there is none.
-fn end_of(spans: &[Span], end: u32) -> u32 {
-    match spans.last() {
-        Some(span) => span.to,
-        None => end,
+/// Where the last token ends behind this statement, whose span was pushed last: where it ended before, if it has none.
+fn end_behind(statement: &StatementNode, spans: &[Span], end: u32) -> u32 {
+    match (statement, spans.last()) {
+        (StatementNode::Empty, _) | (_, None) => end,
+        (_, Some(span)) => span.to,
     }
 }
 
@@ -318,26 +318,33 @@ fn waited<'a>(
     comm(alloc, room - 1, cursor, spans)
 }
 
-/// The statements of a clause, each of at most so many levels, behind its colon. The flag is false: no separator ends them.
+/// The statements of a clause, each of at most so many levels, behind its colon, which ends at `colon`; whether a
+/// separator ends them, which none does; and where their last token ends.
 #[cycle(statement)]
 fn clause_statements<'a>(
     alloc: Global,
     room: u32,
+    colon: u32,
     cursor: Cursor<'a>,
     spans: &mut Vec<Span>,
-) -> Result<(Vec<StatementNode>, bool, Cursor<'a>), Fault>
-    ensures statements { Gives (λ x. ((map statement_of x.0.items, x.1), ahead x.2)) result (listed (statement MAX_ENTRIES room) clause_next Syntax (length (ahead cursor.entry)) (ahead cursor.entry)) }
+) -> Result<(Vec<StatementNode>, bool, u32, Cursor<'a>), Fault>
+    ensures statements { Gives (λ x. ((map statement_of x.0.items, x.1), ahead x.3)) result (listed (statement MAX_ENTRIES room) clause_next Syntax (length (ahead cursor.entry)) (ahead cursor.entry)) }
     ensures nodes { IfOk result (λ x. vec_len spans.new ≡ vec_len spans.old + sum_by statement_size (map statement_of x.0.items)) }
 {
     let mut entries = Vec::new(alloc);
     let mut rest = cursor;
+    let mut end = colon;
     for _ in 0..cursor.len() {
         let (one, behind) = statement(alloc, room, rest, spans)?;
+        end = end_behind(&one, spans.as_slice(), end);
         entries.push(one)?;
-        let (next, after) = clause_next(behind)?;
+        let (next, last, after) = clause_next(behind)?;
         match next {
-            Next::More => rest = after,
-            Next::End(trailing) => return Ok((entries, trailing, after)),
+            Next::More => {
+                rest = after;
+                end = last.to;
+            }
+            Next::End(trailing) => return Ok((entries, trailing, end, after)),
         }
     }
     Err(Fault::Syntax(rest.place()))
@@ -358,8 +365,7 @@ fn clause_body<'a>(
     ensures nodes { IfOk result (λ x. vec_len spans.new + if_any comm_size (option_map comm_of waits) ≡ vec_len spans.old + one_clause_size (clause_of x.clause)) }
 {
     let (colon, rest) = cursor.expect(Kind::Colon)?;
-    let (body, _, rest) = clause_statements(alloc, room, rest, spans)?;
-    let end = end_of(spans.as_slice(), colon.to);
+    let (body, _, end, rest) = clause_statements(alloc, room, colon.to, rest, spans)?;
     spans.push(Span {
         from: first.from,
         to: end,
