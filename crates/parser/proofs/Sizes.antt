@@ -1,5 +1,5 @@
 -- A tree has no more nodes than lexemes.
-use Rattle.std.proofs.Common.{◌≡◌, ℕ, ◌+◌, ◌<◌, ◌≤◌, List, [], ◌∷◌, ◌++◌, length, sum_by, arith, length-append, Bool, true, false, Option, Some, None}
+use Rattle.std.proofs.Common.{ℕ, ◌+◌, ◌≤◌, List, [], ◌∷◌, ◌++◌, length, sum_by, arith, length-append, Option, Some, None}
 use Rattle.std.proofs.lemmas.List.Sums.{sum_by-cons}
 use Rattle.scanner.specs.declared.kind.Kind.{Kind}
 use Rattle.scanner.specs.declared.kind.Kind.TheVariants as kinds
@@ -10,21 +10,8 @@ use Rattle.parser_base.specs.Spelling.{behind, AreAll, AreSome, separated, joine
 use Rattle.parser_base.specs.TypeReading.{type_words}
 use Rattle.parser_base.proofs.TypeLaws.{type_size-le}
 use Rattle.parser_simple.specs.Spelling.{name_words, IsName}
-use Rattle.parser_statement.proofs.Sizes.{joined_grows, sum_in}
+use Rattle.parser_statement.proofs.Sizes.{separated_size, closing_size, joined_grows, sum_in}
 use Rattle.parser.specs.Spelling.{declared_words, IsDeclared, struct_words, IsStruct, result_words, block_words, function_words, IsFunction, top_words, IsTop, tops_words, words}
-
--- ---- lists
-
--- what is counted in a list is not more than its words
-separated_size : {A : Type 0} (count : A → ℕ) (each : A → List Lexeme → List Lexeme) (separator : Kind) (xs : List A) (rest : List Lexeme) → ((x : A) (ws : List Lexeme) → count x + length ws ≤ length (each x ws))
-    → sum_by count xs + length rest ≤ length (separated each (behind separator) xs rest)
-separated_size count each separator [] rest grows = omega arith
-separated_size count each separator (x ∷ xs) rest grows =
-    omega (arith, sum_by-cons count x xs, separated_size count each separator xs rest grows, grows x (separated each (behind separator) xs rest))
-
-closing_size : (separator close : Kind) (trailing : Bool) (rest : List Lexeme) → length rest < length (closing separator close trailing rest)
-closing_size separator close true rest = omega arith
-closing_size separator close false rest = omega arith
 
 -- ---- declarations
 

@@ -2,4 +2,4 @@ pub mod PlaceLaws
 pub mod RightLaws
 pub mod FormLaws
 pub mod SimpleLaws
-pub mod HeaderLaws
+pub mod BeginLaws

@@ -20,7 +20,7 @@ value_size : (e : Expression) (rest : List Lexeme) → expression_size e + lengt
 value_size e rest = omega (arith, expression_size-le e, length-append (expression_words e) rest)
 
 -- what is counted in a list is not more than its words
-separated_size : {A : Type 0} (count : A → ℕ) (each : A → List Lexeme → List Lexeme) (separator : Kind) (xs : List A) (rest : List Lexeme) → ((x : A) (ws : List Lexeme) → count x + length ws ≤ length (each x ws))
+pub separated_size : {A : Type 0} (count : A → ℕ) (each : A → List Lexeme → List Lexeme) (separator : Kind) (xs : List A) (rest : List Lexeme) → ((x : A) (ws : List Lexeme) → count x + length ws ≤ length (each x ws))
     → sum_by count xs + length rest ≤ length (separated each (behind separator) xs rest)
 separated_size count each separator [] rest grows = omega arith
 separated_size count each separator (x ∷ xs) rest grows =
@@ -32,7 +32,7 @@ joined_size count each separator [] rest grows = omega arith
 joined_size count each separator (x ∷ xs) rest grows =
     omega (arith, sum_by-cons count x xs, separated_size count each separator xs rest grows, grows x (separated each (behind separator) xs rest))
 
-closing_size : (separator close : Kind) (trailing : Bool) (rest : List Lexeme) → length rest < length (closing separator close trailing rest)
+pub closing_size : (separator close : Kind) (trailing : Bool) (rest : List Lexeme) → length rest < length (closing separator close trailing rest)
 closing_size separator close true rest = omega arith
 closing_size separator close false rest = omega arith
 
