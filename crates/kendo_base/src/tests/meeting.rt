@@ -5,6 +5,7 @@ use book::Settled;
 use std::alloc::{AllocError, Global};
 use std::test::Fail;
 use word::request::{Event, Outcome, Reply, Request};
+use word::value::Word;
 
 /// A goroutine sends to `main`.
 const ANSWER: &str =
@@ -48,7 +49,7 @@ fn met(alloc: Global, event: &Event, word: &str) -> Result<String, AllocError> {
 fn about(alloc: Global, event: &Event) -> Result<String, AllocError> {
     match &event.request {
         Request::Make(_, _) => match &event.outcome {
-            Outcome::Done(Reply::Word(word::Word::Chan(channel))) => {
+            Outcome::Done(Reply::Word(Word::Chan(channel))) => {
                 let name = named(alloc, *channel)?;
                 format!(in alloc; "make {name}")
             }

@@ -1,6 +1,10 @@
 use Rattle.std.proofs.Common.{◌+◌, length, ap, ◌∙◌}
-use Rattle.kendo_base.proofs.Pieces.{begins_at, whole_at, written_begins, written_out, written_same}
+use Rattle.kendo_base.proofs.Pieces.{appends_none, begins_at, whole_at, written_begins, written_out, written_same}
 use Rattle.kendo_base.proofs.running.run_verified.Goals as goal
+
+-- nothing is written yet
+pub returns-in_err-program-clause-begins : goal.returns-in_err-program-clause-begins
+returns-in_err-program-clause-begins g c = (0, 0, appends_none (g.O.Write.contents c.args.out.now))
 
 pub returns-in_err-end-clause-begins : goal.returns-in_err-end-clause-begins
 returns-in_err-end-clause-begins g c =
