@@ -20,6 +20,7 @@ pub(crate) fn step(
     may: bool,
     frame: &mut Frame,
     callers: &mut Vec<Frame>,
+    spare: &mut Vec<Frame>,
 ) -> Result<Step, AllocError>
     requires verified { IsVerified code.now }
     requires sound { code_next code.now (frames_of frame.old callers.old.items) ≡ Stuck → ⊥ }
@@ -33,7 +34,7 @@ pub(crate) fn step(
             if have < wanted {
                 unreachable!()
             }
-            Ok(instr(alloc, code, may, frame, callers, i, have - wanted)?)
+            Ok(instr(alloc, code, may, frame, callers, spare, i, have - wanted)?)
         }
     }
 }
