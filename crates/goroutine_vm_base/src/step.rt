@@ -14,7 +14,7 @@ use bytecode::Code;
 use std::alloc::{AllocError, Global};
 
 /// The next instruction of the function that runs, which nothing was told; `may` is whether a tick is made.
-pub(crate) fn step(
+pub fn step(
     alloc: Global,
     code: &Code,
     may: bool,
