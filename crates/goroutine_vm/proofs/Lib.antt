@@ -1,3 +1,4 @@
 pub mod Turns
 pub mod Quanta
 pub mod Beginning
+pub mod Quiet

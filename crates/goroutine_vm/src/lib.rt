@@ -8,9 +8,12 @@ ghost use Rattle.bytecode.specs.Rules.{IsVerified};
 ghost use Rattle.goroutine_vm.specs.Advance.{IsAsk, IsStateOf};
 ghost use Rattle.word.specs.Kinds.{Clocked};
 
+mod chosen;
+mod frames;
 mod state;
 #[cfg(test)]
 mod tests;
+mod told;
 
 pub use state::{GoState, Stop, spawn_state};
 

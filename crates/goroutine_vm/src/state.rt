@@ -10,8 +10,10 @@ ghost use Rattle.goroutine_vm_base.specs.Steps.{Does};
 ghost use Rattle.word.specs.Kinds.{asks, at, told};
 ghost use Rattle.word.specs.Views.{reply_of, request_of};
 
+use crate::frames::Frames;
+use crate::told::words_of;
 use go_text::Memory;
-use goroutine_vm_base::{Frames, Step, words_of};
+use goroutine_vm_base::outcome::Step;
 use logical_clock::Clock;
 use std::alloc::{AllocError, Global};
 use std::marker::Model;

@@ -102,7 +102,7 @@ fn pops_of(code: &Code, f: &Function, i: Instr) -> usize
 }
 
 /// The instruction at a frame and how many words it pops.
-pub(crate) fn fetch(code: &Code, frame: &Frame) -> Option<(Instr, usize)>
+pub fn fetch(code: &Code, frame: &Frame) -> Option<(Instr, usize)>
     requires { IsVerified code.now }
     ensures fetched { Fetched code.now frame.now result }
     ensures within { IfSome result (λ _. frame.now.place + 1 < 2 ^ 64) }

@@ -7,7 +7,7 @@ ghost use Rattle.bytecode.specs.Machine.{Frames, goes_on, goes_to, instr_next, p
 ghost use Rattle.goroutine_vm_base.specs.Steps.{Does, FitsAt, frames_of};
 ghost use Rattle.word.specs.Kinds.{Stuck, Ticks};
 
-use crate::frame::{Frame, begin};
+use crate::frame::{Frame, begin, keep};
 use crate::outcome::Step;
 use bytecode::{Code, Instr};
 use std::alloc::{AllocError, Global};
@@ -141,6 +141,7 @@ pub(crate) fn call(
     may: bool,
     frame: &mut Frame,
     callers: &mut Vec<Frame>,
+    spare: &mut Vec<Frame>,
     function: u32,
     at: usize,
 ) -> Result<Step, AllocError>
@@ -160,7 +161,7 @@ pub(crate) fn call(
         return Ok(Step::Ticked);
     }
     let locals = functions[function as usize].locals();
-    let entered = begin(alloc, locals, function as usize, &frame.stack[at..])?;
+    let entered = begin(alloc, spare, locals, function as usize, &frame.stack[at..])?;
     callers.reserve(1)?;
     enter(frame, callers, entered, at);
     Ok(Step::Ticked)
@@ -180,7 +181,12 @@ fn enter(frame: &mut Frame, callers: &mut Vec<Frame>, entered: Frame, at: usize)
 }
 
 /// Returns to the caller with the words on the stack; or asks to end.
-pub(crate) fn leave(frame: &mut Frame, callers: &mut Vec<Frame>, at: usize) -> Result<Step, AllocError>
+pub(crate) fn leave(
+    frame: &mut Frame,
+    callers: &mut Vec<Frame>,
+    spare: &mut Vec<Frame>,
+    at: usize,
+) -> Result<Step, AllocError>
     requires at { at ≤ length frame.old.stack }
     ensures ok { IfOk result (λ step. (may : Bool) → (code : CodeValue) → Does may (frames_of frame.old callers.old.items) (instr_next code frame.old (reverse callers.old.items) (take at frame.old.stack) (drop at frame.old.stack) Instr.Return) step (frames_of frame.new callers.new.items)) }
     ensures err { OnErr result (frames_of frame.new callers.new.items ≡ frames_of frame.old callers.old.items) }
@@ -190,7 +196,7 @@ pub(crate) fn leave(frame: &mut Frame, callers: &mut Vec<Frame>, at: usize) -> R
     }
     match callers.pop() {
         None => Ok(Step::Asking),
-        Some(caller) => Ok(resume(frame, callers, caller)?),
+        Some(caller) => Ok(resume(frame, callers, spare, caller)?),
     }
 }
 
@@ -198,6 +204,7 @@ pub(crate) fn leave(frame: &mut Frame, callers: &mut Vec<Frame>, at: usize) -> R
 fn resume(
     frame: &mut Frame,
     callers: &mut Vec<Frame>,
+    spare: &mut Vec<Frame>,
     mut caller: Frame,
 ) -> Result<Step, AllocError>
     requires { vec_len callers.old < vec_capacity callers.old }
@@ -207,7 +214,8 @@ fn resume(
 {
     match caller.stack.extend_from_slice(frame.stack.as_slice()) {
         Ok(_) => {
-            *frame = caller;
+            let done = replace(frame, caller);
+            keep(spare, done);
             Ok(Step::Slid)
         }
         Err(error) => {
@@ -224,6 +232,7 @@ pub(crate) fn instr(
     may: bool,
     frame: &mut Frame,
     callers: &mut Vec<Frame>,
+    spare: &mut Vec<Frame>,
     i: Instr,
     at: usize,
 ) -> Result<Step, AllocError>
@@ -286,8 +295,8 @@ pub(crate) fn instr(
         }
         Instr::Unless(to) => Ok(choose(frame, to as usize, at)),
         Instr::Loop(to) => Ok(tick_to(may, frame, to as usize, at)),
-        Instr::Call(function) => Ok(call(alloc, code, may, frame, callers, function, at)?),
-        Instr::Return => Ok(leave(frame, callers, at)?),
+        Instr::Call(function) => Ok(call(alloc, code, may, frame, callers, spare, function, at)?),
+        Instr::Return => Ok(leave(frame, callers, spare, at)?),
         Instr::Make(_)
         | Instr::Go(_)
         | Instr::Send(_)

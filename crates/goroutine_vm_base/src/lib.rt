@@ -1,17 +1,11 @@
-//! The frames of a goroutine, and what single instructions do to them.
+//! The functions of a goroutine that run, and what single instructions do to them.
 #![tactic(auto)]
 
-mod fetch;
-mod frame;
-mod frames;
+pub mod fetch;
+pub mod frame;
 mod instrs;
-mod outcome;
-mod request;
-mod run;
-mod select;
-mod step;
-mod told;
-
-pub use frames::Frames;
-pub use outcome::Step;
-pub use told::{Told, words_of};
+pub mod outcome;
+pub mod request;
+pub mod run;
+pub mod select;
+pub mod step;

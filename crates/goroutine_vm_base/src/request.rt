@@ -272,7 +272,7 @@ fn asks(at_limit: bool, frame: &Frame, callers: &Vec<Frame>, i: Instr, at: usize
 }
 
 /// What frames ask that were told nothing; none where they make a local step.
-pub(crate) fn request(
+pub fn request(
     alloc: Global,
     code: &Code,
     frame: &Frame,
@@ -294,7 +294,7 @@ pub(crate) fn request(
 }
 
 /// Whether frames of verified code ask that were told nothing; at the limit also whether they tick.
-pub(crate) fn is_asking(at_limit: bool, code: &Code, frame: &Frame, callers: &Vec<Frame>) -> bool
+pub fn is_asking(at_limit: bool, code: &Code, frame: &Frame, callers: &Vec<Frame>) -> bool
     requires verified { IsVerified code.now }
     requires sound { code_next code.now (frames_of frame.now callers.now.items) ≡ Stuck → ⊥ }
     ensures { result ≡ stops at_limit (code_next code.now (frames_of frame.now callers.now.items)) }

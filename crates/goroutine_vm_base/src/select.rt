@@ -1,14 +1,13 @@
-//! What a select asks, and where it goes on.
+//! What a select asks.
 
-ghost use Rattle.std.specs.Prelude.{◌≡◌, ◌≤◌, ◌++◌, ◌∷◌, [], IfOk, MatchOption, None, Some, drop, length, slice_get, take};
-ghost use Rattle.bytecode.specs.Effects.{all_clause_kinds, clause_gives, clause_kinds, clauses_in, shape_kinds, targets_in};
-ghost use Rattle.bytecode.specs.Machine.{Frames, case_of, cases_of, fitted, instr_next, way_of};
+ghost use Rattle.std.specs.Prelude.{◌≡◌, ◌≤◌, IfOk, MatchOption, None, Some, drop, length, slice_get, take};
+ghost use Rattle.bytecode.specs.Effects.{all_clause_kinds, clause_kinds, clauses_in, shape_kinds};
+ghost use Rattle.bytecode.specs.Machine.{Frames, case_of, cases_of, instr_next};
 ghost use Rattle.bytecode.specs.Rules.{IsVerified};
 ghost use Rattle.goroutine_vm_base.specs.Steps.{AsksFor};
 
 use crate::frame::Frame;
-use crate::told::{Told, tell, tell_with_truth};
-use bytecode::{Clause, Code, Instr, Kind};
+use bytecode::{Clause, Code, Instr};
 use std::alloc::{AllocError, Global};
 use word::request::{Case, Request};
 use word::value::{Item, Word};
@@ -17,7 +16,7 @@ use word::value::{Item, Word};
 const MAX_WORDS: usize = 16;
 
 /// The clauses of a select table; none where it is not there.
-fn clauses_of(code: &Code, table: u32) -> &[Clause]
+pub fn clauses_of(code: &Code, table: u32) -> &[Clause]
     ensures { result.now ≡ clauses_in (slice_get code.now.selects table) }
 {
     match code.selects().get(table as usize) {
@@ -144,68 +143,5 @@ pub(crate) fn select(
             None => Ok(None),
             Some(cases) => Ok(Some(Request::Select(cases, table.default().is_some()))),
         },
-    }
-}
-
-/// An item of a shape and a truth value.
-pub(crate) fn tell_item(code: &Code, shape: u32, words: &[Word]) -> Told
-    requires { IsVerified code.now }
-    ensures { result ≡ fitted (shape_kinds code.now shape ++ Kind.Bool ∷ []) words.now }
-{
-    match code.shapes().get(shape as usize) {
-        Some(shape) => tell_with_truth(shape.kinds(), words),
-        None => tell(&[Kind::Bool], words),
-    }
-}
-
-/// What is told where a clause was done.
-fn tell_clause(code: &Code, clause: Option<Clause>, words: &[Word]) -> Told
-    requires { IsVerified code.now }
-    ensures { result ≡ fitted (clause_gives code.now clause) words.now }
-{
-    match clause {
-        Some(Clause::Receive(shape, _)) => tell_item(code, shape, words),
-        Some(Clause::Send(_, _)) => Told::nothing(),
-        None => Told::nothing(),
-    }
-}
-
-/// The number of the way on which a select goes on: that of the clause that it did, counted from 1, or of its default.
-fn way_taken(code: &Code, table: u32, chosen: Option<usize>) -> usize
-    ensures { result ≡ way_of (slice_get code.now.selects table) chosen }
-{
-    match chosen {
-        Some(clause) => clause.saturating_sub(1),
-        None => clauses_of(code, table).len(),
-    }
-}
-
-/// Where a way of a select leads.
-fn target(code: &Code, table: u32, way: usize) -> Option<usize>
-    ensures { result ≡ slice_get (targets_in (slice_get code.now.selects table)) way }
-{
-    match code.selects().get(table as usize) {
-        Some(table) => table.target(way).map(|to| to as usize),
-        None => None,
-    }
-}
-
-/// Where a select goes on, and what it is told there; none where it did no clause of its own.
-pub(crate) fn selected(
-    code: &Code,
-    table: u32,
-    chosen: Option<usize>,
-    words: &[Word],
-) -> Option<(usize, Told)>
-    requires { IsVerified code.now }
-    ensures { let k = way_of (slice_get code.now.selects table) chosen in MatchOption result (slice_get (targets_in (slice_get code.now.selects table)) k ≡ None) (λ r. (slice_get (targets_in (slice_get code.now.selects table)) k ≡ Some r.0) × (r.1 ≡ fitted (clause_gives code.now (slice_get (clauses_in (slice_get code.now.selects table)) k)) words.now)) }
-{
-    let way = way_taken(code, table, chosen);
-    match target(code, table, way) {
-        None => None,
-        Some(to) => {
-            let clause = clauses_of(code, table).get(way).copied();
-            Some((to, tell_clause(code, clause, words)))
-        }
     }
 }

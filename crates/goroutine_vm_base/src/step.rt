@@ -14,12 +14,13 @@ use bytecode::Code;
 use std::alloc::{AllocError, Global};
 
 /// The next instruction of the function that runs, which nothing was told; `may` is whether a tick is made.
-pub(crate) fn step(
+pub fn step(
     alloc: Global,
     code: &Code,
     may: bool,
     frame: &mut Frame,
     callers: &mut Vec<Frame>,
+    spare: &mut Vec<Frame>,
 ) -> Result<Step, AllocError>
     requires verified { IsVerified code.now }
     requires sound { code_next code.now (frames_of frame.old callers.old.items) ≡ Stuck → ⊥ }
@@ -33,7 +34,7 @@ pub(crate) fn step(
             if have < wanted {
                 unreachable!()
             }
-            Ok(instr(alloc, code, may, frame, callers, i, have - wanted)?)
+            Ok(instr(alloc, code, may, frame, callers, spare, i, have - wanted)?)
         }
     }
 }

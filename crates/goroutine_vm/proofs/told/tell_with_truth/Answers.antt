@@ -1,0 +1,13 @@
+use Rattle.std.proofs.Common.{◌≡◌, ◌∙◌, ◌++◌, ◌∷◌, [], ◌<◌, List, ap, sym, length, arith, rules}
+use Rattle.bytecode.specs.declared.instr.Kind.TheVariants as kinds
+use Rattle.word.specs.declared.value.Word.{Word}
+use Rattle.goroutine_vm_base.specs.Steps.{word_for}
+use Rattle.goroutine_vm.proofs.Quiet.{fitted_length, fitted_last}
+use Rattle.bytecode.specs.Machine.{fitted}
+use Rattle.goroutine_vm.proofs.told.tell_with_truth.Goals as goal
+
+pub push-requires : goal.push-requires
+push-requires c = let e = ap length c.tell-told.ensures ∙ fitted_length c.args.kinds.now c.args.words.now in let r = c.requires in omega (arith, e, r)
+
+pub returns : goal.returns
+returns c = c.push.ensures ∙ ap (λ (l : List Word). l ++ c.word_at.result ∷ []) c.tell-told.ensures ∙ ap (λ (w : Word). fitted c.args.kinds.now c.args.words.now ++ w ∷ []) c.word_at.ensures ∙ sym (fitted_last c.args.kinds.now kinds.Bool c.args.words.now)

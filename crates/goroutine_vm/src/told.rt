@@ -1,0 +1,109 @@
+//! The words that a goroutine was told.
+
+ghost use Rattle.std.specs.Prelude.{◌≡◌, ◌≤◌, ◌<◌, ◌++◌, ◌∷◌, [], length};
+ghost use Rattle.bytecode.specs.Machine.{fitted as fitted_of};
+
+use bytecode::Kind;
+use goroutine_vm_base::frame::word_at;
+use std::marker::Model;
+use word::value::{Item, Word};
+
+/// An item of 16 words at most, and whether it was sent.
+pub(crate) const MAX_TOLD: usize = 17;
+
+/// The words that a goroutine was told, which the next step puts onto its stack. They take no memory of their own.
+#[derive(Debug, Drop)]
+pub(crate) struct Told {
+    words: [Word; 17],
+    len: usize,
+}
+
+impl Model for Told {
+    ghost use Rattle.std.specs.Prelude.{List, take, ◌≤◌, length};
+    ghost use Rattle.word.specs.declared.value.Word.{Word};
+
+    ghost Value = { List Word };
+
+    ghost view = { λ t. take t.len t.words };
+
+    ghost invariant = { λ t. t.len ≤ 17 };
+}
+
+impl Told {
+    /// No words.
+    pub(crate) fn nothing() -> Told
+        ensures { result ≡ [] }
+    {
+        Told {
+            words: [Word::Int(0); 17],
+            len: 0,
+        }
+    }
+
+    /// The words.
+    pub(crate) fn words(&self) -> &[Word]
+        ensures { result.now ≡ self.now }
+    {
+        &self.words[..self.len]
+    }
+
+    /// How many there are.
+    pub(crate) fn len(&self) -> usize
+        ensures { result ≡ length self.now }
+    {
+        self.words().len()
+    }
+
+    /// A second list of the same words.
+    pub(crate) fn copy(&self) -> Told
+        ensures { result ≡ self.now }
+    {
+        Told {
+            words: self.words,
+            len: self.len,
+        }
+    }
+
+    /// Appends a word.
+    fn push(&mut self, word: Word)
+        requires { length self.old < 17 }
+        ensures { self.new ≡ self.old ++ word ∷ [] }
+    {
+        self.words[self.len] = word;
+        self.len += 1;
+    }
+}
+
+/// These words, of these kinds.
+pub(crate) fn tell(kinds: &[Kind], words: &[Word]) -> Told
+    requires { length kinds.now ≤ 17 }
+    ensures { result ≡ fitted_of kinds.now words.now }
+{
+    let mut told = Told::nothing();
+    for index in 0..kinds.len() {
+        told.push(word_at(kinds[index], words, index));
+    }
+    told
+}
+
+/// These words, of these kinds, and a truth value behind them.
+pub(crate) fn tell_with_truth(kinds: &[Kind], words: &[Word]) -> Told
+    requires { length kinds.now ≤ 16 }
+    ensures { result ≡ fitted_of (kinds.now ++ Kind.Bool ∷ []) words.now }
+{
+    let mut told = tell(kinds, words);
+    told.push(word_at(Kind::Bool, words, kinds.len()));
+    told
+}
+
+/// The words of an item, and whether it was sent behind them.
+pub(crate) fn words_of(item: &Item, ok: bool) -> Told
+    ensures { result ≡ item.now ++ Word.Bool ok ∷ [] }
+{
+    let mut told = Told::nothing();
+    for word in item.words() {
+        told.push(*word);
+    }
+    told.push(Word::Bool(ok));
+    told
+}
