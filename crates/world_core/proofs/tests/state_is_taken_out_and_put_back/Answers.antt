@@ -1,4 +1,4 @@
-use Rattle.std.proofs.Common.{◌≡◌, Some, ap, subst, sym, arith, ◌∙◌}
+use Rattle.std.proofs.Common.{ap, subst, sym, arith, ◌∙◌}
 use Rattle.world_core_base.specs.Cores.{CoreValue, IsHere, state_of}
 use Rattle.world_core_base.proofs.Taking.{main_fits, main_is_here}
 use Rattle.world_core.proofs.tests.state_is_taken_out_and_put_back.Goals as goal
