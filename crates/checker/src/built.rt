@@ -9,8 +9,8 @@ ghost use Rattle.checker.specs.Actions.{origin_of, action_of, target_size, origi
 ghost use Rattle.checker.specs.Built.{are_all, is_built_part, is_built_origin, is_built_action, is_built_statement, is_built_parameter, is_built_function, is_built_top, IsBuilt};
 
 use crate::action::{Action, Origin, Target, action_in};
-use syntax::size::{expression_size, function_size, statement_size, top_size, type_size};
 use checker_base::types::is_built_type;
+use syntax::size::{expression_size, function_size, statement_size, top_size, type_size};
 use syntax::{
     BinaryOperator, DeclaredNode, ExpressionNode, FileNode, FunctionNode, NodeId, PartNode,
     StatementNode, TopNode, TypeNode, UnaryOperator,

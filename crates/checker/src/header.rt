@@ -12,13 +12,13 @@ ghost use Rattle.checker.specs.Rules.{is_taken, NamesHave, with_names, Parameter
 
 use crate::refusal::Refusal;
 use crate::signature::{FunctionType, function_of_name};
-use syntax::size::{function_size, type_size};
 use crate::statement::declare;
 use checker_base::flaw::Flaw;
 use checker_base::scope::{Entry, is_blank, is_reserved, place_of};
 use checker_base::types::{ValueType, type_in};
 use go_text::{LimitKind, Rule};
 use std::alloc::{AllocError, Global};
+use syntax::size::{function_size, type_size};
 use syntax::{DeclaredNode, FunctionNode, Name, NodeId};
 
 /// How many functions a file may have.

@@ -13,7 +13,6 @@ ghost use Rattle.checker.specs.Built.{is_built_origin};
 ghost use Rattle.checker.specs.Rules.{OriginHas, origin_worth, is_new, DeclaresHas, AssignsHas, default_type};
 
 use crate::action::Origin;
-use syntax::size::type_size;
 use crate::value::{channel, default_type, value};
 use checker_base::flaw::Flaw;
 use checker_base::operand::{Operand, checked};
@@ -21,6 +20,7 @@ use checker_base::scope::{Entry, is_blank, is_reserved, place_of};
 use checker_base::types::{ValueType, type_in};
 use checker_base::worth::Worth;
 use go_text::Rule;
+use syntax::size::type_size;
 use syntax::{ExpressionNode, NodeId, TypeNode};
 
 /// Checks a receive, whose nodes have numbers from `first` on.
