@@ -556,6 +556,3 @@ pub fn statement<'a>(
     }
     stated(alloc, room - 1, cursor, spans)
 }
-
-#[cfg(test)]
-mod tests;

@@ -1,6 +1,8 @@
 //! Statements in which others stand, and those that begin with a keyword.
 
-use super::{Outcome, body_outcome, repeated};
+use super::{HEADER, Outcome, body_outcome, repeated, tree_of};
+use go_text::Span;
+use std::alloc::Global;
 use std::process::Abort;
 use std::test::Fail;
 
@@ -349,6 +351,55 @@ fn limits_clauses(rt: HostRuntime) -> Result<(), Fail> {
             wanted,
             "{count} clauses and {last}"
         );
+    }
+    Ok(())
+}
+
+/// The bytes of a text at a span.
+fn piece(text: &str, span: Span) -> &[u8] {
+    let rest = &text.as_bytes()[(span.from as usize).min(text.len())..];
+    let count = span.to.saturating_sub(span.from) as usize;
+    &rest[..count.min(rest.len())]
+}
+
+/// The texts of the nodes of a function with this body, in the order of their numbers, each before a bar.
+fn nodes_of(alloc: Global, body: &str) -> Result<Vec<u8>, Fail> {
+    let text = format!(in alloc; "{HEADER}{body}")?;
+    let tree = tree_of(alloc, &text)?;
+    let mut nodes = Vec::new(alloc);
+    for node in 0..tree.count() {
+        nodes.extend_from_slice(piece(&text, tree.span(node)))?;
+        nodes.push(b'|')?;
+    }
+    Ok(nodes)
+}
+
+#[test]
+fn numbers_nodes_of_statements_in_postorder(rt: HostRuntime) -> Result<(), Fail> {
+    for (body, nodes) in [
+        ("{f()}}", "f()|{f()}|{f()}|"),
+        ("var x, y int = 1, 2}", "int|1|2|var x, y int = 1, 2|"),
+        ("go f(1, a)}", "1|a|go f(1, a)|"),
+        ("return <-c}", "c|<-c|return <-c|"),
+        ("return; break;}", "return|break||"),
+        (
+            "if x++; a {} else {}}",
+            "x|x++|a||{}||{}|if x++; a {} else {}|",
+        ),
+        (
+            "if a {} else if b {}}",
+            "a||{}|b||{}|if b {}|if a {} else if b {}|",
+        ),
+        ("for x = range c {}}", "x|c||{}|for x = range c {}|"),
+        ("select {}}", "select {}|"),
+        ("select {default: }}", "|default:|select {default: }|"),
+        (
+            "select {case <-c: f(); }}",
+            "c|<-c|f()||case <-c: f();|select {case <-c: f(); }|",
+        ),
+    ] {
+        let found = nodes_of(rt.alloc(), body)?;
+        assert!(rt; found.as_slice().starts_with(nodes.as_bytes()), "{body}");
     }
     Ok(())
 }
