@@ -1,5 +1,9 @@
 //! The command line.
 
+ghost use Rattle.std.specs.Prelude.{◌≡◌, false, codes, IfOk};
+ghost use Rattle.clap.specs.Words.{app_of, found_of, one_of, rows_of, rule_of, subcommand_rows_of};
+ghost use Rattle.kendo.specs.CommandLine.{IsAsked, IsDone, IsNumberThere, file, kendo, number};
+
 use clap::{Arg, ArgAction, ArgMatches, Command, value_parser};
 use std::alloc::{AllocError, Global};
 
@@ -27,56 +31,91 @@ pub enum Action {
 }
 
 /// The argument that names the text's file.
-fn file_argument<'a>(alloc: Global) -> Arg<'a> {
+fn file_argument<'a>(alloc: Global) -> Arg<'a>
+    ensures rule { rule_of result ≡ file }
+    ensures local { result.global ≡ false }
+{
     Arg::new(alloc, "FILE")
         .help("The text of the program")
         .required(true)
         .action(ArgAction::Set)
 }
 
-/// The command `run`.
-fn run_command<'a>(alloc: Global) -> Result<Command<'a>, AllocError> {
-    let workers = Arg::new(alloc, "workers")
-        .long("workers")
-        .value_name("N")
-        .help("How many worker threads, 1 to 64")
+/// An option with one number, and the number where it is left out.
+fn number_argument<'a>(
+    alloc: Global,
+    name: &'a str,
+    value: &'a str,
+    help: &'a str,
+    default: &'a str,
+) -> Arg<'a>
+    ensures rule { rule_of result ≡ number name.entry.now default.entry.now }
+    ensures local { result.global ≡ false }
+{
+    Arg::new(alloc, name)
+        .long(name)
+        .value_name(value)
+        .help(help)
         .value_parser(value_parser!(u64))
-        .default_value("4");
-    let limit = Arg::new(alloc, "limit")
-        .long("limit")
-        .value_name("L")
-        .help("The last logical time, 1 to 2^62")
-        .value_parser(value_parser!(u64))
-        .default_value("1099511627776");
-    Command::new(alloc, "run")
-        .about("Runs a program")
-        .arg(file_argument(alloc))?
-        .arg(workers)?
-        .arg(limit)
+        .default_value(default)
 }
 
 /// The command that `main` reads its words with.
-pub fn command<'a>(alloc: Global) -> Result<Command<'a>, AllocError> {
+pub fn command<'a>(alloc: Global) -> Result<Command<'a>, AllocError>
+    ensures { IfOk result (λ c. app_of c ≡ kendo) }
+{
     let list = Command::new(alloc, "list")
         .about("Lists the code of a program")
         .arg(file_argument(alloc))?;
+    let workers = number_argument(
+        alloc, "workers", "N", "How many worker threads, 1 to 64", "4",
+    );
+    let limit = number_argument(
+        alloc,
+        "limit",
+        "L",
+        "The last logical time, 1 to 2^62",
+        "1099511627776",
+    );
+    let run = Command::new(alloc, "run")
+        .about("Runs a program")
+        .arg(file_argument(alloc))?
+        .arg(workers)?
+        .arg(limit)?;
     Command::new(alloc, "kendo")
         .about("Compiles and runs programs of a Go subset")
         .subcommand_required(true)
         .subcommand(list)?
-        .subcommand(run_command(alloc)?)
+        .subcommand(run)
+}
+
+/// The number that an option has.
+fn number_of(matches: &ArgMatches<'_>, name: &str) -> Option<u64>
+    ensures { IsNumberThere (one_of name.now (rows_of (found_of matches.now))) result }
+{
+    matches.get_one::<u64>(name)
+}
+
+/// What the command of a name does, with the values that it has.
+fn action_of(name: &str, matches: &ArgMatches<'_>) -> Option<Action>
+    ensures { IsDone name.now (rows_of (found_of matches.now)) result }
+{
+    match name {
+        "list" => Some(Action::List),
+        "run" => Some(Action::Run {
+            workers: number_of(matches, "workers")?,
+            limit: number_of(matches, "limit")?,
+        }),
+        _ => None,
+    }
 }
 
 /// What the words ask for.
-pub fn invocation_of<'a>(matches: &ArgMatches<'a>) -> Option<Invocation<'a>> {
+pub fn invocation_of<'a>(matches: &ArgMatches<'a>) -> Option<Invocation<'a>>
+    ensures { IsAsked (subcommand_rows_of matches.now) result }
+{
     let (name, matches) = matches.subcommand()?;
-    let action = match name {
-        "list" => Action::List,
-        _ => Action::Run {
-            workers: matches.get_one::<u64>("workers")?,
-            limit: matches.get_one::<u64>("limit")?,
-        },
-    };
+    let action = action_of(name, matches)?;
     Some(Invocation {
         file: matches.get_str("FILE")?,
         action,

@@ -1,0 +1,46 @@
+-- What the getters of a command's values read.
+use Rattle.std.proofs.Common.{◌≡◌, ℕ, ◌<◌, ◌^◌, List, Option, Some, None, Result, Ok, Err, refl, sym, ap, ap₂, subst, ◌∙◌}
+use Rattle.std.specs.Prelude.{option_map, codes}
+use Rattle.std.specs.Borrow.{Bor}
+use Rattle.std.specs.Str.Parse.{ParsesUnsigned}
+use Rattle.std.proofs.lemmas.Option.{none-some}
+use Rattle.clap.specs.Words.{ReadsOne, Row, Text, first_of, subcommand_rows}
+use Rattle.kendo.specs.declared.arguments.Action.{Action}
+use Rattle.kendo.specs.declared.arguments.Invocation.{Invocation}
+use Rattle.kendo.specs.CommandLine.{Asks, Does, IsAsked, IsDone, IsNumber, IsNumberThere}
+
+-- what reads a text as an unsigned number of 64 bits reads the number that it is
+pub number_read : {E : Type 0} (gives : List ℕ → Result ℕ E → Type 0) (text same : Option (List ℕ)) → text ≡ same → (result : Option ℕ) → (text ≡ None → result ≡ None)
+    → ((t : List ℕ) → text ≡ Some t → ReadsOne gives t result) → ((t : List ℕ) (r : Result ℕ E) → gives t r → ParsesUnsigned 64 10 t r) → IsNumberThere same result
+number_read gives None same e None none value parses = subst (λ x. IsNumberThere x None) e (λ n no. no)
+number_read gives None same e (Some n) none value parses = absurd (none-some n (sym (none refl)))
+number_read gives (Some t) same e (Some n) none value parses =
+    let read = parses t (Ok n) (value t refl) in
+    subst (λ x. IsNumberThere x (Some n)) e (read.0.0, sym read.1, subst (λ m. m < 2 ^ 64) (sym read.1) read.0.1)
+number_read gives (Some t) same e None none value parses =
+    let failed = value t refl in
+    subst (λ x. IsNumberThere x None) e (λ n is. parses t (Err failed.0) failed.1 (is.0, subst (λ m. m < 2 ^ 64) (sym is.1) is.2))
+
+some_same : {A : Type 0} (a b : A) → Some a ≡ Some b → a ≡ b
+some_same {A = A} a b e = ap value e
+  where
+    value : Option A → A
+    value None = a
+    value (Some x) = x
+
+-- an option that is there has both parts of what is made of it
+pub both_parts : {X A B : Type 0} (f : X → A) (g : X → B) (o : Option X) (a : A) (b : B) → Some a ≡ option_map f o
+    → Some b ≡ option_map (λ (p : A × B). p.1) (option_map {U = A × B} (λ x. (f x, g x)) o) → option_map {U = A × B} (λ x. (f x, g x)) o ≡ Some (a, b)
+both_parts f g None a b first second = absurd (none-some a (sym first))
+both_parts {A = A} {B = B} f g (Some x) a b first second =
+    ap₂ (λ (p : A) (q : B). Some (p, q)) (sym (some_same a (f x) first)) (sym (some_same b (g x) second))
+
+-- a command that does this with this file asks for both
+pub asked : (found : Option (Text × List Row)) (name : Text) (rows : List Row) (invocation : Invocation) → found ≡ Some (name, rows)
+    → Does name rows invocation.action → Some invocation.file.now ≡ first_of (codes "FILE") rows → IsAsked found (Some invocation)
+asked found name rows invocation is does file = subst (λ x. IsAsked x (Some invocation)) (sym is) (does, sym file)
+
+-- without a file it asks for nothing
+pub not_asked : (found : Option (Text × List Row)) (name : Text) (rows : List Row) → found ≡ Some (name, rows)
+    → None ≡ first_of (codes "FILE") rows → IsAsked found None
+not_asked found name rows is no_file = subst (λ x. IsAsked x None) (sym is) (λ invocation asks. none-some _ (no_file ∙ asks.1))

@@ -1,0 +1,72 @@
+-- The command line: the commands that are taken, and what the words of one ask for.
+use Rattle.std.specs.Prelude.{◌≡◌, ℕ, ◌<◌, ◌-◌, ◌^◌, List, [], ◌∷◌, Option, Some, None, true, codes}
+use Rattle.std.specs.Str.Parse.{IsNumeral, digits_value, without_leading_plus}
+use Rattle.clap.specs.Words.{App, Row, Rule, Text, first_of, new_app, new_rule, one_of, with_rule, with_subcommand}
+use Rattle.clap.specs.declared.builder.action.ArgAction.TheVariants.{Set}
+use Rattle.clap.specs.declared.builder.value_parser.ValueParser.TheVariants.{Unsigned}
+use Rattle.kendo.specs.declared.arguments.Action.{Action}
+use Rattle.kendo.specs.declared.arguments.Action.TheVariants as actions
+use Rattle.kendo.specs.declared.arguments.Invocation.{Invocation}
+
+-- ---- the commands that are taken
+
+-- FILE, which has to be there
+abbrev pub file : Rule
+file = record (new_rule (codes "FILE")) { required = true; action = Some Set }
+
+-- an option of this name with one number of 64 bits, and its value where it is left out
+abbrev pub number : (name default : Text) → Rule
+number name default = record (new_rule name) {
+  long = Some name;
+  value_names = 1;
+  parser = Some (Unsigned 0 (2 ^ 64 - 1));
+  defaults = default ∷ [];
+}
+
+-- kendo list FILE
+abbrev pub list : App
+list = with_rule (new_app (codes "list")) file
+
+-- kendo run FILE [--workers N] [--limit L]
+abbrev pub run : App
+run = with_rule (with_rule (with_rule (new_app (codes "run")) file) (number (codes "workers") (codes "4"))) (number (codes "limit") (codes "1099511627776"))
+
+-- one of the two has to be there
+abbrev pub kendo : App
+kendo =
+    let named = new_app (codes "kendo") in
+    with_subcommand (with_subcommand (record named { top = record named.top { subcommand_required = true } }) list.top) run.top
+
+-- ---- what the words ask for
+
+-- the text is this number, below 2^64, in decimal digits behind at most a plus
+abbrev pub IsNumber : Option Text → ℕ → Type 0
+IsNumber None n = ⊥
+IsNumber (Some text) n = IsNumeral 10 (without_leading_plus text) × (digits_value 10 (without_leading_plus text) ≡ n) × (n < 2 ^ 64)
+
+-- the command of this name, with these values, asks for this
+abbrev pub Does : (name : Text) → List Row → Action → Type 0
+Does name rows actions.List = name ≡ codes "list"
+Does name rows (actions.Run workers limit) =
+    (name ≡ codes "run") × IsNumber (one_of (codes "workers") rows) workers × IsNumber (one_of (codes "limit") rows) limit
+
+-- the same with the file
+abbrev pub Asks : Text × List Row → Invocation → Type 0
+Asks (name, rows) invocation = Does name rows invocation.action × (first_of (codes "FILE") rows ≡ Some invocation.file.now)
+
+-- the number that the text is, or none where it is no number
+abbrev pub IsNumberThere : Option Text → Option ℕ → Type 0
+IsNumberThere text (Some n) = IsNumber text n
+IsNumberThere text None = (n : ℕ) → IsNumber text n → ⊥
+
+-- what the command does, or none where it does nothing
+abbrev pub IsDone : (name : Text) → List Row → Option Action → Type 0
+IsDone name rows (Some action) = Does name rows action
+IsDone name rows None = (action : Action) → Does name rows action → ⊥
+
+-- what the words ask for where they name a command, or none where they ask for nothing
+abbrev pub IsAsked : Option (Text × List Row) → Option Invocation → Type 0
+IsAsked None None = Unit {0}
+IsAsked None (Some invocation) = ⊥
+IsAsked (Some found) (Some invocation) = Asks found invocation
+IsAsked (Some found) None = (invocation : Invocation) → Asks found invocation → ⊥
