@@ -80,9 +80,13 @@ comm most room words = comm_formed most room (form_of true words) words
 abbrev pub condition : ℕ → ℕ → List Lexeme → Reading Expression
 condition most room words = expression false most room 0 words
 
--- a condition behind a semicolon, with what stands before that
+-- a condition behind a semicolon
+abbrev pub behind_semicolon : ℕ → ℕ → List Lexeme → Reading Expression
+behind_semicolon most room words = expect kinds.Semicolon words >>= condition most room
+
+-- the same, with what stands before that
 abbrev pub behind_head : IfHead → ℕ → ℕ → List Lexeme → Reading (IfHead × Expression)
-behind_head first most room words = expect kinds.Semicolon words >>= λ after. as_one (λ test. (first, test)) (condition most room after)
+behind_head first most room words = as_one (λ test. (first, test)) (behind_semicolon most room words)
 
 -- what stands before the condition, and the condition
 abbrev pub if_headed : ℕ → ℕ → Head × List Lexeme → Reading (IfHead × Expression)
@@ -98,12 +102,15 @@ if_header most room words =
 abbrev pub unless_next : {A : Type 0} → Kind → (List Lexeme → Reading A) → List Lexeme → Reading (Option A)
 unless_next kind one words = if begins_with kind words then Ok (None, words) else as_one (λ x. Some x) (one words)
 
+-- what is done behind each turn, behind the second semicolon of a `for`
+abbrev pub post_behind : ℕ → ℕ → List Lexeme → Reading (Option Simple)
+post_behind most room words = expect kinds.Semicolon words >>= unless_next kinds.LeftBrace (simple false false most room)
+
 -- the clauses of a `for`, behind the first semicolon
 unfoldable pub for_clauses : Option Simple → ℕ → ℕ → List Lexeme → Reading ForHead
 for_clauses first most room words = do
   test ← unless_next kinds.Semicolon (condition most room) words
-  after ← expect kinds.Semicolon test.1
-  post ← unless_next kinds.LeftBrace (simple false false most room) after
+  post ← post_behind most room test.1
   Ok (ForClauses first test.0 post.0, post.1)
 
 -- the `range` of a `for`, from its word on

@@ -6,9 +6,10 @@ ghost use Rattle.syntax.specs.View.{expression_of, simple_of, if_head_of, target
 ghost use Rattle.parser_base.specs.Cursor.{ahead};
 ghost use Rattle.parser_base.specs.Reading.{Gives};
 ghost use Rattle.parser_simple.specs.Reading.{as_one, simple};
-ghost use Rattle.parser_statement.specs.HeaderReading.{is_primary, condition_or_sent, head, condition, behind_head, if_header, unless_next, for_clauses, ranged, range_defined, range_assigned, ranges, for_begun, for_header};
+ghost use Rattle.parser_statement.specs.HeaderReading.{is_primary, condition_or_sent, head, condition, behind_semicolon, if_header, unless_next, for_clauses, post_behind, ranged, range_defined, range_assigned, ranges, for_begun, for_header};
 ghost use Rattle.parser_statement.specs.Heads.{head_of, head_size};
 
+use crate::beside::beside;
 use go_text::{Fault, Span};
 use parser_base::cursor::Cursor;
 use parser_base::expression::{Found, expression};
@@ -115,24 +116,18 @@ pub struct FoundForHeader<'a> {
     pub rest: Cursor<'a>,
 }
 
-/// A condition behind a semicolon, with what stands before that.
+/// A condition behind a semicolon.
 fn if_condition<'a>(
     alloc: Global,
     room: u32,
-    header: IfHeader,
     cursor: Cursor<'a>,
     spans: &mut Vec<Span>,
-) -> Result<FoundIfHeader<'a>, Fault>
-    ensures header { Gives (λ x. ((if_head_of x.header, expression_of x.condition), ahead x.rest)) result (behind_head (if_head_of header) MAX_ENTRIES room (ahead cursor.entry)) }
-    ensures nodes { IfOk result (λ x. vec_len spans.new + if_head_size (if_head_of header) ≡ vec_len spans.old + if_head_size (if_head_of x.header) + expression_size (expression_of x.condition)) }
+) -> Result<Found<'a>, Fault>
+    ensures condition { Gives (λ x. (expression_of x.expression, ahead x.rest)) result (behind_semicolon MAX_ENTRIES room (ahead cursor.entry)) }
+    ensures nodes { IfOk result (λ x. vec_len spans.new ≡ vec_len spans.old + expression_size (expression_of x.expression)) }
 {
     let (_, rest) = cursor.expect(Kind::Semicolon)?;
-    let found = expression(alloc, false, room, 0, rest, spans)?;
-    Ok(FoundIfHeader {
-        header,
-        condition: found.expression,
-        rest: found.rest,
-    })
+    expression(alloc, false, room, 0, rest, spans)
 }
 
 /// What stands between an `if` and its block ("If statements" of the Go specification), below which there are at most
@@ -148,17 +143,23 @@ pub fn if_header<'a>(
     ensures nodes { IfOk result (λ x. vec_len spans.new ≡ vec_len spans.old + if_head_size (if_head_of x.header) + expression_size (expression_of x.condition)) }
 {
     if begins_with(Kind::Semicolon, cursor) {
-        return if_condition(alloc, room, IfHeader::Semicolon, cursor, spans);
+        let found = if_condition(alloc, room, cursor, spans)?;
+        return Ok(FoundIfHeader {
+            header: IfHeader::Semicolon,
+            condition: found.expression,
+            rest: found.rest,
+        });
     }
     let FoundHead { head, rest } = head(alloc, room, cursor, spans)?;
     match head {
-        HeadNode::Simple(simple) => if_condition(
-            alloc,
-            room,
-            IfHeader::Simple(simple),
-            rest,
-            spans,
-        ),
+        HeadNode::Simple(simple) => {
+            let (simple, found) = beside(simple, if_condition(alloc, room, rest, spans))?;
+            Ok(FoundIfHeader {
+                header: IfHeader::Simple(simple),
+                condition: found.expression,
+                rest: found.rest,
+            })
+        }
         HeadNode::Condition(condition) => Ok(FoundIfHeader {
             header: IfHeader::Bare,
             condition,
@@ -201,6 +202,20 @@ fn post<'a>(
     Ok((Some(found.simple), found.rest))
 }
 
+/// What is done behind each turn, behind the second semicolon of a `for`.
+fn post_behind<'a>(
+    alloc: Global,
+    room: u32,
+    cursor: Cursor<'a>,
+    spans: &mut Vec<Span>,
+) -> Result<(Option<SimpleNode>, Cursor<'a>), Fault>
+    ensures post { Gives (λ x. (option_map simple_of x.0, ahead x.1)) result (post_behind MAX_ENTRIES room (ahead cursor.entry)) }
+    ensures nodes { IfOk result (λ x. vec_len spans.new ≡ vec_len spans.old + if_any simple_size (option_map simple_of x.0)) }
+{
+    let (_, rest) = cursor.expect(Kind::Semicolon)?;
+    post(alloc, room, rest, spans)
+}
+
 /// The clauses of a `for` behind the first semicolon, before which `first` stands.
 #[tactic(auto, unfolding(crate::specs::HeaderReading::for_clauses))]
 fn clauses<'a>(
@@ -213,9 +228,11 @@ fn clauses<'a>(
     ensures header { Gives (λ x. (for_head_of x.header, ahead x.rest)) result (for_clauses (option_map simple_of first) MAX_ENTRIES room (ahead cursor.entry)) }
     ensures nodes { IfOk result (λ x. vec_len spans.new + if_any simple_size (option_map simple_of first) ≡ vec_len spans.old + for_head_size (for_head_of x.header)) }
 {
-    let (condition, rest) = test(alloc, room, cursor, spans)?;
-    let (_, rest) = rest.expect(Kind::Semicolon)?;
-    let (post, rest) = post(alloc, room, rest, spans)?;
+    let (first, (condition, rest)) = beside(first, test(alloc, room, cursor, spans))?;
+    let ((first, condition), (post, rest)) = beside(
+        (first, condition),
+        post_behind(alloc, room, rest, spans),
+    )?;
     Ok(FoundForHeader {
         header: ForHeader::Clauses(first, condition, post),
         rest,
@@ -301,7 +318,7 @@ fn for_begun<'a>(
     let FoundHead { head, rest } = head(alloc, room, cursor, spans)?;
     match head {
         HeadNode::Simple(simple) => {
-            let (_, rest) = rest.expect(Kind::Semicolon)?;
+            let (simple, (_, rest)) = beside(simple, rest.expect(Kind::Semicolon))?;
             clauses(alloc, room, Some(simple), rest, spans)
         }
         HeadNode::Condition(condition) => Ok(FoundForHeader {

@@ -12,6 +12,7 @@ ghost use Rattle.parser_simple.specs.Reading.{as_one};
 ghost use Rattle.parser_statement.specs.Reading.{statement_next, clause_next, clauses_next, waited, clause_body, other, otherwise, branched, repeated, one_clause, selected, marked, stated, statement, block, branch, clause};
 ghost use Rattle.parser_statement.specs.Views.{branch_of, otherwise_of, clause_of, one_clause_size};
 
+use crate::beside::{beside, push};
 use crate::comm::{FoundComm, comm};
 use crate::header::{for_header, if_header};
 use crate::leaf::{alone, ends_statement, leaf};
@@ -258,18 +259,25 @@ fn branched<'a>(
     ensures nodes { IfOk result (λ x. vec_len spans.new ≡ vec_len spans.old + branch_size (branch_of x.branch)) }
 {
     let header = if_header(alloc, room, cursor, spans)?;
-    let body = block(alloc, room, header.rest, spans)?;
-    let last = otherwise(alloc, room, body.last.to, body.rest, spans)?;
-    spans.push(Span {
+    let head = (header.header, header.condition);
+    let (head, body) = beside(head, block(alloc, room, header.rest, spans))?;
+    let begun = (head, body.entries);
+    let (begun, last) = beside(
+        begun,
+        otherwise(alloc, room, body.last.to, body.rest, spans),
+    )?;
+    let span = Span {
         from: first.from,
         to: last.end,
-    })?;
+    };
+    let ((begun, otherwise), ()) = beside((begun, last.otherwise), push(spans, span))?;
+    let ((header, condition), body) = begun;
     Ok(FoundBranch {
         branch: IfNode {
-            header: header.header,
-            condition: header.condition,
-            body: body.entries,
-            otherwise: last.otherwise,
+            header,
+            condition,
+            body,
+            otherwise,
         },
         end: last.end,
         rest: last.rest,
@@ -364,12 +372,16 @@ fn clause_body<'a>(
     ensures clause { Gives (λ x. (clause_of x.clause, ahead x.rest)) result (clause_body (statement MAX_ENTRIES room) (option_map comm_of waits) (ahead cursor.entry)) }
     ensures nodes { IfOk result (λ x. vec_len spans.new + if_any comm_size (option_map comm_of waits) ≡ vec_len spans.old + one_clause_size (clause_of x.clause)) }
 {
-    let (colon, rest) = cursor.expect(Kind::Colon)?;
-    let (body, _, end, rest) = clause_statements(alloc, room, colon.to, rest, spans)?;
-    spans.push(Span {
+    let (waits, (colon, rest)) = beside(waits, cursor.expect(Kind::Colon))?;
+    let (waits, (body, _, end, rest)) = beside(
+        waits,
+        clause_statements(alloc, room, colon.to, rest, spans),
+    )?;
+    let span = Span {
         from: first.from,
         to: end,
-    })?;
+    };
+    let ((waits, body), ()) = beside((waits, body), push(spans, span))?;
     Ok(FoundClause {
         clause: clause_node(waits, body),
         rest,

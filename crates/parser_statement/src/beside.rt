@@ -1,0 +1,24 @@
+//! What waits while more is read. A value that is held in these calls is let go by them, where what is read fails, and
+//! not by each function that reads on: the proofs of those are much cheaper so.
+
+ghost use Rattle.std.specs.Prelude.{◌≡◌, ◌+◌, Ok, Err, IfErr, IfOk, vec_len};
+ghost use Rattle.go_text.specs.declared.fault.Fault.TheVariants as faults;
+
+use go_text::{Fault, Span};
+
+/// What was read, beside what was read before it.
+pub(crate) fn beside<T: Drop, U: Drop>(before: T, read: Result<U, Fault>) -> Result<(T, U), Fault>
+    ensures ok { IfOk result (λ x. (x.0 ≡ before) × (read ≡ Ok x.1)) }
+    ensures err { IfErr result (λ fault. read ≡ Err fault) }
+{
+    Ok((before, read?))
+}
+
+/// Puts a span behind others.
+pub(crate) fn push(spans: &mut Vec<Span>, span: Span) -> Result<(), Fault>
+    ensures ok { IfOk result (λ _. vec_len spans.new ≡ vec_len spans.old + 1) }
+    ensures err { IfErr result (λ fault. fault ≡ faults.Memory) }
+{
+    spans.push(span)?;
+    Ok(())
+}
