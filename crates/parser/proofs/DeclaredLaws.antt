@@ -19,10 +19,10 @@ use Rattle.parser_base.proofs.TypeLaws.{TypeOutcome, Found as TypeFound, High as
 use Rattle.parser_base.proofs.ExpressionAgain.{entries-le, ending_again, more_entries}
 use Rattle.parser_base.proofs.ExpressionSound.{entry_more_sound, entry_end_sound}
 use Rattle.parser_simple.specs.Spelling.{name_words, IsName}
-use Rattle.parser_simple.specs.Reading.{begins_with, names}
+use Rattle.parser_simple.specs.Reading.{begins_with, begins_name, names}
 use Rattle.parser_simple.proofs.PlaceLaws.{names_again, names_sound}
 use Rattle.parser.specs.Spelling.{declared_words, IsDeclared}
-use Rattle.parser.specs.Reading.{begins_name, declared, some_declared, all_declared}
+use Rattle.parser.specs.Reading.{declared, some_declared, all_declared}
 
 -- ---- what is spelt is read
 

@@ -12,7 +12,8 @@ use Rattle.parser_base.specs.Lexemes.{Lexeme}
 use Rattle.parser_base.specs.Reading.{Refusal, TooMany, Reading, ◌>>=◌, Fails, followed, entry_next}
 use Rattle.parser_base.proofs.Results.{fails_on}
 use Rattle.parser_base.proofs.Lists.{with_front, one_more, regroup, same}
-use Rattle.parser.specs.Reading.{begins_name, declared, some_declared}
+use Rattle.parser_simple.specs.Reading.{begins_name}
+use Rattle.parser.specs.Reading.{declared, some_declared}
 
 -- what follows names and a type
 abbrev pub next_of : (separator close : Kind) → List Lexeme → Reading Next

@@ -10,15 +10,10 @@ use Rattle.parser_base.specs.Lexemes.{Lexeme, Literal, Name, Text, Mark}
 use Rattle.parser_base.specs.Spelling.{is_builtin}
 use Rattle.parser_base.specs.Reading.{Refusal, Syntax, TooDeep, TooMany, Reading, ◌>>=◌, is_kind, expect, expect_name, plain_name, listed, followed, entry_next}
 use Rattle.parser_base.specs.TypeReading.{type_at}
-use Rattle.parser_simple.specs.Reading.{as_one, begins_with, names}
+use Rattle.parser_simple.specs.Reading.{as_one, begins_with, begins_name, names}
 use Rattle.parser_statement.specs.Reading.{statement, statement_next}
 
 -- ---- fields and parameters
-
--- whether fields or parameters can begin so
-unfoldable pub begins_name : List Lexeme → Bool
-begins_name (Name name ∷ rest) = if is_builtin name then false else true
-begins_name words = false
 
 -- at most so many names, and their type, of at most so many levels
 unfoldable pub declared : ℕ → ℕ → List Lexeme → Reading Declared

@@ -6,28 +6,19 @@ ghost use Rattle.syntax.specs.Measures.{declared_size};
 ghost use Rattle.syntax.specs.View.{declared_of};
 ghost use Rattle.parser_base.specs.Cursor.{ahead};
 ghost use Rattle.parser_base.specs.Reading.{Gives, entry_next};
-ghost use Rattle.parser.specs.Reading.{begins_name, declared, some_declared, all_declared};
+ghost use Rattle.parser_simple.specs.Reading.{begins_name};
+ghost use Rattle.parser.specs.Reading.{declared, some_declared, all_declared};
 
 use go_text::{Fault, LimitKind, Span};
-use parser_base::cursor::{Cursor, Word, is_builtin};
+use parser_base::cursor::{Cursor, Word};
 use parser_base::expression::closed;
 use parser_base::list::{List, MAX_ENTRIES, Next};
 use parser_base::types::type_at;
+use parser_simple::form::begins_name;
 use parser_simple::place::names;
 use scanner::Kind;
 use std::alloc::Global;
 use syntax::DeclaredNode;
-
-/// Whether fields or parameters can begin here.
-#[tactic(auto, unfolding(crate::specs::Reading::begins_name))]
-fn begins_name(cursor: Cursor<'_>) -> bool
-    ensures { result ≡ begins_name (ahead cursor.entry) }
-{
-    match cursor.next() {
-        Some((Word::Name(name), _, _)) => !is_builtin(name),
-        _ => false,
-    }
-}
 
 /// What follows the type of fields or parameters, with the span of its last token.
 #[tactic(auto, unfolding(parser_base::specs::Reading::entry_next))]

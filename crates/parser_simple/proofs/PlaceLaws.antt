@@ -1,5 +1,5 @@
 -- Names and places: what is spelt is read, and what is read is spelt so.
-use Rattle.std.proofs.Common.{◌≡◌, ℕ, ◌<◌, ◌≤◌, Bool, true, false, cond, List, [], ◌∷◌, length, Ok, refl, ap, ◌∙◌, subst, arith}
+use Rattle.std.proofs.Common.{◌≡◌, ℕ, ◌<◌, ◌≤◌, Bool, true, false, cond, List, [], ◌∷◌, length, Ok, Err, refl, ap, ◌∙◌, subst, arith}
 use Rattle.scanner.specs.declared.kind.Kind.{Kind}
 use Rattle.scanner.specs.declared.kind.Kind.TheVariants as kinds
 use Rattle.syntax.specs.Tree.{Place}
@@ -8,26 +8,26 @@ use Rattle.parser_base.specs.declared.list.Next.{Next}
 use Rattle.parser_base.specs.declared.list.Next.TheVariants.{More, End}
 use Rattle.parser_base.specs.Lexemes.{Lexeme, Literal, Name, Text, Mark}
 use Rattle.parser_base.specs.Spelling.{behind, separated, joined, AreAll, AreSome}
-use Rattle.parser_base.specs.Reading.{TooMany, Reading, ◌>>=◌, is_kind, expect, plain_name}
+use Rattle.parser_base.specs.Reading.{Syntax, TooMany, Reading, ◌>>=◌, is_kind, expect, plain_name}
 use Rattle.parser_base.proofs.Marks.{bind_ok, ok_is, kind_is, is_kind_same, expect_is, plain_name_is, plain_name_again}
 use Rattle.parser_base.proofs.ListLaws.{Outcome, Found, High, Many, Entries, IsReadAgain, Separates, listed_again, all_again, ReadsSoundly, listed_sound}
 use Rattle.parser_base.proofs.Steps.{listed_outcome, highest_none}
 use Rattle.parser_simple.specs.Spelling.{name_words, IsName, place_words, IsPlace}
-use Rattle.parser_simple.specs.Reading.{begins_with, separator_next, names, fields, place, places}
+use Rattle.parser_simple.specs.Reading.{begins_with, begins_name, separator_next, names, fields, place, places}
 
 -- ---- separators
 
-pub separator_again : (separator : Kind) (ws : List Lexeme) → separator_next separator (Mark separator ∷ ws) ≡ Ok (More, ws)
+pub separator_again : (starts : List Lexeme → Bool) (separator : Kind) (ws : List Lexeme) → starts ws ≡ true → separator_next starts separator (Mark separator ∷ ws) ≡ Ok (More, ws)
 unfolding separator_next
-separator_again separator ws = rw (is_kind_same separator) refl
+separator_again starts separator ws begun = rw (is_kind_same separator, begun) refl
 
-pub no_separator : (separator : Kind) (rest : List Lexeme) → begins_with separator rest ≡ false → separator_next separator rest ≡ Ok (End false, rest)
+pub no_separator : (starts : List Lexeme → Bool) (separator : Kind) (rest : List Lexeme) → begins_with separator rest ≡ false → separator_next starts separator rest ≡ Ok (End false, rest)
 unfolding separator_next begins_with
-no_separator separator [] none = refl
-no_separator separator (Literal value ∷ rest) none = refl
-no_separator separator (Name name ∷ rest) none = refl
-no_separator separator (Text bytes ∷ rest) none = refl
-no_separator separator (Mark kind ∷ rest) none = rw none refl
+no_separator starts separator [] none = refl
+no_separator starts separator (Literal value ∷ rest) none = refl
+no_separator starts separator (Name name ∷ rest) none = refl
+no_separator starts separator (Text bytes ∷ rest) none = refl
+no_separator starts separator (Mark kind ∷ rest) none = rw none refl
 
 -- what was read, and what follows it
 abbrev pub gave : {A : Type 0} → A → List Lexeme → Reading A
@@ -39,11 +39,12 @@ goes_on_with rest = (More, rest)
 abbrev ends_with : Bool → List Lexeme → Next × List Lexeme
 ends_with trailing rest = (End trailing, rest)
 
-mark_more : (separator kind : Kind) (b : Bool) (ws rest : List Lexeme) → is_kind kind separator ≡ b → cond b (gave More ws) (gave (End false) (Mark kind ∷ ws)) ≡ gave More rest → Mark kind ∷ ws ≡ Mark separator ∷ rest
-mark_more separator kind true ws rest is e =
+mark_more : (separator kind : Kind) (b begun : Bool) (ws rest : List Lexeme) → is_kind kind separator ≡ b → cond b (cond begun (gave More ws) (Err Syntax)) (gave (End false) (Mark kind ∷ ws)) ≡ gave More rest → Mark kind ∷ ws ≡ Mark separator ∷ rest
+mark_more separator kind true true ws rest is e =
     let same = ap (λ (x : Next × List Lexeme). x.1) (ok_is (goes_on_with ws) (goes_on_with rest) e) in
     λ i. Mark (kind_is kind separator is i) ∷ same i
-mark_more separator kind false ws rest is e =
+mark_more separator kind true false ws rest is e = absurd cc
+mark_more separator kind false begun ws rest is e =
     let same : End false ≡ More = ap (λ (x : Next × List Lexeme). x.0) (ok_is (ends_with false (Mark kind ∷ ws)) (goes_on_with rest) e) in
     absurd cc
 
@@ -52,37 +53,43 @@ no_more ws rest e =
     let same : End false ≡ More = ap (λ (x : Next × List Lexeme). x.0) (ok_is (ends_with false ws) (goes_on_with rest) e) in
     cc
 
-pub separator_more_sound : (separator : Kind) (ws rest : List Lexeme) → separator_next separator ws ≡ Ok (More, rest) → ws ≡ Mark separator ∷ rest
+pub separator_more_sound : (starts : List Lexeme → Bool) (separator : Kind) (ws rest : List Lexeme) → separator_next starts separator ws ≡ Ok (More, rest) → ws ≡ Mark separator ∷ rest
 unfolding separator_next
-separator_more_sound separator [] rest e = absurd (no_more [] rest e)
-separator_more_sound separator (Literal value ∷ ws) rest e = absurd (no_more (Literal value ∷ ws) rest e)
-separator_more_sound separator (Name name ∷ ws) rest e = absurd (no_more (Name name ∷ ws) rest e)
-separator_more_sound separator (Text bytes ∷ ws) rest e = absurd (no_more (Text bytes ∷ ws) rest e)
-separator_more_sound separator (Mark kind ∷ ws) rest e = mark_more separator kind (is_kind kind separator) ws rest refl e
+separator_more_sound starts separator [] rest e = absurd (no_more [] rest e)
+separator_more_sound starts separator (Literal value ∷ ws) rest e = absurd (no_more (Literal value ∷ ws) rest e)
+separator_more_sound starts separator (Name name ∷ ws) rest e = absurd (no_more (Name name ∷ ws) rest e)
+separator_more_sound starts separator (Text bytes ∷ ws) rest e = absurd (no_more (Text bytes ∷ ws) rest e)
+separator_more_sound starts separator (Mark kind ∷ ws) rest e = mark_more separator kind (is_kind kind separator) (starts ws) ws rest refl e
 
 end_is : (ws : List Lexeme) (trailing : Bool) (rest : List Lexeme) → gave (End false) ws ≡ gave (End trailing) rest → ws ≡ rest
 end_is ws trailing rest e = ap (λ (x : Next × List Lexeme). x.1) (ok_is (ends_with false ws) (ends_with trailing rest) e)
 
-mark_end : (b : Bool) (ws all : List Lexeme) (trailing : Bool) (rest : List Lexeme) → cond b (gave More ws) (gave (End false) all) ≡ gave (End trailing) rest → all ≡ rest
-mark_end true ws all trailing rest e =
+mark_end : (b begun : Bool) (ws all : List Lexeme) (trailing : Bool) (rest : List Lexeme) → cond b (cond begun (gave More ws) (Err Syntax)) (gave (End false) all) ≡ gave (End trailing) rest → all ≡ rest
+mark_end true true ws all trailing rest e =
     let same : More ≡ End trailing = ap (λ (x : Next × List Lexeme). x.0) (ok_is (goes_on_with ws) (ends_with trailing rest) e) in
     absurd cc
-mark_end false ws all trailing rest e = end_is all trailing rest e
+mark_end true false ws all trailing rest e = absurd cc
+mark_end false begun ws all trailing rest e = end_is all trailing rest e
 
-pub separator_end_sound : (separator : Kind) (ws : List Lexeme) (trailing : Bool) (rest : List Lexeme) → separator_next separator ws ≡ Ok (End trailing, rest) → ws ≡ rest
+pub separator_end_sound : (starts : List Lexeme → Bool) (separator : Kind) (ws : List Lexeme) (trailing : Bool) (rest : List Lexeme) → separator_next starts separator ws ≡ Ok (End trailing, rest) → ws ≡ rest
 unfolding separator_next
-separator_end_sound separator [] trailing rest e = end_is [] trailing rest e
-separator_end_sound separator (Literal value ∷ ws) trailing rest e = end_is (Literal value ∷ ws) trailing rest e
-separator_end_sound separator (Name name ∷ ws) trailing rest e = end_is (Name name ∷ ws) trailing rest e
-separator_end_sound separator (Text bytes ∷ ws) trailing rest e = end_is (Text bytes ∷ ws) trailing rest e
-separator_end_sound separator (Mark kind ∷ ws) trailing rest e = mark_end (is_kind kind separator) ws (Mark kind ∷ ws) trailing rest e
+separator_end_sound starts separator [] trailing rest e = end_is [] trailing rest e
+separator_end_sound starts separator (Literal value ∷ ws) trailing rest e = end_is (Literal value ∷ ws) trailing rest e
+separator_end_sound starts separator (Name name ∷ ws) trailing rest e = end_is (Name name ∷ ws) trailing rest e
+separator_end_sound starts separator (Text bytes ∷ ws) trailing rest e = end_is (Text bytes ∷ ws) trailing rest e
+separator_end_sound starts separator (Mark kind ∷ ws) trailing rest e = mark_end (is_kind kind separator) (starts ws) ws (Mark kind ∷ ws) trailing rest e
+
+-- a name begins as one
+pub name_begins : (name : List ℕ) (ws : List Lexeme) → IsName name → begins_name (Name name ∷ ws) ≡ true
+unfolding begins_name
+name_begins name ws is = rw is refl
 
 -- ---- names
 
 abbrev pub listed_names : (separator : Kind) (most : ℕ) → Entries (List ℕ)
 listed_names separator most = record {
   one = plain_name;
-  next = separator_next separator;
+  next = separator_next begins_name separator;
   each = name_words;
   separator = behind separator;
   ending = λ trailing rest. rest;
@@ -102,9 +109,9 @@ name_again separator most name is rest ends = Found (omega arith) (λ listing. o
 names_separate : (separator : Kind) (most : ℕ) (rest : List Lexeme) → begins_with separator rest ≡ false → Separates (listed_names separator most) Anything false rest
 names_separate separator most rest none = record {
   separator = λ name words one. tt;
-  more = λ name words one. separator_again separator (name_words name words);
+  more = λ name words one. separator_again begins_name separator (name_words name words) (name_begins name words one);
   ending = tt;
-  end = no_separator separator rest none;
+  end = no_separator begins_name separator rest none;
 }
 
 pub names_again : (separator : Kind) (most : ℕ) (name : List ℕ) (ns : List (List ℕ)) (rest : List Lexeme) → AreAll IsName (name ∷ ns) → begins_with separator rest ≡ false
@@ -121,8 +128,8 @@ names_again separator most name ns rest all none =
 pub names_soundly : (separator : Kind) (most : ℕ) → ReadsSoundly (listed_names separator most)
 names_soundly separator most = record {
   one = λ ws name rest e. let n = plain_name_is ws name rest e in record { parts = n.0; is = n.1; low = omega arith; few = λ listing. omega arith };
-  more = separator_more_sound separator;
-  end = λ ws trailing rest e. separator_end_sound separator ws trailing rest e;
+  more = separator_more_sound begins_name separator;
+  end = λ ws trailing rest e. separator_end_sound begins_name separator ws trailing rest e;
 }
 
 pub record AreNames (separator : Kind) (most : ℕ) (ws : List Lexeme) (ns : List (List ℕ)) (rest : List Lexeme) : Type 0 where
@@ -172,7 +179,7 @@ place_again p rest is none = rw (plain_name_again p.name (separated name_words (
 abbrev listed_places : (most : ℕ) → Entries Place
 listed_places most = record {
   one = place;
-  next = separator_next kinds.Comma;
+  next = separator_next begins_name kinds.Comma;
   each = place_words;
   separator = behind kinds.Comma;
   ending = λ trailing rest. rest;
@@ -190,9 +197,9 @@ places_separate : (most : ℕ) (rest : List Lexeme) → NoField rest → begins_
 unfolding begins_with
 places_separate most rest no_field none = record {
   separator = λ p words one. refl;
-  more = λ p words one. separator_again kinds.Comma (place_words p words);
+  more = λ p words one. separator_again begins_name kinds.Comma (place_words p words) (name_begins p.name (separated name_words (behind kinds.Period) p.fields words) one.0);
   ending = no_field;
-  end = no_separator kinds.Comma rest none;
+  end = no_separator begins_name kinds.Comma rest none;
 }
 
 pub places_again : (most : ℕ) (p : Place) (ps : List Place) (rest : List Lexeme) → AreAll IsPlace (p ∷ ps) → begins_with kinds.Period rest ≡ false → begins_with kinds.Comma rest ≡ false
@@ -258,8 +265,8 @@ pub record ArePlaces (most : ℕ) (ws : List Lexeme) (ps : List Place) (rest : L
 places_soundly : (most : ℕ) → ReadsSoundly (listed_places most)
 places_soundly most = record {
   one = λ ws p rest e. let s = place_sound ws p rest e in record { parts = s.0; is = s.1; low = omega arith; few = λ listing. omega arith };
-  more = separator_more_sound kinds.Comma;
-  end = λ ws trailing rest e. separator_end_sound kinds.Comma ws trailing rest e;
+  more = separator_more_sound begins_name kinds.Comma;
+  end = λ ws trailing rest e. separator_end_sound begins_name kinds.Comma ws trailing rest e;
 }
 
 pub places_sound : (most : ℕ) (ws : List Lexeme) (found : (List Place × Bool) × List Lexeme) → places most ws ≡ Ok found → ArePlaces most ws found.0.0 found.1

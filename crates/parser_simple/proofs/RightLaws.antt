@@ -1,24 +1,25 @@
 -- Right sides: what is spelt is read, and what is read is spelt so.
-use Rattle.std.proofs.Common.{◌≡◌, ℕ, zero, suc, ◌≤◌, Bool, true, false, cond, Option, Some, None, max, List, [], ◌∷◌, ◌++◌, length, Err, inl, inr, refl, sym, ap, ◌∙◌, subst, arith, append_assoc, bytes_eq, codes}
+use Rattle.std.proofs.Common.{◌≡◌, ℕ, zero, suc, ◌<◌, ◌≤◌, Bool, true, false, cond, Option, Some, None, max, List, [], ◌∷◌, ◌++◌, length, Result, Ok, Err, nat_le, inl, inr, refl, sym, ap, ◌∙◌, subst, arith, append_assoc, bytes_eq, codes}
+use Rattle.std.proofs.lemmas.Bool.{leb-false}
 use Rattle.scanner.specs.declared.kind.Kind.{Kind}
 use Rattle.scanner.specs.declared.kind.Kind.TheVariants as kinds
 use Rattle.syntax.specs.declared.node.BinaryOperator.{BinaryOperator}
 use Rattle.syntax.specs.declared.node.BinaryOperator.TheVariants as binaries
 use Rattle.syntax.specs.declared.node.UnaryOperator.TheVariants as unaries
-use Rattle.syntax.specs.Tree.{Expression, Integer, Named, Parenthesized, Selection, Composite, Unary, Binary, TypeExpression, Arguments, Operation, Call, Receive, Make, Length, Capacity, Right, RightOperation, Values}
+use Rattle.syntax.specs.Tree.{Expression, Integer, Named, Parenthesized, Selection, Composite, Unary, Binary, TypeExpression, NamedType, ParenthesizedType, Channel, Arguments, Operation, Call, Receive, Make, Length, Capacity, Right, RightOperation, Values}
 use Rattle.syntax.specs.Measures.{Listing, Entries as EntriesLimit, entries, highest, if_any, type_height, expression_height, expression_longest, arguments_height, arguments_longest, operation_height, operation_longest, right_height, right_longest}
 use Rattle.parser_base.specs.Lexemes.{Lexeme, Literal, Name, Text, Mark}
 use Rattle.parser_base.specs.Spelling.{is_builtin, behind, separated, joined, before, AreAll, expression_words, outer_precedence, IsGrouped, binary_kind}
-use Rattle.parser_base.specs.Reading.{Syntax, TooMany, Reading, ◌>>=◌, is_kind, expect, step_at, expression, values}
+use Rattle.parser_base.specs.Reading.{Refusal, Syntax, TooDeep, TooMany, Reading, ◌>>=◌, is_kind, expect, step_at, begins, expression, values}
 use Rattle.parser_base.specs.TypeReading.{type_words, IsType, type_at}
 use Rattle.parser_base.proofs.Marks.{bind_ok, when_ok, ok_is, kind_is, expect_is, bytes_are}
 use Rattle.parser_base.proofs.ListLaws.{Outcome, Found, High, Entries, IsReadAgain, Separates, listed_again, all_again, ReadsSoundly, listed_sound}
-use Rattle.parser_base.proofs.ExpressionAgain.{reads, EndsExpression, shut, entries-le, height_positive, precedence-lt, none_above, parenthesis_closes, comma_ends, values_again}
+use Rattle.parser_base.proofs.ExpressionAgain.{reads, EndsExpression, shut, entries-le, height_positive, precedence-lt, none_above, parenthesis_closes, comma_ends, begins_again, values_again}
 use Rattle.parser_base.proofs.ExpressionSound.{expression_sound, values_sound}
 use Rattle.parser_base.proofs.TypeLaws.{type_again, type_sound, Found as TypeFound, High as TypeHigh}
 use Rattle.parser_base.proofs.Steps.{then_again, made_again, listed_outcome, gave, Sound, made_is, either}
 use Rattle.parser_simple.specs.Spelling.{IsName, IsPrimary, arguments_words, AreArguments, size_words, IsSize, operation_words, IsOperation, right_words, IsRight}
-use Rattle.parser_simple.specs.Reading.{as_one, begins_with, separator_next, begins_primary, primary, arguments, argument, size, make, builtin_operation, begins_operation, operation, value_list, right}
+use Rattle.parser_simple.specs.Reading.{as_one, begins_with, separator_next, begins_primary, primary, needing, received, arguments, argument, size, make, builtin_operation, begins_operation, operation, value_list, right}
 use Rattle.parser_simple.proofs.PlaceLaws.{separator_again, no_separator, separator_more_sound, separator_end_sound}
 
 -- ---- what may follow
@@ -51,6 +52,21 @@ operator_shut binaries.GreaterEqual = refl
 operator_shut binaries.LogicalAnd = refl
 operator_shut binaries.LogicalOr = refl
 
+-- ---- what needs levels
+
+-- what is found has them, and what has them not is too high
+needed : {A : Type 0} (b : Bool) (least : ℕ) {read : Reading A} {x : A} {rest : List Lexeme} {height room : ℕ} {longest : Listing → ℕ} {most : ℕ}
+    → (b ≡ false → room < height) → Outcome read x rest height room longest most → Outcome (cond b read (Err TooDeep)) x rest height room longest most
+needed true least high again = again
+needed false least high again = High (high refl) refl
+
+pub needing_again : {A : Type 0} (least have : ℕ) {read : Reading A} {x : A} {rest : List Lexeme} {height room : ℕ} {longest : Listing → ℕ} {most : ℕ}
+    → (have < least → room < height) → Outcome read x rest height room longest most → Outcome (needing least have read) x rest height room longest most
+needing_again least have high again = needed (nat_le least have) least (λ none. high (leb-false least have none)) again
+
+pub needing_ok : {A : Type 0} (least room : ℕ) (read : Result A Refusal) (y : A) → needing least room read ≡ Ok y → read ≡ Ok y
+needing_ok least room read y e = (when_ok (nat_le least room) TooDeep read y e).1
+
 -- ---- values and operands
 
 abbrev pub ExpressionOutcome : (literals : Bool) (most room : ℕ) → Reading Expression → Expression → List Lexeme → Type 0
@@ -76,6 +92,10 @@ pub primary_again : (literals : Bool) (most room : ℕ) (e : Expression) (rest :
 unfolding primary
 primary_again literals most room e rest is ends =
     rw (begins_primary_again literals e rest is) (reads literals most e is.0 room 7 rest (omega (arith, is.1)) (none_above 0 7 rest (omega arith) ends.none) ends.shut)
+
+pub received_again : (literals : Bool) (most room : ℕ) (e : Expression) (rest : List Lexeme) → IsPrimary literals e → EndsExpression literals rest
+    → ExpressionOutcome literals most room (received literals most room (before e rest)) e rest
+received_again literals most room e rest is ends = needing_again 1 room (λ none. omega (arith, none, height_positive e)) (primary_again literals most room e rest is ends)
 
 pub parenthesis_ends : (literals : Bool) (rest : List Lexeme) → EndsExpression literals (Mark kinds.RightParenthesis ∷ rest)
 unfolding step_at
@@ -127,6 +147,12 @@ type_outcome room most t rest is =
       | TypeHigh high e ↦ High high e
     ]
 
+-- a type is at least one level high
+pub type_positive : (t : TypeExpression) → 1 ≤ type_height t
+type_positive (NamedType name) = omega arith
+type_positive (ParenthesizedType inner) = omega arith
+type_positive (Channel direction element) = omega arith
+
 make_again : (literals : Bool) (most room : ℕ) (t : TypeExpression) (s : Option Expression) (rest : List Lexeme) → IsType t → IsSize literals s
     → Outcome (make literals most room (Mark kinds.LeftParenthesis ∷ (type_words t ++ size_words s (Mark kinds.RightParenthesis ∷ rest)))) (Make t s) rest (max (type_height t) (if_any expression_height s)) room (λ listing. if_any (expression_longest listing) s) most
 unfolding make expect
@@ -141,12 +167,13 @@ unfolding operation builtin_operation
 operation_again literals most room (Call function all) rest is stops =
     rw is.0 (made_again (Call function) (arguments_again literals most room all rest is.1) (λ high. high) (λ low. low) (λ listing. refl))
 operation_again literals most room (Receive channel) rest is stops =
-    made_again Receive (primary_again literals most room channel rest is stops.ends) (λ high. high) (λ low. low) (λ listing. refl)
-operation_again literals most room (Make channel s) rest is stops = make_again literals most room channel s rest is.0 is.1
+    made_again Receive (received_again literals most room channel rest is stops.ends) (λ high. high) (λ low. low) (λ listing. refl)
+operation_again literals most room (Make channel s) rest is stops =
+    needing_again 1 room (λ none. omega (arith, none, type_positive channel)) (make_again literals most room channel s rest is.0 is.1)
 operation_again literals most room (Length channel) rest is stops =
-    made_again Length (argument_again literals most room channel rest is) (λ high. high) (λ low. low) (λ listing. refl)
+    needing_again 1 room (λ none. omega (arith, none, height_positive channel)) (made_again Length (argument_again literals most room channel rest is) (λ high. high) (λ low. low) (λ listing. refl))
 operation_again literals most room (Capacity channel) rest is stops =
-    made_again Capacity (argument_again literals most room channel rest is) (λ high. high) (λ low. low) (λ listing. refl)
+    needing_again 1 room (λ none. omega (arith, none, height_positive channel)) (made_again Capacity (argument_again literals most room channel rest is) (λ high. high) (λ low. low) (λ listing. refl))
 
 pub operation_begins : (literals : Bool) (o : Operation) (rest : List Lexeme) → IsOperation literals o → begins_operation (operation_words o rest) ≡ true
 unfolding begins_operation begins_with
@@ -177,7 +204,7 @@ no_operation literals (Binary o l r) rest g none =
 abbrev pub right_values : (literals : Bool) (most room : ℕ) → Entries Expression
 right_values literals most room = record {
   one = expression literals most room 0;
-  next = separator_next kinds.Comma;
+  next = separator_next begins kinds.Comma;
   each = before;
   separator = behind kinds.Comma;
   ending = λ trailing rest. rest;
@@ -191,9 +218,9 @@ right_values literals most room = record {
 values_separate : (literals : Bool) (most room : ℕ) (rest : List Lexeme) → Stops literals rest → Separates (right_values literals most room) (EndsExpression literals) false rest
 values_separate literals most room rest stops = record {
   separator = λ e words one. comma_ends literals (before e words);
-  more = λ e words one. separator_again kinds.Comma (before e words);
+  more = λ e words one. separator_again begins kinds.Comma (before e words) (begins_again literals e words one);
   ending = stops.ends;
-  end = no_separator kinds.Comma rest stops.comma;
+  end = no_separator begins kinds.Comma rest stops.comma;
 }
 
 value_list_again : (literals : Bool) (most room : ℕ) (v : Expression) (vs : List Expression) (rest : List Lexeme) → AreAll (IsGrouped literals) (v ∷ vs) → Stops literals rest
@@ -204,7 +231,7 @@ value_list_again literals most room v vs rest all stops =
     let each = all_again (IsGrouped literals) (IsReadAgain l (EndsExpression literals)) (λ e is after ends. value_again literals most room e after is ends) (v ∷ vs) all in
     listed_outcome (listed_again l (EndsExpression literals) false rest (TooMany EntriesLimit) (values_separate literals most room rest stops) vs most v all each)
 
-right_positive : (literals : Bool) (r : Right) → IsRight literals r → 1 ≤ right_height r
+pub right_positive : (literals : Bool) (r : Right) → IsRight literals r → 1 ≤ right_height r
 right_positive literals (RightOperation o) is = omega (arith, below_is o)
 right_positive literals (Values []) is = absurd is
 right_positive literals (Values (v ∷ vs)) is = omega (arith, height_positive v)
@@ -355,15 +382,18 @@ measured_sound make name literals most room words is high long ws o rest e =
 builtin_sound : (literals : Bool) (most room : ℕ) (name : List ℕ) (ws : List Lexeme) (o : Operation) (rest : List Lexeme) → builtin_operation literals most room name ws ≡ gave o rest → OperationSound literals most room (Name name ∷ ws) o rest
 unfolding builtin_operation
 builtin_sound literals most room name ws o rest e =
-    elim (either (bytes_eq name (codes "make")) (make literals most room ws) (cond (bytes_eq name (codes "len")) (as_one Length (argument literals most room ws)) (cond (bytes_eq name (codes "cap")) (as_one Capacity (argument literals most room ws)) (Err Syntax))) (o, rest) e) [
-      | inl m ↦ subst (λ (x : List ℕ). OperationSound literals most room (Name x ∷ ws) o rest) (sym (bytes_are name (codes "make") m.0)) (make_sound literals most room ws o rest m.1)
-      | inr other ↦ elim (either (bytes_eq name (codes "len")) (as_one Length (argument literals most room ws)) (cond (bytes_eq name (codes "cap")) (as_one Capacity (argument literals most room ws)) (Err Syntax)) (o, rest) other.1) [
+    let made = needing 1 room (make literals most room ws) in
+    let measured = needing 1 room (as_one Length (argument literals most room ws)) in
+    let capable = needing 1 room (as_one Capacity (argument literals most room ws)) in
+    elim (either (bytes_eq name (codes "make")) made (cond (bytes_eq name (codes "len")) measured (cond (bytes_eq name (codes "cap")) capable (Err Syntax))) (o, rest) e) [
+      | inl m ↦ subst (λ (x : List ℕ). OperationSound literals most room (Name x ∷ ws) o rest) (sym (bytes_are name (codes "make") m.0)) (make_sound literals most room ws o rest (needing_ok 1 room (make literals most room ws) (o, rest) m.1))
+      | inr other ↦ elim (either (bytes_eq name (codes "len")) measured (cond (bytes_eq name (codes "cap")) capable (Err Syntax)) (o, rest) other.1) [
         | inl l ↦ subst (λ (x : List ℕ). OperationSound literals most room (Name x ∷ ws) o rest) (sym (bytes_are name (codes "len") l.0))
-            (measured_sound Length (codes "len") literals most room (λ x after. refl) (λ x g. g) (λ x. refl) (λ x listing. refl) ws o rest l.1)
+            (measured_sound Length (codes "len") literals most room (λ x after. refl) (λ x g. g) (λ x. refl) (λ x listing. refl) ws o rest (needing_ok 1 room (as_one Length (argument literals most room ws)) (o, rest) l.1))
         | inr neither ↦
-            let w = when_ok (bytes_eq name (codes "cap")) Syntax (as_one Capacity (argument literals most room ws)) (o, rest) neither.1 in
+            let w = when_ok (bytes_eq name (codes "cap")) Syntax capable (o, rest) neither.1 in
             subst (λ (x : List ℕ). OperationSound literals most room (Name x ∷ ws) o rest) (sym (bytes_are name (codes "cap") w.0))
-            (measured_sound Capacity (codes "cap") literals most room (λ x after. refl) (λ x g. g) (λ x. refl) (λ x listing. refl) ws o rest w.1)
+            (measured_sound Capacity (codes "cap") literals most room (λ x after. refl) (λ x g. g) (λ x. refl) (λ x listing. refl) ws o rest (needing_ok 1 room (as_one Capacity (argument literals most room ws)) (o, rest) w.1))
       ]
     ]
 
@@ -374,10 +404,13 @@ call_sound literals most room name ws o rest plain e =
     subst (λ (x : Operation). OperationSound literals most room (Name name ∷ ws) x rest) a.2
     (record { parts = ap (λ (x : List Lexeme). Name name ∷ x) s.parts; is = (plain, s.is); low = s.low; few = s.few })
 
-receive_sound : (literals : Bool) (most room : ℕ) (ws : List Lexeme) (o : Operation) (rest : List Lexeme) → as_one Receive (primary literals most room ws) ≡ gave o rest → OperationSound literals most room (Mark kinds.Arrow ∷ ws) o rest
+pub received_sound : (literals : Bool) (most room : ℕ) (ws : List Lexeme) (e : Expression) (rest : List Lexeme) → received literals most room ws ≡ gave e rest → PrimarySound literals most room ws e rest
+received_sound literals most room ws e rest is = primary_sound literals most room ws e rest (needing_ok 1 room (primary literals most room ws) (e, rest) is)
+
+receive_sound : (literals : Bool) (most room : ℕ) (ws : List Lexeme) (o : Operation) (rest : List Lexeme) → as_one Receive (received literals most room ws) ≡ gave o rest → OperationSound literals most room (Mark kinds.Arrow ∷ ws) o rest
 receive_sound literals most room ws o rest e =
-    let a = made_is Receive (primary literals most room ws) o rest e in
-    let s = primary_sound literals most room ws a.0 rest a.1 in
+    let a = made_is Receive (received literals most room ws) o rest e in
+    let s = received_sound literals most room ws a.0 rest a.1 in
     subst (λ (x : Operation). OperationSound literals most room (Mark kinds.Arrow ∷ ws) x rest) a.2
     (record { parts = ap (λ (x : List Lexeme). Mark kinds.Arrow ∷ x) s.parts; is = s.is; low = s.low; few = s.few })
 
@@ -387,7 +420,7 @@ operation_sound literals most room [] o rest e = absurd cc
 operation_sound literals most room (Literal value ∷ ws) o rest e = absurd cc
 operation_sound literals most room (Text bytes ∷ ws) o rest e = absurd cc
 operation_sound literals most room (Mark kind ∷ ws) o rest e =
-    let w = when_ok (is_kind kind kinds.Arrow) Syntax (as_one Receive (primary literals most room ws)) (o, rest) e in
+    let w = when_ok (is_kind kind kinds.Arrow) Syntax (as_one Receive (received literals most room ws)) (o, rest) e in
     subst (λ (x : Kind). OperationSound literals most room (Mark x ∷ ws) o rest) (sym (kind_is kind kinds.Arrow w.0)) (receive_sound literals most room ws o rest w.1)
 operation_sound literals most room (Name name ∷ ws) o rest e =
     elim (either (is_builtin name) (builtin_operation literals most room name ws) (as_one (Call name) (arguments literals most room ws)) (o, rest) e) [
@@ -400,8 +433,8 @@ operation_sound literals most room (Name name ∷ ws) o rest e =
 values_soundly : (literals : Bool) (most room : ℕ) → ReadsSoundly (right_values literals most room)
 values_soundly literals most room = record {
   one = λ ws e rest is. let s = value_sound literals most room ws e rest is in record { parts = s.parts; is = s.is; low = s.low; few = s.few };
-  more = separator_more_sound kinds.Comma;
-  end = λ ws trailing rest e. separator_end_sound kinds.Comma ws trailing rest e;
+  more = separator_more_sound begins kinds.Comma;
+  end = λ ws trailing rest e. separator_end_sound begins kinds.Comma ws trailing rest e;
 }
 
 abbrev pub RightSound : (literals : Bool) (most room : ℕ) → List Lexeme → Right → List Lexeme → Type 0

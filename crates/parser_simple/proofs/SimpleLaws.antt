@@ -1,5 +1,5 @@
 -- Simple statements: what is spelt is read, and what is read is spelt so.
-use Rattle.std.proofs.Common.{◌≡◌, ℕ, zero, suc, ◌≤◌, Bool, true, false, cond, ◌&&◌, Option, Some, None, max, List, [], ◌∷◌, length, Ok, Err, inl, inr, refl, sym, ap, ◌∙◌, subst, arith, bytes_eq, codes, IsTrue}
+use Rattle.std.proofs.Common.{◌≡◌, ℕ, zero, suc, ◌<◌, ◌≤◌, Bool, true, false, cond, ◌&&◌, Option, Some, None, max, List, [], ◌∷◌, length, Ok, Err, inl, inr, refl, sym, ap, ◌∙◌, subst, arith, bytes_eq, codes, nat_le, IsTrue}
 use Rattle.scanner.specs.declared.kind.Kind.{Kind}
 use Rattle.scanner.specs.declared.kind.Kind.TheVariants as kinds
 use Rattle.syntax.specs.declared.node.BinaryOperator.{BinaryOperator}
@@ -7,7 +7,7 @@ use Rattle.syntax.specs.Tree.{Expression, Arguments, Right, Place, Part, Value, 
 use Rattle.syntax.specs.Measures.{Listing, Entries as EntriesLimit, entries, highest, expression_height, expression_longest, part_height, part_longest, simple_height, simple_longest}
 use Rattle.parser_base.specs.Lexemes.{Lexeme, Literal, Name, Text, Mark}
 use Rattle.parser_base.specs.Spelling.{is_builtin, behind, separated, joined, closing, before, AreAll, AreSome, IsTrailing, precedence, IsGrouped}
-use Rattle.parser_base.specs.Reading.{Syntax, TooMany, Reading, ◌>>=◌, is_kind, expect, begins, step_at, entry_next, expression, listed}
+use Rattle.parser_base.specs.Reading.{Syntax, TooDeep, TooMany, Reading, ◌>>=◌, is_kind, expect, begins, step_at, entry_next, expression, listed}
 use Rattle.parser_base.proofs.Marks.{bind_ok, when_ok, ok_is, kind_is, expect_is, expect_again, bytes_are}
 use Rattle.parser_base.proofs.ListLaws.{AreFew, Outcome, Found, High, Entries, IsReadAgain, Separates, listed_again, all_again, IsEntry, ReadsSoundly, listed_sound}
 use Rattle.parser_base.proofs.ExpressionAgain.{EndsExpression, shut, entries-le, height_positive, parenthesis_closes, comma_ends, closing_ends, begins_again, ending_again, more_entries}
@@ -16,10 +16,10 @@ use Rattle.parser_base.proofs.Steps.{then_again, made_again, listed_outcome, gav
 use Rattle.parser_simple.specs.declared.form.Form.{Form}
 use Rattle.parser_simple.specs.declared.form.Form.TheVariants as forms
 use Rattle.parser_simple.specs.Spelling.{name_words, IsName, place_words, IsPlace, IsPrimary, right_words, IsRight, part_words, IsPart, print_name, update_kind, simple_words, IsSimple}
-use Rattle.parser_simple.specs.Reading.{as_one, begins_with, defines, form_of, names, place, places, primary, arguments, argument, right, begins_part, part, parts, print, builtin_call, assigned, defined, stepped, updated, formed, led, sent, led_or_sent, simple}
+use Rattle.parser_simple.specs.Reading.{as_one, begins_with, defines, form_of, names, place, places, needing, behind_place, received, primary, arguments, argument, right, begins_part, part, parts, print, builtin_call, assigned, defined, stepped, updated, formed, led, sent, led_or_sent, simple}
 use Rattle.parser_simple.proofs.PlaceLaws.{names_again, names_sound, place_again, place_sound, places_again, places_sound}
 use Rattle.parser_simple.proofs.FormLaws.{update_again, update_shut, update_no_field, form_strong, led_formed, defines_names, no_defines, no_form, led_none}
-use Rattle.parser_simple.proofs.RightLaws.{Stops, value_again, primary_again, arguments_again, argument_again, no_operation, right_again, value_sound, primary_sound, arguments_sound, argument_sound, right_sound}
+use Rattle.parser_simple.proofs.RightLaws.{Stops, needing_again, needing_ok, value_again, primary_again, received_again, arguments_again, argument_again, no_operation, right_again, right_positive, value_sound, primary_sound, received_sound, arguments_sound, argument_sound, right_sound}
 
 -- ---- arguments of print and println
 
@@ -167,12 +167,12 @@ led_alone literals defining most room function all rest is =
 led_close : (literals defining : Bool) (most room : ℕ) (c : Expression) (rest : List Lexeme) → IsGrouped literals c → LedOutcome most room (led literals defining most room (simple_words (Close c) rest)) (Close c) rest
 unfolding led builtin_call
 led_close literals defining most room c rest is =
-    some_again most room _ (Close c) rest (made_again Close (argument_again literals most room c rest is) (λ high. high) (λ low. low) (λ listing. refl))
+    some_again most room _ (Close c) rest (needing_again 1 room (λ none. omega (arith, none, height_positive c)) (made_again Close (argument_again literals most room c rest is) (λ high. high) (λ low. low) (λ listing. refl)))
 
 led_receive : (literals defining : Bool) (most room : ℕ) (c : Expression) (rest : List Lexeme) → IsPrimary literals c → Stops literals rest → LedOutcome most room (led literals defining most room (simple_words (ReceiveAlone c) rest)) (ReceiveAlone c) rest
 unfolding led
 led_receive literals defining most room c rest is stops =
-    made_again (λ (x : Expression). Some (ReceiveAlone x)) (primary_again literals most room c rest is stops.ends) (λ high. high) (λ low. low) (λ listing. refl)
+    made_again (λ (x : Expression). Some (ReceiveAlone x)) (received_again literals most room c rest is stops.ends) (λ high. high) (λ low. low) (λ listing. refl)
 
 led_increment : (literals defining : Bool) (most room : ℕ) (p : Place) (rest : List Lexeme) → IsPlace p → LedOutcome most room (led literals defining most room (simple_words (Increment p) rest)) (Increment p) rest
 unfolding formed form_of stepped begins_with expect
@@ -195,6 +195,18 @@ led_update literals defining most room p o v rest is strong grouped stops =
     rw (led_formed literals defining most room p (Mark (update_kind o) ∷ before v rest) is (shut_update o (before v rest)), update_again o (before v rest) strong)
     (some_again most room _ (Update p o v) rest (updated_again literals most room p o v rest is grouped stops))
 
+-- what is found has a level behind its first place
+behind_place_again : {A : Type 0} (p : Place) (after : List Lexeme) {read : Reading A} {x : A} {rest : List Lexeme} {height room : ℕ} {longest : Listing → ℕ} {most : ℕ} → IsPlace p → begins_with kinds.Period after ≡ false → (room < 1 → room < height)
+    → Outcome read x rest height room longest most → Outcome (behind_place room (place_words p after) read) x rest height room longest most
+behind_place_again p after {room = room} is none high again = rw (place_again p after is none) (needing_again 1 room high again)
+
+behind_place_ok : {A : Type 0} (room : ℕ) (ws : List Lexeme) (read : Reading A) (found : A × List Lexeme) → behind_place room ws read ≡ Ok found → read ≡ Ok found
+behind_place_ok room ws read found e =
+    elim (either (nat_le 1 room) read (place ws >>= λ target. Err TooDeep) found e) [
+      | inl enough ↦ enough.1
+      | inr none ↦ let a = bind_ok (place ws) (λ target. Err TooDeep) found none.1 in absurd cc
+    ]
+
 choose_second : {A : Type 0} (a b : Bool) (first second : A) → b ≡ false → cond (a && b) first second ≡ second
 choose_second true b first second is = rw is refl
 choose_second false b first second is = refl
@@ -210,7 +222,8 @@ led_assign literals defining most room p (q ∷ ps) r rest all is stops =
       led_formed literals defining most room p (Mark kinds.Comma ∷ joined place_words (behind kinds.Comma) (q ∷ ps) (Mark kinds.Assign ∷ right_words r rest)) all.0 refl,
       choose_second defining _ (defined literals most room (simple_words (Assign (p ∷ q ∷ ps) r) rest)) (assigned literals most room (simple_words (Assign (p ∷ q ∷ ps) r) rest)) (no_defines p (q ∷ ps) (right_words r rest)),
     )
-    (some_again most room _ (Assign (p ∷ q ∷ ps) r) rest (assigned_again literals most room p (q ∷ ps) r rest all is stops))
+    (behind_place_again p (Mark kinds.Comma ∷ joined place_words (behind kinds.Comma) (q ∷ ps) (Mark kinds.Assign ∷ right_words r rest)) all.0 refl (λ none. omega (arith, none, right_positive literals r is))
+    (some_again most room _ (Assign (p ∷ q ∷ ps) r) rest (assigned_again literals most room p (q ∷ ps) r rest all is stops)))
 
 choose_first : {A : Type 0} (a b : Bool) (first second : A) → a ≡ true → b ≡ true → cond (a && b) first second ≡ first
 choose_first true b first second yes' is = rw is refl
@@ -235,7 +248,8 @@ led_define literals defining most room n (m ∷ ns) r rest is_defining all is st
       led_named literals defining most room n (Mark kinds.Comma ∷ joined name_words (behind kinds.Comma) (m ∷ ns) (Mark kinds.Define ∷ right_words r rest)) all.0 refl,
       choose_first defining _ (defined literals most room (simple_words (Define (n ∷ m ∷ ns) r) rest)) (assigned literals most room (simple_words (Define (n ∷ m ∷ ns) r) rest)) is_defining (defines_names n (m ∷ ns) (right_words r rest)),
     )
-    (some_again most room _ (Define (n ∷ m ∷ ns) r) rest (defined_again literals most room n (m ∷ ns) r rest all is stops))
+    (behind_place_again (record { name = n; fields = [] }) (Mark kinds.Comma ∷ joined name_words (behind kinds.Comma) (m ∷ ns) (Mark kinds.Define ∷ right_words r rest)) (all.0, tt) refl (λ none. omega (arith, none, right_positive literals r is))
+    (some_again most room _ (Define (n ∷ m ∷ ns) r) rest (defined_again literals most room n (m ∷ ns) r rest all is stops)))
 
 abbrev pub is_send : Simple → Bool
 is_send (Send c v) = true
@@ -361,13 +375,13 @@ close_sound literals defining most room ws s rest e =
 builtin_call_sound : (literals defining : Bool) (most room : ℕ) (name : List ℕ) (ws : List Lexeme) (s : Simple) (rest : List Lexeme) → builtin_call literals most room name ws ≡ gave s rest → SimpleSound literals defining most room (Name name ∷ ws) s rest
 unfolding builtin_call
 builtin_call_sound literals defining most room name ws s rest e =
-    elim (either (bytes_eq name (codes "println")) (print true literals most room ws) (cond (bytes_eq name (codes "print")) (print false literals most room ws) (cond (bytes_eq name (codes "close")) (as_one Close (argument literals most room ws)) (Err Syntax))) (s, rest) e) [
+    elim (either (bytes_eq name (codes "println")) (print true literals most room ws) (cond (bytes_eq name (codes "print")) (print false literals most room ws) (cond (bytes_eq name (codes "close")) (needing 1 room (as_one Close (argument literals most room ws))) (Err Syntax))) (s, rest) e) [
       | inl p ↦ subst (λ (x : List ℕ). SimpleSound literals defining most room (Name x ∷ ws) s rest) (sym (bytes_are name (codes "println") p.0)) (print_sound true literals defining most room ws s rest p.1)
-      | inr other ↦ elim (either (bytes_eq name (codes "print")) (print false literals most room ws) (cond (bytes_eq name (codes "close")) (as_one Close (argument literals most room ws)) (Err Syntax)) (s, rest) other.1) [
+      | inr other ↦ elim (either (bytes_eq name (codes "print")) (print false literals most room ws) (cond (bytes_eq name (codes "close")) (needing 1 room (as_one Close (argument literals most room ws))) (Err Syntax)) (s, rest) other.1) [
         | inl p ↦ subst (λ (x : List ℕ). SimpleSound literals defining most room (Name x ∷ ws) s rest) (sym (bytes_are name (codes "print") p.0)) (print_sound false literals defining most room ws s rest p.1)
         | inr neither ↦
-            let w = when_ok (bytes_eq name (codes "close")) Syntax (as_one Close (argument literals most room ws)) (s, rest) neither.1 in
-            subst (λ (x : List ℕ). SimpleSound literals defining most room (Name x ∷ ws) s rest) (sym (bytes_are name (codes "close") w.0)) (close_sound literals defining most room ws s rest w.1)
+            let w = when_ok (bytes_eq name (codes "close")) Syntax (needing 1 room (as_one Close (argument literals most room ws))) (s, rest) neither.1 in
+            subst (λ (x : List ℕ). SimpleSound literals defining most room (Name x ∷ ws) s rest) (sym (bytes_are name (codes "close") w.0)) (close_sound literals defining most room ws s rest (needing_ok 1 room (as_one Close (argument literals most room ws)) (s, rest) w.1))
       ]
     ]
 
@@ -492,14 +506,15 @@ formed_sound literals defining most room (forms.Assign ranges) ws found rest str
 formed_sound literals defining most room (forms.Define ranges) ws found rest strong e =
     some_sound literals defining most room ws (cond (defining && defines true ws) (defined literals most room ws) (assigned literals most room ws)) (list_sound literals defining (defines true ws) most room ws) found rest e
 formed_sound literals defining most room forms.List ws found rest strong e =
-    some_sound literals defining most room ws (cond (defining && defines true ws) (defined literals most room ws) (assigned literals most room ws)) (list_sound literals defining (defines true ws) most room ws) found rest e
+    let read = cond (defining && defines true ws) (defined literals most room ws) (assigned literals most room ws) in
+    some_sound literals defining most room ws read (list_sound literals defining (defines true ws) most room ws) found rest (behind_place_ok room ws (as_one (λ (s : Simple). Some s) read) (found, rest) e)
 formed_sound literals defining most room forms.Other ws found rest strong e =
     subst (λ (x : Option Simple × List Lexeme). LedSound literals defining most room ws x.0 x.1) (ok_is (None, ws) (found, rest) e) refl
 
-receive_sound : (literals defining : Bool) (most room : ℕ) (ws : List Lexeme) (found : Option Simple) (rest : List Lexeme) → as_one (λ (channel : Expression). Some (ReceiveAlone channel)) (primary literals most room ws) ≡ gave found rest → LedSound literals defining most room (Mark kinds.Arrow ∷ ws) found rest
+receive_sound : (literals defining : Bool) (most room : ℕ) (ws : List Lexeme) (found : Option Simple) (rest : List Lexeme) → as_one (λ (channel : Expression). Some (ReceiveAlone channel)) (received literals most room ws) ≡ gave found rest → LedSound literals defining most room (Mark kinds.Arrow ∷ ws) found rest
 receive_sound literals defining most room ws found rest e =
-    let a = made_is (λ (channel : Expression). Some (ReceiveAlone channel)) (primary literals most room ws) found rest e in
-    let p = primary_sound literals most room ws a.0 rest a.1 in
+    let a = made_is (λ (channel : Expression). Some (ReceiveAlone channel)) (received literals most room ws) found rest e in
+    let p = received_sound literals most room ws a.0 rest a.1 in
     subst (λ (x : Option Simple). LedSound literals defining most room (Mark kinds.Arrow ∷ ws) x rest) a.2
     (record { parts = ap (λ (x : List Lexeme). Mark kinds.Arrow ∷ x) p.parts; is = p.is; low = p.low; few = p.few })
 
@@ -516,7 +531,7 @@ led_sound literals defining most room [] found rest e = subst (λ (x : Option Si
 led_sound literals defining most room (Literal value ∷ ws) found rest e = subst (λ (x : Option Simple × List Lexeme). LedSound literals defining most room (Literal value ∷ ws) x.0 x.1) (ok_is (None, Literal value ∷ ws) (found, rest) e) refl
 led_sound literals defining most room (Text bytes ∷ ws) found rest e = subst (λ (x : Option Simple × List Lexeme). LedSound literals defining most room (Text bytes ∷ ws) x.0 x.1) (ok_is (None, Text bytes ∷ ws) (found, rest) e) refl
 led_sound literals defining most room (Mark kind ∷ ws) found rest e =
-    elim (either (is_kind kind kinds.Arrow) (as_one (λ (channel : Expression). Some (ReceiveAlone channel)) (primary literals most room ws)) (gave None (Mark kind ∷ ws)) (found, rest) e) [
+    elim (either (is_kind kind kinds.Arrow) (as_one (λ (channel : Expression). Some (ReceiveAlone channel)) (received literals most room ws)) (gave None (Mark kind ∷ ws)) (found, rest) e) [
       | inl r ↦ subst (λ (x : Kind). LedSound literals defining most room (Mark x ∷ ws) found rest) (sym (kind_is kind kinds.Arrow r.0)) (receive_sound literals defining most room ws found rest r.1)
       | inr other ↦ subst (λ (x : Option Simple × List Lexeme). LedSound literals defining most room (Mark kind ∷ ws) x.0 x.1) (ok_is (None, Mark kind ∷ ws) (found, rest) other.1) refl
     ]

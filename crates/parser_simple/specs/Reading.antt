@@ -1,5 +1,5 @@
 -- Reading simple statements from left to right.
-use Rattle.std.specs.Prelude.{ℕ, zero, suc, Bool, true, false, ◌&&◌, List, [], ◌∷◌, Option, Some, None, Ok, Err, if◌then◌else◌, length, bytes_eq, codes}
+use Rattle.std.specs.Prelude.{ℕ, zero, suc, Bool, true, false, ◌&&◌, List, [], ◌∷◌, Option, Some, None, Result, Ok, Err, nat_le, if◌then◌else◌, length, bytes_eq, codes}
 use Rattle.scanner.specs.declared.kind.Kind.{Kind}
 use Rattle.scanner.specs.declared.kind.Kind.TheVariants as kinds
 use Rattle.syntax.specs.declared.node.BinaryOperator.{BinaryOperator}
@@ -10,7 +10,7 @@ use Rattle.parser_base.specs.declared.list.Next.{Next}
 use Rattle.parser_base.specs.declared.list.Next.TheVariants.{More, End}
 use Rattle.parser_base.specs.Lexemes.{Lexeme, Literal, Name, Text, Mark}
 use Rattle.parser_base.specs.Spelling.{is_builtin}
-use Rattle.parser_base.specs.Reading.{Syntax, TooDeep, TooMany, Reading, ◌>>=◌, is_kind, expect, plain_name, begins, listed, entry_next, values, expression}
+use Rattle.parser_base.specs.Reading.{Refusal, Syntax, TooDeep, TooMany, Reading, ◌>>=◌, is_kind, expect, plain_name, begins, listed, entry_next, values, expression}
 use Rattle.parser_base.specs.TypeReading.{type_at}
 use Rattle.parser_simple.specs.declared.form.Form.{Form}
 use Rattle.parser_simple.specs.declared.form.Form.TheVariants as forms
@@ -20,6 +20,10 @@ use Rattle.parser_simple.specs.Spelling.{update_kind}
 abbrev pub as_one : {A B : Type 0} → (A → B) → Reading A → Reading B
 as_one make read = read >>= λ found. Ok (make found.0, found.1)
 
+-- what needs at least so many levels
+abbrev pub needing : {A : Type 0} → (least room : ℕ) → Result A Refusal → Result A Refusal
+needing least room read = if nat_le least room then read else Err TooDeep
+
 -- this mark comes next
 unfoldable pub begins_with : Kind → List Lexeme → Bool
 begins_with kind (Mark first ∷ rest) = is_kind first kind
@@ -27,14 +31,20 @@ begins_with kind words = false
 
 -- ---- names and places
 
--- what follows an entry of a list without a closing mark
-unfoldable pub separator_next : Kind → List Lexeme → Reading Next
-separator_next separator (Mark kind ∷ rest) = if is_kind kind separator then Ok (More, rest) else Ok (End false, Mark kind ∷ rest)
-separator_next separator words = Ok (End false, words)
+-- whether a name that may be declared comes next
+unfoldable pub begins_name : List Lexeme → Bool
+begins_name (Name name ∷ rest) = if is_builtin name then false else true
+begins_name words = false
+
+-- what follows an entry of a list without a closing mark: behind a separator another one `starts`
+unfoldable pub separator_next : (List Lexeme → Bool) → Kind → List Lexeme → Reading Next
+separator_next starts separator (Mark kind ∷ rest) =
+    if is_kind kind separator then (if starts rest then Ok (More, rest) else Err Syntax) else Ok (End false, Mark kind ∷ rest)
+separator_next starts separator words = Ok (End false, words)
 
 -- names with a separator between each two, of which there are at most so many
 abbrev pub names : Kind → ℕ → List Lexeme → Reading (List (List ℕ) × Bool)
-names separator most words = listed plain_name (separator_next separator) (TooMany Entries) most words
+names separator most words = listed plain_name (separator_next begins_name separator) (TooMany Entries) most words
 
 -- the fields of a place, each behind a period
 unfoldable pub fields : List Lexeme → Reading (List (List ℕ))
@@ -51,7 +61,7 @@ place words = do
 
 -- places with a comma between each two
 abbrev pub places : ℕ → List Lexeme → Reading (List Place × Bool)
-places most words = listed place (separator_next kinds.Comma) (TooMany Entries) most words
+places most words = listed place (separator_next begins_name kinds.Comma) (TooMany Entries) most words
 
 -- ---- what stands behind a place
 
@@ -111,6 +121,10 @@ begins_primary (Mark kind ∷ rest) = is_kind kind kinds.LeftParenthesis
 unfoldable pub primary : Bool → ℕ → ℕ → List Lexeme → Reading Expression
 primary literals most room words = if begins_primary words then expression literals most room 7 words else Err Syntax
 
+-- the operand of a receive, behind its arrow
+abbrev pub received : Bool → ℕ → ℕ → List Lexeme → Reading Expression
+received literals most room words = needing 1 room (primary literals most room words)
+
 -- arguments in parentheses
 unfoldable pub arguments : Bool → ℕ → ℕ → List Lexeme → Reading Arguments
 arguments literals most room words = do
@@ -144,9 +158,9 @@ make literals most room words = do
 -- a built-in function that makes or measures a channel, behind its name
 unfoldable pub builtin_operation : Bool → ℕ → ℕ → List ℕ → List Lexeme → Reading Operation
 builtin_operation literals most room name rest =
-    if bytes_eq name (codes "make") then make literals most room rest
-    else (if bytes_eq name (codes "len") then as_one Length (argument literals most room rest)
-    else (if bytes_eq name (codes "cap") then as_one Capacity (argument literals most room rest)
+    if bytes_eq name (codes "make") then needing 1 room (make literals most room rest)
+    else (if bytes_eq name (codes "len") then needing 1 room (as_one Length (argument literals most room rest))
+    else (if bytes_eq name (codes "cap") then needing 1 room (as_one Capacity (argument literals most room rest))
     else Err Syntax))
 
 -- whether an operation begins so, where no other value can
@@ -157,7 +171,7 @@ begins_operation words = false
 
 -- an operation, below which there are at most so many levels
 unfoldable pub operation : Bool → ℕ → ℕ → List Lexeme → Reading Operation
-operation literals most room (Mark kind ∷ rest) = if is_kind kind kinds.Arrow then as_one Receive (primary literals most room rest) else Err Syntax
+operation literals most room (Mark kind ∷ rest) = if is_kind kind kinds.Arrow then as_one Receive (received literals most room rest) else Err Syntax
 operation literals most room (Name name ∷ rest) =
     if is_builtin name then builtin_operation literals most room name rest
     else as_one (Call name) (arguments literals most room rest)
@@ -165,7 +179,7 @@ operation literals most room words = Err Syntax
 
 -- values with a comma between each two
 abbrev pub value_list : Bool → ℕ → ℕ → List Lexeme → Reading (List Expression × Bool)
-value_list literals most room words = listed (expression literals most room 0) (separator_next kinds.Comma) (TooMany Entries) most words
+value_list literals most room words = listed (expression literals most room 0) (separator_next begins kinds.Comma) (TooMany Entries) most words
 
 -- the right side of an assignment, of at most so many levels
 unfoldable pub right : Bool → ℕ → ℕ → List Lexeme → Reading Right
@@ -205,7 +219,7 @@ unfoldable pub builtin_call : Bool → ℕ → ℕ → List ℕ → List Lexeme 
 builtin_call literals most room name rest =
     if bytes_eq name (codes "println") then print true literals most room rest
     else (if bytes_eq name (codes "print") then print false literals most room rest
-    else (if bytes_eq name (codes "close") then as_one Close (argument literals most room rest)
+    else (if bytes_eq name (codes "close") then needing 1 room (as_one Close (argument literals most room rest))
     else Err Syntax))
 
 -- an assignment to places
@@ -236,6 +250,10 @@ updated literals most room operator words = do
   value ← expression literals most room 0 after
   Ok (Update target.0 operator value.0, value.1)
 
+-- what needs a level from what follows a place on
+abbrev pub behind_place : {A : Type 0} → (room : ℕ) → List Lexeme → Reading A → Reading A
+behind_place room words read = if nat_le 1 room then read else (place words >>= λ target. Err TooDeep)
+
 -- a statement of this form, or None where it has none of them
 unfoldable pub formed : (literals defining : Bool) → ℕ → ℕ → Form → List Lexeme → Reading (Option Simple)
 formed literals defining most room forms.Increment words = as_one (λ s. Some s) (stepped Increment kinds.Increment words)
@@ -245,13 +263,13 @@ formed literals defining most room (forms.Assign ranges) words = as_one (λ s. S
 formed literals defining most room (forms.Define ranges) words =
     as_one (λ s. Some s) (if defining && defines true words then defined literals most room words else assigned literals most room words)
 formed literals defining most room forms.List words =
-    as_one (λ s. Some s) (if defining && defines true words then defined literals most room words else assigned literals most room words)
+    behind_place room words (as_one (λ s. Some s) (if defining && defines true words then defined literals most room words else assigned literals most room words))
 formed literals defining most room forms.Other words = Ok (None, words)
 
 -- a simple statement, or None where a value or a send comes next, or nothing that is one
 unfoldable pub led : (literals defining : Bool) → ℕ → ℕ → List Lexeme → Reading (Option Simple)
 led literals defining most room (Mark kind ∷ rest) =
-    if is_kind kind kinds.Arrow then as_one (λ channel. Some (ReceiveAlone channel)) (primary literals most room rest) else Ok (None, Mark kind ∷ rest)
+    if is_kind kind kinds.Arrow then as_one (λ channel. Some (ReceiveAlone channel)) (received literals most room rest) else Ok (None, Mark kind ∷ rest)
 led literals defining most room (Name name ∷ rest) =
     if is_builtin name then as_one (λ s. Some s) (builtin_call literals most room name rest)
     else (if begins_with kinds.LeftParenthesis rest then as_one (λ all. Some (CallAlone name all)) (arguments literals most room rest)

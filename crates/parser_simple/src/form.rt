@@ -1,11 +1,14 @@
 //! What stands behind a place, by which the forms of a statement differ.
 
-ghost use Rattle.std.specs.Prelude.{◌≡◌, Ok, true};
+ghost use Rattle.std.specs.Prelude.{◌≡◌, true};
 ghost use Rattle.parser_base.specs.Cursor.{ahead};
+ghost use Rattle.parser_base.specs.Reading.{Gives, begins};
 ghost use Rattle.parser_simple.specs.Spelling.{update_kind};
-ghost use Rattle.parser_simple.specs.Reading.{begins_with, separator_next, update_of, form_at, form_of, defines};
+ghost use Rattle.parser_simple.specs.Reading.{begins_with, begins_name, separator_next, update_of, form_at, form_of, defines};
 
-use parser_base::cursor::{Cursor, Word};
+use go_text::Fault;
+use parser_base::cursor::{Cursor, Word, is_builtin};
+use parser_base::expression::begins;
 use parser_base::list::Next;
 use scanner::Kind;
 use syntax::BinaryOperator;
@@ -40,14 +43,46 @@ pub fn begins_with(kind: Kind, cursor: Cursor<'_>) -> bool
     }
 }
 
-/// What follows an entry of a list without a closing mark, and the place of the next entry or behind the list.
-#[tactic(auto, unfolding(crate::specs::Reading::separator_next))]
-pub fn separator_next(separator: Kind, cursor: Cursor<'_>) -> (Next, Cursor<'_>)
-    ensures { separator_next separator (ahead cursor.entry) ≡ Ok (result.0, ahead result.1) }
+/// Whether a name that may be declared comes next.
+#[tactic(auto, unfolding(crate::specs::Reading::begins_name))]
+pub fn begins_name(cursor: Cursor<'_>) -> bool
+    ensures { result ≡ begins_name (ahead cursor.entry) }
 {
     match cursor.next() {
-        Some((Word::Mark(kind), _, rest)) if kind == separator => (Next::More, rest),
-        _ => (Next::End(false), cursor),
+        Some((Word::Name(name), _, _)) => !is_builtin(name),
+        _ => false,
+    }
+}
+
+/// What follows a name or a place of a list without a closing mark, and the place of the next one or behind the list.
+#[tactic(auto, unfolding(crate::specs::Reading::separator_next))]
+pub fn name_next(separator: Kind, cursor: Cursor<'_>) -> Result<(Next, Cursor<'_>), Fault>
+    ensures { Gives (λ x. (x.0, ahead x.1)) result (separator_next begins_name separator (ahead cursor.entry)) }
+{
+    match cursor.next() {
+        Some((Word::Mark(kind), _, rest)) if kind == separator => {
+            if !begins_name(rest) {
+                return Err(Fault::Syntax(rest.place()));
+            }
+            Ok((Next::More, rest))
+        }
+        _ => Ok((Next::End(false), cursor)),
+    }
+}
+
+/// What follows a value of a list without a closing mark, and the place of the next one or behind the list.
+#[tactic(auto, unfolding(crate::specs::Reading::separator_next))]
+pub fn value_next(cursor: Cursor<'_>) -> Result<(Next, Cursor<'_>), Fault>
+    ensures { Gives (λ x. (x.0, ahead x.1)) result (separator_next begins Kind.Comma (ahead cursor.entry)) }
+{
+    match cursor.next() {
+        Some((Word::Mark(Kind::Comma), _, rest)) => {
+            if !begins(rest) {
+                return Err(Fault::Syntax(rest.place()));
+            }
+            Ok((Next::More, rest))
+        }
+        _ => Ok((Next::End(false), cursor)),
     }
 }
 

@@ -5,9 +5,9 @@ ghost use Rattle.syntax.specs.Measures.{Entries};
 ghost use Rattle.syntax.specs.View.{name_of, place_of};
 ghost use Rattle.parser_base.specs.Cursor.{ahead};
 ghost use Rattle.parser_base.specs.Reading.{Gives, TooMany, plain_name, listed};
-ghost use Rattle.parser_simple.specs.Reading.{separator_next, names, fields, place, places};
+ghost use Rattle.parser_simple.specs.Reading.{begins_name, separator_next, names, fields, place, places};
 
-use crate::form::{begins_with, separator_next};
+use crate::form::{begins_with, name_next};
 use go_text::{Fault, LimitKind, Span};
 use parser_base::cursor::Cursor;
 use parser_base::expression::name_node;
@@ -47,7 +47,7 @@ pub fn names(
     for _ in 0..most {
         let (one, last, behind) = name_at(alloc, rest)?;
         entries.push(one)?;
-        let (next, after) = separator_next(separator, behind);
+        let (next, after) = name_next(separator, behind)?;
         match next {
             Next::More => rest = after,
             Next::End(trailing) => return Ok(List {
@@ -120,7 +120,7 @@ pub fn places<'a>(
     for _ in 0..MAX_ENTRIES {
         let one = place(alloc, rest, spans)?;
         entries.push(one.place)?;
-        let (next, after) = separator_next(Kind::Comma, one.rest);
+        let (next, after) = name_next(Kind::Comma, one.rest)?;
         match next {
             Next::More => rest = after,
             Next::End(trailing) => return Ok(List {

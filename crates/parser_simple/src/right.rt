@@ -6,9 +6,9 @@ ghost use Rattle.syntax.specs.Measures.{Entries, if_any, expression_size, argume
 ghost use Rattle.syntax.specs.View.{expression_of, arguments_of, operation_of, right_of};
 ghost use Rattle.parser_base.specs.Cursor.{ahead};
 ghost use Rattle.parser_base.specs.Reading.{Gives, expression};
-ghost use Rattle.parser_simple.specs.Reading.{as_one, begins_primary, primary, arguments, argument, size, make, builtin_operation, begins_operation, operation, value_list, right};
+ghost use Rattle.parser_simple.specs.Reading.{as_one, begins_primary, primary, received, arguments, argument, size, make, builtin_operation, begins_operation, operation, value_list, right};
 
-use crate::form::{begins_with, separator_next};
+use crate::form::{begins_with, value_next};
 use go_text::{Fault, LimitKind, Place, Span};
 use parser_base::cursor::{Cursor, Word, is_builtin};
 use parser_base::expression::{Found, expression, name_node, values};
@@ -83,6 +83,24 @@ pub fn primary<'a>(
         return Err(Fault::Syntax(cursor.place()));
     }
     expression(alloc, literals, room, 7, cursor, spans)
+}
+
+/// The operand of a receive, behind its arrow, which stands at `arrow`.
+pub fn received<'a>(
+    alloc: Global,
+    literals: bool,
+    room: u32,
+    arrow: Span,
+    cursor: Cursor<'a>,
+    spans: &mut Vec<Span>,
+) -> Result<Found<'a>, Fault>
+    ensures value { Gives (λ x. (expression_of x.expression, ahead x.rest)) result (received literals MAX_ENTRIES room (ahead cursor.entry)) }
+    ensures nodes { IfOk result (λ x. vec_len spans.new ≡ vec_len spans.old + expression_size (expression_of x.expression)) }
+{
+    if room < 1 {
+        return Err(Fault::TooDeep(Place::from(arrow)));
+    }
+    primary(alloc, literals, room, cursor, spans)
 }
 
 /// Arguments in parentheses.
@@ -244,6 +262,10 @@ fn builtin_operation<'a>(
     ensures operation { Gives (λ x. (operation_of x.operation, ahead x.rest)) result (builtin_operation literals MAX_ENTRIES room name.now (ahead cursor.entry)) }
     ensures nodes { IfOk result (λ x. vec_len spans.new ≡ vec_len spans.old + operation_size (operation_of x.operation)) }
 {
+    let measures = name == b"len".as_slice() || name == b"cap".as_slice();
+    if (name == b"make".as_slice() || measures) && room < 1 {
+        return Err(Fault::TooDeep(Place::from(first)));
+    }
     if name == b"make".as_slice() {
         return make(alloc, literals, room, first, cursor, spans);
     }
@@ -292,10 +314,10 @@ fn receive<'a>(
     cursor: Cursor<'a>,
     spans: &mut Vec<Span>,
 ) -> Result<FoundOperation<'a>, Fault>
-    ensures operation { Gives (λ x. (operation_of x.operation, ahead x.rest)) result (as_one Receive (primary literals MAX_ENTRIES room (ahead cursor.entry))) }
+    ensures operation { Gives (λ x. (operation_of x.operation, ahead x.rest)) result (as_one Receive (received literals MAX_ENTRIES room (ahead cursor.entry))) }
     ensures nodes { IfOk result (λ x. vec_len spans.new ≡ vec_len spans.old + operation_size (operation_of x.operation)) }
 {
-    let channel = primary(alloc, literals, room, cursor, spans)?;
+    let channel = received(alloc, literals, room, first, cursor, spans)?;
     let span = Span {
         from: first.from,
         to: channel.span.to,
@@ -366,7 +388,7 @@ fn value_list<'a>(
     for _ in 0..MAX_ENTRIES {
         let one = expression(alloc, literals, room, 0, rest, spans)?;
         entries.push(one.expression)?;
-        let (next, after) = separator_next(Kind::Comma, one.rest);
+        let (next, after) = value_next(one.rest)?;
         match next {
             Next::More => rest = after,
             Next::End(trailing) => return Ok(List {

@@ -6,11 +6,11 @@ ghost use Rattle.syntax.specs.Measures.{Entries, if_any, part_size, simple_size}
 ghost use Rattle.syntax.specs.View.{part_of, simple_of};
 ghost use Rattle.parser_base.specs.Cursor.{ahead};
 ghost use Rattle.parser_base.specs.Reading.{Gives, TooMany, entry_next, listed, closed};
-ghost use Rattle.parser_simple.specs.Reading.{as_one, begins_part, part, parts, print, primary, argument, arguments, builtin_call, assigned, defined, stepped, updated, formed, led, sent, led_or_sent, simple, defines};
+ghost use Rattle.parser_simple.specs.Reading.{as_one, begins_part, part, parts, print, received, argument, arguments, builtin_call, assigned, defined, stepped, updated, behind_place, formed, led, sent, led_or_sent, simple, defines};
 
 use crate::form::{Form, begins_with, defines, form_of, update_kind};
 use crate::place::{names, place, places};
-use crate::right::{argument, arguments, primary, right};
+use crate::right::{argument, arguments, primary, received, right};
 use go_text::{Fault, LimitKind, Place, Span};
 use parser_base::cursor::{Cursor, Word, is_builtin};
 use parser_base::expression::{begins, closed, expression, name_node};
@@ -223,6 +223,9 @@ fn builtin_call<'a>(
         return print(alloc, false, literals, room, first, cursor, spans);
     }
     if name == b"close".as_slice() {
+        if room < 1 {
+            return Err(Fault::TooDeep(Place::from(first)));
+        }
         return close(alloc, literals, room, first, cursor, spans);
     }
     Err(Fault::Syntax(Place::from(first)))
@@ -264,10 +267,10 @@ fn receive<'a>(
     cursor: Cursor<'a>,
     spans: &mut Vec<Span>,
 ) -> Result<FoundSimple<'a>, Fault>
-    ensures simple { Gives (λ x. (simple_of x.simple, ahead x.rest)) result (as_one ReceiveAlone (primary literals MAX_ENTRIES room (ahead cursor.entry))) }
+    ensures simple { Gives (λ x. (simple_of x.simple, ahead x.rest)) result (as_one ReceiveAlone (received literals MAX_ENTRIES room (ahead cursor.entry))) }
     ensures nodes { IfOk result (λ x. vec_len spans.new ≡ vec_len spans.old + simple_size (simple_of x.simple)) }
 {
-    let channel = primary(alloc, literals, room, cursor, spans)?;
+    let channel = received(alloc, literals, room, first, cursor, spans)?;
     let span = Span {
         from: first.from,
         to: channel.span.to,
@@ -391,7 +394,7 @@ fn decrement<'a>(
 }
 
 /// An assignment with an operator.
-#[tactic(auto, unfolding(crate::specs::Reading::updated))]
+#[tactic(auto, unfolding(crate::specs::Reading::updated, parser_base::specs::Reading::expression))]
 fn updated<'a>(
     alloc: Global,
     literals: bool,
@@ -404,7 +407,10 @@ fn updated<'a>(
     ensures nodes { IfOk result (λ x. vec_len spans.new ≡ vec_len spans.old + simple_size (simple_of x.simple)) }
 {
     let target = place(alloc, cursor, spans)?;
-    let (_, rest) = target.rest.expect(update_kind(operator))?;
+    let (mark, rest) = target.rest.expect(update_kind(operator))?;
+    if room == 0 {
+        return Err(Fault::TooDeep(Place::from(mark)));
+    }
     let value = expression(alloc, literals, room, 0, rest, spans)?;
     let span = Span {
         from: target.span.from,
@@ -453,6 +459,10 @@ fn formed<'a>(
             alloc, literals, room, cursor, spans,
         )?,
         Form::Define(_) => assigned(alloc, literals, room, cursor, spans)?,
+        Form::List if room < 1 => {
+            let first = place(alloc, cursor, spans)?;
+            return Err(Fault::TooDeep(first.rest.place()));
+        }
         Form::List if defining && defines(cursor) => defined(alloc, literals, room, cursor, spans)?,
         Form::List => assigned(alloc, literals, room, cursor, spans)?,
         Form::Other => return Ok(FoundLed {

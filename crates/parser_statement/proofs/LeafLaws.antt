@@ -1,13 +1,13 @@
 -- Statements in which no other stands: what is spelt is read, and what is read is spelt so.
-use Rattle.std.proofs.Common.{◌≡◌, ℕ, zero, suc, ◌<◌, ◌≤◌, true, false, cond, Option, Some, None, max, List, [], ◌∷◌, ◌++◌, length, inl, inr, refl, ap, ◌∙◌, subst, arith}
+use Rattle.std.proofs.Common.{◌≡◌, ℕ, zero, suc, ◌<◌, ◌≤◌, Bool, true, false, cond, Option, Some, None, max, List, [], ◌∷◌, ◌++◌, length, Err, inl, inr, refl, ap, ◌∙◌, subst, arith}
 use Rattle.scanner.specs.declared.kind.Kind.{Kind}
 use Rattle.scanner.specs.declared.kind.Kind.TheVariants as kinds
 use Rattle.syntax.specs.declared.node.Direction.TheVariants as directions
 use Rattle.syntax.specs.Tree.{Expression, TypeExpression, NamedType, ParenthesizedType, Channel, Arguments, Operation, Call, Receive, Make, Length, Capacity, Right, Returned, NoValue, ReturnedOperation, ReturnedValue, Statement, Empty, Alone, VarTyped, VarUntyped, Go, Return, Break, Continue}
 use Rattle.syntax.specs.Measures.{Listing, if_any, type_height, right_height, right_longest, returned_height, returned_longest, statement_height, statement_longest}
 use Rattle.parser_base.specs.Lexemes.{Lexeme, Literal, Name, Text, Mark}
-use Rattle.parser_base.specs.Spelling.{before, AreSome, IsGrouped}
-use Rattle.parser_base.specs.Reading.{Reading, ◌>>=◌, expect, plain_name, begins, step_at, expression}
+use Rattle.parser_base.specs.Spelling.{is_builtin, before, AreSome, IsGrouped}
+use Rattle.parser_base.specs.Reading.{Syntax, TooDeep, Reading, ◌>>=◌, expect, plain_name, begins, step_at, expression}
 use Rattle.parser_base.specs.TypeReading.{type_words, IsType, type_at}
 use Rattle.parser_base.proofs.Marks.{bind_ok, ok_is, expect_is, plain_name_is, plain_name_again}
 use Rattle.parser_base.proofs.ListLaws.{AreFew, Outcome, Found, High, Many}
@@ -17,11 +17,11 @@ use Rattle.parser_base.proofs.Steps.{then_again, made_again, gave, Sound, made_i
 use Rattle.parser_simple.specs.Spelling.{IsName, AreArguments, arguments_words, operation_words, IsOperation, right_words, IsRight}
 use Rattle.parser_simple.specs.Reading.{as_one, begins_with, names, arguments, begins_operation, operation, right, simple}
 use Rattle.parser_simple.proofs.PlaceLaws.{names_again, names_sound}
-use Rattle.parser_simple.proofs.RightLaws.{Stops, value_again, arguments_again, below_is, type_outcome, operation_again, operation_begins, no_operation, right_again, value_sound, arguments_sound, operation_sound, right_sound}
+use Rattle.parser_simple.proofs.RightLaws.{Stops, needing_again, needing_ok, value_again, arguments_again, below_is, type_positive, type_outcome, right_positive, operation_again, operation_begins, no_operation, right_again, value_sound, arguments_sound, operation_sound, right_sound}
 use Rattle.parser_simple.proofs.SimpleLaws.{simple_sound}
 use Rattle.parser_statement.specs.HeaderSpelling.{IsAny}
 use Rattle.parser_statement.specs.Spelling.{returned_words, IsReturned, initial_words, names_words, statement_words, IsStatement}
-use Rattle.parser_statement.specs.Reading.{is_end, ends_statement, returned_value, returned, started, behind_next, typed, untyped, variable, leaf}
+use Rattle.parser_statement.specs.Reading.{is_end, ends_statement, begins_returned, returned_value, returned, started, behind_next, typed, untyped, variables, variable, leaf}
 
 -- ---- what may follow a statement
 
@@ -74,16 +74,37 @@ started_again most room f all rest plain are =
 abbrev ReturnedOutcome : (most room : ℕ) → Reading Returned → Returned → List Lexeme → Type 0
 ReturnedOutcome most room read r rest = Outcome read r rest (returned_height r) room (λ listing. returned_longest listing r) most
 
+operation_returns : (o : Operation) (rest : List Lexeme) → IsOperation true o → begins_returned (operation_words o rest) ≡ true
+unfolding begins_returned
+operation_returns (Call f all) rest is = rw is.0 refl
+operation_returns (Receive c) rest is = refl
+operation_returns (Make t s) rest is = refl
+operation_returns (Length c) rest is = refl
+operation_returns (Capacity c) rest is = refl
+
+plain_returns : (b c : Bool) → cond b false true ≡ true → cond b c true ≡ true
+plain_returns true c begun = absurd cc
+plain_returns false c begun = refl
+
+value_returns : (ws : List Lexeme) → begins ws ≡ true → begins_returned ws ≡ true
+unfolding begins_returned begins
+value_returns [] begun = absurd cc
+value_returns (Literal value ∷ ws) begun = refl
+value_returns (Name name ∷ ws) begun = plain_returns (is_builtin name) _ begun
+value_returns (Text bytes ∷ ws) begun = absurd cc
+value_returns (Mark kinds.Arrow ∷ ws) begun = refl
+value_returns (Mark kind ∷ ws) begun = begun
+
 returned_operation : (most room : ℕ) (o : Operation) (rest : List Lexeme) → IsOperation true o → Stops true rest → ReturnedOutcome most room (returned_value most room (operation_words o rest)) (ReturnedOperation o) rest
 unfolding returned_value
-returned_operation most zero o rest is stops = High (omega (arith, below_is o)) refl
+returned_operation most zero o rest is stops = rw (operation_returns o rest is) (High (omega (arith, below_is o)) refl)
 returned_operation most (suc room) o rest is stops =
     rw (operation_begins true o rest is)
     (made_again ReturnedOperation (operation_again true most room o rest is stops) (λ high. omega (arith, below_is o)) (λ low. omega (arith, below_is o)) (λ listing. refl))
 
 returned_expression : (most room : ℕ) (v : Expression) (rest : List Lexeme) → IsGrouped true v → Stops true rest → ReturnedOutcome most room (returned_value most room (before v rest)) (ReturnedValue v) rest
 unfolding returned_value
-returned_expression most zero v rest is stops = High (height_positive v) refl
+returned_expression most zero v rest is stops = rw (value_returns (before v rest) (begins_again true v rest is)) (High (height_positive v) refl)
 returned_expression most (suc room) v rest is stops =
     rw (no_operation true v rest is stops.open')
     (made_again ReturnedValue (value_again true most (suc room) v rest is stops.ends) (λ high. high) (λ low. low) (λ listing. refl))
@@ -147,18 +168,18 @@ type_no_value (Channel directions.Receive element) rest = (refl, refl)
 
 variable_untyped : (most room : ℕ) (n : List ℕ) (ns : List (List ℕ)) (r : Right) (rest : List Lexeme) → AreSome IsName (n ∷ ns) → IsRight true r → Ends rest
     → StatementOutcome most (suc room) (variable most room (names_words (n ∷ ns) (Mark kinds.Assign ∷ right_words r rest))) (VarUntyped (n ∷ ns) r) rest
-unfolding variable begins_with
+unfolding variables begins_with
 variable_untyped most room n ns r rest are is ends =
-    then_again _ (names_again kinds.Comma most n ns (Mark kinds.Assign ∷ right_words r rest) are refl) (λ high. omega arith) (λ listing. omega arith) (λ low few.
-    widened (untyped_again most room (n ∷ ns) r rest is ends) (λ high. omega arith) (λ low'. omega arith) (λ listing. omega arith) (λ few' listing. omega (arith, few listing, few' listing)))
+    needing_again 1 room (λ none. omega (arith, none, right_positive true r is)) (then_again _ (names_again kinds.Comma most n ns (Mark kinds.Assign ∷ right_words r rest) are refl) (λ high. omega arith) (λ listing. omega arith) (λ low few.
+    widened (untyped_again most room (n ∷ ns) r rest is ends) (λ high. omega arith) (λ low'. omega arith) (λ listing. omega arith) (λ few' listing. omega (arith, few listing, few' listing))))
 
 variable_typed : (most room : ℕ) (n : List ℕ) (ns : List (List ℕ)) (t : TypeExpression) (r : Option Right) (rest : List Lexeme) → AreSome IsName (n ∷ ns) → IsType t → IsAny (IsRight true) r → Ends rest
     → StatementOutcome most (suc room) (variable most room (names_words (n ∷ ns) (type_words t ++ initial_words r rest))) (VarTyped (n ∷ ns) t r) rest
-unfolding variable
+unfolding variables
 variable_typed most room n ns t r rest are is right_is ends =
     let none = type_no_value t (initial_words r rest) in
-    then_again _ (names_again kinds.Comma most n ns (type_words t ++ initial_words r rest) are none.1) (λ high. omega arith) (λ listing. omega arith) (λ low few.
-    rw none.0 (widened (typed_again most room (n ∷ ns) t r rest is right_is ends) (λ high. omega arith) (λ low'. omega arith) (λ listing. omega arith) (λ few' listing. omega (arith, few listing, few' listing))))
+    needing_again 1 room (λ few'. omega (arith, few', type_positive t)) (then_again _ (names_again kinds.Comma most n ns (type_words t ++ initial_words r rest) are none.1) (λ high. omega arith) (λ listing. omega arith) (λ low few.
+    rw none.0 (widened (typed_again most room (n ∷ ns) t r rest is right_is ends) (λ high. omega arith) (λ low'. omega arith) (λ listing. omega arith) (λ few' listing. omega (arith, few listing, few' listing)))))
 
 -- a statement that begins with a mark of its own, or with none
 pub leaf_go : (most room : ℕ) (f : List ℕ) (all : Arguments) (rest : List Lexeme) → IsStatement (Go f all) → StatementOutcome most (suc room) (leaf most room kinds.Go (Name f ∷ arguments_words all rest)) (Go f all) rest
@@ -205,9 +226,13 @@ started_sound most room ws s rest e =
 abbrev ReturnedSound : (most room : ℕ) → List Lexeme → Returned → List Lexeme → Type 0
 ReturnedSound most room = Sound returned_words IsReturned returned_height room returned_longest most
 
+no_returned : (b : Bool) (r : Returned) (rest : List Lexeme) → cond b (Err TooDeep) (Err Syntax) ≡ gave r rest → ⊥
+no_returned true r rest e = cc
+no_returned false r rest e = cc
+
 returned_value_sound : (most room : ℕ) (ws : List Lexeme) (r : Returned) (rest : List Lexeme) → returned_value most room ws ≡ gave r rest → ReturnedSound most room ws r rest
 unfolding returned_value
-returned_value_sound most zero ws r rest e = absurd cc
+returned_value_sound most zero ws r rest e = absurd (no_returned (begins_returned ws) r rest e)
 returned_value_sound most (suc room) ws r rest e =
     elim (either (begins_operation ws) (as_one ReturnedOperation (operation true most room ws)) (as_one ReturnedValue (expression true most (suc room) 0 ws)) (r, rest) e) [
       | inl operates ↦
@@ -284,9 +309,9 @@ untyped_sound most room all ns ws are s rest e =
       few = λ listing. omega (arith, p.few listing, are.2, entries-le listing (length ns));
     })
 
-variable_sound : (most room : ℕ) (ws : List Lexeme) (s : Statement) (rest : List Lexeme) → variable most room ws ≡ gave s rest → StatementSound most (suc room) (Mark kinds.Var ∷ ws) s rest
-unfolding variable
-variable_sound most room ws s rest e =
+variables_sound : (most room : ℕ) (ws : List Lexeme) (s : Statement) (rest : List Lexeme) → variables most room ws ≡ gave s rest → StatementSound most (suc room) (Mark kinds.Var ∷ ws) s rest
+unfolding variables
+variables_sound most room ws s rest e =
     let a = bind_ok (names kinds.Comma most ws) (λ all. cond (begins_with kinds.Assign all.1) (untyped all.0.0 most room all.1) (typed all.0.0 most room all.1)) (s, rest) e in
     let n = names_sound kinds.Comma most ws a.0 a.1 in
     let are : AreVariables most ws a.0.0.0 a.0.1 = (n.parts, n.are, n.count) in
@@ -294,6 +319,9 @@ variable_sound most room ws s rest e =
       | inl values ↦ untyped_sound most room ws a.0.0.0 a.0.1 are s rest values.1
       | inr types ↦ typed_sound most room ws a.0.0.0 a.0.1 are s rest types.1
     ]
+
+variable_sound : (most room : ℕ) (ws : List Lexeme) (s : Statement) (rest : List Lexeme) → variable most room ws ≡ gave s rest → StatementSound most (suc room) (Mark kinds.Var ∷ ws) s rest
+variable_sound most room ws s rest e = variables_sound most room ws s rest (needing_ok 1 room (variables most room ws) (s, rest) e)
 
 word_sound : (most room : ℕ) (ws : List Lexeme) (word : Statement) (s : Statement) (after rest : List Lexeme) → ws ≡ statement_words word after → IsStatement word → statement_height word ≤ suc room → AreFew (λ listing. statement_longest listing word) most
     → gave word after ≡ gave s rest → StatementSound most (suc room) ws s rest

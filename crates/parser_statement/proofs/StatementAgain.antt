@@ -1,7 +1,7 @@
 -- Statements: what is spelt is read.
 use Rattle.std.proofs.Common.{◌≡◌, ℕ, zero, suc, ◌≤◌, Bool, true, false, Option, Some, None, max, List, [], ◌∷◌, length, Ok, refl, ap, ◌∙◌, subst, arith}
 use Rattle.scanner.specs.declared.kind.Kind.TheVariants as kinds
-use Rattle.syntax.specs.Tree.{Expression, TypeExpression, Arguments, Right, Returned, Simple, CallAlone, Close, Print, ReceiveAlone, Send, Increment, Decrement, Assign, Define, Update, IfHead, ForHead, Comm, Statement, Empty, Alone, VarTyped, VarUntyped, Block, If, For, Select, Go, Return, Break, Continue, Statements, NoStatement, Then, statements_in, statements as made_statements, Branch, Conditional, Otherwise, NoElse, ElseBlock, ElseIf, Clauses, NoClause, Clause}
+use Rattle.syntax.specs.Tree.{Expression, TypeExpression, Arguments, Right, Returned, Simple, CallAlone, Close, Print, ReceiveAlone, Send, Increment, Decrement, Assign, Define, Update, IfHead, ForHead, Comm, CommSend, CommReceive, CommDefine, CommAssign, Statement, Empty, Alone, VarTyped, VarUntyped, Block, If, For, Select, Go, Return, Break, Continue, Statements, NoStatement, Then, statements_in, statements as made_statements, Branch, Conditional, Otherwise, NoElse, ElseBlock, ElseIf, Clauses, NoClause, Clause}
 use Rattle.syntax.specs.Measures.{SelectClauses, clauses as clause_entries, if_any, comm_height, comm_longest, statement_height, statements_height, branch_height, otherwise_height, block_height, clauses_height, statement_longest, statements_longest, branch_longest, otherwise_longest, clauses_longest, clauses_count}
 use Rattle.syntax.specs.View.{OneClause, clauses}
 use Rattle.syntax.proofs.Lists.{statements-statements_in}
@@ -11,15 +11,16 @@ use Rattle.parser_base.specs.Lexemes.{Lexeme, Literal, Name, Text, Mark}
 use Rattle.parser_base.specs.Spelling.{behind, before, separated, AreAll}
 use Rattle.parser_base.specs.Reading.{Syntax, TooMany, Reading, ◌>>=◌, expect, begins, listed}
 use Rattle.parser_base.proofs.ListLaws.{Outcome, Found, High, Many, Found as AllFound, High as AllHigh, Many as AllMany, Full, Entries, IsReadAgain, Separates, listed_again}
-use Rattle.parser_base.proofs.ExpressionAgain.{begins_again}
+use Rattle.parser_base.proofs.ExpressionAgain.{begins_again, height_positive}
 use Rattle.parser_base.proofs.Steps.{then_again, made_again, gave}
 use Rattle.parser_simple.specs.Spelling.{simple_words, IsSimple}
 use Rattle.parser_simple.specs.Reading.{as_one, begins_with, simple}
+use Rattle.parser_simple.proofs.RightLaws.{needing_again}
 use Rattle.parser_simple.proofs.SimpleLaws.{simple_again}
 use Rattle.parser_statement.specs.HeaderSpelling.{IsAny, comm_words, IsComm, IsForHead}
 use Rattle.parser_statement.proofs.HeaderLaws.{if_header_again, for_header_again, comm_below_is, comm_again}
 use Rattle.parser_statement.specs.Spelling.{clause_start, statement_words, body_words, branch_words, otherwise_words, clauses_words, IsStatement, IsBody, AreStatements, IsBranch, IsOtherwise, AreClauses}
-use Rattle.parser_statement.specs.Reading.{ends_statement, statement_next, clause_next, braced, other, otherwise, branched, repeated, waited, clause_body, one_clause, clauses_next, selected, stated, statement, block, branch, clause}
+use Rattle.parser_statement.specs.Reading.{ends_statement, statement_next, clause_next, braced, other, otherwise, branched, repeated, waited, clause_body, one_clause, no_clause, clauses_next, selected, stated, statement, block, branch, clause}
 use Rattle.parser_statement.proofs.Sizes.{statement_longer, separated_longer}
 use Rattle.parser_statement.proofs.StatementLists.{more_list, statements_are, body_all, highest_in, longest_in, clauses_in, clauses-clauses_in, clause_words, IsClause, clause_height, clause_longest, unseparated, clauses_list, clauses_are, clauses_highest, clauses_longest_in, clauses_length, clause_entries-le, clause_entries_few}
 use Rattle.parser_statement.proofs.LeafLaws.{AtSemicolon, AtBrace, AtCase, AtDefault, ends_stop, StatementOutcome, widened, leaf_go, leaf_return, leaf_untyped, leaf_typed}
@@ -162,6 +163,32 @@ empty_again most room _ (AtBrace rest) = Found (omega arith) (λ listing. omega 
 empty_again most room _ (AtCase rest) = Found (omega arith) (λ listing. omega arith) refl
 empty_again most room _ (AtDefault rest) = Found (omega arith) (λ listing. omega arith) refl
 
+-- ---- the least heights
+
+positive : (s : Statement) → 1 ≤ statement_height s
+positive Empty = omega arith
+positive (Alone s) = omega arith
+positive (VarTyped ns t r) = omega arith
+positive (VarUntyped ns r) = omega arith
+positive (Block body) = omega arith
+positive (If (Conditional h c body o)) = omega arith
+positive (For h body) = omega arith
+positive (Select all) = omega arith
+positive (Go f all) = omega arith
+positive (Return r) = omega arith
+positive Break = omega arith
+positive Continue = omega arith
+
+body_positive : (body : Statements) → IsBody body → 1 ≤ statements_height body
+body_positive NoStatement is = absurd is
+body_positive (Then s ss) is = omega (arith, positive s)
+
+comm_positive : (c : Comm) → 2 ≤ comm_height c
+comm_positive (CommSend c v) = omega (arith, height_positive c)
+comm_positive (CommReceive c) = omega (arith, height_positive c)
+comm_positive (CommDefine item ok c) = omega (arith, height_positive c)
+comm_positive (CommAssign item ok c) = omega (arith, height_positive c)
+
 -- ---- what is spelt is read: blocks
 
 abbrev pub block_words : Statements → List Lexeme → List Lexeme
@@ -192,15 +219,16 @@ block_again most NoStatement is each room rest = absurd is
 block_again most (Then first others) is each zero rest = High (omega arith) refl
 block_again most (Then first others) is each (suc room) rest = braced_again most room first others rest is (each room)
 
-block_statement : (most room : ℕ) (body : Statements) → BlockAgain most body → (rest : List Lexeme) → StatementOutcome most (suc room) (statement most (suc room) (statement_words (Block body) rest)) (Block body) rest
+block_statement : (most room : ℕ) (body : Statements) → IsBody body → BlockAgain most body → (rest : List Lexeme) → StatementOutcome most (suc room) (statement most (suc room) (statement_words (Block body) rest)) (Block body) rest
 unfolding statement stated
-block_statement most room body again rest = made_again Block (again room rest) (λ high. omega arith) (λ low. omega arith) (λ listing. refl)
+block_statement most room body is again rest =
+    needing_again 2 room (λ none. omega (arith, none, body_positive body is)) (made_again Block (again room rest) (λ high. omega arith) (λ low. omega arith) (λ listing. refl))
 
-for_statement : (most room : ℕ) (h : ForHead) (body : Statements) → IsForHead h → BlockAgain most body → (rest : List Lexeme) → StatementOutcome most (suc room) (statement most (suc room) (statement_words (For h body) rest)) (For h body) rest
+for_statement : (most room : ℕ) (h : ForHead) (body : Statements) → IsForHead h → IsBody body → BlockAgain most body → (rest : List Lexeme) → StatementOutcome most (suc room) (statement most (suc room) (statement_words (For h body) rest)) (For h body) rest
 unfolding statement stated repeated
-for_statement most room h body is again rest =
-    then_again _ (for_header_again most room h (body_words body (Mark kinds.RightBrace ∷ rest)) is) (λ high. omega arith) (λ listing. omega arith) (λ low few.
-    widened (made_again (For h) (again room rest) (λ high. high) (λ low'. low') (λ listing. refl)) (λ high. omega arith) (λ low'. omega arith) (λ listing. omega arith) (λ few' listing. omega (arith, few listing, few' listing)))
+for_statement most room h body is body_is again rest =
+    needing_again 2 room (λ none. omega (arith, none, body_positive body body_is)) (then_again _ (for_header_again most room h (body_words body (Mark kinds.RightBrace ∷ rest)) is) (λ high. omega arith) (λ listing. omega arith) (λ low few.
+    widened (made_again (For h) (again room rest) (λ high. high) (λ low'. low') (λ listing. refl)) (λ high. omega arith) (λ low'. omega arith) (λ listing. omega arith) (λ few' listing. omega (arith, few listing, few' listing))))
 
 -- ---- what is spelt is read: if
 
@@ -219,10 +247,10 @@ branch_again : (most room : ℕ) (h : IfHead) (c : Expression) (body : Statement
 unfolding branched
 branch_again most room h c body o rest is again again' ends =
     let last = otherwise_words o rest in
-    then_again _ (if_header_again most room (h, c) (body_words body (Mark kinds.RightBrace ∷ last)) (is.0, is.1)) (λ high. omega arith) (λ listing. omega arith) (λ low few.
+    needing_again 2 room (λ none. omega (arith, none, body_positive body is.2)) (then_again _ (if_header_again most room (h, c) (body_words body (Mark kinds.RightBrace ∷ last)) (is.0, is.1)) (λ high. omega arith) (λ listing. omega arith) (λ low few.
     then_again _ (again room last) (λ high. omega arith) (λ listing. omega arith) (λ low' few'.
     then_again _ (again' room rest ends) (λ high. omega arith) (λ listing. omega arith) (λ low'' few''.
-    Found (omega arith) (λ listing. omega (arith, few listing, few' listing, few'' listing)) refl)))
+    Found (omega arith) (λ listing. omega (arith, few listing, few' listing, few'' listing)) refl))))
 
 no_else : (rest : List Lexeme) → Ends rest → begins_with kinds.Else rest ≡ false
 unfolding begins_with
@@ -311,14 +339,16 @@ one_clause_again : (most room : ℕ) (waits : Option Comm) (body : Statements) (
     → Outcome (one_clause most room (statement most room) (clause_start waits (body_words body rest))) (record { comm = waits; body = body }) rest (max (if_any comm_height waits) (statements_height body)) room (λ listing. clause_longest listing (record { comm = waits; body = body })) most
 unfolding one_clause
 one_clause_again most room None body rest is body_is each ends =
-    widened (clause_body_again most room None body rest body_is each ends) (λ high. omega arith) (λ low. omega arith) (λ listing. omega arith) (λ few listing. omega (arith, few listing))
+    needing_again 1 room (λ none. omega (arith, none, body_positive body body_is))
+    (widened (clause_body_again most room None body rest body_is each ends) (λ high. omega arith) (λ low. omega arith) (λ listing. omega arith) (λ few listing. omega (arith, few listing)))
 one_clause_again most room (Some c) body rest is body_is each ends =
-    then_again _ (waited_again most room c (body_words body rest) is) (λ high. omega arith) (λ listing. omega arith) (λ low few.
-    widened (clause_body_again most room (Some c) body rest body_is each ends) (λ high. omega arith) (λ low'. omega arith) (λ listing. omega arith) (λ few' listing. omega (arith, few listing, few' listing)))
+    needing_again 2 room (λ none. omega (arith, none, comm_positive c)) (then_again _ (waited_again most room c (body_words body rest) is) (λ high. omega arith) (λ listing. omega arith) (λ low few.
+    widened (clause_body_again most room (Some c) body rest body_is each ends) (λ high. omega arith) (λ low'. omega arith) (λ listing. omega arith) (λ few' listing. omega (arith, few listing, few' listing))))
 
 clause_again : (most : ℕ) (waits : Option Comm) (body : Statements) → IsAny IsComm waits → IsBody body → ReadAgain most (statements_in body) → (room : ℕ) → IsReadAgain (clauses_of room most) EndsClause (record { comm = waits; body = body })
-unfolding statement
-clause_again most waits body is body_is each zero rest ends = High (omega arith) refl
+unfolding statement no_clause
+clause_again most None body is body_is each zero rest ends = High (omega arith) refl
+clause_again most (Some c) body is body_is each zero rest ends = High (omega arith) refl
 clause_again most waits body is body_is each (suc room) rest ends = widened (one_clause_again most room waits body rest is body_is each ends) (λ high. omega arith) (λ low. omega arith) (λ listing. omega arith) (λ few. few)
 
 abbrev ClausesOutcome : (most room : ℕ) → Reading Clauses → Clauses → List Lexeme → Type 0
@@ -358,20 +388,6 @@ select_statement most room all are each rest = made_again Select (selected_again
 
 -- ---- what is spelt is read: statements
 
-positive : (s : Statement) → 1 ≤ statement_height s
-positive Empty = omega arith
-positive (Alone s) = omega arith
-positive (VarTyped ns t r) = omega arith
-positive (VarUntyped ns r) = omega arith
-positive (Block body) = omega arith
-positive (If (Conditional h c body o)) = omega arith
-positive (For h body) = omega arith
-positive (Select all) = omega arith
-positive (Go f all) = omega arith
-positive (Return r) = omega arith
-positive Break = omega arith
-positive Continue = omega arith
-
 no_room : (most : ℕ) (s : Statement) → IsReadAgain (statements 0 most) Ends s
 unfolding statement
 no_room most s rest ends = High (positive s) refl
@@ -403,9 +419,9 @@ mutual
   read_again most (Alone s) is (suc room) = alone_again most room s is
   read_again most (VarTyped ns t r) is (suc room) = var_typed most room ns t r is
   read_again most (VarUntyped ns r) is (suc room) = var_untyped most room ns r is
-  read_again most (Block body) is (suc room) = λ rest ends. block_statement most room body (block_again most body is (all_again most body (body_all body is))) rest
+  read_again most (Block body) is (suc room) = λ rest ends. block_statement most room body is (block_again most body is (all_again most body (body_all body is))) rest
   read_again most (If b) is (suc room) = if_statement most room b (branches_again most b is)
-  read_again most (For h body) is (suc room) = λ rest ends. for_statement most room h body is.0 (block_again most body is.1 (all_again most body (body_all body is.1))) rest
+  read_again most (For h body) is (suc room) = λ rest ends. for_statement most room h body is.0 is.1 (block_again most body is.1 (all_again most body (body_all body is.1))) rest
   read_again most (Select all) is (suc room) = λ rest ends. select_statement most room all is (clauses_again most all is room) rest
   read_again most (Go f all) is (suc room) = go_again most room f all is
   read_again most (Return r) is (suc room) = return_again most room r is

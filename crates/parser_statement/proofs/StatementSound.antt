@@ -2,7 +2,7 @@
 use Rattle.std.proofs.Common.{◌≡◌, ℕ, zero, suc, ◌≤◌, Bool, true, false, cond, Option, Some, None, max, List, [], ◌∷◌, length, Ok, Err, inl, inr, refl, sym, ap, ◌∙◌, subst, arith}
 use Rattle.scanner.specs.declared.kind.Kind.{Kind}
 use Rattle.scanner.specs.declared.kind.Kind.TheVariants as kinds
-use Rattle.syntax.specs.Tree.{Comm, Statement, Block, If, For, Select, Statements, statements_in, statements as made_statements, Branch, Conditional, Otherwise, NoElse, ElseBlock, ElseIf, Clauses}
+use Rattle.syntax.specs.Tree.{Expression, IfHead, ForHead, Comm, Statement, Block, If, For, Select, Statements, statements_in, statements as made_statements, Branch, Conditional, Otherwise, NoElse, ElseBlock, ElseIf, Clauses}
 use Rattle.syntax.specs.Measures.{Listing, SelectClauses, clauses as clause_entries, highest, comm_height, comm_longest, statement_height, statements_height, branch_height, otherwise_height, block_height, clauses_height, statement_longest, statements_longest, branch_longest, otherwise_longest, clauses_longest, clauses_count}
 use Rattle.syntax.specs.View.{OneClause, clauses}
 use Rattle.syntax.proofs.Lists.{statements_in-statements}
@@ -19,9 +19,10 @@ use Rattle.parser_statement.specs.HeaderSpelling.{comm_words, IsComm, for_head_w
 use Rattle.parser_statement.specs.HeaderReading.{if_header, for_header}
 use Rattle.parser_statement.proofs.HeaderLaws.{if_header_words, if_header_sound, for_header_sound, comm_below_is, comm_sound}
 use Rattle.parser_statement.specs.Spelling.{statement_words, body_words, branch_words, otherwise_words, clauses_words, IsStatement, IsBody, IsBranch, IsOtherwise, AreClauses}
-use Rattle.parser_statement.specs.Reading.{ends_statement, statement_next, clause_next, braced, other, otherwise, branched, repeated, waited, clause_body, one_clause, clauses_next, selected, marked, stated, statement, block, branch, clause}
+use Rattle.parser_statement.specs.Reading.{ends_statement, statement_next, clause_next, braced, other, otherwise, branched, repeated, waited, clause_body, one_clause, no_clause, clauses_next, selected, marked, stated, statement, block, branch, clause}
 use Rattle.parser_statement.proofs.StatementLists.{body_list, are_body, highest_in, longest_in, clauses_in, clauses_in-clauses, clause_words, IsClause, clause_height, clause_longest, unseparated, clauses_list, are_clauses, clauses_highest, clauses_longest_in, clauses_length, clause_entries-le, clause_entries_few}
 use Rattle.parser_statement.proofs.LeafLaws.{StatementSound, alone_sound, leaf_sound}
+use Rattle.parser_simple.proofs.RightLaws.{needing_ok}
 use Rattle.parser_statement.proofs.StatementAgain.{statements_to, statements, clause_statements, block_words, clauses_of}
 
 -- ---- what is read is spelt so: lists of statements
@@ -171,7 +172,8 @@ branched_sound : (most room : ℕ) → BlockSoundly most room → BranchSoundly 
 unfolding branched
 branched_sound most room blocks branches ws b rest e =
     let last : List Lexeme → Reading Otherwise = otherwise (block most room) (branch most room) in
-    let h = bind_ok (if_header most room ws) (λ header. block most room header.1 >>= λ body. last body.1 >>= λ o. gave (Conditional header.0.0 header.0.1 body.0 o.0) o.1) (b, rest) e in
+    let behind' : (IfHead × Expression) × List Lexeme → Reading Branch = λ header. block most room header.1 >>= λ body. last body.1 >>= λ o. gave (Conditional header.0.0 header.0.1 body.0 o.0) o.1 in
+    let h = bind_ok (if_header most room ws) behind' (b, rest) (needing_ok 2 room (if_header most room ws >>= behind') (b, rest) e) in
     let c = bind_ok (block most room h.0.1) (λ body. last body.1 >>= λ o. gave (Conditional h.0.0.0 h.0.0.1 body.0 o.0) o.1) (b, rest) h.2 in
     let d = made_is (Conditional h.0.0.0 h.0.0.1 c.0.0) (last c.0.1) b rest c.2 in
     let p = if_header_sound most room ws h.0.0 h.0.1 h.1 in
@@ -193,7 +195,8 @@ if_sound most room blocks branches ws s rest e =
 for_sound : (most room : ℕ) → BlockSoundly most room → (ws : List Lexeme) (s : Statement) (rest : List Lexeme) → repeated most room (block most room) ws ≡ gave s rest → StatementSound most (suc room) (Mark kinds.For ∷ ws) s rest
 unfolding repeated
 for_sound most room blocks ws s rest e =
-    let a = bind_ok (for_header most room ws) (λ header. as_one (For header.0) (block most room header.1)) (s, rest) e in
+    let behind' : ForHead × List Lexeme → Reading Statement = λ header. as_one (For header.0) (block most room header.1) in
+    let a = bind_ok (for_header most room ws) behind' (s, rest) (needing_ok 2 room (for_header most room ws >>= behind') (s, rest) e) in
     let b = made_is (For a.0.0) (block most room a.0.1) s rest a.2 in
     let p = for_header_sound most room ws a.0.0 a.0.1 a.1 in
     let q = blocks a.0.1 b.0 rest b.1 in
@@ -249,7 +252,8 @@ with_comm most room ws waits c rest same sound =
 one_clause_sound : (most room : ℕ) → StatementSoundly most room → (ws : List Lexeme) (c : OneClause) (rest : List Lexeme) → one_clause most room (statement most room) ws ≡ gave c rest → ClauseSound most (suc room) ws c rest
 unfolding one_clause
 one_clause_sound most room sound (Mark kinds.Case ∷ ws) c rest e =
-    let a = bind_ok (waited most room ws) (λ waits. clause_body (statement most room) (Some waits.0) waits.1) (c, rest) e in
+    let behind' : Comm × List Lexeme → Reading OneClause = λ waits. clause_body (statement most room) (Some waits.0) waits.1 in
+    let a = bind_ok (waited most room ws) behind' (c, rest) (needing_ok 2 room (waited most room ws >>= behind') (c, rest) e) in
     let p = waited_sound most room ws a.0.0 a.0.1 a.1 in
     let q = clause_body_sound most room sound (Some a.0.0) a.0.1 c rest a.2 in
     with_comm most (suc room) (Mark kinds.Case ∷ ws) (Some a.0.0) c rest q.0 (record {
@@ -259,7 +263,7 @@ one_clause_sound most room sound (Mark kinds.Case ∷ ws) c rest e =
       few = λ listing. omega (arith, p.few listing, q.1.few listing);
     })
 one_clause_sound most room sound (Mark kinds.Default ∷ ws) c rest e =
-    let q = clause_body_sound most room sound None ws c rest e in
+    let q = clause_body_sound most room sound None ws c rest (needing_ok 1 room (clause_body (statement most room) None ws) (c, rest) e) in
     with_comm most (suc room) (Mark kinds.Default ∷ ws) None c rest q.0 (record {
       parts = ap (λ (x : List Lexeme). Mark kinds.Default ∷ x) q.1.parts;
       is = (tt, q.1.is);
@@ -267,6 +271,12 @@ one_clause_sound most room sound (Mark kinds.Default ∷ ws) c rest e =
       few = λ listing. omega (arith, q.1.few listing);
     })
 one_clause_sound most room sound ws c rest e = absurd cc
+
+no_clause_read : (ws : List Lexeme) (c : OneClause) (rest : List Lexeme) → no_clause ws ≡ gave c rest → ⊥
+unfolding no_clause
+no_clause_read (Mark kinds.Case ∷ ws) c rest e = cc
+no_clause_read (Mark kinds.Default ∷ ws) c rest e = cc
+no_clause_read ws c rest e = cc
 
 clauses_more_sound : (ws rest : List Lexeme) → clauses_next ws ≡ Ok (goes_on_with rest) → ws ≡ rest
 unfolding clauses_next
@@ -358,7 +368,7 @@ select_sound most room sound ws s rest e =
 
 marked_sound : (most room : ℕ) → BlockSoundly most room → BranchSoundly most room → ClauseSoundly most room
     → (kind : Kind) (ws : List Lexeme) (s : Statement) (rest : List Lexeme) → marked most room (block most room) (branch most room) (clause most room) kind ws ≡ gave s rest → StatementSound most (suc room) (Mark kind ∷ ws) s rest
-marked_sound most room blocks branches sound kinds.LeftBrace ws s rest e = block_sound most room blocks (Mark kinds.LeftBrace ∷ ws) s rest e
+marked_sound most room blocks branches sound kinds.LeftBrace ws s rest e = block_sound most room blocks (Mark kinds.LeftBrace ∷ ws) s rest (needing_ok 2 room (as_one Block (block most room (Mark kinds.LeftBrace ∷ ws))) (s, rest) e)
 marked_sound most room blocks branches sound kinds.If ws s rest e = if_sound most room blocks branches ws s rest e
 marked_sound most room blocks branches sound kinds.For ws s rest e = for_sound most room blocks ws s rest e
 marked_sound most room blocks branches sound kinds.Select ws s rest e = select_sound most room sound ws s rest e
@@ -389,7 +399,7 @@ mutual
   branch_read most (suc room) ws b rest e = branched_sound most room (block_read most room) (branch_read most room) ws b rest e
 
   clause_read : (most room : ℕ) → ClauseSoundly most room
-  clause_read most zero ws c rest e = absurd cc
+  clause_read most zero ws c rest e = absurd (no_clause_read ws c rest e)
   clause_read most (suc room) ws c rest e = one_clause_sound most room (read_sound most room) ws c rest e
 
 pub statement_sound : (room most : ℕ) (ws : List Lexeme) (s : Statement) (rest : List Lexeme) → statement most room ws ≡ Ok (s, rest) → IsEntry (statements room most) ws s rest

@@ -1,5 +1,5 @@
 -- Reading statements from left to right.
-use Rattle.std.specs.Prelude.{ℕ, zero, suc, Bool, true, false, List, [], ◌∷◌, Option, Some, None, Ok, Err, if◌then◌else◌, length}
+use Rattle.std.specs.Prelude.{ℕ, zero, suc, Bool, true, false, List, [], ◌∷◌, ◌||◌, Option, Some, None, Ok, Err, if◌then◌else◌, length, bytes_eq, codes}
 use Rattle.scanner.specs.declared.kind.Kind.{Kind}
 use Rattle.scanner.specs.declared.kind.Kind.TheVariants as kinds
 use Rattle.syntax.specs.Tree.{Comm, Returned, NoValue, ReturnedOperation, ReturnedValue, Statement, Empty, Alone, VarTyped, VarUntyped, Block, If, For, Select, Go, Return, Break, Continue, Statements, statements, Branch, Conditional, Otherwise, NoElse, ElseBlock, ElseIf, Clauses}
@@ -7,10 +7,11 @@ use Rattle.syntax.specs.Measures.{SelectClauses}
 use Rattle.syntax.specs.View.{OneClause, clauses}
 use Rattle.parser_base.specs.declared.list.Next.{Next}
 use Rattle.parser_base.specs.declared.list.Next.TheVariants.{More, End}
-use Rattle.parser_base.specs.Lexemes.{Lexeme, Mark}
-use Rattle.parser_base.specs.Reading.{Syntax, TooDeep, TooMany, Reading, ◌>>=◌, expect, plain_name, listed, expression}
+use Rattle.parser_base.specs.Lexemes.{Lexeme, Name, Mark}
+use Rattle.parser_base.specs.Spelling.{is_builtin}
+use Rattle.parser_base.specs.Reading.{Syntax, TooDeep, TooMany, Reading, ◌>>=◌, expect, plain_name, begins, listed, expression}
 use Rattle.parser_base.specs.TypeReading.{type_at}
-use Rattle.parser_simple.specs.Reading.{as_one, begins_with, names, arguments, begins_operation, operation, right, simple}
+use Rattle.parser_simple.specs.Reading.{as_one, needing, begins_with, names, arguments, begins_operation, operation, right, simple}
 use Rattle.parser_statement.specs.HeaderReading.{comm, if_header, for_header}
 
 -- ---- what ends a statement
@@ -41,9 +42,16 @@ clause_next words = if ends_statement words then Ok (End false, words) else Err 
 
 -- ---- statements in which none stands
 
+-- whether a value or an operation behind `return` can begin so
+unfoldable pub begins_returned : List Lexeme → Bool
+begins_returned (Name name ∷ rest) =
+    if is_builtin name then bytes_eq name (codes "make") || bytes_eq name (codes "len") || bytes_eq name (codes "cap") else true
+begins_returned (Mark kinds.Arrow ∷ rest) = true
+begins_returned words = begins words
+
 -- a value behind `return`, of at most so many levels
 unfoldable pub returned_value : ℕ → ℕ → List Lexeme → Reading Returned
-returned_value most zero words = Err TooDeep
+returned_value most zero words = if begins_returned words then Err TooDeep else Err Syntax
 returned_value most (suc room) words =
     if begins_operation words then as_one ReturnedOperation (operation true most room words)
     else as_one ReturnedValue (expression true most (suc room) 0 words)
@@ -71,11 +79,15 @@ typed all most room words = do
 unfoldable pub untyped : List (List ℕ) → ℕ → ℕ → List Lexeme → Reading Statement
 untyped all most room words = expect kinds.Assign words >>= λ after. as_one (VarUntyped all) (right true most room after)
 
--- what stands behind `var`
-unfoldable pub variable : ℕ → ℕ → List Lexeme → Reading Statement
-variable most room words =
+-- the names behind `var`, and their type or values
+unfoldable pub variables : ℕ → ℕ → List Lexeme → Reading Statement
+variables most room words =
     names kinds.Comma most words >>= λ all.
     if begins_with kinds.Assign all.1 then untyped all.0.0 most room all.1 else typed all.0.0 most room all.1
+
+-- what stands behind `var`: a type or values
+abbrev pub variable : ℕ → ℕ → List Lexeme → Reading Statement
+variable most room words = needing 1 room (variables most room words)
 
 -- a statement behind this mark, in which no other stands and below which there are at most so many levels
 abbrev pub leaf : ℕ → ℕ → Kind → List Lexeme → Reading Statement
@@ -105,17 +117,17 @@ unfoldable pub otherwise : (block : List Lexeme → Reading Statements) → (bra
 otherwise block branch words =
     if begins_with kinds.Else words then (expect kinds.Else words >>= λ after. other block branch after) else Ok (NoElse, words)
 
--- what stands behind `if`
+-- what stands behind `if`: a condition, and a block with a statement in it
 unfoldable pub branched : ℕ → ℕ → (block : List Lexeme → Reading Statements) → (branch : List Lexeme → Reading Branch) → List Lexeme → Reading Branch
-branched most room block branch words = do
+branched most room block branch words = needing 2 room (do
   header ← if_header most room words
   body ← block header.1
   last ← otherwise block branch body.1
-  Ok (Conditional header.0.0 header.0.1 body.0 last.0, last.1)
+  Ok (Conditional header.0.0 header.0.1 body.0 last.0, last.1))
 
--- what stands behind `for`
+-- what stands behind `for`: a block with a statement in it
 unfoldable pub repeated : ℕ → ℕ → (block : List Lexeme → Reading Statements) → List Lexeme → Reading Statement
-repeated most room block words = for_header most room words >>= λ header. as_one (For header.0) (block header.1)
+repeated most room block words = needing 2 room (for_header most room words >>= λ header. as_one (For header.0) (block header.1))
 
 -- what a clause of a select waits for, of at most so many levels
 unfoldable pub waited : ℕ → ℕ → List Lexeme → Reading Comm
@@ -131,9 +143,15 @@ clause_body one waits words = do
 
 -- a clause, below which there are at most so many levels
 unfoldable pub one_clause : ℕ → ℕ → (one : List Lexeme → Reading Statement) → List Lexeme → Reading OneClause
-one_clause most room one (Mark kinds.Case ∷ rest) = waited most room rest >>= λ waits. clause_body one (Some waits.0) waits.1
-one_clause most room one (Mark kinds.Default ∷ rest) = clause_body one None rest
+one_clause most room one (Mark kinds.Case ∷ rest) = needing 2 room (waited most room rest >>= λ waits. clause_body one (Some waits.0) waits.1)
+one_clause most room one (Mark kinds.Default ∷ rest) = needing 1 room (clause_body one None rest)
 one_clause most room one words = Err Syntax
+
+-- a clause for which there is no room
+unfoldable pub no_clause : List Lexeme → Reading OneClause
+no_clause (Mark kinds.Case ∷ rest) = Err TooDeep
+no_clause (Mark kinds.Default ∷ rest) = Err TooDeep
+no_clause words = Err Syntax
 
 -- what follows a clause
 unfoldable pub clauses_next : List Lexeme → Reading Next
@@ -148,7 +166,7 @@ selected most clause words =
 
 -- a statement behind this mark, below which there are at most so many levels
 abbrev pub marked : ℕ → ℕ → (block : List Lexeme → Reading Statements) → (branch : List Lexeme → Reading Branch) → (clause : List Lexeme → Reading OneClause) → Kind → List Lexeme → Reading Statement
-marked most room block branch clause kinds.LeftBrace rest = as_one Block (block (Mark kinds.LeftBrace ∷ rest))
+marked most room block branch clause kinds.LeftBrace rest = needing 2 room (as_one Block (block (Mark kinds.LeftBrace ∷ rest)))
 marked most room block branch clause kinds.If rest = as_one If (branched most room block branch rest)
 marked most room block branch clause kinds.For rest = repeated most room block rest
 marked most room block branch clause kinds.Select rest = as_one Select (selected most clause rest)
@@ -178,5 +196,5 @@ unfoldable mutual
 
   -- a clause of a select
   pub clause : ℕ → ℕ → List Lexeme → Reading OneClause
-  clause most zero words = Err TooDeep
+  clause most zero words = no_clause words
   clause most (suc room) words = one_clause most room (statement most room) words

@@ -10,11 +10,11 @@ ghost use Rattle.parser_base.specs.Lexemes.{Mark};
 ghost use Rattle.parser_base.specs.Cursor.{ahead};
 ghost use Rattle.parser_base.specs.Reading.{Gives};
 ghost use Rattle.parser_simple.specs.Reading.{as_one, right, simple};
-ghost use Rattle.parser_statement.specs.Reading.{is_end, ends_statement, returned_value, returned, started, behind_next, typed, untyped, variable, leaf};
+ghost use Rattle.parser_statement.specs.Reading.{is_end, ends_statement, begins_returned, returned_value, returned, started, behind_next, typed, untyped, variables, variable, leaf};
 
-use go_text::{Fault, Span};
-use parser_base::cursor::{Cursor, Word};
-use parser_base::expression::expression;
+use go_text::{Fault, Place, Span};
+use parser_base::cursor::{Cursor, Word, is_builtin};
+use parser_base::expression::{begins, expression};
 use parser_base::list::MAX_ENTRIES;
 use parser_base::types::type_at;
 use parser_simple::form::begins_with;
@@ -91,6 +91,21 @@ struct FoundReturned<'a> {
     rest: Cursor<'a>,
 }
 
+/// Whether a value or an operation behind `return` can begin here.
+#[tactic(auto, unfolding(crate::specs::Reading::begins_returned))]
+fn begins_returned(cursor: Cursor<'_>) -> bool
+    ensures { result ≡ begins_returned (ahead cursor.entry) }
+{
+    match cursor.next() {
+        Some((Word::Name(name), _, _)) if is_builtin(name) => {
+            name == b"make".as_slice() || name == b"len".as_slice() || name == b"cap".as_slice()
+        }
+        Some((Word::Name(_), _, _)) => true,
+        Some((Word::Mark(Kind::Arrow), _, _)) => true,
+        _ => begins(cursor),
+    }
+}
+
 /// A value behind `return`, of at most so many levels.
 #[tactic(auto, unfolding(crate::specs::Reading::returned_value))]
 fn returned_value<'a>(
@@ -103,7 +118,10 @@ fn returned_value<'a>(
     ensures nodes { IfOk result (λ x. vec_len spans.new ≡ vec_len spans.old + returned_size (returned_of x.returned)) }
 {
     if room == 0 {
-        return Err(Fault::TooDeep(cursor.place()));
+        if begins_returned(cursor) {
+            return Err(Fault::TooDeep(cursor.place()));
+        }
+        return Err(Fault::Syntax(cursor.place()));
     }
     if begins_operation(cursor) {
         let found = operation(alloc, true, room - 1, cursor, spans)?;
@@ -226,9 +244,27 @@ fn untyped<'a>(
     Ok((StatementNode::Untyped(names, found.right), found.rest))
 }
 
+/// The names behind a `var` at `first`, and their type or values.
+#[tactic(auto, unfolding(crate::specs::Reading::variables))]
+fn variables<'a>(
+    alloc: Global,
+    room: u32,
+    first: Span,
+    cursor: Cursor<'a>,
+    spans: &mut Vec<Span>,
+) -> Result<(StatementNode, Cursor<'a>), Fault>
+    ensures statement { Gives (λ x. (statement_of x.0, ahead x.1)) result (variables MAX_ENTRIES room (ahead cursor.entry)) }
+    ensures nodes { IfOk result (λ x. vec_len spans.new ≡ vec_len spans.old + statement_size (statement_of x.0)) }
+{
+    let names = names(alloc, Kind::Comma, MAX_ENTRIES as usize, cursor)?;
+    if begins_with(Kind::Assign, names.rest) {
+        return untyped(alloc, room, first, names.entries, names.rest, spans);
+    }
+    typed(alloc, room, first, names.entries, names.rest, spans)
+}
+
 /// A `var` ("Variable declarations" of the Go specification), behind its word, which stands at `first`, below which there
 /// are at most so many levels.
-#[tactic(auto, unfolding(crate::specs::Reading::variable))]
 pub fn variable<'a>(
     alloc: Global,
     room: u32,
@@ -239,11 +275,10 @@ pub fn variable<'a>(
     ensures statement { Gives (λ x. (statement_of x.0, ahead x.1)) result (variable MAX_ENTRIES room (ahead cursor.entry)) }
     ensures nodes { IfOk result (λ x. vec_len spans.new ≡ vec_len spans.old + statement_size (statement_of x.0)) }
 {
-    let names = names(alloc, Kind::Comma, MAX_ENTRIES as usize, cursor)?;
-    if begins_with(Kind::Assign, names.rest) {
-        return untyped(alloc, room, first, names.entries, names.rest, spans);
+    if room < 1 {
+        return Err(Fault::TooDeep(Place::from(first)));
     }
-    typed(alloc, room, first, names.entries, names.rest, spans)
+    variables(alloc, room, first, cursor, spans)
 }
 
 /// A word that is a statement, which stands at `first`.

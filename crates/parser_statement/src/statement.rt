@@ -7,9 +7,9 @@ ghost use Rattle.syntax.specs.Measures.{SelectClauses, if_any, comm_size, statem
 ghost use Rattle.syntax.specs.View.{comm_of, statement_of, body_of, clauses};
 ghost use Rattle.parser_base.specs.Lexemes.{Mark};
 ghost use Rattle.parser_base.specs.Cursor.{ahead};
-ghost use Rattle.parser_base.specs.Reading.{Gives, Syntax, TooMany, listed};
+ghost use Rattle.parser_base.specs.Reading.{Gives, Fails, Syntax, TooMany, listed};
 ghost use Rattle.parser_simple.specs.Reading.{as_one};
-ghost use Rattle.parser_statement.specs.Reading.{statement_next, clause_next, clauses_next, waited, clause_body, other, otherwise, branched, repeated, one_clause, selected, marked, stated, statement, block, branch, clause};
+ghost use Rattle.parser_statement.specs.Reading.{statement_next, clause_next, clauses_next, waited, clause_body, other, otherwise, branched, repeated, one_clause, no_clause, selected, marked, stated, statement, block, branch, clause};
 ghost use Rattle.parser_statement.specs.Views.{branch_of, otherwise_of, clause_of, one_clause_size};
 
 use crate::beside::{beside, push};
@@ -258,6 +258,9 @@ fn branched<'a>(
     ensures branch { Gives (λ x. (branch_of x.branch, ahead x.rest)) result (branched MAX_ENTRIES room (block MAX_ENTRIES room) (branch MAX_ENTRIES room) (ahead cursor.entry)) }
     ensures nodes { IfOk result (λ x. vec_len spans.new ≡ vec_len spans.old + branch_size (branch_of x.branch)) }
 {
+    if room < 2 {
+        return Err(Fault::TooDeep(Place::from(first)));
+    }
     let header = if_header(alloc, room, cursor, spans)?;
     let head = (header.header, header.condition);
     let (head, body) = beside(head, block(alloc, room, header.rest, spans))?;
@@ -298,6 +301,9 @@ fn repeated<'a>(
     ensures statement { Gives (λ x. (statement_of x.0, ahead x.1)) result (repeated MAX_ENTRIES room (block MAX_ENTRIES room) (ahead cursor.entry)) }
     ensures nodes { IfOk result (λ x. vec_len spans.new ≡ vec_len spans.old + statement_size (statement_of x.0)) }
 {
+    if room < 2 {
+        return Err(Fault::TooDeep(Place::from(first)));
+    }
     let header = for_header(alloc, room, cursor, spans)?;
     let body = block(alloc, room, header.rest, spans)?;
     spans.push(Span {
@@ -402,13 +408,32 @@ fn one_clause<'a>(
 {
     match cursor.next() {
         Some((Word::Mark(Kind::Case), first, rest)) => {
+            if room < 2 {
+                return Err(Fault::TooDeep(Place::from(first)));
+            }
             let waits = waited(alloc, room, rest, spans)?;
             clause_body(alloc, room, first, Some(waits.comm), waits.rest, spans)
         }
-        Some((Word::Mark(Kind::Default), first, rest)) => clause_body(
-            alloc, room, first, None, rest, spans,
-        ),
+        Some((Word::Mark(Kind::Default), first, rest)) => {
+            if room < 1 {
+                return Err(Fault::TooDeep(Place::from(first)));
+            }
+            clause_body(alloc, room, first, None, rest, spans)
+        }
         _ => Err(Fault::Syntax(cursor.place())),
+    }
+}
+
+/// What is wrong with a clause for which there is no room.
+#[tactic(auto, unfolding(crate::specs::Reading::no_clause))]
+fn no_clause(cursor: Cursor<'_>) -> Fault
+    ensures { Fails result (no_clause (ahead cursor.entry)) }
+{
+    match cursor.next() {
+        Some((Word::Mark(Kind::Case | Kind::Default), first, _)) => {
+            Fault::TooDeep(Place::from(first))
+        }
+        _ => Fault::Syntax(cursor.place()),
     }
 }
 
@@ -425,7 +450,7 @@ fn clause<'a>(
     ensures nodes { IfOk result (λ x. vec_len spans.new ≡ vec_len spans.old + one_clause_size (clause_of x.clause)) }
 {
     if room == 0 {
-        return Err(Fault::TooDeep(cursor.place()));
+        return Err(no_clause(cursor));
     }
     one_clause(alloc, room - 1, cursor, spans)
 }
@@ -514,6 +539,9 @@ fn marked<'a>(
 {
     match kind {
         Kind::LeftBrace => {
+            if room < 2 {
+                return Err(Fault::TooDeep(Place::from(first)));
+            }
             let body = block(alloc, room, cursor, spans)?;
             spans.push(Span {
                 from: first.from,

@@ -228,46 +228,6 @@ fn refuses_declarations_at_the_first_wrong_token(rt: HostRuntime) -> Result<(), 
 }
 
 #[test]
-fn limits_names_of_parameters(rt: HostRuntime) -> Result<(), Fail> {
-    let alloc = rt.alloc();
-    for (last, wanted) in [
-        (" int){}", Outcome::Tree),
-        (" int,){}", Outcome::Tree),
-        (",b int){}", Outcome::Entries(148)),
-        (" int, b int){}", Outcome::Entries(153)),
-        (" int, 1){}", Outcome::Syntax(153)),
-    ] {
-        let text = repeated(alloc, "package main;func f(a", ",a", 63, last)?;
-        assert_eq!(rt; outcome_of(alloc, &text), wanted, "64 names and {last}");
-    }
-    for (last, wanted) in [
-        ("}", Outcome::Tree),
-        ("a int}", Outcome::Entries(539)),
-        ("a, b int}", Outcome::Entries(539)),
-    ] {
-        let text = repeated(alloc, "package main;type T struct{", "a int;  ", 64, last)?;
-        assert_eq!(rt; outcome_of(alloc, &text), wanted, "64 fields and {last}");
-    }
-    Ok(())
-}
-
-#[test]
-fn limits_heights_of_types(rt: HostRuntime) -> Result<(), Fail> {
-    let alloc = rt.alloc();
-    for (count, wanted) in [(196, Outcome::Tree), (197, Outcome::TooDeep(218))] {
-        let closing = repeated(alloc, "int", ")", count, "){}")?;
-        let text = repeated(alloc, "package main;func f(x ", "(", count, &closing)?;
-        assert_eq!(rt; outcome_of(alloc, &text), wanted, "{count} parentheses");
-    }
-    for (count, wanted) in [(197, Outcome::Tree), (198, Outcome::TooDeep(219))] {
-        let closing = repeated(alloc, "int", ")", count, "{}")?;
-        let text = repeated(alloc, "package main;func f() ", "(", count, &closing)?;
-        assert_eq!(rt; outcome_of(alloc, &text), wanted, "{count} parentheses");
-    }
-    Ok(())
-}
-
-#[test]
 fn numbers_declarations_in_postorder(rt: HostRuntime) -> Result<(), Fail> {
     let tree = tree_of(
         rt.alloc(),
@@ -428,72 +388,73 @@ fn takes_statements(rt: HostRuntime) -> Result<(), Fail> {
 #[test]
 fn limits_height(rt: HostRuntime) -> Result<(), Fail> {
     let alloc = rt.alloc();
-    let closing = repeated(alloc, "1", ")", 195, ")}")?;
-    let body = repeated(alloc, "println(", "(", 195, &closing)?;
-    assert_eq!(rt;
-        body_outcome(alloc, &body)?,
-        Outcome::Tree,
-        "195 pairs of parentheses"
-    );
-    let closing = repeated(alloc, "1+1", ")", 195, ")}")?;
-    let body = repeated(alloc, "println(", "(", 195, &closing)?;
-    assert_eq!(rt;
-        body_outcome(alloc, &body)?,
-        Outcome::TooDeep(204),
-        "an operator within 195 pairs"
-    );
-    let body = repeated(alloc, "println(", "(", 195, ")")?;
-    assert_eq!(rt;
-        body_outcome(alloc, &body)?,
-        Outcome::Syntax(203),
-        "nothing within 195 pairs"
-    );
-    for count in [196, 300] {
-        let body = repeated(alloc, "println(", "(", count, "1")?;
+    for (first, open, most, last, close, end, offset) in [
+        ("f(", "(", 195, "1", ")", ")}", 197),
+        ("f(", "(", 194, "1+1", ")", ")}", 198),
+        ("f(", "- ", 195, "1", "", ")}", 392),
+        ("f(1", "+1", 195, "", "", ")}", 393),
+        ("f(x", ".a", 195, "", "", ")}", 393),
+        ("f(", "T{", 195, "T{}", "}", ")}", 394),
+        ("println(", "(", 195, "1", ")", ")}", 203),
+        ("};func g(x ", "(", 196, "T", ")", "){}", 207),
+        ("};func g() ", "(", 197, "T", ")", "{}", 208),
+        ("", "{", 98, "", "}", "}", 98),
+        ("", "for{", 98, "", "}", "}", 392),
+        ("", "if x{", 98, "", "}", "}", 490),
+        ("", "select{default:", 98, "", "}", "}", 1477),
+        ("if x{}", "else if x{}", 194, "}", "", "", 2145),
+    ] {
+        let closing = repeated(alloc, last, close, most, end)?;
+        let body = repeated(alloc, first, open, most, &closing)?;
+        assert_eq!(rt; body_outcome(alloc, &body)?, Outcome::Tree, "{body}");
+        let body = repeated(alloc, first, open, most.saturating_add(1), last)?;
         assert_eq!(rt;
             body_outcome(alloc, &body)?,
-            Outcome::TooDeep(203),
-            "{count} parentheses"
+            Outcome::TooDeep(offset),
+            "{body}"
         );
     }
-    let body = repeated(alloc, "println(", "- ", 195, "1)}")?;
-    assert_eq!(rt; body_outcome(alloc, &body)?, Outcome::Tree, "195 signs");
-    let body = repeated(alloc, "println(", "- ", 196, "1)}")?;
-    assert_eq!(rt;
-        body_outcome(alloc, &body)?,
-        Outcome::TooDeep(398),
-        "196 signs"
-    );
-    let body = repeated(alloc, "println(1", "+1", 195, ")}")?;
-    assert_eq!(rt; body_outcome(alloc, &body)?, Outcome::Tree, "195 additions");
-    let body = repeated(alloc, "println(1", "+1", 196, ")}")?;
-    assert_eq!(rt;
-        body_outcome(alloc, &body)?,
-        Outcome::TooDeep(399),
-        "196 additions"
-    );
+    let body = repeated(alloc, "f(", "(", 195, ")")?;
+    assert_eq!(rt; body_outcome(alloc, &body)?, Outcome::Syntax(197), "{body}");
     Ok(())
 }
 
 #[test]
-fn limits_arguments(rt: HostRuntime) -> Result<(), Fail> {
+fn limits_lists(rt: HostRuntime) -> Result<(), Fail> {
     let alloc = rt.alloc();
-    for (last, wanted) in [
-        (")}", Outcome::Tree),
-        (",)}", Outcome::Tree),
-        (",1)}", Outcome::Entries(136)),
-        (",(1))}", Outcome::Entries(136)),
-        (",-1)}", Outcome::Entries(136)),
-        (",x)}", Outcome::Entries(136)),
-        (",len)}", Outcome::Syntax(136)),
-        (",,)}", Outcome::Syntax(136)),
-        (",", Outcome::Syntax(136)),
+    for (first, separator, each, closing, other, offset) in [
+        ("", ",", "a", ":=1}", "len", 128),
+        ("", ",", "a", "=1}", "1", 128),
+        ("", ",", "a.b", "=1}", "(a)", 256),
+        ("var ", ",", "a", " int}", "(b)", 132),
+        ("x=", ",", "1", "}", "<-c", 130),
+        ("f(T{", ",", "x", "})}", "len", 132),
+        ("f(", ",", "-1", ")}", ",", 194),
+        ("f(", ",", "(1)", ",)}", "len", 258),
+        ("println(", ",", "\"\"", ")}", "<-c", 200),
+        ("};func g(", ",", "a", " int){}", "1", 137),
+        ("};func g(", ",", "a int", "){}", "1", 393),
+        ("};func g(", ",", "a int", ",){}", "1", 393),
+        ("};type T struct{", ",", "a", " T}", "len", 144),
+        ("};type T struct{", ";", "a T", "}", "1", 272),
+        ("};type T struct{", ";", "a T", ";}", "1", 272),
     ] {
-        let body = repeated(alloc, "println(1", ",1", 63, last)?;
+        let first = format!(in alloc; "{first}{each}")?;
+        let middle = format!(in alloc; "{separator}{each}")?;
+        let body = repeated(alloc, &first, &middle, 63, closing)?;
+        assert_eq!(rt; body_outcome(alloc, &body)?, Outcome::Tree, "{body}");
+        let body = repeated(alloc, &first, &middle, 64, closing)?;
         assert_eq!(rt;
             body_outcome(alloc, &body)?,
-            wanted,
-            "64 arguments and {last}"
+            Outcome::Entries(offset),
+            "{body}"
+        );
+        let last = format!(in alloc; "{separator}{other}{closing}")?;
+        let body = repeated(alloc, &first, &middle, 63, &last)?;
+        assert_eq!(rt;
+            body_outcome(alloc, &body)?,
+            Outcome::Syntax(offset),
+            "{body}"
         );
     }
     Ok(())
@@ -650,41 +611,6 @@ fn takes_expressions(rt: HostRuntime) -> Result<(), Fail> {
     ] {
         assert_eq!(rt; body_outcome(rt.alloc(), body)?, Outcome::Tree, "{body}");
     }
-    Ok(())
-}
-
-#[test]
-fn limits_selections_and_literals(rt: HostRuntime) -> Result<(), Fail> {
-    let alloc = rt.alloc();
-    let body = repeated(alloc, "println(x", ".a", 195, ")}")?;
-    assert_eq!(rt;
-        body_outcome(alloc, &body)?,
-        Outcome::Tree,
-        "195 selections"
-    );
-    let body = repeated(alloc, "println(x", ".a", 196, ")}")?;
-    assert_eq!(rt;
-        body_outcome(alloc, &body)?,
-        Outcome::TooDeep(399),
-        "196 selections"
-    );
-    let closing = repeated(alloc, "T{}", "}", 195, ")}")?;
-    let body = repeated(alloc, "println(", "T{", 195, &closing)?;
-    assert_eq!(rt; body_outcome(alloc, &body)?, Outcome::Tree, "196 literals");
-    let body = repeated(alloc, "println(", "T{", 196, "T{}")?;
-    assert_eq!(rt;
-        body_outcome(alloc, &body)?,
-        Outcome::TooDeep(400),
-        "197 literals"
-    );
-    let body = repeated(alloc, "println(T{1", ",1", 63, ",})}")?;
-    assert_eq!(rt; body_outcome(alloc, &body)?, Outcome::Tree, "64 values");
-    let body = repeated(alloc, "println(T{1", ",1", 64, "})}")?;
-    assert_eq!(rt;
-        body_outcome(alloc, &body)?,
-        Outcome::Entries(138),
-        "65 values"
-    );
     Ok(())
 }
 

@@ -312,26 +312,82 @@ fn other_keywords_begin_no_statement(rt: HostRuntime) -> Result<(), Fail> {
     )
 }
 
+/// What parsing a statement gives that has so many levels below its own, up to 3, and where it begins.
+fn outcome_above(alloc: Global, levels: u32, statement: &str) -> Result<(Outcome, u32), Fail> {
+    let (first, count, last, start) = match levels {
+        0 => ("", 98, "}", 98),
+        1 => ("if x{}else if x{", 96, "}}", 112),
+        2 => ("", 97, "}", 97),
+        _ => ("if x{}else if x{", 95, "}}", 111),
+    };
+    let opening = repeated(alloc, first, "{", count, statement)?;
+    let body = repeated(alloc, &opening, "}", count, last)?;
+    Ok((body_outcome(alloc, &body)?, start))
+}
+
 #[test]
-fn limits_heights_of_statements(rt: HostRuntime) -> Result<(), Fail> {
-    let alloc = rt.alloc();
-    for (open, last, close, count, wanted) in [
-        ("{", "", "}", 98, Outcome::Tree),
-        ("{", "", "}", 99, Outcome::TooDeep(98)),
-        ("for{", "", "}", 98, Outcome::Tree),
-        ("if x{", "", "}", 98, Outcome::Tree),
-        ("select{default:", "", "}", 98, Outcome::Tree),
+fn refuses_what_needs_more_levels_at_its_first_token(rt: HostRuntime) -> Result<(), Fail> {
+    for (statement, needs, offset) in [
+        ("{}", 2, 0),
+        ("if x{}", 2, 0),
+        ("if x{}else{}", 2, 0),
+        ("if x{}else if x{}", 3, 11),
+        ("for{}", 2, 0),
+        ("for;;{}", 2, 0),
+        ("select{default:}", 2, 7),
+        ("select{case<-c:}", 3, 7),
+        ("select{case x:=<-c:}", 3, 7),
+        ("var x int", 1, 0),
+        ("var x=1", 1, 0),
+        ("var x=<-c", 2, 6),
+        ("return 1", 1, 7),
+        ("return f()", 1, 7),
+        ("return len(c)", 2, 7),
+        ("return <-c", 2, 7),
+        ("go f(1)", 1, 5),
+        ("f(1)", 1, 2),
+        ("println(1)", 1, 8),
+        ("close(c)", 1, 0),
+        ("<-c", 1, 0),
+        ("x=1", 1, 1),
+        ("x=f()", 1, 1),
+        ("x=cap(c)", 2, 2),
+        ("x=make(T)", 2, 2),
+        ("x=make(chan T)", 3, 7),
+        ("x:=1", 1, 1),
+        ("x+=1", 1, 1),
+        ("x,y:=1,2", 1, 1),
+        ("x.y,z=1,2", 1, 3),
     ] {
-        let closing = repeated(alloc, last, close, count, "}")?;
-        let body = repeated(alloc, "", open, count, &closing)?;
-        assert_eq!(rt; body_outcome(alloc, &body)?, wanted, "{count} times {open}");
+        let (enough, _) = outcome_above(rt.alloc(), needs, statement)?;
+        assert_eq!(rt; enough, Outcome::Tree, "{statement}");
+        let (less, start) = outcome_above(rt.alloc(), needs.saturating_sub(1), statement)?;
+        let wanted = Outcome::TooDeep(start.saturating_add(offset));
+        assert_eq!(rt; less, wanted, "{statement}");
     }
-    let body = repeated(alloc, "if x{}", " else if x{}", 194, "}")?;
-    assert_eq!(rt;
-        body_outcome(alloc, &body)?,
-        Outcome::Tree,
-        "194 times else"
-    );
+    Ok(())
+}
+
+#[test]
+fn needs_no_level_below_a_statement(rt: HostRuntime) -> Result<(), Fail> {
+    for (statement, wanted) in [
+        ("f()", Outcome::Tree),
+        ("go f()", Outcome::Tree),
+        ("println(\"\")", Outcome::TooDeep(106)),
+        ("println()", Outcome::Tree),
+        ("x.y++", Outcome::Tree),
+        ("return", Outcome::Tree),
+        ("break", Outcome::Tree),
+        ("select{}", Outcome::Tree),
+        ("return print(1)", Outcome::Syntax(105)),
+        ("return )", Outcome::Syntax(105)),
+        ("select{)}", Outcome::Syntax(105)),
+        ("x,1=2,3", Outcome::TooDeep(99)),
+        ("x.len,y=1,2", Outcome::Syntax(100)),
+    ] {
+        let (found, _) = outcome_above(rt.alloc(), 0, statement)?;
+        assert_eq!(rt; found, wanted, "{statement}");
+    }
     Ok(())
 }
 

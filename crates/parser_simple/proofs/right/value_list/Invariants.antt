@@ -5,12 +5,12 @@ use Rattle.parser_base.specs.Reading.{listed}
 use Rattle.parser_base.proofs.Lists.{with_front}
 use Rattle.syntax.specs.Measures.{Entries, expression_size}
 use Rattle.scanner.specs.declared.kind.Kind.TheVariants as kinds
-use Rattle.parser_base.specs.Reading.{TooMany, expression}
+use Rattle.parser_base.specs.Reading.{TooMany, begins, expression}
 use Rattle.parser_simple.specs.Reading.{separator_next}
 use Rattle.parser_simple.proofs.right.value_list.Given as goal
 
 abbrev pub invariant-loop : goal.invariant-loop
 invariant-loop l = record {
-  total : with_front (map expression_of l.entries.items) (listed (expression l.literals 64 l.room 0) (separator_next kinds.Comma) (TooMany Entries) (64 - l.counter) (ahead l.rest)) ≡ listed (expression l.literals 64 l.room 0) (separator_next kinds.Comma) (TooMany Entries) (64) (ahead l.fn.cursor);
+  total : with_front (map expression_of l.entries.items) (listed (expression l.literals 64 l.room 0) (separator_next begins kinds.Comma) (TooMany Entries) (64 - l.counter) (ahead l.rest)) ≡ listed (expression l.literals 64 l.room 0) (separator_next begins kinds.Comma) (TooMany Entries) (64) (ahead l.fn.cursor);
   nodes : vec_len l.spans ≡ vec_len l.fn.spans + sum_by expression_size (map expression_of l.entries.items);
 }
