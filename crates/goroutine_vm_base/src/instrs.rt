@@ -83,6 +83,18 @@ fn pick(
     Ok(())
 }
 
+/// Pops the word on the top, which stands at this place, into a local, and goes on.
+pub(crate) fn store_top(frame: &mut Frame, to: usize, at: usize)
+    requires place { frame.old.place + 1 < 2 ^ 64 }
+    requires at { at + 1 ≡ length frame.old.stack }
+    requires within { to < length frame.old.locals }
+    ensures { frame.new ≡ record frame.old { place = frame.old.place + 1; locals = put_at to (drop at frame.old.stack) frame.old.locals; stack = take at frame.old.stack } }
+{
+    frame.locals[to] = frame.stack[at];
+    frame.stack.truncate(at);
+    frame.place += 1;
+}
+
 /// Goes to a place with what lies below another place of the stack.
 pub(crate) fn go_to(frame: &mut Frame, to: usize, at: usize)
     ensures { frame.new ≡ goes_to frame.old to (take at frame.old.stack) }
@@ -92,6 +104,7 @@ pub(crate) fn go_to(frame: &mut Frame, to: usize, at: usize)
 }
 
 /// Puts an operator's value in place of its operands, and goes on; or asks to panic.
+#[inline(always)]
 pub(crate) fn operate(frame: &mut Frame, op: Op, at: usize) -> Step
     requires place { frame.old.place + 1 < 2 ^ 64 }
     requires at { at + count (operands op) ≡ length frame.old.stack }
