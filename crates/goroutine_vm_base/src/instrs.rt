@@ -148,6 +148,7 @@ pub(crate) fn choose(frame: &mut Frame, to: usize, at: usize) -> Step
 }
 
 /// Enters a function with the words from a place of the stack on, where a tick may be made; or asks to panic.
+#[inline(always)]
 pub(crate) fn call(
     alloc: Global,
     code: &Code,
@@ -178,6 +179,7 @@ pub(crate) fn call(
 }
 
 /// Returns to the caller with the words on the stack; or asks to end.
+#[inline(always)]
 pub(crate) fn leave(frame: &mut Frame, callers: &mut Callers, at: usize) -> Result<Step, AllocError>
     requires at { at ≤ length frame.old.stack }
     ensures ok { IfOk result (λ step. (may : Bool) → (code : CodeValue) → Does may (frames_of frame.old callers.old) (instr_next code frame.old (reverse callers.old) (take at frame.old.stack) (drop at frame.old.stack) Instr.Return) step (frames_of frame.new callers.new)) }
