@@ -1,17 +1,17 @@
 //! The local steps of the instructions.
 
-ghost use Rattle.std.specs.Prelude.{◌≡◌, ◌+◌, ◌-◌, ◌<◌, ◌≤◌, ◌^◌, ◌++◌, ◌∷◌, [], Bool, IfOk, OnErr, OnOk, drop, length, reverse, slice_range, take, vec_capacity, vec_len};
+ghost use Rattle.std.specs.Prelude.{◌≡◌, ◌+◌, ◌-◌, ◌<◌, ◌≤◌, ◌^◌, ◌++◌, ◌∷◌, [], Bool, IfOk, OnErr, OnOk, drop, length, reverse, slice_range, take};
 ghost use Rattle.bytecode.specs.Code.{Code as CodeValue};
 ghost use Rattle.bytecode.specs.Effects.{count, operands};
 ghost use Rattle.bytecode.specs.Machine.{Frames, goes_on, goes_to, instr_next, put_at};
 ghost use Rattle.goroutine_vm_base.specs.Steps.{Does, FitsAt, frames_of};
 ghost use Rattle.word.specs.Kinds.{Stuck, Ticks};
 
-use crate::frame::{Frame, begin, keep};
+use crate::callers::Callers;
+use crate::frame::Frame;
 use crate::outcome::Step;
 use bytecode::{Code, Instr};
 use std::alloc::{AllocError, Global};
-use std::mem::replace;
 use word::apply::{Op, checked_apply};
 use word::value::Word;
 
@@ -83,6 +83,18 @@ fn pick(
     Ok(())
 }
 
+/// Pops the word on the top, which stands at this place, into a local, and goes on.
+pub(crate) fn store_top(frame: &mut Frame, to: usize, at: usize)
+    requires place { frame.old.place + 1 < 2 ^ 64 }
+    requires at { at + 1 ≡ length frame.old.stack }
+    requires within { to < length frame.old.locals }
+    ensures { frame.new ≡ record frame.old { place = frame.old.place + 1; locals = put_at to (drop at frame.old.stack) frame.old.locals; stack = take at frame.old.stack } }
+{
+    frame.locals[to] = frame.stack[at];
+    frame.stack.truncate(at);
+    frame.place += 1;
+}
+
 /// Goes to a place with what lies below another place of the stack.
 pub(crate) fn go_to(frame: &mut Frame, to: usize, at: usize)
     ensures { frame.new ≡ goes_to frame.old to (take at frame.old.stack) }
@@ -92,6 +104,7 @@ pub(crate) fn go_to(frame: &mut Frame, to: usize, at: usize)
 }
 
 /// Puts an operator's value in place of its operands, and goes on; or asks to panic.
+#[inline(always)]
 pub(crate) fn operate(frame: &mut Frame, op: Op, at: usize) -> Step
     requires place { frame.old.place + 1 < 2 ^ 64 }
     requires at { at + count (operands op) ≡ length frame.old.stack }
@@ -135,20 +148,20 @@ pub(crate) fn choose(frame: &mut Frame, to: usize, at: usize) -> Step
 }
 
 /// Enters a function with the words from a place of the stack on, where a tick may be made; or asks to panic.
+#[inline(always)]
 pub(crate) fn call(
     alloc: Global,
     code: &Code,
     may: bool,
     frame: &mut Frame,
-    callers: &mut Vec<Frame>,
-    spare: &mut Vec<Frame>,
+    callers: &mut Callers,
     function: u32,
     at: usize,
 ) -> Result<Step, AllocError>
     requires place { frame.old.place + 1 < 2 ^ 64 }
     requires at { at ≤ length frame.old.stack }
-    ensures ok { IfOk result (λ step. Does may (frames_of frame.old callers.old.items) (instr_next code.now frame.old (reverse callers.old.items) (take at frame.old.stack) (drop at frame.old.stack) (Instr.Call function)) step (frames_of frame.new callers.new.items)) }
-    ensures err { OnErr result (frames_of frame.new callers.new.items ≡ frames_of frame.old callers.old.items) }
+    ensures ok { IfOk result (λ step. Does may (frames_of frame.old callers.old) (instr_next code.now frame.old (reverse callers.old) (take at frame.old.stack) (drop at frame.old.stack) (Instr.Call function)) step (frames_of frame.new callers.new)) }
+    ensures err { OnErr result (frames_of frame.new callers.new ≡ frames_of frame.old callers.old) }
 {
     let functions = code.functions();
     if function as usize >= functions.len() {
@@ -161,68 +174,25 @@ pub(crate) fn call(
         return Ok(Step::Ticked);
     }
     let locals = functions[function as usize].locals();
-    let entered = begin(alloc, spare, locals, function as usize, &frame.stack[at..])?;
-    callers.reserve(1)?;
-    enter(frame, callers, entered, at);
+    callers.enter(alloc, frame, locals, function as usize, at)?;
     Ok(Step::Ticked)
 }
 
-/// Makes another frame the running one; the present one waits behind its call.
-fn enter(frame: &mut Frame, callers: &mut Vec<Frame>, entered: Frame, at: usize)
-    requires place { frame.old.place + 1 < 2 ^ 64 }
-    requires room { vec_len callers.old < vec_capacity callers.old }
-    ensures frame { frame.new ≡ entered }
-    ensures callers { callers.new.items ≡ callers.old.items ++ goes_on frame.old (take at frame.old.stack) ∷ [] }
-{
-    frame.stack.truncate(at);
-    frame.place += 1;
-    let waiting = replace(frame, entered);
-    callers.push_reserved(waiting);
-}
-
 /// Returns to the caller with the words on the stack; or asks to end.
-pub(crate) fn leave(
-    frame: &mut Frame,
-    callers: &mut Vec<Frame>,
-    spare: &mut Vec<Frame>,
-    at: usize,
-) -> Result<Step, AllocError>
+#[inline(always)]
+pub(crate) fn leave(frame: &mut Frame, callers: &mut Callers, at: usize) -> Result<Step, AllocError>
     requires at { at ≤ length frame.old.stack }
-    ensures ok { IfOk result (λ step. (may : Bool) → (code : CodeValue) → Does may (frames_of frame.old callers.old.items) (instr_next code frame.old (reverse callers.old.items) (take at frame.old.stack) (drop at frame.old.stack) Instr.Return) step (frames_of frame.new callers.new.items)) }
-    ensures err { OnErr result (frames_of frame.new callers.new.items ≡ frames_of frame.old callers.old.items) }
+    ensures ok { IfOk result (λ step. (may : Bool) → (code : CodeValue) → Does may (frames_of frame.old callers.old) (instr_next code frame.old (reverse callers.old) (take at frame.old.stack) (drop at frame.old.stack) Instr.Return) step (frames_of frame.new callers.new)) }
+    ensures err { OnErr result (frames_of frame.new callers.new ≡ frames_of frame.old callers.old) }
 {
     if at > 0 {
         return Ok(Step::Stuck);
     }
-    match callers.pop() {
-        None => Ok(Step::Asking),
-        Some(caller) => Ok(resume(frame, callers, spare, caller)?),
+    if callers.len() == 0 {
+        return Ok(Step::Asking);
     }
-}
-
-/// Makes the caller, which was just popped, the running frame, with the words on the stack of the present one.
-fn resume(
-    frame: &mut Frame,
-    callers: &mut Vec<Frame>,
-    spare: &mut Vec<Frame>,
-    mut caller: Frame,
-) -> Result<Step, AllocError>
-    requires { vec_len callers.old < vec_capacity callers.old }
-    ensures step { IfOk result (λ step. step ≡ Step.Slid) }
-    ensures ok { OnOk result ((frame.new ≡ record caller { stack = caller.stack ++ frame.old.stack }) × (callers.new.items ≡ callers.old.items)) }
-    ensures err { OnErr result ((frame.new ≡ frame.old) × (callers.new.items ≡ callers.old.items ++ caller ∷ [])) }
-{
-    match caller.stack.extend_from_slice(frame.stack.as_slice()) {
-        Ok(_) => {
-            let done = replace(frame, caller);
-            keep(spare, done);
-            Ok(Step::Slid)
-        }
-        Err(error) => {
-            callers.push_reserved(caller);
-            Err(error)
-        }
-    }
+    callers.resume(frame)?;
+    Ok(Step::Slid)
 }
 
 /// One instruction, whose operands begin at a place of the stack.
@@ -231,17 +201,16 @@ pub(crate) fn instr(
     code: &Code,
     may: bool,
     frame: &mut Frame,
-    callers: &mut Vec<Frame>,
-    spare: &mut Vec<Frame>,
+    callers: &mut Callers,
     i: Instr,
     at: usize,
 ) -> Result<Step, AllocError>
     requires place { frame.old.place + 1 < 2 ^ 64 }
     requires at { FitsAt i at (length frame.old.stack) }
     requires below { at ≤ length frame.old.stack }
-    requires sound { instr_next code.now frame.old (reverse callers.old.items) (take at frame.old.stack) (drop at frame.old.stack) i ≡ Stuck → ⊥ }
-    ensures ok { IfOk result (λ step. Does may (frames_of frame.old callers.old.items) (instr_next code.now frame.old (reverse callers.old.items) (take at frame.old.stack) (drop at frame.old.stack) i) step (frames_of frame.new callers.new.items)) }
-    ensures err { OnErr result (frames_of frame.new callers.new.items ≡ frames_of frame.old callers.old.items) }
+    requires sound { instr_next code.now frame.old (reverse callers.old) (take at frame.old.stack) (drop at frame.old.stack) i ≡ Stuck → ⊥ }
+    ensures ok { IfOk result (λ step. Does may (frames_of frame.old callers.old) (instr_next code.now frame.old (reverse callers.old) (take at frame.old.stack) (drop at frame.old.stack) i) step (frames_of frame.new callers.new)) }
+    ensures err { OnErr result (frames_of frame.new callers.new ≡ frames_of frame.old callers.old) }
 {
     match i {
         Instr::Int(number) => {
@@ -295,8 +264,8 @@ pub(crate) fn instr(
         }
         Instr::Unless(to) => Ok(choose(frame, to as usize, at)),
         Instr::Loop(to) => Ok(tick_to(may, frame, to as usize, at)),
-        Instr::Call(function) => Ok(call(alloc, code, may, frame, callers, spare, function, at)?),
-        Instr::Return => Ok(leave(frame, callers, spare, at)?),
+        Instr::Call(function) => Ok(call(alloc, code, may, frame, callers, function, at)?),
+        Instr::Return => Ok(leave(frame, callers, at)?),
         Instr::Make(_)
         | Instr::Go(_)
         | Instr::Send(_)

@@ -1,6 +1,7 @@
 //! The functions of a goroutine that run, and what single instructions do to them.
 #![tactic(auto)]
 
+pub mod callers;
 pub mod fetch;
 pub mod frame;
 mod instrs;

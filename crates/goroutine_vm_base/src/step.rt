@@ -6,6 +6,7 @@ ghost use Rattle.bytecode.specs.Rules.{IsVerified};
 ghost use Rattle.goroutine_vm_base.specs.Steps.{Does, frames_of};
 ghost use Rattle.word.specs.Kinds.{Stuck};
 
+use crate::callers::Callers;
 use crate::fetch::fetch;
 use crate::frame::Frame;
 use crate::instrs::instr;
@@ -19,13 +20,12 @@ pub fn step(
     code: &Code,
     may: bool,
     frame: &mut Frame,
-    callers: &mut Vec<Frame>,
-    spare: &mut Vec<Frame>,
+    callers: &mut Callers,
 ) -> Result<Step, AllocError>
     requires verified { IsVerified code.now }
-    requires sound { code_next code.now (frames_of frame.old callers.old.items) ≡ Stuck → ⊥ }
-    ensures ok { IfOk result (λ step. Does may (frames_of frame.old callers.old.items) (code_next code.now (frames_of frame.old callers.old.items)) step (frames_of frame.new callers.new.items)) }
-    ensures err { OnErr result (frames_of frame.new callers.new.items ≡ frames_of frame.old callers.old.items) }
+    requires sound { code_next code.now (frames_of frame.old callers.old) ≡ Stuck → ⊥ }
+    ensures ok { IfOk result (λ step. Does may (frames_of frame.old callers.old) (code_next code.now (frames_of frame.old callers.old)) step (frames_of frame.new callers.new)) }
+    ensures err { OnErr result (frames_of frame.new callers.new ≡ frames_of frame.old callers.old) }
 {
     let have = frame.stack.len();
     match fetch(code, frame) {
@@ -34,7 +34,7 @@ pub fn step(
             if have < wanted {
                 unreachable!()
             }
-            Ok(instr(alloc, code, may, frame, callers, spare, i, have - wanted)?)
+            Ok(instr(alloc, code, may, frame, callers, i, have - wanted)?)
         }
     }
 }
