@@ -19,7 +19,7 @@ use Rattle.parser_simple.specs.Spelling.{name_words, IsName, place_words, IsPlac
 use Rattle.parser_statement.specs.HeaderSpelling.{IsAny, second_name_words, second_place_words, comm_words, IsComm, if_head_words, IsIfHead, optional, target_words, IsTarget, for_head_words, IsForHead}
 use Rattle.parser_simple.specs.Reading.{as_one, begins_with, begins_operation, defines, form_of, place, primary, sent, simple, led}
 use Rattle.parser_simple.proofs.BeginLaws.{value_not}
-use Rattle.parser_statement.specs.HeaderReading.{Head, HeadSimple, HeadCondition, is_primary, condition_or_sent, led_or_condition, head, second, comm_defined, comm_assigned, comm_formed, comm, condition, behind_head, if_headed, if_header, unless_next, for_clauses, ranged, range_defined, range_assigned, for_headed, ranges, for_begun, for_header}
+use Rattle.parser_statement.specs.HeaderReading.{Head, HeadSimple, HeadCondition, is_primary, condition_or_sent, led_or_condition, head, second, comm_defined, comm_assigned, comm_formed, comm, condition, behind_semicolon, behind_head, if_headed, if_header, unless_next, post_behind, for_clauses, ranged, range_defined, range_assigned, for_headed, ranges, for_begun, for_header}
 use Rattle.parser_simple.proofs.PlaceLaws.{place_again, place_sound}
 use Rattle.parser_simple.proofs.FormLaws.{update_again, fields_form, no_defines, no_form, led_none}
 use Rattle.parser_simple.proofs.RightLaws.{Stops, value_again, primary_again, no_operation, value_sound, primary_sound}
@@ -173,9 +173,9 @@ IfHeaderSound most room = Sound if_header_words IsIfHeader if_header_height room
 behind_head_sound : (first : IfHead) (most room : ℕ) (ws : List Lexeme) (header : IfHead × Expression) (rest : List Lexeme) → behind_head first most room ws ≡ gave header rest
     → (Mark kinds.Semicolon ∷ before header.1 rest ≡ ws) × (first ≡ header.0) × Sound before (IsGrouped false) expression_height room expression_longest most (before header.1 rest) header.1 rest
 behind_head_sound first most room ws header rest e =
-    let a = bind_ok (expect kinds.Semicolon ws) (λ after. as_one (λ (test : Expression). (first, test)) (condition most room after)) (header, rest) e in
-    let b = made_is (λ (test : Expression). (first, test)) (condition most room a.0) header rest a.2 in
-    let v = value_sound false most room a.0 b.0 rest b.1 in
+    let b = made_is (λ (test : Expression). (first, test)) (behind_semicolon most room ws) header rest e in
+    let a = bind_ok (expect kinds.Semicolon ws) (condition most room) (b.0, rest) b.1 in
+    let v = value_sound false most room a.0 b.0 rest a.2 in
     subst (λ (x : IfHead × Expression). (Mark kinds.Semicolon ∷ before x.1 rest ≡ ws) × (first ≡ x.0) × Sound before (IsGrouped false) expression_height room expression_longest most (before x.1 rest) x.1 rest) b.2
     (sym (expect_is kinds.Semicolon ws a.0 a.1 ∙ ap (λ (x : List Lexeme). Mark kinds.Semicolon ∷ x) v.parts), refl, record { parts = refl; is = v.is; low = v.low; few = v.few })
 
@@ -421,11 +421,11 @@ clauses_sound : (most room : ℕ) (first : Option Simple) → IsAny (IsSimple fa
     → (all ws : List Lexeme) → all ≡ optional simple_words first (Mark kinds.Semicolon ∷ ws) → (h : ForHead) (rest : List Lexeme) → for_clauses first most room ws ≡ gave h rest → ForSound most room all h rest
 unfolding for_clauses
 clauses_sound most room first first_is low few all ws parts h rest e =
-    let a = bind_ok (unless_next kinds.Semicolon (condition most room) ws) (λ test. expect kinds.Semicolon test.1 >>= λ after. unless_next kinds.LeftBrace (simple false false most room) after >>= λ post. gave (ForClauses first test.0 post.0) post.1) (h, rest) e in
-    let b = bind_ok (expect kinds.Semicolon a.0.1) (λ after. unless_next kinds.LeftBrace (simple false false most room) after >>= λ post. gave (ForClauses first a.0.0 post.0) post.1) (h, rest) a.2 in
-    let c = made_is (ForClauses first a.0.0) (unless_next kinds.LeftBrace (simple false false most room) b.0) h rest b.2 in
+    let a = bind_ok (unless_next kinds.Semicolon (condition most room) ws) (λ test. post_behind most room test.1 >>= λ post. gave (ForClauses first test.0 post.0) post.1) (h, rest) e in
+    let c = made_is (ForClauses first a.0.0) (post_behind most room a.0.1) h rest a.2 in
+    let b = bind_ok (expect kinds.Semicolon a.0.1) (unless_next kinds.LeftBrace (simple false false most room)) (c.0, rest) c.1 in
     let t = unless_sound before (IsGrouped false) expression_height expression_longest kinds.Semicolon (condition most room) room most (value_sound false most room) ws a.0.0 a.0.1 a.1 in
-    let p = unless_sound simple_words (IsSimple false false) simple_height simple_longest kinds.LeftBrace (simple false false most room) room most (simple_sound false false most room) b.0 c.0 rest c.1 in
+    let p = unless_sound simple_words (IsSimple false false) simple_height simple_longest kinds.LeftBrace (simple false false most room) room most (simple_sound false false most room) b.0 c.0 rest b.2 in
     let tail = t.parts ∙ ap (optional before a.0.0) (expect_is kinds.Semicolon a.0.1 b.0 b.1 ∙ ap (λ (x : List Lexeme). Mark kinds.Semicolon ∷ x) p.parts) in
     subst (λ (x : ForHead). ForSound most room all x rest) c.2 (record {
       parts = parts ∙ ap (λ (x : List Lexeme). optional simple_words first (Mark kinds.Semicolon ∷ x)) tail;

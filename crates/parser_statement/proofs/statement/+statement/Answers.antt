@@ -1,8 +1,10 @@
-use Rattle.std.proofs.Common.{◌≤◌, ◌<◌, length, is_ok, map, ap, arith}
+use Rattle.std.proofs.Common.{◌≤◌, ◌<◌, ◌∙◌, length, is_ok, map, ap, arith, Option, option_map, sum_by, Vec, Global}
 use Rattle.std.proofs.ResultArms.{chosen}
 use Rattle.std.proofs.lemmas.Result.{err_from_is_err_and}
 use Rattle.syntax.specs.Measures.{SelectClauses, if_any, comm_size, statement_size, statements_size}
-use Rattle.syntax.specs.View.{statement_of}
+use Rattle.syntax.specs.View.{comm_of, statement_of}
+use Rattle.syntax.specs.declared.node.CommNode.{CommNode}
+use Rattle.syntax.specs.declared.node.StatementNode.{StatementNode}
 use Rattle.syntax.proofs.Lists.{statements_size-of}
 use Rattle.parser_base.specs.Cursor.{ahead}
 use Rattle.parser_base.specs.Reading.{Syntax, TooMany}
@@ -33,7 +35,11 @@ block-returns-clause-nodes t c = omega (arith, statements_size-of (map statement
 
 pub clause_body-returns-clause-nodes : goal.clause_body-returns-clause-nodes
 clause_body-returns-clause-nodes t c =
-    omega (arith, ap (if_any comm_size) c.clause_node.ensures.comm, ap statements_size c.clause_node.ensures.body, statements_size-of (map statement_of c.in_ok-body.body.items), c.in_ok-body.ensures.nodes, c.in_ok-push.ensures.len)
+    let held = c.in_ok-waits-3.ensures.ok.0 in
+    let waits = c.in_ok-waits-2.ensures.ok.0 ∙ c.in_ok-waits.ensures.ok.0 in
+    omega (arith, ap (if_any comm_size) c.clause_node.ensures.comm, ap statements_size c.clause_node.ensures.body, statements_size-of (map statement_of c.in_ok-waits-3.body.items),
+    ap (λ (x : Option CommNode × Vec StatementNode Global). if_any comm_size (option_map comm_of x.0)) held, ap (λ (x : Option CommNode × Vec StatementNode Global). sum_by statement_size (map statement_of x.1.items)) held,
+    ap (λ (x : Option CommNode). if_any comm_size (option_map comm_of x)) waits, rw c.in_ok-waits-2.ensures.ok.1 at c.clause_statements.ensures.nodes, rw c.in_ok-waits-3.ensures.ok.1 at c.push.ensures.ok)
 
 pub selected-returns-clause-nodes : goal.selected-returns-clause-nodes
 selected-returns-clause-nodes t c =
