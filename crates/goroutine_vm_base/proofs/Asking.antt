@@ -1,11 +1,11 @@
 -- What the instructions that ask do ask.
-use Rattle.std.proofs.Common.{◌≡◌, ℕ, ℤ, zero, suc, ◌+◌, ◌<◌, ◌≤◌, Bool, true, false, cond, List, [], ◌∷◌, ◌++◌, length, take, drop, map, reverse, Option, Some, None, Result, Ok, Err, refl, sym, ap, ◌∙◌, subst, arith, get_or, nat_lt, slice_get, slice_range}
+use Rattle.std.proofs.Common.{◌≡◌, ℕ, ℤ, zero, suc, ◌+◌, ◌<◌, ◌≤◌, Bool, true, false, cond, List, [], ◌∷◌, length, drop, map, Option, Some, None, Result, Ok, Err, refl, sym, ap, ◌∙◌, subst, arith, get_or, nat_lt, slice_get}
 use Rattle.std.proofs.lemmas.Bool.Decides.{nat_tests}
 use Rattle.bytecode.specs.declared.instr.Kind.{Kind}
 use Rattle.bytecode.specs.declared.instr.Instr.{Instr}
 use Rattle.bytecode.specs.declared.instr.Instr.TheVariants as instrs
 use Rattle.bytecode.specs.Code.{Function, Code}
-use Rattle.bytecode.specs.Machine.{Frame, Frames, Step as NextStep, zero_of, if_there, if_within, on_int, on_chan, on_truth, applied, on_value, entered, returned, is_told, cases_of, pushed, goes_on, goes_to, printed, instr_next}
+use Rattle.bytecode.specs.Machine.{Frame, Frames, Step as NextStep, zero_of, if_there, if_within, on_int, on_chan, on_truth, applied, on_value, entered, is_told, cases_of, pushed, printed, instr_next}
 use Rattle.std.specs.Option.{is_some}
 use Rattle.std.specs.Global.{Vec}
 use Rattle.bytecode.specs.Code.{PrintTable}
@@ -17,8 +17,8 @@ use Rattle.word.specs.declared.value.Word.{Word}
 use Rattle.word.specs.declared.value.Word.TheVariants.{Int, Bool as Truth, Chan}
 use Rattle.word.specs.declared.panic.Panic.{Panic as Cause}
 use Rattle.word.specs.declared.panic.Panic.TheVariants.{CallDepth}
-use Rattle.word.specs.Values.{Make, Go, Send, Receive, Close, Len, Cap, Print, End, Panic}
-use Rattle.word.specs.Kinds.{Next, Slides, Ticks, Asks, Stuck}
+use Rattle.word.specs.Values.{Make, Go, Send, Print}
+use Rattle.word.specs.Kinds.{Slides, Ticks, Asks, Stuck}
 
 pub drop_one : (st : List Word) (at : ℕ) (w : Word) → at + 1 ≡ length st → w ≡ get_or st at w → drop at st ≡ w ∷ []
 drop_one [] at w h e = absurd (omega (arith, h))

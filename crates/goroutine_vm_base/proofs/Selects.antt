@@ -1,10 +1,10 @@
 -- The clauses of a select, one after the other.
-use Rattle.std.proofs.Common.{◌≡◌, ℕ, zero, suc, ◌+◌, ◌<◌, ◌≤◌, List, [], ◌∷◌, ◌++◌, length, map, take, drop, Option, Some, None, refl, sym, ap, ◌∙◌, subst, arith, get_or, add-one, append_assoc, slice_get, length-append}
+use Rattle.std.proofs.Common.{◌≡◌, ℕ, zero, suc, ◌+◌, ◌<◌, ◌≤◌, List, [], ◌∷◌, ◌++◌, length, take, drop, Option, Some, None, refl, sym, ap, ◌∙◌, arith, get_or, add-one, append_assoc, slice_get, length-append}
 use Rattle.std.proofs.Math.Seq.{drop-cons}
 use Rattle.std.proofs.lemmas.List.{append-nil, drop-drop, length-map}
 use Rattle.bytecode.specs.declared.table.Clause.{Clause}
 use Rattle.bytecode.specs.Code.{SelectTable, Code}
-use Rattle.bytecode.specs.Effects.{clause_target, default_targets, clause_kinds, clauses_in}
+use Rattle.bytecode.specs.Effects.{clause_kinds, clauses_in}
 use Rattle.bytecode.specs.Machine.{case_of, also, cases_of}
 use Rattle.bytecode.specs.Rules.{IsVerified}
 use Rattle.word.specs.declared.request.Case.{Case}

@@ -142,8 +142,7 @@ pub(crate) fn choose(frame: &mut Frame, to: usize, at: usize) -> Step
             go_to(frame, to, at);
             Step::Slid
         }
-        Word::Int(_) => Step::Stuck,
-        Word::Chan(_) => Step::Stuck,
+        Word::Int(_) | Word::Chan(_) => Step::Stuck,
     }
 }
 

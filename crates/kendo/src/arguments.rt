@@ -68,7 +68,11 @@ pub fn command<'a>(alloc: Global) -> Result<Command<'a>, AllocError>
         .about("Lists the code of a program")
         .arg(file_argument(alloc))?;
     let workers = number_argument(
-        alloc, "workers", "N", "How many worker threads, 1 to 64", "4",
+        alloc,
+        "workers",
+        "N",
+        "How many worker threads, 1 to 64",
+        "4",
     );
     let limit = number_argument(
         alloc,

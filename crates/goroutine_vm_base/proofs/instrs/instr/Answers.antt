@@ -1,4 +1,4 @@
-use Rattle.std.proofs.Common.{◌≡◌, reverse}
+use Rattle.std.proofs.Common.{reverse}
 use Rattle.goroutine_vm_base.proofs.instrs.instr.Goals as goal
 
 pub returns-in-Apply-clause-ok : goal.returns-in-Apply-clause-ok

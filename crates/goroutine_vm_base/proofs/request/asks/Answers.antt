@@ -1,4 +1,4 @@
-use Rattle.std.proofs.Common.{◌≡◌, ◌∙◌, reverse, take, drop}
+use Rattle.std.proofs.Common.{◌∙◌, reverse, take, drop}
 use Rattle.goroutine_vm_base.proofs.Asking.{asks_some, apply_no_tick}
 use Rattle.goroutine_vm_base.proofs.request.asks.Goals as goal
 

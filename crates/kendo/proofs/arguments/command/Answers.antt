@@ -12,22 +12,22 @@ returns c =
     let list_is : app_of c.in_ok-list.list ≡ list = c.in_ok-list.ensures.shape c.file_argument.ensures.local ∙ ap₂ with_rule new_list c.file_argument.ensures.rule in
     let new_run : app_of c.about-2.result ≡ new_app (codes "run") = ap app_of_fields c.about-2.ensures ∙ c.new-2.ensures.app in
     let with_file : app_of c.in_ok-arg.field-0 ≡ with_rule (new_app (codes "run")) file =
-        c.in_ok-arg.ensures.shape c.file_argument-2.ensures.local ∙ ap₂ with_rule new_run c.file_argument-2.ensures.rule in
+    c.in_ok-arg.ensures.shape c.file_argument-2.ensures.local ∙ ap₂ with_rule new_run c.file_argument-2.ensures.rule in
     let with_workers : app_of c.in_ok-arg-2.field-0 ≡ with_rule (with_rule (new_app (codes "run")) file) (number (codes "workers") (codes "4")) =
-        c.in_ok-arg-2.ensures.shape c.number_argument-workers.ensures.local ∙ ap₂ with_rule with_file c.number_argument-workers.ensures.rule in
+    c.in_ok-arg-2.ensures.shape c.number_argument-workers.ensures.local ∙ ap₂ with_rule with_file c.number_argument-workers.ensures.rule in
     let run_is : app_of c.in_ok-run.run' ≡ run =
-        c.in_ok-run.ensures.shape c.number_argument-limit.ensures.local ∙ ap₂ with_rule with_workers c.number_argument-limit.ensures.rule in
+    c.in_ok-run.ensures.shape c.number_argument-limit.ensures.local ∙ ap₂ with_rule with_workers c.number_argument-limit.ensures.rule in
     let list_local : (out-Command c.in_ok-list.list).has_globals ≡ false =
-        c.in_ok-list.ensures.globals ∙ ap₂ ◌||◌ (ap (λ f. f.has_globals) c.about.ensures ∙ c.new.ensures.local) c.file_argument.ensures.local in
+    c.in_ok-list.ensures.globals ∙ ap₂ ◌||◌ (ap (λ f. f.has_globals) c.about.ensures ∙ c.new.ensures.local) c.file_argument.ensures.local in
     let with_file_local : (out-Command c.in_ok-arg.field-0).has_globals ≡ false =
-        c.in_ok-arg.ensures.globals ∙ ap₂ ◌||◌ (ap (λ f. f.has_globals) c.about-2.ensures ∙ c.new-2.ensures.local) c.file_argument-2.ensures.local in
+    c.in_ok-arg.ensures.globals ∙ ap₂ ◌||◌ (ap (λ f. f.has_globals) c.about-2.ensures ∙ c.new-2.ensures.local) c.file_argument-2.ensures.local in
     let with_workers_local : (out-Command c.in_ok-arg-2.field-0).has_globals ≡ false =
-        c.in_ok-arg-2.ensures.globals ∙ ap₂ ◌||◌ with_file_local c.number_argument-workers.ensures.local in
+    c.in_ok-arg-2.ensures.globals ∙ ap₂ ◌||◌ with_file_local c.number_argument-workers.ensures.local in
     let run_local : (out-Command c.in_ok-run.run').has_globals ≡ false =
-        c.in_ok-run.ensures.globals ∙ ap₂ ◌||◌ with_workers_local c.number_argument-limit.ensures.local in
+    c.in_ok-run.ensures.globals ∙ ap₂ ◌||◌ with_workers_local c.number_argument-limit.ensures.local in
     let named : App = new_app (codes "kendo") in
     let new_kendo : app_of c.subcommand_required.result ≡ record named { top = record named.top { subcommand_required = true } } =
-        ap app_of_fields c.subcommand_required.ensures ∙ ap (λ (a : App). record a { top = record a.top { subcommand_required = true } }) (ap app_of_fields c.about-3.ensures ∙ c.new-3.ensures.app) in
+    ap app_of_fields c.subcommand_required.ensures ∙ ap (λ (a : App). record a { top = record a.top { subcommand_required = true } }) (ap app_of_fields c.about-3.ensures ∙ c.new-3.ensures.app) in
     let with_list : app_of c.in_ok-subcommand.field-0 ≡ with_subcommand (record named { top = record named.top { subcommand_required = true } }) list.top =
-        c.in_ok-subcommand.ensures.shape list_local ∙ ap₂ with_subcommand new_kendo (ap (λ (a : App). a.top) list_is) in
+    c.in_ok-subcommand.ensures.shape list_local ∙ ap₂ with_subcommand new_kendo (ap (λ (a : App). a.top) list_is) in
     IfOk-weaker c.subcommand-2.result _ _ (λ made adds. adds.shape run_local ∙ ap₂ with_subcommand with_list (ap (λ (a : App). a.top) run_is)) c.subcommand-2.ensures

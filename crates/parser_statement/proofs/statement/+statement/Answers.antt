@@ -37,9 +37,17 @@ pub clause_body-returns-clause-nodes : goal.clause_body-returns-clause-nodes
 clause_body-returns-clause-nodes t c =
     let held = c.in_ok-waits-3.ensures.ok.0 in
     let waits = c.in_ok-waits-2.ensures.ok.0 ∙ c.in_ok-waits.ensures.ok.0 in
-    omega (arith, ap (if_any comm_size) c.clause_node.ensures.comm, ap statements_size c.clause_node.ensures.body, statements_size-of (map statement_of c.in_ok-waits-3.body.items),
-    ap (λ (x : Option CommNode × Vec StatementNode Global). if_any comm_size (option_map comm_of x.0)) held, ap (λ (x : Option CommNode × Vec StatementNode Global). sum_by statement_size (map statement_of x.1.items)) held,
-    ap (λ (x : Option CommNode). if_any comm_size (option_map comm_of x)) waits, rw c.in_ok-waits-2.ensures.ok.1 at c.clause_statements.ensures.nodes, rw c.in_ok-waits-3.ensures.ok.1 at c.push.ensures.ok)
+    omega (
+      arith,
+      ap (if_any comm_size) c.clause_node.ensures.comm,
+      ap statements_size c.clause_node.ensures.body,
+      statements_size-of (map statement_of c.in_ok-waits-3.body.items),
+      ap (λ (x : Option CommNode × Vec StatementNode Global). if_any comm_size (option_map comm_of x.0)) held,
+      ap (λ (x : Option CommNode × Vec StatementNode Global). sum_by statement_size (map statement_of x.1.items)) held,
+      ap (λ (x : Option CommNode). if_any comm_size (option_map comm_of x)) waits,
+      rw c.in_ok-waits-2.ensures.ok.1 at c.clause_statements.ensures.nodes,
+      rw c.in_ok-waits-3.ensures.ok.1 at c.push.ensures.ok,
+    )
 
 pub selected-returns-clause-nodes : goal.selected-returns-clause-nodes
 selected-returns-clause-nodes t c =
