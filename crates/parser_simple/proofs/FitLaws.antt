@@ -8,7 +8,7 @@ use Rattle.syntax.specs.Tree.{Expression, Integer, Named, Parenthesized, Selecti
 use Rattle.syntax.specs.Measures.{Listing, expression_height}
 use Rattle.parser_base.specs.Lexemes.{Lexeme, Name, Mark}
 use Rattle.parser_base.specs.Spelling.{before, expression_words, outer_precedence, IsGrouped, binary_kind}
-use Rattle.parser_base.specs.Reading.{Refusal, Syntax, TooDeep, Reading, ◌>>=◌}
+use Rattle.parser_base.specs.Reading.{Refusal, TooDeep, Reading, ◌>>=◌}
 use Rattle.parser_base.proofs.ListLaws.{Outcome, High}
 use Rattle.parser_base.proofs.ExpressionAgain.{height_positive, precedence-lt}
 use Rattle.parser_simple.specs.Reading.{goes_on, within, fits}
@@ -23,13 +23,6 @@ either_fits false high room none = inr (refl, none refl)
 
 pub within_fits : (height high room : ℕ) → height ≤ high → Fits high room (within height room true)
 within_fits height high room low = either_fits (nat_le height room) high room (λ none. let over = leb-false height room none in omega (arith, over, low))
-
-none_over : (b : Bool) (high room : ℕ) → (b ≡ false → room < 0) → Fits high room (cond b (Ok tt) (Err Syntax))
-none_over true high room none = inl refl
-none_over false high room none = let over = none refl in absurd (omega (arith, over))
-
-none_fits : (high room : ℕ) → Fits high room (within 0 room false)
-none_fits high room = none_over (nat_le 0 room) high room (leb-false 0 room)
 
 -- what is read behind that
 pub fits_again : {A : Type 0} {part height room room' : ℕ} {longest : Listing → ℕ} {most : ℕ} {x : A} {rest : List Lexeme} (read : Reading A) (guard : Result (Unit {0}) Refusal)
@@ -74,15 +67,15 @@ literal_goes false = refl
 pub value_fits : (header literals : Bool) (high room : ℕ) (e : Expression) (ws : List Lexeme) → IsGrouped literals e → (header ≡ true) ⊎ (outer_precedence e ≡ 7) → expression_height e ≤ high
     → ((l : Bool) → Fits high room (fits header l false (expression_height e) room ws)) → Fits high room (fits header literals true 0 room (before e ws))
 unfolding fits
-value_fits header literals high room (Integer value) ws is strong low next = none_fits high room
+value_fits header literals high room (Integer value) ws is strong low next = inl refl
 value_fits header literals high room (Named name) ws is strong low next = rw is (next literals)
-value_fits header literals high room (Parenthesized inner) ws is strong low next = none_fits high room
+value_fits header literals high room (Parenthesized inner) ws is strong low next = inl refl
 value_fits header literals high room (Selection whole field) ws is strong low next =
     rw (append_assoc (expression_words whole) (Mark kinds.Period ∷ Name field ∷ []) ws)
     (value_fits header literals high room whole (Mark kinds.Period ∷ Name field ∷ ws) is.0 (inr is.1) (omega (arith, low)) (λ l. rw (is.2, add-one (expression_height whole)) (next false)))
 value_fits header literals high room (Composite name vs trailing) ws is strong low next =
     rw (is.1, is.0, literal_goes header) (within_fits 1 high room (omega (arith, low, height_positive (Composite name vs trailing))))
-value_fits header literals high room (Unary o inner) ws is strong low next = none_fits high room
+value_fits header literals high room (Unary o inner) ws is strong low next = inl refl
 value_fits header literals high room (Binary o l r) ws is (inl begins) low next =
     rw (append_assoc (expression_words l) (Mark (binary_kind o) ∷ expression_words r) ws)
     (value_fits header literals high room l (Mark (binary_kind o) ∷ before r ws) is.0 (inl begins) (omega (arith, low)) (λ l'. operator_fits header l' o (expression_height l) high room (before r ws) begins (omega (arith, low))))

@@ -124,14 +124,18 @@ goes_on header literals kind = header && is_operator (binary_of kind)
 abbrev pub within : (height room : ℕ) → (goes : Bool) → Result (Unit {0}) Refusal
 within height room goes = if nat_le height room then Ok tt else (if goes then Err TooDeep else Err Syntax)
 
+-- the same where no value goes on; behind a period, where a name is to come next, there is room for none
+abbrev pub stopped : (named : Bool) → (height room : ℕ) → Result (Unit {0}) Refusal
+stopped named height room = within height (if named then 0 else room) false
+
 -- why a name or a selection at the front is refused, if it is too high as a value: only what follows it tells that it is
 -- no place. So many names of it stand before, and one comes next where `named` holds
 unfoldable pub fits : (header literals named : Bool) → (height room : ℕ) → List Lexeme → Result (Unit {0}) Refusal
-fits header literals true height room (Name name ∷ rest) = if is_builtin name then within height room false else fits header literals false (height + 1) room rest
-fits header literals true height room words = within height room false
+fits header literals true height room (Name name ∷ rest) = if is_builtin name then stopped true height room else fits header literals false (height + 1) room rest
+fits header literals true height room words = stopped true height room
 fits header literals false height room (Mark kind ∷ rest) =
     if is_kind kind kinds.Period then fits header false true height room rest else within height room (goes_on header literals kind)
-fits header literals false height room words = within height room false
+fits header literals false height room words = stopped false height room
 
 -- ---- right sides
 

@@ -4,7 +4,7 @@ ghost use Rattle.std.specs.Prelude.{◌≡◌, true, zero};
 ghost use Rattle.parser_base.specs.Cursor.{ahead};
 ghost use Rattle.parser_base.specs.Reading.{Gives, begins};
 ghost use Rattle.parser_simple.specs.Spelling.{update_kind};
-ghost use Rattle.parser_simple.specs.Reading.{begins_with, begins_name, separator_next, update_of, form_at, form_of, defines, goes_on, within, fits};
+ghost use Rattle.parser_simple.specs.Reading.{begins_with, begins_name, separator_next, update_of, form_at, form_of, defines, goes_on, within, stopped, fits};
 
 use go_text::Fault;
 use parser_base::cursor::{Cursor, Word, is_builtin};
@@ -224,6 +224,13 @@ fn within(height: usize, room: u32, goes: bool, behind: Cursor<'_>) -> Result<()
     Err(Fault::Syntax(behind.place()))
 }
 
+/// Refuses the same where no value goes on; behind a period, where a name is to come next, there is room for none.
+fn stopped(named: bool, height: usize, room: u32, behind: Cursor<'_>) -> Result<(), Fault>
+    ensures { Gives (λ x. x) result (stopped named height room) }
+{
+    within(height, if named { 0 } else { room }, false, behind)
+}
+
 /// Refuses a name or a selection here that is too high as a value, at what follows it, since it could be a place before.
 #[tactic(auto, unfolding(crate::specs::Reading::fits))]
 pub fn fits(header: bool, literals: bool, room: u32, cursor: Cursor<'_>) -> Result<(), Fault>
@@ -248,8 +255,8 @@ pub fn fits(header: bool, literals: bool, room: u32, cursor: Cursor<'_>) -> Resu
                 named = true;
                 rest = after;
             }
-            _ => return within(height, room, false, rest),
+            _ => return stopped(named, height, room, rest),
         }
     }
-    within(height, room, false, rest)
+    stopped(named, height, room, rest)
 }
