@@ -389,7 +389,7 @@ fn places_refusals_where_few_levels_are_left(rt: HostRuntime) -> Result<(), Fail
         ("x.len,y=1,2", 0, Outcome::Syntax(100)),
         ("c)", 0, Outcome::Syntax(99)),
         ("c.d{", 0, Outcome::Syntax(101)),
-        ("c.len<-1", 0, Outcome::Syntax(100)),
+        ("c.len<-1", 1, Outcome::Syntax(114)),
         ("if x.y.z<1{}", 2, Outcome::TooDeep(105)),
         ("select{case c.d<-1:}", 3, Outcome::TooDeep(126)),
     ] {
