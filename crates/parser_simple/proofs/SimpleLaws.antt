@@ -16,10 +16,11 @@ use Rattle.parser_base.proofs.Steps.{then_again, made_again, listed_outcome, gav
 use Rattle.parser_simple.specs.declared.form.Form.{Form}
 use Rattle.parser_simple.specs.declared.form.Form.TheVariants as forms
 use Rattle.parser_simple.specs.Spelling.{name_words, IsName, place_words, IsPlace, IsPrimary, right_words, IsRight, part_words, IsPart, print_name, update_kind, simple_words, IsSimple}
-use Rattle.parser_simple.specs.Reading.{as_one, begins_with, defines, form_of, names, place, places, needing, behind_place, received, primary, arguments, argument, right, begins_part, part, parts, print, builtin_call, assigned, defined, stepped, updated, formed, led, sent, led_or_sent, simple}
+use Rattle.parser_simple.specs.Reading.{as_one, begins_with, defines, form_of, names, place, places, needing, behind_place, received, primary, arguments, argument, right, begins_part, part, parts, print, builtin_call, assigned, defined, stepped, updated, formed, led, send_operand, sent, led_or_sent, simple, fits}
 use Rattle.parser_simple.proofs.PlaceLaws.{names_again, names_sound, place_again, place_sound, places_again, places_sound}
 use Rattle.parser_simple.proofs.FormLaws.{update_again, update_shut, update_no_field, form_strong, led_formed, defines_names, no_defines, no_form, led_none}
-use Rattle.parser_simple.proofs.RightLaws.{Stops, needing_again, needing_ok, value_again, primary_again, received_again, arguments_again, argument_again, no_operation, right_again, right_positive, value_sound, primary_sound, received_sound, arguments_sound, argument_sound, right_sound}
+use Rattle.parser_simple.proofs.FitLaws.{fits_again, operand_fits}
+use Rattle.parser_simple.proofs.RightLaws.{Stops, ExpressionOutcome, PrimarySound, needing_again, needing_ok, value_again, primary_again, received_again, arguments_again, argument_again, no_operation, right_again, right_positive, value_sound, primary_sound, received_sound, arguments_sound, argument_sound, right_sound}
 
 -- ---- arguments of print and println
 
@@ -136,12 +137,17 @@ arrow_ends : (literals : Bool) (ws : List Lexeme) → EndsExpression literals (M
 unfolding step_at
 arrow_ends literals ws = record { none = refl; shut = shut literals kinds.Arrow ws refl }
 
+send_operand_again : (literals : Bool) (most room : ℕ) (c : Expression) (ws : List Lexeme) → IsPrimary literals c → ExpressionOutcome literals most room (send_operand literals most room (before c (Mark kinds.Arrow ∷ ws))) c (Mark kinds.Arrow ∷ ws)
+unfolding send_operand
+send_operand_again literals most room c ws is =
+    fits_again _ _ (operand_fits false literals room c ws is.0 is.1) (λ high. high) (primary_again literals most room c (Mark kinds.Arrow ∷ ws) is (arrow_ends literals ws))
+
 -- a send, as any of what is made of one
 pub sent_again : {A : Type 0} (make : Expression → Expression → A) (literals : Bool) (most room : ℕ) (c v : Expression) (rest : List Lexeme) → IsPrimary literals c → IsGrouped literals v → EndsExpression literals rest
     → Outcome (sent make literals most room (before c (Mark kinds.Arrow ∷ before v rest))) (make c v) rest (max (expression_height c) (expression_height v)) room (λ listing. max (expression_longest listing c) (expression_longest listing v)) most
 unfolding sent expect
 sent_again make literals most room c v rest is grouped ends =
-    then_again _ (primary_again literals most room c (Mark kinds.Arrow ∷ before v rest) is (arrow_ends literals (before v rest))) (λ high. omega arith) (λ listing. omega arith) (λ low few.
+    then_again _ (send_operand_again literals most room c (before v rest) is) (λ high. omega arith) (λ listing. omega arith) (λ low few.
     then_again _ (value_again literals most room v rest grouped ends) (λ high. omega arith) (λ listing. omega arith) (λ low' few'.
     Found (omega arith) (λ listing. omega (arith, few listing, few' listing)) refl))
 
@@ -445,6 +451,12 @@ updated_sound literals defining most room o ws s rest strong e =
       few = v.few;
     })
 
+send_operand_sound : (literals : Bool) (most room : ℕ) (ws : List Lexeme) (c : Expression) (rest : List Lexeme) → send_operand literals most room ws ≡ gave c rest → PrimarySound literals most room ws c rest
+unfolding send_operand
+send_operand_sound literals most room ws c rest e =
+    let a = bind_ok (fits false literals true 0 room ws) (λ low. primary literals most room ws) (c, rest) e in
+    primary_sound literals most room ws c rest a.2
+
 -- a send that was read, as what was made of it
 pub record IsSent {A : Type 0} (make : Expression → Expression → A) (literals : Bool) (most room : ℕ) (ws : List Lexeme) (x : A) (rest : List Lexeme) : Type 0 where
   pub channel : Expression
@@ -458,10 +470,10 @@ pub record IsSent {A : Type 0} (make : Expression → Expression → A) (literal
 pub sent_sound : {A : Type 0} (make : Expression → Expression → A) (literals : Bool) (most room : ℕ) (ws : List Lexeme) (x : A) (rest : List Lexeme) → sent make literals most room ws ≡ gave x rest → IsSent make literals most room ws x rest
 unfolding sent
 sent_sound make literals most room ws x rest e =
-    let a = bind_ok (primary literals most room ws) (λ channel. expect kinds.Arrow channel.1 >>= λ after. expression literals most room 0 after >>= λ value. gave (make channel.0 value.0) value.1) (x, rest) e in
+    let a = bind_ok (send_operand literals most room ws) (λ channel. expect kinds.Arrow channel.1 >>= λ after. expression literals most room 0 after >>= λ value. gave (make channel.0 value.0) value.1) (x, rest) e in
     let b = bind_ok (expect kinds.Arrow a.0.1) (λ after. expression literals most room 0 after >>= λ value. gave (make a.0.0 value.0) value.1) (x, rest) a.2 in
     let c = made_is (make a.0.0) (expression literals most room 0 b.0) x rest b.2 in
-    let p = primary_sound literals most room ws a.0.0 a.0.1 a.1 in
+    let p = send_operand_sound literals most room ws a.0.0 a.0.1 a.1 in
     let v = value_sound literals most room b.0 c.0 rest c.1 in
     record {
       channel = a.0.0;

@@ -1,5 +1,5 @@
 -- Reading simple statements from left to right.
-use Rattle.std.specs.Prelude.{ℕ, zero, suc, Bool, true, false, ◌&&◌, List, [], ◌∷◌, Option, Some, None, Result, Ok, Err, nat_le, if◌then◌else◌, length, bytes_eq, codes}
+use Rattle.std.specs.Prelude.{ℕ, zero, suc, ◌+◌, Bool, true, false, ◌&&◌, ◌||◌, List, [], ◌∷◌, Option, Some, None, Result, Ok, Err, nat_le, if◌then◌else◌, length, bytes_eq, codes}
 use Rattle.scanner.specs.declared.kind.Kind.{Kind}
 use Rattle.scanner.specs.declared.kind.Kind.TheVariants as kinds
 use Rattle.syntax.specs.declared.node.BinaryOperator.{BinaryOperator}
@@ -10,7 +10,7 @@ use Rattle.parser_base.specs.declared.list.Next.{Next}
 use Rattle.parser_base.specs.declared.list.Next.TheVariants.{More, End}
 use Rattle.parser_base.specs.Lexemes.{Lexeme, Literal, Name, Text, Mark}
 use Rattle.parser_base.specs.Spelling.{is_builtin}
-use Rattle.parser_base.specs.Reading.{Refusal, Syntax, TooDeep, TooMany, Reading, ◌>>=◌, is_kind, expect, plain_name, begins, listed, entry_next, values, expression}
+use Rattle.parser_base.specs.Reading.{Refusal, Syntax, TooDeep, TooMany, Reading, ◌>>=◌, is_kind, expect, plain_name, begins, listed, entry_next, values, binary_of, expression}
 use Rattle.parser_base.specs.TypeReading.{type_at}
 use Rattle.parser_simple.specs.declared.form.Form.{Form}
 use Rattle.parser_simple.specs.declared.form.Form.TheVariants as forms
@@ -106,6 +106,36 @@ defines true (Name name ∷ rest) = defines false rest
 defines true words = false
 defines false (Mark kind ∷ rest) = if is_kind kind kinds.Define then true else (if is_kind kind kinds.Comma then defines true rest else false)
 defines false words = false
+
+-- ---- values that begin as a place does
+
+abbrev pub is_operator : Option BinaryOperator → Bool
+is_operator None = false
+is_operator (Some operator) = true
+
+-- whether a name or a selection goes on as a value with this mark: as the operand of a send, in a condition where `header`
+-- holds, or as a composite literal where `literals` does
+abbrev pub goes_on : (header literals : Bool) → Kind → Bool
+goes_on header literals kinds.Arrow = true
+goes_on header literals kinds.LeftBrace = header || literals
+goes_on header literals kind = header && is_operator (binary_of kind)
+
+-- why what has so many levels is refused, if they are more than there is room for, by whether it `goes` on as a value
+abbrev pub within : (height room : ℕ) → (goes : Bool) → Result (Unit {0}) Refusal
+within height room goes = if nat_le height room then Ok tt else (if goes then Err TooDeep else Err Syntax)
+
+-- the same where no value goes on; behind a period, where a name is to come next, there is room for none
+abbrev pub stopped : (named : Bool) → (height room : ℕ) → Result (Unit {0}) Refusal
+stopped named height room = within height (if named then 0 else room) false
+
+-- why a name or a selection at the front is refused, if it is too high as a value: only what follows it tells that it is
+-- no place. So many names of it stand before, and one comes next where `named` holds
+unfoldable pub fits : (header literals named : Bool) → (height room : ℕ) → List Lexeme → Result (Unit {0}) Refusal
+fits header literals true height room (Name name ∷ rest) = if is_builtin name then stopped true height room else fits header literals false (height + 1) room rest
+fits header literals true height room words = stopped true height room
+fits header literals false height room (Mark kind ∷ rest) =
+    if is_kind kind kinds.Period then fits header false true height room rest else within height room (goes_on header literals kind)
+fits header literals false height room words = stopped false height room
 
 -- ---- right sides
 
@@ -276,10 +306,14 @@ led literals defining most room (Name name ∷ rest) =
     else formed literals defining most room (form_of true (Name name ∷ rest)) (Name name ∷ rest))
 led literals defining most room words = Ok (None, words)
 
+-- the operand of a send, which may begin as a place does
+unfoldable pub send_operand : Bool → ℕ → ℕ → List Lexeme → Reading Expression
+send_operand literals most room words = fits false literals true 0 room words >>= λ low. primary literals most room words
+
 -- a send
 unfoldable pub sent : {A : Type 0} → (Expression → Expression → A) → Bool → ℕ → ℕ → List Lexeme → Reading A
 sent make literals most room words = do
-  channel ← primary literals most room words
+  channel ← send_operand literals most room words
   after ← expect kinds.Arrow channel.1
   value ← expression literals most room 0 after
   Ok (make channel.0 value.0, value.1)

@@ -1,15 +1,16 @@
 //! What stands behind a place, by which the forms of a statement differ.
 
-ghost use Rattle.std.specs.Prelude.{◌≡◌, true};
+ghost use Rattle.std.specs.Prelude.{◌≡◌, true, zero};
 ghost use Rattle.parser_base.specs.Cursor.{ahead};
 ghost use Rattle.parser_base.specs.Reading.{Gives, begins};
 ghost use Rattle.parser_simple.specs.Spelling.{update_kind};
-ghost use Rattle.parser_simple.specs.Reading.{begins_with, begins_name, separator_next, update_of, form_at, form_of, defines};
+ghost use Rattle.parser_simple.specs.Reading.{begins_with, begins_name, separator_next, update_of, form_at, form_of, defines, goes_on, within, stopped, fits};
 
 use go_text::Fault;
 use parser_base::cursor::{Cursor, Word, is_builtin};
 use parser_base::expression::begins;
 use parser_base::list::Next;
+use parser_base::operator::binary_of;
 use scanner::Kind;
 use syntax::BinaryOperator;
 
@@ -196,4 +197,66 @@ pub fn defines(cursor: Cursor<'_>) -> bool
         }
     }
     false
+}
+
+/// Whether a name or a selection goes on as a value with this mark: as the operand of a send, in a condition where
+/// `header` holds, or as a composite literal where `literals` does.
+fn goes_on(header: bool, literals: bool, kind: Kind) -> bool
+    ensures { result ≡ goes_on header literals kind }
+{
+    match kind {
+        Kind::Arrow => true,
+        Kind::LeftBrace => header || literals,
+        kind => header && binary_of(kind).is_some(),
+    }
+}
+
+/// Refuses what has more levels than there is room for, at what follows it: as too high where it `goes` on as a value.
+fn within(height: usize, room: u32, goes: bool, behind: Cursor<'_>) -> Result<(), Fault>
+    ensures { Gives (λ x. x) result (within height room goes) }
+{
+    if height <= room as usize {
+        return Ok(());
+    }
+    if goes {
+        return Err(Fault::TooDeep(behind.place()));
+    }
+    Err(Fault::Syntax(behind.place()))
+}
+
+/// Refuses the same where no value goes on; behind a period, where a name is to come next, there is room for none.
+fn stopped(named: bool, height: usize, room: u32, behind: Cursor<'_>) -> Result<(), Fault>
+    ensures { Gives (λ x. x) result (stopped named height room) }
+{
+    within(height, if named { 0 } else { room }, false, behind)
+}
+
+/// Refuses a name or a selection here that is too high as a value, at what follows it, since it could be a place before.
+#[tactic(auto, unfolding(crate::specs::Reading::fits))]
+pub fn fits(header: bool, literals: bool, room: u32, cursor: Cursor<'_>) -> Result<(), Fault>
+    ensures { Gives (λ x. x) result (fits header literals true 0 room (ahead cursor.entry)) }
+{
+    let mut literals = literals;
+    let mut named = true;
+    let mut height = 0;
+    let mut rest = cursor;
+    for _ in 0..cursor.len() {
+        match (named, rest.next()) {
+            (true, Some((Word::Name(name), _, after))) if !is_builtin(name) => {
+                named = false;
+                height += 1;
+                rest = after;
+            }
+            (false, Some((Word::Mark(kind), _, after))) => {
+                if kind != Kind::Period {
+                    return within(height, room, goes_on(header, literals, kind), rest);
+                }
+                literals = false;
+                named = true;
+                rest = after;
+            }
+            _ => return stopped(named, height, room, rest),
+        }
+    }
+    stopped(named, height, room, rest)
 }

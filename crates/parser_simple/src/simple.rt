@@ -2,18 +2,18 @@
 
 ghost use Rattle.std.specs.Prelude.{◌≡◌, ◌+◌, true, false, List as Lists, Some, IfOk, map, option_map, sum_by, vec_len};
 ghost use Rattle.syntax.specs.Tree.{Value, CallAlone, Close, ReceiveAlone, Send, Increment, Decrement};
-ghost use Rattle.syntax.specs.Measures.{Entries, if_any, part_size, simple_size};
-ghost use Rattle.syntax.specs.View.{part_of, simple_of};
+ghost use Rattle.syntax.specs.Measures.{Entries, if_any, part_size, expression_size, simple_size};
+ghost use Rattle.syntax.specs.View.{expression_of, part_of, simple_of};
 ghost use Rattle.parser_base.specs.Cursor.{ahead};
 ghost use Rattle.parser_base.specs.Reading.{Gives, TooMany, entry_next, listed, closed};
-ghost use Rattle.parser_simple.specs.Reading.{as_one, begins_part, part, parts, print, received, argument, arguments, builtin_call, assigned, defined, stepped, updated, behind_place, formed, led, sent, led_or_sent, simple, defines};
+ghost use Rattle.parser_simple.specs.Reading.{as_one, begins_part, part, parts, print, received, argument, arguments, builtin_call, assigned, defined, stepped, updated, behind_place, formed, led, send_operand, sent, led_or_sent, simple, defines};
 
-use crate::form::{Form, begins_with, defines, form_of, update_kind};
+use crate::form::{Form, begins_with, defines, fits, form_of, update_kind};
 use crate::place::{names, place, places};
 use crate::right::{argument, arguments, primary, received, right};
 use go_text::{Fault, LimitKind, Place, Span};
 use parser_base::cursor::{Cursor, Word, is_builtin};
-use parser_base::expression::{begins, closed, expression, name_node};
+use parser_base::expression::{Found, begins, closed, expression, name_node};
 use parser_base::list::{List, MAX_ENTRIES, Next};
 use parser_base::text::text;
 use scanner::Kind;
@@ -519,6 +519,22 @@ pub fn led<'a>(
     }
 }
 
+/// The operand of a send, which may begin as a place does.
+#[tactic(auto, unfolding(crate::specs::Reading::send_operand))]
+pub fn send_operand<'a>(
+    alloc: Global,
+    literals: bool,
+    room: u32,
+    cursor: Cursor<'a>,
+    spans: &mut Vec<Span>,
+) -> Result<Found<'a>, Fault>
+    ensures value { Gives (λ x. (expression_of x.expression, ahead x.rest)) result (send_operand literals MAX_ENTRIES room (ahead cursor.entry)) }
+    ensures nodes { IfOk result (λ x. vec_len spans.new ≡ vec_len spans.old + expression_size (expression_of x.expression)) }
+{
+    fits(false, literals, room, cursor)?;
+    primary(alloc, literals, room, cursor, spans)
+}
+
 /// A send.
 #[tactic(auto, unfolding(crate::specs::Reading::sent))]
 fn send<'a>(
@@ -531,7 +547,7 @@ fn send<'a>(
     ensures simple { Gives (λ x. (simple_of x.simple, ahead x.rest)) result (sent Send literals MAX_ENTRIES room (ahead cursor.entry)) }
     ensures nodes { IfOk result (λ x. vec_len spans.new ≡ vec_len spans.old + simple_size (simple_of x.simple)) }
 {
-    let channel = primary(alloc, literals, room, cursor, spans)?;
+    let channel = send_operand(alloc, literals, room, cursor, spans)?;
     let (_, rest) = channel.rest.expect(Kind::Arrow)?;
     let value = expression(alloc, literals, room, 0, rest, spans)?;
     let span = Span {

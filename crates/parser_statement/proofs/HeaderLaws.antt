@@ -17,11 +17,12 @@ use Rattle.parser_simple.specs.declared.form.Form.{Form}
 use Rattle.parser_simple.specs.declared.form.Form.TheVariants as forms
 use Rattle.parser_simple.specs.Spelling.{name_words, IsName, place_words, IsPlace, IsPrimary, right_words, IsRight, update_kind, simple_words, IsSimple}
 use Rattle.parser_statement.specs.HeaderSpelling.{IsAny, second_name_words, second_place_words, comm_words, IsComm, if_head_words, IsIfHead, optional, target_words, IsTarget, for_head_words, IsForHead}
-use Rattle.parser_simple.specs.Reading.{as_one, begins_with, begins_operation, defines, form_of, place, primary, sent, simple, led}
+use Rattle.parser_simple.specs.Reading.{as_one, begins_with, begins_operation, defines, form_of, place, primary, sent, simple, led, fits}
 use Rattle.parser_simple.proofs.BeginLaws.{value_not}
 use Rattle.parser_statement.specs.HeaderReading.{Head, HeadSimple, HeadCondition, is_primary, condition_or_sent, led_or_condition, head, second, comm_defined, comm_assigned, comm_formed, comm, condition, behind_semicolon, behind_head, if_headed, if_header, unless_next, post_behind, for_clauses, ranged, range_defined, range_assigned, for_headed, ranges, for_begun, for_header}
 use Rattle.parser_simple.proofs.PlaceLaws.{place_again, place_sound}
 use Rattle.parser_simple.proofs.FormLaws.{update_again, fields_form, no_defines, no_form, led_none}
+use Rattle.parser_simple.proofs.FitLaws.{fits_again, operand_fits, condition_fits}
 use Rattle.parser_simple.proofs.RightLaws.{Stops, value_again, primary_again, no_operation, value_sound, primary_sound}
 use Rattle.parser_simple.proofs.SimpleLaws.{SimpleSound, is_send, led_again, led_channel, LedSound, led_sound, sent_again, sent_sound, simple_again, simple_sound}
 
@@ -57,9 +58,10 @@ head_sent : (most room : ℕ) (c v : Expression) (ws : List Lexeme) → IsSimple
 unfolding head begins_with expect
 head_sent most room c v ws is =
     rw (led_channel false true most room c (before v (Mark kinds.Semicolon ∷ ws)) is.0)
+    (fits_again _ _ (operand_fits true false room c (before v (Mark kinds.Semicolon ∷ ws)) is.0.0 is.0.1) (λ high. omega (arith, high))
     (then_again _ (value_again false most room c (Mark kinds.Arrow ∷ before v (Mark kinds.Semicolon ∷ ws)) is.0.0 (arrow_ends (before v (Mark kinds.Semicolon ∷ ws)))) (λ high. omega arith) (λ listing. omega arith) (λ low few.
     rw is.0.1 (then_again _ (value_again false most room v (Mark kinds.Semicolon ∷ ws) is.1 (semicolon_ends ws)) (λ high. omega arith) (λ listing. omega arith) (λ low' few'.
-    Found (omega arith) (λ listing. omega (arith, few listing, few' listing)) refl))))
+    Found (omega arith) (λ listing. omega (arith, few listing, few' listing)) refl)))))
 
 head_simple : (most room : ℕ) (s : Simple) (ws : List Lexeme) → IsSimple false true s → HeadOutcome most room (head most room (simple_words s (Mark kinds.Semicolon ∷ ws))) s (Mark kinds.Semicolon ∷ ws)
 head_simple most room (Send c v) ws is = head_sent most room c v ws is
@@ -78,7 +80,8 @@ head_condition : (most room : ℕ) (c : Expression) (ws : List Lexeme) → IsGro
 unfolding head begins_with form_of
 head_condition most room c ws is =
     rw (led_none false true most room (before c (Mark kinds.LeftBrace ∷ ws)) (no_operation false c (Mark kinds.LeftBrace ∷ ws) is refl) (no_form c (Mark kinds.LeftBrace ∷ ws) refl))
-    (then_again _ (value_again false most room c (Mark kinds.LeftBrace ∷ ws) is (brace_ends ws)) (λ high. high) (λ listing. omega arith) (λ low few. Found low few refl))
+    (fits_again _ _ (condition_fits room c ws is) (λ high. high)
+    (then_again _ (value_again false most room c (Mark kinds.LeftBrace ∷ ws) is (brace_ends ws)) (λ high. high) (λ listing. omega arith) (λ low few. Found low few refl)))
 
 -- a head that was read
 abbrev HeadSound : (most room : ℕ) → List Lexeme → Head → List Lexeme → Type 0
@@ -112,7 +115,8 @@ condition_or_sent_sound most room ws c after s h rest e =
 
 led_or_condition_sound : (most room : ℕ) (ws : List Lexeme) (found : Option Simple) (after : List Lexeme) → LedSound false true most room ws found after → (h : Head) (rest : List Lexeme) → led_or_condition most room (found, after) ≡ gave h rest → HeadSound most room ws h rest
 led_or_condition_sound most room ws None after same h rest e =
-    let a = bind_ok (expression false most room 0 after) (condition_or_sent most room) (h, rest) e in
+    let low = bind_ok (fits true false true 0 room after) (λ low. expression false most room 0 after >>= condition_or_sent most room) (h, rest) e in
+    let a = bind_ok (expression false most room 0 after) (condition_or_sent most room) (h, rest) low.2 in
     subst (λ (x : List Lexeme). HeadSound most room x h rest) (sym same) (condition_or_sent_sound most room after a.0.0 a.0.1 (value_sound false most room after a.0.0 a.0.1 a.1) h rest a.2)
 led_or_condition_sound most room ws (Some s) after sound h rest e =
     subst (λ (x : Head × List Lexeme). HeadSound most room ws x.0 x.1) (ok_is (HeadSimple s, after) (h, rest) e) sound

@@ -8,7 +8,7 @@ use Rattle.parser_base.specs.Spelling.{outer_precedence}
 use Rattle.parser_base.specs.Reading.{Reading, ◌>>=◌, is_kind, expect, plain_name, expression}
 use Rattle.parser_simple.specs.declared.form.Form.{Form}
 use Rattle.parser_simple.specs.declared.form.Form.TheVariants as forms
-use Rattle.parser_simple.specs.Reading.{as_one, begins_with, form_of, defines, place, primary, led, sent, simple}
+use Rattle.parser_simple.specs.Reading.{as_one, begins_with, form_of, defines, place, primary, led, sent, simple, fits}
 
 -- ---- headers
 
@@ -30,7 +30,7 @@ condition_or_sent most room (channel, rest) =
 
 abbrev pub led_or_condition : ℕ → ℕ → Option Simple × List Lexeme → Reading Head
 led_or_condition most room (Some simple, rest) = Ok (HeadSimple simple, rest)
-led_or_condition most room (None, rest) = expression false most room 0 rest >>= condition_or_sent most room
+led_or_condition most room (None, rest) = fits true false true 0 room rest >>= λ low. expression false most room 0 rest >>= condition_or_sent most room
 
 -- a simple statement or a condition
 unfoldable pub head : ℕ → ℕ → List Lexeme → Reading Head

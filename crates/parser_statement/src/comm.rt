@@ -17,6 +17,7 @@ use parser_base::list::MAX_ENTRIES;
 use parser_simple::form::{Form, begins_with, defines, form_of};
 use parser_simple::place::{name_at, place};
 use parser_simple::right::primary;
+use parser_simple::simple::send_operand;
 use scanner::Kind;
 use std::alloc::Global;
 use syntax::{CommNode, Name, PlaceNode};
@@ -132,7 +133,7 @@ fn send<'a>(
     ensures comm { Gives (λ x. (comm_of x.comm, ahead x.rest)) result (sent CommSend true MAX_ENTRIES room (ahead cursor.entry)) }
     ensures nodes { IfOk result (λ x. vec_len spans.new ≡ vec_len spans.old + comm_size (comm_of x.comm)) }
 {
-    let channel = primary(alloc, true, room, cursor, spans)?;
+    let channel = send_operand(alloc, true, room, cursor, spans)?;
     let (_, rest) = channel.rest.expect(Kind::Arrow)?;
     let value = expression(alloc, true, room, 0, rest, spans)?;
     spans.push(Span {

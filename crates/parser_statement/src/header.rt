@@ -14,7 +14,7 @@ use go_text::{Fault, Span};
 use parser_base::cursor::Cursor;
 use parser_base::expression::{Found, expression};
 use parser_base::list::MAX_ENTRIES;
-use parser_simple::form::{Form, begins_with, defines, form_of};
+use parser_simple::form::{Form, begins_with, defines, fits, form_of};
 use parser_simple::place::{name_at, place};
 use parser_simple::simple::{FoundLed, led, simple};
 use scanner::Kind;
@@ -95,6 +95,7 @@ pub fn head<'a>(
             rest,
         }),
         None => {
+            fits(true, false, room, rest)?;
             let found = expression(alloc, false, room, 0, rest, spans)?;
             condition_or_send(alloc, room, found, spans)
         }

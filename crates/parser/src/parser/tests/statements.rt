@@ -358,6 +358,9 @@ fn refuses_what_needs_more_levels_at_its_first_token(rt: HostRuntime) -> Result<
         ("x+=1", 1, 1),
         ("x,y:=1,2", 1, 1),
         ("x.y,z=1,2", 1, 3),
+        ("c<-1", 1, 1),
+        ("c{}<-1", 1, 1),
+        ("if x.y.z{}", 3, 8),
     ] {
         let (enough, _) = outcome_above(rt.alloc(), needs, statement)?;
         assert_eq!(rt; enough, Outcome::Tree, "{statement}");
@@ -369,23 +372,28 @@ fn refuses_what_needs_more_levels_at_its_first_token(rt: HostRuntime) -> Result<
 }
 
 #[test]
-fn needs_no_level_below_a_statement(rt: HostRuntime) -> Result<(), Fail> {
-    for (statement, wanted) in [
-        ("f()", Outcome::Tree),
-        ("go f()", Outcome::Tree),
-        ("println(\"\")", Outcome::TooDeep(106)),
-        ("println()", Outcome::Tree),
-        ("x.y++", Outcome::Tree),
-        ("return", Outcome::Tree),
-        ("break", Outcome::Tree),
-        ("select{}", Outcome::Tree),
-        ("return print(1)", Outcome::Syntax(105)),
-        ("return )", Outcome::Syntax(105)),
-        ("select{)}", Outcome::Syntax(105)),
-        ("x,1=2,3", Outcome::TooDeep(99)),
-        ("x.len,y=1,2", Outcome::Syntax(100)),
+fn places_refusals_where_few_levels_are_left(rt: HostRuntime) -> Result<(), Fail> {
+    for (statement, levels, wanted) in [
+        ("f()", 0, Outcome::Tree),
+        ("go f()", 0, Outcome::Tree),
+        ("println(\"\")", 0, Outcome::TooDeep(106)),
+        ("println()", 0, Outcome::Tree),
+        ("x.y++", 0, Outcome::Tree),
+        ("return", 0, Outcome::Tree),
+        ("break", 0, Outcome::Tree),
+        ("select{}", 0, Outcome::Tree),
+        ("return print(1)", 0, Outcome::Syntax(105)),
+        ("return )", 0, Outcome::Syntax(105)),
+        ("select{)}", 0, Outcome::Syntax(105)),
+        ("x,1=2,3", 0, Outcome::TooDeep(99)),
+        ("x.len,y=1,2", 0, Outcome::Syntax(100)),
+        ("c)", 0, Outcome::Syntax(99)),
+        ("c.d{", 0, Outcome::Syntax(101)),
+        ("c.len<-1", 1, Outcome::Syntax(114)),
+        ("if x.y.z<1{}", 2, Outcome::TooDeep(105)),
+        ("select{case c.d<-1:}", 3, Outcome::TooDeep(126)),
     ] {
-        let (found, _) = outcome_above(rt.alloc(), 0, statement)?;
+        let (found, _) = outcome_above(rt.alloc(), levels, statement)?;
         assert_eq!(rt; found, wanted, "{statement}");
     }
     Ok(())
