@@ -3,3 +3,4 @@ pub mod Fetching
 pub mod Asking
 pub mod Selects
 pub mod Quick
+pub mod Stacks

@@ -1,15 +1,15 @@
 //! What a goroutine asks.
 
-ghost use Rattle.std.specs.Prelude.{◌≡◌, ◌+◌, ◌++◌, ◌<◌, ◌≤◌, IfOk, List, OnOk, drop, length, map, reverse, take};
+ghost use Rattle.std.specs.Prelude.{◌≡◌, ◌+◌, ◌++◌, ◌∷◌, ◌<◌, ◌≤◌, IfOk, List, OnOk, drop, length, map, take};
 ghost use Rattle.bytecode.specs.Code.{Code as CodeValue};
 ghost use Rattle.bytecode.specs.Effects.{count, operands};
 ghost use Rattle.bytecode.specs.Machine.{Frame as FrameValue, Frames, code_next, instr_next, part_rest, part_text, printed, zero_of as zero_word};
 ghost use Rattle.bytecode.specs.Rules.{IsVerified};
-ghost use Rattle.goroutine_vm_base.specs.Steps.{AsksFor, FitsAt, IsChannelOn, frames_of, stops};
+ghost use Rattle.goroutine_vm_base.specs.Steps.{AsksFor, FitsAt, IsChannelOn, stops};
 ghost use Rattle.word.specs.declared.value.Word.{Word as WordValue};
 ghost use Rattle.word.specs.Kinds.{Stuck};
 
-use crate::callers::Callers;
+use crate::call_stack::CallStack;
 use crate::fetch::fetch;
 use crate::frame::{Frame, zero_of};
 use crate::select::select;
@@ -158,14 +158,14 @@ fn ask(
     alloc: Global,
     code: &Code,
     frame: &Frame,
-    callers: &Callers,
+    callers: &CallStack,
     i: Instr,
     at: usize,
 ) -> Result<Option<Request>, AllocError>
     requires at { FitsAt i at (length frame.now.stack) }
     requires below { at ≤ length frame.now.stack }
     requires verified { IsVerified code.now }
-    ensures { IfOk result (λ o. AsksFor (instr_next code.now frame.now (reverse callers.now) (take at frame.now.stack) (drop at frame.now.stack) i) o) }
+    ensures { IfOk result (λ o. AsksFor (instr_next code.now frame.now callers.now (take at frame.now.stack) (drop at frame.now.stack) i) o) }
 {
     match i {
         Instr::Apply(op) => Ok(panic_of(frame, op, at)),
@@ -240,10 +240,10 @@ fn too_deep(code: &Code, depth: usize, function: u32) -> Option<Request>
 
 /// Whether an instruction of verified code asks, whose operands begin at a place of the stack; at the limit also whether it
 /// ticks.
-fn asks(at_limit: bool, frame: &Frame, callers: &Callers, i: Instr, at: usize) -> bool
+fn asks(at_limit: bool, frame: &Frame, callers: &CallStack, i: Instr, at: usize) -> bool
     requires at { FitsAt i at (length frame.now.stack) }
     requires below { at ≤ length frame.now.stack }
-    ensures { (code : CodeValue) → (instr_next code frame.now (reverse callers.now) (take at frame.now.stack) (drop at frame.now.stack) i ≡ Stuck → ⊥) → result ≡ stops at_limit (instr_next code frame.now (reverse callers.now) (take at frame.now.stack) (drop at frame.now.stack) i) }
+    ensures { (code : CodeValue) → (instr_next code frame.now callers.now (take at frame.now.stack) (drop at frame.now.stack) i ≡ Stuck → ⊥) → result ≡ stops at_limit (instr_next code frame.now callers.now (take at frame.now.stack) (drop at frame.now.stack) i) }
 {
     match i {
         Instr::Apply(op) => panic_of(frame, op, at).is_some(),
@@ -277,10 +277,10 @@ pub fn request(
     alloc: Global,
     code: &Code,
     frame: &Frame,
-    callers: &Callers,
+    callers: &CallStack,
 ) -> Result<Option<Request>, AllocError>
     requires { IsVerified code.now }
-    ensures { IfOk result (λ o. AsksFor (code_next code.now (frames_of frame.now callers.now)) o) }
+    ensures { IfOk result (λ o. AsksFor (code_next code.now (frame.now ∷ callers.now)) o) }
 {
     let have = frame.stack.len();
     match fetch(code, frame) {
@@ -295,10 +295,10 @@ pub fn request(
 }
 
 /// Whether frames of verified code ask that were told nothing; at the limit also whether they tick.
-pub fn is_asking(at_limit: bool, code: &Code, frame: &Frame, callers: &Callers) -> bool
+pub fn is_asking(at_limit: bool, code: &Code, frame: &Frame, callers: &CallStack) -> bool
     requires verified { IsVerified code.now }
-    requires sound { code_next code.now (frames_of frame.now callers.now) ≡ Stuck → ⊥ }
-    ensures { result ≡ stops at_limit (code_next code.now (frames_of frame.now callers.now)) }
+    requires sound { code_next code.now (frame.now ∷ callers.now) ≡ Stuck → ⊥ }
+    ensures { result ≡ stops at_limit (code_next code.now (frame.now ∷ callers.now)) }
 {
     let have = frame.stack.len();
     match fetch(code, frame) {
