@@ -83,6 +83,19 @@ fn pick(
     Ok(())
 }
 
+/// The same word. It is taken by its variant, so that what an operator just wrote in parts is not read as a whole, for which the
+/// processor would wait.
+#[inline(always)]
+fn same(word: Word) -> Word
+    ensures { result ≡ word }
+{
+    match word {
+        Word::Int(number) => Word::Int(number),
+        Word::Bool(truth) => Word::Bool(truth),
+        Word::Chan(chan) => Word::Chan(chan),
+    }
+}
+
 /// Pops the word on the top, which stands at this place, into a local, and goes on.
 pub(crate) fn store_top(frame: &mut Frame, to: usize, at: usize)
     requires place { frame.old.place + 1 < 2 ^ 64 }
@@ -90,7 +103,7 @@ pub(crate) fn store_top(frame: &mut Frame, to: usize, at: usize)
     requires within { to < length frame.old.locals }
     ensures { frame.new ≡ record frame.old { place = frame.old.place + 1; locals = put_at to (drop at frame.old.stack) frame.old.locals; stack = take at frame.old.stack } }
 {
-    frame.locals[to] = frame.stack[at];
+    frame.locals[to] = same(frame.stack[at]);
     frame.stack.truncate(at);
     frame.place += 1;
 }

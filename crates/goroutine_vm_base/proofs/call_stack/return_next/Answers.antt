@@ -13,7 +13,7 @@ returns-clause-ok c = λ x y here next.
     let ended = back_at xs rest p y c.index-ended-0.result c.split_at_mut-waiting.ensures.back next in
     let top = (get_or rest 0 c.index-ended-0.result).stack in
     let taken : ◌≡◌ {A = Frame} c.take_results.new.self (record x { stack = x.stack ++ y.stack }) =
-        c.in_ok-take_results.ensures.ok ∙ ap (λ (z : Frame). record z { stack = z.stack ++ top }) is ∙ ap (λ (z : Frame). record x { stack = x.stack ++ z.stack }) ended in
+    c.in_ok-take_results.ensures.ok ∙ ap (λ (z : Frame). record z { stack = z.stack ++ top }) is ∙ ap (λ (z : Frame). record x { stack = x.stack ++ z.stack }) ended in
     let within : p < length xs = omega (arith, c.requires) in
     ap (λ (l : Frames). take (p + 1) (slice_set l p c.take_results.new.self ++ rest)) front
     ∙ one_put xs rest p c.take_results.new.self within

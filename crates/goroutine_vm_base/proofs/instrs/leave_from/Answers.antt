@@ -14,6 +14,6 @@ returns-clause-ok c =
     let parked : c.park.new.self ≡ x ∷ cs = c.in_ok-park.ensures.ok in
     if_ok c.leave-done.result _ _
     (λ step done may code.
-        subst (λ (l : Frames). Does may (x ∷ cs) (instr_next code x cs low top instrs.Return) step l) c.unpark.ensures
-        (subst (λ (l : Frames). Does may l (instr_next code x cs low top instrs.Return) step c.leave-done.new.frames) parked (done may code x cs parked)))
+    subst (λ (l : Frames). Does may (x ∷ cs) (instr_next code x cs low top instrs.Return) step l) c.unpark.ensures
+    (subst (λ (l : Frames). Does may l (instr_next code x cs low top instrs.Return) step c.leave-done.new.frames) parked (done may code x cs parked)))
     c.leave-done.ensures.ok
