@@ -82,6 +82,7 @@ impl CallStack {
     }
 
     /// The last one called calls another with the words from a place of its stack on, and waits behind the call.
+    #[inline(always)]
     pub(crate) fn enter(
         &mut self,
         alloc: Global,
@@ -109,6 +110,7 @@ impl CallStack {
     }
 
     /// The last one called returns to the one before it, with the words of its stack.
+    #[inline(always)]
     pub(crate) fn resume(&mut self) -> Result<(), AllocError>
         requires { 1 < length self.old }
         ensures ok { OnOk result (Resumes self.old self.new) }

@@ -1,7 +1,7 @@
 use Rattle.std.proofs.Common.{◌≡◌, ◌∙◌, ◌+◌, ◌<◌, List, ◌∷◌, true, length, take, drop, Some, ap, sym, arith, rules, slice_get}
 use Rattle.std.proofs.lemmas.Option.{slice_get-get_or}
 use Rattle.bytecode.specs.Code.{Function}
-use Rattle.bytecode.specs.Machine.{Frames, begun, goes_on}
+use Rattle.bytecode.specs.Machine.{begun, goes_on}
 use Rattle.goroutine_vm_base.proofs.Calls.{called}
 use Rattle.goroutine_vm_base.proofs.instrs.call.Goals as goal
 

@@ -1,4 +1,4 @@
-use Rattle.std.proofs.Common.{◌≡◌, ◌∷◌, take, drop, sym, subst}
+use Rattle.std.proofs.Common.{◌≡◌, ◌∷◌, take, drop, subst}
 use Rattle.bytecode.specs.declared.instr.Instr.TheVariants as instrs
 use Rattle.bytecode.specs.Machine.{Frames, instr_next}
 use Rattle.goroutine_vm_base.specs.Steps.{Does}

@@ -1,4 +1,4 @@
-use Rattle.std.proofs.Common.{◌≡◌, ◌+◌, ◌-◌, ◌<◌, ◌≤◌, ◌∷◌, length, take, drop, reverse, ap, ◌∙◌, subst, sym, arith}
+use Rattle.std.proofs.Common.{◌≡◌, ◌+◌, ◌<◌, ◌≤◌, ◌∷◌, length, take, drop, reverse, ap, ◌∙◌, sym, arith}
 use Rattle.std.proofs.lemmas.List.{with_items_is}
 use Rattle.bytecode.specs.Machine.{Frames, begun, goes_on}
 use Rattle.goroutine_vm_base.proofs.Stacks.{entered_view, last_is, last_of, some_deep}
