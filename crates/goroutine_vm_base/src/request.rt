@@ -1,9 +1,9 @@
 //! What a goroutine asks.
 
-ghost use Rattle.std.specs.Prelude.{◌≡◌, ◌+◌, ◌++◌, ◌∷◌, ◌<◌, ◌≤◌, IfOk, List, OnOk, drop, length, map, take};
+ghost use Rattle.std.specs.Prelude.{◌≡◌, ◌+◌, ◌∷◌, ◌≤◌, IfOk, List, drop, length, take};
 ghost use Rattle.bytecode.specs.Code.{Code as CodeValue};
 ghost use Rattle.bytecode.specs.Effects.{count, operands};
-ghost use Rattle.bytecode.specs.Machine.{Frame as FrameValue, Frames, code_next, instr_next, part_rest, part_text, printed, zero_of as zero_word};
+ghost use Rattle.bytecode.specs.Machine.{Frame as FrameValue, Frames, code_next, instr_next};
 ghost use Rattle.bytecode.specs.Rules.{IsVerified};
 ghost use Rattle.goroutine_vm_base.specs.Steps.{AsksFor, FitsAt, IsChannelOn, stops};
 ghost use Rattle.word.specs.declared.value.Word.{Word as WordValue};
@@ -11,14 +11,15 @@ ghost use Rattle.word.specs.Kinds.{Stuck};
 
 use crate::call_stack::CallStack;
 use crate::fetch::fetch;
-use crate::frame::{Frame, zero_of};
+use crate::frame::Frame;
 use crate::select::select;
-use bytecode::{Code, Instr, Kind, Part, PrintTable};
+use bytecode::{Code, Instr};
+use operands::kinds::zeros;
+use operands::print::print;
 use std::alloc::{AllocError, Global};
 use word::apply::{Op, checked_apply};
 use word::panic::Panic;
 use word::request::Request;
-use word::text::append;
 use word::value::{Item, Word};
 
 /// The most words of an item.
@@ -26,74 +27,6 @@ const MAX_WORDS: usize = 16;
 
 /// The most functions that wait for one another, the running one counted.
 const MAX_DEPTH: usize = 1000;
-
-/// Appends the text of a part, which takes its value from the words at an index, and answers the index behind it.
-fn put_part(
-    text: &mut Vec<u8>,
-    part: &Part,
-    words: &[Word],
-    index: usize,
-) -> Result<usize, AllocError>
-    requires { index ≤ length words.now }
-    ensures text { OnOk result (text.new.items ≡ text.old.items ++ part_text part.now (drop index words.now)) }
-    ensures rest { IfOk result (λ next. drop next words.now ≡ part_rest part.now (drop index words.now)) }
-    ensures within { IfOk result (λ next. next ≤ length words.now) }
-{
-    match part {
-        Part::Text(bytes) => {
-            text.extend_from_slice(bytes.bytes())?;
-            Ok(index)
-        }
-        Part::Int => Ok(put_word(text, words, index)?),
-        Part::Bool => Ok(put_word(text, words, index)?),
-    }
-}
-
-/// Appends the text of the word at an index, and answers the index behind it.
-fn put_word(text: &mut Vec<u8>, words: &[Word], index: usize) -> Result<usize, AllocError>
-    requires { index ≤ length words.now }
-    ensures text { OnOk result (text.new.items ≡ text.old.items ++ part_text Part.Int (drop index words.now)) }
-    ensures rest { IfOk result (λ next. drop next words.now ≡ part_rest Part.Int (drop index words.now)) }
-    ensures within { IfOk result (λ next. next ≤ length words.now) }
-{
-    if index >= words.len() {
-        return Ok(index);
-    }
-    append(text, words[index])?;
-    Ok(index + 1)
-}
-
-/// What a print writes of these words.
-pub(crate) fn print(
-    alloc: Global,
-    table: &PrintTable,
-    words: &[Word],
-) -> Result<Vec<u8>, AllocError>
-    ensures { IfOk result (λ text. text.items ≡ printed table.now words.now) }
-{
-    let mut text = Vec::new(alloc);
-    let parts = table.parts();
-    if let Some((first, rest)) = parts.split_first() {
-        let mut index = put_part(&mut text, first, words, 0)?;
-        for part in rest {
-            if table.line() {
-                text.push(b' ')?;
-            }
-            index = put_part(&mut text, part, words, index)?;
-        }
-    }
-    if table.line() {
-        text.push(b'\n')?;
-    }
-    Ok(text)
-}
-
-/// The zero of a shape.
-fn zeros(alloc: Global, kinds: &[Kind]) -> Result<Vec<Word>, AllocError>
-    ensures { IfOk result (λ words. words.items ≡ map zero_word kinds.now) }
-{
-    kinds.iter().map(|kind| zero_of(*kind)).collect(alloc)
-}
 
 /// What a make asks.
 fn make(

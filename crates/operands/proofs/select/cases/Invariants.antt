@@ -1,7 +1,7 @@
 use Rattle.std.proofs.Common.{◌≡◌, ◌≤◌, drop, length}
 use Rattle.bytecode.specs.Machine.{cases_of}
-use Rattle.goroutine_vm_base.proofs.Selects.{prefixed}
-use Rattle.goroutine_vm_base.proofs.select.cases.Given as goal
+use Rattle.operands.proofs.Selects.{prefixed}
+use Rattle.operands.proofs.select.cases.Given as goal
 
 abbrev pub invariant-loop-clause : goal.invariant-loop-clause
 invariant-loop-clause l = record {

@@ -1,6 +1,6 @@
 use Rattle.std.proofs.Common.{◌≡◌, ◌+◌, ◌*◌, ◌≤◌, drop, length}
 use Rattle.bytecode.specs.Effects.{all_clause_kinds}
-use Rattle.goroutine_vm_base.proofs.select.select_width.Given as goal
+use Rattle.operands.proofs.width.select_width.Given as goal
 
 abbrev pub invariant-loop-clause : goal.invariant-loop-clause
 invariant-loop-clause l = record {

@@ -1,6 +1,6 @@
 use Rattle.std.proofs.Common.{◌≡◌, ◌≤◌, ◌++◌, drop, length}
 use Rattle.bytecode.specs.Machine.{printed_rest}
-use Rattle.goroutine_vm_base.proofs.request.print.Given as goal
+use Rattle.operands.proofs.print.print.Given as goal
 
 abbrev pub invariant-loop-part : goal.invariant-loop-part
 invariant-loop-part l = record {

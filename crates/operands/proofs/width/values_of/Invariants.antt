@@ -1,6 +1,6 @@
 use Rattle.std.proofs.Common.{◌≡◌, ◌+◌, ◌≤◌, drop, length}
 use Rattle.bytecode.specs.Effects.{part_kinds}
-use Rattle.goroutine_vm_base.proofs.fetch.values_of.Given as goal
+use Rattle.operands.proofs.width.values_of.Given as goal
 
 abbrev pub invariant-loop-part : goal.invariant-loop-part
 invariant-loop-part l = record {

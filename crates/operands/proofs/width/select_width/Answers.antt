@@ -1,6 +1,6 @@
 use Rattle.std.proofs.Common.{ap, length, arith}
-use Rattle.goroutine_vm_base.proofs.Selects.{few_clauses}
-use Rattle.goroutine_vm_base.proofs.select.select_width.Goals as goal
+use Rattle.operands.proofs.Selects.{few_clauses}
+use Rattle.operands.proofs.width.select_width.Goals as goal
 
 pub overflow_add-width : goal.overflow_add-width
 overflow_add-width c =
