@@ -1,11 +1,11 @@
 -- How many steps a goroutine of verified code makes without a tick, and that it comes to a request.
-use Rattle.std.proofs.Common.{◌≡◌, ℕ, zero, suc, ◌+◌, ◌-◌, ◌<◌, ◌≤◌, ◌^◌, Bool, true, false, cond, List, [], ◌∷◌, Option, Some, None, refl, sym, ap, ◌∙◌, subst, arith}
+use Rattle.std.proofs.Common.{◌≡◌, ℕ, zero, suc, ◌+◌, ◌-◌, ◌<◌, ◌≤◌, Bool, true, false, cond, Some, None, refl, sym, ap, ◌∙◌, subst, arith}
 use Rattle.std.specs.Prelude.{◌==◌, unwrap_or}
 use Rattle.std.specs.Option.{is_some}
 use Rattle.std.proofs.lemmas.Bool.Decides.{nat_tests}
 use Rattle.bytecode.specs.Code.{Code}
 use Rattle.bytecode.specs.Machine.{Frames, code_next, code_kind}
-use Rattle.bytecode.specs.Rules.{IsVerified, IsFrameOf}
+use Rattle.bytecode.specs.Rules.{IsVerified}
 use Rattle.bytecode.specs.Silence.{most_silent}
 use Rattle.bytecode.proofs.Silent.{silent, falls, silent_most}
 use Rattle.bytecode.proofs.Unstuck.{step_keeps, tick_keeps, not_stuck}
@@ -17,9 +17,9 @@ use Rattle.turn_rule.proofs.Stable.{moved_climbs, moved_stays}
 use Rattle.word.specs.Worlds.{rules}
 use Rattle.word.specs.Values.{Request, Panic, Exhausted}
 use Rattle.word.specs.declared.panic.Panic.TheVariants.{SendOnClosed}
-use Rattle.word.specs.Kinds.{Next, Slides, Ticks, Asks, Stuck, Clocked, at, local_of, asks_of, does, local, asks}
+use Rattle.word.specs.Kinds.{Next, Slides, Ticks, Asks, Stuck, Clocked, at, asks_of, local, asks}
 use Rattle.word.proofs.Laws.{laws}
-use Rattle.goroutine_vm.proofs.Turns.{local_is, asks_is, slid_keeps, ticked_keeps}
+use Rattle.goroutine_vm.proofs.Turns.{local_is, asks_is}
 
 module _ (code : Code) (limit : ℕ) (v : IsVerified code) where
   -- what a state of the code does: it asks, or it makes a local step

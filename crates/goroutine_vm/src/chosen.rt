@@ -7,7 +7,7 @@ ghost use Rattle.bytecode.specs.Rules.{IsVerified};
 
 use crate::told::{Told, tell, tell_with_truth};
 use bytecode::{Clause, Code, Kind};
-use goroutine_vm_base::select::clauses_of;
+use operands::width::clauses_of;
 use word::value::Word;
 
 /// An item of a shape and a truth value.

@@ -4,7 +4,7 @@ ghost use Rattle.std.specs.Prelude.{◌≡◌, ◌≤◌, ◌<◌, ◌++◌, ◌
 ghost use Rattle.bytecode.specs.Machine.{fitted as fitted_of};
 
 use bytecode::Kind;
-use goroutine_vm_base::frame::word_at;
+use operands::kinds::word_at;
 use std::marker::Model;
 use word::value::{Item, Word};
 

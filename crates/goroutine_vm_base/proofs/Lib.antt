@@ -1,5 +1,5 @@
 pub mod Calls
 pub mod Fetching
 pub mod Asking
-pub mod Selects
 pub mod Quick
+pub mod Stacks

@@ -1,13 +1,13 @@
 //! The local steps of the instructions.
 
-ghost use Rattle.std.specs.Prelude.{◌≡◌, ◌+◌, ◌-◌, ◌<◌, ◌≤◌, ◌^◌, ◌++◌, ◌∷◌, [], Bool, IfOk, OnErr, OnOk, drop, length, reverse, slice_range, take};
+ghost use Rattle.std.specs.Prelude.{◌≡◌, ◌+◌, ◌-◌, ◌<◌, ◌≤◌, ◌^◌, ◌++◌, ◌∷◌, [], Bool, IfOk, OnErr, OnOk, drop, length, slice_range, take};
 ghost use Rattle.bytecode.specs.Code.{Code as CodeValue};
 ghost use Rattle.bytecode.specs.Effects.{count, operands};
-ghost use Rattle.bytecode.specs.Machine.{Frames, goes_on, goes_to, instr_next, put_at};
-ghost use Rattle.goroutine_vm_base.specs.Steps.{Does, FitsAt, frames_of};
+ghost use Rattle.bytecode.specs.Machine.{Frame as FrameValue, Frames, goes_on, goes_to, instr_next, put_at};
+ghost use Rattle.goroutine_vm_base.specs.Steps.{Does, FitsAt};
 ghost use Rattle.word.specs.Kinds.{Stuck, Ticks};
 
-use crate::callers::Callers;
+use crate::call_stack::CallStack;
 use crate::frame::Frame;
 use crate::outcome::Step;
 use bytecode::{Code, Instr};
@@ -83,6 +83,19 @@ fn pick(
     Ok(())
 }
 
+/// The same word. It is taken by its variant, so that what an operator just wrote in parts is not read as a whole, for which the
+/// processor would wait.
+#[inline(always)]
+fn same(word: Word) -> Word
+    ensures { result ≡ word }
+{
+    match word {
+        Word::Int(number) => Word::Int(number),
+        Word::Bool(truth) => Word::Bool(truth),
+        Word::Chan(chan) => Word::Chan(chan),
+    }
+}
+
 /// Pops the word on the top, which stands at this place, into a local, and goes on.
 pub(crate) fn store_top(frame: &mut Frame, to: usize, at: usize)
     requires place { frame.old.place + 1 < 2 ^ 64 }
@@ -90,7 +103,7 @@ pub(crate) fn store_top(frame: &mut Frame, to: usize, at: usize)
     requires within { to < length frame.old.locals }
     ensures { frame.new ≡ record frame.old { place = frame.old.place + 1; locals = put_at to (drop at frame.old.stack) frame.old.locals; stack = take at frame.old.stack } }
 {
-    frame.locals[to] = frame.stack[at];
+    frame.locals[to] = same(frame.stack[at]);
     frame.stack.truncate(at);
     frame.place += 1;
 }
@@ -146,52 +159,93 @@ pub(crate) fn choose(frame: &mut Frame, to: usize, at: usize) -> Step
     }
 }
 
-/// Enters a function with the words from a place of the stack on, where a tick may be made; or asks to panic.
+/// The last function called calls another with the words from a place of its stack on, where a tick may be made; or asks to panic.
 #[inline(always)]
 pub(crate) fn call(
     alloc: Global,
     code: &Code,
     may: bool,
-    frame: &mut Frame,
-    callers: &mut Callers,
+    frames: &mut CallStack,
     function: u32,
     at: usize,
 ) -> Result<Step, AllocError>
-    requires place { frame.old.place + 1 < 2 ^ 64 }
-    requires at { at ≤ length frame.old.stack }
-    ensures ok { IfOk result (λ step. Does may (frames_of frame.old callers.old) (instr_next code.now frame.old (reverse callers.old) (take at frame.old.stack) (drop at frame.old.stack) (Instr.Call function)) step (frames_of frame.new callers.new)) }
-    ensures err { OnErr result (frames_of frame.new callers.new ≡ frames_of frame.old callers.old) }
+    requires some { 0 < length frames.old }
+    requires at { (c : FrameValue) → (cs : Frames) → frames.old ≡ c ∷ cs → at ≤ length c.stack }
+    requires place { (c : FrameValue) → (cs : Frames) → frames.old ≡ c ∷ cs → c.place + 1 < 2 ^ 64 }
+    ensures ok { IfOk result (λ step. (c : FrameValue) → (cs : Frames) → frames.old ≡ c ∷ cs → Does may frames.old (instr_next code.now c cs (take at c.stack) (drop at c.stack) (Instr.Call function)) step frames.new) }
+    ensures err { OnErr result (frames.new ≡ frames.old) }
+    ensures some { 0 < length frames.new }
 {
     let functions = code.functions();
     if function as usize >= functions.len() {
         return Ok(Step::Stuck);
     }
-    if callers.len() + 1 >= MAX_DEPTH {
+    if frames.len() >= MAX_DEPTH {
         return Ok(Step::Asking);
     }
     if !may {
         return Ok(Step::Ticked);
     }
     let locals = functions[function as usize].locals();
-    callers.enter(alloc, frame, locals, function as usize, at)?;
+    frames.enter(alloc, locals, function as usize, at)?;
     Ok(Step::Ticked)
 }
 
-/// Returns to the caller with the words on the stack; or asks to end.
+/// The last function called returns to its caller with the words on its stack; or asks to end.
 #[inline(always)]
-pub(crate) fn leave(frame: &mut Frame, callers: &mut Callers, at: usize) -> Result<Step, AllocError>
-    requires at { at ≤ length frame.old.stack }
-    ensures ok { IfOk result (λ step. (may : Bool) → (code : CodeValue) → Does may (frames_of frame.old callers.old) (instr_next code frame.old (reverse callers.old) (take at frame.old.stack) (drop at frame.old.stack) Instr.Return) step (frames_of frame.new callers.new)) }
-    ensures err { OnErr result (frames_of frame.new callers.new ≡ frames_of frame.old callers.old) }
+pub(crate) fn leave(frames: &mut CallStack, at: usize) -> Result<Step, AllocError>
+    requires some { 0 < length frames.old }
+    requires at { (c : FrameValue) → (cs : Frames) → frames.old ≡ c ∷ cs → at ≤ length c.stack }
+    ensures ok { IfOk result (λ step. (may : Bool) → (code : CodeValue) → (c : FrameValue) → (cs : Frames) → frames.old ≡ c ∷ cs → Does may frames.old (instr_next code c cs (take at c.stack) (drop at c.stack) Instr.Return) step frames.new) }
+    ensures err { OnErr result (frames.new ≡ frames.old) }
+    ensures some { 0 < length frames.new }
 {
     if at > 0 {
         return Ok(Step::Stuck);
     }
-    if callers.len() == 0 {
+    if frames.len() == 1 {
         return Ok(Step::Asking);
     }
-    callers.resume(frame)?;
+    frames.resume()?;
     Ok(Step::Slid)
+}
+
+/// The running function calls another with the words from a place of its stack on.
+fn call_from(
+    alloc: Global,
+    code: &Code,
+    may: bool,
+    frame: &mut Frame,
+    callers: &mut CallStack,
+    function: u32,
+    at: usize,
+) -> Result<Step, AllocError>
+    requires place { frame.old.place + 1 < 2 ^ 64 }
+    requires at { at ≤ length frame.old.stack }
+    ensures ok { IfOk result (λ step. Does may (frame.old ∷ callers.old) (instr_next code.now frame.old callers.old (take at frame.old.stack) (drop at frame.old.stack) (Instr.Call function)) step (frame.new ∷ callers.new)) }
+    ensures err { OnErr result ((frame.new ≡ frame.old) × (callers.new ≡ callers.old)) }
+{
+    callers.park(alloc, frame)?;
+    let done = call(alloc, code, may, callers, function, at);
+    callers.unpark(frame);
+    done
+}
+
+/// The running function returns with the words on its stack.
+fn leave_from(
+    alloc: Global,
+    frame: &mut Frame,
+    callers: &mut CallStack,
+    at: usize,
+) -> Result<Step, AllocError>
+    requires at { at ≤ length frame.old.stack }
+    ensures ok { IfOk result (λ step. (may : Bool) → (code : CodeValue) → Does may (frame.old ∷ callers.old) (instr_next code frame.old callers.old (take at frame.old.stack) (drop at frame.old.stack) Instr.Return) step (frame.new ∷ callers.new)) }
+    ensures err { OnErr result ((frame.new ≡ frame.old) × (callers.new ≡ callers.old)) }
+{
+    callers.park(alloc, frame)?;
+    let done = leave(callers, at);
+    callers.unpark(frame);
+    done
 }
 
 /// One instruction, whose operands begin at a place of the stack.
@@ -200,16 +254,16 @@ pub(crate) fn instr(
     code: &Code,
     may: bool,
     frame: &mut Frame,
-    callers: &mut Callers,
+    callers: &mut CallStack,
     i: Instr,
     at: usize,
 ) -> Result<Step, AllocError>
     requires place { frame.old.place + 1 < 2 ^ 64 }
     requires at { FitsAt i at (length frame.old.stack) }
     requires below { at ≤ length frame.old.stack }
-    requires sound { instr_next code.now frame.old (reverse callers.old) (take at frame.old.stack) (drop at frame.old.stack) i ≡ Stuck → ⊥ }
-    ensures ok { IfOk result (λ step. Does may (frames_of frame.old callers.old) (instr_next code.now frame.old (reverse callers.old) (take at frame.old.stack) (drop at frame.old.stack) i) step (frames_of frame.new callers.new)) }
-    ensures err { OnErr result (frames_of frame.new callers.new ≡ frames_of frame.old callers.old) }
+    requires sound { instr_next code.now frame.old callers.old (take at frame.old.stack) (drop at frame.old.stack) i ≡ Stuck → ⊥ }
+    ensures ok { IfOk result (λ step. Does may (frame.old ∷ callers.old) (instr_next code.now frame.old callers.old (take at frame.old.stack) (drop at frame.old.stack) i) step (frame.new ∷ callers.new)) }
+    ensures err { OnErr result ((frame.new ≡ frame.old) × (callers.new ≡ callers.old)) }
 {
     match i {
         Instr::Int(number) => {
@@ -263,8 +317,8 @@ pub(crate) fn instr(
         }
         Instr::Unless(to) => Ok(choose(frame, to as usize, at)),
         Instr::Loop(to) => Ok(tick_to(may, frame, to as usize, at)),
-        Instr::Call(function) => Ok(call(alloc, code, may, frame, callers, function, at)?),
-        Instr::Return => Ok(leave(frame, callers, at)?),
+        Instr::Call(function) => Ok(call_from(alloc, code, may, frame, callers, function, at)?),
+        Instr::Return => Ok(leave_from(alloc, frame, callers, at)?),
         Instr::Make(_)
         | Instr::Go(_)
         | Instr::Send(_)

@@ -1,7 +1,7 @@
 //! The functions of a goroutine that run, and what single instructions do to them.
 #![tactic(auto)]
 
-pub mod callers;
+pub mod call_stack;
 pub mod fetch;
 pub mod frame;
 mod instrs;

@@ -1,24 +1,25 @@
 //! What a goroutine asks.
 
-ghost use Rattle.std.specs.Prelude.{◌≡◌, ◌+◌, ◌++◌, ◌<◌, ◌≤◌, IfOk, List, OnOk, drop, length, map, reverse, take};
+ghost use Rattle.std.specs.Prelude.{◌≡◌, ◌+◌, ◌∷◌, ◌≤◌, IfOk, List, drop, length, take};
 ghost use Rattle.bytecode.specs.Code.{Code as CodeValue};
 ghost use Rattle.bytecode.specs.Effects.{count, operands};
-ghost use Rattle.bytecode.specs.Machine.{Frame as FrameValue, Frames, code_next, instr_next, part_rest, part_text, printed, zero_of as zero_word};
+ghost use Rattle.bytecode.specs.Machine.{Frame as FrameValue, Frames, code_next, instr_next};
 ghost use Rattle.bytecode.specs.Rules.{IsVerified};
-ghost use Rattle.goroutine_vm_base.specs.Steps.{AsksFor, FitsAt, IsChannelOn, frames_of, stops};
+ghost use Rattle.goroutine_vm_base.specs.Steps.{AsksFor, FitsAt, IsChannelOn, stops};
 ghost use Rattle.word.specs.declared.value.Word.{Word as WordValue};
 ghost use Rattle.word.specs.Kinds.{Stuck};
 
-use crate::callers::Callers;
+use crate::call_stack::CallStack;
 use crate::fetch::fetch;
-use crate::frame::{Frame, zero_of};
+use crate::frame::Frame;
 use crate::select::select;
-use bytecode::{Code, Instr, Kind, Part, PrintTable};
+use bytecode::{Code, Instr};
+use operands::kinds::zeros;
+use operands::print::print;
 use std::alloc::{AllocError, Global};
 use word::apply::{Op, checked_apply};
 use word::panic::Panic;
 use word::request::Request;
-use word::text::append;
 use word::value::{Item, Word};
 
 /// The most words of an item.
@@ -26,74 +27,6 @@ const MAX_WORDS: usize = 16;
 
 /// The most functions that wait for one another, the running one counted.
 const MAX_DEPTH: usize = 1000;
-
-/// Appends the text of a part, which takes its value from the words at an index, and answers the index behind it.
-fn put_part(
-    text: &mut Vec<u8>,
-    part: &Part,
-    words: &[Word],
-    index: usize,
-) -> Result<usize, AllocError>
-    requires { index ≤ length words.now }
-    ensures text { OnOk result (text.new.items ≡ text.old.items ++ part_text part.now (drop index words.now)) }
-    ensures rest { IfOk result (λ next. drop next words.now ≡ part_rest part.now (drop index words.now)) }
-    ensures within { IfOk result (λ next. next ≤ length words.now) }
-{
-    match part {
-        Part::Text(bytes) => {
-            text.extend_from_slice(bytes.bytes())?;
-            Ok(index)
-        }
-        Part::Int => Ok(put_word(text, words, index)?),
-        Part::Bool => Ok(put_word(text, words, index)?),
-    }
-}
-
-/// Appends the text of the word at an index, and answers the index behind it.
-fn put_word(text: &mut Vec<u8>, words: &[Word], index: usize) -> Result<usize, AllocError>
-    requires { index ≤ length words.now }
-    ensures text { OnOk result (text.new.items ≡ text.old.items ++ part_text Part.Int (drop index words.now)) }
-    ensures rest { IfOk result (λ next. drop next words.now ≡ part_rest Part.Int (drop index words.now)) }
-    ensures within { IfOk result (λ next. next ≤ length words.now) }
-{
-    if index >= words.len() {
-        return Ok(index);
-    }
-    append(text, words[index])?;
-    Ok(index + 1)
-}
-
-/// What a print writes of these words.
-pub(crate) fn print(
-    alloc: Global,
-    table: &PrintTable,
-    words: &[Word],
-) -> Result<Vec<u8>, AllocError>
-    ensures { IfOk result (λ text. text.items ≡ printed table.now words.now) }
-{
-    let mut text = Vec::new(alloc);
-    let parts = table.parts();
-    if let Some((first, rest)) = parts.split_first() {
-        let mut index = put_part(&mut text, first, words, 0)?;
-        for part in rest {
-            if table.line() {
-                text.push(b' ')?;
-            }
-            index = put_part(&mut text, part, words, index)?;
-        }
-    }
-    if table.line() {
-        text.push(b'\n')?;
-    }
-    Ok(text)
-}
-
-/// The zero of a shape.
-fn zeros(alloc: Global, kinds: &[Kind]) -> Result<Vec<Word>, AllocError>
-    ensures { IfOk result (λ words. words.items ≡ map zero_word kinds.now) }
-{
-    kinds.iter().map(|kind| zero_of(*kind)).collect(alloc)
-}
 
 /// What a make asks.
 fn make(
@@ -158,14 +91,14 @@ fn ask(
     alloc: Global,
     code: &Code,
     frame: &Frame,
-    callers: &Callers,
+    callers: &CallStack,
     i: Instr,
     at: usize,
 ) -> Result<Option<Request>, AllocError>
     requires at { FitsAt i at (length frame.now.stack) }
     requires below { at ≤ length frame.now.stack }
     requires verified { IsVerified code.now }
-    ensures { IfOk result (λ o. AsksFor (instr_next code.now frame.now (reverse callers.now) (take at frame.now.stack) (drop at frame.now.stack) i) o) }
+    ensures { IfOk result (λ o. AsksFor (instr_next code.now frame.now callers.now (take at frame.now.stack) (drop at frame.now.stack) i) o) }
 {
     match i {
         Instr::Apply(op) => Ok(panic_of(frame, op, at)),
@@ -240,10 +173,10 @@ fn too_deep(code: &Code, depth: usize, function: u32) -> Option<Request>
 
 /// Whether an instruction of verified code asks, whose operands begin at a place of the stack; at the limit also whether it
 /// ticks.
-fn asks(at_limit: bool, frame: &Frame, callers: &Callers, i: Instr, at: usize) -> bool
+fn asks(at_limit: bool, frame: &Frame, callers: &CallStack, i: Instr, at: usize) -> bool
     requires at { FitsAt i at (length frame.now.stack) }
     requires below { at ≤ length frame.now.stack }
-    ensures { (code : CodeValue) → (instr_next code frame.now (reverse callers.now) (take at frame.now.stack) (drop at frame.now.stack) i ≡ Stuck → ⊥) → result ≡ stops at_limit (instr_next code frame.now (reverse callers.now) (take at frame.now.stack) (drop at frame.now.stack) i) }
+    ensures { (code : CodeValue) → (instr_next code frame.now callers.now (take at frame.now.stack) (drop at frame.now.stack) i ≡ Stuck → ⊥) → result ≡ stops at_limit (instr_next code frame.now callers.now (take at frame.now.stack) (drop at frame.now.stack) i) }
 {
     match i {
         Instr::Apply(op) => panic_of(frame, op, at).is_some(),
@@ -277,10 +210,10 @@ pub fn request(
     alloc: Global,
     code: &Code,
     frame: &Frame,
-    callers: &Callers,
+    callers: &CallStack,
 ) -> Result<Option<Request>, AllocError>
     requires { IsVerified code.now }
-    ensures { IfOk result (λ o. AsksFor (code_next code.now (frames_of frame.now callers.now)) o) }
+    ensures { IfOk result (λ o. AsksFor (code_next code.now (frame.now ∷ callers.now)) o) }
 {
     let have = frame.stack.len();
     match fetch(code, frame) {
@@ -295,10 +228,10 @@ pub fn request(
 }
 
 /// Whether frames of verified code ask that were told nothing; at the limit also whether they tick.
-pub fn is_asking(at_limit: bool, code: &Code, frame: &Frame, callers: &Callers) -> bool
+pub fn is_asking(at_limit: bool, code: &Code, frame: &Frame, callers: &CallStack) -> bool
     requires verified { IsVerified code.now }
-    requires sound { code_next code.now (frames_of frame.now callers.now) ≡ Stuck → ⊥ }
-    ensures { result ≡ stops at_limit (code_next code.now (frames_of frame.now callers.now)) }
+    requires sound { code_next code.now (frame.now ∷ callers.now) ≡ Stuck → ⊥ }
+    ensures { result ≡ stops at_limit (code_next code.now (frame.now ∷ callers.now)) }
 {
     let have = frame.stack.len();
     match fetch(code, frame) {

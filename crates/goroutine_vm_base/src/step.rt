@@ -1,12 +1,12 @@
 //! One step of the function that runs.
 
-ghost use Rattle.std.specs.Prelude.{◌≡◌, IfOk, OnErr};
+ghost use Rattle.std.specs.Prelude.{◌≡◌, ◌∷◌, IfOk, OnErr};
 ghost use Rattle.bytecode.specs.Machine.{code_next};
 ghost use Rattle.bytecode.specs.Rules.{IsVerified};
-ghost use Rattle.goroutine_vm_base.specs.Steps.{Does, frames_of};
+ghost use Rattle.goroutine_vm_base.specs.Steps.{Does};
 ghost use Rattle.word.specs.Kinds.{Stuck};
 
-use crate::callers::Callers;
+use crate::call_stack::CallStack;
 use crate::fetch::fetch;
 use crate::frame::Frame;
 use crate::instrs::instr;
@@ -20,12 +20,12 @@ pub fn step(
     code: &Code,
     may: bool,
     frame: &mut Frame,
-    callers: &mut Callers,
+    callers: &mut CallStack,
 ) -> Result<Step, AllocError>
     requires verified { IsVerified code.now }
-    requires sound { code_next code.now (frames_of frame.old callers.old) ≡ Stuck → ⊥ }
-    ensures ok { IfOk result (λ step. Does may (frames_of frame.old callers.old) (code_next code.now (frames_of frame.old callers.old)) step (frames_of frame.new callers.new)) }
-    ensures err { OnErr result (frames_of frame.new callers.new ≡ frames_of frame.old callers.old) }
+    requires sound { code_next code.now (frame.old ∷ callers.old) ≡ Stuck → ⊥ }
+    ensures ok { IfOk result (λ step. Does may (frame.old ∷ callers.old) (code_next code.now (frame.old ∷ callers.old)) step (frame.new ∷ callers.new)) }
+    ensures err { OnErr result ((frame.new ≡ frame.old) × (callers.new ≡ callers.old)) }
 {
     let have = frame.stack.len();
     match fetch(code, frame) {

@@ -1,4 +1,4 @@
-use Rattle.std.proofs.Common.{◌≡◌, ◌∙◌, ◌++◌, ◌∷◌, [], ap, length, arith, rules, length-append}
+use Rattle.std.proofs.Common.{◌∙◌, ap, length, arith, length-append}
 use Rattle.word.specs.declared.value.Word.{Word}
 use Rattle.goroutine_vm_base.proofs.Calls.{fitted_more}
 use Rattle.goroutine_vm.proofs.told.tell.Goals as goal

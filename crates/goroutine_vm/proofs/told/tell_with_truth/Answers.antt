@@ -1,7 +1,6 @@
-use Rattle.std.proofs.Common.{◌≡◌, ◌∙◌, ◌++◌, ◌∷◌, [], ◌<◌, List, ap, sym, length, arith, rules}
+use Rattle.std.proofs.Common.{◌∙◌, ◌++◌, ◌∷◌, [], List, ap, sym, length, arith}
 use Rattle.bytecode.specs.declared.instr.Kind.TheVariants as kinds
 use Rattle.word.specs.declared.value.Word.{Word}
-use Rattle.goroutine_vm_base.specs.Steps.{word_for}
 use Rattle.goroutine_vm.proofs.Quiet.{fitted_length, fitted_last}
 use Rattle.bytecode.specs.Machine.{fitted}
 use Rattle.goroutine_vm.proofs.told.tell_with_truth.Goals as goal

@@ -1,6 +1,10 @@
-use Rattle.std.proofs.Common.{refl}
+use Rattle.std.proofs.Common.{◌≡◌, refl, subst, sym, get_or}
+use Rattle.word.specs.declared.value.Word.{Word}
 use Rattle.goroutine_vm_base.proofs.Quick.{stored_one}
 use Rattle.goroutine_vm_base.proofs.instrs.store_top.Goals as goal
 
 pub returns : goal.returns
-returns c = stored_one c.frame.inside.function c.frame.inside.place c.frame.inside.locals.items c.frame.inside.stack.items _ _ c.args.frame.now c.args.to c.args.at c.index.result.now c.frame.view_is c.requires.at c.requires.within c.index.ensures refl c.truncate.ensures.items
+returns c =
+    let st = c.frame.inside.stack.items in
+    let word : c.same.result ≡ get_or st c.args.at c.same.result = subst (λ (w : Word). w ≡ get_or st c.args.at w) (sym c.same.ensures) c.index.ensures in
+    stored_one c.frame.inside.function c.frame.inside.place c.frame.inside.locals.items st _ _ c.args.frame.now c.args.to c.args.at c.same.result c.frame.view_is c.requires.at c.requires.within word refl c.truncate.ensures.items

@@ -1,4 +1,4 @@
-use Rattle.std.proofs.Common.{◌≡◌, ◌∙◌, ◌<◌, ◌-◌, reverse, List, length, take, drop, Some, ap, sym, rules, slice_get}
+use Rattle.std.proofs.Common.{◌≡◌, ◌∙◌, ◌<◌, ◌-◌, List, length, take, drop, Some, ap, sym, rules, slice_get}
 use Rattle.std.proofs.lemmas.List.{take_rest}
 use Rattle.std.proofs.lemmas.Option.{slice_get-get_or}
 use Rattle.bytecode.specs.Code.{PrintTable}
@@ -7,16 +7,16 @@ use Rattle.goroutine_vm_base.proofs.Asking.{go_for, print_for}
 use Rattle.goroutine_vm_base.proofs.request.ask.Goals as goal
 
 pub returns-in-Apply : goal.returns-in-Apply
-returns-in-Apply c = rw c.in-Apply.is (c.panic_of.ensures c.args.code.now (reverse c.args.callers.now))
+returns-in-Apply c = rw c.in-Apply.is (c.panic_of.ensures c.args.code.now c.args.callers.now)
 
 pub returns-in_ok-make-in-Make : goal.returns-in_ok-make-in-Make
-returns-in_ok-make-in-Make c = rw c.in-Make.is (c.in_ok-make-in-Make.ensures (reverse c.args.callers.now))
+returns-in_ok-make-in-Make c = rw c.in-Make.is (c.in_ok-make-in-Make.ensures c.args.callers.now)
 
 pub returns-in-Send : goal.returns-in-Send
-returns-in-Send c = rw c.in-Send.is (c.send.ensures c.args.code.now (reverse c.args.callers.now))
+returns-in-Send c = rw c.in-Send.is (c.send.ensures c.args.code.now c.args.callers.now)
 
 pub returns-in_ok-select-in-Select : goal.returns-in_ok-select-in-Select
-returns-in_ok-select-in-Select c = rw c.in-Select.is (c.in_ok-select-in-Select.ensures (reverse c.args.callers.now))
+returns-in_ok-select-in-Select c = rw c.in-Select.is (c.in_ok-select-in-Select.ensures c.args.callers.now)
 
 pub returns-in_ok-args-in-Go : goal.returns-in_ok-args-in-Go
 returns-in_ok-args-in-Go c =

@@ -1,4 +1,4 @@
-use Rattle.std.proofs.Common.{◌≡◌, ◌+◌, ◌≤◌, None, Some, arith}
+use Rattle.std.proofs.Common.{◌≡◌, Some, arith}
 use Rattle.goroutine_vm.specs.Advance.{Bursts, Goes}
 use Rattle.goroutine_vm.proofs.Quanta.{few_stop}
 use Rattle.goroutine_vm.proofs.Turns.{goes_more, steps_add, stop_advances}

@@ -1,6 +1,6 @@
-use Rattle.std.proofs.Common.{◌∙◌, ap, sym, subst}
-use Rattle.bytecode.specs.Machine.{Frames, frames_told}
-use Rattle.bytecode.specs.Rules.{IsFrameOf, IsVerified}
+use Rattle.std.proofs.Common.{sym, subst}
+use Rattle.bytecode.specs.Machine.{Frames}
+use Rattle.bytecode.specs.Rules.{IsFrameOf}
 use Rattle.bytecode.proofs.Unstuck.{words_keep}
 use Rattle.word.specs.Kinds.{Clocked}
 use Rattle.goroutine_vm.proofs.state.GoState.go_on.Goals as goal

@@ -1,4 +1,4 @@
-use Rattle.std.proofs.Common.{◌≡◌, ◌∙◌, ℕ, ◌+◌, ◌≤◌, ap, arith, false, rules, subst, sym}
+use Rattle.std.proofs.Common.{◌≡◌, ◌∙◌, ◌+◌, ◌≤◌, ap, arith, rules, subst, sym}
 use Rattle.bytecode.specs.Machine.{Frames}
 use Rattle.bytecode.specs.Rules.{IsVerified}
 use Rattle.goroutine_vm_base.specs.Steps.{Runs}

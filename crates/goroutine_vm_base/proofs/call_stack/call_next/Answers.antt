@@ -1,0 +1,19 @@
+use Rattle.std.proofs.Common.{◌≡◌, ◌+◌, ◌∷◌, ◌++◌, take, drop, ap, ◌∙◌, slice_set}
+use Rattle.bytecode.specs.Machine.{Frame, Frames, begun, goes_on}
+use Rattle.goroutine_vm_base.proofs.Stacks.{both_put, front_at}
+use Rattle.goroutine_vm_base.proofs.call_stack.call_next.Goals as goal
+
+pub returns-clause-ok : goal.returns-clause-ok
+returns-clause-ok c = λ x here.
+    let xs = c.args.frames.now in
+    let p = c.args.place in
+    let front = c.split_at_mut-waiting.ensures.front in
+    let back = c.split_at_mut-waiting.ensures.back in
+    let is = front_at xs c.split_at_mut-waiting.result.0.now p x c.index-waiting-place.result front here in
+    let waits : c.enter.new.self ≡ goes_on x (take c.args.at x.stack) = c.in_ok-enter.ensures.waiting ∙ ap (λ (y : Frame). goes_on y (take c.args.at y.stack)) is in
+    let called : c.enter.new.called ≡ begun c.args.locals.now c.args.function (drop c.args.at x.stack) = c.in_ok-enter.ensures.called ∙ ap (λ (y : Frame). begun c.args.locals.now c.args.function (drop c.args.at y.stack)) is in
+    ap (λ (l : Frames). slice_set l p c.enter.new.self ++ slice_set c.split_at_mut-waiting.result.1.now 0 c.enter.new.called) front
+    ∙ ap (λ (l : Frames). slice_set (take (p + 1) xs) p c.enter.new.self ++ slice_set l 0 c.enter.new.called) back
+    ∙ both_put xs p c.enter.new.self c.enter.new.called c.requires.within
+    ∙ ap (λ (y : Frame). take p xs ++ y ∷ (c.enter.new.called ∷ drop (p + 2) xs)) waits
+    ∙ ap (λ (y : Frame). take p xs ++ goes_on x (take c.args.at x.stack) ∷ (y ∷ drop (p + 2) xs)) called

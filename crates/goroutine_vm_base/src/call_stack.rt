@@ -1,0 +1,168 @@
+//! The functions that were called and have not returned.
+
+ghost use Rattle.std.specs.Prelude.{◌≡◌, ◌+◌, ◌<◌, ◌≤◌, ◌^◌, ◌++◌, ◌∷◌, [], OnErr, OnOk, Some, drop, length, reverse, slice_get, take};
+ghost use Rattle.bytecode.specs.Machine.{Frame as FrameValue, Frames, begun, goes_on};
+ghost use Rattle.goroutine_vm_base.specs.Steps.{Resumes};
+
+use crate::frame::{Frame, empty};
+use bytecode::Kind;
+use std::alloc::{AllocError, Global};
+use std::marker::Model;
+use std::mem::swap;
+
+/// Functions of which each waits for the one called after it; contracts see the last one called first. Frames are kept for later
+/// calls, which no contract sees.
+#[derive(Debug, Drop)]
+pub struct CallStack {
+    pub(crate) frames: Vec<Frame>,
+    pub(crate) depth: usize,
+}
+
+impl Model for CallStack {
+    ghost use Rattle.std.specs.Prelude.{◌≤◌, length, reverse, take};
+    ghost use Rattle.bytecode.specs.Machine.{Frames};
+
+    ghost Value = { Frames };
+
+    ghost view = { λ s. reverse (take s.depth s.frames.items) };
+
+    ghost invariant = { λ s. s.depth ≤ length s.frames.items };
+}
+
+impl CallStack {
+    /// These, the last one called last, and none that are kept.
+    pub fn of(frames: Vec<Frame>) -> CallStack
+        ensures { result ≡ reverse frames.items }
+    {
+        let depth = frames.len();
+        CallStack { frames, depth }
+    }
+
+    /// How many there are.
+    pub fn len(&self) -> usize
+        ensures len { result ≡ length self.now }
+        ensures within { result + 1 < 2 ^ 64 }
+    {
+        self.depth
+    }
+
+    /// The frames, the last one called last.
+    pub fn as_slice(&self) -> &[Frame]
+        ensures { reverse result.now ≡ self.now }
+    {
+        &self.frames[..self.depth]
+    }
+
+    /// Puts the function that runs before those that wait.
+    pub(crate) fn park(&mut self, alloc: Global, frame: &mut Frame) -> Result<(), AllocError>
+        ensures ok { OnOk result (self.new ≡ frame.old ∷ self.old) }
+        ensures err { OnErr result ((frame.new ≡ frame.old) × (self.new ≡ self.old)) }
+    {
+        keep_one(alloc, &mut self.frames, self.depth)?;
+        swap(frame, &mut self.frames[self.depth]);
+        self.depth += 1;
+        Ok(())
+    }
+
+    /// Takes the last one called out of these.
+    pub(crate) fn unpark(&mut self, frame: &mut Frame)
+        requires { 0 < length self.old }
+        ensures { self.old ≡ frame.new ∷ self.new }
+    {
+        self.depth -= 1;
+        swap(frame, &mut self.frames[self.depth]);
+    }
+
+    /// The last one called.
+    pub(crate) fn last(&self) -> &Frame
+        requires { 0 < length self.now }
+        ensures { (c : FrameValue) → (cs : Frames) → self.now ≡ c ∷ cs → result.now ≡ c }
+    {
+        &self.frames[self.depth - 1]
+    }
+
+    /// The last one called calls another with the words from a place of its stack on, and waits behind the call.
+    #[inline(always)]
+    pub(crate) fn enter(
+        &mut self,
+        alloc: Global,
+        locals: &[Kind],
+        function: usize,
+        at: usize,
+    ) -> Result<(), AllocError>
+        requires some { 0 < length self.old }
+        requires at { (c : FrameValue) → (cs : Frames) → self.old ≡ c ∷ cs → at ≤ length c.stack }
+        requires place { (c : FrameValue) → (cs : Frames) → self.old ≡ c ∷ cs → c.place + 1 < 2 ^ 64 }
+        ensures ok { OnOk result ((c : FrameValue) → (cs : Frames) → self.old ≡ c ∷ cs → self.new ≡ begun locals.now function (drop at c.stack) ∷ (goes_on c (take at c.stack) ∷ cs)) }
+        ensures err { OnErr result (self.new ≡ self.old) }
+        ensures some { 0 < length self.new }
+    {
+        keep_one(alloc, &mut self.frames, self.depth)?;
+        call_next(
+            self.frames.as_mut_slice(),
+            self.depth - 1,
+            locals,
+            function,
+            at,
+        )?;
+        self.depth += 1;
+        Ok(())
+    }
+
+    /// The last one called returns to the one before it, with the words of its stack.
+    #[inline(always)]
+    pub(crate) fn resume(&mut self) -> Result<(), AllocError>
+        requires { 1 < length self.old }
+        ensures ok { OnOk result (Resumes self.old self.new) }
+        ensures err { OnErr result (self.new ≡ self.old) }
+    {
+        return_next(self.frames.as_mut_slice(), self.depth - 2)?;
+        self.depth -= 1;
+        Ok(())
+    }
+}
+
+/// Makes sure that a frame is kept behind so many.
+fn keep_one(alloc: Global, frames: &mut Vec<Frame>, depth: usize) -> Result<(), AllocError>
+    requires { depth ≤ length frames.old.items }
+    ensures kept { OnOk result (depth < length frames.new.items) }
+    ensures same { take depth frames.new.items ≡ take depth frames.old.items }
+    ensures len { depth ≤ length frames.new.items }
+{
+    if depth == frames.len() {
+        frames.push(empty(alloc)?)?;
+    }
+    Ok(())
+}
+
+/// The function at a place of these calls the one behind it with the words from a place of its stack on, and waits behind the call.
+fn call_next(
+    frames: &mut [Frame],
+    place: usize,
+    locals: &[Kind],
+    function: usize,
+    at: usize,
+) -> Result<(), AllocError>
+    requires within { place + 1 < length frames.old }
+    requires at { (c : FrameValue) → slice_get frames.old place ≡ Some c → at ≤ length c.stack }
+    requires place { (c : FrameValue) → slice_get frames.old place ≡ Some c → c.place + 1 < 2 ^ 64 }
+    ensures ok { OnOk result ((c : FrameValue) → slice_get frames.old place ≡ Some c → frames.new ≡ take place frames.old ++ goes_on c (take at c.stack) ∷ (begun locals.now function (drop at c.stack) ∷ drop (place + 2) frames.old)) }
+    ensures err { OnErr result (take (place + 1) frames.new ≡ take (place + 1) frames.old) }
+    ensures len { length frames.new ≡ length frames.old }
+{
+    let (waiting, called) = frames.split_at_mut(place + 1);
+    waiting[place].enter(&mut called[0], locals, function, at)?;
+    Ok(())
+}
+
+/// The function at a place of these takes the words of the stack of the one behind it.
+fn return_next(frames: &mut [Frame], place: usize) -> Result<(), AllocError>
+    requires within { place + 1 < length frames.old }
+    ensures ok { OnOk result ((c : FrameValue) → (d : FrameValue) → slice_get frames.old place ≡ Some c → slice_get frames.old (place + 1) ≡ Some d → take (place + 1) frames.new ≡ take place frames.old ++ record c { stack = c.stack ++ d.stack } ∷ []) }
+    ensures err { OnErr result (frames.new ≡ frames.old) }
+    ensures len { length frames.new ≡ length frames.old }
+{
+    let (waiting, ended) = frames.split_at_mut(place + 1);
+    waiting[place].take_results(&ended[0])?;
+    Ok(())
+}

@@ -1,0 +1,7 @@
+//! What the machine's instructions take and make of words, whatever frames they stand in.
+#![tactic(auto)]
+
+pub mod kinds;
+pub mod print;
+pub mod select;
+pub mod width;
