@@ -1,6 +1,7 @@
 //! Right sides of assignments, and the operands and arguments of calls, sends and receives.
 
-ghost use Rattle.std.specs.Prelude.{◌≡◌, ◌+◌, Some, IfOk, map, option_map, sum_by, vec_len};
+ghost use Rattle.std.specs.Prelude.{◌≡◌, ◌+◌, ◌<◌, Some, None, IfErr, IfOk, map, option_map, sum_by, vec_len};
+ghost use Rattle.go_text.specs.declared.fault.Fault.TheVariants as faults;
 ghost use Rattle.syntax.specs.Tree.{Length, Capacity, Call, Receive};
 ghost use Rattle.syntax.specs.Measures.{Entries, if_any, expression_size, arguments_size, operation_size, right_size};
 ghost use Rattle.syntax.specs.View.{expression_of, arguments_of, operation_of, right_of};
@@ -96,6 +97,7 @@ pub fn received<'a>(
 ) -> Result<Found<'a>, Fault>
     ensures value { Gives (λ x. (expression_of x.expression, ahead x.rest)) result (received literals MAX_ENTRIES room (ahead cursor.entry)) }
     ensures nodes { IfOk result (λ x. vec_len spans.new ≡ vec_len spans.old + expression_size (expression_of x.expression)) }
+    ensures place { room < 1 → IfErr result (λ fault. fault ≡ faults.TooDeep (record { span = arrow; position = None })) }
 {
     if room < 1 {
         return Err(Fault::TooDeep(Place::from(arrow)));
