@@ -1,6 +1,6 @@
 use Rattle.std.proofs.Common.{◌∙◌, ap, length, arith, length-append}
 use Rattle.word.specs.declared.value.Word.{Word}
-use Rattle.goroutine_vm_base.proofs.Calls.{fitted_more}
+use Rattle.operands.proofs.Fitting.{fitted_more}
 use Rattle.goroutine_vm.proofs.told.tell.Goals as goal
 
 pub loop-index-preserved : goal.loop-index-preserved
