@@ -1,8 +1,11 @@
 //! The program: its command line, its file, and the two standard streams.
 #![tactic(auto)]
 
-ghost use Rattle.std.specs.Prelude.{◌≡◌, ◌≢◌, ◌⊎◌, ◌↔◌, IsErr, IfOk};
+ghost use Rattle.std.specs.Prelude.{◌≡◌, ◌≢◌, ◌⊎◌, ◌↔◌, ◌≤◌, IsErr, IsErrOf, IfErr, IfOk};
 ghost use Rattle.clap.specs.Values.{kind_of};
+ghost use Rattle.kendo.specs.Answers.{EndsAs, HasReading};
+ghost use Rattle.kendo_base.specs.Reading.{HasNoReading, IsRefusal, IsWhy, number_of};
+ghost use Rattle.kendo_base.specs.Runs.{IsLimit, IsWorkers};
 
 mod arguments;
 #[cfg(test)]
@@ -150,7 +153,12 @@ fn read(rt: &HostRuntime, alloc: Global, path: &str) -> io::Result<Vec<u8>> {
 }
 
 /// Lists the code of the text on standard output, behind a buffer.
-fn list(rt: &HostRuntime, alloc: Global, bytes: Vec<u8>) -> Result<End, Fault> {
+fn list(rt: &HostRuntime, alloc: Global, bytes: Vec<u8>) -> Result<End, Fault>
+    ensures listed { IfOk result (λ end. (end ≡ End.Finished) × HasReading bytes.items) }
+    ensures refused { IfErr result (λ fault. IsRefusal fault → HasNoReading bytes.items) }
+    ensures why { IfErr result (λ fault. IsRefusal fault → IsWhy bytes.items fault) }
+    ensures only { IfErr result (λ fault. IsRefusal fault ⊎ ((fault ≡ Fault.Memory) ⊎ (fault ≡ Fault.Write))) }
+{
     let stdout = BufWriter::new(alloc, rt.stdout()).map_err(|_| Fault::Memory)?;
     let mut out = Flagged::new(stdout);
     list_bytes(alloc, bytes, &mut out)?;
@@ -166,7 +174,14 @@ fn run(
     bytes: Vec<u8>,
     workers: u64,
     limit: u64,
-) -> Result<End, Fault> {
+) -> Result<End, Fault>
+    ensures ends { IfOk result (λ end. IsWorkers workers × IsLimit limit × EndsAs bytes.items limit end) }
+    ensures refused { IfErr result (λ fault. IsRefusal fault → HasNoReading bytes.items) }
+    ensures why { IfErr result (λ fault. IsRefusal fault → IsWhy bytes.items fault) }
+    ensures workers { IsErrOf result Fault.BadWorkers → IsWorkers workers → ⊥ }
+    ensures limit { IsErrOf result Fault.BadLimit → IsWorkers workers × (IsLimit limit → ⊥) }
+    ensures only { IfErr result (λ fault. IsRefusal fault ⊎ (13 ≤ number_of fault)) }
+{
     let stdout = BufWriter::new(alloc, rt.stdout()).map_err(|_| Fault::Memory)?;
     let mut out = Flagged::new(stdout);
     let mut trace = Dropped;
@@ -178,7 +193,9 @@ fn run(
 }
 
 /// Writes what is still held back. What is lost there is a refusal of the writer.
-fn flush<W: io::Write + Drop>(out: Flagged<W>) -> Result<(), Fault> {
+fn flush<W: io::Write + Drop>(out: Flagged<W>) -> Result<(), Fault>
+    ensures { IfErr result (λ fault. fault ≡ Fault.Write) }
+{
     match out.into_inner().flush() {
         Ok(()) => Ok(()),
         Err(_) => Err(Fault::Write),

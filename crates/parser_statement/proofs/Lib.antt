@@ -6,3 +6,4 @@ pub mod StatementAgain
 pub mod StatementSound
 pub mod StatementLaws
 pub mod Rooms
+pub mod Spans

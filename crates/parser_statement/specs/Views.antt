@@ -1,6 +1,7 @@
 -- What the parts of a statement in memory are.
-use Rattle.std.specs.Prelude.{ℕ, ◌+◌}
-use Rattle.syntax.specs.Tree.{Statement, Branch, Otherwise}
+use Rattle.std.specs.Prelude.{ℕ, ◌+◌, Bool, true, false, List, [], ◌∷◌, Option, Some, None}
+use Rattle.go_text.specs.declared.place.Span.{Span}
+use Rattle.syntax.specs.Tree.{Statement, Alone, Branch, Otherwise}
 use Rattle.syntax.specs.Measures.{if_any, comm_size, statements_size}
 use Rattle.syntax.specs.View.{OneClause, else_layer, statement_layer, clause_layer, branch_layer}
 use Rattle.syntax.specs.declared.node.IfNode.{IfNode}
@@ -20,3 +21,14 @@ clause_of = fold-ClauseNode Otherwise Statement OneClause Branch else_layer stat
 -- how many nodes of a clause have numbers
 abbrev pub one_clause_size : OneClause → ℕ
 one_clause_size clause = if_any comm_size clause.comm + statements_size clause.body + 1
+
+-- where the last of these spans begins
+abbrev pub last_begin : List Span → Option ℕ
+last_begin [] = None
+last_begin (span ∷ []) = Some span.from
+last_begin (span ∷ (next ∷ rest)) = last_begin (next ∷ rest)
+
+-- the statement is a simple one
+abbrev pub is_alone : Statement → Bool
+is_alone (Alone simple) = true
+is_alone statement = false

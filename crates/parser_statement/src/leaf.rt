@@ -1,6 +1,6 @@
 //! Statements in which no other one stands.
 
-ghost use Rattle.std.specs.Prelude.{◌≡◌, ◌+◌, ◌∷◌, true, IfOk, IfErr, map, option_map, vec_len};
+ghost use Rattle.std.specs.Prelude.{◌≡◌, ◌+◌, ◌∷◌, ◌<◌, true, false, Some, None, IfOk, IfErr, map, option_map, vec_len};
 ghost use Rattle.go_text.specs.declared.fault.Fault.TheVariants as faults;
 ghost use Rattle.scanner.specs.declared.kind.Kind.TheVariants as kinds;
 ghost use Rattle.syntax.specs.Tree.{Alone, Return};
@@ -10,6 +10,7 @@ ghost use Rattle.parser_base.specs.Lexemes.{Mark};
 ghost use Rattle.parser_base.specs.Cursor.{ahead};
 ghost use Rattle.parser_base.specs.Reading.{Gives};
 ghost use Rattle.parser_simple.specs.Reading.{as_one, right, simple};
+ghost use Rattle.parser_statement.specs.Views.{is_alone, last_begin};
 ghost use Rattle.parser_statement.specs.Reading.{is_end, ends_statement, begins_returned, returned_value, returned, started, behind_next, typed, untyped, variables, variable, leaf};
 
 use go_text::{Fault, Place, Span};
@@ -55,6 +56,7 @@ pub fn alone<'a>(
 ) -> Result<(StatementNode, Cursor<'a>), Fault>
     ensures statement { Gives (λ x. (statement_of x.0, ahead x.1)) result (as_one Alone (simple true true MAX_ENTRIES room (ahead cursor.entry))) }
     ensures nodes { IfOk result (λ x. vec_len spans.new ≡ vec_len spans.old + statement_size (statement_of x.0)) }
+    ensures alone { IfOk result (λ x. is_alone (statement_of x.0) ≡ true) }
 {
     let found = simple(alloc, true, true, room, cursor, spans)?;
     Ok((StatementNode::Simple(found.simple), found.rest))
@@ -62,7 +64,7 @@ pub fn alone<'a>(
 
 /// A `go` ("Go statements" of the Go specification), behind its word, which stands at `first`, below which there are at
 /// most so many levels.
-#[tactic(auto, unfolding(crate::specs::Reading::started))]
+#[tactic(auto, using(crate::proofs::Spans::pushed_last), unfolding(crate::specs::Reading::started))]
 pub fn started<'a>(
     alloc: Global,
     room: u32,
@@ -72,6 +74,7 @@ pub fn started<'a>(
 ) -> Result<(StatementNode, Cursor<'a>), Fault>
     ensures statement { Gives (λ x. (statement_of x.0, ahead x.1)) result (started MAX_ENTRIES room (ahead cursor.entry)) }
     ensures nodes { IfOk result (λ x. vec_len spans.new ≡ vec_len spans.old + statement_size (statement_of x.0)) }
+    ensures place { IfOk result (λ _. last_begin spans.new.items ≡ Some first.from) }
 {
     let (function, _, rest) = name_at(alloc, cursor)?;
     let passed = arguments(alloc, true, room, rest, spans)?;
@@ -163,6 +166,7 @@ fn returned<'a>(
 
 /// A `return` ("Return statements" of the Go specification), behind its word, which stands at `first`, below which there
 /// are at most so many levels.
+#[tactic(auto, using(crate::proofs::Spans::pushed_last))]
 pub fn return_statement<'a>(
     alloc: Global,
     room: u32,
@@ -172,6 +176,7 @@ pub fn return_statement<'a>(
 ) -> Result<(StatementNode, Cursor<'a>), Fault>
     ensures statement { Gives (λ x. (statement_of x.0, ahead x.1)) result (as_one Return (returned MAX_ENTRIES room (ahead cursor.entry))) }
     ensures nodes { IfOk result (λ x. vec_len spans.new ≡ vec_len spans.old + statement_size (statement_of x.0)) }
+    ensures place { IfOk result (λ _. last_begin spans.new.items ≡ Some first.from) }
 {
     let found = returned(alloc, room, first, cursor, spans)?;
     spans.push(Span {
@@ -201,7 +206,7 @@ fn initial<'a>(
 }
 
 /// The type of these names, which a `var` at `first` declares, and their values, if there are any.
-#[tactic(auto, unfolding(crate::specs::Reading::typed))]
+#[tactic(auto, using(crate::proofs::Spans::pushed_last), unfolding(crate::specs::Reading::typed))]
 fn typed<'a>(
     alloc: Global,
     room: u32,
@@ -212,6 +217,7 @@ fn typed<'a>(
 ) -> Result<(StatementNode, Cursor<'a>), Fault>
     ensures statement { Gives (λ x. (statement_of x.0, ahead x.1)) result (typed (map name_of names.items) MAX_ENTRIES room (ahead cursor.entry)) }
     ensures nodes { IfOk result (λ x. vec_len spans.new ≡ vec_len spans.old + statement_size (statement_of x.0)) }
+    ensures place { IfOk result (λ _. last_begin spans.new.items ≡ Some first.from) }
 {
     let found = type_at(alloc, room, cursor, spans)?;
     let (right, end, rest) = initial(alloc, room, found.span.to, found.rest, spans)?;
@@ -223,7 +229,7 @@ fn typed<'a>(
 }
 
 /// The values of these names, which a `var` at `first` declares without a type.
-#[tactic(auto, unfolding(crate::specs::Reading::untyped))]
+#[tactic(auto, using(crate::proofs::Spans::pushed_last), unfolding(crate::specs::Reading::untyped))]
 fn untyped<'a>(
     alloc: Global,
     room: u32,
@@ -234,6 +240,7 @@ fn untyped<'a>(
 ) -> Result<(StatementNode, Cursor<'a>), Fault>
     ensures statement { Gives (λ x. (statement_of x.0, ahead x.1)) result (untyped (map name_of names.items) MAX_ENTRIES room (ahead cursor.entry)) }
     ensures nodes { IfOk result (λ x. vec_len spans.new ≡ vec_len spans.old + statement_size (statement_of x.0)) }
+    ensures place { IfOk result (λ _. last_begin spans.new.items ≡ Some first.from) }
 {
     let (_, rest) = cursor.expect(Kind::Assign)?;
     let found = right(alloc, true, room, rest, spans)?;
@@ -255,6 +262,7 @@ fn variables<'a>(
 ) -> Result<(StatementNode, Cursor<'a>), Fault>
     ensures statement { Gives (λ x. (statement_of x.0, ahead x.1)) result (variables MAX_ENTRIES room (ahead cursor.entry)) }
     ensures nodes { IfOk result (λ x. vec_len spans.new ≡ vec_len spans.old + statement_size (statement_of x.0)) }
+    ensures place { IfOk result (λ _. last_begin spans.new.items ≡ Some first.from) }
 {
     let names = names(alloc, Kind::Comma, MAX_ENTRIES as usize, cursor)?;
     if begins_with(Kind::Assign, names.rest) {
@@ -274,6 +282,8 @@ pub fn variable<'a>(
 ) -> Result<(StatementNode, Cursor<'a>), Fault>
     ensures statement { Gives (λ x. (statement_of x.0, ahead x.1)) result (variable MAX_ENTRIES room (ahead cursor.entry)) }
     ensures nodes { IfOk result (λ x. vec_len spans.new ≡ vec_len spans.old + statement_size (statement_of x.0)) }
+    ensures deep { room < 1 → IfErr result (λ fault. fault ≡ faults.TooDeep (record { span = first; position = None })) }
+    ensures place { IfOk result (λ _. last_begin spans.new.items ≡ Some first.from) }
 {
     if room < 1 {
         return Err(Fault::TooDeep(Place::from(first)));
@@ -282,6 +292,7 @@ pub fn variable<'a>(
 }
 
 /// A word that is a statement, which stands at `first`.
+#[tactic(auto, using(crate::proofs::Spans::pushed_last))]
 fn word<'a>(
     statement: StatementNode,
     first: Span,
@@ -290,6 +301,7 @@ fn word<'a>(
 ) -> Result<(StatementNode, Cursor<'a>), Fault>
     ensures statement { IfOk result (λ x. (x.0 ≡ statement) × (x.1 ≡ rest.entry)) }
     ensures nodes { IfOk result (λ x. vec_len spans.new ≡ vec_len spans.old + 1) }
+    ensures place { IfOk result (λ _. last_begin spans.new.items ≡ Some first.from) }
     ensures err { IfErr result (λ e. e ≡ faults.Memory) }
 {
     spans.push(first)?;
@@ -310,6 +322,7 @@ pub fn leaf<'a>(
     requires { ahead cursor ≡ Mark kind ∷ ahead rest }
     ensures statement { Gives (λ x. (statement_of x.0, ahead x.1)) result (leaf MAX_ENTRIES room kind (ahead rest.entry)) }
     ensures nodes { IfOk result (λ x. vec_len spans.new ≡ vec_len spans.old + statement_size (statement_of x.0)) }
+    ensures place { IfOk result (λ x. is_alone (statement_of x.0) ≡ false → last_begin spans.new.items ≡ Some first.from) }
 {
     match kind {
         Kind::Go => started(alloc, room, first, rest, spans),
