@@ -3,7 +3,7 @@
 
 ghost use Rattle.std.specs.Prelude.{◌≡◌, ◌≢◌, ◌⊎◌, ◌↔◌, ◌≤◌, IsErr, IsErrOf, IfErr, IfOk};
 ghost use Rattle.clap.specs.Values.{kind_of};
-ghost use Rattle.kendo.specs.Answers.{EndsAs, HasReading};
+ghost use Rattle.kendo.specs.Answers.{EndsAs, Finds, HasReading, IsStatus, Tells};
 ghost use Rattle.kendo_base.specs.Reading.{HasNoReading, IsRefusal, IsWhy, number_of};
 ghost use Rattle.kendo_base.specs.Runs.{IsLimit, IsWorkers};
 
@@ -76,7 +76,10 @@ fn tell(rt: &HostRuntime, line: &[u8]) {
 }
 
 /// Reads the command line and does what it asks, down to the exit status. A run may wait for its workers, by this leave.
-fn start(rt: &HostRuntime, leave: &impl Wait) -> Result<u8, Memory> {
+#[tactic(auto, using(crate::proofs::Findings::told_status))]
+fn start(rt: &HostRuntime, leave: &impl Wait) -> Result<u8, Memory>
+    ensures { IfOk result IsStatus }
+{
     let alloc = rt.alloc();
     let words: Vec<String> = match env::args(rt) {
         Ok(words) => words.collect(alloc)?,
@@ -98,6 +101,7 @@ fn start(rt: &HostRuntime, leave: &impl Wait) -> Result<u8, Memory> {
 /// Shows help on standard output, or what is wrong with the command line on standard error.
 fn show(rt: &HostRuntime, error: &clap::Error) -> Result<u8, Memory>
     ensures memory { IsErr result ↔ (kind_of error.now ≡ ErrorKind.OutOfMemory) }
+    ensures status { IfOk result IsStatus }
     ensures help { kind_of error.now ≡ ErrorKind.DisplayHelp → IfOk result (λ status. (status ≡ 0) ⊎ (status ≡ WRITE)) }
     ensures mistake { kind_of error.now ≢ ErrorKind.DisplayHelp → kind_of error.now ≢ ErrorKind.DisplayVersion → IfOk result (λ status. status ≡ USAGE) }
 {
@@ -118,12 +122,15 @@ fn show(rt: &HostRuntime, error: &clap::Error) -> Result<u8, Memory>
 }
 
 /// Lists or runs the file, and tells how it ended.
+#[tactic(auto, using(crate::proofs::Findings::told))]
 fn perform(
     rt: &HostRuntime,
     leave: &impl Wait,
     alloc: Global,
     invocation: &Invocation<'_>,
-) -> Result<u8, Memory> {
+) -> Result<u8, Memory>
+    ensures { IfOk result (λ status. (status ≡ USAGE) ⊎ Tells invocation.now.action status) }
+{
     let file = invocation.file;
     let bytes = match read(rt, alloc, file) {
         Ok(bytes) => bytes,
@@ -134,13 +141,27 @@ fn perform(
             return Ok(USAGE);
         }
     };
-    let outcome = match invocation.action {
-        Action::List => list(rt, alloc, bytes),
-        Action::Run { workers, limit } => run(rt, leave, alloc, bytes, workers, limit),
-    };
+    let outcome = find(rt, leave, alloc, invocation.action, bytes);
     let (line, status) = report(alloc, &outcome)?;
     tell(rt, line.as_slice());
     Ok(status)
+}
+
+/// What the command finds in the text, which it lists or runs.
+#[tactic(auto, using(crate::proofs::Findings::list_finds, crate::proofs::Findings::run_finds))]
+fn find(
+    rt: &HostRuntime,
+    leave: &impl Wait,
+    alloc: Global,
+    action: Action,
+    bytes: Vec<u8>,
+) -> Result<End, Fault>
+    ensures { Finds action bytes.items result }
+{
+    match action {
+        Action::List => list(rt, alloc, bytes),
+        Action::Run { workers, limit } => run(rt, leave, alloc, bytes, workers, limit),
+    }
 }
 
 /// The bytes of the file, up to one more than a text may have: of a longer file no more is needed to refuse it.
@@ -157,7 +178,8 @@ fn list(rt: &HostRuntime, alloc: Global, bytes: Vec<u8>) -> Result<End, Fault>
     ensures listed { IfOk result (λ end. (end ≡ End.Finished) × HasReading bytes.items) }
     ensures refused { IfErr result (λ fault. IsRefusal fault → HasNoReading bytes.items) }
     ensures why { IfErr result (λ fault. IsRefusal fault → IsWhy bytes.items fault) }
-    ensures only { IfErr result (λ fault. IsRefusal fault ⊎ ((fault ≡ Fault.Memory) ⊎ (fault ≡ Fault.Write))) }
+    ensures only { IfErr result (λ fault. IsRefusal fault ⊎ (13 ≤ number_of fault)) }
+    ensures neither { IfErr result (λ fault. (fault ≡ Fault.BadWorkers → ⊥) × (fault ≡ Fault.BadLimit → ⊥)) }
 {
     let stdout = BufWriter::new(alloc, rt.stdout()).map_err(|_| Fault::Memory)?;
     let mut out = Flagged::new(stdout);

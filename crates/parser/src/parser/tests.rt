@@ -3,6 +3,7 @@
 use super::*;
 use go_text::{LimitKind, Span};
 use scanner::scan;
+use std::process::Abort;
 use std::test::Fail;
 use syntax::{
     BinaryOperator, ExpressionNode, FunctionNode, PartNode, SimpleNode, StatementNode, TopNode,
@@ -84,6 +85,59 @@ fn body_outcome(alloc: Global, body: &str) -> Result<Outcome, Fail> {
     })
 }
 
+/// Compares what a text gave.
+fn same<R: AllocGlobal + Abort>(
+    rt: &R,
+    text: &str,
+    found: Outcome,
+    wanted: Outcome,
+) -> Result<(), Fail> {
+    assert_eq!(rt; found, wanted, "{text}");
+    Ok(())
+}
+
+/// Compares what parsing a text gives.
+fn agrees<R: AllocGlobal + Abort>(rt: &R, text: &str, wanted: Outcome) -> Result<(), Fail> {
+    same(rt, text, outcome_of(rt.alloc(), text), wanted)
+}
+
+/// Compares what parsing a function's body gives.
+fn body_agrees<R: AllocGlobal + Abort>(rt: &R, body: &str, wanted: Outcome) -> Result<(), Fail> {
+    same(rt, body, body_outcome(rt.alloc(), body)?, wanted)
+}
+
+/// Compares where bodies are refused.
+fn refused<R: AllocGlobal + Abort>(rt: &R, cases: &[(&str, u32)]) -> Result<(), Fail> {
+    for (body, offset) in cases {
+        body_agrees(rt, body, Outcome::Syntax(*offset))?;
+    }
+    Ok(())
+}
+
+/// Compares which bodies are read.
+fn taken<R: AllocGlobal + Abort>(rt: &R, bodies: &[&str]) -> Result<(), Fail> {
+    for body in bodies {
+        body_agrees(rt, body, Outcome::Tree)?;
+    }
+    Ok(())
+}
+
+/// Compares where whole texts are refused.
+fn texts_refused<R: AllocGlobal + Abort>(rt: &R, cases: &[(&str, u32)]) -> Result<(), Fail> {
+    for (text, offset) in cases {
+        agrees(rt, text, Outcome::Syntax(*offset))?;
+    }
+    Ok(())
+}
+
+/// Compares which whole texts are read.
+fn texts_taken<R: AllocGlobal + Abort>(rt: &R, texts: &[&str]) -> Result<(), Fail> {
+    for text in texts {
+        agrees(rt, text, Outcome::Tree)?;
+    }
+    Ok(())
+}
+
 /// `first`, so often `middle`, and `last`.
 fn repeated(
     alloc: Global,
@@ -103,128 +157,120 @@ fn repeated(
 
 #[test]
 fn refuses_headers_at_the_first_wrong_token(rt: HostRuntime) -> Result<(), Fail> {
-    for (text, offset) in [
-        ("", 0),
-        ("\n\n", 2),
-        ("main", 0),
-        ("import x", 0),
-        ("func main(){}", 0),
-        ("package", 7),
-        ("package 1", 8),
-        ("package foo;", 8),
-        ("package main func f(){}", 13),
-        ("package main;;func f(){}", 13),
-        ("package main;main", 13),
-        ("package main;func", 17),
-        ("package main;func (){}", 18),
-        ("package main;func 1(){}", 18),
-        ("package main;func make(){}", 18),
-        ("package main;func len(){}", 18),
-        ("package main;func cap(){}", 18),
-        ("package main;func close(){}", 18),
-        ("package main;func print(){}", 18),
-        ("package main;func println(){}", 18),
-        ("package main;func f", 19),
-        ("package main;func f{}", 19),
-        ("package main;func f(", 20),
-        ("package main;func f(x){}", 21),
-        ("package main;func f()", 21),
-        ("package main\nfunc f()\n{}", 21),
-        ("package main;func f(){", 22),
-        ("package main;func f(){}{", 23),
-        ("package main;func f(){} func g(){}", 24),
-        ("package main;func f(){};;", 24),
-    ] {
-        assert_eq!(rt;
-            outcome_of(rt.alloc(), text),
-            Outcome::Syntax(offset),
-            "{text}"
-        );
-    }
-    Ok(())
+    texts_refused(
+        &rt,
+        &[
+            ("", 0),
+            ("\n\n", 2),
+            ("main", 0),
+            ("import x", 0),
+            ("func main(){}", 0),
+            ("package", 7),
+            ("package 1", 8),
+            ("package foo;", 8),
+            ("package main func f(){}", 13),
+            ("package main;;func f(){}", 13),
+            ("package main;main", 13),
+            ("package main;func", 17),
+            ("package main;func (){}", 18),
+            ("package main;func 1(){}", 18),
+            ("package main;func make(){}", 18),
+            ("package main;func len(){}", 18),
+            ("package main;func cap(){}", 18),
+            ("package main;func close(){}", 18),
+            ("package main;func print(){}", 18),
+            ("package main;func println(){}", 18),
+            ("package main;func f", 19),
+            ("package main;func f{}", 19),
+            ("package main;func f(", 20),
+            ("package main;func f(x){}", 21),
+            ("package main;func f()", 21),
+            ("package main\nfunc f()\n{}", 21),
+            ("package main;func f(){", 22),
+            ("package main;func f(){}{", 23),
+            ("package main;func f(){} func g(){}", 24),
+            ("package main;func f(){};;", 24),
+        ],
+    )
 }
 
 #[test]
 fn takes_whole_files(rt: HostRuntime) -> Result<(), Fail> {
-    for text in [
-        "package main;func f(){}",
-        "package main;func f(){};",
-        "package main\nfunc f() {\n}\n\n",
-        "package main;func nil(){}",
-        "package main; func main() { println(1 + 2, (3), -4,); ; println(5) }",
-        "package main",
-        "package main;func f(){};func g(){}",
-        "package main\nfunc f() {\n}\nfunc g() {\n}\n",
-        "package main;func f(x int){}",
-        "package main;func f(x int,){}",
-        "package main;func f(x, y int, z chan bool,){}",
-        "package main;func f(x,\ny int){}",
-        "package main;func f() int{}",
-        "package main;func f() (int){}",
-        "package main;func f() chan<- (chan int){}",
-        "package main;func f(nil T) nil{}",
-        "package main;type T struct{}",
-        "package main;type T struct{a int}",
-        "package main;type T struct{a int;}",
-        "package main;type T struct{a, b int; c chan T}",
-        "package main\ntype T struct {\n a int\n b, c <-chan T\n}\nfunc f() {}",
-    ] {
-        assert_eq!(rt; outcome_of(rt.alloc(), text), Outcome::Tree, "{text}");
-    }
-    Ok(())
+    texts_taken(
+        &rt,
+        &[
+            "package main;func f(){}",
+            "package main;func f(){};",
+            "package main\nfunc f() {\n}\n\n",
+            "package main;func nil(){}",
+            "package main; func main() { println(1 + 2, (3), -4,); ; println(5) }",
+            "package main",
+            "package main;func f(){};func g(){}",
+            "package main\nfunc f() {\n}\nfunc g() {\n}\n",
+            "package main;func f(x int){}",
+            "package main;func f(x int,){}",
+            "package main;func f(x, y int, z chan bool,){}",
+            "package main;func f(x,\ny int){}",
+            "package main;func f() int{}",
+            "package main;func f() (int){}",
+            "package main;func f() chan<- (chan int){}",
+            "package main;func f(nil T) nil{}",
+            "package main;type T struct{}",
+            "package main;type T struct{a int}",
+            "package main;type T struct{a int;}",
+            "package main;type T struct{a, b int; c chan T}",
+            "package main\ntype T struct {\n a int\n b, c <-chan T\n}\nfunc f() {}",
+        ],
+    )
 }
 
 #[test]
 fn refuses_declarations_at_the_first_wrong_token(rt: HostRuntime) -> Result<(), Fail> {
-    for (text, offset) in [
-        ("package main;func f(x", 21),
-        ("package main;func f(x int", 25),
-        ("package main;func f(,){}", 20),
-        ("package main;func f(x int,,){}", 26),
-        ("package main;func f(x int y int){}", 26),
-        ("package main;func f(x, int){}", 26),
-        ("package main;func f(x,){}", 22),
-        ("package main;func f(x len){}", 22),
-        ("package main;func f(len int){}", 20),
-        ("package main;func f(x int;y int){}", 25),
-        ("package main;func f(x []int){}", 22),
-        ("package main;func f(x chan){}", 26),
-        ("package main;func f(x <-int){}", 24),
-        ("package main;func f(x (int){}", 27),
-        ("package main;func f(x int\n){}", 25),
-        ("package main;func f() (int, bool){}", 26),
-        ("package main;func f() (){}", 23),
-        ("package main;func f() len{}", 22),
-        ("package main;func f() int", 25),
-        ("package main;func f() int;{}", 25),
-        ("package main;func f() {} int", 25),
-        ("package main;type", 17),
-        ("package main;type T", 19),
-        ("package main;type T int", 20),
-        ("package main;type len struct{}", 18),
-        ("package main;type T = struct{}", 20),
-        ("package main;type T struct", 26),
-        ("package main;type T struct{", 27),
-        ("package main;type T struct{;}", 27),
-        ("package main;type T struct{a}", 28),
-        ("package main;type T struct{a,}", 29),
-        ("package main;type T struct{a int,}", 32),
-        ("package main;type T struct{a int b int}", 33),
-        ("package main;type T struct{a int;;}", 33),
-        ("package main;type T struct{a int", 32),
-        ("package main;type T struct{a int} int", 34),
-        ("package main;type (T struct{})", 18),
-        ("package main;var x int", 13),
-        ("package main;const x = 1", 13),
-        ("package main;import \"a\"", 13),
-    ] {
-        assert_eq!(rt;
-            outcome_of(rt.alloc(), text),
-            Outcome::Syntax(offset),
-            "{text}"
-        );
-    }
-    Ok(())
+    texts_refused(
+        &rt,
+        &[
+            ("package main;func f(x", 21),
+            ("package main;func f(x int", 25),
+            ("package main;func f(,){}", 20),
+            ("package main;func f(x int,,){}", 26),
+            ("package main;func f(x int y int){}", 26),
+            ("package main;func f(x, int){}", 26),
+            ("package main;func f(x,){}", 22),
+            ("package main;func f(x len){}", 22),
+            ("package main;func f(len int){}", 20),
+            ("package main;func f(x int;y int){}", 25),
+            ("package main;func f(x []int){}", 22),
+            ("package main;func f(x chan){}", 26),
+            ("package main;func f(x <-int){}", 24),
+            ("package main;func f(x (int){}", 27),
+            ("package main;func f(x int\n){}", 25),
+            ("package main;func f() (int, bool){}", 26),
+            ("package main;func f() (){}", 23),
+            ("package main;func f() len{}", 22),
+            ("package main;func f() int", 25),
+            ("package main;func f() int;{}", 25),
+            ("package main;func f() {} int", 25),
+            ("package main;type", 17),
+            ("package main;type T", 19),
+            ("package main;type T int", 20),
+            ("package main;type len struct{}", 18),
+            ("package main;type T = struct{}", 20),
+            ("package main;type T struct", 26),
+            ("package main;type T struct{", 27),
+            ("package main;type T struct{;}", 27),
+            ("package main;type T struct{a}", 28),
+            ("package main;type T struct{a,}", 29),
+            ("package main;type T struct{a int,}", 32),
+            ("package main;type T struct{a int b int}", 33),
+            ("package main;type T struct{a int;;}", 33),
+            ("package main;type T struct{a int", 32),
+            ("package main;type T struct{a int} int", 34),
+            ("package main;type (T struct{})", 18),
+            ("package main;var x int", 13),
+            ("package main;const x = 1", 13),
+            ("package main;import \"a\"", 13),
+        ],
+    )
 }
 
 #[test]
@@ -259,130 +305,126 @@ fn numbers_declarations_in_postorder(rt: HostRuntime) -> Result<(), Fail> {
 
 #[test]
 fn refuses_statements_at_the_first_wrong_token(rt: HostRuntime) -> Result<(), Fail> {
-    for (body, offset) in [
-        ("", 0),
-        (";", 1),
-        ("1}", 1),
-        ("(1)}", 3),
-        ("x}", 1),
-        ("println}", 7),
-        ("println 1}", 8),
-        ("println", 7),
-        ("println(", 8),
-        ("println(,)}", 8),
-        ("println(--1)}", 8),
-        ("println(-)}", 9),
-        ("println(())}", 9),
-        ("println(1;2)}", 9),
-        ("println(1}", 9),
-        ("println(1\n)}", 9),
-        ("println(1+)}", 10),
-        ("println(1 2)}", 10),
-        ("println(1 x)}", 10),
-        ("println(1,,)}", 10),
-        ("println(1,", 10),
-        ("println(1))}", 10),
-        ("println(1)", 10),
-        ("println(1)println(2)}", 10),
-        ("println((1)}", 11),
-        ("println(1) println(2)}", 11),
-        ("println(1)}}", 11),
-        ("println((1 2))}", 11),
-        ("x :=}", 4),
-        ("x, }", 3),
-        ("x.}", 2),
-        ("x. = 1}", 3),
-        ("x, y.z := 1}", 7),
-        ("x.y := 1}", 4),
-        ("x = }", 4),
-        ("x y}", 2),
-        ("x <-}", 4),
-        ("<-}", 2),
-        ("f(}", 2),
-        ("f(1}", 3),
-        ("close()}", 6),
-        ("close(c,)}", 7),
-        ("x = make()}", 9),
-        ("x = make(int,)}", 13),
-        ("x = make(chan int, 1, 2)}", 20),
-        ("x = print(1)}", 4),
-        ("make(chan int)}", 0),
-        ("len(c)}", 0),
-        ("x + 1}", 2),
-        ("-x <- 1}", 0),
-        ("x := 1, }", 8),
-        ("x = range c}", 4),
-        ("x += }", 5),
-        ("x += <-c}", 5),
-        ("x, y++}", 4),
-        ("x++ y}", 4),
-        ("x{}}", 3),
-        ("x, 1 = 2}", 3),
-        ("println, x := 1}", 7),
-        ("x, len := 1}", 3),
-        ("c <- <-d}", 5),
-        ("x := <-c + 1}", 9),
-        ("x = f() + 1}", 8),
-    ] {
-        assert_eq!(rt;
-            body_outcome(rt.alloc(), body)?,
-            Outcome::Syntax(offset),
-            "{body}"
-        );
-    }
-    Ok(())
+    refused(
+        &rt,
+        &[
+            ("", 0),
+            (";", 1),
+            ("1}", 1),
+            ("(1)}", 3),
+            ("x}", 1),
+            ("println}", 7),
+            ("println 1}", 8),
+            ("println", 7),
+            ("println(", 8),
+            ("println(,)}", 8),
+            ("println(--1)}", 8),
+            ("println(-)}", 9),
+            ("println(())}", 9),
+            ("println(1;2)}", 9),
+            ("println(1}", 9),
+            ("println(1\n)}", 9),
+            ("println(1+)}", 10),
+            ("println(1 2)}", 10),
+            ("println(1 x)}", 10),
+            ("println(1,,)}", 10),
+            ("println(1,", 10),
+            ("println(1))}", 10),
+            ("println(1)", 10),
+            ("println(1)println(2)}", 10),
+            ("println((1)}", 11),
+            ("println(1) println(2)}", 11),
+            ("println(1)}}", 11),
+            ("println((1 2))}", 11),
+            ("x :=}", 4),
+            ("x, }", 3),
+            ("x.}", 2),
+            ("x. = 1}", 3),
+            ("x, y.z := 1}", 7),
+            ("x.y := 1}", 4),
+            ("x = }", 4),
+            ("x y}", 2),
+            ("x <-}", 4),
+            ("<-}", 2),
+            ("f(}", 2),
+            ("f(1}", 3),
+            ("close()}", 6),
+            ("close(c,)}", 7),
+            ("x = make()}", 9),
+            ("x = make(int,)}", 13),
+            ("x = make(chan int, 1, 2)}", 20),
+            ("x = print(1)}", 4),
+            ("make(chan int)}", 0),
+            ("len(c)}", 0),
+            ("x + 1}", 2),
+            ("-x <- 1}", 0),
+            ("x := 1, }", 8),
+            ("x = range c}", 4),
+            ("x += }", 5),
+            ("x += <-c}", 5),
+            ("x, y++}", 4),
+            ("x++ y}", 4),
+            ("x{}}", 3),
+            ("x, 1 = 2}", 3),
+            ("println, x := 1}", 7),
+            ("x, len := 1}", 3),
+            ("c <- <-d}", 5),
+            ("x := <-c + 1}", 9),
+            ("x = f() + 1}", 8),
+        ],
+    )
 }
 
 #[test]
 fn takes_statements(rt: HostRuntime) -> Result<(), Fail> {
-    for body in [
-        "}",
-        ";}",
-        ";;;}",
-        "println(1)}",
-        "println(1);}",
-        ";println(1)}",
-        "println(1,)}",
-        "println(1,\n)}",
-        "println(1,2,)}",
-        "println(- -1)}",
-        "println(1-2-3+4)}",
-        "println(1-(2-3),-(4))}",
-        "println()}",
-        "print(1)}",
-        "x := 1}",
-        "x, y := 1, 2}",
-        "_ = x}",
-        "a.b.c = 1}",
-        "x++}",
-        "x.y--}",
-        "x += 1}",
-        "x &^= 1 << 2}",
-        "c <- 1}",
-        "<-c}",
-        "<-c.d}",
-        "(c) <- 1}",
-        "T{1, 2}.c <- 2}",
-        "f()}",
-        "f(1, 2,)}",
-        "close(c)}",
-        "c := make(chan int)}",
-        "c := make(chan<- (chan int), 2)}",
-        "x = len(c)}",
-        "x = cap(c.d)}",
-        "x = <-c}",
-        "x = f(1)}",
-        "x, y = y, x}",
-        "v, ok := <-c}",
-        "v, x.ok = <-c}",
-        "x = T{y, 1,}}",
-        "println(\"a\\n\", 1)}",
-        "print(\"\")}",
-        "println(1)\nprintln(2)\n}",
-    ] {
-        assert_eq!(rt; body_outcome(rt.alloc(), body)?, Outcome::Tree, "{body}");
-    }
-    Ok(())
+    taken(
+        &rt,
+        &[
+            "}",
+            ";}",
+            ";;;}",
+            "println(1)}",
+            "println(1);}",
+            ";println(1)}",
+            "println(1,)}",
+            "println(1,\n)}",
+            "println(1,2,)}",
+            "println(- -1)}",
+            "println(1-2-3+4)}",
+            "println(1-(2-3),-(4))}",
+            "println()}",
+            "print(1)}",
+            "x := 1}",
+            "x, y := 1, 2}",
+            "_ = x}",
+            "a.b.c = 1}",
+            "x++}",
+            "x.y--}",
+            "x += 1}",
+            "x &^= 1 << 2}",
+            "c <- 1}",
+            "<-c}",
+            "<-c.d}",
+            "(c) <- 1}",
+            "T{1, 2}.c <- 2}",
+            "f()}",
+            "f(1, 2,)}",
+            "close(c)}",
+            "c := make(chan int)}",
+            "c := make(chan<- (chan int), 2)}",
+            "x = len(c)}",
+            "x = cap(c.d)}",
+            "x = <-c}",
+            "x = f(1)}",
+            "x, y = y, x}",
+            "v, ok := <-c}",
+            "v, x.ok = <-c}",
+            "x = T{y, 1,}}",
+            "println(\"a\\n\", 1)}",
+            "print(\"\")}",
+            "println(1)\nprintln(2)\n}",
+        ],
+    )
 }
 
 #[test]
@@ -406,17 +448,12 @@ fn limits_height(rt: HostRuntime) -> Result<(), Fail> {
     ] {
         let closing = repeated(alloc, last, close, most, end)?;
         let body = repeated(alloc, first, open, most, &closing)?;
-        assert_eq!(rt; body_outcome(alloc, &body)?, Outcome::Tree, "{body}");
+        body_agrees(&rt, &body, Outcome::Tree)?;
         let body = repeated(alloc, first, open, most.saturating_add(1), last)?;
-        assert_eq!(rt;
-            body_outcome(alloc, &body)?,
-            Outcome::TooDeep(offset),
-            "{body}"
-        );
+        body_agrees(&rt, &body, Outcome::TooDeep(offset))?;
     }
     let body = repeated(alloc, "f(", "(", 195, ")")?;
-    assert_eq!(rt; body_outcome(alloc, &body)?, Outcome::Syntax(197), "{body}");
-    Ok(())
+    body_agrees(&rt, &body, Outcome::Syntax(197))
 }
 
 #[test]
@@ -442,20 +479,12 @@ fn limits_lists(rt: HostRuntime) -> Result<(), Fail> {
         let first = format!(in alloc; "{first}{each}")?;
         let middle = format!(in alloc; "{separator}{each}")?;
         let body = repeated(alloc, &first, &middle, 63, closing)?;
-        assert_eq!(rt; body_outcome(alloc, &body)?, Outcome::Tree, "{body}");
+        body_agrees(&rt, &body, Outcome::Tree)?;
         let body = repeated(alloc, &first, &middle, 64, closing)?;
-        assert_eq!(rt;
-            body_outcome(alloc, &body)?,
-            Outcome::Entries(offset),
-            "{body}"
-        );
+        body_agrees(&rt, &body, Outcome::Entries(offset))?;
         let last = format!(in alloc; "{separator}{other}{closing}")?;
         let body = repeated(alloc, &first, &middle, 63, &last)?;
-        assert_eq!(rt;
-            body_outcome(alloc, &body)?,
-            Outcome::Syntax(offset),
-            "{body}"
-        );
+        body_agrees(&rt, &body, Outcome::Syntax(offset))?;
     }
     Ok(())
 }
@@ -543,75 +572,71 @@ fn numbers_nodes_in_postorder(rt: HostRuntime) -> Result<(), Fail> {
 
 #[test]
 fn refuses_expressions_at_the_first_wrong_token(rt: HostRuntime) -> Result<(), Fail> {
-    for (body, offset) in [
-        ("println(len)}", 8),
-        ("println(len(x))}", 8),
-        ("println(<-x)}", 8),
-        ("println(*x)}", 8),
-        ("println(&x)}", 8),
-        ("println(~x)}", 8),
-        ("println(.x)}", 8),
-        ("println({})}", 8),
-        ("println([]x)}", 8),
-        ("println(func)}", 8),
-        ("println(x<-y)}", 9),
-        ("println(f(x))}", 9),
-        ("println(x[1])}", 9),
-        ("println(x...)}", 9),
-        ("println(x:1)}", 9),
-        ("println(x=1)}", 9),
-        ("println(x++)}", 9),
-        ("println(!)}", 9),
-        ("println(x.)}", 10),
-        ("println(x.len)}", 10),
-        ("println(x.(y))}", 10),
-        ("println(x y)}", 10),
-        ("println(T{,})}", 10),
-        ("println(T{)}", 10),
-        ("println(T{1)}", 11),
-        ("println(T{1 2})}", 12),
-        ("println(T{1,,})}", 12),
-        ("println(T{a:1})}", 11),
-        ("println(T{1}{2})}", 12),
-        ("println(x.T{})}", 11),
-        ("println(x &&)}", 12),
-        ("println(x == == y)}", 13),
-        ("println(x ! y)}", 10),
-        ("println((x)}", 11),
-    ] {
-        assert_eq!(rt;
-            body_outcome(rt.alloc(), body)?,
-            Outcome::Syntax(offset),
-            "{body}"
-        );
-    }
-    Ok(())
+    refused(
+        &rt,
+        &[
+            ("println(len)}", 8),
+            ("println(len(x))}", 8),
+            ("println(<-x)}", 8),
+            ("println(*x)}", 8),
+            ("println(&x)}", 8),
+            ("println(~x)}", 8),
+            ("println(.x)}", 8),
+            ("println({})}", 8),
+            ("println([]x)}", 8),
+            ("println(func)}", 8),
+            ("println(x<-y)}", 9),
+            ("println(f(x))}", 9),
+            ("println(x[1])}", 9),
+            ("println(x...)}", 9),
+            ("println(x:1)}", 9),
+            ("println(x=1)}", 9),
+            ("println(x++)}", 9),
+            ("println(!)}", 9),
+            ("println(x.)}", 10),
+            ("println(x.len)}", 10),
+            ("println(x.(y))}", 10),
+            ("println(x y)}", 10),
+            ("println(T{,})}", 10),
+            ("println(T{)}", 10),
+            ("println(T{1)}", 11),
+            ("println(T{1 2})}", 12),
+            ("println(T{1,,})}", 12),
+            ("println(T{a:1})}", 11),
+            ("println(T{1}{2})}", 12),
+            ("println(x.T{})}", 11),
+            ("println(x &&)}", 12),
+            ("println(x == == y)}", 13),
+            ("println(x ! y)}", 10),
+            ("println((x)}", 11),
+        ],
+    )
 }
 
 #[test]
 fn takes_expressions(rt: HostRuntime) -> Result<(), Fail> {
-    for body in [
-        "println(x)}",
-        "println(+1)}",
-        "println(1*2)}",
-        "println(1,x)}",
-        "println(x.y.z)}",
-        "println(3 .x)}",
-        "println(T{})}",
-        "println(T{1})}",
-        "println(T{1,})}",
-        "println(T{1,x.y,U{}}.f)}",
-        "println((T{}).x)}",
-        "println(!a&&b||c==d)}",
-        "println(a<<1&^b|^c)}",
-        "println(^-+!x)}",
-        "println(a+b-c*d/e%f&g|h^i<<j>>k&^l==m,n!=o,p<q,r<=s,t>u,v>=w)}",
-        "println(nil,true,false,int,bool)}",
-        "println(T{\n1,\n2,\n})}",
-    ] {
-        assert_eq!(rt; body_outcome(rt.alloc(), body)?, Outcome::Tree, "{body}");
-    }
-    Ok(())
+    taken(
+        &rt,
+        &[
+            "println(x)}",
+            "println(+1)}",
+            "println(1*2)}",
+            "println(1,x)}",
+            "println(x.y.z)}",
+            "println(3 .x)}",
+            "println(T{})}",
+            "println(T{1})}",
+            "println(T{1,})}",
+            "println(T{1,x.y,U{}}.f)}",
+            "println((T{}).x)}",
+            "println(!a&&b||c==d)}",
+            "println(a<<1&^b|^c)}",
+            "println(^-+!x)}",
+            "println(a+b-c*d/e%f&g|h^i<<j>>k&^l==m,n!=o,p<q,r<=s,t>u,v>=w)}",
+            "println(nil,true,false,int,bool)}",
+            "println(T{\n1,\n2,\n})}",
+        ],
+    )
 }
 
 #[test]

@@ -3,7 +3,7 @@ use Rattle.std.proofs.lemmas.Result.{IfOk-weaker}
 use Rattle.clap.specs.Words.{App, app_of, new_app, with_rule, with_subcommand}
 use Rattle.clap.specs.Simple.{app_of_fields}
 use Rattle.clap.specs.declared.builder.command.Command.TheViews.{out-Command}
-use Rattle.kendo.specs.CommandLine.{file, list, run, kendo, number}
+use Rattle.kendo.specs.CommandLine.{file, list, run, number}
 use Rattle.kendo.proofs.arguments.command.Goals as goal
 
 pub returns : goal.returns

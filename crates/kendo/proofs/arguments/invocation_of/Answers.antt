@@ -1,4 +1,4 @@
-use Rattle.std.proofs.Common.{rules, ◌≡◌, ◌∙◌, Some, ap, codes, sym, subst, option_map}
+use Rattle.std.proofs.Common.{rules, ◌∙◌, ap, codes, sym, subst, option_map}
 use Rattle.clap.specs.Words.{found_of, rows_of}
 use Rattle.clap.proofs.WalkLemmas.{first_value-rows}
 use Rattle.kendo.specs.CommandLine.{IsAsked}

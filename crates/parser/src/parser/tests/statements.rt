@@ -1,30 +1,9 @@
 //! Statements in which others stand, and those that begin with a keyword.
 
-use super::{HEADER, Outcome, body_outcome, repeated, tree_of};
+use super::{HEADER, Outcome, body_agrees, body_outcome, refused, repeated, same, taken, tree_of};
 use go_text::Span;
 use std::alloc::Global;
-use std::process::Abort;
 use std::test::Fail;
-
-/// Compares where texts are refused.
-fn refused<R: AllocGlobal + Abort>(rt: &R, cases: &[(&str, u32)]) -> Result<(), Fail> {
-    for (body, offset) in cases {
-        assert_eq!(rt;
-            body_outcome(rt.alloc(), body)?,
-            Outcome::Syntax(*offset),
-            "{body}"
-        );
-    }
-    Ok(())
-}
-
-/// Compares which texts are read.
-fn taken<R: AllocGlobal + Abort>(rt: &R, bodies: &[&str]) -> Result<(), Fail> {
-    for body in bodies {
-        assert_eq!(rt; body_outcome(rt.alloc(), body)?, Outcome::Tree, "{body}");
-    }
-    Ok(())
-}
 
 #[test]
 fn blocks(rt: HostRuntime) -> Result<(), Fail> {
@@ -363,10 +342,10 @@ fn refuses_what_needs_more_levels_at_its_first_token(rt: HostRuntime) -> Result<
         ("if x.y.z{}", 3, 8),
     ] {
         let (enough, _) = outcome_above(rt.alloc(), needs, statement)?;
-        assert_eq!(rt; enough, Outcome::Tree, "{statement}");
+        same(&rt, statement, enough, Outcome::Tree)?;
         let (less, start) = outcome_above(rt.alloc(), needs.saturating_sub(1), statement)?;
         let wanted = Outcome::TooDeep(start.saturating_add(offset));
-        assert_eq!(rt; less, wanted, "{statement}");
+        same(&rt, statement, less, wanted)?;
     }
     Ok(())
 }
@@ -394,7 +373,7 @@ fn places_refusals_where_few_levels_are_left(rt: HostRuntime) -> Result<(), Fail
         ("select{case c.d<-1:}", 3, Outcome::TooDeep(126)),
     ] {
         let (found, _) = outcome_above(rt.alloc(), levels, statement)?;
-        assert_eq!(rt; found, wanted, "{statement}");
+        same(&rt, statement, found, wanted)?;
     }
     Ok(())
 }
@@ -410,11 +389,7 @@ fn limits_clauses(rt: HostRuntime) -> Result<(), Fail> {
         (64, "x}}", Outcome::Syntax(521)),
     ] {
         let body = repeated(alloc, "select {", "case<-c:", count, last)?;
-        assert_eq!(rt;
-            body_outcome(alloc, &body)?,
-            wanted,
-            "{count} clauses and {last}"
-        );
+        body_agrees(&rt, &body, wanted)?;
     }
     Ok(())
 }
