@@ -1,36 +1,31 @@
 -- Each call of the book leaves it where the one-thread run stands.
-use Rattle.std.proofs.Common.{◌≡◌, ◌≢◌, ℕ, zero, suc, ◌+◌, ◌-◌, ◌*◌, ◌<◌, ◌≤◌, ◌^◌, Bool, true, false, not, cond, List, [], ◌∷◌, ◌++◌, map, length, take, drop, Option, Some, None, refl, sym, ap, ◌∙◌, subst, inl, inr, arith, append_assoc, length-append, get_or, get_or-set_same}
-use Rattle.std.specs.Prelude.{slice_index_or, slice_set, slice_get, option_map, unwrap_or, ◌==◌}
+use Rattle.std.proofs.Common.{◌≡◌, ℕ, zero, suc, ◌+◌, ◌<◌, ◌≤◌, ◌^◌, Bool, true, false, cond, List, [], ◌∷◌, ◌++◌, map, length, take, drop, Option, Some, None, refl, sym, ap, ◌∙◌, subst, inl, inr, arith, length-append, get_or-set_same}
+use Rattle.std.specs.Prelude.{slice_index_or, slice_set, slice_get, option_map}
 use Rattle.std.specs.Option.{is_some, MatchOption}
-use Rattle.std.proofs.lemmas.Bool.{true≢false, cases_lt, eq-eqb}
-use Rattle.std.proofs.lemmas.Option.{same_Some}
-use Rattle.bytecode.proofs.Unstuck.{begin_keeps}
-use Rattle.std.proofs.lemmas.Option.{slice_get_within}
+use Rattle.std.proofs.lemmas.Bool.{true≢false, cases_lt}
 use Rattle.std.proofs.Math.Seq.{take-length}
 use Rattle.std.proofs.lemmas.List.{get_or_past}
-use Rattle.bytecode.specs.Code.{Code, Function}
-use Rattle.bytecode.specs.Machine.{Frames, code_kind, code_begin, main_of}
+use Rattle.bytecode.specs.Code.{Code}
+use Rattle.bytecode.specs.Machine.{Frames, code_kind}
 use Rattle.bytecode.specs.Rules.{IsVerified}
 use Rattle.goroutine_vm.specs.Advance.{IsStateOf}
 use Rattle.logical_clock.specs.declared.key.Key.{Key}
 use Rattle.logical_clock.specs.Order.{is_before, keys, least}
 use Rattle.turn_rule.specs.declared.Row.{Row}
 use Rattle.turn_rule.specs.Turns.{Leads, Rules, run, World as Whole}
-use Rattle.turn_rule.specs.Schedule.{Stands, RowStands, at_row, lend, opened, parked_clock, perform_row, settle_key, has_turn}
+use Rattle.turn_rule.specs.Schedule.{Stands, at_row, lend, opened, parked_clock, perform_row, settle_key, has_turn}
 use Rattle.turn_rule.proofs.Stable.{opened_stands, run_add}
 use Rattle.word.specs.declared.end.End.{End as Ending}
 use Rattle.word.specs.declared.end.End.TheVariants.{Deadlock}
 use Rattle.word.specs.declared.request.Event.{Event as Recorded}
-use Rattle.word.specs.Kinds.{at, asks}
-use Rattle.word.specs.Requests.{act, asked, meant}
-use Rattle.word.specs.Values.{Request, Exhausted, Shared}
+use Rattle.word.specs.Kinds.{asks}
 use Rattle.word.specs.Views.{event_of}
-use Rattle.word.specs.Worlds.{Rest, rules, performs, opening, moment, is_deserted, end_by, end_of}
+use Rattle.word.specs.Worlds.{Rest, rules, opening, moment, is_deserted, end_of}
 use Rattle.word.proofs.Laws.{laws}
-use Rattle.world_core.specs.Cores.{World, CoreValue, FitsCore, HasTurn, IsCoreOf, IsFreeIn, IsLentRow, IsPerformed, Performs, Asks, opened_core, shared_of}
-use Rattle.world_core.specs.Slots.{State, Rows, FitsRow, IsRowOf, IsAwake, IsNobodyAwake, IsBefore, free_row, lent_row, waiting_clock}
+use Rattle.world_core.specs.Cores.{World, CoreValue, FitsCore, HasTurn, IsCoreOf, IsFreeIn, IsLentRow, Performs, Asks, shared_of}
+use Rattle.world_core.specs.Slots.{State, Rows, FitsRow, IsAwake, IsNobodyAwake, IsBefore, free_row, lent_row, waiting_clock}
 use Rattle.world_core.proofs.Leases.{core_fits_set, core_set, opened_fits}
-use Rattle.book.specs.Desks.{Desk, IsDesk, IsAt, IsEvent, IsPiece, IsEnd, StandsBefore, Held, IsLent, opened_desk, lent_desk}
+use Rattle.book.specs.Desks.{Desk, IsDesk, IsEvent, IsPiece, IsEnd, StandsBefore, Held, IsLent, opened_desk, lent_desk}
 use Rattle.book.proofs.Desks.{lend_keeps, bring_keeps, settle_keeps, parked_asks, waits_alone, waits_before, nobody_awake}
 
 abbrev rules_of : Desk → Rules State (Rest Frames)

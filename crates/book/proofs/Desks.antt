@@ -1,17 +1,15 @@
 -- The book stands where the one-thread run does.
-use Rattle.std.proofs.Common.{◌≡◌, ℕ, zero, suc, ◌+◌, ◌<◌, ◌≤◌, ◌≢◌, Bool, true, false, ◌&&◌, ◌||◌, cond, List, [], ◌∷◌, ◌++◌, map, length, Option, Some, None, refl, sym, ap, ◌∙◌, subst, inl, inr, arith, get_or, set, length-set, get_or-set_same, get_or-set_other}
-use Rattle.std.specs.Prelude.{slice_index_or, slice_set, option_map, unwrap_or}
-use Rattle.std.specs.Option.{is_some, MatchOption}
-use Rattle.std.proofs.lemmas.Bool.{true≢false, cases_Bool, cases_lt, cases_eq}
-use Rattle.std.proofs.lemmas.List.{set-get_or, get_or_past}
+use Rattle.std.proofs.Common.{◌≡◌, ℕ, ◌≢◌, Bool, true, false, cond, Option, Some, None, refl, sym, ap, ◌∙◌, arith, get_or, length-set}
+use Rattle.std.specs.Prelude.{slice_index_or, slice_set}
+use Rattle.std.proofs.lemmas.Bool.{true≢false}
+use Rattle.std.proofs.lemmas.List.{set-get_or}
 use Rattle.logical_clock.specs.declared.key.Key.{Key}
 use Rattle.logical_clock.specs.Order.{is_before, keys, least}
 use Rattle.logical_clock.proofs.Keys.{key, before_or_not, IsNext, next_is}
-use Rattle.turn_rule.specs.declared.Lease.{Lease as Loan}
 use Rattle.turn_rule.specs.declared.Row.{Row}
-use Rattle.turn_rule.specs.Turns.{run, moved, Leads, World, Rules, stepped}
-use Rattle.turn_rule.specs.Schedule.{Machine, Meets, RowOk, RowStands, Stands, Laws, at_row, lend, parked_clock, settle_key}
-use Rattle.turn_rule.proofs.Stable.{Meets_trans, at_row_keeps, Keeps, lend_step, set_both, settle_by, run_add, moved_add, parked_row}
+use Rattle.turn_rule.specs.Turns.{run, Leads, World, Rules}
+use Rattle.turn_rule.specs.Schedule.{Machine, RowOk, RowStands, Stands, Laws, at_row, lend, parked_clock, settle_key}
+use Rattle.turn_rule.proofs.Stable.{Meets_trans, at_row_keeps, lend_step, set_both, settle_by, parked_row}
 
 module _ {S W : Type 0} (r : Rules S W) (laws : Laws r) where
   -- a lent row keeps the machine where it stands

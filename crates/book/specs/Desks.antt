@@ -1,15 +1,12 @@
 -- The book of a run.
-use Rattle.std.specs.Prelude.{◌≡◌, ℕ, ◌+◌, ◌*◌, ◌<◌, ◌≤◌, ◌^◌, false, true, cond, [], ◌∷◌, List, length, drop, take, Option, Some, None, IfSome, option_map, slice_get, slice_index_or, slice_set}
+use Rattle.std.specs.Prelude.{◌≡◌, ℕ, ◌+◌, ◌*◌, ◌≤◌, ◌^◌, false, true, cond, [], List, length, drop, take, Some, None, slice_get, slice_index_or, slice_set}
 use Rattle.std.specs.Option.{is_some, MatchOption}
 use Rattle.bytecode.specs.Code.{Code}
-use Rattle.bytecode.specs.Machine.{Frames, code_kind, code_begin}
+use Rattle.bytecode.specs.Machine.{code_kind}
 use Rattle.bytecode.specs.Rules.{IsVerified}
-use Rattle.goroutine_vm.specs.Advance.{IsStateOf}
-use Rattle.logical_clock.specs.declared.key.Key.{Key}
 use Rattle.logical_clock.specs.Order.{is_before, keys, least}
 use Rattle.turn_rule.specs.declared.Row.{Row}
-use Rattle.turn_rule.specs.Turns.{Leads}
-use Rattle.turn_rule.specs.Schedule.{Stands, has_turn}
+use Rattle.turn_rule.specs.Schedule.{Stands}
 use Rattle.word.specs.declared.end.End.{End as Ending}
 use Rattle.word.specs.Values.{Event}
 use Rattle.word.specs.Kinds.{asks}

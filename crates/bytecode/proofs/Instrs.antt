@@ -1,5 +1,5 @@
 -- Instructions are the same where they compare as equal.
-use Rattle.std.proofs.Common.{◌≡◌, ℕ, ℤ, Bool, refl, sym, subst, true, false, ap, Decides, arith, rules}
+use Rattle.std.proofs.Common.{◌≡◌, ℤ, Bool, refl, subst, true, false, ap, Decides, arith, rules}
 use Rattle.std.proofs.lemmas.Bool.Decides.{nat_tests, Decides-eqb}
 use Rattle.word.specs.declared.apply.Op.{Op}
 use Rattle.bytecode.specs.declared.instr.Instr.{Instr}

@@ -1,5 +1,5 @@
 -- Steps that cost nothing lead forward, so that there are few of them in a row.
-use Rattle.std.proofs.Common.{◌≡◌, ℕ, ℤ, zero, suc, ◌+◌, ◌-◌, ◌*◌, ◌<◌, ◌≤◌, List, [], ◌∷◌, ◌++◌, length, drop, take, map, Option, Some, None, Result, Ok, Err, refl, sym, ap, ◌∙◌, subst, arith, Bool, true, false, cond, nat_lt, slice_get, slice_range}
+use Rattle.std.proofs.Common.{◌≡◌, ℕ, ℤ, zero, suc, ◌+◌, ◌-◌, ◌*◌, ◌<◌, ◌≤◌, List, [], ◌∷◌, length, map, Option, Some, None, Result, Ok, Err, refl, sym, ap, subst, arith, Bool, true, false, cond, nat_lt, slice_get, slice_range}
 use Rattle.std.specs.Prelude.{sum_by}
 use Rattle.std.specs.Option.{is_some}
 use Rattle.std.proofs.lemmas.List.Sums.{sum_by-cons}
@@ -8,7 +8,7 @@ use Rattle.bytecode.specs.declared.instr.Instr.{Instr}
 use Rattle.bytecode.specs.declared.instr.Instr.TheVariants as instrs
 use Rattle.bytecode.specs.declared.instr.Kind.{Kind}
 use Rattle.bytecode.specs.Code.{Function, Code}
-use Rattle.bytecode.specs.Effects.{top_of, below, wants, count}
+use Rattle.bytecode.specs.Effects.{top_of, below}
 use Rattle.bytecode.specs.Machine.{Frame, Frames, Step, instrs_of, zero_of, begun, goes_on, goes_to, put_at, if_within, if_there, on_truth, on_int, on_chan, applied, on_value, entered, returned, printed, cases_of, pushed, instr_next, pops, at_instr, at_function, told_first, code_next}
 use Rattle.bytecode.specs.Rules.{Directed, IsVerified, Await, IsFrameOf}
 use Rattle.bytecode.specs.Silence.{instr_count, most_silent}

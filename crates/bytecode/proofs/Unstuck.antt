@@ -1,5 +1,5 @@
 -- Verified code never meets a word of another kind, a word too few, or a place that is not there.
-use Rattle.std.proofs.Common.{◌≡◌, ℕ, ℤ, pos, negsuc, zero, suc, ◌+◌, ◌-◌, ◌<◌, ◌≤◌, List, [], ◌∷◌, ◌++◌, length, take, drop, map, Option, Some, None, Result, Ok, Err, refl, sym, ap, ◌∙◌, subst, arith, Bool, true, false, cond, nat_lt, slice_get, slice_range, take-append-drop, append_assoc}
+use Rattle.std.proofs.Common.{◌≡◌, ℕ, ℤ, pos, negsuc, zero, suc, ◌+◌, ◌-◌, ◌<◌, ◌≤◌, List, [], ◌∷◌, ◌++◌, length, take, drop, map, Option, Some, None, Ok, Err, refl, sym, ap, ◌∙◌, subst, arith, Bool, true, false, cond, nat_lt, slice_get, slice_range, take-append-drop, append_assoc}
 use Rattle.std.proofs.lemmas.List.{length-take}
 use Rattle.std.proofs.Math.Seq.{drop-append_seam, take-append_seam}
 use Rattle.std.specs.Option.{is_some}
@@ -13,20 +13,19 @@ use Rattle.bytecode.specs.declared.instr.Instr.{Instr}
 use Rattle.bytecode.specs.declared.instr.Instr.TheVariants as instrs
 use Rattle.bytecode.specs.declared.table.Clause.{Clause as TableClause}
 use Rattle.bytecode.specs.declared.table.Clause.TheVariants as clauses
-use Rattle.bytecode.specs.Code.{Function, PrintTable, Code}
-use Rattle.bytecode.specs.Effects.{top_of, below, params_in, results_in, shape_kinds, kinds_in, print_kinds, locals_in, clause_shape, clause_kinds, all_clause_kinds, clauses_in, targets_in, wants, gives, leaves, count, Wants, Meets, Fits, Enough, afterwards, IsChannel, OneIsChannel, TwoAreChannels, operands, outcome}
-use Rattle.bytecode.specs.Machine.{Frame, Frames, Step, fetch, instrs_of, zero_of, as_kind, fitted, begun, goes_on, goes_to, put_at, if_within, if_there, on_truth, on_int, on_chan, applied, on_value, entered, returned, printed, case_of, cases_of, also, pushed, instr_next, pops, at_instr, at_function, told_first, answered, frames_told, code_next, reply_words, choice, is_told, way_of, went, selected, told_at, told_in, code_answer, code_begin, main_of, code_kind}
-use Rattle.bytecode.specs.Rules.{ways, Path, Named, Holds, IsShaped, IsVerified, At, Has, AllHave, Stands, Await, AreGood, IsFrameOf}
+use Rattle.bytecode.specs.Code.{Function, Code}
+use Rattle.bytecode.specs.Effects.{top_of, below, results_in, shape_kinds, kinds_in, locals_in, clause_shape, clause_kinds, all_clause_kinds, clauses_in, targets_in, wants, gives, leaves, count, Meets, Fits, Enough, afterwards, IsChannel, OneIsChannel, operands, outcome}
+use Rattle.bytecode.specs.Machine.{Frame, Frames, Step, fetch, instrs_of, zero_of, as_kind, fitted, begun, goes_on, goes_to, put_at, if_within, if_there, on_truth, on_int, on_chan, applied, on_value, entered, returned, printed, case_of, cases_of, also, pushed, instr_next, pops, at_instr, at_function, told_first, answered, frames_told, code_next, reply_words, choice, is_told, way_of, went, selected, told_at, told_in, code_answer, code_begin}
+use Rattle.bytecode.specs.Rules.{ways, Named, IsVerified, At, Has, AllHave, Await, IsFrameOf}
 use Rattle.word.specs.declared.apply.Op.{Op}
 use Rattle.word.specs.declared.apply.Op.TheVariants as ops
-use Rattle.word.specs.declared.panic.Panic.{Panic as Cause}
-use Rattle.word.specs.declared.panic.Panic.TheVariants.{DivideByZero, NegativeShift, CallDepth}
+use Rattle.word.specs.declared.panic.Panic.TheVariants.{DivideByZero, CallDepth}
 use Rattle.word.specs.declared.value.Word.{Word}
 use Rattle.word.specs.declared.value.Word.TheVariants.{Int, Bool as Truth, Chan}
-use Rattle.word.specs.Apply.{Valued, value, int_value, bool_value, chan_value, is_zero, panics, number, shifted_left, shifted_right}
-use Rattle.word.specs.Kinds.{Next, Slides, Ticks, Asks, Stuck}
+use Rattle.word.specs.Apply.{Valued, int_value, bool_value, chan_value, is_zero, panics, number, shifted_left, shifted_right}
+use Rattle.word.specs.Kinds.{Slides, Ticks, Asks, Stuck}
 use Rattle.word.specs.declared.request.Case.{Case}
-use Rattle.word.specs.Values.{Make, Go, Send, Receive, Close, Select, Len, Cap, Print, End, Panic, Reply}
+use Rattle.word.specs.Values.{Make, Go, Send, Receive, Close, Select, Len, Cap, Print, Panic, Reply}
 
 none_some : {A : Type 0} {x : A} → None ≡ Some x → ⊥
 none_some e = cc

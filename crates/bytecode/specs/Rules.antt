@@ -1,5 +1,5 @@
 -- What the verifier asks of code, so that no test of the machine fails.
-use Rattle.std.specs.Prelude.{◌≡◌, ℕ, zero, suc, ◌+◌, ◌-◌, ◌<◌, ◌≤◌, ◌⊎◌, List, [], ◌∷◌, ◌++◌, length, Option, Some, None, slice_get}
+use Rattle.std.specs.Prelude.{◌≡◌, ℕ, zero, suc, ◌+◌, ◌<◌, ◌≤◌, ◌⊎◌, List, [], ◌∷◌, ◌++◌, length, Some, slice_get}
 use Rattle.bytecode.specs.declared.instr.Kind.{Kind}
 use Rattle.bytecode.specs.declared.instr.Kind.TheVariants as kinds
 use Rattle.bytecode.specs.declared.table.Clause.{Clause}
@@ -8,7 +8,7 @@ use Rattle.bytecode.specs.declared.instr.Instr.TheVariants as instrs
 use Rattle.bytecode.specs.declared.rule.Rule.{Rule}
 use Rattle.bytecode.specs.declared.rule.Rule.TheVariants.{Names, Targets, Paths, Calls, Returns, Locals, Tables, Main}
 use Rattle.bytecode.specs.Code.{Function, PrintTable, SelectTable, Code}
-use Rattle.bytecode.specs.Effects.{clause_shape, targets, targets_in, wants, Fits, afterwards}
+use Rattle.bytecode.specs.Effects.{clause_shape, targets, targets_in, Fits, afterwards}
 use Rattle.bytecode.specs.Machine.{Frame, Frames, main_of}
 use Rattle.word.specs.declared.value.Word.{Word}
 use Rattle.word.specs.declared.value.Word.TheVariants.{Int, Bool as Truth, Chan}

@@ -1,5 +1,5 @@
 -- How long a code's goroutine can go on without a tick.
-use Rattle.std.specs.Prelude.{ℕ, ◌+◌, ◌-◌, ◌*◌, List, [], ◌∷◌, length, sum_by, slice_get}
+use Rattle.std.specs.Prelude.{ℕ, ◌*◌, length, sum_by}
 use Rattle.bytecode.specs.Code.{Function, Code}
 
 -- how many instructions a code has

@@ -1,11 +1,11 @@
 -- What sends and receives do, branch by branch.
-use Rattle.std.proofs.Common.{◌≡◌, ℕ, zero, suc, ◌+◌, Bool, true, false, cond, not, List, [], ◌∷◌, ◌++◌, length, drop, slice_set, Option, Some, None, refl, sym, ap, ◌∙◌}
+use Rattle.std.proofs.Common.{◌≡◌, ℕ, Bool, true, false, not, List, [], ◌∷◌, ◌++◌, Option, Some, None, refl, ap}
 use Rattle.std.specs.Prelude.{◌==◌}
 use Rattle.std.specs.List.{filter}
 use Rattle.word.specs.declared.request.Case.{Case}
-use Rattle.word.specs.Values.{Item, Request, Send, Receive, Select, Channel, Sleeper, Offer}
-use Rattle.word.specs.Requests.{channel_of, choose, receive_from, receive_ready, send_ready, without}
-use Rattle.channel_core.specs.Channels.{ChannelsValue, Others, shared_with, Does, Sends, Receives, Serves, IsAlone, IsServed}
+use Rattle.word.specs.Values.{Item, Request, Send, Receive, Select, Sleeper}
+use Rattle.word.specs.Requests.{choose, receive_ready, send_ready, without}
+use Rattle.channel_core.specs.Channels.{ChannelsValue, Others, shared_with, Does, Sends, Receives, Serves}
 use Rattle.channel_core.specs.declared.outcome.Outcome.{Outcome}
 use Rattle.channel_core.specs.declared.outcome.Outcome.TheVariants as outcomes
 

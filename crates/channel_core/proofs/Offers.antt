@@ -1,12 +1,10 @@
 -- The first offer of a select's clauses.
-use Rattle.std.proofs.Common.{◌≡◌, ℕ, zero, suc, ◌+◌, ◌<◌, Bool, true, false, cond, not, List, [], ◌∷◌, length, drop, get_or, Option, Some, None, option_map, refl, sym, ap, ◌∙◌, arith}
-use Rattle.std.specs.Prelude.{◌==◌, ◌&&◌}
-use Rattle.std.specs.Option.{is_some}
+use Rattle.std.proofs.Common.{◌≡◌, ℕ, suc, ◌+◌, ◌<◌, Bool, true, false, List, ◌∷◌, length, drop, get_or, Option, Some, None, option_map, refl, sym, ap, ◌∙◌}
 use Rattle.std.proofs.lemmas.List.{at_drop_more}
 use Rattle.word.specs.declared.request.Case.{Case}
 use Rattle.word.specs.Values.{Item, Offer, Sleeper}
 use Rattle.word.specs.Requests.{with_offer, clause_offers, first_offer, offers, or_else, partner}
-use Rattle.channel_core.specs.Channels.{is_offer, is_offer_of, partner_of}
+use Rattle.channel_core.specs.Channels.{is_offer_of, partner_of}
 use Rattle.channel_core.specs.declared.sleepers.Partner.{Partner}
 
 passed_over : (c i : ℕ) (sends : Bool) (chan : Option ℕ) (item : Option Item) (rest : List Offer) → is_offer_of c sends chan item ≡ false → first_offer c sends (with_offer i chan item rest) ≡ first_offer c sends rest
@@ -22,18 +20,6 @@ met number c i sends (Some k) item rest e = rw e refl
 
 at_clause : (c i : ℕ) (sends : Bool) (cases : List Case) (d : Case) → i < length cases → first_offer c sends (clause_offers (suc i) (drop i cases)) ≡ first_offer c sends (clause_offers (suc i) (get_or cases i d ∷ drop (i + 1) cases))
 at_clause c i sends cases d l = at_drop_more (λ xs. first_offer c sends (clause_offers (suc i) xs)) cases i d l
-
-pub next_clause : (c i : ℕ) (sends : Bool) (cases : List Case) (d : Case) → i < length cases → is_offer c sends (get_or cases i d) ≡ false → first_offer c sends (clause_offers (suc i) (drop i cases)) ≡ first_offer c sends (clause_offers (suc (i + 1)) (drop (i + 1) cases))
-next_clause c i sends cases d l e =
-    let x = get_or cases i d in
-    let next : suc i ≡ i + 1 = omega arith in
-    at_clause c i sends cases d l ∙ passed_over c (suc i) sends x.chan x.item (clause_offers (suc (suc i)) (drop (i + 1) cases)) e
-    ∙ ap (λ n. first_offer c sends (clause_offers (suc n) (drop (i + 1) cases))) next
-
-pub this_clause : (number c i : ℕ) (sends : Bool) (cases : List Case) (d : Case) → i < length cases → is_offer c sends (get_or cases i d) ≡ true → option_map (as_partner number) (first_offer c sends (clause_offers (suc i) (drop i cases))) ≡ Some (record { number = number; case = suc i; item = (get_or cases i d).item })
-this_clause number c i sends cases d l e =
-    let x = get_or cases i d in
-    ap (option_map (as_partner number)) (at_clause c i sends cases d l) ∙ met number c (suc i) sends x.chan x.item (clause_offers (suc (suc i)) (drop (i + 1) cases)) e
 
 -- ---- the first sleeper with an offer
 

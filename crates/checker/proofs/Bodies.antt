@@ -1,5 +1,5 @@
 -- Bodies of functions in memory, and flaws of parts of a file.
-use Rattle.std.proofs.Common.{◌≡◌, ℕ, ◌+◌, ◌⊎◌, inl, inr, false, List, [], ◌∷◌, ◌++◌, map, sum_by, IsTrue, subst, sym, ap, ◌∙◌, arith}
+use Rattle.std.proofs.Common.{◌≡◌, ℕ, ◌+◌, ◌⊎◌, inl, inr, List, [], ◌∷◌, map, sum_by, IsTrue, subst, sym, ap, ◌∙◌, arith}
 use Rattle.syntax.specs.declared.node.FunctionNode.{FunctionNode}
 use Rattle.syntax.specs.declared.node.StatementNode.{StatementNode}
 use Rattle.syntax.specs.Tree.{Statement, statements_in, Top, StructTop, FunctionTop, File}
@@ -11,8 +11,8 @@ use Rattle.checker.specs.declared.refusal.Refusal.{Refusal}
 use Rattle.checker.specs.declared.refusal.Refusal.TheVariants.{Memory, Flawed}
 use Rattle.checker.specs.Built.{is_built_function}
 use Rattle.checker.specs.Refusals.{Refuses}
-use Rattle.checker.specs.Rules.{Signature, BodyIn, BodyHas, ParametersHave, parameters, with_top, HeadersHave, BodiesHave, ParametersBreak, signatures, FileHas}
-use Rattle.checker.proofs.Sizes.{IsBuiltIn, built_in}
+use Rattle.checker.specs.Rules.{Signature, BodyIn, BodyHas, parameters, with_top, HeadersHave, BodiesHave, ParametersBreak, signatures, FileHas}
+use Rattle.checker.proofs.Sizes.{built_in}
 
 pub refuses_more : (P Q : Flaw → Type 0) (e : Refusal) → ((flaw : Flaw) → P flaw → Q flaw) → Refuses P e → Refuses Q e
 refuses_more P Q Memory more r = tt

@@ -1,5 +1,5 @@
 -- A file in which no rule is broken and no limit exceeded is a program.
-use Rattle.std.proofs.Common.{◌≡◌, ℕ, zero, suc, ◌+◌, ◌-◌, ◌<◌, ◌≤◌, Bool, true, false, not, ◌&&◌, cond, ◌⊎◌, inl, inr, ℤ, List, [], ◌∷◌, ◌++◌, map, length, Option, Some, None, option_map, option_and_then, Result, Ok, Err, IsTrue, nat_lt, nat_le, sum_by, refl, sym, ap, ◌∙◌, subst, arith, codes, slice_get, bytes_eq, length-append}
+use Rattle.std.proofs.Common.{◌≡◌, ℕ, zero, suc, ◌+◌, ◌-◌, ◌<◌, ◌≤◌, Bool, true, false, not, ◌&&◌, cond, inl, inr, ℤ, List, [], ◌∷◌, ◌++◌, map, length, Option, Some, None, option_map, option_and_then, Result, Ok, Err, IsTrue, nat_lt, nat_le, sum_by, refl, sym, ap, ◌∙◌, subst, arith, slice_get, bytes_eq, length-append}
 use Rattle.std.specs.Option.{is_some, is_none}
 use Rattle.std.specs.Result.{result_ok}
 use Rattle.std.proofs.lemmas.Option.{same_Some}
@@ -8,8 +8,8 @@ use Rattle.std.proofs.lemmas.Bool.Decides.{nat_tests}
 use Rattle.go_text.specs.declared.rule.Rule.{Rule}
 use Rattle.go_text.specs.declared.rule.Rule.TheVariants as rules
 use Rattle.go_text.specs.declared.rule.LimitKind.TheVariants as limits
-use Rattle.syntax.specs.Tree.{TypeExpression, Expression, Integer, Named, Parenthesized, Selection, Composite, Unary, Binary, Part, Value, Text, Statement, statements_in, Declared, Function, Top, StructTop, FunctionTop, File}
-use Rattle.syntax.specs.Measures.{type_size, expression_size, part_size, statement_size, declared_size, top_size, size}
+use Rattle.syntax.specs.Tree.{Expression, Integer, Named, Parenthesized, Selection, Composite, Unary, Binary, Part, Value, Text, Statement, statements_in, Declared, Top, StructTop, FunctionTop, File}
+use Rattle.syntax.specs.Measures.{type_size, expression_size, statement_size, declared_size, top_size, size}
 use Rattle.checker_base.specs.declared.flaw.Flaw.{Flaw}
 use Rattle.checker_base.specs.declared.flaw.Flaw.TheVariants.{Broken, Exceeded}
 use Rattle.checker_base.specs.declared.types.Scalar.{Scalar}
@@ -21,16 +21,16 @@ use Rattle.checker_base.specs.declared.worth.Worth.TheVariants.{Typed, Constant}
 use Rattle.checker_base.specs.declared.worth.Misuse.{Misuse}
 use Rattle.checker_base.specs.declared.worth.Misuse.TheVariants as misuses
 use Rattle.checker_base.specs.Flaws.{IsBroken, IsExceeded, IsMisuse}
-use Rattle.checker_base.specs.Types.{int, is_int as is_int_type, type_in, is_built_type}
-use Rattle.checker_base.specs.Scopes.{Variable, Scope, is_blank, is_reserved, place_of, kind_of, named_worth}
+use Rattle.checker_base.specs.Types.{int, is_int as is_int_type, type_in}
+use Rattle.checker_base.specs.Scopes.{Variable, Scope, is_blank, place_of, kind_of, named_worth}
 use Rattle.checker_base.specs.Worths.{literal, is_int, unary_worth, binary_worth, worth}
 use Rattle.checker_base.specs.Expressions.{is_built_unary, is_built_binary, is_built_expression, Fails, UnaryHas, BinaryHas, ExpressionHas}
 use Rattle.checker.specs.Actions.{Target, Declares, Assigns, Origin, FromValue, FromReceive, FromMake, Action, Idles, Prints, Sends, Receives, Sets, Starts, action, origin_size}
 use Rattle.checker.specs.Built.{are_all, is_built_part, is_built_origin, is_built_action, is_built_in, is_built_statement, is_built_parameter, is_absent, is_built_function, is_built_top, IsBuilt}
-use Rattle.checker.specs.Rules.{Signature, same_scalar, same_type, fits, is_large, ValueHas, default_type, element_of, ChannelHas, channel_type, TypeHas, MadeHas, PrintedHas, PartsHave, OriginHas, origin_worth, is_new, DeclaresHas, assigned_type, AssignsHas, SetsHas, kinds_in, kinds_at, callee, ArgumentsBreak, ArgumentsHave, CalleeHas, ActionHas, StatementHas, StatementsHave, after, after_all, is_taken, NamesHave, with_names, ParametersHave, with_parameters, parameters, signature, signatures, with_signature, is_name_taken, with_top, HeaderHas, HeadersHave, BodyHas, BodiesHave, has_main, FileHas, IsTyped}
-use Rattle.checker.specs.Program.{IsUsable, IsPrintable, IsGoodPart, AreGoodParts, IsChannel, IsGoodOrigin, target_type, AllFit, IsGoodAction, IsGood, AreGood, is_typed_parameter, IsGoodFunction, AreGoodTops, IsProgram}
-use Rattle.checker.proofs.Sizes.{both, true_is}
-use Rattle.checker.proofs.Nodes.{expression_positive, type_positive}
+use Rattle.checker.specs.Rules.{Signature, same_scalar, same_type, fits, is_large, ValueHas, default_type, element_of, ChannelHas, channel_type, TypeHas, MadeHas, PrintedHas, PartsHave, OriginHas, origin_worth, assigned_type, AssignsHas, SetsHas, kinds_at, callee, ArgumentsBreak, ArgumentsHave, CalleeHas, ActionHas, StatementHas, StatementsHave, after, with_names, ParametersHave, with_parameters, parameters, signature, signatures, HeadersHave, BodiesHave, has_main, FileHas, IsTyped}
+use Rattle.checker.specs.Program.{IsUsable, IsPrintable, AreGoodParts, IsChannel, IsGoodOrigin, target_type, AllFit, IsGoodAction, IsGood, AreGood, is_typed_parameter, AreGoodTops, IsProgram}
+use Rattle.checker.proofs.Sizes.{both}
+use Rattle.checker.proofs.Nodes.{expression_positive}
 
 -- ---- nothing is wrong with an expression: it is worth something
 
@@ -104,9 +104,6 @@ int_is (types.Channel s) e = absurd (false≢true e)
 not_false : (b : Bool) → not b ≡ false → b ≡ true
 not_false true e = refl
 not_false false e = absurd (false≢true (sym e))
-
-not_true : (b : Bool) → b ≡ false → not b ≡ true
-not_true b e = ap not e
 
 usable : (w : Worth) (t : ValueType) (end : ℕ) → 1 ≤ end → ((flaw : Flaw) → ValueHas (Some w) (Some t) end flaw → ⊥) → IsUsable (Some w) (Some t)
 usable w t end le none = go (fits w t) (is_large w) refl refl where

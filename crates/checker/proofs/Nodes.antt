@@ -1,10 +1,10 @@
 -- A flaw's node is one of the file's.
-use Rattle.std.proofs.Common.{◌≡◌, ℕ, ◌+◌, ◌<◌, ◌≤◌, Bool, true, false, ◌⊎◌, inl, inr, List, [], ◌∷◌, ◌++◌, Option, Some, None, option_map, Result, Ok, Err, sum_by, length, refl, sym, ap, arith}
+use Rattle.std.proofs.Common.{◌≡◌, ℕ, ◌+◌, ◌<◌, ◌≤◌, inl, inr, List, [], ◌∷◌, ◌++◌, Option, Some, None, Result, Ok, Err, sum_by, refl, arith}
 use Rattle.std.proofs.lemmas.List.Sums.{sum_by-cons}
 use Rattle.go_text.specs.declared.rule.Rule.{Rule}
 use Rattle.go_text.specs.declared.rule.LimitKind.{LimitKind}
 use Rattle.syntax.specs.Tree.{Expression, Integer, Named, Parenthesized, Selection, Composite, Unary, Binary, Part, Value, Text, Statement, Statements, NoStatement, Then, statements_in, TypeExpression, NamedType, ParenthesizedType, Channel, Declared, Function, Top, StructTop, FunctionTop, File}
-use Rattle.syntax.specs.Measures.{type_size, expression_size, part_size, statement_size, statements_size, declared_size, function_size, top_size, size}
+use Rattle.syntax.specs.Measures.{type_size, expression_size, part_size, statement_size, statements_size, declared_size, top_size, size}
 use Rattle.checker_base.specs.declared.flaw.Flaw.{Flaw}
 use Rattle.checker_base.specs.declared.flaw.Flaw.TheVariants.{Broken, Exceeded}
 use Rattle.checker_base.specs.declared.types.ValueType.{ValueType}
@@ -17,8 +17,8 @@ use Rattle.checker_base.specs.Worths.{unary_worth, binary_worth, worth}
 use Rattle.checker_base.specs.Types.{type_in}
 use Rattle.checker_base.specs.Expressions.{Fails, UnaryHas, BinaryHas, ExpressionHas}
 use Rattle.checker.specs.Actions.{Target, Declares, Assigns, Origin, FromValue, FromReceive, FromMake, Action, Idles, Prints, Sends, Receives, Sets, Starts, action, origin_size, action_size}
-use Rattle.checker.specs.Rules.{Signature, ValueHas, ChannelHas, MadeHas, TypeHas, PrintedHas, PartHas, PartsHave, OriginHas, DeclaresHas, AssignsHas, SetsHas, ArgumentsBreak, ArgumentsHave, CalleeHas, ActionHas, StatementHas, StatementsHave, NamesHave, ParametersHave, HeaderHas, TopHeaderHas, HeadersHave, BodyIn, BodyHas, TopBodyHas, BodiesHave, FileHas, after, with_names, with_top, origin_worth, element_of, callee, kinds_at, default_type, assigned_type}
-use Rattle.checker.proofs.Sizes.{action_size_is, statement_positive}
+use Rattle.checker.specs.Rules.{Signature, ValueHas, ChannelHas, MadeHas, TypeHas, PrintedHas, PartHas, PartsHave, OriginHas, DeclaresHas, AssignsHas, SetsHas, ArgumentsBreak, ArgumentsHave, CalleeHas, ActionHas, StatementHas, StatementsHave, NamesHave, ParametersHave, HeaderHas, HeadersHave, BodyHas, BodiesHave, FileHas, after, with_names, with_top, origin_worth, callee, kinds_at, default_type, assigned_type}
+use Rattle.checker.proofs.Sizes.{action_size_is}
 
 broken : (rule : Rule) (end : ℕ) (flaw : Flaw) → IsBroken rule end flaw → node_of flaw + 1 ≡ end
 broken rule end (Broken r n) has = has.1

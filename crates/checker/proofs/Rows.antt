@@ -1,10 +1,10 @@
 -- Programs whose events follow from the definitions by computation alone.
-use Rattle.std.proofs.Common.{◌≡◌, ℕ, true, false, List, [], ◌∷◌, map, Option, Some, None, refl, codes}
+use Rattle.std.proofs.Common.{◌≡◌, ℕ, true, false, List, [], ◌∷◌, map, Some, None, refl, codes}
 use Rattle.syntax.specs.declared.node.Direction.TheVariants as directions
-use Rattle.syntax.specs.Tree.{NamedType, Channel, Integer, Named, Receive, Make, RightOperation, Values, Value, Print, ReceiveAlone, Send, Assign, Define, Statement, Alone, Go, statements, FunctionTop, File}
+use Rattle.syntax.specs.Tree.{NamedType, Channel, Integer, Named, Receive, Make, RightOperation, Value, Print, Send, Define, Statement, Alone, Go, statements, FunctionTop, File}
 use Rattle.checker.specs.Source.{source_kind}
 use Rattle.word.specs.Values.{Event}
-use Rattle.word.specs.declared.end.End.TheVariants.{Finished, Deadlock}
+use Rattle.word.specs.declared.end.End.TheVariants.{Finished}
 use Rattle.word.specs.Worlds.{moment, end_of}
 
 made : List ℕ → List ℕ → Statement
@@ -69,11 +69,3 @@ alone = record {
       })
       ∷ [];
 }
-
-alone_ends : end_of (moment (source_kind alone) 1000 12) ≡ Some Deadlock
-unfolding alone made
-alone_ends = refl
-
-alone_clocks : map (λ (e : Event). e.clock) (moment (source_kind alone) 1000 12).shared.shared.events ≡ 0 ∷ 2 ∷ []
-unfolding alone made
-alone_clocks = refl

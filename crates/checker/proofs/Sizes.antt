@@ -1,11 +1,11 @@
 -- How many nodes the statement of an action has.
-use Rattle.std.proofs.Common.{◌≡◌, ℕ, ◌+◌, ◌≤◌, Bool, true, false, ◌&&◌, IsTrue, map, subst, List, [], ◌∷◌, Option, Some, None, refl, sym, ap, ◌∙◌, arith, length, sum_by}
+use Rattle.std.proofs.Common.{◌≡◌, ℕ, ◌+◌, ◌≤◌, Bool, true, false, ◌&&◌, IsTrue, map, subst, List, [], ◌∷◌, Option, Some, None, refl, sym, ap, arith, sum_by}
 use Rattle.std.specs.Option.{is_some}
 use Rattle.std.specs.Prelude.{option_map}
 use Rattle.std.proofs.lemmas.Bool.{false≢true}
 use Rattle.std.proofs.lemmas.Option.{same_Some}
 use Rattle.std.proofs.lemmas.List.Sums.{sum_by-cons}
-use Rattle.syntax.specs.Tree.{Expression, Operation, Call, Receive, Make, Length, Capacity, Right, RightOperation, Values, Part, Place, Simple, CallAlone, Close, Print, ReceiveAlone, Send, Increment, Decrement, Assign, Define, Update, Statement, Empty, Alone, VarTyped, VarUntyped, Block, If, For, Select, Go, Return, Break, Continue, Branch, Conditional}
+use Rattle.syntax.specs.Tree.{Operation, Call, Receive, Make, Length, Capacity, Right, RightOperation, Values, Place, Simple, CallAlone, Close, Print, ReceiveAlone, Send, Increment, Decrement, Assign, Define, Update, Statement, Empty, Alone, VarTyped, VarUntyped, Block, If, For, Select, Go, Return, Break, Continue, Branch, Conditional}
 use Rattle.syntax.specs.Measures.{operation_size, right_size, statement_size, simple_size, expression_size, branch_size}
 use Rattle.syntax.specs.declared.node.FunctionNode.{FunctionNode}
 use Rattle.syntax.specs.Tree.{TypeExpression, statements_in}
@@ -13,7 +13,7 @@ use Rattle.syntax.specs.Measures.{type_size, if_any, declared_size, function_siz
 use Rattle.syntax.specs.View.{declared_of, statement_of, function_of}
 use Rattle.syntax.proofs.Lists.{statements_in-statements, statements_size-of}
 use Rattle.checker.specs.Built.{are_all, is_built_parameter, is_absent, is_built_statement, is_built_function}
-use Rattle.checker.specs.Actions.{Target, Declares, Assigns, Origin, Action, Idles, Prints, Sends, Receives, Sets, Starts, operation_origin, right_origin, place_target, sets, simple_action, action, target_size, origin_size, action_size}
+use Rattle.checker.specs.Actions.{Target, Declares, Assigns, Origin, Action, Sets, operation_origin, right_origin, place_target, sets, simple_action, action, target_size, origin_size, action_size}
 
 operation_is : (operation : Operation) (origin : Origin) → operation_origin operation ≡ Some origin → operation_size operation ≡ origin_size origin
 operation_is (Receive channel) origin is = ap origin_size (same_Some _ origin is)
@@ -147,9 +147,6 @@ function_size_of f = omega (arith, statements_size-of (map statement_of f.body.i
 
 pub first_of : (a b c : Bool) → IsTrue (a && b && c) → IsTrue a
 first_of a b c h = (both a b (both (a && b) c h).0).0
-
-pub second_of : (a b c : Bool) → IsTrue (a && b && c) → IsTrue b
-second_of a b c h = (both a b (both (a && b) c h).0).1
 
 pub third_of : (a b c : Bool) → IsTrue (a && b && c) → IsTrue c
 third_of a b c h = (both (a && b) c h).1

@@ -1,5 +1,5 @@
 -- What the statements of the part of the language that is compiled today do.
-use Rattle.std.specs.Prelude.{ℕ, ◌+◌, Bool, Option, Some, None, option_map, List, [], ◌∷◌, map, sum_by}
+use Rattle.std.specs.Prelude.{ℕ, ◌+◌, Bool, Option, Some, None, List, [], ◌∷◌, map, sum_by}
 use Rattle.syntax.specs.Tree.{TypeExpression, Expression, Operation, Receive, Make, Right, RightOperation, Values, Part, Place, Simple, Print, ReceiveAlone, Send, Assign, Define, Statement, Empty, Alone, Go}
 use Rattle.syntax.specs.Measures.{type_size, expression_size, part_size}
 use Rattle.syntax.specs.View.{name_of, type_of, expression_of, part_of}

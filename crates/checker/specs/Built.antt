@@ -1,6 +1,6 @@
 -- Which part of the language is compiled today: functions without a result, whose statements print, declare or assign one
 -- variable, send, receive, or start a goroutine.
-use Rattle.std.specs.Prelude.{ℕ, Bool, true, false, ◌&&◌, Option, Some, None, List, [], ◌∷◌, IsTrue}
+use Rattle.std.specs.Prelude.{Bool, true, false, ◌&&◌, Option, Some, None, List, [], ◌∷◌, IsTrue}
 use Rattle.syntax.specs.Tree.{Part, Value, Text, Statement, statements_in, Declared, Function, Top, StructTop, FunctionTop, File}
 use Rattle.checker.specs.Actions.{Origin, FromValue, FromReceive, FromMake, Action, Idles, Prints, Sends, Receives, Sets, Starts, action}
 use Rattle.checker_base.specs.Expressions.{is_built_expression}

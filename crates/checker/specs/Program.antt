@@ -1,5 +1,5 @@
 -- What the check says of a tree: a refusal, or that it is a program.
-use Rattle.std.specs.Prelude.{◌≡◌, ℕ, ◌≤◌, ◌⊎◌, Bool, true, false, Some, None, Option, List, [], ◌∷◌, length, slice_get, IsTrue}
+use Rattle.std.specs.Prelude.{◌≡◌, ℕ, ◌≤◌, Bool, true, Some, None, Option, List, [], ◌∷◌, length, slice_get, IsTrue}
 use Rattle.std.specs.Option.{is_some}
 use Rattle.go_text.specs.declared.fault.Fault.{Fault}
 use Rattle.go_text.specs.declared.fault.Fault.TheVariants as faults

@@ -1,5 +1,5 @@
 -- Which rule is broken, or which limit exceeded, at which node of a file.
-use Rattle.std.specs.Prelude.{◌≡◌, ℕ, zero, suc, ◌+◌, ◌<◌, ◌≤◌, ◌⊎◌, Bool, true, false, not, ◌&&◌, ◌||◌, if◌then◌else◌, Option, Some, None, option_map, option_and_then, List, [], ◌∷◌, ◌++◌, map, length, sum_by, slice_get, bytes_eq, codes}
+use Rattle.std.specs.Prelude.{◌≡◌, ℕ, suc, ◌+◌, ◌<◌, ◌≤◌, ◌⊎◌, Bool, true, false, not, ◌&&◌, ◌||◌, if◌then◌else◌, Option, Some, None, option_map, option_and_then, List, [], ◌∷◌, ◌++◌, map, length, sum_by, slice_get, bytes_eq, codes}
 use Rattle.std.specs.Option.{is_some, is_none}
 use Rattle.go_text.specs.declared.rule.Rule.{Rule}
 use Rattle.go_text.specs.declared.rule.Rule.TheVariants as rules
@@ -20,7 +20,7 @@ use Rattle.checker_base.specs.Worths.{is_int, worth}
 use Rattle.checker_base.specs.Flaws.{IsBroken, IsExceeded}
 use Rattle.checker_base.specs.Expressions.{ExpressionHas}
 use Rattle.checker.specs.declared.signature.FunctionType.{FunctionType}
-use Rattle.checker.specs.Actions.{Target, Declares, Assigns, Origin, FromValue, FromReceive, FromMake, Action, Idles, Prints, Sends, Receives, Sets, Starts, action, target_size, origin_size, action_size}
+use Rattle.checker.specs.Actions.{Target, Declares, Assigns, Origin, FromValue, FromReceive, FromMake, Action, Idles, Prints, Sends, Receives, Sets, Starts, action, origin_size}
 
 -- ---- values in places of types (Go: Assignability)
 

@@ -1,24 +1,24 @@
 -- What a program does: its source as a kind of goroutine.
-use Rattle.std.specs.Prelude.{ℕ, zero, suc, ◌+◌, ℤ, pos, Bool, true, false, cond, Option, Some, None, option_map, unwrap_or, Result, Ok, Err, List, [], ◌∷◌, ◌++◌, map, if◌then◌else◌, bytes_eq, codes}
+use Rattle.std.specs.Prelude.{ℕ, zero, suc, pos, Bool, false, cond, Option, Some, None, option_map, unwrap_or, Ok, List, [], ◌∷◌, ◌++◌, map, if◌then◌else◌, bytes_eq, codes}
 use Rattle.syntax.specs.declared.node.BinaryOperator.{BinaryOperator}
 use Rattle.syntax.specs.declared.node.BinaryOperator.TheVariants.{Subtract}
-use Rattle.syntax.specs.Tree.{Expression, Integer, Named, Parenthesized, Unary, Binary, Part, Value as ValuePart, Text, Statement, statements_in, Function, Top, StructTop, FunctionTop, File}
+use Rattle.syntax.specs.Tree.{Expression, Integer, Named, Parenthesized, Unary, Binary, Part, Value as ValuePart, Text, Statement, statements_in, Top, StructTop, FunctionTop, File}
 use Rattle.checker_base.specs.declared.types.Scalar.{Scalar}
 use Rattle.checker_base.specs.declared.types.Scalar.TheVariants as scalars
 use Rattle.checker_base.specs.declared.types.ValueType.{ValueType}
 use Rattle.checker_base.specs.declared.types.ValueType.TheVariants as types
 use Rattle.checker_base.specs.declared.worth.Worth.{Worth}
-use Rattle.checker_base.specs.declared.worth.Worth.TheVariants.{Typed, Constant}
+use Rattle.checker_base.specs.declared.worth.Worth.TheVariants.{Constant}
 use Rattle.checker_base.specs.Types.{type_in}
 use Rattle.checker_base.specs.Scopes.{Variable, Scope, is_blank, is_truth, place_of}
 use Rattle.checker_base.specs.Worths.{worth}
-use Rattle.checker.specs.Actions.{Target, Declares, Assigns, Origin, FromValue, FromReceive, FromMake, Action, Idles, Prints, Sends, Receives, Sets, Starts, action}
-use Rattle.checker.specs.Rules.{default_type, element_of, channel_type, origin_worth, callee, function_of_name, Signature, signatures, parameters}
+use Rattle.checker.specs.Actions.{Target, Declares, Assigns, FromValue, FromReceive, FromMake, Action, Idles, Prints, Sends, Receives, Sets, Starts, action}
+use Rattle.checker.specs.Rules.{default_type, channel_type, origin_worth, callee, function_of_name, Signature, signatures, parameters}
 use Rattle.word.specs.declared.value.Word.{Word}
 use Rattle.word.specs.declared.value.Word.TheVariants.{Int, Bool as Truth, Chan}
 use Rattle.word.specs.declared.apply.Op.TheVariants as ops
 use Rattle.word.specs.Apply.{Valued, value as applied}
-use Rattle.word.specs.Values.{Make, Go, Send, Receive, Print, End, Reply, Nothing, Value, Received, Clause, Default, Closed}
+use Rattle.word.specs.Values.{Make, Go, Send, Receive, Print, End, Reply, Value, Received, Clause}
 use Rattle.word.specs.Kinds.{Next, Slides, Ticks, Asks, Stuck, Kind}
 use Rattle.word.specs.Text.{text_of}
 

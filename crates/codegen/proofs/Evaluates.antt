@@ -1,12 +1,12 @@
 -- The code of an expression pushes its value.
-use Rattle.std.proofs.Common.{◌≡◌, ℕ, ℤ, pos, zero, suc, ◌+◌, ◌<◌, ◌≤◌, ◌⊎◌, inl, inr, Bool, true, false, cond, ◌&&◌, List, [], ◌∷◌, ◌++◌, length, drop, map, Option, Some, None, option_map, option_and_then, Result, Ok, Err, IsTrue, refl, sym, ap, ◌∙◌, subst, arith, append_assoc, slice_get, bytes_eq, codes, length-append}
+use Rattle.std.proofs.Common.{◌≡◌, ℕ, ℤ, pos, suc, ◌+◌, ◌<◌, Bool, true, false, cond, ◌&&◌, List, [], ◌∷◌, ◌++◌, length, drop, Option, Some, None, option_map, option_and_then, Result, Ok, Err, refl, sym, ap, ◌∙◌, subst, arith, append_assoc, slice_get, bytes_eq, codes, length-append}
 use Rattle.std.specs.Result.{result_ok}
 use Rattle.std.proofs.lemmas.Option.{same_Some}
 use Rattle.std.proofs.lemmas.Bool.{false≢true}
 use Rattle.bytecode.specs.declared.instr.Instr.{Instr}
 use Rattle.bytecode.specs.declared.instr.Instr.TheVariants as instrs
 use Rattle.bytecode.specs.Code.{Function, Code}
-use Rattle.bytecode.specs.Machine.{Frames, code_next, pops}
+use Rattle.bytecode.specs.Machine.{code_next, pops}
 use Rattle.checker_base.specs.declared.types.ValueType.{ValueType}
 use Rattle.checker_base.specs.declared.worth.Worth.{Worth}
 use Rattle.checker_base.specs.declared.worth.Worth.TheVariants.{Typed, Constant}
@@ -15,12 +15,12 @@ use Rattle.checker_base.specs.declared.worth.Misuse.TheVariants as misuses
 use Rattle.checker_base.specs.Types.{int, bool, is_int as is_int_type}
 use Rattle.checker_base.specs.Scopes.{Scope, is_blank, is_truth, place_of, kind_of as kind_there, variable_worth}
 use Rattle.checker_base.specs.Worths.{literal, is_int, bounded, sized, int_if, beside, unary, binary, unary_worth, binary_worth, worth}
-use Rattle.checker.specs.Program.{IsUsable, AllFit}
-use Rattle.checker.specs.Source.{Binding, Bindings, scope_in, word_at, outcome, exact, combined, value}
+use Rattle.checker.specs.Program.{IsUsable}
+use Rattle.checker.specs.Source.{Bindings, scope_in, word_at, outcome, exact, combined, value}
 use Rattle.checker.proofs.Fits.{int_is}
-use Rattle.codegen.specs.Generated.{folded, load, operator, pushes, pushes_all}
+use Rattle.codegen.specs.Generated.{folded, load, operator, pushes}
 use Rattle.codegen.proofs.Lists.{behind}
-use Rattle.codegen.proofs.Steps.{frame, frames, slips_more, pushes_int, pushes_bool, loads, applies, applies_one}
+use Rattle.codegen.proofs.Steps.{frames, slips_more, pushes_int, pushes_bool, loads, applies, applies_one}
 use Rattle.codegen.proofs.Values.{HasType, AllTyped, words, int_word, place_within, read, typed_at}
 use Rattle.syntax.specs.declared.node.UnaryOperator.{UnaryOperator}
 use Rattle.syntax.specs.declared.node.BinaryOperator.{BinaryOperator}
@@ -30,7 +30,7 @@ use Rattle.word.specs.declared.apply.Op.{Op}
 use Rattle.word.specs.declared.apply.Op.TheVariants as ops
 use Rattle.word.specs.Apply.{value as applied}
 use Rattle.word.specs.declared.value.Word.{Word}
-use Rattle.word.specs.declared.value.Word.TheVariants.{Int, Bool as Truth, Chan}
+use Rattle.word.specs.declared.value.Word.TheVariants.{Int, Bool as Truth}
 use Rattle.word.specs.Related.{Slips, here, more}
 
 -- ---- the operands of what is no constant are ints

@@ -1,5 +1,5 @@
 -- The code of a file keeps the verifier's rules.
-use Rattle.std.proofs.Common.{◌≡◌, ℤ, pos, bytes_eq, ℕ, zero, suc, ◌+◌, ◌-◌, ◌<◌, ◌≤◌, ◌⊎◌, inl, inr, Bool, true, false, cond, List, [], ◌∷◌, ◌++◌, length, drop, take, map, max, Option, Some, None, unwrap_or, option_and_then, option_map, refl, sym, ap, ◌∙◌, subst, arith, add-one, append_assoc, slice_get, slice_range, codes, length-append}
+use Rattle.std.proofs.Common.{◌≡◌, ℤ, pos, bytes_eq, ℕ, zero, suc, ◌+◌, ◌-◌, ◌<◌, ◌≤◌, Bool, true, false, cond, List, [], ◌∷◌, ◌++◌, length, drop, take, map, Option, Some, None, unwrap_or, option_and_then, option_map, refl, sym, ap, ◌∙◌, subst, arith, add-one, append_assoc, slice_get, slice_range, codes, length-append}
 use Rattle.std.proofs.lemmas.Option.{same_Some, slice_get_within}
 use Rattle.std.proofs.lemmas.Bool.{false≢true}
 use Rattle.std.proofs.lemmas.List.{append-nil, length-map, map-append}
@@ -7,12 +7,10 @@ use Rattle.bytecode.specs.declared.instr.Kind.{Kind}
 use Rattle.bytecode.specs.declared.instr.Kind.TheVariants as kinds
 use Rattle.bytecode.specs.declared.instr.Instr.{Instr}
 use Rattle.bytecode.specs.declared.instr.Instr.TheVariants as instrs
-use Rattle.bytecode.specs.declared.table.Part.TheVariants as parts
 use Rattle.bytecode.specs.declared.table.Part.{Part as TablePart}
 use Rattle.bytecode.specs.Code.{Function as CodeFunction, PrintTable, Code}
 use Rattle.bytecode.specs.Effects.{below, top_of, part_kinds, print_kinds, kinds_in, shape_kinds, params_in, wants, gives as gives_kinds, leaves, count, Enough, Meets, Fits, afterwards}
-use Rattle.bytecode.specs.Machine.{main_of}
-use Rattle.bytecode.specs.Rules.{ways, Path, Named, Inside, Directed, AreThere, IsThere, IsHeaded, Holds, IsShaped, IsShort, HasMain, IsVerified}
+use Rattle.bytecode.specs.Rules.{ways, Path, Named, Inside, Directed, AreThere, IsThere, Holds, IsShaped, IsShort, HasMain, IsVerified}
 use Rattle.checker_base.specs.declared.types.Scalar.{Scalar}
 use Rattle.checker_base.specs.declared.types.Scalar.TheVariants as scalars
 use Rattle.checker_base.specs.declared.types.ValueType.{ValueType}
@@ -22,20 +20,20 @@ use Rattle.checker_base.specs.declared.worth.Worth.TheVariants.{Typed, Constant}
 use Rattle.checker_base.specs.Types.{int, bool, type_in}
 use Rattle.checker_base.specs.Scopes.{Variable, Scope, is_blank, is_truth, place_of, kind_of as kind_there, variable_worth}
 use Rattle.checker_base.specs.Worths.{literal, worth}
-use Rattle.checker.specs.Actions.{Target, Declares, Assigns, Origin, FromValue, FromReceive, FromMake, Action, Idles, Prints, Sends, Receives, Sets, Starts, operation_origin, right_origin, place_target, sets, simple_action, action}
-use Rattle.checker.specs.Program.{IsUsable, IsPrintable, AreGoodParts, IsChannel, IsGoodOrigin, target_type, AllFit, IsGoodAction, IsGood, AreGood, IsGoodFunction, AreGoodTops, IsProgram}
-use Rattle.checker.specs.Rules.{Signature, default_type, element_of, channel_type, origin_worth, after, after_all, parameters, signature, signatures, callee, kinds_at, kinds_in as signature_kinds, has_none, function_of_name}
+use Rattle.checker.specs.Actions.{Target, Declares, Assigns, Origin, FromValue, FromReceive, FromMake, Action, Idles, Prints, Sends, Receives, Sets, Starts, right_origin, place_target, sets, action}
+use Rattle.checker.specs.Program.{IsUsable, IsPrintable, AreGoodParts, IsChannel, IsGoodOrigin, target_type, AllFit, IsGoodAction, IsGood, AreGood, IsProgram}
+use Rattle.checker.specs.Rules.{Signature, default_type, element_of, channel_type, origin_worth, after, after_all, parameters, signatures, callee, kinds_at, kinds_in as signature_kinds, has_none}
 use Rattle.codegen.specs.Generated.{int_of, kind_of, shape_of, shape_in, shapes, folded, load, operator, pushes, pushes_all, pushes_parts, printed_as, part_in, table_in, store, keeps, receive, gives, action_code, body_code, tables_of, local_kinds, function_code, function_tables, functions_code, all_tables, code_of}
 use Rattle.codegen.proofs.Evaluates.{unary_typed, binary_typed}
-use Rattle.codegen.proofs.Follows.{printable_type, usable_default, usable_type, hidden_name}
-use Rattle.codegen.proofs.Lists.{first_left, next_left, behind}
-use Rattle.codegen.proofs.Stands.{with_target, with_target_is, grows, grows_one, longer, main_is, named_within, main_there, Located, locate}
+use Rattle.codegen.proofs.Follows.{usable_default, usable_type, hidden_name}
+use Rattle.codegen.proofs.Lists.{first_left, behind}
+use Rattle.codegen.proofs.Stands.{grows, grows_one, longer, main_is, named_within, main_there, Located, locate}
 use Rattle.codegen.proofs.Values.{bound_scope, place_within}
 use Rattle.checker.specs.Source.{bound, declared}
 use Rattle.codegen.proofs.Steps.{below_of, top_of_is}
 use Rattle.syntax.specs.declared.node.BinaryOperator.{BinaryOperator}
 use Rattle.syntax.specs.declared.node.BinaryOperator.TheVariants.{Subtract}
-use Rattle.syntax.specs.Tree.{TypeExpression, Expression, Integer, Named as NamedExpression, Parenthesized, Selection, Composite, Unary, Binary, Part, Value, Text, Simple, CallAlone, Close, Print, ReceiveAlone, Send, Increment, Decrement, Assign, Define, Update, Statement, Statements, NoStatement, Then, statements_in, Empty, Alone, VarTyped, VarUntyped, Block, If, For, Select, Go, Return, Break, Continue, Function, Top, StructTop, FunctionTop, File}
+use Rattle.syntax.specs.Tree.{Expression, Integer, Named as NamedExpression, Parenthesized, Selection, Composite, Unary, Binary, Part, Value, Text, CallAlone, Close, Print, ReceiveAlone, Send, Increment, Decrement, Assign, Define, Update, Statement, Statements, NoStatement, Then, statements_in, Empty, Alone, VarTyped, VarUntyped, Block, If, For, Select, Go, Return, Break, Continue, Function, Top, StructTop, FunctionTop, File}
 use Rattle.syntax.specs.Measures.{Entries, highest, statement_longest, statements_longest, top_longest, most_entries}
 use Rattle.word.specs.declared.apply.Op.{Op}
 use Rattle.word.specs.declared.apply.Op.TheVariants as ops

@@ -1,17 +1,14 @@
 -- The code of a file does what the file does, step by step.
-use Rattle.std.proofs.Common.{◌≡◌, ℕ, ℤ, pos, zero, suc, ◌+◌, ◌-◌, ◌<◌, ◌≤◌, Bool, true, false, cond, List, [], ◌∷◌, ◌++◌, length, drop, take, map, Option, Some, None, option_map, option_and_then, unwrap_or, refl, sym, ap, ◌∙◌, subst, arith, append_assoc, slice_get, slice_range, codes, nat_lt, length-append, IsTrue}
-use Rattle.std.proofs.lemmas.Option.{same_Some}
-use Rattle.std.proofs.lemmas.Bool.Decides.{nat_tests}
+use Rattle.std.proofs.Common.{◌≡◌, ℕ, pos, zero, suc, ◌+◌, ◌-◌, ◌<◌, ◌≤◌, Bool, true, false, cond, List, [], ◌∷◌, ◌++◌, length, drop, take, map, Option, Some, None, option_map, option_and_then, unwrap_or, refl, sym, ap, ◌∙◌, subst, arith, append_assoc, slice_get, codes, length-append}
 use Rattle.std.proofs.lemmas.List.{append-nil, length-map}
 use Rattle.bytecode.specs.declared.instr.Kind.{Kind}
 use Rattle.bytecode.specs.declared.instr.Kind.TheVariants as kinds
 use Rattle.bytecode.specs.declared.instr.Instr.{Instr}
 use Rattle.bytecode.specs.declared.instr.Instr.TheVariants as instrs
 use Rattle.bytecode.specs.declared.table.Part.{Part as TablePart}
-use Rattle.bytecode.specs.declared.table.Part.TheVariants as parts
 use Rattle.bytecode.specs.Code.{Function as CodeFunction, PrintTable, Code}
-use Rattle.bytecode.specs.Effects.{part_kinds, print_kinds, kinds_in, shape_kinds, params_in}
-use Rattle.bytecode.specs.Machine.{Frame, Frames, Step, if_there, printed as code_printed, printed_rest, part_text as code_text, part_rest, pops, code_next, code_answer, code_begin, fitted, zero_of, on_chan, on_int, if_within, reply_words as code_words, code_kind, main_of}
+use Rattle.bytecode.specs.Effects.{part_kinds, print_kinds, shape_kinds, params_in}
+use Rattle.bytecode.specs.Machine.{Frames, Step, if_there, printed as code_printed, printed_rest, part_text as code_text, part_rest, pops, code_next, code_answer, code_begin, fitted, zero_of, on_chan, on_int, if_within, reply_words as code_words, code_kind, main_of}
 use Rattle.checker_base.specs.declared.types.Scalar.{Scalar}
 use Rattle.checker_base.specs.declared.types.Scalar.TheVariants as scalars
 use Rattle.checker_base.specs.declared.types.ValueType.{ValueType}
@@ -22,10 +19,10 @@ use Rattle.checker_base.specs.Types.{int, type_in}
 use Rattle.checker_base.specs.Scopes.{Variable, Scope, is_blank, place_of, kind_of as kind_there}
 use Rattle.checker_base.specs.Worths.{worth}
 use Rattle.checker.specs.Actions.{Target, Declares, Assigns, Origin, FromValue, FromReceive, FromMake, Action, Idles, Prints, Sends, Receives, Sets, Starts, action}
-use Rattle.checker.specs.Program.{IsUsable, IsPrintable, IsGoodPart, AreGoodParts, IsChannel, IsGoodOrigin, target_type, AllFit, IsGoodAction, IsGood, AreGood, IsProgram}
-use Rattle.checker.specs.Rules.{Signature, default_type, element_of, channel_type, origin_worth, assigned_type, after, after_all, parameters, signature, signatures, function_of_name, callee, kinds_at, kinds_in as signature_kinds}
-use Rattle.checker.specs.Source.{Binding, Bindings, declared, scope_in, zero_word, as_word, first_as, word_at, put, value, part_text, more_text, printed, Task, Do, Write, Running, running, written, channel_in, item_zero, act, acts, next_of, source_next, reply_words, told, source_answer, all_of, begun, source_kind}
-use Rattle.codegen.specs.Generated.{kind_of, shape_of, shape_in, shapes, pushes, pushes_all, pushes_parts, printed_as, part_in, table_in, store, keeps, receive, gives, action_code, body_code, tables_of, function_code, local_kinds, code_of}
+use Rattle.checker.specs.Program.{IsUsable, IsPrintable, AreGoodParts, IsChannel, target_type, AllFit, IsGoodAction, IsGood, AreGood, IsProgram}
+use Rattle.checker.specs.Rules.{Signature, default_type, element_of, channel_type, origin_worth, after, after_all, parameters, signatures, function_of_name, callee, kinds_at, kinds_in as signature_kinds}
+use Rattle.checker.specs.Source.{Binding, Bindings, declared, scope_in, first_as, put, value, more_text, printed, Task, Do, Write, Running, running, written, channel_in, item_zero, act, acts, next_of, source_next, reply_words, told, all_of, begun, source_kind}
+use Rattle.codegen.specs.Generated.{kind_of, shape_of, shape_in, shapes, pushes, pushes_all, pushes_parts, printed_as, part_in, table_in, store, keeps, receive, action_code, body_code, tables_of, function_code, local_kinds, code_of}
 use Rattle.codegen.proofs.Evaluates.{Pushes, evaluates}
 use Rattle.codegen.proofs.Lists.{first_left, next_left, behind}
 use Rattle.codegen.proofs.Stands.{with_target, with_target_is, longer, grows, main_is, named_within, main_there, Located, locate, functions, code, Standing, Ready, FitsAt, FitsTarget, Writing, Stands, Near, ready_stands, begins_near}

@@ -1,12 +1,12 @@
 -- Functions in memory.
-use Rattle.std.proofs.Common.{◌≡◌, ℕ, ◌+◌, ◌<◌, ◌≤◌, Bool, true, false, cond, List, [], ◌∷◌, length, map, sum_by, refl, sym, ap, ◌∙◌, arith}
+use Rattle.std.proofs.Common.{◌≡◌, ℕ, ◌≤◌, Bool, true, false, cond, List, [], ◌∷◌, length, map, sum_by, refl, ap, arith}
 use Rattle.std.specs.Prelude.{IsUtf8}
 use Rattle.std.specs.Str.{is_utf8}
 use Rattle.std.proofs.lemmas.Str.{is_utf8-from_IsUtf8, IsUtf8-from_is_utf8}
 use Rattle.std.proofs.lemmas.List.Sums.{sum_by-cons}
 use Rattle.codegen.specs.Generated.{label}
 use Rattle.syntax.specs.declared.node.FunctionNode.{FunctionNode}
-use Rattle.syntax.specs.Measures.{top_size, function_size}
+use Rattle.syntax.specs.Measures.{top_size}
 use Rattle.syntax.specs.Tree.{statements_in, Top, StructTop, FunctionTop}
 use Rattle.syntax.specs.View.{statement_of, function_of}
 use Rattle.syntax.proofs.Lists.{statements_in-statements}

@@ -1,5 +1,5 @@
 -- Where the code of a goroutine stands, of which this is still to be done in the source.
-use Rattle.std.proofs.Common.{◌≡◌, ℕ, ℤ, pos, zero, suc, ◌+◌, ◌-◌, ◌<◌, ◌≤◌, ◌⊎◌, inl, inr, Bool, true, false, cond, not, List, [], ◌∷◌, ◌++◌, length, drop, take, map, Option, Some, None, option_map, option_and_then, unwrap_or, IsTrue, refl, sym, ap, ◌∙◌, subst, arith, add-zero, append_assoc, slice_get, slice_range, bytes_eq, codes, nat_lt, length-append}
+use Rattle.std.proofs.Common.{◌≡◌, ℕ, zero, suc, ◌+◌, ◌<◌, ◌≤◌, Bool, true, false, cond, not, List, [], ◌∷◌, ◌++◌, length, drop, Option, Some, None, option_map, refl, sym, ap, ◌∙◌, subst, arith, append_assoc, slice_get, bytes_eq, codes, nat_lt, length-append}
 use Rattle.std.specs.Prelude.{position}
 use Rattle.std.specs.Str.{is_utf8}
 use Rattle.std.proofs.lemmas.Str.{is_utf8-from_IsUtf8, IsUtf8-from_ascii}
@@ -7,29 +7,28 @@ use Rattle.std.proofs.lemmas.Str.Ascii.{IsAscii-from_all}
 use Rattle.std.specs.Prelude.{All}
 use Rattle.std.specs.Bool.{Decides}
 use Rattle.std.proofs.lemmas.Slice.Eq.{bytes_eq-Decides}
-use Rattle.std.specs.List.{position_or_len, prefix_len}
+use Rattle.std.specs.List.{position_or_len}
 use Rattle.std.proofs.lemmas.Option.{same_Some}
 use Rattle.std.proofs.lemmas.Bool.{false≢true}
 use Rattle.std.proofs.lemmas.Bool.Decides.{nat_tests}
 use Rattle.std.proofs.lemmas.List.{append-nil, length-map, map-append}
-use Rattle.bytecode.specs.declared.instr.Kind.{Kind}
 use Rattle.bytecode.specs.declared.instr.Instr.{Instr}
 use Rattle.bytecode.specs.Code.{Function as CodeFunction, PrintTable, Code}
 use Rattle.bytecode.specs.Effects.{locals_in}
-use Rattle.bytecode.specs.Machine.{Frame, Frames, begun as code_begun, fitted, code_next, code_begin, main_of}
+use Rattle.bytecode.specs.Machine.{Frames, begun as code_begun, code_next, code_begin, main_of}
 use Rattle.checker_base.specs.declared.types.ValueType.{ValueType}
 use Rattle.checker_base.specs.Scopes.{Variable, Scope, is_blank, place_of, kind_of as kind_there}
 use Rattle.checker.specs.Actions.{Target, Declares, Assigns, Origin, Action, Idles, Prints, Sends, Receives, Sets, Starts, action}
-use Rattle.checker.specs.Program.{IsGoodAction, IsGood, AreGood, IsGoodFunction, AreGoodTops, IsProgram}
-use Rattle.checker.specs.Rules.{Signature, default_type, origin_worth, after, after_all, parameters, signature, signatures, function_of_name, kinds_in, kinds_at, has_none, has_main}
-use Rattle.checker.specs.Source.{Binding, Bindings, declared, scope_in, bound, Task, Do, Write, Running, running, all_of, begun, source_kind}
-use Rattle.codegen.specs.Generated.{kind_of, keeps, action_code, table_in, body_code, tables_of, local_kinds, label, function_code, function_tables, functions_code, all_tables, code_of}
+use Rattle.checker.specs.Program.{AreGood, IsGoodFunction, AreGoodTops}
+use Rattle.checker.specs.Rules.{Signature, default_type, origin_worth, after, after_all, parameters, signature, signatures, function_of_name, kinds_at, has_none, has_main}
+use Rattle.checker.specs.Source.{Bindings, scope_in, bound, Task, Do, Write, Running, running, all_of, begun}
+use Rattle.codegen.specs.Generated.{kind_of, keeps, body_code, tables_of, local_kinds, label, function_code, function_tables, functions_code, all_tables, code_of}
 use Rattle.codegen.proofs.Lists.{behind}
-use Rattle.codegen.proofs.Steps.{frame, frames, slips_more}
-use Rattle.codegen.proofs.Values.{HasType, AllTyped, words, Begins, begins, bound_scope, bound_typed}
+use Rattle.codegen.proofs.Steps.{frames}
+use Rattle.codegen.proofs.Values.{HasType, AllTyped, words, begins, bound_scope, bound_typed}
 use Rattle.syntax.specs.Tree.{Statement, statements_in, Function, Top, StructTop, FunctionTop, File}
 use Rattle.word.specs.declared.value.Word.{Word}
-use Rattle.word.specs.Related.{Slips, here, more}
+use Rattle.word.specs.Related.{Slips, here}
 
 -- ---- scopes grow
 

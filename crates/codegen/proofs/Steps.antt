@@ -1,21 +1,20 @@
 -- Single instructions of a goroutine with one frame.
-use Rattle.std.proofs.Common.{◌≡◌, ℕ, ℤ, pos, zero, suc, ◌+◌, ◌-◌, ◌<◌, ◌≤◌, Bool, true, false, cond, List, [], ◌∷◌, ◌++◌, length, drop, take, map, Option, Some, None, Result, Ok, Err, refl, sym, ap, ◌∙◌, subst, arith, add-one, add-zero, append_assoc, nat_lt, slice_get, slice_range, length-append}
+use Rattle.std.proofs.Common.{◌≡◌, ℕ, ℤ, suc, ◌+◌, ◌-◌, ◌<◌, ◌≤◌, Bool, true, false, cond, List, [], ◌∷◌, ◌++◌, length, drop, take, Some, Ok, refl, ap, ◌∙◌, subst, arith, add-one, nat_lt, slice_get, slice_range, length-append}
 use Rattle.std.proofs.Math.Seq.{drop-append_seam, take-append_seam}
 use Rattle.std.proofs.lemmas.List.{append-nil}
 use Rattle.std.proofs.lemmas.Bool.Decides.{nat_tests}
-use Rattle.bytecode.specs.declared.instr.Kind.{Kind}
 use Rattle.bytecode.specs.declared.instr.Instr.{Instr}
 use Rattle.bytecode.specs.declared.instr.Instr.TheVariants as instrs
-use Rattle.bytecode.specs.Code.{Function, PrintTable, Code}
-use Rattle.bytecode.specs.Effects.{below, top_of, part_kinds, print_kinds, kinds_in, shape_kinds, wants, count, gives}
-use Rattle.bytecode.specs.Machine.{Frame, Frames, Step, fetch, instrs_of, if_there, if_within, printed, instr_next, pops, at_instr, at_function, told_first, code_next, told_at, told_in, answered, code_answer, choice, selected, reply_words, put_at, fitted, zero_of, is_told, on_value}
-use Rattle.codegen.proofs.Lists.{first_left, next_left}
+use Rattle.bytecode.specs.Code.{Function, Code}
+use Rattle.bytecode.specs.Effects.{below, top_of, gives}
+use Rattle.bytecode.specs.Machine.{Frame, Frames, Step, fetch, instrs_of, if_there, if_within, instr_next, pops, at_instr, at_function, code_next, told_in, code_answer, choice, selected, reply_words, put_at, fitted, is_told, on_value}
+use Rattle.codegen.proofs.Lists.{first_left}
 use Rattle.word.specs.declared.apply.Op.{Op}
 use Rattle.word.specs.Apply.{value}
 use Rattle.word.specs.declared.value.Word.{Word}
-use Rattle.word.specs.declared.value.Word.TheVariants.{Int, Bool as Truth, Chan}
-use Rattle.word.specs.Values.{Request, Make, Go, Send, Receive, Print, End, Reply}
-use Rattle.word.specs.Kinds.{Next, Slides, Ticks, Asks, Stuck}
+use Rattle.word.specs.declared.value.Word.TheVariants.{Int, Bool as Truth}
+use Rattle.word.specs.Values.{Reply}
+use Rattle.word.specs.Kinds.{Next, Slides, Ticks, Stuck}
 use Rattle.word.specs.Related.{Slips, here, more}
 
 pub within : (n have : ℕ) (step : Step) → n ≤ have → if_within n have step ≡ step

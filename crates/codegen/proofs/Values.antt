@@ -1,22 +1,16 @@
 -- Words of types, and variables with their values.
-use Rattle.std.proofs.Common.{◌≡◌, ℕ, zero, suc, ◌+◌, ◌-◌, ◌<◌, ◌≤◌, ℤ, pos, Bool, true, false, cond, List, [], ◌∷◌, ◌++◌, map, length, take, drop, Option, Some, None, option_map, option_and_then, Result, Ok, Err, IsTrue, refl, sym, ap, ◌∙◌, subst, arith, slice_get, slice_range, bytes_eq, codes, length-append}
-use Rattle.std.specs.Result.{result_ok}
+use Rattle.std.proofs.Common.{◌≡◌, ℕ, zero, suc, ◌+◌, ◌-◌, ◌<◌, ℤ, Bool, true, false, cond, List, [], ◌∷◌, ◌++◌, map, length, take, drop, Option, Some, None, option_map, refl, sym, ap, ◌∙◌, arith, slice_get, slice_range, bytes_eq}
 use Rattle.std.proofs.lemmas.Option.{same_Some}
-use Rattle.std.proofs.lemmas.Bool.{false≢true}
 use Rattle.bytecode.specs.declared.instr.Kind.{Kind}
-use Rattle.bytecode.specs.declared.instr.Kind.TheVariants as kinds
 use Rattle.bytecode.specs.Machine.{zero_of, as_kind, fitted}
 use Rattle.checker_base.specs.declared.types.Scalar.{Scalar}
 use Rattle.checker_base.specs.declared.types.Scalar.TheVariants as scalars
 use Rattle.checker_base.specs.declared.types.ValueType.{ValueType}
 use Rattle.checker_base.specs.declared.types.ValueType.TheVariants as types
-use Rattle.checker_base.specs.declared.worth.Worth.{Worth}
-use Rattle.checker_base.specs.declared.worth.Worth.TheVariants.{Typed, Constant}
-use Rattle.checker_base.specs.Types.{int, bool, is_int as is_int_type}
-use Rattle.checker_base.specs.Scopes.{Variable, Scope, place_of, kind_of as kind_there}
-use Rattle.checker.specs.Rules.{after}
+use Rattle.checker_base.specs.Types.{int}
+use Rattle.checker_base.specs.Scopes.{Scope, place_of, kind_of as kind_there}
 use Rattle.checker.specs.Source.{Binding, Bindings, declared, scope_in, zero_word, as_word, first_as, bound, word_at, put, channel_in}
-use Rattle.codegen.specs.Generated.{kind_of, local_kinds, shape_of}
+use Rattle.codegen.specs.Generated.{kind_of, local_kinds}
 use Rattle.word.specs.declared.value.Word.{Word}
 use Rattle.word.specs.declared.value.Word.TheVariants.{Int, Bool as Truth, Chan}
 

@@ -1,6 +1,6 @@
 -- The code that is generated for a file.
 use Rattle.std.specs.Str.{is_utf8}
-use Rattle.std.specs.Prelude.{ℕ, ℤ, ◌+◌, pos, Bool, Option, Some, None, List, [], ◌∷◌, ◌++◌, map, length, unwrap_or, if◌then◌else◌, bytes_eq, codes}
+use Rattle.std.specs.Prelude.{ℕ, ℤ, ◌+◌, pos, Option, Some, None, List, [], ◌∷◌, ◌++◌, map, length, unwrap_or, if◌then◌else◌, bytes_eq, codes}
 use Rattle.bytecode.specs.declared.instr.Instr.{Instr}
 use Rattle.bytecode.specs.declared.instr.Instr.TheVariants as instrs
 use Rattle.bytecode.specs.declared.instr.Kind.{Kind}

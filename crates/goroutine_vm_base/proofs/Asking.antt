@@ -1,11 +1,10 @@
 -- What the instructions that ask do ask.
-use Rattle.std.proofs.Common.{◌≡◌, ℕ, ℤ, zero, suc, ◌+◌, ◌<◌, ◌≤◌, Bool, true, false, cond, List, [], ◌∷◌, length, drop, map, Option, Some, None, Result, Ok, Err, refl, sym, ap, ◌∙◌, subst, arith, get_or, nat_lt, slice_get}
+use Rattle.std.proofs.Common.{◌≡◌, ℕ, ℤ, zero, suc, ◌+◌, ◌<◌, ◌≤◌, Bool, false, cond, List, [], ◌∷◌, length, drop, map, Option, Some, None, Result, Ok, Err, refl, sym, ap, ◌∙◌, subst, arith, get_or, nat_lt, slice_get}
 use Rattle.std.proofs.lemmas.Bool.Decides.{nat_tests}
 use Rattle.bytecode.specs.declared.instr.Kind.{Kind}
-use Rattle.bytecode.specs.declared.instr.Instr.{Instr}
 use Rattle.bytecode.specs.declared.instr.Instr.TheVariants as instrs
 use Rattle.bytecode.specs.Code.{Function, Code}
-use Rattle.bytecode.specs.Machine.{Frame, Frames, Step as NextStep, zero_of, if_there, if_within, on_int, on_chan, on_truth, applied, on_value, entered, is_told, cases_of, pushed, printed, instr_next}
+use Rattle.bytecode.specs.Machine.{Frame, Frames, Step as NextStep, zero_of, if_there, if_within, on_int, applied, on_value, pushed, printed, instr_next}
 use Rattle.std.specs.Option.{is_some}
 use Rattle.std.specs.Global.{Vec}
 use Rattle.bytecode.specs.Code.{PrintTable}
@@ -14,10 +13,9 @@ use Rattle.word.specs.declared.request.Request.{Request as Asked}
 use Rattle.word.specs.declared.apply.Op.{Op}
 use Rattle.word.specs.declared.request.Request.TheVariants as asked
 use Rattle.word.specs.declared.value.Word.{Word}
-use Rattle.word.specs.declared.value.Word.TheVariants.{Int, Bool as Truth, Chan}
+use Rattle.word.specs.declared.value.Word.TheVariants.{Int}
 use Rattle.word.specs.declared.panic.Panic.{Panic as Cause}
-use Rattle.word.specs.declared.panic.Panic.TheVariants.{CallDepth}
-use Rattle.word.specs.Values.{Make, Go, Send, Print}
+use Rattle.word.specs.Values.{Make, Go, Print}
 use Rattle.word.specs.Kinds.{Slides, Ticks, Asks, Stuck}
 
 pub drop_one : (st : List Word) (at : ℕ) (w : Word) → at + 1 ≡ length st → w ≡ get_or st at w → drop at st ≡ w ∷ []
@@ -35,77 +33,6 @@ make_for shapes s ks top n m item here short one same is =
     (subst (λ (ws : List Word). AsksFor (on_int ws (λ x. Asks (Make x (map zero_of ks)))) (Some (asked.Make m item))) (sym one)
     (ap (λ x. Make x item) same ∙ ap (Make n) is)))
 
--- a request or a failed test
-abbrev pub IsAskOrStuck : NextStep → Type 0
-IsAskOrStuck (Slides a) = ⊥
-IsAskOrStuck (Ticks a) = ⊥
-IsAskOrStuck (Asks q) = Unit {0}
-IsAskOrStuck Stuck = Unit {0}
-
-there_asks : {A : Type 0} (o : Option A) (step : A → NextStep) → ((x : A) → IsAskOrStuck (step x)) → IsAskOrStuck (if_there o step)
-there_asks None step h = tt
-there_asks (Some x) step h = h x
-
-within_asks : (n have : ℕ) (a : NextStep) → IsAskOrStuck a → IsAskOrStuck (if_within n have a)
-within_asks n have a h = by (nat_lt have n)
-  where
-    by : (b : Bool) → IsAskOrStuck (cond b Stuck a)
-    by true = tt
-    by false = h
-
-int_asks : (ws : List Word) (step : ℤ → NextStep) → ((n : ℤ) → IsAskOrStuck (step n)) → IsAskOrStuck (on_int ws step)
-int_asks (Int n ∷ []) step h = h n
-int_asks [] step h = tt
-int_asks (Truth b ∷ ws) step h = tt
-int_asks (Chan c ∷ ws) step h = tt
-int_asks (Int n ∷ (w ∷ ws)) step h = tt
-
-chan_asks : (ws : List Word) (step : Option ℕ → List Word → NextStep) → ((c : Option ℕ) (item : List Word) → IsAskOrStuck (step c item)) → IsAskOrStuck (on_chan ws step)
-chan_asks (Chan c ∷ ws) step h = h c ws
-chan_asks [] step h = tt
-chan_asks (Truth b ∷ ws) step h = tt
-chan_asks (Int n ∷ ws) step h = tt
-
-asks_true : (l : Bool) (a : NextStep) → IsAskOrStuck a → (a ≡ Stuck → ⊥) → stops l a ≡ true
-asks_true l (Slides a) h sound = absurd h
-asks_true l (Ticks a) h sound = absurd h
-asks_true l (Asks q) h sound = refl
-asks_true l Stuck h sound = absurd (sound refl)
-
-told_asks : (code : Code) (c : Frame) (cs : Frames) (low top : List Word) (i : Instr) → is_told i ≡ true → IsAskOrStuck (instr_next code c cs low top i)
-told_asks code c cs low top (instrs.Make s) e = there_asks (slice_get code.shapes s) _ (λ ks. within_asks (length ks) 16 (on_int top (λ n. Asks (Make n (map zero_of ks)))) (int_asks top _ (λ n. tt)))
-told_asks code c cs low top (instrs.Go g) e = there_asks (slice_get code.functions g) _ (λ f. tt)
-told_asks code c cs low top (instrs.Send s) e = chan_asks top _ (λ chan item. within_asks (length item) 16 (Asks (Send chan item)) tt)
-told_asks code c cs low top (instrs.Receive s) e = chan_asks top _ (λ chan item. tt)
-told_asks code c cs low top instrs.Close e = chan_asks top _ (λ chan item. tt)
-told_asks code c cs low top instrs.Len e = chan_asks top _ (λ chan item. tt)
-told_asks code c cs low top instrs.Cap e = chan_asks top _ (λ chan item. tt)
-told_asks code c cs low top (instrs.Print q) e = there_asks (slice_get code.prints q) _ (λ table. tt)
-told_asks code c cs low top i e = cc
-
-pub select_asks : (code : Code) (c : Frame) (cs : Frames) (low top : List Word) (q : ℕ) → IsAskOrStuck (instr_next code c cs low top (instrs.Select q))
-select_asks code c cs low top q = there_asks (slice_get code.selects q) _ (λ table. there_asks (cases_of code table.clauses top) _ (λ cases. tt))
-
-pub told_ask : (l : Bool) (code : Code) (c : Frame) (cs : Frames) (low top : List Word) (i : Instr) → is_told i ≡ true → (instr_next code c cs low top i ≡ Stuck → ⊥) → stops l (instr_next code c cs low top i) ≡ true
-told_ask l code c cs low top i e sound = asks_true l (instr_next code c cs low top i) (told_asks code c cs low top i e) sound
-
--- a step that may fail a test
-pub within_slides : (l : Bool) (n have : ℕ) (s : Frames) → stops l (if_within n have (Slides s)) ≡ false
-within_slides l n have s = by (nat_lt have n)
-  where
-    by : (b : Bool) → stops l (cond b Stuck (Slides s)) ≡ false
-    by true = refl
-    by false = refl
-
-pub truth_slides : (l : Bool) (ws : List Word) (s t : Frames) → stops l (on_truth ws (Slides s) (Slides t)) ≡ false
-truth_slides l (Truth true ∷ []) s t = refl
-truth_slides l (Truth false ∷ []) s t = refl
-truth_slides l [] s t = refl
-truth_slides l (Int n ∷ ws) s t = refl
-truth_slides l (Chan c ∷ ws) s t = refl
-truth_slides l (Truth true ∷ (w ∷ ws)) s t = refl
-truth_slides l (Truth false ∷ (w ∷ ws)) s t = refl
-
 get_some : {A : Type 0} → (xs : List A) (n : ℕ) → n < length xs → (x : A) × (slice_get xs n ≡ Some x)
 get_some [] n h = absurd (omega (arith, h))
 get_some (x ∷ xs) zero h = (x, refl)
@@ -118,16 +45,6 @@ go_for functions g top args below is =
 
 pub print_for : (prints : List PrintTable) (q : ℕ) (table : PrintTable) (top : List Word) (text : Vec ℕ) → slice_get prints q ≡ Some table → text.items ≡ printed table top → AsksFor (if_there (slice_get prints q) (λ t. Asks (Print (printed t top)))) (Some (asked.Print text))
 print_for prints q table top text here is = subst (λ o. AsksFor (if_there o (λ t. Asks (Print (printed t top)))) (Some (asked.Print text))) (sym here) (ap Print is)
-
-pub deep_for : (functions : List Function) (g : ℕ) (top : List Word) (x : Frame) (callers : Frames) → g < length functions → 999 ≤ length callers → AsksFor (if_there (slice_get functions g) (entered g top (x ∷ callers))) (Some (asked.Panic CallDepth))
-deep_for functions g top x callers below deep =
-    let k = get_some functions g below in
-    let b : nat_lt (length (x ∷ callers)) 1000 ≡ false = grind (arith, nat_tests, deep) in
-    subst (λ o. AsksFor (if_there o (entered g top (x ∷ callers))) (Some (asked.Panic CallDepth))) (sym k.1)
-    (entered_for b)
-  where
-    entered_for : nat_lt (length (x ∷ callers)) 1000 ≡ false → AsksFor (entered g top (x ∷ callers) (get_some functions g below).0) (Some (asked.Panic CallDepth))
-    entered_for b = rw b refl
 
 -- an operator never ticks
 abbrev pub NoTick : NextStep → Type 0

@@ -1,13 +1,11 @@
 -- What the getters of a command's values read.
 use Rattle.std.proofs.Common.{◌≡◌, ℕ, ◌<◌, ◌^◌, List, Option, Some, None, Result, Ok, Err, refl, sym, ap, ap₂, subst, ◌∙◌}
 use Rattle.std.specs.Prelude.{option_map, codes}
-use Rattle.std.specs.Borrow.{Bor}
 use Rattle.std.specs.Str.Parse.{ParsesUnsigned}
 use Rattle.std.proofs.lemmas.Option.{none-some}
-use Rattle.clap.specs.Words.{ReadsOne, Row, Text, first_of, subcommand_rows}
-use Rattle.kendo.specs.declared.arguments.Action.{Action}
+use Rattle.clap.specs.Words.{ReadsOne, Row, Text, first_of}
 use Rattle.kendo.specs.declared.arguments.Invocation.{Invocation}
-use Rattle.kendo.specs.CommandLine.{Asks, Does, IsAsked, IsDone, IsNumber, IsNumberThere}
+use Rattle.kendo.specs.CommandLine.{Does, IsAsked, IsNumberThere}
 
 -- what reads a text as an unsigned number of 64 bits reads the number that it is
 pub number_read : {E : Type 0} (gives : List ℕ → Result ℕ E → Type 0) (text same : Option (List ℕ)) → text ≡ same → (result : Option ℕ) → (text ≡ None → result ≡ None)

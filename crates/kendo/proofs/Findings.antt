@@ -1,5 +1,5 @@
 -- What a command finds in a text, and the exit status that tells it.
-use Rattle.std.proofs.Common.{◌≡◌, ℕ, ◌≤◌, ◌⊎◌, inl, inr, List, Some, Result, Ok, Err, IfOk, IfErr, refl, sym, subst, arith}
+use Rattle.std.proofs.Common.{◌≡◌, ℕ, ◌≤◌, ◌⊎◌, inl, inr, List, Result, Ok, Err, IfOk, IfErr, refl, sym, subst, arith}
 use Rattle.kendo.specs.Answers.{EndsAs, Finds, HasReading, IsStatus, Tells}
 use Rattle.kendo.specs.declared.arguments.Action.{Action}
 use Rattle.kendo.specs.declared.arguments.Action.TheVariants as actions

@@ -79,20 +79,6 @@ written_more code limit known old new taken k bytes le w p a =
 pub written_begins : (code : Code) (limit : ℕ) (known new : Option (List ℕ)) (taken : ℕ) → Written code limit known new taken → BeginsOutput (code_kind code) limit known new
 written_begins code limit known new taken w = (w.2.0, length w.0, subst (Appends known new) (sym w.2.2) w.1)
 
-nothing_piece : (code : Code) (limit : ℕ) → IsPiece code limit 0 []
-nothing_piece code limit = (0, omega arith, refl)
-
-pub written_nothing : (code : Code) (limit : ℕ) (known : Option (List ℕ)) → Written code limit known known 0
-written_nothing code limit known = ([], appends_none known, nothing_piece code limit, refl)
-
--- two lists of one length, of which one begins the other
-same_by : (xs ys : List ℕ) → IsPrefixOf xs ys → length ys ≤ length xs → xs ≡ ys
-same_by xs ys p le = go p.0 p.1
-  where
-    go : (rest : List ℕ) → xs ++ rest ≡ ys → xs ≡ ys
-    go [] e = sym (append-nil xs) ∙ e
-    go (z ∷ rest) e = let l = ap length e in let m = length-append xs (z ∷ rest) in absurd (omega (arith, l, m, le))
-
 -- what was written up to the end is all of it
 pub written_whole : (code : Code) (limit before size : ℕ) (known new : Option (List ℕ)) (ending : Ending) → Written code limit known new size → IsEnd code limit before size ending → IsWhole (code_kind code) limit known new ending
 written_whole code limit before size known new ending w e =

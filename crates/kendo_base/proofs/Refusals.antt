@@ -15,14 +15,11 @@ use Rattle.syntax.specs.Spans.{tree_of}
 use Rattle.syntax.specs.Tree.{File}
 use Rattle.syntax.specs.Measures.{height, most_entries, most_clauses}
 use Rattle.checker.specs.Built.{IsBuilt}
-use Rattle.kendo_base.specs.Reading.{Reads, HasNoReading, HasNoTokens, HasNoTree, IsUnspelt, IsTreeOf, Flaw, IsUnread, IsWrong, IsWhy, located_in}
+use Rattle.kendo_base.specs.Reading.{Reads, HasNoReading, HasNoTree, IsUnspelt, IsUnread, IsWrong, IsWhy, located_in}
 
 same_tokens : {E : Type 0} (r : Result (List Token) E) (ts us : List Token) → r ≡ Ok ts → r ≡ Ok us → ts ≡ us
 same_tokens (Ok vs) ts us a b = cc
 same_tokens (Err e) ts us a b = absurd cc
-
-pub untokened : (text : List ℕ) → HasNoTokens text → HasNoReading text
-untokened text none file r = none r.tokens r.scanned
 
 spelt_by : (text : List ℕ) (ts : List Token) (file : File) → tokens_of text ≡ Ok ts → Reads text file → Spells (lexemes text ts) file
 spelt_by text ts file scanned r = subst (λ us. Spells (lexemes text us) file) (same_tokens (tokens_of text) r.tokens ts r.scanned scanned) r.spelt

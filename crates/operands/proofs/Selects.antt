@@ -1,7 +1,7 @@
 -- The clauses of a select, one after the other.
 use Rattle.std.proofs.Common.{◌≡◌, ℕ, zero, suc, ◌+◌, ◌<◌, ◌≤◌, List, [], ◌∷◌, ◌++◌, length, take, drop, Option, Some, None, refl, sym, ap, ◌∙◌, arith, get_or, add-one, append_assoc, slice_get, length-append}
 use Rattle.std.proofs.Math.Seq.{drop-cons}
-use Rattle.std.proofs.lemmas.List.{append-nil, drop-drop, length-map}
+use Rattle.std.proofs.lemmas.List.{drop-drop, length-map}
 use Rattle.bytecode.specs.declared.table.Clause.{Clause}
 use Rattle.bytecode.specs.Code.{SelectTable, Code}
 use Rattle.bytecode.specs.Effects.{clause_kinds, clauses_in}
@@ -78,7 +78,3 @@ past [] zero h = refl
 past [] (suc n) h = refl
 past (x ∷ xs) zero h = absurd (omega (arith, h))
 past (x ∷ xs) (suc n) h = past xs n (omega (arith, h))
-
-pub all_made : (code : Code) (made : List Case) (clauses : List Clause) (ws : List Word) (n : ℕ) (all : Option (List Case)) → length clauses ≤ n → prefixed made (cases_of code (drop n clauses) ws) ≡ all → all ≡ Some made
-all_made code made clauses ws n all h inv =
-    sym inv ∙ ap (λ xs. prefixed made (cases_of code xs ws)) (past clauses n h) ∙ ap Some (append-nil made)

@@ -1,5 +1,5 @@
 -- Fields and parameters: what is spelt is read, and what is read is spelt so.
-use Rattle.std.proofs.Common.{◌≡◌, ℕ, zero, suc, ◌+◌, ◌-◌, ◌<◌, ◌≤◌, max, Bool, true, false, cond, List, [], ◌∷◌, ◌++◌, length, sum_by, Ok, Err, refl, sym, ap, ◌∙◌, subst, arith}
+use Rattle.std.proofs.Common.{◌≡◌, ℕ, zero, suc, ◌+◌, ◌-◌, ◌<◌, ◌≤◌, Bool, true, false, cond, List, [], ◌∷◌, ◌++◌, length, sum_by, Ok, refl, ap, ◌∙◌, subst, arith}
 use Rattle.std.proofs.lemmas.List.Sums.{sum_by-cons}
 use Rattle.scanner.specs.declared.kind.Kind.{Kind}
 use Rattle.scanner.specs.declared.kind.Kind.TheVariants as kinds
@@ -8,14 +8,14 @@ use Rattle.syntax.specs.Tree.{TypeExpression, NamedType, ParenthesizedType, Chan
 use Rattle.syntax.specs.Measures.{Listing, Entries as EntriesLimit, SelectClauses, entries, highest, type_height, declared_height, declared_count}
 use Rattle.parser_base.specs.declared.list.Next.{Next}
 use Rattle.parser_base.specs.declared.list.Next.TheVariants.{More, End}
-use Rattle.parser_base.specs.Lexemes.{Lexeme, Literal, Name, Text, Mark}
+use Rattle.parser_base.specs.Lexemes.{Lexeme, Mark}
 use Rattle.parser_base.specs.Spelling.{behind, separated, joined, closing, AreAll, AreSome, IsTrailing}
-use Rattle.parser_base.specs.Reading.{Refusal, TooDeep, TooMany, Reading, ◌>>=◌, is_kind, expect, listed, followed, entry_next}
+use Rattle.parser_base.specs.Reading.{Reading, ◌>>=◌, is_kind, expect, followed, entry_next}
 use Rattle.parser_base.specs.TypeReading.{type_words, IsType, type_at}
 use Rattle.parser_base.proofs.Marks.{bind_ok, ok_is, expect_is, expect_again}
 use Rattle.parser_base.proofs.ListLaws.{AreFew, Outcome, Found, High, Many}
 use Rattle.parser_base.proofs.Steps.{then_again, gave}
-use Rattle.parser_base.proofs.TypeLaws.{TypeOutcome, Found as TypeFound, High as TypeHigh, type_again, type_sound}
+use Rattle.parser_base.proofs.TypeLaws.{Found as TypeFound, High as TypeHigh, type_again, type_sound}
 use Rattle.parser_base.proofs.ExpressionAgain.{entries-le, ending_again, more_entries}
 use Rattle.parser_base.proofs.ExpressionSound.{entry_more_sound, entry_end_sound}
 use Rattle.parser_simple.specs.Spelling.{name_words, IsName}

@@ -9,7 +9,7 @@ use Rattle.syntax.specs.View.{declared_of}
 use Rattle.parser_base.specs.declared.list.Next.{Next}
 use Rattle.parser_base.specs.declared.list.Next.TheVariants.{More, End}
 use Rattle.parser_base.specs.Lexemes.{Lexeme}
-use Rattle.parser_base.specs.Reading.{Refusal, TooMany, Reading, ◌>>=◌, Fails, followed, entry_next}
+use Rattle.parser_base.specs.Reading.{TooMany, Reading, ◌>>=◌, Fails, followed, entry_next}
 use Rattle.parser_base.proofs.Results.{fails_on}
 use Rattle.parser_base.proofs.Lists.{with_front, one_more, regroup, same}
 use Rattle.parser_simple.specs.Reading.{begins_name}

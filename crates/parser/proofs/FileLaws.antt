@@ -1,5 +1,5 @@
 -- Files: what is spelt is read, what is read is spelt so, and at most one file is spelt.
-use Rattle.std.proofs.Common.{◌≡◌, ℕ, suc, ◌+◌, ◌<◌, ◌≤◌, Bool, true, false, max, List, [], ◌∷◌, length, Result, Ok, Err, refl, sym, ap, ◌∙◌, subst, arith, codes}
+use Rattle.std.proofs.Common.{◌≡◌, ℕ, suc, ◌+◌, ◌<◌, ◌≤◌, Bool, false, max, List, [], ◌∷◌, length, Result, Ok, Err, refl, sym, ap, ◌∙◌, subst, arith, codes}
 use Rattle.scanner.specs.declared.kind.Kind.TheVariants as kinds
 use Rattle.syntax.specs.Tree.{Top, StructTop, FunctionTop, File}
 use Rattle.syntax.specs.Measures.{Listing, Entries as EntriesLimit, SelectClauses, highest, top_height, top_longest, longest, height, most_entries, most_clauses}
@@ -10,7 +10,6 @@ use Rattle.parser_base.specs.Spelling.{behind, separated, joined, AreAll, AreSom
 use Rattle.parser_base.specs.Reading.{Refusal, Syntax, TooDeep, TooMany, Reading, ◌>>=◌, expect, expect_name, listed}
 use Rattle.parser_base.proofs.Marks.{bind_ok, ok_is, expect_is, expect_name_is}
 use Rattle.parser_base.proofs.ListLaws.{AreFew, Outcome, Found as OneFound, High as OneHigh, Many as OneMany, Found as AllFound, High as AllHigh, Many as AllMany, Full, Entries, all_again, IsReadAgain, Separates, listed_again, ReadsSoundly, listed_sound}
-use Rattle.parser_base.proofs.Steps.{gave}
 use Rattle.parser.specs.Spelling.{top_words, IsTop, tops_words, words, Spells}
 use Rattle.parser.specs.Reading.{top, more_tops, top_next, tops, file}
 use Rattle.parser.proofs.Sizes.{top_longer, tops_longer}

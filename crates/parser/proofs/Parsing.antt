@@ -2,7 +2,7 @@
 use Rattle.std.proofs.Common.{◌≡◌, ℕ, ◌+◌, ◌≤◌, Option, Some, Result, Ok, Err, List, length, ap, ◌∙◌, sym, subst, arith}
 use Rattle.go_text.specs.declared.fault.Fault.{Fault}
 use Rattle.syntax.specs.Tree.{File}
-use Rattle.syntax.specs.Measures.{Listing, Entries, SelectClauses, size, height, longest}
+use Rattle.syntax.specs.Measures.{Listing, size, height, longest}
 use Rattle.parser_base.specs.Lexemes.{Lexeme}
 use Rattle.parser_base.specs.Reading.{Refusal, Syntax, TooDeep, TooMany, FailsWith, Fails, refusal_of}
 use Rattle.parser.specs.Spelling.{Spells}

@@ -1,19 +1,17 @@
 -- Declarations: what is spelt is read, and what is read is spelt so.
-use Rattle.std.proofs.Common.{◌≡◌, ℕ, suc, ◌+◌, ◌<◌, ◌≤◌, max, Bool, true, false, cond, Option, Some, None, List, [], ◌∷◌, ◌++◌, length, Ok, Err, inl, inr, refl, sym, ap, ◌∙◌, subst, arith}
-use Rattle.scanner.specs.declared.kind.Kind.{Kind}
+use Rattle.std.proofs.Common.{◌≡◌, ℕ, suc, ◌≤◌, Bool, false, Option, Some, None, List, [], ◌∷◌, ◌++◌, length, Ok, inl, inr, refl, sym, ap, ◌∙◌, subst, arith}
 use Rattle.scanner.specs.declared.kind.Kind.TheVariants as kinds
-use Rattle.syntax.specs.Tree.{TypeExpression, Statement, Statements, statements_in, statements as made_statements, Declared, Struct, Function, Top, StructTop, FunctionTop}
-use Rattle.syntax.specs.Measures.{Listing, Entries as EntriesLimit, SelectClauses, entries, highest, if_any, type_height, statement_height, statements_height, statement_longest, statements_longest, declared_height, top_height, top_longest}
+use Rattle.syntax.specs.Tree.{TypeExpression, Statement, statements_in, statements as made_statements, Declared, Struct, Function, Top, StructTop, FunctionTop}
+use Rattle.syntax.specs.Measures.{highest, if_any, type_height, statement_height, statement_longest, declared_height, top_height, top_longest}
 use Rattle.syntax.proofs.Lists.{statements-statements_in, statements_in-statements, statements_height-of, statements_longest-of}
-use Rattle.parser_base.specs.Lexemes.{Lexeme, Literal, Name, Text, Mark}
-use Rattle.parser_base.specs.Spelling.{is_builtin, behind, separated, joined, closing, AreAll, AreSome}
-use Rattle.parser_base.specs.Reading.{Refusal, Syntax, Reading, ◌>>=◌, expect, plain_name, listed}
+use Rattle.parser_base.specs.Lexemes.{Lexeme, Name, Mark}
+use Rattle.parser_base.specs.Spelling.{behind, separated, joined, closing, AreSome}
+use Rattle.parser_base.specs.Reading.{Syntax, Reading, ◌>>=◌, expect, plain_name, listed}
 use Rattle.parser_base.specs.TypeReading.{type_words, type_at}
-use Rattle.parser_base.proofs.Marks.{bind_ok, ok_is, kind_is, expect_is, plain_name_is}
+use Rattle.parser_base.proofs.Marks.{bind_ok, ok_is, expect_is, plain_name_is}
 use Rattle.parser_base.proofs.ListLaws.{AreFew, Outcome, Found, High, Many, Found as AllFound, High as AllHigh, Many as AllMany, Full, all_again, IsReadAgain, listed_again, listed_sound}
-use Rattle.parser_base.proofs.Steps.{then_again, made_again, gave, made_is, either}
-use Rattle.parser_base.proofs.TypeLaws.{TypeOutcome, Found as TypeFound, High as TypeHigh, type_again, type_sound}
-use Rattle.parser_base.proofs.ExpressionAgain.{entries-le}
+use Rattle.parser_base.proofs.Steps.{then_again, gave, made_is, either}
+use Rattle.parser_base.proofs.TypeLaws.{Found as TypeFound, High as TypeHigh, type_again, type_sound}
 use Rattle.parser_simple.specs.Reading.{as_one, begins_with}
 use Rattle.parser_statement.specs.Spelling.{statement_words, IsStatement}
 use Rattle.parser_statement.specs.Reading.{statement, statement_next}

@@ -1,14 +1,13 @@
 -- Reading from left to right.
-use Rattle.std.specs.Prelude.{◌≡◌, ℕ, zero, suc, ◌+◌, ◌-◌, Bool, true, false, ◌||◌, Option, Some, None, List, [], ◌∷◌, Result, Ok, Err, if◌then◌else◌, length, codes}
+use Rattle.std.specs.Prelude.{ℕ, zero, suc, ◌-◌, Bool, false, Option, Some, None, List, [], ◌∷◌, Result, Ok, Err, if◌then◌else◌, length, codes}
 use Rattle.scanner.specs.declared.kind.Kind.{Kind}
 use Rattle.scanner.specs.declared.kind.Kind.TheVariants as kinds
-use Rattle.syntax.specs.Tree.{TypeExpression, Statement, statements, Declared, Struct, Function, Top, StructTop, FunctionTop, File}
+use Rattle.syntax.specs.Tree.{TypeExpression, Statement, statements, Declared, Top, StructTop, FunctionTop, File}
 use Rattle.syntax.specs.Measures.{Entries}
 use Rattle.parser_base.specs.declared.list.Next.{Next}
 use Rattle.parser_base.specs.declared.list.Next.TheVariants.{More, End}
-use Rattle.parser_base.specs.Lexemes.{Lexeme, Literal, Name, Text, Mark}
-use Rattle.parser_base.specs.Spelling.{is_builtin}
-use Rattle.parser_base.specs.Reading.{Refusal, Syntax, TooDeep, TooMany, Reading, ◌>>=◌, is_kind, expect, expect_name, plain_name, listed, followed, entry_next}
+use Rattle.parser_base.specs.Lexemes.{Lexeme}
+use Rattle.parser_base.specs.Reading.{Refusal, Syntax, TooMany, Reading, ◌>>=◌, expect, expect_name, plain_name, listed, followed, entry_next}
 use Rattle.parser_base.specs.TypeReading.{type_at}
 use Rattle.parser_simple.specs.Reading.{as_one, begins_with, begins_name, names}
 use Rattle.parser_statement.specs.Reading.{statement, statement_next}

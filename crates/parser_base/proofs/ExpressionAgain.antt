@@ -1,5 +1,5 @@
 -- What is spelt as an expression is read.
-use Rattle.std.proofs.Common.{◌≡◌, ℕ, zero, suc, ◌+◌, ◌-◌, ◌<◌, ◌≤◌, List, [], ◌∷◌, ◌++◌, length, Option, Some, None, Ok, Err, Bool, true, false, leb, max, inl, inr, refl, ap, ◌∙◌, sym, subst, arith, append_assoc}
+use Rattle.std.proofs.Common.{◌≡◌, ℕ, zero, suc, ◌+◌, ◌-◌, ◌<◌, ◌≤◌, List, [], ◌∷◌, ◌++◌, length, Option, Some, None, Ok, Err, Bool, true, false, leb, max, inl, inr, refl, ap, ◌∙◌, subst, arith, append_assoc}
 use Rattle.std.proofs.lemmas.Bool.{le-leb, lt-leb, cases_lt}
 use Rattle.scanner.specs.declared.kind.Kind.{Kind}
 use Rattle.scanner.specs.declared.kind.Kind.TheVariants as kinds
@@ -15,7 +15,7 @@ use Rattle.parser_base.specs.declared.operator.Step.TheVariants.{Operator, Perio
 use Rattle.parser_base.specs.declared.list.Next.TheVariants.{More, End}
 use Rattle.parser_base.specs.Lexemes.{Lexeme, Literal, Name, Text, Mark}
 use Rattle.parser_base.specs.Spelling.{is_builtin, behind, joined, separated, closing, before, AreAll, IsTrailing, HasLast, expression_words, expressions_words, more_words, outer_precedence, precedence, IsGrouped, AreGrouped, unary_kind, binary_kind}
-use Rattle.parser_base.specs.Reading.{Reading, TooDeep, TooMany, ◌>>=◌, is_kind, expect, begins, entry_next, value_next, values, composite, named, plain_name, binary_of, step_of, strength, binding, step_at, negated, parenthesized, operand, applied, operation, operations, expression, listed}
+use Rattle.parser_base.specs.Reading.{Reading, TooDeep, TooMany, ◌>>=◌, is_kind, begins, entry_next, value_next, values, composite, named, step_of, strength, binding, step_at, negated, parenthesized, operand, applied, operation, operations, expression}
 use Rattle.parser_base.proofs.Marks.{is_kind_same, expect_again, plain_name_again}
 use Rattle.parser_base.proofs.ListLaws.{AreFew, Outcome, Found, High, Many, Found as AllFound, High as AllHigh, Many as AllMany, Full, Entries as Listed, IsReadAgain, Separates, listed_again, all_again}
 

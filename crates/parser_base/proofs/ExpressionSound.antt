@@ -1,5 +1,5 @@
 -- What is read as an expression is spelt so.
-use Rattle.std.proofs.Common.{◌≡◌, ℕ, zero, suc, ◌+◌, ◌<◌, ◌≤◌, max, min, List, [], ◌∷◌, ◌++◌, length, Option, Some, None, Ok, Err, Bool, true, false, cond, leb, inl, inr, refl, ap, ◌∙◌, sym, subst, arith, append_assoc}
+use Rattle.std.proofs.Common.{◌≡◌, ℕ, zero, suc, ◌+◌, ◌<◌, ◌≤◌, max, min, List, [], ◌∷◌, ◌++◌, length, Option, Some, None, Ok, Bool, true, false, cond, leb, inl, inr, refl, ap, ◌∙◌, sym, subst, arith, append_assoc}
 use Rattle.std.proofs.lemmas.Bool.{le-leb, lt-leb, leb-false, cases_lt}
 use Rattle.scanner.specs.declared.kind.Kind.{Kind}
 use Rattle.scanner.specs.declared.kind.Kind.TheVariants as kinds
@@ -7,19 +7,19 @@ use Rattle.syntax.specs.declared.node.BinaryOperator.{BinaryOperator}
 use Rattle.syntax.specs.declared.node.BinaryOperator.TheVariants as binaries
 use Rattle.syntax.specs.declared.node.UnaryOperator.{UnaryOperator}
 use Rattle.syntax.specs.declared.node.UnaryOperator.TheVariants as unaries
-use Rattle.syntax.specs.Tree.{Expression, Integer, Named, Parenthesized, Selection, Composite, Unary, Binary, Expressions, expressions, expressions_in}
-use Rattle.syntax.specs.Measures.{Listing, Entries, SelectClauses, entries, highest, expression_height, expressions_height, expression_longest, expressions_longest, expressions_count}
+use Rattle.syntax.specs.Tree.{Expression, Integer, Named, Parenthesized, Selection, Composite, Unary, Binary, expressions}
+use Rattle.syntax.specs.Measures.{Entries, entries, highest, expression_height, expression_longest, expressions_longest}
 use Rattle.syntax.proofs.Lists.{expressions_in-expressions, expressions_height-of, expressions_longest-of, expressions_count-of}
 use Rattle.parser_base.specs.declared.operator.Step.{Step}
 use Rattle.parser_base.specs.declared.operator.Step.TheVariants.{Operator, Period}
 use Rattle.parser_base.specs.declared.list.Next.{Next}
 use Rattle.parser_base.specs.declared.list.Next.TheVariants.{More, End}
 use Rattle.parser_base.specs.Lexemes.{Lexeme, Literal, Name, Text, Mark}
-use Rattle.parser_base.specs.Spelling.{is_builtin, behind, joined, closing, before, AreAll, AreSome, IsTrailing, HasLast, expression_words, expressions_words, outer_precedence, precedence, IsGrouped, AreGrouped, unary_kind, binary_kind}
+use Rattle.parser_base.specs.Spelling.{is_builtin, behind, joined, closing, before, AreAll, AreSome, IsTrailing, HasLast, expression_words, outer_precedence, precedence, IsGrouped, AreGrouped, unary_kind, binary_kind}
 use Rattle.parser_base.specs.Reading.{Reading, Syntax, TooDeep, TooMany, ◌>>=◌, is_kind, expect, begins, closed, behind_separator, entry_next, value_next, values, composite, named, plain_name, binary_of, unary_of, operator_step, step_of, strength, binding, step_at, negated, parenthesized, operand, applied, operation, operations, expression, listed}
-use Rattle.parser_base.proofs.Marks.{bind_ok, unless_ok, when_ok, ok_is, kind_is, expect_is, plain_name_is}
-use Rattle.parser_base.proofs.ListLaws.{AreFew, Entries as Listed, IsEntry, ReadsSoundly as EntriesSoundly, listed_sound}
-use Rattle.parser_base.proofs.ExpressionAgain.{step_kind, precedence-lt, strength-lt, outer_precedence-le, none_above, none_strong, at_step, entries-le, composite_words}
+use Rattle.parser_base.proofs.Marks.{bind_ok, unless_ok, ok_is, kind_is, expect_is, plain_name_is}
+use Rattle.parser_base.proofs.ListLaws.{AreFew, Entries as Listed, ReadsSoundly as EntriesSoundly, listed_sound}
+use Rattle.parser_base.proofs.ExpressionAgain.{step_kind, precedence-lt, outer_precedence-le, none_above, none_strong, at_step, entries-le, composite_words}
 
 abbrev some : {A : Type 0} → A → Option A
 some x = Some x

@@ -1,11 +1,10 @@
 -- An expression has no more nodes than lexemes.
-use Rattle.std.proofs.Common.{◌+◌, ◌≤◌, List, [], ◌∷◌, length, sum_by, arith, length-append}
-use Rattle.std.proofs.lemmas.List.Sums.{sum_by-cons}
+use Rattle.std.proofs.Common.{◌≤◌, [], ◌∷◌, length, arith, length-append}
 use Rattle.scanner.specs.declared.kind.Kind.TheVariants as kinds
 use Rattle.syntax.specs.Tree.{Expression, Integer, Named, Parenthesized, Selection, Composite, Unary, Binary, Expressions, NoMore, Behind}
 use Rattle.syntax.specs.Measures.{expression_size, expressions_size}
-use Rattle.parser_base.specs.Lexemes.{Lexeme, Name, Mark}
-use Rattle.parser_base.specs.Spelling.{expression_words, expressions_words, more_words, binary_kind, separated, joined, closing}
+use Rattle.parser_base.specs.Lexemes.{Name, Mark}
+use Rattle.parser_base.specs.Spelling.{expression_words, expressions_words, more_words, binary_kind, closing}
 
 mutual
   pub expression_size-le : (t : Expression) → expression_size t ≤ length (expression_words t)

@@ -1,5 +1,5 @@
 -- Reading expressions from left to right.
-use Rattle.std.specs.Prelude.{◌≡◌, ℕ, zero, suc, ◌+◌, Bool, true, false, ◌||◌, List, [], ◌∷◌, Option, Some, None, Result, Ok, Err, nat_le, if◌then◌else◌, length, bytes_eq, codes}
+use Rattle.std.specs.Prelude.{◌≡◌, ℕ, zero, suc, ◌+◌, Bool, true, false, ◌||◌, List, [], ◌∷◌, Option, Some, None, Result, Ok, Err, nat_le, if◌then◌else◌, bytes_eq}
 use denote.Enum.Bare.{sameb}
 use Rattle.go_text.specs.declared.fault.Fault.{Fault}
 use Rattle.go_text.specs.declared.fault.Fault.TheVariants as faults
@@ -12,7 +12,7 @@ use Rattle.syntax.specs.declared.node.BinaryOperator.{BinaryOperator}
 use Rattle.syntax.specs.declared.node.BinaryOperator.TheVariants as binaries
 use Rattle.syntax.specs.declared.node.UnaryOperator.{UnaryOperator}
 use Rattle.syntax.specs.declared.node.UnaryOperator.TheVariants as unaries
-use Rattle.syntax.specs.Tree.{Expression, Integer, Named, Parenthesized, Selection, Composite, Unary, Binary, NoMore, expressions}
+use Rattle.syntax.specs.Tree.{Expression, Integer, Named, Parenthesized, Selection, Composite, Unary, Binary, expressions}
 use Rattle.syntax.specs.Measures.{Listing, Entries, SelectClauses, expression_height}
 use Rattle.parser_base.specs.declared.operator.Step.{Step}
 use Rattle.parser_base.specs.declared.operator.Step.TheVariants.{Operator, Period}

@@ -1,5 +1,5 @@
 -- The last of a list of spans.
-use Rattle.std.proofs.Common.{◌≡◌, ℕ, Some, List, [], ◌∷◌, ◌++◌, refl, ap, ◌∙◌}
+use Rattle.std.proofs.Common.{◌≡◌, Some, List, [], ◌∷◌, ◌++◌, refl, ap, ◌∙◌}
 use Rattle.go_text.specs.declared.place.Span.{Span}
 use Rattle.parser_statement.specs.Views.{last_begin}
 

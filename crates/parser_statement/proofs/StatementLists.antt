@@ -30,10 +30,6 @@ pub are_statements : (body : Statements) → AreAll IsStatement (statements_in b
 are_statements NoStatement are = tt
 are_statements (Then s ss) are = (are.0, are_statements ss are.1)
 
-pub body_are : (body : Statements) → IsBody body → AreSome IsStatement (statements_in body)
-body_are NoStatement is = absurd is
-body_are (Then s ss) is = (is.0, statements_are ss is.1)
-
 pub are_body : (body : Statements) → AreSome IsStatement (statements_in body) → IsBody body
 are_body NoStatement is = absurd is
 are_body (Then s ss) is = (is.0, are_statements ss is.1)

@@ -5,10 +5,6 @@ use Rattle.go_text.specs.declared.fault.Fault.{Fault}
 use Rattle.go_text.specs.declared.fault.Fault.TheVariants as faults
 use Rattle.scanner.specs.Elements.{byte_place, is_newline, is_forbidden, is_close, is_broken, is_closing, is_escaping, longer, line_comment_rest, general_comment_rest, string_rest}
 
-pub longer_none : (r : Result ℕ Fault) → longer 0 r ≡ r
-longer_none (Ok n) = let same : 0 + n ≡ n = omega arith in ap (λ (m : ℕ). Ok m) same
-longer_none (Err e) = refl
-
 longer_longer : (m n : ℕ) (r : Result ℕ Fault) → longer m (longer n r) ≡ longer (m + n) r
 longer_longer m n (Ok k) = let same : m + (n + k) ≡ m + n + k = omega arith in ap (λ (x : ℕ). Ok x) same
 longer_longer m n (Err e) = refl

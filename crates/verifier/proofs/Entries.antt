@@ -1,5 +1,5 @@
 -- A table's entries.
-use Rattle.std.proofs.Common.{◌≡◌, ℕ, zero, suc, ◌+◌, ◌-◌, ◌<◌, ◌≤◌, List, [], ◌∷◌, ◌++◌, length, Option, Some, None, refl, sym, ap, ◌∙◌, subst, arith, slice_get, slice_set, slice_index_or}
+use Rattle.std.proofs.Common.{◌≡◌, ℕ, zero, suc, ◌<◌, List, [], ◌∷◌, length, Option, Some, None, refl, sym, ap, ◌∙◌, subst, arith, slice_set, slice_index_or}
 use Rattle.std.specs.Global.{Vec}
 use Rattle.bytecode.specs.declared.instr.Kind.{Kind}
 use Rattle.std.proofs.Common.{◌⊎◌, inl, inr}
@@ -7,7 +7,7 @@ use Rattle.bytecode.specs.Code.{Function, Code}
 use Rattle.verifier.specs.declared.paths.Merge.{Merge}
 use Rattle.verifier.specs.declared.paths.Merge.TheVariants.{Same, New, Differs}
 use Rattle.verifier.specs.Tables.{Table, entry, kinds_at, Reached}
-use Rattle.bytecode.specs.Rules.{Path, Parting}
+use Rattle.bytecode.specs.Rules.{Path}
 use Rattle.verifier.specs.Tables.{unknown, Merged, Led}
 
 pub entry_read : (t : Table) (n : ℕ) (o : Option (Vec Kind)) → n < length t → o ≡ slice_index_or t n o → entry t n ≡ kinds_at (Some o)

@@ -1,21 +1,19 @@
 -- A full table shows that the rules of paths hold.
-use Rattle.std.proofs.Common.{◌≡◌, ℕ, zero, suc, ◌+◌, ◌-◌, ◌<◌, ◌≤◌, List, [], ◌∷◌, ◌++◌, length, Option, Some, None, refl, sym, ap, ◌∙◌, subst, arith, slice_get, replicate}
+use Rattle.std.proofs.Common.{◌≡◌, ℕ, zero, suc, ◌+◌, ◌<◌, ◌≤◌, List, [], ◌∷◌, length, Some, None, sym, ap, ◌∙◌, subst, arith, slice_get}
 use Rattle.std.specs.Prelude.{Bool, true, false}
-use Rattle.std.proofs.Common.{◌⊎◌, inl, inr}
+use Rattle.std.proofs.Common.{inl, inr}
 use Rattle.std.proofs.lemmas.Bool.{cases_eq}
-use Rattle.std.specs.Global.{Vec}
 use Rattle.bytecode.specs.declared.instr.Kind.{Kind}
 use Rattle.bytecode.specs.declared.instr.Instr.{Instr}
 use Rattle.bytecode.specs.Code.{Function, Code}
-use Rattle.verifier.specs.declared.paths.Visit.{Visit}
-use Rattle.verifier.specs.declared.paths.Visit.TheVariants.{Settles, Grows, Unfit, Parts}
-use Rattle.verifier.specs.Tables.{Table, entry, kinds_at, Settled, Reached}
+use Rattle.verifier.specs.declared.paths.Visit.TheVariants.{Settles, Grows}
+use Rattle.verifier.specs.Tables.{Table, entry, Settled}
 use Rattle.bytecode.specs.Effects.{Fits, afterwards}
 use Rattle.bytecode.specs.Rules.{Path, ways}
 use Rattle.bytecode.specs.declared.rule.Rule.{Rule}
 use Rattle.bytecode.specs.declared.rule.Rule.TheVariants.{Names, Targets, Paths, Calls, Returns, Locals, Tables, Main}
 use Rattle.bytecode.specs.declared.instr.Instr.TheVariants as instrs
-use Rattle.bytecode.specs.Rules.{IsHeaded, Misfit, BrokenIn, Holds, rule_of, Named, Inside, Directed}
+use Rattle.bytecode.specs.Rules.{IsHeaded, Misfit, BrokenIn, Holds, rule_of}
 use Rattle.verifier.specs.declared.paths.Inferred.{Inferred}
 use Rattle.verifier.specs.declared.paths.Inferred.TheVariants.{Full, BrokenAt, PartedAt}
 use Rattle.verifier.specs.Tables.{Infers, Judged, judged_of, unknown, Going, Visited, Full', ScannedAt, Scanned}
@@ -56,22 +54,6 @@ module _ (code : Code) (f : Function) (table : Table) (same : length table ≡ l
 
   pub alike : (n m place : ℕ) (ks js : List Kind) → Path code f n place ks → Path code f m place js → ks ≡ js
   alike n m place ks js p q = some_inj (sym (on_path n place ks p) ∙ on_path m place js q)
-
-entry_blank : (t : Table) (n : ℕ) → entry (t ++ None ∷ []) n ≡ entry t n
-entry_blank [] zero = refl
-entry_blank [] (suc n) = refl
-entry_blank (x ∷ t) zero = refl
-entry_blank (x ∷ t) (suc n) = entry_blank t n
-
-pub reached_start : (code : Code) (f : Function) (v : Vec Kind) → v.items ≡ [] → Reached code f (Some v ∷ [])
-reached_start code f v e = (ap Some e, at)
-  where
-    at : (place : ℕ) (ks : List Kind) → entry (Some v ∷ []) place ≡ Some ks → (n : ℕ) × Path code f n place ks
-    at zero ks h = (0, (refl, sym (some_inj h) ∙ e))
-    at (suc place) ks h = absurd (none_some h)
-
-pub reached_blank : (code : Code) (f : Function) (t : Table) → Reached code f t → Reached code f (t ++ None ∷ [])
-reached_blank code f t r = (entry_blank t 0 ∙ r.0, λ place ks e. r.1 place ks (sym (entry_blank t place) ∙ e))
 
 get_within : {A : Type 0} → (xs : List A) (n : ℕ) (x : A) → slice_get xs n ≡ Some x → n < length xs
 get_within [] n x e = absurd (none_some e)

@@ -1,19 +1,16 @@
 -- What a look at a place comes to.
-use Rattle.std.proofs.Common.{◌≡◌, ℕ, zero, suc, ◌+◌, ◌-◌, ◌<◌, ◌≤◌, List, [], ◌∷◌, ◌++◌, length, Option, Some, None, refl, sym, ap, ◌∙◌, subst, arith, slice_get, slice_set, slice_index_or}
+use Rattle.std.proofs.Common.{◌≡◌, ℕ, zero, suc, ◌+◌, ◌<◌, ◌≤◌, List, [], ◌∷◌, length, Some, None, refl, sym, ap, ◌∙◌, subst, arith, slice_get}
 use Rattle.std.specs.Prelude.{Bool, true, false}
-use Rattle.std.proofs.Common.{◌⊎◌, inl, inr}
+use Rattle.std.proofs.Common.{inl, inr}
 use Rattle.std.proofs.lemmas.Bool.{cases_eq}
 use Rattle.verifier.specs.declared.paths.Visit.TheVariants.{Settles}
 use Rattle.bytecode.specs.declared.instr.Kind.{Kind}
 use Rattle.bytecode.specs.declared.instr.Instr.{Instr}
-use Rattle.bytecode.specs.declared.instr.Instr.TheVariants as instrs
 use Rattle.bytecode.specs.Code.{Function, Code}
-use Rattle.verifier.specs.declared.paths.Merge.{Merge}
-use Rattle.verifier.specs.declared.paths.Merge.TheVariants.{Same, New, Differs}
-use Rattle.verifier.specs.Tables.{Table, entry, kinds_at, Reached, Settled}
-use Rattle.verifier.specs.declared.paths.Onward.TheVariants.{Kept, Grown, Apart}
+use Rattle.verifier.specs.Tables.{Table, entry, Reached, Settled}
+use Rattle.verifier.specs.declared.paths.Onward.TheVariants.{Kept, Grown}
 use Rattle.bytecode.specs.Effects.{Fits, afterwards}
-use Rattle.bytecode.specs.Rules.{Path, Parting, ways, Inside, Named}
+use Rattle.bytecode.specs.Rules.{ways}
 use Rattle.verifier.specs.Tables.{unknown, AreReached, Followed, Spread, Visited, LeadsOn}
 
 none_some : {A : Type 0} {x : A} → None ≡ Some x → ⊥
@@ -54,25 +51,7 @@ module _ (code : Code) (f : Function) (old : Table) (place : ℕ) (i : Instr) (k
           subst (λ l. (i : Instr) × (slice_get f.instrs place ≡ Some i) × Fits code f i l × ((k to : ℕ) → slice_get (ways code i place) k ≡ Some to → entry new to ≡ Some (afterwards code f i k l))) same
           (i, leads.fetched, leads.fits, λ k to h. s.1 k to (let l = get_within (ways code i place) k to h in omega (arith, l, all)) h)
 
-pub get_read : {A : Type 0} → (xs : List A) (n : ℕ) (x : A) → n < length xs → x ≡ slice_index_or xs n x → slice_get xs n ≡ Some x
-get_read [] n x h e = absurd (omega (arith, h))
-get_read (y ∷ xs) zero x h e = ap Some (sym e)
-get_read (y ∷ xs) (suc n) x h e = get_read xs n x (omega (arith, h)) e
-
 -- each way leads to a place, on a path
 pub ways_reached : (code : Code) (f : Function) (table : Table) (place : ℕ) (i : Instr) (ks : List Kind) (at : ℕ) → Reached code f table → LeadsOn code f table place i ks at → AreReached code f place i ks
 ways_reached code f table place i ks at r l k to e =
     let p = r.1 place ks l.here in (suc p.0, (place, ks, i, k, p.1, l.fetched, l.fits, e, refl))
-
-pub way_at : (code : Code) (f : Function) (place : ℕ) (i : Instr) (k to : ℕ) → Named code f i → Inside f place i → slice_get (ways code i place) k ≡ Some to → to < length f.instrs
-way_at code f place instrs.Return k to n h e = absurd (none_some e)
-way_at code f place (instrs.Unless a) zero to n h e = subst (λ x. x < length f.instrs) (some_inj e) h.1
-way_at code f place (instrs.Unless a) (suc zero) to n h e = subst (λ x. x < length f.instrs) (some_inj e) h.0
-way_at code f place (instrs.Unless a) (suc (suc k)) to n h e = absurd (none_some e)
-way_at code f place (instrs.Jump a) zero to n h e = subst (λ x. x < length f.instrs) (some_inj e) h
-way_at code f place (instrs.Jump a) (suc k) to n h e = absurd (none_some e)
-way_at code f place (instrs.Loop a) zero to n h e = subst (λ x. x < length f.instrs) (some_inj e) h
-way_at code f place (instrs.Loop a) (suc k) to n h e = absurd (none_some e)
-way_at code f place (instrs.Select q) k to n h e = n.1 k to e
-way_at code f place i zero to n h e = subst (λ x. x < length f.instrs) (some_inj e) h
-way_at code f place i (suc k) to n h e = absurd (none_some e)

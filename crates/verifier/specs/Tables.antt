@@ -1,5 +1,5 @@
 -- The verifier's table of the kinds at each place of a function, and what its steps do to it.
-use Rattle.std.specs.Prelude.{◌≡◌, ℕ, zero, suc, ◌+◌, ◌-◌, ◌<◌, ◌≤◌, List, [], ◌∷◌, ◌++◌, length, Option, Some, None, Bool, true, false, slice_get, slice_set, ◌⊎◌}
+use Rattle.std.specs.Prelude.{◌≡◌, ℕ, suc, ◌+◌, ◌<◌, List, [], ◌∷◌, length, Option, Some, None, Bool, true, false, slice_get, slice_set}
 use Rattle.std.specs.Global.{Vec}
 use Rattle.bytecode.specs.declared.instr.Kind.{Kind}
 use Rattle.bytecode.specs.declared.instr.Instr.{Instr}
@@ -7,7 +7,7 @@ use Rattle.bytecode.specs.declared.rule.Rule.{Rule}
 use Rattle.bytecode.specs.declared.rule.Rule.TheVariants.{Paths}
 use Rattle.bytecode.specs.Code.{Function, Code}
 use Rattle.bytecode.specs.Effects.{Fits, afterwards, wants, count, Wants, Exactly, Count, OneChannel, TwoChannels}
-use Rattle.bytecode.specs.Rules.{ways, Path, Named, Inside, Directed, IsHeaded, Misfit, Parting, BrokenIn, Holds}
+use Rattle.bytecode.specs.Rules.{ways, Path, Named, Inside, Directed, Misfit, Parting, BrokenIn, Holds}
 use Rattle.verifier.specs.declared.effect.Need.{Need}
 use Rattle.verifier.specs.declared.effect.Need.TheVariants.{These, Some as Counted, Channel, Channels}
 use Rattle.verifier.specs.declared.paths.Merge.{Merge}

@@ -1,12 +1,12 @@
 -- Nobody is both awake and asleep.
-use Rattle.std.proofs.Common.{◌≡◌, ℕ, zero, suc, ◌+◌, ◌-◌, ◌<◌, ◌≤◌, ◌≢◌, Bool, true, false, cond, List, [], ◌∷◌, ◌++◌, map, length, Option, Some, None, refl, sym, ap, ◌∙◌, subst, inl, inr, ◌⊎◌, arith, get_or, set, get_or-set_same, get_or-set_other, length-set, length-append}
-use Rattle.std.proofs.lemmas.Bool.{cases_lt, ne_eqb}
+use Rattle.std.proofs.Common.{◌≡◌, ℕ, zero, suc, ◌+◌, ◌<◌, ◌≢◌, Bool, true, false, cond, List, [], ◌∷◌, ◌++◌, map, length, Option, Some, None, refl, sym, ap, ◌∙◌, subst, inl, inr, arith, get_or, set, get_or-set_same, get_or-set_other, length-set, length-append}
+use Rattle.std.proofs.lemmas.Bool.{cases_lt}
 use Rattle.std.proofs.lemmas.List.{get_or_past, get_or_append_left}
 use Rattle.logical_clock.specs.declared.key.Key.{Key}
-use Rattle.turn_rule.specs.Turns.{World, Rules, next, changed, move_on, move_at, move_next, perform as perform_in, one, run}
-use Rattle.word.specs.Values.{Request, Reply, Sleeper, Shared}
-use Rattle.word.specs.Kinds.{Kind, Clocked, at, asks, local}
-use Rattle.word.specs.Requests.{Fate, GoesOn, Dozes, Leaves, Stays, Deed, without, act, meant}
+use Rattle.turn_rule.specs.Turns.{World, next, changed, move_on, move_at, move_next, perform as perform_in, one, run}
+use Rattle.word.specs.Values.{Request, Reply, Sleeper}
+use Rattle.word.specs.Kinds.{Kind, Clocked, asks}
+use Rattle.word.specs.Requests.{Fate, GoesOn, Dozes, Leaves, Stays, Deed, act, meant}
 use Rattle.word.specs.Worlds.{Bed, Rest, actor_after, woken_by, begun_at, effect, performs, rules, opening, moment}
 use Rattle.word.proofs.Found.{In}
 use Rattle.word.proofs.Fair.{IsApart, Lies, Fair, fair}
@@ -89,8 +89,3 @@ module _ (K : Kind) (limit : ℕ) where
 
   pub apart : (n : ℕ) → Apart (moment K limit n)
   apart n = run_apart n (opening K) (λ x i. elim i [ ])
-
--- so the actor goes to the back of all
-pub without_none : (ss : List Sleeper) (n : ℕ) → ((x : Sleeper) → In x ss → x.number ≢ n) → without ss n ≡ ss
-without_none [] n h = refl
-without_none (s ∷ ss) n h = ap (λ b. cond b (without ss n) (s ∷ without ss n)) (ne_eqb s.number n (h s (inl refl))) ∙ ap (λ l. s ∷ l) (without_none ss n (λ x i. h x (inr i)))

@@ -1,18 +1,18 @@
 -- Two kinds related step by step have the same events, outputs and ends, in worlds of many goroutines, at every limit.
-use Rattle.std.proofs.Common.{◌≡◌, ℕ, zero, suc, ◌+◌, ◌-◌, ◌<◌, ◌≤◌, ◌≢◌, Bool, true, false, ◌&&◌, not, cond, List, [], ◌∷◌, ◌++◌, map, length, Option, Some, None, refl, sym, ap, ◌∙◌, subst, arith, inl, inr, ◌⊎◌, ⊎_elim, get_or, true≢false}
-use Rattle.std.specs.Prelude.{◌==◌, option_map}
+use Rattle.std.proofs.Common.{◌≡◌, ℕ, zero, suc, ◌+◌, ◌≤◌, ◌≢◌, true, cond, List, [], ◌∷◌, map, length, Option, Some, None, refl, sym, ap, ◌∙◌, subst, arith, inl, inr, ◌⊎◌, ⊎_elim, get_or}
+use Rattle.std.specs.Prelude.{option_map}
 use Rattle.std.specs.Option.{is_some}
 use Rattle.std.proofs.lemmas.Bool.{cases_lt, eq-eqb, ne_eqb}
 use Rattle.turn_rule.specs.Turns.{Effect, Rules, World, run}
-use Rattle.turn_rule.proofs.Twins.{Alike, RowAlike, ChangesAlike, AllAlike, EffectsAlike, Twins, twins_run, effects_flip, twins_flip}
-use Rattle.word.specs.Values.{Word, Request, Go, Exit, Panic, Exhausted, Reply, Nothing, Value, Received, Clause, Default, Closed, Outcome, Done, Ending, Finished, RanOut, Sleeper, Shared, SendOnClosed}
-use Rattle.word.specs.Kinds.{Next, Slides, Ticks, Asks, Stuck, Kind, Clocked, at, local_of, asks_of, does, local, asks, told, Suits}
-use Rattle.word.specs.Requests.{Fate, GoesOn, Dozes, Leaves, Stays, Deed, ends, act, asked, meant, perform}
-use Rattle.word.specs.Worlds.{Bed, Rest, in_bed, actor_after, beds_after, woken_by, begun_at, effect, performs, rules, opening, moment, end_by, Same, Follows, Equal}
+use Rattle.turn_rule.proofs.Twins.{RowAlike, ChangesAlike, AllAlike, EffectsAlike, Twins, twins_run, effects_flip, twins_flip}
+use Rattle.word.specs.Values.{Word, Request, Exit, Panic, Exhausted, Reply, Nothing, Value, Received, Clause, Default, Closed, Outcome, Done, Ending, Finished, RanOut, Sleeper, Shared, SendOnClosed}
+use Rattle.word.specs.Kinds.{Next, Slides, Ticks, Asks, Stuck, Kind, Clocked, at, asks_of, does, asks, told, Suits}
+use Rattle.word.specs.Requests.{Fate, GoesOn, Dozes, Leaves, Stays, Deed, ends, act, meant, perform}
+use Rattle.word.specs.Worlds.{Rest, in_bed, actor_after, beds_after, woken_by, begun_at, effect, performs, rules, opening, moment, end_by, Same, Follows, Equal}
 use Rattle.word.proofs.Laws.{laws}
 use Rattle.word.specs.Related.{Falls, Starts, Answers, Matches}
 use Rattle.word.proofs.Found.{In, Ready, Awaits, Kept, Like, like_here, found, cond_at, cond_below}
-use Rattle.word.proofs.Fair.{Fits, FateFits, Wakes, AllWake, AllStart, Lies, Fair, fair, meant_is}
+use Rattle.word.proofs.Fair.{Fits, FateFits, AllWake, AllStart, Lies, Fair, fair, meant_is}
 
 -- at the limit, the one request is `exhausted`
 asks_spent : {A : Type 0} (limit clock : ℕ) (x : Next A) (q : Request) → clock ≡ limit → asks_of limit clock x ≡ Some q → q ≡ Exhausted

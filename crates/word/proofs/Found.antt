@@ -1,14 +1,14 @@
 -- Two kinds related step by step come to the same requests at the same clocks.
-use Rattle.std.proofs.Common.{◌≡◌, ℕ, zero, suc, ◌+◌, ◌-◌, ◌<◌, ◌≤◌, Bool, true, false, cond, List, [], ◌∷◌, Option, Some, None, refl, sym, ap, ◌∙◌, subst, arith, inl, inr, ◌⊎◌, ⊎_elim}
+use Rattle.std.proofs.Common.{◌≡◌, ℕ, zero, suc, ◌+◌, ◌-◌, ◌<◌, ◌≤◌, true, cond, List, [], ◌∷◌, Option, Some, None, refl, sym, ap, ◌∙◌, subst, arith, ◌⊎◌, ⊎_elim}
 use Rattle.std.specs.Prelude.{◌==◌}
 use Rattle.std.specs.Option.{is_some}
 use Rattle.std.proofs.lemmas.Bool.{cases_lt, eq-eqb, ne_eqb}
-use Rattle.turn_rule.specs.Turns.{Rules, moved, stepped}
+use Rattle.turn_rule.specs.Turns.{moved}
 use Rattle.turn_rule.proofs.Stable.{stepped_is}
 use Rattle.turn_rule.proofs.Twins.{Alike}
-use Rattle.word.specs.Values.{Word, Request, Go, Panic, Exhausted, Reply, Closed, Sleeper, Shared}
-use Rattle.word.specs.Kinds.{Next, Slides, Ticks, Asks, Stuck, Kind, Clocked, at, local_of, asks_of, does, local, asks, told, Suits}
-use Rattle.word.specs.Worlds.{Bed, Rest, in_bed, rules}
+use Rattle.word.specs.Values.{Request, Exhausted, Sleeper}
+use Rattle.word.specs.Kinds.{Next, Slides, Ticks, Asks, Stuck, Kind, Clocked, at, local_of, asks_of, local, asks}
+use Rattle.word.specs.Worlds.{Rest, in_bed, rules}
 use Rattle.word.specs.Related.{Slips, here, more, Falls, Starts, Answers, Matches}
 use Rattle.word.proofs.Laws.{laws}
 

@@ -2,10 +2,9 @@
 use Rattle.std.proofs.Common.{◌≡◌, ℕ, ◌+◌, ◌≤◌, Bool, true, false, cond, Option, Some, None, refl, arith}
 use Rattle.std.specs.Prelude.{unwrap_or, ◌==◌}
 use Rattle.std.specs.Option.{is_some}
-use Rattle.turn_rule.specs.Turns.{stepped}
 use Rattle.turn_rule.specs.Schedule.{Laws}
 use Rattle.word.specs.Values.{Exhausted}
-use Rattle.word.specs.Kinds.{Next, Slides, Ticks, Asks, Stuck, Kind, Clocked, at, local_of, asks_of, does, local, asks}
+use Rattle.word.specs.Kinds.{Next, Slides, Ticks, Asks, Stuck, Kind, Clocked, at, local_of, asks_of, does}
 use Rattle.word.specs.Worlds.{rules}
 
 ticks_climb : {A : Type 0} (s : Clocked A) (a : A) (b : Bool) → s.clock ≤ (unwrap_or (cond b None (Some (at (s.clock + 1) a))) s).clock

@@ -1,14 +1,14 @@
 -- The output is only lengthened.
-use Rattle.std.proofs.Common.{◌≡◌, ℕ, zero, suc, ◌+◌, ℤ, pos, negsuc, Bool, true, false, cond, List, [], ◌∷◌, ◌++◌, map, length, Option, Some, None, refl, sym, ap, ◌∙◌, subst, append-nil, inl, inr, arith, true≢false, ◌⊎◌, ◌-◌, ◌≤◌, ◌<◌}
-use Rattle.std.specs.Prelude.{◌==◌, nat_lt, unwrap_or}
+use Rattle.std.proofs.Common.{◌≡◌, ℕ, ◌+◌, ℤ, pos, negsuc, Bool, true, false, cond, List, [], ◌∷◌, length, Option, Some, None, refl, sym, ap, ◌∙◌, append-nil, arith, ◌-◌, ◌≤◌}
+use Rattle.std.specs.Prelude.{◌==◌, nat_lt}
 use Rattle.std.specs.Option.{is_some}
 use Rattle.turn_rule.specs.Schedule.{IsPrefixOf}
 use Rattle.turn_rule.specs.Turns.{World as Whole, run}
 use Rattle.turn_rule.proofs.Grows.{lengthens}
 use Rattle.turn_rule.proofs.Stable.{run_add}
-use Rattle.word.specs.Values.{Word, Item, Case, Request, Make, Go, Send, Receive, Close, Select, Len, Cap, Print, End, Exit, Panic, Exhausted, Reply, Event, Sleeper, Offer, Channel, Shared, ChannelSize, CloseOfClosed, SendOnClosed, TooManyChannels, TooManyGoroutines}
+use Rattle.word.specs.Values.{Item, Case, Request, Make, Go, Send, Receive, Close, Select, Len, Cap, Print, End, Exit, Panic, Exhausted, Sleeper, Offer, Channel, Shared, ChannelSize, CloseOfClosed, SendOnClosed, TooManyChannels, TooManyGoroutines}
 use Rattle.word.specs.Kinds.{Kind, Clocked, asks}
-use Rattle.word.specs.Requests.{Deed, channel_of, partner, done, sleeps, panics, send_to, do_send, receive_from, do_receive, send_ready, receive_ready, choose, do_clause, do_select, do_make, do_go, do_close, act, meant}
+use Rattle.word.specs.Requests.{Deed, channel_of, partner, sleeps, panics, send_to, do_send, receive_from, do_receive, send_ready, receive_ready, choose, do_clause, do_select, do_make, act, meant}
 use Rattle.word.specs.Worlds.{Rest, rules, performs, opening, moment}
 use Rattle.word.proofs.Laws.{laws}
 

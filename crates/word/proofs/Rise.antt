@@ -1,19 +1,18 @@
 -- One sender's items have rising event numbers.
-use Rattle.std.proofs.Common.{◌≡◌, ℕ, zero, suc, ◌+◌, ◌-◌, ◌<◌, ◌≤◌, ◌≢◌, ℤ, pos, negsuc, Bool, true, false, ◌&&◌, cond, List, [], ◌∷◌, ◌++◌, map, length, Option, Some, None, refl, sym, ap, ◌∙◌, subst, inl, inr, ◌⊎◌, arith, append_assoc, append-nil, length-append, get_or}
+use Rattle.std.proofs.Common.{◌≡◌, ℕ, zero, suc, ◌+◌, ◌<◌, ◌≤◌, ◌≢◌, ℤ, pos, negsuc, Bool, true, false, ◌&&◌, cond, List, [], ◌∷◌, ◌++◌, map, length, Option, Some, None, refl, sym, ap, ◌∙◌, subst, inl, inr, ◌⊎◌, arith, append_assoc, append-nil, length-append, get_or}
 use Rattle.std.specs.Prelude.{◌==◌, nat_lt}
-use Rattle.std.specs.Option.{is_some}
-use Rattle.std.proofs.lemmas.Bool.{and_parts, eqb-true, eq-eqb, ne_eqb, true≢false}
-use Rattle.word.specs.Values.{Cause, Word, Item, Case, Request, Make, Go, Send, Receive, Close, Select, Len, Cap, Print, End, Exit, Panic, Exhausted, Reply, Nothing, Outcome, Done, Sleeps, Panics, Event, Sleeper, Offer, Channel, Shared, ChannelSize, CloseOfClosed, CloseOfNil, SendOnClosed, TooManyChannels, TooManyGoroutines}
-use Rattle.word.specs.Requests.{Fate, GoesOn, Dozes, Leaves, Stays, Deed, channel_of, offers, first_offer, partner, without, done, sleeps, ends, panics, send_to, do_send, receive_from, do_receive, send_ready, receive_ready, choose, do_clause, do_select, do_make, do_go, do_close, act, meant}
-use Rattle.word.specs.Flow.{Deal, Gives, Takes, NoDeal, deal, is_sleeps, item_of, latest, dozed, slept, offered, enters, accepted, accepted_after}
+use Rattle.std.proofs.lemmas.Bool.{eq-eqb, ne_eqb}
+use Rattle.word.specs.Values.{Cause, Item, Case, Request, Make, Go, Send, Receive, Close, Select, Len, Cap, Print, End, Exit, Panic, Exhausted, Reply, Nothing, Outcome, Done, Sleeps, Panics, Event, Sleeper, Offer, Channel, Shared, ChannelSize, CloseOfClosed, CloseOfNil, SendOnClosed, TooManyChannels, TooManyGoroutines}
+use Rattle.word.specs.Requests.{Fate, GoesOn, Dozes, Leaves, Stays, Deed, channel_of, offers, first_offer, partner, done, sleeps, panics, send_to, do_send, receive_from, send_ready, receive_ready, choose, do_clause, do_select, do_make, act, meant}
+use Rattle.word.specs.Flow.{Deal, Gives, Takes, NoDeal, deal, is_sleeps, item_of}
 use Rattle.word.specs.Rising.{Entry, later, falls_in, fell, offered_by, entered, entries_after, entries, IsIn, Rises, IsRising}
 use Rattle.logical_clock.specs.declared.key.Key.{Key}
-use Rattle.turn_rule.specs.Turns.{World, Rules, next, move_on, move_at, move_next, perform as perform_in, one, run}
+use Rattle.turn_rule.specs.Turns.{World, next, move_on, move_at, move_next, perform as perform_in, one, run}
 use Rattle.word.specs.Kinds.{Kind, Clocked, asks}
 use Rattle.word.specs.Worlds.{Rest, rules, performs, opening, moment}
 use Rattle.word.proofs.Apart.{Apart, not_asleep, one_by as one_apart}
 use Rattle.word.proofs.Found.{In}
-use Rattle.word.proofs.Fair.{IsApart, AllWake, Wakes, Lies, Fair, fair}
+use Rattle.word.proofs.Fair.{IsApart, AllWake, Lies, Fair, fair}
 
 later_none : (o : Option (ℕ × Request)) → later o None ≡ o
 later_none None = refl
@@ -291,55 +290,3 @@ module _ (K : Kind) (limit : ℕ) where
   -- at every moment, one sender's items in what a channel accepted have rising event numbers
   pub rising : (n : ℕ) → IsRising (moment K limit n).shared.shared
   rising n = (run_rank n (opening K) (λ x i. elim i [ ]) (record { low = λ c a i. elim i [ ]; since = λ x i. elim i [ ]; rises = λ c. tt })).rises
-
--- the entries are the accepted items, with their senders
-abbrev asked_of : Option (ℕ × Request) → Option Request
-asked_of None = None
-asked_of (Some x) = Some x.1
-
-latest_of : (a b : Option (ℕ × Request)) → asked_of (later a b) ≡ latest (asked_of a) (asked_of b)
-latest_of None b = refl
-latest_of (Some x) b = refl
-
-dozed_of : (p i : ℕ) (e : Event) → asked_of (falls_in p i e) ≡ dozed p e
-dozed_of p i e = go ((e.number == p) && is_sleeps e.outcome)
-  where
-    go : (b : Bool) → asked_of (cond b (Some (i, e.request)) None) ≡ cond b (Some e.request) None
-    go true = refl
-    go false = refl
-
-slept_of : (p i : ℕ) (es : List Event) → asked_of (fell p i es) ≡ slept p es
-slept_of p i [] = refl
-slept_of p i (e ∷ es) = latest_of (fell p (suc i) es) (falls_in p (suc i) e) ∙ ap (λ o. latest o (asked_of (falls_in p (suc i) e))) (slept_of p (suc i) es) ∙ ap (latest (slept p es)) (dozed_of p (suc i) e)
-
-abbrev pub item_in : Entry → Item
-item_in a = a.item
-
-map_item : (p i : ℕ) (ys : List Item) → map item_in (map (λ y. record { sender = p; event = i; item = y }) ys) ≡ ys
-map_item p i [] = refl
-map_item p i (y ∷ ys) = ap (λ l. y ∷ l) (map_item p i ys)
-
-offered_of : (c p : ℕ) (o : Option (ℕ × Request)) → map item_in (offered_by c p o) ≡ offered c (asked_of o)
-offered_of c p None = refl
-offered_of c p (Some x) = map_item p x.0 (item_of (first_offer c true (offers x.1)))
-
-map_cond : (b : Bool) (l : List Entry) → map item_in (cond b l []) ≡ cond b (map item_in l) []
-map_cond true l = refl
-map_cond false l = refl
-
-enters_of : (c : ℕ) (before : List Event) (d : Deal) (n : ℕ) (who : List ℕ) → map item_in (entered c before d n who) ≡ enters c before d who
-enters_of c before (Gives k x) n who = map_cond (k == c) (record { sender = n; event = suc (length before); item = x } ∷ [])
-enters_of c before (Takes k x ok) n [] = refl
-enters_of c before (Takes k x ok) n (p ∷ who) = map_cond (k == c) (offered_by c p (fell p 0 before)) ∙ ap (λ l. cond (k == c) l []) (offered_of c p (fell p 0 before) ∙ ap (offered c) (slept_of p 0 before))
-enters_of c before NoDeal n who = refl
-
-map_both : (as' bs : List Entry) → map item_in (as' ++ bs) ≡ map item_in as' ++ map item_in bs
-map_both [] bs = refl
-map_both (a ∷ as') bs = ap (λ l. a.item ∷ l) (map_both as' bs)
-
-pub entries_are_accepted : (c : ℕ) (before es : List Event) → map item_in (entries_after c before es) ≡ accepted_after c before es
-entries_are_accepted c before [] = refl
-entries_are_accepted c before (e ∷ es) =
-    map_both (entered c before (deal e) e.number e.partners) (entries_after c (before ++ e ∷ []) es)
-    ∙ ap (λ l. l ++ map item_in (entries_after c (before ++ e ∷ []) es)) (enters_of c before (deal e) e.number e.partners)
-    ∙ ap (λ l. enters c before (deal e) e.partners ++ l) (entries_are_accepted c (before ++ e ∷ []) es)

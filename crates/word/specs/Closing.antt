@@ -1,5 +1,5 @@
 -- What a close ends, by the events alone.
-use Rattle.std.specs.Prelude.{◌≡◌, ℕ, ◌+◌, ◌==◌, nat_le, ◌&&◌, ◌||◌, Bool, true, false, cond, List, [], ◌∷◌, ◌++◌, Option, Some, None}
+use Rattle.std.specs.Prelude.{◌≡◌, ℕ, ◌+◌, ◌==◌, nat_le, ◌&&◌, ◌||◌, Bool, true, false, cond, List, [], ◌∷◌, ◌++◌, Some}
 use Rattle.word.specs.Values.{Request, Make, Close, Outcome, Done, Sleeps, Panics, Event, Shared}
 use Rattle.word.specs.Flow.{deal, enters}
 

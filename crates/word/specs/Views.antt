@@ -1,5 +1,4 @@
 -- Requests, replies and events of the code, as the definitions see them.
-use Rattle.std.specs.Prelude.{Option, Some, None}
 use Rattle.word.specs.declared.request.Request.{Request as Asked}
 use Rattle.word.specs.declared.request.Request.TheVariants as asked
 use Rattle.word.specs.declared.request.Reply.{Reply as Told}

@@ -1,5 +1,5 @@
 -- Worlds over any kind of state, and two kinds that nobody can tell apart.
-use Rattle.std.specs.Prelude.{◌≡◌, ℕ, ◌+◌, ◌==◌, ◌&&◌, not, Bool, true, false, cond, List, [], ◌∷◌, ◌++◌, map, length, Option, Some, None, option_map}
+use Rattle.std.specs.Prelude.{◌≡◌, ℕ, ◌+◌, ◌==◌, ◌&&◌, not, Bool, true, cond, List, [], ◌∷◌, map, Option, Some, None, option_map}
 use Rattle.std.specs.Option.{is_some}
 use Rattle.turn_rule.specs.Turns.{Effect, Rules, World, run}
 use Rattle.word.specs.Values.{Word, Request, Reply, Ending, Deadlock, Shared}

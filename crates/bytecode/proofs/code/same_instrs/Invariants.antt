@@ -1,4 +1,4 @@
-use Rattle.std.proofs.Common.{◌≡◌, ℕ, take}
+use Rattle.std.proofs.Common.{◌≡◌, take}
 use Rattle.bytecode.proofs.code.same_instrs.Given as goal
 
 abbrev pub invariant-loop-i : goal.invariant-loop-i

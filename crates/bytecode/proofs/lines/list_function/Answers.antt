@@ -1,4 +1,4 @@
-use Rattle.std.proofs.Common.{◌≡◌, ◌∙◌, ◌++◌, ap, sym, List, ℕ, take, string_bytes, arith, pos, slice_get}
+use Rattle.std.proofs.Common.{◌∙◌, ◌++◌, ap, sym, List, ℕ, take, string_bytes, arith, pos, slice_get}
 use Rattle.bytecode.specs.declared.instr.Instr.{Instr}
 use Rattle.bytecode.specs.declared.instr.Instr.TheVariants as instrs
 use Rattle.std.proofs.lemmas.Option.{slice_get-get_or}

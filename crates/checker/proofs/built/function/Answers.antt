@@ -1,8 +1,8 @@
-use Rattle.std.proofs.Common.{◌≡◌, ◌+◌, ◌<◌, List, IsTrue, true, false, map, sum_by, subst, sym, ap, ◌∙◌, arith}
+use Rattle.std.proofs.Common.{List, IsTrue, map, sum_by, subst, sym, ap, ◌∙◌, arith}
 use Rattle.std.proofs.lemmas.Result.{err_from_is_err_and}
 use Rattle.syntax.specs.declared.node.DeclaredNode.{DeclaredNode}
 use Rattle.syntax.specs.declared.node.StatementNode.{StatementNode}
-use Rattle.syntax.specs.Measures.{declared_size, statement_size, function_size}
+use Rattle.syntax.specs.Measures.{declared_size, statement_size}
 use Rattle.syntax.specs.View.{type_of, declared_of, statement_of, function_of}
 use Rattle.checker.specs.Built.{are_all, is_built_parameter, is_absent, is_built_statement}
 use Rattle.checker.proofs.Sizes.{is_built_of, function_size_of, third_of, all_three, absent_of, no_size_of}

@@ -1,4 +1,4 @@
-use Rattle.std.proofs.Common.{◌≡◌, ℕ, ◌+◌, ◌⊎◌, IsTrue, drop, map, sum_by}
+use Rattle.std.proofs.Common.{◌≡◌, ◌+◌, IsTrue, drop, map, sum_by}
 use Rattle.syntax.specs.Measures.{top_size}
 use Rattle.syntax.specs.View.{top_of}
 use Rattle.checker_base.specs.declared.flaw.Flaw.{Flaw}

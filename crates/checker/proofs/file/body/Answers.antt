@@ -1,10 +1,10 @@
-use Rattle.std.proofs.Common.{◌≡◌, ◌+◌, ◌⊎◌, [], inl, inr, List, IsTrue, map, sum_by, subst, sym, ap, ◌∙◌, arith}
+use Rattle.std.proofs.Common.{◌≡◌, ◌+◌, ◌⊎◌, [], inl, List, IsTrue, map, sum_by, subst, sym, ap, ◌∙◌, arith}
 use Rattle.std.proofs.lemmas.Result.{err_from_is_err_and}
 use Rattle.syntax.specs.declared.node.DeclaredNode.{DeclaredNode}
 use Rattle.syntax.specs.declared.node.StatementNode.{StatementNode}
 use Rattle.syntax.specs.Measures.{declared_size, statement_size}
 use Rattle.syntax.specs.View.{declared_of, statement_of, function_of}
-use Rattle.checker_base.specs.Scopes.{Scope, scope_of}
+use Rattle.checker_base.specs.Scopes.{scope_of}
 use Rattle.checker.specs.Built.{are_all, is_built_statement}
 use Rattle.checker.specs.Rules.{signatures_of, parameters, BodyIn, BodyHas, ParametersHave}
 use Rattle.checker.proofs.Sizes.{built_in}

@@ -1,4 +1,4 @@
-use Rattle.std.proofs.Common.{◌≡◌, ◌⊎◌, List, map, ap, sym, ◌∙◌}
+use Rattle.std.proofs.Common.{◌⊎◌, List, map, ap, ◌∙◌}
 use Rattle.std.proofs.lemmas.Result.{err_from_is_err_and}
 use Rattle.syntax.specs.declared.node.TopNode.{TopNode}
 use Rattle.syntax.specs.View.{top_of, file_of}

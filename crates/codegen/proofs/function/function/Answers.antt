@@ -1,4 +1,4 @@
-use Rattle.std.proofs.Common.{◌≡◌, ◌+◌, ◌++◌, ◌≤◌, [], List, ℕ, length, map, sum_by, vec_len, subst, sym, ap, ◌∙◌, arith}
+use Rattle.std.proofs.Common.{◌≡◌, ◌++◌, ◌≤◌, [], List, ℕ, length, map, sum_by, vec_len, subst, sym, ap, ◌∙◌, arith}
 use Rattle.checker.specs.Program.{AreGood}
 use Rattle.checker.specs.Rules.{signatures, with_parameters, parameters, after_all}
 use Rattle.checker.proofs.Sizes.{function_size_of}

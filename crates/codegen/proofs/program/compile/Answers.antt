@@ -12,7 +12,6 @@ use Rattle.codegen.proofs.Follows.{is_equal}
 use Rattle.syntax.specs.declared.tree.Tree.{Tree}
 use Rattle.syntax.specs.Spans.{tree_of}
 use Rattle.syntax.specs.Tree.{File}
-use Rattle.syntax.specs.View.{file_of}
 use Rattle.word.specs.Worlds.{Equal}
 use Rattle.codegen.proofs.program.compile.Goals as goal
 

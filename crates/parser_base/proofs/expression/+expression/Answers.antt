@@ -1,7 +1,7 @@
-use Rattle.std.proofs.Common.{◌≡◌, ◌-◌, ◌<◌, ◌≤◌, is_ok, map, ap, sym, arith, ◌∙◌}
+use Rattle.std.proofs.Common.{◌-◌, ◌<◌, ◌≤◌, is_ok, map, ap, sym, arith}
 use Rattle.std.proofs.ResultArms.{chosen}
 use Rattle.std.proofs.lemmas.Result.{err_from_is_err_and}
-use Rattle.syntax.specs.Measures.{Entries, highest, expression_height, expression_size}
+use Rattle.syntax.specs.Measures.{Entries, expression_height, expression_size}
 use Rattle.syntax.specs.View.{expression_of}
 use Rattle.syntax.proofs.Lists.{expressions_height-of, expressions_size-of}
 use Rattle.parser_base.specs.Cursor.{ahead}

@@ -1,4 +1,4 @@
-use Rattle.std.proofs.Common.{rules, arith, None, subst, sym}
+use Rattle.std.proofs.Common.{None, subst, sym}
 use Rattle.verifier.specs.Tables.{Scanned, Judged}
 use Rattle.verifier.proofs.Holds.{judged}
 use Rattle.verifier.proofs.paths.check_function.Goals as goal

@@ -1,4 +1,4 @@
-use Rattle.std.proofs.Common.{rules, arith, ◌≡◌, ◌∙◌, ap, refl, Some, None}
+use Rattle.std.proofs.Common.{rules, ◌≡◌, ◌∙◌, ap, refl, Some, None}
 use Rattle.verifier.specs.Tables.{kinds_at, entry}
 use Rattle.verifier.proofs.Entries.{entry_read}
 use Rattle.verifier.proofs.paths.enter_kinds.Goals as goal

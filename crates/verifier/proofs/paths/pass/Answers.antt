@@ -1,5 +1,5 @@
-use Rattle.std.proofs.Common.{rules, arith, subst, sym, ◌≡◌, ◌∙◌, ◌+◌}
-use Rattle.verifier.specs.Tables.{Going, Visited}
+use Rattle.std.proofs.Common.{subst, sym, ◌∙◌, ◌+◌}
+use Rattle.verifier.specs.Tables.{Going}
 use Rattle.verifier.proofs.Holds.{going, gone}
 use Rattle.verifier.proofs.paths.pass.Goals.{in-Settles, in-Grows}
 use Rattle.verifier.proofs.paths.pass.Goals as goal

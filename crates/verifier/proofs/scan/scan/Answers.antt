@@ -1,5 +1,4 @@
-use Rattle.std.proofs.Common.{ap, length, rules, arith, subst, sym, None}
-use Rattle.verifier.specs.Tables.{ScannedAt}
+use Rattle.std.proofs.Common.{ap, length, arith}
 use Rattle.verifier.proofs.Holds.{scanned_more, scanned_all}
 use Rattle.verifier.proofs.scan.scan.Goals as goal
 

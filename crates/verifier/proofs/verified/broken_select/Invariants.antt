@@ -1,4 +1,4 @@
-use Rattle.std.proofs.Common.{◌≡◌, ◌<◌, ℕ, Some, length, slice_get}
+use Rattle.std.proofs.Common.{◌≡◌, ◌<◌, ℕ, Some, slice_get}
 use Rattle.bytecode.specs.Code.{SelectTable}
 use Rattle.bytecode.specs.Rules.{IsSelect}
 use Rattle.verifier.proofs.verified.broken_select.Given as goal

@@ -1,8 +1,7 @@
-use Rattle.std.proofs.Common.{◌≡◌, ◌∙◌, ◌<◌, ◌+◌, ℕ, List, [], ◌∷◌, length, Option, Some, sym, ap, subst, arith, rules, refl, slice_get, get_or}
+use Rattle.std.proofs.Common.{◌≡◌, ◌∙◌, ◌<◌, List, [], ◌∷◌, length, Some, sym, ap, arith, rules, refl, slice_get}
 use Rattle.std.proofs.lemmas.Option.{slice_get-get_or}
 use Rattle.bytecode.specs.Code.{Function}
 use Rattle.bytecode.specs.Machine.{main_of}
-use Rattle.bytecode.specs.Rules.{HasMain}
 use Rattle.verifier.proofs.verified.has_main.Goals as goal
 
 empty : {A : Type 0} (xs : List A) → length xs ≡ 0 → xs ≡ []

@@ -1,5 +1,4 @@
 use Rattle.verifier.proofs.Safe.{never_broken, never_stuck}
-use Rattle.std.proofs.Common.{◌≡◌}
 use Rattle.verifier.proofs.verified.verify.Goals as goal
 
 pub returns-in-Ok-Some-clause-verified : goal.returns-in-Ok-Some-clause-verified

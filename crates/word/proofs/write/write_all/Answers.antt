@@ -1,4 +1,4 @@
-use Rattle.word.proofs.Writing.{Written-next, all_written}
+use Rattle.word.proofs.Writing.{Written-next}
 use Rattle.word.proofs.write.write_all.Goals as goal
 
 pub writes-preserved : goal.writes-preserved

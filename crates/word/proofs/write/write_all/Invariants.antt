@@ -1,4 +1,4 @@
-use Rattle.std.proofs.Common.{◌≡◌, length, ◌-◌}
+use Rattle.std.proofs.Common.{length, ◌-◌}
 use Rattle.word.proofs.Writing.{Written}
 use Rattle.word.proofs.write.write_all.Given as goal
 

@@ -1,4 +1,4 @@
-use Rattle.std.proofs.Common.{◌≡◌, ◌++◌, ◌<◌, ◌≤◌, ◌^◌, ◌∙◌, length, sym, subst, ap, arith, refl}
+use Rattle.std.proofs.Common.{◌++◌, ◌<◌, ◌^◌, length, sym, subst, ap, arith, refl}
 use Rattle.std.specs.Arc.{arc_value}
 use Rattle.bytecode.specs.Code.{Code}
 use Rattle.world_core.specs.Cores.{Performs, bytes_of}

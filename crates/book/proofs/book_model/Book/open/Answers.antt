@@ -1,6 +1,5 @@
-use Rattle.std.proofs.Common.{◌≡◌, sym, subst}
+use Rattle.std.proofs.Common.{subst}
 use Rattle.std.specs.Arc.{arc_value}
-use Rattle.bytecode.specs.Code.{Code}
 use Rattle.bytecode.specs.Rules.{IsVerified}
 use Rattle.book.proofs.Books.{opened_is_desk}
 use Rattle.book.proofs.book_model.Book.open.Goals as goal

@@ -1,10 +1,9 @@
-use Rattle.std.proofs.Common.{◌≡◌, ◌+◌, length, Some, None, refl, sym, ◌∙◌, subst, ap}
+use Rattle.std.proofs.Common.{◌≡◌, ◌+◌, length, Some, refl, sym, ◌∙◌, subst}
 use Rattle.std.specs.Arc.{arc_value}
 use Rattle.logical_clock.specs.Order.{keys, least}
-use Rattle.word.specs.declared.end.End.TheVariants.{Deadlock}
 use Rattle.book.specs.Desks.{Desk, IsEnd, StandsBefore}
-use Rattle.world_core.specs.Slots.{Rows, IsAwake, IsBefore, IsNobodyAwake, waiting_clock}
-use Rattle.book.proofs.Books.{ended_desk, dead_desk, waits_free, waits_key}
+use Rattle.world_core.specs.Slots.{Rows, IsBefore, waiting_clock}
+use Rattle.book.proofs.Books.{ended_desk, waits_key}
 use Rattle.book.proofs.book_model.Book.settle.Goals as goal
 
 pub returns-in-Some-clause-settles : goal.returns-in-Some-clause-settles

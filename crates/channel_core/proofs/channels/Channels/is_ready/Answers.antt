@@ -1,4 +1,3 @@
-use Rattle.std.proofs.Common.{sym, ◌∙◌}
 use Rattle.channel_core.proofs.channels.Channels.is_ready.Goals as goal
 
 pub returns-in-Some-item : goal.returns-in-Some-item
