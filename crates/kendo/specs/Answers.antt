@@ -1,8 +1,16 @@
 -- What the program finds in a file.
-use Rattle.std.specs.Prelude.{◌≡◌, ℕ, ◌≤◌, ◌⊎◌, List, Some, Result, Ok, Err}
+use Rattle.std.specs.Prelude.{◌≡◌, ℕ, ◌≤◌, ◌⊎◌, List, [], Some, None, Result, Ok, Err}
+use Rattle.clap.specs.Faults.{fault_of}
+use Rattle.clap.specs.Kinds.{IsAmong}
+use Rattle.clap.specs.Simple.{subcommand_of}
+use Rattle.clap.specs.Words.{Text}
+use Rattle.clap.specs.declared.error.kind.ErrorKind.{ErrorKind}
+use Rattle.clap.specs.declared.error.kind.ErrorKind.TheVariants as kinds
 use Rattle.checker.specs.Source.{source_kind}
+use Rattle.kendo.specs.CommandLine.{IsAsked, kendo}
 use Rattle.kendo.specs.declared.arguments.Action.{Action}
 use Rattle.kendo.specs.declared.arguments.Action.TheVariants as actions
+use Rattle.kendo.specs.declared.arguments.Invocation.{Invocation}
 use Rattle.kendo_base.specs.Outcome.{report_status}
 use Rattle.kendo_base.specs.Reading.{HasNoReading, IsRefusal, IsWhy, Reads, number_of}
 use Rattle.kendo_base.specs.Runs.{IsLimit, IsWorkers}
@@ -34,3 +42,18 @@ Tells action status = (text : List ℕ) × (outcome : Result End Fault) × Finds
 -- an exit status of the program
 abbrev pub IsStatus : ℕ → Type 0
 IsStatus status = (status ≤ 6) ⊎ (status ≡ 64)
+
+-- the exit status where help was asked for, or the words are refused for another reason
+abbrev pub ShowsAs : ErrorKind → ℕ → Type 0
+ShowsAs kinds.DisplayHelp status = (status ≡ 0) ⊎ (status ≡ 6)
+ShowsAs kinds.DisplayVersion status = IsStatus status
+ShowsAs kind status = status ≡ 64
+
+-- the exit status of a command line
+pub data Obeys (words : List Text) (status : ℕ) : Type 0 where
+  -- what the words ask for was done; 64 where the file can't be read
+  WasDone : fault_of kendo words ≡ [] → (invocation : Invocation) → IsAsked (subcommand_of kendo words) (Some invocation) → (status ≡ 64) ⊎ Tells invocation.action status → Obeys words status
+  -- they ask for nothing that is done
+  WasNothing : fault_of kendo words ≡ [] → IsAsked (subcommand_of kendo words) None → status ≡ 64 → Obeys words status
+  -- they are refused, or ask for help
+  WasShown : (kind : ErrorKind) → IsAmong kind (fault_of kendo words) → ShowsAs kind status → Obeys words status

@@ -1,9 +1,9 @@
 //! The program: its command line, its file, and the two standard streams.
 #![tactic(auto)]
 
-ghost use Rattle.std.specs.Prelude.{◌≡◌, ◌≢◌, ◌⊎◌, ◌↔◌, ◌≤◌, IsErr, IsErrOf, IfErr, IfOk};
+ghost use Rattle.std.specs.Prelude.{◌≡◌, ◌⊎◌, ◌↔◌, ◌≤◌, IsErr, IsErrOf, IfErr, IfOk, map, string_bytes};
 ghost use Rattle.clap.specs.Values.{kind_of};
-ghost use Rattle.kendo.specs.Answers.{EndsAs, Finds, HasReading, IsStatus, Tells};
+ghost use Rattle.kendo.specs.Answers.{EndsAs, Finds, HasReading, IsStatus, Obeys, ShowsAs, Tells};
 ghost use Rattle.kendo_base.specs.Reading.{HasNoReading, IsRefusal, IsWhy, number_of};
 ghost use Rattle.kendo_base.specs.Runs.{IsLimit, IsWorkers};
 
@@ -76,20 +76,29 @@ fn tell(rt: &HostRuntime, line: &[u8]) {
 }
 
 /// Reads the command line and does what it asks, down to the exit status. A run may wait for its workers, by this leave.
-#[tactic(auto, using(crate::proofs::Findings::told_status))]
+#[tactic(auto, using(crate::proofs::Obeying::obeyed_status))]
 fn start(rt: &HostRuntime, leave: &impl Wait) -> Result<u8, Memory>
     ensures { IfOk result IsStatus }
 {
     let alloc = rt.alloc();
-    let words: Vec<String> = match env::args(rt) {
-        Ok(words) => words.collect(alloc)?,
-        Err(error) if error.kind() == io::ErrorKind::OutOfMemory => return Err(Memory),
+    match env::args(rt) {
+        Ok(words) => {
+            let words: Vec<String> = words.collect(alloc)?;
+            obey(rt, leave, alloc, words.as_slice())
+        }
+        Err(error) if error.kind() == io::ErrorKind::OutOfMemory => Err(Memory),
         Err(_) => {
             tell(rt, b"kendo: an argument is not UTF-8\n".as_slice());
-            return Ok(USAGE);
+            Ok(USAGE)
         }
-    };
-    match command(alloc)?.try_get_matches_from(words.as_slice()) {
+    }
+}
+
+/// Does what these words ask, the first of which is the program's name, down to the exit status.
+fn obey(rt: &HostRuntime, leave: &impl Wait, alloc: Global, words: &[String]) -> Result<u8, Memory>
+    ensures { IfOk result (λ status. Obeys (map string_bytes words.now) status) }
+{
+    match command(alloc)?.try_get_matches_from(words) {
         Ok(matches) => match invocation_of(&matches) {
             Some(invocation) => perform(rt, leave, alloc, &invocation),
             None => Ok(USAGE),
@@ -101,9 +110,7 @@ fn start(rt: &HostRuntime, leave: &impl Wait) -> Result<u8, Memory>
 /// Shows help on standard output, or what is wrong with the command line on standard error.
 fn show(rt: &HostRuntime, error: &clap::Error) -> Result<u8, Memory>
     ensures memory { IsErr result ↔ (kind_of error.now ≡ ErrorKind.OutOfMemory) }
-    ensures status { IfOk result IsStatus }
-    ensures help { kind_of error.now ≡ ErrorKind.DisplayHelp → IfOk result (λ status. (status ≡ 0) ⊎ (status ≡ WRITE)) }
-    ensures mistake { kind_of error.now ≢ ErrorKind.DisplayHelp → kind_of error.now ≢ ErrorKind.DisplayVersion → IfOk result (λ status. status ≡ USAGE) }
+    ensures shown { IfOk result (λ status. ShowsAs (kind_of error.now) status) }
 {
     if error.kind() == ErrorKind::OutOfMemory {
         return Err(Memory);
