@@ -102,9 +102,9 @@ impl Channels {
         Ok(Outcome::Done(reply, Vec::new(self.alloc)))
     }
 
-    #[tactic(auto, using(crate::proofs::Deeds::send_done, crate::proofs::Deeds::send_sleeps))]
     /// A send by goroutine `number` (Go: Send statements): to the first sleeper that receives, else into the buffer, else
     /// it sleeps. A send on a closed channel panics; on `nil` it sleeps for good.
+    #[tactic(auto, using(crate::proofs::Deeds::send_done, crate::proofs::Deeds::send_sleeps))]
     pub fn send(&mut self, number: u64, chan: Option<u32>, item: Item) -> Result<Outcome, Memory>
         ensures does { IfOk result (λ outcome. Does self.old number (Send chan item) outcome self.new) }
         ensures memory { OnErr result (self.new ≡ self.old) }
@@ -118,10 +118,10 @@ impl Channels {
         self.send_now(number, chan, item, 0)
     }
 
-    #[tactic(auto, using(crate::proofs::Deeds::receive_done, crate::proofs::Deeds::receive_sleeps))]
     /// A receive by goroutine `number` (Go: Receive operator): of the buffer's front item, whose place the first sleeping
     /// sender's item takes, else of that item, else of the zero item where the channel is closed, else it sleeps. On `nil`
     /// it sleeps for good.
+    #[tactic(auto, using(crate::proofs::Deeds::receive_done, crate::proofs::Deeds::receive_sleeps))]
     pub fn receive(&mut self, number: u64, chan: Option<u32>) -> Result<Outcome, Memory>
         ensures does { IfOk result (λ outcome. Does self.old number (Receive chan) outcome self.new) }
         ensures memory { OnErr result (self.new ≡ self.old) }
@@ -180,9 +180,9 @@ impl Channels {
         }
     }
 
-    #[tactic(auto, using(crate::proofs::Deeds::select_done, crate::proofs::Deeds::select_sleeps, crate::proofs::Deeds::select_nil))]
     /// A select by goroutine `number` (Go: Select statements): the first clause in source order that is ready is done, else
     /// the default, else it sleeps with all its clauses, and being served withdraws them all.
+    #[tactic(auto, using(crate::proofs::Deeds::select_done, crate::proofs::Deeds::select_sleeps, crate::proofs::Deeds::select_nil))]
     pub fn select(&mut self, number: u64, cases: &[Case], default: bool) -> Result<Outcome, Memory>
         ensures does { IfOk result (λ outcome. Does self.old number (Select cases.now default) outcome self.new) }
         ensures memory { OnErr result (self.new ≡ self.old) }

@@ -57,6 +57,24 @@ fn make(
     }
 }
 
+/// What a start of a goroutine asks.
+fn go(
+    alloc: Global,
+    code: &Code,
+    frame: &Frame,
+    function: u32,
+    at: usize,
+) -> Result<Option<Request>, AllocError>
+    requires { at ≤ length frame.now.stack }
+    ensures { IfOk result (λ o. (callers : Frames) → AsksFor (instr_next code.now frame.now callers (take at frame.now.stack) (drop at frame.now.stack) (Instr.Go function)) o) }
+{
+    if function as usize >= code.functions().len() {
+        return Ok(None);
+    }
+    let args = Vec::from_slice(alloc, &frame.stack[at..])?;
+    Ok(Some(Request::Go(function, args)))
+}
+
 /// What a send asks.
 fn send(alloc: Global, frame: &Frame, shape: u32, at: usize) -> Option<Request>
     requires { at ≤ length frame.now.stack }
@@ -110,13 +128,7 @@ fn ask(
             Ok(Some(Request::End))
         }
         Instr::Make(shape) => Ok(make(alloc, code, frame, shape, at)?),
-        Instr::Go(function) => {
-            if function as usize >= code.functions().len() {
-                return Ok(None);
-            }
-            let args = Vec::from_slice(alloc, &frame.stack[at..])?;
-            Ok(Some(Request::Go(function, args)))
-        }
+        Instr::Go(function) => Ok(go(alloc, code, frame, function, at)?),
         Instr::Send(shape) => Ok(send(alloc, frame, shape, at)),
         Instr::Receive(_) => Ok(channel(frame, at).map(Request::Receive)),
         Instr::Close => Ok(channel(frame, at).map(Request::Close)),

@@ -501,15 +501,8 @@ pub fn led<'a>(
                 let found = call(alloc, literals, room, name, first, rest, spans)?;
                 return Ok(led_by(found));
             }
-            formed(
-                alloc,
-                literals,
-                defining,
-                room,
-                form_of(cursor),
-                cursor,
-                spans,
-            )
+            let form = form_of(cursor);
+            formed(alloc, literals, defining, room, form, cursor, spans)
         }
         _ => Ok(FoundLed {
             simple: None,

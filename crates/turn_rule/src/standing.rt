@@ -17,8 +17,8 @@ pub enum Standing {
     Asleep,
 }
 
-#[tactic(auto, using(crate::proofs::Best::least_found, crate::proofs::Best::none_found))]
 /// The parked row of least key; none where none is parked.
+#[tactic(auto, using(crate::proofs::Best::least_found, crate::proofs::Best::none_found))]
 pub fn least(rows: &[Standing]) -> Option<usize>
     ensures some { IfSome result (IsLeast rows.now) }
     ensures none { IfNone result ((i : ℕ) (key : OneKey) → IsParked rows.now i key → ⊥) }

@@ -34,8 +34,8 @@ pub struct ShortWrite {
     pub taken: usize,
 }
 
-#[tactic(auto, using(crate::proofs::Writing::all_written))]
 /// Writes a whole piece.
+#[tactic(auto, using(crate::proofs::Writing::all_written))]
 pub fn write_all<W: Write>(writer: &mut W, piece: &[u8]) -> Result<(), ShortWrite>
     ensures ok { OnOk result (Appends (W.contents writer.old) (W.contents writer.new) piece.now) }
     ensures err { IfErr result (λ short. (short.taken < length piece.now) × Appends (W.contents writer.old) (W.contents writer.new) (take short.taken piece.now)) }

@@ -177,8 +177,8 @@ impl Core {
         );
     }
 
-    #[tactic(auto, using(crate::proofs::Taking::taken_same))]
     /// Takes out the state of goroutine `number`, which is awake and not lent. Contracts still see it.
+    #[tactic(auto, using(crate::proofs::Taking::taken_same))]
     pub fn take_state(&mut self, number: u64) -> GoState
         requires { IsHere self.old number }
         ensures state { state_of self.old number ≡ Some result }
@@ -193,8 +193,8 @@ impl Core {
         state
     }
 
-    #[tactic(auto, using(crate::proofs::Taking::put_state, crate::proofs::Taking::put_others))]
     /// Puts this state in, for goroutine `number`, whose state was taken out.
+    #[tactic(auto, using(crate::proofs::Taking::put_state, crate::proofs::Taking::put_others))]
     pub fn put_state(&mut self, number: u64, state: GoState)
         requires { IsAway self.old number }
         ensures put { self.new ≡ put_back self.old number state }
@@ -207,9 +207,9 @@ impl Core {
         put_at(self.rows.as_mut_slice(), number, Some(away.back(state)));
     }
 
-    #[tactic(auto, using(crate::proofs::Stepping::rows_fit))]
     /// One step of goroutine `number`, as a schedule names it; of one that is not awake, or without the memory that it
     /// needs, it changes nothing.
+    #[tactic(auto, using(crate::proofs::Stepping::rows_fit))]
     pub fn step(
         &mut self,
         alloc: Global,

@@ -341,8 +341,8 @@ impl Away {
     }
 }
 
-#[tactic(auto, using(crate::proofs::Stepping::one_step))]
 /// The state after one local step, where there is one.
+#[tactic(auto, using(crate::proofs::Stepping::one_step))]
 fn after_step(
     alloc: Global,
     code: &Verified,

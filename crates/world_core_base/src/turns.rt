@@ -8,8 +8,8 @@ ghost use Rattle.world_core_base.specs.Slots.{IsAwake, IsBefore, IsNobodyAwake, 
 use crate::slot::Slot;
 use logical_clock::{Key, sooner};
 
-#[tactic(auto, using(crate::proofs::Leases::waiting_found))]
 /// The parked goroutine of least key. A goroutine's number is its place in the rows.
+#[tactic(auto, using(crate::proofs::Leases::waiting_found))]
 pub fn least_parked(rows: &[Option<Slot>]) -> Option<Key>
     ensures least { result ≡ least (keys waiting_clock 0 rows.now) }
     ensures found { IfSome result (λ key. waiting_clock (slice_index_or rows.now key.number None) ≡ Some key.clock) }
@@ -31,8 +31,8 @@ pub fn least_parked(rows: &[Option<Slot>]) -> Option<Key>
     best
 }
 
-#[tactic(auto, using(crate::proofs::Leases::free_found))]
 /// The goroutine of least key of those that are neither lent nor parked.
+#[tactic(auto, using(crate::proofs::Leases::free_found))]
 pub fn least_free(rows: &[Option<Slot>]) -> Option<Key>
     ensures least { result ≡ least (keys free_clock 0 rows.now) }
     ensures found { IfSome result (λ key. free_clock (slice_index_or rows.now key.number None) ≡ Some key.clock) }

@@ -3,7 +3,7 @@ use Rattle.std.proofs.lemmas.List.{take_rest}
 use Rattle.std.proofs.lemmas.Option.{slice_get-get_or}
 use Rattle.bytecode.specs.Code.{PrintTable}
 use Rattle.bytecode.specs.Machine.{Frame, printed}
-use Rattle.goroutine_vm_base.proofs.Asking.{go_for, print_for}
+use Rattle.goroutine_vm_base.proofs.Asking.{print_for}
 use Rattle.goroutine_vm_base.proofs.request.ask.Goals as goal
 
 pub returns-in-Apply : goal.returns-in-Apply
@@ -18,19 +18,15 @@ returns-in-Send c = rw c.in-Send.is (c.send.ensures c.args.code.now c.args.calle
 pub returns-in_ok-select-in-Select : goal.returns-in_ok-select-in-Select
 returns-in_ok-select-in-Select c = rw c.in-Select.is (c.in_ok-select-in-Select.ensures c.args.callers.now)
 
-pub returns-in_ok-args-in-Go : goal.returns-in_ok-args-in-Go
-returns-in_ok-args-in-Go c =
-    let view : c.frame.inside.stack.items ≡ c.args.frame.now.stack = ap (λ (x : Frame). x.stack) c.frame.view_is in
-    let args : c.in_ok-args-in-Go.args.items ≡ drop c.args.at c.args.frame.now.stack = c.in_ok-args-in-Go.ensures.items ∙ take_rest c.deref.result.now c.args.at ∙ ap (drop c.args.at) (c.deref.ensures.value ∙ view) in
-    let below : c.in-Go.function < length c.args.code.now.functions = search rules in
-    rw c.in-Go.is (go_for c.args.code.now.functions c.in-Go.function (drop c.args.at c.args.frame.now.stack) c.in_ok-args-in-Go.args below args)
+pub returns-in_ok-go-in-Go : goal.returns-in_ok-go-in-Go
+returns-in_ok-go-in-Go c = rw c.in-Go.is (c.in_ok-go-in-Go.ensures c.args.callers.now)
 
 pub returns-in_ok-text-in-Print : goal.returns-in_ok-text-in-Print
 returns-in_ok-text-in-Print c =
     let prints : List PrintTable = c.prints-prints.result.now in
     let table : PrintTable = c.index-prints-table.result in
     let view : c.frame.inside.stack.items ≡ c.args.frame.now.stack = ap (λ (x : Frame). x.stack) c.frame.view_is in
-    let words : take (length c.deref-in-Print.result.now - c.args.at) (drop c.args.at c.deref-in-Print.result.now) ≡ drop c.args.at c.args.frame.now.stack = take_rest c.deref-in-Print.result.now c.args.at ∙ ap (drop c.args.at) (c.deref-in-Print.ensures.value ∙ view) in
+    let words : take (length c.deref.result.now - c.args.at) (drop c.args.at c.deref.result.now) ≡ drop c.args.at c.args.frame.now.stack = take_rest c.deref.result.now c.args.at ∙ ap (drop c.args.at) (c.deref.ensures.value ∙ view) in
     let lt : c.in-Print.table < length prints = search rules in
     let here : slice_get c.args.code.now.prints c.in-Print.table ≡ Some table = ap (λ (xs : List PrintTable). slice_get xs c.in-Print.table) (sym c.prints-prints.ensures) ∙ slice_get-get_or prints c.in-Print.table table lt ∙ ap Some (sym c.index-prints-table.is) in
     let text : c.in_ok-text-in-Print.text.items ≡ printed table (drop c.args.at c.args.frame.now.stack) = c.in_ok-text-in-Print.ensures ∙ ap (printed table) words in
