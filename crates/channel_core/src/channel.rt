@@ -27,7 +27,7 @@ impl Model for Channel {
 
 impl Channel {
     /// An open channel with nothing in its buffer.
-    pub fn new(alloc: Global, capacity: u32, zero: Item) -> Channel
+    pub(crate) fn new(alloc: Global, capacity: u32, zero: Item) -> Channel
         ensures { result ≡ record { capacity = capacity; items = []; closed = false; zero = zero } }
     {
         Channel {
@@ -39,56 +39,56 @@ impl Channel {
     }
 
     /// Whether it is closed.
-    pub fn is_closed(&self) -> bool
+    pub(crate) fn is_closed(&self) -> bool
         ensures { result ≡ self.now.closed }
     {
         self.closed
     }
 
     /// Whether there is room in the buffer.
-    pub fn has_room(&self) -> bool
+    pub(crate) fn has_room(&self) -> bool
         ensures { result ≡ nat_lt (length self.now.items) self.now.capacity }
     {
         self.items.len() < self.capacity as usize
     }
 
     /// How many items are in the buffer (Go: Length and capacity).
-    pub fn len(&self) -> i64
+    pub(crate) fn len(&self) -> i64
         ensures { result ≡ pos (length self.now.items) }
     {
         self.items.len() as i64
     }
 
     /// How many items the buffer holds at most (Go: Length and capacity).
-    pub fn capacity(&self) -> i64
+    pub(crate) fn capacity(&self) -> i64
         ensures { result ≡ pos self.now.capacity }
     {
         i64::from(self.capacity)
     }
 
     /// Nothing more is sent on it (Go: Close).
-    pub fn close(&mut self)
+    pub(crate) fn close(&mut self)
         ensures { self.new ≡ record self.old { closed = true } }
     {
         self.closed = true;
     }
 
     /// Whether an item is in the buffer.
-    pub fn has_items(&self) -> bool
+    pub(crate) fn has_items(&self) -> bool
         ensures { result ≡ nat_lt 0 (length self.now.items) }
     {
         !self.items.is_empty()
     }
 
     /// The zero item.
-    pub fn zero(&self) -> Item
+    pub(crate) fn zero(&self) -> Item
         ensures { result ≡ self.now.zero }
     {
         self.zero.copy()
     }
 
     /// Puts an item at the buffer's back.
-    pub fn push(&mut self, item: Item) -> Result<(), AllocError>
+    pub(crate) fn push(&mut self, item: Item) -> Result<(), AllocError>
         ensures ok { OnOk result (self.new ≡ record self.old { items = self.old.items ++ item ∷ [] }) }
         ensures err { OnErr result (self.new ≡ self.old) }
     {
@@ -97,7 +97,7 @@ impl Channel {
     }
 
     /// Takes the item at the buffer's front.
-    pub fn pop(&mut self) -> Option<Item>
+    pub(crate) fn pop(&mut self) -> Option<Item>
         ensures some { IfSome result (λ item. self.old.items ≡ item ∷ self.new.items) }
         ensures none { IfNone result (self.old.items ≡ []) }
         ensures rest { self.new ≡ record self.old { items = self.new.items } }
@@ -107,7 +107,7 @@ impl Channel {
 
     /// Puts an item at the buffer's back, and takes the one at its front, which is the same one where the buffer is
     /// empty.
-    pub fn pass_through(&mut self, item: Item) -> Result<Item, AllocError>
+    pub(crate) fn pass_through(&mut self, item: Item) -> Result<Item, AllocError>
         ensures ok { IfOk result (λ front. self.old.items ++ item ∷ [] ≡ front ∷ self.new.items) }
         ensures rest { OnOk result (self.new ≡ record self.old { items = self.new.items }) }
         ensures err { OnErr result (self.new ≡ self.old) }

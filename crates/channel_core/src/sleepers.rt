@@ -39,14 +39,14 @@ impl Sleeper {
     ghost use Rattle.word.specs.Values.{Sleeper as AnySleeper, Offer};
 
     /// Goroutine `number`, which sleeps at this request.
-    pub fn new(number: u64, request: Request) -> Sleeper
+    pub(crate) fn new(number: u64, request: Request) -> Sleeper
         ensures { result ≡ record { number = number; request = request_of request } }
     {
         Sleeper { number, request }
     }
 
     /// The goroutine's number.
-    pub fn number(&self) -> u64
+    pub(crate) fn number(&self) -> u64
         ensures { result ≡ self.now.number }
     {
         self.number
@@ -130,7 +130,7 @@ fn is_offer(case: &Case, chan: u32, sends: bool) -> bool
 }
 
 /// A second item that is the same.
-pub fn copy_of(item: &Option<Item>) -> Option<Item>
+pub(crate) fn copy_of(item: &Option<Item>) -> Option<Item>
     ensures { result ≡ item.now }
 {
     match item {
@@ -140,7 +140,7 @@ pub fn copy_of(item: &Option<Item>) -> Option<Item>
 }
 
 /// The first sleeper with an offer on a channel, to send or to receive, and its first such offer.
-pub fn find_partner(asleep: &[Sleeper], chan: u32, sends: bool) -> Option<Partner>
+pub(crate) fn find_partner(asleep: &[Sleeper], chan: u32, sends: bool) -> Option<Partner>
     ensures { result ≡ option_map partner_of (partner chan sends asleep.now) }
 {
     for sleeper in asleep {
@@ -152,7 +152,7 @@ pub fn find_partner(asleep: &[Sleeper], chan: u32, sends: bool) -> Option<Partne
 }
 
 /// Takes out those of this number.
-pub fn leave(asleep: &mut Vec<Sleeper>, number: u64)
+pub(crate) fn leave(asleep: &mut Vec<Sleeper>, number: u64)
     ensures others { asleep.new.items ≡ without asleep.old.items number }
     ensures bound { vec_len asleep.new ≤ vec_len asleep.old }
     ensures room { vec_capacity asleep.new ≡ vec_capacity asleep.old }
@@ -161,7 +161,7 @@ pub fn leave(asleep: &mut Vec<Sleeper>, number: u64)
 }
 
 /// Those who are woken by a close of a channel, and what they are told.
-pub fn woken_by_close(
+pub(crate) fn woken_by_close(
     alloc: Global,
     asleep: &[Sleeper],
     chan: u32,
@@ -179,7 +179,7 @@ pub fn woken_by_close(
 }
 
 /// Takes out all those who are woken.
-pub fn leave_all(asleep: &mut Vec<Sleeper>, woken: &[Woken])
+pub(crate) fn leave_all(asleep: &mut Vec<Sleeper>, woken: &[Woken])
     ensures { asleep.new.items ≡ without_all asleep.old.items woken.now }
 {
     for one in woken {
@@ -188,7 +188,7 @@ pub fn leave_all(asleep: &mut Vec<Sleeper>, woken: &[Woken])
 }
 
 /// Puts one at the back, in place of any of its number.
-pub fn enter(asleep: &mut Vec<Sleeper>, sleeper: Sleeper) -> Result<(), AllocError>
+pub(crate) fn enter(asleep: &mut Vec<Sleeper>, sleeper: Sleeper) -> Result<(), AllocError>
     ensures ok { OnOk result (asleep.new.items ≡ without asleep.old.items sleeper.number ++ sleeper ∷ []) }
     ensures err { OnErr result (asleep.new.items ≡ asleep.old.items) }
 {

@@ -18,7 +18,11 @@ use go_text::Rule;
 use syntax::{ExpressionNode, NodeId};
 
 /// Checks values, whose nodes have numbers from `first` on, and answers the number behind them.
-pub fn values(scope: &[Entry], first: NodeId, values: &[ExpressionNode]) -> Result<NodeId, Flaw>
+pub(crate) fn values(
+    scope: &[Entry],
+    first: NodeId,
+    values: &[ExpressionNode],
+) -> Result<NodeId, Flaw>
     requires built { IsTrue (are_all is_built_expression (map expression_of values.now)) }
     requires small { first + sum_by expression_size (map expression_of values.now) < 2 ^ 32 }
     ensures end { IfOk result (λ end. end ≡ first + sum_by expression_size (map expression_of values.now)) }
@@ -33,9 +37,8 @@ pub fn values(scope: &[Entry], first: NodeId, values: &[ExpressionNode]) -> Resu
     Ok(end)
 }
 
-/// Checks that values, whose nodes have numbers from `first` on, agree with parameters in number and type. The statement has
-/// this node.
-pub fn agree(
+/// Checks that a statement's values, with nodes from `first` on, agree with these parameters in number and type.
+pub(crate) fn agree(
     scope: &[Entry],
     node: NodeId,
     first: NodeId,

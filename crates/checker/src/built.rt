@@ -260,7 +260,7 @@ fn top(first: NodeId, top: &TopNode) -> Result<NodeId, NodeId>
 /// Whether a file is of the part of the language that is compiled today.
 ///
 /// Errors: the first node by its first byte that is not built yet.
-pub fn built(file: &FileNode) -> Result<(), NodeId>
+pub(crate) fn built(file: &FileNode) -> Result<(), NodeId>
     requires { size (file_of file.now) < 2 ^ 32 }
     ensures built { IfOk result (λ _. IsBuilt (file_of file.now)) }
     ensures other { IfErr result (λ node. ¬ (IsBuilt (file_of file.now))) }

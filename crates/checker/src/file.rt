@@ -22,8 +22,7 @@ use syntax::{FileNode, FunctionNode, NodeId, StatementNode, TopNode};
 /// How many words the variables of a function may take.
 const MOST_WORDS: usize = 4096;
 
-/// Checks what is declared, whose nodes have numbers from `first` on, and answers the number behind it. The functions are
-/// then those up to this one.
+/// Checks what is declared, with nodes from `first` on, and answers the number behind it. `functions` gets it.
 fn top_header(
     alloc: Global,
     functions: &mut Vec<FunctionType>,
@@ -165,7 +164,7 @@ fn has_main(functions: &[FunctionType]) -> bool
 /// Checks a file: first what it declares, then that there is a `main`, then the bodies of the functions.
 ///
 /// Errors: the first flaw in this order; within a body statements come in order, and operands before their operators.
-pub fn check_file(alloc: Global, file: &FileNode) -> Result<(), Refusal>
+pub(crate) fn check_file(alloc: Global, file: &FileNode) -> Result<(), Refusal>
     requires built { IsTrue (are_all is_built_top (file_of file.now).tops) }
     requires small { size (file_of file.now) < 2 ^ 32 }
     ensures none { IfOk result (λ _. (flaw : OneFlaw) → ¬ (FileHas (file_of file.now) flaw)) }

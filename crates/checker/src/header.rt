@@ -54,9 +54,8 @@ fn names(
     Ok(())
 }
 
-/// Checks parameters, whose nodes have numbers from `first` on, and answers the number behind them. The scope is then that of
-/// the function's body.
-pub fn parameters(
+/// Checks parameters, with nodes from `first` on, and answers the number behind them. The scope gets them.
+pub(crate) fn parameters(
     alloc: Global,
     scope: &mut Vec<Entry>,
     first: NodeId,
@@ -100,7 +99,7 @@ fn is_name_taken(functions: &[FunctionType], name: &[u8]) -> bool
 
 /// Checks what a function declares, whose nodes have numbers from `first` on, and answers the number behind it. The functions
 /// are then those up to this one.
-pub fn header(
+pub(crate) fn header(
     alloc: Global,
     functions: &mut Vec<FunctionType>,
     first: NodeId,

@@ -60,7 +60,7 @@ fn made(first: NodeId, kind: &TypeNode) -> Result<Operand, Flaw>
 }
 
 /// Checks where a value comes from, whose nodes have numbers from `first` on, and answers the value as an operand.
-pub fn given(scope: &[Entry], first: NodeId, origin: &Origin<'_>) -> Result<Operand, Flaw>
+pub(crate) fn given(scope: &[Entry], first: NodeId, origin: &Origin<'_>) -> Result<Operand, Flaw>
     requires built { IsTrue (is_built_origin (origin_of origin.now)) }
     requires small { first + origin_size (origin_of origin.now) < 2 ^ 32 }
     ensures worth { IfOk result (λ o. origin_worth (scope_of scope.now) (origin_of origin.now) ≡ Some o.worth) }
@@ -83,7 +83,7 @@ fn is_new(scope: &[Entry], name: &[u8]) -> bool
 }
 
 /// Checks the declaration of a variable with this value, whose statement's node is the next one, and answers its type.
-pub fn declares(scope: &[Entry], name: &[u8], operand: Operand) -> Result<ValueType, Flaw>
+pub(crate) fn declares(scope: &[Entry], name: &[u8], operand: Operand) -> Result<ValueType, Flaw>
     requires { operand.node + 2 < 2 ^ 32 }
     ensures kind { IfOk result (λ kind. (w : Option OneWorth) → w ≡ Some operand.worth → default_type w ≡ Some kind) }
     ensures none { IfOk result (λ _. (w : Option OneWorth) → w ≡ Some operand.worth → (flaw : OneFlaw) → ¬ (DeclaresHas (scope_of scope.now) name.now w (operand.node + 1) (operand.node + 2) flaw)) }
@@ -101,7 +101,12 @@ pub fn declares(scope: &[Entry], name: &[u8], operand: Operand) -> Result<ValueT
 }
 
 /// Checks the assignment of a value to the name of a place.
-pub fn assigns(scope: &[Entry], name: &[u8], place: NodeId, operand: Operand) -> Result<(), Flaw>
+pub(crate) fn assigns(
+    scope: &[Entry],
+    name: &[u8],
+    place: NodeId,
+    operand: Operand,
+) -> Result<(), Flaw>
     ensures none { IfOk result (λ _. (w : Option OneWorth) → w ≡ Some operand.worth → (flaw : OneFlaw) → ¬ (AssignsHas (scope_of scope.now) name.now w (place + 1) (operand.node + 1) flaw)) }
     ensures one { IfErr result (λ flaw. (w : Option OneWorth) → w ≡ Some operand.worth → AssignsHas (scope_of scope.now) name.now w (place + 1) (operand.node + 1) flaw) }
 {

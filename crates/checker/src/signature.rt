@@ -15,7 +15,7 @@ pub struct FunctionType {
 }
 
 /// The number of the first function of this name.
-pub fn function_of_name(functions: &[FunctionType], name: &[u8]) -> Option<usize>
+pub(crate) fn function_of_name(functions: &[FunctionType], name: &[u8]) -> Option<usize>
     ensures number { result ≡ function_of_name (signatures_of functions.now) name.now }
     ensures there { IfSome result (λ number. number < length functions.now) }
 {
@@ -28,7 +28,7 @@ pub fn function_of_name(functions: &[FunctionType], name: &[u8]) -> Option<usize
 }
 
 /// The number of the function that a name stands for, which no variable hides.
-pub fn callee(functions: &[FunctionType], scope: &[Entry], name: &[u8]) -> Option<usize>
+pub(crate) fn callee(functions: &[FunctionType], scope: &[Entry], name: &[u8]) -> Option<usize>
     ensures number { result ≡ callee (signatures_of functions.now) (scope_of scope.now) name.now }
     ensures there { IfSome result (λ number. number < length functions.now) }
 {

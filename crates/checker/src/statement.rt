@@ -26,7 +26,7 @@ use std::alloc::Global;
 use syntax::{ExpressionNode, Name, NodeId, PartNode, StatementNode};
 
 /// Declares a variable.
-pub fn declare(
+pub(crate) fn declare(
     alloc: Global,
     scope: &mut Vec<Entry>,
     name: &Name,
@@ -200,8 +200,7 @@ fn act(
     }
 }
 
-/// Checks a statement, whose nodes have numbers from `first` on, and answers the number behind them. The scope is then that
-/// behind the statement.
+/// Checks a statement, with nodes from `first` on, and answers the number behind them. The scope gets what it declares.
 #[tactic(auto, using(crate::proofs::Sizes::action_size_is))]
 fn statement(
     alloc: Global,
@@ -226,9 +225,8 @@ fn statement(
     }
 }
 
-/// Checks the statements of a block, whose nodes have numbers from `first` on, and answers the number behind them. The scope
-/// is then that behind the last of them.
-pub fn statements(
+/// Checks statements, with nodes from `first` on, and answers the number behind them. The scope gets what they declare.
+pub(crate) fn statements(
     alloc: Global,
     functions: &[FunctionType],
     scope: &mut Vec<Entry>,

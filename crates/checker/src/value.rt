@@ -54,7 +54,7 @@ fn is_large(worth: Worth) -> bool
 }
 
 /// Checks a value that is put into a place of a type.
-pub fn value(operand: Operand, kind: ValueType) -> Result<(), Flaw>
+pub(crate) fn value(operand: Operand, kind: ValueType) -> Result<(), Flaw>
     ensures none { IfOk result (λ _. (w : Option OneWorth) → (t : Option OneType) → w ≡ Some operand.worth → t ≡ Some kind → (flaw : OneFlaw) → ¬ (ValueHas w t (operand.node + 1) flaw)) }
     ensures one { IfErr result (λ flaw. (w : Option OneWorth) → (t : Option OneType) → w ≡ Some operand.worth → t ≡ Some kind → ValueHas w t (operand.node + 1) flaw) }
 {
@@ -68,7 +68,7 @@ pub fn value(operand: Operand, kind: ValueType) -> Result<(), Flaw>
 }
 
 /// The type that a value has where no other one is said.
-pub fn default_type(worth: Worth) -> ValueType
+pub(crate) fn default_type(worth: Worth) -> ValueType
     ensures { (w : Option OneWorth) → w ≡ Some worth → default_type w ≡ Some result }
 {
     match worth {
@@ -78,7 +78,7 @@ pub fn default_type(worth: Worth) -> ValueType
 }
 
 /// Checks the operand of an operation on channels, and answers the type of the channel's elements.
-pub fn channel(operand: Operand) -> Result<Scalar, Flaw>
+pub(crate) fn channel(operand: Operand) -> Result<Scalar, Flaw>
     ensures element { IfOk result (λ s. (w : Option OneWorth) → w ≡ Some operand.worth → element_of w ≡ Some s) }
     ensures none { IfOk result (λ _. (w : Option OneWorth) → w ≡ Some operand.worth → (flaw : OneFlaw) → ¬ (ChannelHas w (operand.node + 1) flaw)) }
     ensures one { IfErr result (λ flaw. (w : Option OneWorth) → w ≡ Some operand.worth → ChannelHas w (operand.node + 1) flaw) }
@@ -100,7 +100,7 @@ fn is_printable(worth: Worth) -> bool
 }
 
 /// Checks a value that is printed.
-pub fn printed(operand: Operand) -> Result<(), Flaw>
+pub(crate) fn printed(operand: Operand) -> Result<(), Flaw>
     ensures none { IfOk result (λ _. (w : Option OneWorth) → w ≡ Some operand.worth → (flaw : OneFlaw) → ¬ (PrintedHas w (operand.node + 1) flaw)) }
     ensures one { IfErr result (λ flaw. (w : Option OneWorth) → w ≡ Some operand.worth → PrintedHas w (operand.node + 1) flaw) }
 {

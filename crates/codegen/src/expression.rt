@@ -35,7 +35,7 @@ fn operator(symbol: BinaryOperator) -> Op
 }
 
 /// The shape of the items of a channel with these elements.
-pub fn shape_of(scalar: Scalar) -> u32
+pub(crate) fn shape_of(scalar: Scalar) -> u32
     ensures { result ≡ shape_of scalar }
 {
     match scalar {
@@ -45,7 +45,7 @@ pub fn shape_of(scalar: Scalar) -> u32
 }
 
 /// The shape of the items of a channel, the expression.
-pub fn shape_in(scope: &[Entry], channel: &ExpressionNode) -> u32
+pub(crate) fn shape_in(scope: &[Entry], channel: &ExpressionNode) -> u32
     ensures { result ≡ shape_in (element_of (spec_worth (scope_of scope.now) (expression_of channel.now))) }
 {
     match worth(scope, channel) {
@@ -79,7 +79,7 @@ fn push_name(instrs: &mut Vec<Instr>, scope: &[Entry], name: &[u8]) -> Result<()
 }
 
 /// Appends the instructions that push an expression's value.
-pub fn push_value(
+pub(crate) fn push_value(
     instrs: &mut Vec<Instr>,
     scope: &[Entry],
     expression: &ExpressionNode,
@@ -126,7 +126,7 @@ pub fn push_value(
 }
 
 /// Appends the instructions that push arguments, in order.
-pub fn push_all(
+pub(crate) fn push_all(
     instrs: &mut Vec<Instr>,
     scope: &[Entry],
     arguments: &[ExpressionNode],
@@ -143,7 +143,7 @@ pub fn push_all(
 }
 
 /// Appends the instructions that push what is printed, in order.
-pub fn push_parts(
+pub(crate) fn push_parts(
     instrs: &mut Vec<Instr>,
     scope: &[Entry],
     parts: &[PartNode],
@@ -185,7 +185,11 @@ fn part_in(alloc: Global, scope: &[Entry], part: &PartNode) -> Result<Part, Allo
 }
 
 /// How parts are printed.
-pub fn parts_in(alloc: Global, scope: &[Entry], parts: &[PartNode]) -> Result<Vec<Part>, AllocError>
+pub(crate) fn parts_in(
+    alloc: Global,
+    scope: &[Entry],
+    parts: &[PartNode],
+) -> Result<Vec<Part>, AllocError>
     ensures { IfOk result (λ made. made.items ≡ map (part_in (scope_of scope.now)) (map part_of parts.now)) }
 {
     let mut made = Vec::new(alloc);

@@ -115,7 +115,7 @@ fn function_with(
 }
 
 /// The code of a function, whose print tables are appended.
-pub fn function(
+pub(crate) fn function(
     alloc: Global,
     prints: &mut Vec<PrintTable>,
     tops: &[TopNode],

@@ -237,7 +237,7 @@ fn given_type(scope: &[Entry], origin: &Origin<'_>) -> Option<ValueType>
 }
 
 /// Declares a variable.
-pub fn declare(
+pub(crate) fn declare(
     alloc: Global,
     scope: &mut Vec<Entry>,
     name: &Name,
@@ -299,7 +299,7 @@ fn statement(
 }
 
 /// Appends the instructions and print tables of a body's statements, and a return, and declares their variables.
-pub fn put_body(
+pub(crate) fn put_body(
     alloc: Global,
     instrs: &mut Vec<Instr>,
     prints: &mut Vec<PrintTable>,

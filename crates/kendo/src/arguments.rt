@@ -61,7 +61,7 @@ fn number_argument<'a>(
 }
 
 /// The command that `main` reads its words with.
-pub fn command<'a>(alloc: Global) -> Result<Command<'a>, AllocError>
+pub(crate) fn command<'a>(alloc: Global) -> Result<Command<'a>, AllocError>
     ensures { IfOk result (λ c. app_of c ≡ kendo) }
 {
     let list = Command::new(alloc, "list")
@@ -115,7 +115,7 @@ fn action_of(name: &str, matches: &ArgMatches<'_>) -> Option<Action>
 }
 
 /// What the words ask for.
-pub fn invocation_of<'a>(matches: &ArgMatches<'a>) -> Option<Invocation<'a>>
+pub(crate) fn invocation_of<'a>(matches: &ArgMatches<'a>) -> Option<Invocation<'a>>
     ensures { IsAsked (subcommand_rows_of matches.now) result }
 {
     let (name, matches) = matches.subcommand()?;

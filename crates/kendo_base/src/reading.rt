@@ -23,7 +23,7 @@ use syntax::Tree;
 
 /// The checked program that a text is, or why it is none, with line and column.
 #[tactic(auto, using(crate::proofs::Refusals::treeless, crate::proofs::Refusals::untyped, crate::proofs::Refusals::reads))]
-pub fn read(alloc: Global, bytes: Vec<u8>) -> Result<Typed, Fault>
+pub(crate) fn read(alloc: Global, bytes: Vec<u8>) -> Result<Typed, Fault>
     ensures reads { IfOk result (λ typed. Reads bytes.items (tree_of (tree_in typed))) }
     ensures refused { IfErr result (λ fault. IsRefusal fault → HasNoReading bytes.items) }
     ensures why { IfErr result (λ fault. (fault ≡ Fault.Memory) ⊎ IsWhy bytes.items fault) }

@@ -23,7 +23,7 @@ use word::end::End;
 const QUANTUM: u32 = 4096;
 
 /// Runs a checked program: what is written begins its output, and at an end it is all of it.
-pub fn run_typed<R: Wait, O: Write>(
+pub(crate) fn run_typed<R: Wait, O: Write>(
     rt: &R,
     alloc: Global,
     typed: &Typed,

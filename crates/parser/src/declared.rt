@@ -108,7 +108,7 @@ fn some_declared<'a>(
 
 /// Fields or parameters to the closing mark, behind the opening one; their types have at most so many levels.
 #[tactic(auto, unfolding(crate::specs::Reading::all_declared))]
-pub fn all_declared<'a>(
+pub(crate) fn all_declared<'a>(
     alloc: Global,
     separator: Kind,
     close: Kind,

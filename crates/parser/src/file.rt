@@ -80,7 +80,11 @@ fn tops<'a>(
 
 /// A whole file.
 #[tactic(auto, unfolding(crate::specs::Reading::file))]
-pub fn file(alloc: Global, cursor: Cursor<'_>, spans: &mut Vec<Span>) -> Result<FileNode, Fault>
+pub(crate) fn file(
+    alloc: Global,
+    cursor: Cursor<'_>,
+    spans: &mut Vec<Span>,
+) -> Result<FileNode, Fault>
     ensures file { Gives file_of result (file MAX_ENTRIES STATEMENT_ROOM (ahead cursor.entry)) }
     ensures nodes { IfOk result (λ f. vec_len spans.new ≡ vec_len spans.old + size (file_of f)) }
 {

@@ -136,7 +136,7 @@ fn function<'a>(
 
 /// A declaration of a struct type or a function.
 #[tactic(auto, unfolding(crate::specs::Reading::top))]
-pub fn top<'a>(
+pub(crate) fn top<'a>(
     alloc: Global,
     cursor: Cursor<'a>,
     spans: &mut Vec<Span>,

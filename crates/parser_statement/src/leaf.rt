@@ -27,7 +27,7 @@ use std::alloc::Global;
 use syntax::{Name, ReturnNode, RightNode, StatementNode};
 
 /// Whether a statement ends before this mark.
-pub fn is_end(kind: Kind) -> bool
+pub(crate) fn is_end(kind: Kind) -> bool
     ensures { result ≡ is_end kind }
 {
     matches!(
@@ -38,7 +38,7 @@ pub fn is_end(kind: Kind) -> bool
 
 /// Whether nothing of a statement is left here.
 #[tactic(auto, unfolding(crate::specs::Reading::ends_statement))]
-pub fn ends_statement(cursor: Cursor<'_>) -> bool
+pub(crate) fn ends_statement(cursor: Cursor<'_>) -> bool
     ensures { result ≡ ends_statement (ahead cursor.entry) }
 {
     match cursor.next() {
@@ -48,7 +48,7 @@ pub fn ends_statement(cursor: Cursor<'_>) -> bool
 }
 
 /// A simple statement, below which there are at most so many levels.
-pub fn alone<'a>(
+pub(crate) fn alone<'a>(
     alloc: Global,
     room: u32,
     cursor: Cursor<'a>,
@@ -65,7 +65,7 @@ pub fn alone<'a>(
 /// A `go` ("Go statements" of the Go specification), behind its word, which stands at `first`, below which there are at
 /// most so many levels.
 #[tactic(auto, using(crate::proofs::Spans::pushed_last), unfolding(crate::specs::Reading::started))]
-pub fn started<'a>(
+pub(crate) fn started<'a>(
     alloc: Global,
     room: u32,
     first: Span,
@@ -167,7 +167,7 @@ fn returned<'a>(
 /// A `return` ("Return statements" of the Go specification), behind its word, which stands at `first`, below which there
 /// are at most so many levels.
 #[tactic(auto, using(crate::proofs::Spans::pushed_last))]
-pub fn return_statement<'a>(
+pub(crate) fn return_statement<'a>(
     alloc: Global,
     room: u32,
     first: Span,
@@ -273,7 +273,7 @@ fn variables<'a>(
 
 /// A `var` ("Variable declarations" of the Go specification), behind its word, which stands at `first`, below which there
 /// are at most so many levels.
-pub fn variable<'a>(
+pub(crate) fn variable<'a>(
     alloc: Global,
     room: u32,
     first: Span,
@@ -310,7 +310,7 @@ fn word<'a>(
 
 /// A statement that begins with this mark at `first`, in which no other one stands and below which there are at most so
 /// many levels.
-pub fn leaf<'a>(
+pub(crate) fn leaf<'a>(
     alloc: Global,
     room: u32,
     kind: Kind,

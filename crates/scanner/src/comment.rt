@@ -25,7 +25,7 @@ fn line_comment_rest(opened: u32, text: &[u8]) -> Result<usize, Fault>
 }
 
 /// A line comment, of which `text` stands behind the `//`. It acts like a newline.
-pub fn line_comment(opened: u32, text: &[u8]) -> Result<Element, Fault>
+pub(crate) fn line_comment(opened: u32, text: &[u8]) -> Result<Element, Fault>
     requires { opened + length text.now ≤ 1048576 }
     ensures comment { result ≡ line_comment (line_comment_rest opened text.now) }
     ensures within { IfOk result (λ e. (1 ≤ length_of e) × (length_of e ≤ 2 + length text.now)) }
@@ -61,7 +61,7 @@ fn general_comment_rest(opened: u32, text: &[u8]) -> Result<usize, Fault>
 
 /// A general comment, of which `text` stands behind the `/*`. It acts like a newline if it contains one, else like a
 /// space.
-pub fn general_comment(opened: u32, text: &[u8]) -> Result<Element, Fault>
+pub(crate) fn general_comment(opened: u32, text: &[u8]) -> Result<Element, Fault>
     requires { opened + length text.now ≤ 1048576 }
     ensures comment { result ≡ general_comment text.now (general_comment_rest opened text.now) }
     ensures within { IfOk result (λ e. (1 ≤ length_of e) × (length_of e ≤ 2 + length text.now)) }

@@ -26,7 +26,7 @@ impl Element {
     ghost use Rattle.scanner.specs.Elements.{length_of};
 
     /// Its length in bytes.
-    pub fn len(self) -> usize
+    pub(crate) fn len(self) -> usize
         ensures { result ≡ length_of self }
     {
         match self {
@@ -38,7 +38,7 @@ impl Element {
 }
 
 /// The place of one byte of a text.
-pub fn byte_place(at: u32) -> Place
+pub(crate) fn byte_place(at: u32) -> Place
     requires { at ≤ 1048576 }
     ensures { result ≡ byte_place at }
 {
@@ -85,7 +85,7 @@ fn token_at(place: u32, text: &[u8]) -> Result<Element, Fault>
 /// What stands at the front of a text that isn't empty and begins at this place.
 ///
 /// Errors: `BadCharacter`, `BadNumber`, `OpenString` and `OpenComment`, placed at the first byte of what is wrong.
-pub fn element_at(place: u32, text: &[u8]) -> Result<Element, Fault>
+pub(crate) fn element_at(place: u32, text: &[u8]) -> Result<Element, Fault>
     requires some { 1 ≤ length text.now }
     requires short { place + length text.now ≤ 1048576 }
     ensures element { result ≡ element_at place (slice_index text.now 0) (drop 1 text.now) }

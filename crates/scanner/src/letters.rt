@@ -31,7 +31,7 @@ fn is_letter_or_digit(c: char) -> bool
 }
 
 /// Whether a letter may begin with the byte.
-pub fn is_letter_byte(byte: u8) -> bool
+pub(crate) fn is_letter_byte(byte: u8) -> bool
     ensures { result ≡ is_letter_byte byte }
 {
     byte == b'_' || byte.is_ascii_alphabetic() || !byte.is_ascii()
@@ -50,7 +50,7 @@ fn char_len(first: u8) -> usize
 }
 
 /// How many bytes the first character of the text has.
-pub fn front_len(text: &[u8]) -> usize
+pub(crate) fn front_len(text: &[u8]) -> usize
     ensures len { result ≡ length (front_bytes text.now) }
     ensures within { result ≤ length text.now }
     ensures some { 1 ≤ length text.now → 1 ≤ result }
@@ -82,7 +82,7 @@ fn front_char(text: &[u8]) -> Option<char>
 }
 
 /// Whether the text begins with a letter.
-pub fn begins_letter(text: &[u8]) -> bool
+pub(crate) fn begins_letter(text: &[u8]) -> bool
     ensures { result ≡ begins_letter text.now }
 {
     match front_char(text) {
@@ -92,7 +92,7 @@ pub fn begins_letter(text: &[u8]) -> bool
 }
 
 /// Whether the text begins with a letter or a digit.
-pub fn begins_letter_or_digit(text: &[u8]) -> bool
+pub(crate) fn begins_letter_or_digit(text: &[u8]) -> bool
     ensures { result ≡ begins_letter_or_digit text.now }
 {
     match front_char(text) {

@@ -7,28 +7,28 @@ ghost use Rattle.scanner.specs.Lexical.{is_digit, is_hex_digit, is_space, statem
 use crate::kind::Kind;
 
 /// Whether the byte is a decimal digit.
-pub fn is_digit(byte: u8) -> bool
+pub(crate) fn is_digit(byte: u8) -> bool
     ensures { result ≡ is_digit byte }
 {
     byte.is_ascii_digit()
 }
 
 /// Whether the byte is a hexadecimal digit.
-pub fn is_hex_digit(byte: u8) -> bool
+pub(crate) fn is_hex_digit(byte: u8) -> bool
     ensures { result ≡ is_hex_digit byte }
 {
     byte.is_ascii_hexdigit()
 }
 
 /// White space that ends no line.
-pub fn is_space(byte: u8) -> bool
+pub(crate) fn is_space(byte: u8) -> bool
     ensures { result ≡ is_space byte }
 {
     byte == b' ' || byte == b'\t' || byte == b'\r'
 }
 
 /// Whether the text begins with a character that stands nowhere: NUL or a byte-order mark.
-pub fn is_forbidden(text: &[u8]) -> bool
+pub(crate) fn is_forbidden(text: &[u8]) -> bool
     ensures { result ≡ is_forbidden text.now }
 {
     match text {
@@ -110,7 +110,7 @@ fn declaration_keyword(text: &[u8]) -> Option<Kind>
 
 /// A keyword, or a name.
 #[tactic(auto, unfolding(crate::specs::Lexical::word))]
-pub fn word(text: &[u8]) -> Kind
+pub(crate) fn word(text: &[u8]) -> Kind
     ensures { result ≡ word text.now }
 {
     if let Some(kind) = statement_keyword(text) {
@@ -124,7 +124,7 @@ pub fn word(text: &[u8]) -> Kind
 
 /// The mark that one byte is.
 #[tactic(auto, unfolding(crate::specs::Lexical::mark_1))]
-pub fn mark_1(byte: u8) -> Option<Kind>
+pub(crate) fn mark_1(byte: u8) -> Option<Kind>
     ensures { result ≡ mark_1 byte }
 {
     match byte {
@@ -157,7 +157,7 @@ pub fn mark_1(byte: u8) -> Option<Kind>
 
 /// The mark that two bytes are.
 #[tactic(auto, unfolding(crate::specs::Lexical::mark_2))]
-pub fn mark_2(first: u8, second: u8) -> Option<Kind>
+pub(crate) fn mark_2(first: u8, second: u8) -> Option<Kind>
     ensures { result ≡ mark_2 first second }
 {
     match (first, second) {
@@ -188,7 +188,7 @@ pub fn mark_2(first: u8, second: u8) -> Option<Kind>
 
 /// The mark that three bytes are.
 #[tactic(auto, unfolding(crate::specs::Lexical::mark_3))]
-pub fn mark_3(first: u8, second: u8, third: u8) -> Option<Kind>
+pub(crate) fn mark_3(first: u8, second: u8, third: u8) -> Option<Kind>
     ensures { result ≡ mark_3 first second third }
 {
     match (first, second, third) {
@@ -201,7 +201,7 @@ pub fn mark_3(first: u8, second: u8, third: u8) -> Option<Kind>
 }
 
 /// Whether a line's end directly behind this token inserts a semicolon.
-pub fn ends_line(kind: Kind) -> bool
+pub(crate) fn ends_line(kind: Kind) -> bool
     ensures { result ≡ ends_line kind }
 {
     match kind {

@@ -51,7 +51,7 @@ fn hexadecimal_len(text: &[u8]) -> usize
 }
 
 /// The longest token at the front of a text that isn't empty: its length in bytes and its kind.
-pub fn longest(text: &[u8]) -> Option<(usize, Kind)>
+pub(crate) fn longest(text: &[u8]) -> Option<(usize, Kind)>
     requires some { 1 ≤ length text.now }
     requires short { length text.now ≤ 1048576 }
     ensures token { result ≡ longest text.now }

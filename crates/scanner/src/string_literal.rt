@@ -59,7 +59,7 @@ fn string_rest(opened: u32, text: &[u8]) -> Result<usize, Fault>
 }
 
 /// A string, of which `text` stands behind the opening quote.
-pub fn string_literal(opened: u32, text: &[u8]) -> Result<Element, Fault>
+pub(crate) fn string_literal(opened: u32, text: &[u8]) -> Result<Element, Fault>
     requires { opened + length text.now ≤ 1048576 }
     ensures string { result ≡ string_literal (string_rest opened false text.now) }
     ensures within { IfOk result (λ e. (1 ≤ length_of e) × (length_of e ≤ 1 + length text.now)) }

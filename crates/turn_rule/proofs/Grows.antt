@@ -1,11 +1,9 @@
 -- The events of the one-thread run only grow, and an end stays.
-use Rattle.std.proofs.Common.{◌≡◌, ℕ, zero, suc, ◌+◌, ◌≤◌, Bool, true, false, cond, List, [], ◌∷◌, ◌++◌, length, Option, Some, None, refl, sym, ap, ◌∙◌, arith, zero-add, append_assoc, append-nil}
-use Rattle.std.specs.Prelude.{slice_index_or, option_map}
+use Rattle.std.proofs.Common.{◌≡◌, ℕ, zero, suc, Bool, true, false, cond, List, [], ◌∷◌, ◌++◌, Option, Some, None, refl, sym, ap, ◌∙◌, append_assoc, append-nil}
+use Rattle.std.specs.Prelude.{slice_index_or}
 use Rattle.logical_clock.specs.declared.key.Key.{Key}
-use Rattle.logical_clock.specs.Order.{least, keys}
 use Rattle.turn_rule.specs.Turns.{Rules, World, next, perform, move_on, move_at, move_next, one, run}
-use Rattle.turn_rule.specs.Schedule.{Laws, Records, IsPrefixOf}
-use Rattle.turn_rule.proofs.Stable.{run_add}
+use Rattle.turn_rule.specs.Schedule.{Records, IsPrefixOf}
 
 -- a list that requests only lengthen is only lengthened by the run
 module _ {S W E : Type 0} (r : Rules S W) (h : W → List E) (longer : (w : W) (n : ℕ) (s : S) → r.asks s ≡ true → IsPrefixOf (h w) (h (r.perform w n s).shared)) where

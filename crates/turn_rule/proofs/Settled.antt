@@ -1,11 +1,10 @@
 -- The run and the settled run.
-use Rattle.std.proofs.Common.{◌≡◌, ℕ, zero, suc, ◌+◌, ◌-◌, ◌<◌, ◌≤◌, Bool, true, false, cond, List, [], ◌∷◌, ◌++◌, length, Option, Some, None, refl, sym, ap, ◌∙◌, subst, inl, inr, ◌⊎◌, arith, get_or, length-append}
-use Rattle.std.specs.Prelude.{slice_index_or, option_map}
+use Rattle.std.proofs.Common.{◌≡◌, ℕ, zero, suc, ◌+◌, ◌-◌, ◌≤◌, Bool, true, false, cond, List, [], ◌∷◌, ◌++◌, length, Option, Some, None, refl, sym, ap, ◌∙◌, subst, inl, inr, ◌⊎◌, arith, get_or, length-append}
+use Rattle.std.specs.Prelude.{slice_index_or}
 use Rattle.std.proofs.lemmas.Bool.{cases_lt}
 use Rattle.logical_clock.specs.declared.key.Key.{Key}
-use Rattle.logical_clock.specs.Order.{least, keys}
-use Rattle.turn_rule.specs.Turns.{Effect, Rules, World, moved, Leads, next, changed, perform, move_on, move_at, move_next, one, run}
-use Rattle.turn_rule.specs.Schedule.{Laws, Records, IsPrefixOf}
+use Rattle.turn_rule.specs.Turns.{Rules, World, moved, next, perform, move_on, move_at, move_next, one, run}
+use Rattle.turn_rule.specs.Schedule.{Laws, Records}
 use Rattle.turn_rule.specs.Settled.{RowSettles, Settles, After}
 use Rattle.turn_rule.proofs.Stable.{moved_add, moved_stays, run_add}
 use Rattle.turn_rule.proofs.Grows.{grows}

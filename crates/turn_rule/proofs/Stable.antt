@@ -1,8 +1,7 @@
 -- Whatever the schedule, the events are those of the one-thread run.
-use Rattle.std.proofs.Common.{◌≡◌, ℕ, zero, suc, ◌+◌, ◌-◌, ◌<◌, ◌≤◌, ◌≢◌, Bool, true, false, ◌&&◌, ◌||◌, cond, List, [], ◌∷◌, ◌++◌, map, length, Option, Some, None, refl, sym, ap, ◌∙◌, subst, zero-add, suc-add, inl, inr, ◌⊎◌, arith, get_or, set, get_or-set_same, get_or-set_other, length-set, length-append}
-use Rattle.std.specs.Prelude.{slice_index_or, slice_set, nat_lt, ◌==◌, unwrap_or, option_map}
-use Rattle.std.proofs.lemmas.Bool.Decides.{nat_tests}
-use Rattle.std.proofs.lemmas.Bool.{true≢false, cases_Bool, cases_eq, cases_lt, and_parts, or_cases, eqb-true}
+use Rattle.std.proofs.Common.{◌≡◌, ℕ, zero, suc, ◌+◌, ◌-◌, ◌<◌, ◌≤◌, ◌≢◌, Bool, true, false, cond, List, [], ◌∷◌, ◌++◌, map, length, Option, Some, None, refl, sym, ap, ◌∙◌, subst, zero-add, suc-add, inl, inr, ◌⊎◌, arith, get_or, set, get_or-set_same, get_or-set_other, length-set, length-append}
+use Rattle.std.specs.Prelude.{◌==◌, unwrap_or, option_map}
+use Rattle.std.proofs.lemmas.Bool.{true≢false, cases_eq, cases_lt, and_parts, or_cases, eqb-true}
 use Rattle.std.proofs.lemmas.Option.{same_Some}
 use Rattle.std.proofs.lemmas.List.FromFn.{get_or-map-range_with_len, length-map-range_with_len}
 use Rattle.std.proofs.lemmas.List.{length-map, set-get_or, get_or_past, get_or_append_left, get_or-append_right}
@@ -14,10 +13,10 @@ use Rattle.turn_rule.specs.declared.Lease.{Lease}
 use Rattle.turn_rule.specs.declared.Row.{Row}
 use Rattle.turn_rule.specs.declared.Step.{Step}
 use Rattle.turn_rule.specs.declared.Step.TheVariants.{Lend, Local, Publish, Look, Return, Settle}
-use Rattle.logical_clock.specs.Order.{is_before, sooner, least, keys, with_key}
-use Rattle.turn_rule.specs.Turns.{Effect, Rules, World, stepped, moved, Leads, next, changed, perform, move_on, move_at, move_next, one, run}
+use Rattle.logical_clock.specs.Order.{is_before, least, keys}
+use Rattle.turn_rule.specs.Turns.{Effect, Rules, World, stepped, moved, next, changed, perform, move_on, move_at, move_next, one, run}
 use Rattle.turn_rule.specs.Schedule.{Machine, Meets, RowMeets, RowOk, RowStands, Stands, row_of, lend, local, publish, look, give_back, at_row, parked_clock, floor_above, has_turn, changed_rows, perform_row, settle_key, step, happens, schedule, Laws, opened, Stable}
-use Rattle.logical_clock.proofs.Keys.{key, before_self, before_trans, before_weaker, before_above, before_or_not, IsNext, next_is}
+use Rattle.logical_clock.proofs.Keys.{key, before_weaker, before_above, IsNext, next_is}
 
 module _ {S W : Type 0} (r : Rules S W) (laws : Laws r) where
   pub moved_add : (i j : ℕ) (s : S) → moved r (i + j) s ≡ moved r j (moved r i s)

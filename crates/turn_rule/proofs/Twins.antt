@@ -1,17 +1,17 @@
 -- Two runs whose goroutines come to the same requests: what the one shares after some moves, the other shares after some moves.
-use Rattle.std.proofs.Common.{◌≡◌, ℕ, zero, suc, ◌+◌, ◌-◌, ◌<◌, ◌≤◌, ◌≢◌, Bool, true, false, cond, List, [], ◌∷◌, ◌++◌, map, length, Option, Some, None, refl, sym, ap, ◌∙◌, subst, inl, inr, ◌⊎◌, arith, get_or, set, get_or-set_same, get_or-set_other, length-set, length-append}
-use Rattle.std.specs.Prelude.{slice_index_or, slice_set, unwrap_or, option_map}
-use Rattle.std.proofs.lemmas.Bool.{true≢false, cases_eq, cases_lt}
+use Rattle.std.proofs.Common.{◌≡◌, ℕ, zero, suc, ◌+◌, ◌-◌, ◌<◌, ◌≤◌, ◌≢◌, Bool, true, false, cond, List, [], ◌∷◌, ◌++◌, map, length, Option, Some, None, refl, sym, ap, ◌∙◌, subst, inl, inr, arith, get_or, set, get_or-set_same, get_or-set_other, length-set, length-append}
+use Rattle.std.specs.Prelude.{option_map}
+use Rattle.std.proofs.lemmas.Bool.{cases_eq, cases_lt}
 use Rattle.std.proofs.lemmas.Option.{same_Some}
 use Rattle.std.proofs.lemmas.List.FromFn.{get_or-map-range_with_len, length-map-range_with_len}
 use Rattle.std.proofs.lemmas.List.{length-map, set-get_or, get_or_past, get_or_append_left, get_or-append_right}
 use Rattle.std.specs.List.{sum_by, range_with_len}
 use Rattle.logical_clock.specs.declared.key.Key.{Key}
-use Rattle.logical_clock.specs.Order.{is_before, least, keys}
-use Rattle.turn_rule.specs.Turns.{Effect, Rules, World, stepped, moved, next, changed, perform, move_on, move_at, move_next, one, run}
+use Rattle.logical_clock.specs.Order.{is_before}
+use Rattle.turn_rule.specs.Turns.{Effect, Rules, World, moved, next, changed, perform, move_on, move_at, move_next, one, run}
 use Rattle.turn_rule.specs.Schedule.{Meets, RowMeets, Laws}
 use Rattle.logical_clock.proofs.Keys.{key, before_above, before_or_not, IsNext, next_is}
-use Rattle.turn_rule.proofs.Stable.{moved_climbs, moved_stays, stepped_is, awake_at, within, one_local, one_performs, run_add, Aims, Reaches, Before, turn}
+use Rattle.turn_rule.proofs.Stable.{moved_climbs, moved_stays, stepped_is, awake_at, one_performs, run_add, Aims, Reaches, turn}
 
 module _ {S W T V : Type 0} (r : Rules S W) (q : Rules T V) (Ready : S → T → Type 0) (Q : W → V → Type 0) where
   -- local steps lead both to where they ask, at one clock

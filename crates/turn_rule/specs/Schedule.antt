@@ -1,5 +1,5 @@
 -- Goroutines that are lent and run ahead, and requests that are performed in their turn.
-use Rattle.std.specs.Prelude.{◌≡◌, ℕ, zero, suc, ◌+◌, ◌<◌, ◌≤◌, ◌==◌, nat_lt, Bool, true, false, ◌&&◌, ◌||◌, not, cond, List, [], ◌∷◌, ◌++◌, map, length, Option, Some, None, unwrap_or, option_map, slice_index_or, slice_set}
+use Rattle.std.specs.Prelude.{◌≡◌, ℕ, suc, ◌≤◌, ◌==◌, Bool, true, false, ◌&&◌, ◌||◌, cond, List, [], ◌∷◌, ◌++◌, map, length, Option, Some, None, option_map, slice_index_or, slice_set}
 use Rattle.std.specs.Option.{MatchOption}
 use Rattle.logical_clock.specs.declared.key.Key.{Key}
 use Rattle.turn_rule.specs.declared.Lease.{Lease}
@@ -7,7 +7,7 @@ use Rattle.turn_rule.specs.declared.Row.{Row}
 use Rattle.turn_rule.specs.declared.Step.{Step}
 use Rattle.turn_rule.specs.declared.Step.TheVariants.{Lend, Local, Publish, Look, Return, Settle}
 use Rattle.logical_clock.specs.Order.{is_before, least, keys}
-use Rattle.turn_rule.specs.Turns.{Effect, Rules, World, stepped, moved, Leads, run}
+use Rattle.turn_rule.specs.Turns.{Rules, World, stepped, moved, run}
 
 pub record Machine (S W : Type 0) : Type 0 where
   pub rows : List (Option (Row S))

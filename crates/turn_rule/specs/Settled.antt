@@ -1,5 +1,5 @@
 -- The world after k events, with each awake goroutine at its request.
-use Rattle.std.specs.Prelude.{◌≡◌, ℕ, zero, suc, Bool, true, false, List, length, Option, Some, None, slice_index_or}
+use Rattle.std.specs.Prelude.{◌≡◌, ℕ, zero, suc, true, false, length, Option, Some, None, slice_index_or}
 use Rattle.logical_clock.specs.declared.key.Key.{Key}
 use Rattle.turn_rule.specs.Turns.{Rules, World, Leads, next, one}
 

@@ -33,7 +33,7 @@ pub fn least_parked(rows: &[Option<Slot>]) -> Option<Key>
 
 /// The goroutine of least key of those that are neither lent nor parked.
 #[tactic(auto, using(crate::proofs::Leases::free_found))]
-pub fn least_free(rows: &[Option<Slot>]) -> Option<Key>
+pub(crate) fn least_free(rows: &[Option<Slot>]) -> Option<Key>
     ensures least { result ≡ least (keys free_clock 0 rows.now) }
     ensures found { IfSome result (λ key. free_clock (slice_index_or rows.now key.number None) ≡ Some key.clock) }
 {
