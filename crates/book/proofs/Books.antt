@@ -22,7 +22,7 @@ use Rattle.word.specs.Kinds.{asks}
 use Rattle.word.specs.Views.{event_of}
 use Rattle.word.specs.Worlds.{Rest, rules, opening, moment, is_deserted, end_of}
 use Rattle.word.proofs.Laws.{laws}
-use Rattle.world_core.specs.Cores.{World, CoreValue, FitsCore, HasTurn, IsCoreOf, IsFreeIn, IsLentRow, Performs, Asks, shared_of}
+use Rattle.world_core.specs.Cores.{CodeMachine, CoreValue, FitsCore, HasTurn, IsCoreOf, IsFreeIn, IsLentRow, Performs, Asks, shared_of}
 use Rattle.world_core.specs.Slots.{State, Rows, FitsRow, IsAwake, IsNobodyAwake, IsBefore, free_row, lent_row, waiting_clock}
 use Rattle.world_core.proofs.Leases.{core_fits_set, core_set, opened_fits}
 use Rattle.book.specs.Desks.{Desk, IsDesk, IsEvent, IsPiece, IsEnd, StandsBefore, Held, IsLent, opened_desk, lent_desk}
@@ -104,7 +104,7 @@ brought_is_desk d n row s h here leads fits =
 
 -- ---- settle
 
-least_in : (d : Desk) (m : World) → IsCoreOf m d.core → (o : Option Key) → least (keys waiting_clock 0 d.core.rows) ≡ o → least (keys (parked_clock (rules_of d)) 0 m.rows) ≡ o
+least_in : (d : Desk) (m : CodeMachine) → IsCoreOf m d.core → (o : Option Key) → least (keys waiting_clock 0 d.core.rows) ≡ o → least (keys (parked_clock (rules_of d)) 0 m.rows) ≡ o
 least_in d m c o e = subst (λ (rows : Rows). least (keys waiting_clock 0 rows) ≡ o) c.rows e
 
 pub asks_at : (d : Desk) (n : ℕ) → IsDesk d → HasTurn d.core n → Asks d.code d.limit d.core.rows n

@@ -14,7 +14,7 @@ use Rattle.word.specs.Views.{event_of}
 use Rattle.word.specs.Worlds.{end_of, moment, rules}
 use Rattle.book.specs.declared.settled.Settled.{Settled}
 use Rattle.book.specs.declared.settled.Settled.TheVariants.{Committed, Waiting, Ended}
-use Rattle.world_core.specs.Cores.{World, CoreValue, FitsCore, IsCoreOf, IsLentRow, opened_core, shared_of}
+use Rattle.world_core.specs.Cores.{CodeMachine, CoreValue, FitsCore, IsCoreOf, IsLentRow, opened_core, shared_of}
 use Rattle.world_core.specs.Slots.{State, lent_row, waiting_clock}
 
 -- ---- what is seen of the one-thread run of a code
@@ -48,7 +48,7 @@ pub record Desk : Type 0 where
   pub pending : List ℕ
 
 -- the machine m is this desk's, and stands where the one-thread run does after n moves
-pub record IsAt (d : Desk) (n : ℕ) (m : World) : Type 0 where
+pub record IsAt (d : Desk) (n : ℕ) (m : CodeMachine) : Type 0 where
   pub stands : Stands (rules (code_kind d.code) d.limit) m (moment (code_kind d.code) d.limit n)
   pub core : IsCoreOf m d.core
   pub size : length (shared_of m).output ≡ d.taken + length d.pending
@@ -60,7 +60,7 @@ pub record IsDesk (d : Desk) : Type 0 where
   pub many : d.core.events ≤ 2 ^ 62
   pub room : d.taken + length d.pending ≤ d.core.events * 2 ^ 64
   pub fits : FitsCore d.code d.limit d.core
-  pub at : (n : ℕ) × (m : World) × IsAt d n m
+  pub at : (n : ℕ) × (m : CodeMachine) × IsAt d n m
 
 -- no event is committed, and goroutine 1 is alone
 abbrev pub opened_desk : Code → ℕ → Desk

@@ -1,7 +1,7 @@
 //! Runs of small programs that are written by hand, settled by books.
 
 use crate::{Book, Lease, Settled};
-use bytecode::{Code, Function, Instr, Kind, Part, PrintTable, Shape};
+use bytecode::{Code, Function, Instr, Part, PrintTable, Shape, WordKind};
 use go_text::NotYours;
 use std::alloc::{AllocError, Global};
 use std::process::Abort;
@@ -10,19 +10,19 @@ use std::test::Fail;
 use verifier::verify;
 use word::end::End;
 use word::panic::Panic;
-use word::request::{Event, Outcome};
+use word::request::{Event, EventOutcome};
 
 /// A clock limit that is not reached.
 const LIMIT: u64 = 1 << 40;
 
 /// A channel of the code's one shape, which is an `int`.
-const CHAN: Kind = Kind::Chan(0);
+const CHAN: WordKind = WordKind::Chan(0);
 
 fn function(
     alloc: Global,
     name: &str,
     params: u32,
-    locals: &[Kind],
+    locals: &[WordKind],
     instrs: &[Instr],
 ) -> Result<Function, AllocError> {
     Ok(Function::new(
@@ -36,7 +36,7 @@ fn function(
 
 /// Code with channels of `int`, which prints lines of one `int`.
 fn code(alloc: Global, functions: Vec<Function>) -> Result<Code, AllocError> {
-    let kinds = Vec::from_array(alloc, [Kind::Int])?;
+    let kinds = Vec::from_array(alloc, [WordKind::Int])?;
     let shapes = Vec::from_array(alloc, [Shape::new(kinds)])?;
     let parts = Vec::from_array(alloc, [Part::Int])?;
     let prints = Vec::from_array(alloc, [PrintTable::new(parts, true)])?;
@@ -72,7 +72,7 @@ fn hands_over(alloc: Global) -> Result<Code, AllocError> {
         alloc,
         "main",
         0,
-        [CHAN, Kind::Int].as_slice(),
+        [CHAN, WordKind::Int].as_slice(),
         main.as_slice(),
     )?)?;
     functions.push(function(alloc, "f", 1, [CHAN].as_slice(), f.as_slice())?)?;
@@ -153,7 +153,7 @@ fn told(event: &Event) -> (u64, u64, bool) {
     (
         event.clock.time(),
         event.number,
-        matches!(&event.outcome, Outcome::Sleeps),
+        matches!(&event.outcome, EventOutcome::Sleeps),
     )
 }
 

@@ -1,3 +1,4 @@
+pub mod Options
 pub mod Instrs
 pub mod Unstuck
 pub mod Listings

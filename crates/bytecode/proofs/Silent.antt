@@ -6,10 +6,10 @@ use Rattle.std.proofs.lemmas.List.Sums.{sum_by-cons}
 use Rattle.std.proofs.Math.Nat.{suc-mul}
 use Rattle.bytecode.specs.declared.instr.Instr.{Instr}
 use Rattle.bytecode.specs.declared.instr.Instr.TheVariants as instrs
-use Rattle.bytecode.specs.declared.instr.Kind.{Kind}
+use Rattle.bytecode.specs.declared.instr.WordKind.{WordKind}
 use Rattle.bytecode.specs.Code.{Function, Code}
 use Rattle.bytecode.specs.Effects.{top_of, below}
-use Rattle.bytecode.specs.Machine.{Frame, Frames, Step, instrs_of, zero_of, begun, goes_on, goes_to, put_at, if_within, if_there, on_truth, on_int, on_chan, applied, on_value, entered, returned, printed, cases_of, pushed, instr_next, pops, at_instr, at_function, told_first, code_next}
+use Rattle.bytecode.specs.Machine.{Frame, Frames, NextFrames, instrs_of, zero_of, begun, goes_on, goes_to, put_at, if_within, if_there, on_truth, on_int, on_chan, applied, on_value, entered, returned, printed, cases_of, pushed, instr_next, pops, at_instr, at_function, told_first, code_next}
 use Rattle.bytecode.specs.Rules.{Directed, IsVerified, Await, IsFrameOf}
 use Rattle.bytecode.specs.Silence.{instr_count, most_silent}
 use Rattle.bytecode.proofs.Unstuck.{there}
@@ -19,17 +19,7 @@ use Rattle.word.specs.declared.value.Word.{Word}
 use Rattle.word.specs.declared.value.Word.TheVariants.{Int, Bool as Truth, Chan}
 use Rattle.word.specs.Kinds.{Slides, Ticks, Asks, Stuck}
 use Rattle.word.specs.Values.{Make, Go, Send, Receive, Close, Select, Len, Cap, Print, Panic}
-
-some_inj : {A : Type 0} {x y : A} → Some x ≡ Some y → x ≡ y
-some_inj e = cc
-
-none_some : {A : Type 0} {x : A} → None ≡ Some x → ⊥
-none_some e = cc
-
-get_within : {A : Type 0} (xs : List A) (n : ℕ) (x : A) → slice_get xs n ≡ Some x → n < length xs
-get_within [] n x e = absurd (none_some e)
-get_within (y ∷ xs) zero x e = omega arith
-get_within (y ∷ xs) (suc n) x e = omega (arith, get_within xs n x e)
+use Rattle.std.proofs.lemmas.Option.{slice_get_within}
 
 module _ (code : Code) where
   -- how many instructions of a frame's function lie ahead, the next one counted
@@ -50,24 +40,24 @@ module _ (code : Code) where
   silent (c ∷ cs) = told_steps c.told + ahead (c ∷ cs)
 
   -- a step that costs nothing leaves fewer
-  abbrev Falls : ℕ → Step → Type 0
+  abbrev Falls : ℕ → NextFrames → Type 0
   Falls n (Slides s) = silent s < n
   Falls n (Ticks s) = Unit {0}
   Falls n (Asks q) = Unit {0}
   Falls n Stuck = Unit {0}
 
-  by_within : (n m have : ℕ) (a : Step) → Falls n a → Falls n (if_within m have a)
+  by_within : (n m have : ℕ) (a : NextFrames) → Falls n a → Falls n (if_within m have a)
   by_within n m have a h = by (nat_lt have m)
     where
       by : (t : Bool) → Falls n (cond t Stuck a)
       by true = tt
       by false = h
 
-  by_there : {A : Type 0} (n : ℕ) (o : Option A) (step : A → Step) → ((x : A) → o ≡ Some x → Falls n (step x)) → Falls n (if_there o step)
+  by_there : {A : Type 0} (n : ℕ) (o : Option A) (step : A → NextFrames) → ((x : A) → o ≡ Some x → Falls n (step x)) → Falls n (if_there o step)
   by_there n None step h = tt
   by_there n (Some x) step h = h x refl
 
-  by_truth : (n : ℕ) (ws : List Word) (so other : Step) → Falls n so → Falls n other → Falls n (on_truth ws so other)
+  by_truth : (n : ℕ) (ws : List Word) (so other : NextFrames) → Falls n so → Falls n other → Falls n (on_truth ws so other)
   by_truth n (Truth true ∷ []) so other p q = p
   by_truth n (Truth false ∷ []) so other p q = q
   by_truth n [] so other p q = tt
@@ -76,20 +66,20 @@ module _ (code : Code) where
   by_truth n (Truth true ∷ (w ∷ ws)) so other p q = tt
   by_truth n (Truth false ∷ (w ∷ ws)) so other p q = tt
 
-  by_int : (n : ℕ) (ws : List Word) (step : ℤ → Step) → ((x : ℤ) → Falls n (step x)) → Falls n (on_int ws step)
+  by_int : (n : ℕ) (ws : List Word) (step : ℤ → NextFrames) → ((x : ℤ) → Falls n (step x)) → Falls n (on_int ws step)
   by_int n (Int x ∷ []) step h = h x
   by_int n [] step h = tt
   by_int n (Truth x ∷ ws) step h = tt
   by_int n (Chan x ∷ ws) step h = tt
   by_int n (Int x ∷ (w ∷ ws)) step h = tt
 
-  by_chan : (n : ℕ) (ws : List Word) (step : Option ℕ → List Word → Step) → ((c : Option ℕ) (item : List Word) → Falls n (step c item)) → Falls n (on_chan ws step)
+  by_chan : (n : ℕ) (ws : List Word) (step : Option ℕ → List Word → NextFrames) → ((c : Option ℕ) (item : List Word) → Falls n (step c item)) → Falls n (on_chan ws step)
   by_chan n (Chan c ∷ item) step h = h c item
   by_chan n [] step h = tt
   by_chan n (Int x ∷ ws) step h = tt
   by_chan n (Truth x ∷ ws) step h = tt
 
-  by_value : (n : ℕ) (o : Option (Result Word Cause)) (step : Word → Step) → ((w : Word) → Falls n (step w)) → Falls n (on_value o step)
+  by_value : (n : ℕ) (o : Option (Result Word Cause)) (step : Word → NextFrames) → ((w : Word) → Falls n (step w)) → Falls n (on_value o step)
   by_value n (Some (Ok w)) step h = h w
   by_value n (Some (Err cause)) step h = tt
   by_value n None step h = tt
@@ -97,7 +87,7 @@ module _ (code : Code) where
   told_none : (told : List Word) → told ≡ [] → told_steps told ≡ 0
   told_none told e = ap told_steps e
 
-  module _ (c : Frame) (cs : Frames) (low top : List Word) (own : List Kind) (ht : c.told ≡ []) (aw : Await code own cs) (within : c.place < length (instrs_of (slice_get code.functions c.function))) where
+  module _ (c : Frame) (cs : Frames) (low top : List Word) (own : List WordKind) (ht : c.told ≡ []) (aw : Await code own cs) (within : c.place < length (instrs_of (slice_get code.functions c.function))) where
     -- forward within the function
     forward : (to : ℕ) → c.place < to → told_steps c.told + (ahead_of c.function to + ahead cs) < ahead (c ∷ cs)
     forward to further =
@@ -145,7 +135,7 @@ module _ (code : Code) where
 
   module _ (v : IsVerified code) where
     frame_within : (c : Frame) (f : Function) (i : Instr) → slice_get code.functions c.function ≡ Some f → slice_get f.instrs c.place ≡ Some i → c.place < length (instrs_of (slice_get code.functions c.function))
-    frame_within c f i e h = subst (λ o. c.place < length (instrs_of o)) (sym e) (get_within f.instrs c.place i h)
+    frame_within c f i e h = subst (λ o. c.place < length (instrs_of o)) (sym e) (slice_get_within f.instrs c.place i h)
 
     by_frame : (c : Frame) (cs : Frames) (told : List Word) → c.told ≡ told → IsFrameOf code (c ∷ cs) → Falls (told_steps told + ahead (c ∷ cs)) (told_first code c cs told)
     by_frame c cs (w ∷ ws) e g = omega arith

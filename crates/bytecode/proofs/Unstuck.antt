@@ -7,15 +7,15 @@ use Rattle.std.specs.Prelude.{int_rem}
 use Rattle.std.specs.Int.{w64, int_wrapping_div}
 use Rattle.std.proofs.lemmas.List.{append-nil, places, drop-drop}
 use Rattle.std.proofs.lemmas.Bool.Decides.{nat_tests}
-use Rattle.bytecode.specs.declared.instr.Kind.{Kind}
-use Rattle.bytecode.specs.declared.instr.Kind.TheVariants as kinds
+use Rattle.bytecode.specs.declared.instr.WordKind.{WordKind}
+use Rattle.bytecode.specs.declared.instr.WordKind.TheVariants as kinds
 use Rattle.bytecode.specs.declared.instr.Instr.{Instr}
 use Rattle.bytecode.specs.declared.instr.Instr.TheVariants as instrs
 use Rattle.bytecode.specs.declared.table.Clause.{Clause as TableClause}
 use Rattle.bytecode.specs.declared.table.Clause.TheVariants as clauses
 use Rattle.bytecode.specs.Code.{Function, Code}
 use Rattle.bytecode.specs.Effects.{top_of, below, results_in, shape_kinds, kinds_in, locals_in, clause_shape, clause_kinds, all_clause_kinds, clauses_in, targets_in, wants, gives, leaves, count, Meets, Fits, Enough, afterwards, IsChannel, OneIsChannel, operands, outcome}
-use Rattle.bytecode.specs.Machine.{Frame, Frames, Step, fetch, instrs_of, zero_of, as_kind, fitted, begun, goes_on, goes_to, put_at, if_within, if_there, on_truth, on_int, on_chan, applied, on_value, entered, returned, printed, case_of, cases_of, also, pushed, instr_next, pops, at_instr, at_function, told_first, answered, frames_told, code_next, reply_words, choice, is_told, way_of, went, selected, told_at, told_in, code_answer, code_begin}
+use Rattle.bytecode.specs.Machine.{Frame, Frames, NextFrames, fetch, instrs_of, zero_of, as_kind, fitted, begun, goes_on, goes_to, put_at, if_within, if_there, on_truth, on_int, on_chan, applied, on_value, entered, returned, printed, case_of, cases_of, also, pushed, instr_next, pops, at_instr, at_function, told_first, answered, frames_told, code_next, reply_words, choice, is_told, way_of, went, selected, told_at, told_in, code_answer, code_begin}
 use Rattle.bytecode.specs.Rules.{ways, Named, IsVerified, At, Has, AllHave, Await, IsFrameOf}
 use Rattle.word.specs.declared.apply.Op.{Op}
 use Rattle.word.specs.declared.apply.Op.TheVariants as ops
@@ -26,12 +26,7 @@ use Rattle.word.specs.Apply.{Valued, int_value, bool_value, chan_value, is_zero,
 use Rattle.word.specs.Kinds.{Slides, Ticks, Asks, Stuck}
 use Rattle.word.specs.declared.request.Case.{Case}
 use Rattle.word.specs.Values.{Make, Go, Send, Receive, Close, Select, Len, Cap, Print, Panic, Reply}
-
-none_some : {A : Type 0} {x : A} → None ≡ Some x → ⊥
-none_some e = cc
-
-some_inj : {A : Type 0} {x y : A} → Some x ≡ Some y → x ≡ y
-some_inj e = cc
+use Rattle.bytecode.proofs.Options.{some_inj, get_some}
 
 not_below : (have n : ℕ) → n ≤ have → nat_lt have n ≡ false
 not_below have n le = grind (arith, nat_tests)
@@ -67,47 +62,47 @@ range_split at n ks le =
     let e : slice_range ks at (at + n) ++ drop (at + n) ks ≡ drop at ks = subst (λ m. take m (drop at ks) ++ drop (at + n) ks ≡ drop at ks) (sym back) (subst (λ l. take n (drop at ks) ++ l ≡ drop at ks) (drop-drop n at ks) (take-append-drop n (drop at ks))) in
     append_assoc (take at ks) (slice_range ks at (at + n)) (drop (at + n) ks) ∙ (ap (λ l. take at ks ++ l) e ∙ take-append-drop at ks)
 
-pub all_length : (ws : List Word) (ks : List Kind) → AllHave ws ks → length ws ≡ length ks
+pub all_length : (ws : List Word) (ks : List WordKind) → AllHave ws ks → length ws ≡ length ks
 all_length [] [] h = refl
 all_length (w ∷ ws) (k ∷ ks) h = ap suc (all_length ws ks h.1)
 all_length [] (k ∷ ks) h = absurd h
 all_length (w ∷ ws) [] h = absurd h
 
-all_append : (vs ws : List Word) (js ks : List Kind) → AllHave vs js → AllHave ws ks → AllHave (vs ++ ws) (js ++ ks)
+all_append : (vs ws : List Word) (js ks : List WordKind) → AllHave vs js → AllHave ws ks → AllHave (vs ++ ws) (js ++ ks)
 all_append [] ws [] ks h g = g
 all_append (v ∷ vs) ws (j ∷ js) ks h g = (h.0, all_append vs ws js ks h.1 g)
 all_append [] ws (j ∷ js) ks h g = absurd h
 all_append (v ∷ vs) ws [] ks h g = absurd h
 
-all_take : (n : ℕ) (ws : List Word) (ks : List Kind) → AllHave ws ks → AllHave (take n ws) (take n ks)
+all_take : (n : ℕ) (ws : List Word) (ks : List WordKind) → AllHave ws ks → AllHave (take n ws) (take n ks)
 all_take zero ws ks h = tt
 all_take (suc n) [] [] h = tt
 all_take (suc n) (w ∷ ws) (k ∷ ks) h = (h.0, all_take n ws ks h.1)
 all_take (suc n) [] (k ∷ ks) h = absurd h
 all_take (suc n) (w ∷ ws) [] h = absurd h
 
-all_drop : (n : ℕ) (ws : List Word) (ks : List Kind) → AllHave ws ks → AllHave (drop n ws) (drop n ks)
+all_drop : (n : ℕ) (ws : List Word) (ks : List WordKind) → AllHave ws ks → AllHave (drop n ws) (drop n ks)
 all_drop zero ws ks h = h
 all_drop (suc n) [] [] h = tt
 all_drop (suc n) (w ∷ ws) (k ∷ ks) h = all_drop n ws ks h.1
 all_drop (suc n) [] (k ∷ ks) h = absurd h
 all_drop (suc n) (w ∷ ws) [] h = absurd h
 
-all_range : (a b : ℕ) (ws : List Word) (ks : List Kind) → AllHave ws ks → AllHave (slice_range ws a b) (slice_range ks a b)
+all_range : (a b : ℕ) (ws : List Word) (ks : List WordKind) → AllHave ws ks → AllHave (slice_range ws a b) (slice_range ks a b)
 all_range a b ws ks h = all_take (b - a) (drop a ws) (drop a ks) (all_drop a ws ks h)
 
-all_top : (n : ℕ) (ws : List Word) (ks : List Kind) → AllHave ws ks → AllHave (top_of n ws) (top_of n ks)
+all_top : (n : ℕ) (ws : List Word) (ks : List WordKind) → AllHave ws ks → AllHave (top_of n ws) (top_of n ks)
 all_top n ws ks h = subst (λ m. AllHave (drop (length ws - n) ws) (drop (m - n) ks)) (all_length ws ks h) (all_drop (length ws - n) ws ks h)
 
-all_below : (n : ℕ) (ws : List Word) (ks : List Kind) → AllHave ws ks → AllHave (below n ws) (below n ks)
+all_below : (n : ℕ) (ws : List Word) (ks : List WordKind) → AllHave ws ks → AllHave (below n ws) (below n ks)
 all_below n ws ks h = subst (λ m. AllHave (take (length ws - n) ws) (take (m - n) ks)) (all_length ws ks h) (all_take (length ws - n) ws ks h)
 
-zero_has : (k : Kind) → Has (zero_of k) k
+zero_has : (k : WordKind) → Has (zero_of k) k
 zero_has kinds.Int = tt
 zero_has kinds.Bool = tt
 zero_has (kinds.Chan s) = tt
 
-as_kind_has : (k : Kind) (w : Word) → Has (as_kind k w) k
+as_kind_has : (k : WordKind) (w : Word) → Has (as_kind k w) k
 as_kind_has kinds.Int w = int w
   where
     int : (w : Word) → Has (as_kind kinds.Int w) kinds.Int
@@ -127,18 +122,18 @@ as_kind_has (kinds.Chan s) w = chan w
     chan (Truth b) = tt
     chan (Chan c) = tt
 
-pub fitted_has : (ks : List Kind) (ws : List Word) → AllHave (fitted ks ws) ks
+pub fitted_has : (ks : List WordKind) (ws : List Word) → AllHave (fitted ks ws) ks
 fitted_has [] ws = tt
 fitted_has (k ∷ ks) [] = (zero_has k, fitted_has ks [])
 fitted_has (k ∷ ks) (w ∷ ws) = (as_kind_has k w, fitted_has ks ws)
 
 -- what an operator gives is of its kind
-abbrev Yields : Kind → Valued → Type 0
+abbrev Yields : WordKind → Valued → Type 0
 Yields k (Some (Ok w)) = Has w k
 Yields k (Some (Err cause)) = Unit {0}
 Yields k None = ⊥
 
-either : (k : Kind) (b : Bool) (o p : Valued) → Yields k o → Yields k p → Yields k (cond b o p)
+either : (k : WordKind) (b : Bool) (o p : Valued) → Yields k o → Yields k p → Yields k (cond b o p)
 either k true o p h g = h
 either k false o p h g = g
 
@@ -150,7 +145,7 @@ right_yields : (x y : ℤ) → Yields kinds.Int (shifted_right x y)
 right_yields x (pos n) = tt
 right_yields x (negsuc n) = tt
 
-yields_ints : (k : Kind) (op : Op) → ((x y : ℤ) → Yields k (int_value op x y)) → (ws : List Word) → AllHave ws (kinds.Int ∷ kinds.Int ∷ []) → Yields k (applied op ws)
+yields_ints : (k : WordKind) (op : Op) → ((x y : ℤ) → Yields k (int_value op x y)) → (ws : List Word) → AllHave ws (kinds.Int ∷ kinds.Int ∷ []) → Yields k (applied op ws)
 yields_ints k op g (Int x ∷ (Int y ∷ [])) h = g x y
 yields_ints k op g [] h = absurd h
 yields_ints k op g (Int x ∷ []) h = absurd h.1
@@ -184,7 +179,7 @@ yields_bool op g (Int x ∷ ws) h = absurd h.0
 yields_bool op g (Chan x ∷ ws) h = absurd h.0
 yields_bool op g (Truth x ∷ (w ∷ ws)) h = absurd h.1
 
-yields_chans : (op : Op) → ((x y : Option ℕ) → Yields kinds.Bool (chan_value op x y)) → (k : Kind) → IsChannel k → (ws : List Word) → AllHave ws (k ∷ k ∷ []) → Yields kinds.Bool (applied op ws)
+yields_chans : (op : Op) → ((x y : Option ℕ) → Yields kinds.Bool (chan_value op x y)) → (k : WordKind) → IsChannel k → (ws : List Word) → AllHave ws (k ∷ k ∷ []) → Yields kinds.Bool (applied op ws)
 yields_chans op g (kinds.Chan s) p (Chan x ∷ (Chan y ∷ [])) h = g x y
 yields_chans op g k p [] h = absurd h
 yields_chans op g k p (w ∷ []) h = absurd h.1
@@ -196,7 +191,7 @@ yields_chans op g (kinds.Chan s) p (Chan x ∷ (Chan y ∷ (w ∷ ws))) h = absu
 yields_chans op g kinds.Int p ws h = absurd p
 yields_chans op g kinds.Bool p ws h = absurd p
 
-yields : (op : Op) (ws : List Word) (ks : List Kind) → AllHave ws ks → Meets (operands op) ks → Yields (outcome op) (applied op ws)
+yields : (op : Op) (ws : List Word) (ks : List WordKind) → AllHave ws ks → Meets (operands op) ks → Yields (outcome op) (applied op ws)
 yields ops.Add ws ks h m = yields_ints kinds.Int ops.Add (λ x y. tt) ws (subst (AllHave ws) m h)
 yields ops.Sub ws ks h m = yields_ints kinds.Int ops.Sub (λ x y. tt) ws (subst (AllHave ws) m h)
 yields ops.Mul ws ks h m = yields_ints kinds.Int ops.Mul (λ x y. tt) ws (subst (AllHave ws) m h)
@@ -224,13 +219,8 @@ yields ops.EqChan ws (k ∷ ks) h m = yields_chans ops.EqChan (λ x y. tt) k m.0
 yields ops.NeChan ws [] h m = absurd m
 yields ops.NeChan ws (k ∷ ks) h m = yields_chans ops.NeChan (λ x y. tt) k m.0 ws (subst (λ l. AllHave ws (k ∷ l)) m.1 h)
 
-get_some : {A : Type 0} → (xs : List A) (n : ℕ) → n < length xs → (x : A) × (slice_get xs n ≡ Some x)
-get_some [] n h = absurd (omega (arith, h))
-get_some (x ∷ xs) zero h = (x, refl)
-get_some (x ∷ xs) (suc n) h = get_some xs n (omega (arith, h))
-
 -- a store keeps the kinds of the locals
-put_all : (at n : ℕ) (ws ls : List Word) (ks : List Kind) → at + n ≤ length ks → AllHave ls ks → AllHave ws (slice_range ks at (at + n)) → AllHave (put_at at ws ls) ks
+put_all : (at n : ℕ) (ws ls : List Word) (ks : List WordKind) → at + n ≤ length ks → AllHave ls ks → AllHave ws (slice_range ks at (at + n)) → AllHave (put_at at ws ls) ks
 put_all at n ws ls ks le h g =
     let e : length (slice_range ks at (at + n)) ≡ n = grind (arith, places) in
     let m : length ws ≡ n = all_length ws (slice_range ks at (at + n)) g ∙ e in
@@ -241,28 +231,28 @@ put_all at n ws ls ks le h g =
     (all_append (take at ls) ws (take at ks) (slice_range ks at (at + n)) (all_take at ls ks h) g)
     (all_drop (at + n) ls ks h)))
 
-none_told : (ws told : List Word) (ks : List Kind) → told ≡ [] → AllHave (ws ++ told) ks → AllHave ws ks
+none_told : (ws told : List Word) (ks : List WordKind) → told ≡ [] → AllHave (ws ++ told) ks → AllHave ws ks
 none_told ws told ks e h = subst (λ l. AllHave l ks) (append-nil ws) (subst (λ t. AllHave (ws ++ t) ks) e h)
 
 -- where nothing was told
-all_told : (ws told : List Word) (ks : List Kind) → told ≡ [] → AllHave ws ks → AllHave (ws ++ told) ks
+all_told : (ws told : List Word) (ks : List WordKind) → told ≡ [] → AllHave ws ks → AllHave (ws ++ told) ks
 all_told ws told ks e h = subst (λ t. AllHave (ws ++ t) ks) (sym e) (subst (λ l. AllHave l ks) (sym (append-nil ws)) h)
 
 module _ (code : Code) where
   -- a step ends in good frames, and none is stuck
-  abbrev pub Keeps : Step → Type 0
+  abbrev pub Keeps : NextFrames → Type 0
   Keeps (Slides s) = IsFrameOf code s
   Keeps (Ticks s) = IsFrameOf code s
   Keeps (Asks q) = Unit {0}
   Keeps Stuck = ⊥
 
-  within : (n have : ℕ) (a : Step) → n ≤ have → Keeps a → Keeps (if_within n have a)
+  within : (n have : ℕ) (a : NextFrames) → n ≤ have → Keeps a → Keeps (if_within n have a)
   within n have a le h = subst (λ t. Keeps (cond t Stuck a)) (sym (not_below have n le)) h
 
-  there_is : {A : Type 0} (o : Option A) (x : A) (step : A → Step) → o ≡ Some x → Keeps (step x) → Keeps (if_there o step)
+  there_is : {A : Type 0} (o : Option A) (x : A) (step : A → NextFrames) → o ≡ Some x → Keeps (step x) → Keeps (if_there o step)
   there_is o x step e h = subst (λ p. Keeps (if_there p step)) (sym e) h
 
-  keeps_truth : (ws : List Word) (so other : Step) → AllHave ws (kinds.Bool ∷ []) → Keeps so → Keeps other → Keeps (on_truth ws so other)
+  keeps_truth : (ws : List Word) (so other : NextFrames) → AllHave ws (kinds.Bool ∷ []) → Keeps so → Keeps other → Keeps (on_truth ws so other)
   keeps_truth (Truth true ∷ []) so other h p q = p
   keeps_truth (Truth false ∷ []) so other h p q = q
   keeps_truth [] so other h p q = absurd h
@@ -270,14 +260,14 @@ module _ (code : Code) where
   keeps_truth (Chan x ∷ ws) so other h p q = absurd h.0
   keeps_truth (Truth x ∷ (w ∷ ws)) so other h p q = absurd h.1
 
-  keeps_int : (ws : List Word) (go : ℤ → Step) → AllHave ws (kinds.Int ∷ []) → ((n : ℤ) → Keeps (go n)) → Keeps (on_int ws go)
+  keeps_int : (ws : List Word) (go : ℤ → NextFrames) → AllHave ws (kinds.Int ∷ []) → ((n : ℤ) → Keeps (go n)) → Keeps (on_int ws go)
   keeps_int (Int n ∷ []) go h g = g n
   keeps_int [] go h g = absurd h
   keeps_int (Truth x ∷ ws) go h g = absurd h.0
   keeps_int (Chan x ∷ ws) go h g = absurd h.0
   keeps_int (Int x ∷ (w ∷ ws)) go h g = absurd h.1
 
-  keeps_chan : (k : Kind) (ks : List Kind) (ws : List Word) (go : Option ℕ → List Word → Step) → IsChannel k → AllHave ws (k ∷ ks) → ((c : Option ℕ) (item : List Word) → AllHave item ks → Keeps (go c item)) → Keeps (on_chan ws go)
+  keeps_chan : (k : WordKind) (ks : List WordKind) (ws : List Word) (go : Option ℕ → List Word → NextFrames) → IsChannel k → AllHave ws (k ∷ ks) → ((c : Option ℕ) (item : List Word) → AllHave item ks → Keeps (go c item)) → Keeps (on_chan ws go)
   keeps_chan (kinds.Chan s) ks (Chan c ∷ item) go p h g = g c item h.1
   keeps_chan k ks [] go p h g = absurd h
   keeps_chan (kinds.Chan s) ks (Int x ∷ ws) go p h g = absurd h.0
@@ -285,16 +275,16 @@ module _ (code : Code) where
   keeps_chan kinds.Int ks ws go p h g = absurd p
   keeps_chan kinds.Bool ks ws go p h g = absurd p
 
-  keeps_one : (topks : List Kind) (ws : List Word) (go : Option ℕ → List Word → Step) → OneIsChannel topks → AllHave ws topks → ((c : Option ℕ) (item : List Word) → Keeps (go c item)) → Keeps (on_chan ws go)
+  keeps_one : (topks : List WordKind) (ws : List Word) (go : Option ℕ → List Word → NextFrames) → OneIsChannel topks → AllHave ws topks → ((c : Option ℕ) (item : List Word) → Keeps (go c item)) → Keeps (on_chan ws go)
   keeps_one [] ws go p h g = absurd p
   keeps_one (k ∷ ks) ws go p h g = keeps_chan k ks ws go p.0 h (λ c item _. g c item)
 
-  keeps_value : (k : Kind) (o : Valued) (go : Word → Step) → Yields k o → ((w : Word) → Has w k → Keeps (go w)) → Keeps (on_value o go)
+  keeps_value : (k : WordKind) (o : Valued) (go : Word → NextFrames) → Yields k o → ((w : Word) → Has w k → Keeps (go w)) → Keeps (on_value o go)
   keeps_value k (Some (Ok w)) go h g = g w h
   keeps_value k (Some (Err cause)) go h g = tt
   keeps_value k None go h g = absurd h
 
-  keeps_return : (low ws : List Word) (own : List Kind) (cs : Frames) → length low ≡ 0 → suc (length cs) ≤ 1000 → AllHave ws own → Await code own cs → Keeps (returned low ws cs)
+  keeps_return : (low ws : List Word) (own : List WordKind) (cs : Frames) → length low ≡ 0 → suc (length cs) ≤ 1000 → AllHave ws own → Await code own cs → Keeps (returned low ws cs)
   keeps_return (w ∷ low) ws own cs e d h a = absurd (omega (arith, e))
   keeps_return [] ws own [] e d h a = tt
   keeps_return [] ws own (c ∷ cs) e d h a = record { good = (a.0, a.1 ++ own, a.2, all_told (c.stack ++ ws) c.told (a.1 ++ own) a.4 (all_append c.stack ws a.1 own a.3 h), a.5, a.6); depth = omega (arith, d) }
@@ -328,7 +318,7 @@ module _ (code : Code) where
         (one.0 ∷ more.0, ap (λ o. also o (cases_of code xs (drop n ws))) one.1 ∙ ap (also (Some one.0)) more.1)
 
     -- what stands at a place to which a path leads
-    pub record There (g place : ℕ) (ks : List Kind) : Type 0 where
+    pub record There (g place : ℕ) (ks : List WordKind) : Type 0 where
       pub function : Function
       pub instr : Instr
       pub is-function : slice_get code.functions g ≡ Some function
@@ -337,7 +327,7 @@ module _ (code : Code) where
       pub fits : Fits code function instr ks
       pub next : (k to : ℕ) → slice_get (ways code instr place) k ≡ Some to → At code g to (afterwards code function instr k ks)
 
-    pub there : (g place : ℕ) (ks : List Kind) → At code g place ks → There g place ks
+    pub there : (g place : ℕ) (ks : List WordKind) → At code g place ks → There g place ks
     there g place ks a =
         let f = a.0 in
         let h = v.functions g f a.1 in
@@ -347,8 +337,8 @@ module _ (code : Code) where
     start : (g : ℕ) (f : Function) → slice_get code.functions g ≡ Some f → At code g 0 []
     start g f e = (f, e, 0, (refl, refl))
 
-    module _ (f : Function) (c : Frame) (cs : Frames) (low top : List Word) (own lowks topks : List Kind) (hf : slice_get code.functions c.function ≡ Some f) (hown : f.results ≡ own) (hl : AllHave c.locals f.locals) (hlow : AllHave low lowks) (htop : AllHave top topks) (aw : Await code own cs) (d : suc (length cs) ≤ 1000) (ht : c.told ≡ []) where
-      on : (ws : List Word) (ks : List Kind) → AllHave ws ks → At code c.function (c.place + 1) (lowks ++ ks) → IsFrameOf code (goes_on c (low ++ ws) ∷ cs)
+    module _ (f : Function) (c : Frame) (cs : Frames) (low top : List Word) (own lowks topks : List WordKind) (hf : slice_get code.functions c.function ≡ Some f) (hown : f.results ≡ own) (hl : AllHave c.locals f.locals) (hlow : AllHave low lowks) (htop : AllHave top topks) (aw : Await code own cs) (d : suc (length cs) ≤ 1000) (ht : c.told ≡ []) where
+      on : (ws : List Word) (ks : List WordKind) → AllHave ws ks → At code c.function (c.place + 1) (lowks ++ ks) → IsFrameOf code (goes_on c (low ++ ws) ∷ cs)
       on ws ks h e = record { good = (own, lowks ++ ks, (f, hf, hown, hl), all_told (low ++ ws) c.told (lowks ++ ks) ht (all_append low ws lowks ks hlow h), e, aw); depth = d }
 
       plain : (to : ℕ) → At code c.function to (lowks ++ []) → IsFrameOf code (goes_to c to low ∷ cs)
@@ -408,7 +398,7 @@ module _ (code : Code) where
           there_is (slice_get code.selects q) k.0 (λ table. if_there (cases_of code table.clauses top) (λ cases. Asks (Select cases (is_some table.default)))) k.1
           (there_is (cases_of code k.0.clauses top) x.0 (λ cases. Asks (Select cases (is_some k.0.default))) x.1 tt)
 
-      told_by : (to : ℕ) (ks : List Kind) (ws : List Word) → At code c.function to (lowks ++ ks) → IsFrameOf code (record c { place = to; stack = low; told = fitted ks ws } ∷ cs)
+      told_by : (to : ℕ) (ks : List WordKind) (ws : List Word) → At code c.function to (lowks ++ ks) → IsFrameOf code (record c { place = to; stack = low; told = fitted ks ws } ∷ cs)
       told_by to ks ws e = record { good = (own, lowks ++ ks, (f, hf, hown, hl), all_append low (fitted ks ws) lowks ks hlow (fitted_has ks ws), e, aw); depth = d }
 
       -- on to a way that is there
@@ -496,7 +486,7 @@ module _ (code : Code) where
     pub begin_keeps : (g : ℕ) (args : List Word) → g < length code.functions → IsFrameOf code (code_begin code g args)
     begin_keeps g args below = let k = get_some code.functions g below in begin_by g args (slice_get code.functions g) k.0 k.1 k.1
 
-    not_kept : (a : Step) → Keeps a → a ≡ Stuck → ⊥
+    not_kept : (a : NextFrames) → Keeps a → a ≡ Stuck → ⊥
     not_kept a h e = subst Keeps e h
 
     pub not_stuck : (s : Frames) → IsFrameOf code s → code_next code s ≡ Stuck → ⊥

@@ -2,7 +2,7 @@
 
 ghost use Rattle.std.specs.Prelude.{◌≡◌, ◌↔◌, [], IsTrue, string_bytes};
 
-use crate::instr::{Instr, Kind};
+use crate::instr::{Instr, WordKind};
 use crate::table::{PrintTable, SelectTable, Shape, same_kinds};
 use std::marker::Model;
 
@@ -12,8 +12,8 @@ use std::marker::Model;
 pub struct Function {
     name: String,
     params: u32,
-    locals: Vec<Kind>,
-    results: Vec<Kind>,
+    locals: Vec<WordKind>,
+    results: Vec<WordKind>,
     instrs: Vec<Instr>,
 }
 
@@ -31,8 +31,8 @@ impl Function {
     pub fn new(
         name: String,
         params: u32,
-        locals: Vec<Kind>,
-        results: Vec<Kind>,
+        locals: Vec<WordKind>,
+        results: Vec<WordKind>,
         instrs: Vec<Instr>,
     ) -> Function
         ensures { result ≡ record { name = string_bytes name; params = params; locals = locals.items; results = results.items; instrs = instrs.items } }
@@ -61,14 +61,14 @@ impl Function {
     }
 
     /// The kinds of the locals, the parameters first.
-    pub fn locals(&self) -> &[Kind]
+    pub fn locals(&self) -> &[WordKind]
         ensures { result.now ≡ self.now.locals }
     {
         self.locals.as_slice()
     }
 
     /// The kinds of the results.
-    pub fn results(&self) -> &[Kind]
+    pub fn results(&self) -> &[WordKind]
         ensures { result.now ≡ self.now.results }
     {
         self.results.as_slice()

@@ -4,7 +4,7 @@ use word::apply::Op;
 
 /// The kind of a word.
 #[derive(Clone, Copy, Debug, PartialEq, Eq)]
-pub enum Kind {
+pub enum WordKind {
     /// An `int`.
     Int,
     /// A `bool`.

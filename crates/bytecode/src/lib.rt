@@ -10,7 +10,9 @@ mod table;
 mod tests;
 
 pub use code::{Code, Function};
-pub use instr::{Instr, Kind};
+pub use instr::{Instr, WordKind};
 pub use lines::listing;
 pub use rule::Rule;
-pub use table::{Clause, Part, PrintTable, SelectTable, Shape, Text, same_kinds};
+pub use table::{
+    Clause, MAX_CLAUSES, MAX_PARTS, Part, PrintTable, SelectTable, Shape, Text, same_kinds,
+};

@@ -1,7 +1,7 @@
 //! The rules that code must keep, so that no test of the machine fails.
 
 ghost use Rattle.std.specs.Prelude.{◌≡◌};
-ghost use Rattle.bytecode.specs.Rules.{number_of};
+ghost use Rattle.bytecode.specs.Rules.{rule_number};
 
 /// A rule of the verifier.
 #[derive(Clone, Copy, Debug, PartialEq, Eq)]
@@ -28,7 +28,7 @@ pub enum Rule {
 impl Rule {
     /// The rule's number, 1 to 8.
     pub fn number(self) -> u8
-        ensures { result ≡ number_of self }
+        ensures { result ≡ rule_number self }
     {
         match self {
             Rule::Names => 1,

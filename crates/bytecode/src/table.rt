@@ -3,34 +3,40 @@
 ghost use Rattle.std.specs.Prelude.{◌≡◌, ◌↔◌, IsTrue, length, slice_get};
 ghost use Rattle.bytecode.specs.Effects.{clause_shape, clause_target, targets as targets_of};
 
-use crate::instr::Kind;
+use crate::instr::WordKind;
 use std::marker::Model;
+
+/// The most parts of a print table in verified code.
+pub const MAX_PARTS: usize = 64;
+
+/// The most clauses of a select table in verified code, a default counted too.
+pub const MAX_CLAUSES: usize = 64;
 
 /// The kinds of an item's words: 1 to 16 in verified code.
 #[derive(Debug, Drop)]
 pub struct Shape {
-    kinds: Vec<Kind>,
+    kinds: Vec<WordKind>,
 }
 
 impl Model for Shape {
     ghost use Rattle.std.specs.Prelude.{List};
-    ghost use Rattle.bytecode.specs.declared.instr.Kind.{Kind};
+    ghost use Rattle.bytecode.specs.declared.instr.WordKind.{WordKind};
 
-    ghost Value = { List Kind };
+    ghost Value = { List WordKind };
 
     ghost view = { λ s. s.kinds.items };
 }
 
 impl Shape {
     /// The shape of these kinds.
-    pub fn new(kinds: Vec<Kind>) -> Shape
+    pub fn new(kinds: Vec<WordKind>) -> Shape
         ensures { result ≡ kinds.items }
     {
         Shape { kinds }
     }
 
     /// The kinds.
-    pub fn kinds(&self) -> &[Kind]
+    pub fn kinds(&self) -> &[WordKind]
         ensures { result.now ≡ self.now }
     {
         self.kinds.as_slice()
@@ -45,7 +51,7 @@ impl Shape {
 }
 
 /// Whether the two lists have the same kinds, one by one.
-pub fn same_kinds(left: &[Kind], right: &[Kind]) -> bool
+pub fn same_kinds(left: &[WordKind], right: &[WordKind]) -> bool
     ensures { IsTrue result ↔ (left.now ≡ right.now) }
 {
     if left.len() != right.len() {

@@ -1,4 +1,4 @@
-use crate::{Code, Function, Instr, Kind, Part, PrintTable, listing};
+use crate::{Code, Function, Instr, Part, PrintTable, WordKind, listing};
 use std::alloc::{AllocError, Global};
 use std::test::Fail;
 use word::apply::Op;
@@ -7,7 +7,7 @@ use word::apply::Op;
 fn function(
     alloc: Global,
     name: &str,
-    locals: &[Kind],
+    locals: &[WordKind],
     instrs: &[Instr],
 ) -> Result<Function, AllocError> {
     let name = format!(in alloc; "{name}")?;
@@ -17,7 +17,7 @@ fn function(
 }
 
 /// A code of one function `main`, and a print table of one int and a newline.
-fn code(alloc: Global, locals: &[Kind], instrs: &[Instr]) -> Result<Code, AllocError> {
+fn code(alloc: Global, locals: &[WordKind], instrs: &[Instr]) -> Result<Code, AllocError> {
     let mut functions = Vec::new(alloc);
     functions.push(function(alloc, "main", locals, instrs)?)?;
     let mut parts = Vec::new(alloc);
@@ -56,7 +56,7 @@ fn lists_operands(rt: HostRuntime) -> Result<(), Fail> {
     ];
     let code = code(
         rt.alloc(),
-        [Kind::Int, Kind::Bool].as_slice(),
+        [WordKind::Int, WordKind::Bool].as_slice(),
         instrs.as_slice(),
     )?;
     let text = listing(rt.alloc(), &code)?;

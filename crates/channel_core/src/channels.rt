@@ -14,15 +14,10 @@ use crate::sleepers::{
 use go_text::Memory;
 use std::alloc::Global;
 use std::marker::Model;
+use word::limits::{MAX_CAPACITY, MAX_CHANNELS};
 use word::panic::Panic;
 use word::request::{Case, Reply, Request};
 use word::value::{Item, Word};
-
-/// The most channels that a run makes.
-const MOST_CHANNELS: usize = 65_536;
-
-/// The largest size of a channel's buffer.
-const LARGEST_SIZE: i64 = 65_536;
 
 /// The channels of a world, and those who sleep at them, in the order in which they fell asleep.
 #[derive(Debug, Drop)]
@@ -35,13 +30,14 @@ pub struct Channels {
 
 impl Model for Channels {
     ghost use Rattle.channel_core.specs.Channels.{ChannelsValue};
-    ghost use Rattle.std.specs.Prelude.{◌≤◌, length};
+    ghost use Rattle.std.specs.Prelude.{◌≤◌, ◌+◌, length};
+    ghost use Rattle.word.specs.declared.limits.TheConstants.{MAX_CHANNELS};
 
     ghost Value = { ChannelsValue };
 
     ghost view = { λ c. record { channels = c.channels.items; asleep = c.asleep.items } };
 
-    ghost invariant = { λ c. length c.channels.items ≤ 65537 };
+    ghost invariant = { λ c. length c.channels.items ≤ MAX_CHANNELS + 1 };
 }
 
 impl Channels {
@@ -89,11 +85,11 @@ impl Channels {
         ensures does { IfOk result (λ outcome. Does self.old number (Make size zero) outcome self.new) }
         ensures memory { OnErr result (self.new ≡ self.old) }
     {
-        if size < 0 || size > LARGEST_SIZE {
+        if size < 0 || size > MAX_CAPACITY as i64 {
             return Ok(Outcome::Panics(Panic::ChannelSize, 0));
         }
         let place = self.channels.len();
-        if place == MOST_CHANNELS + 1 {
+        if place == MAX_CHANNELS + 1 {
             return Ok(Outcome::Panics(Panic::TooManyChannels, 0));
         }
         self.channels

@@ -22,7 +22,7 @@ use Rattle.checker_base.specs.declared.worth.Misuse.{Misuse}
 use Rattle.checker_base.specs.declared.worth.Misuse.TheVariants as misuses
 use Rattle.checker_base.specs.Flaws.{IsBroken, IsExceeded, IsMisuse}
 use Rattle.checker_base.specs.Types.{int, is_int as is_int_type, type_in}
-use Rattle.checker_base.specs.Scopes.{Variable, Scope, is_blank, place_of, kind_of, named_worth}
+use Rattle.checker_base.specs.Scopes.{Variable, Scope, is_blank, position_of, kind_of, named_worth}
 use Rattle.checker_base.specs.Worths.{literal, is_int, unary_worth, binary_worth, worth}
 use Rattle.checker_base.specs.Expressions.{is_built_unary, is_built_binary, is_built_expression, Fails, UnaryHas, BinaryHas, ExpressionHas}
 use Rattle.checker.specs.Actions.{Target, Declares, Assigns, Origin, FromValue, FromReceive, FromMake, Action, Idles, Prints, Sends, Receives, Sets, Starts, action, origin_size}
@@ -151,17 +151,17 @@ known_more : (scope : Scope) (v : Variable) → Known scope → HasType v.kind �
 known_more [] v known one = (one, tt)
 known_more (x ∷ xs) v known one = (known.0, known_more xs v known.1 one)
 
-known_at : (scope : Scope) → Known scope → (name : List ℕ) (place : ℕ) → place_of scope name ≡ Some place → HasType (kind_of (slice_get scope place))
+known_at : (scope : Scope) → Known scope → (name : List ℕ) (place : ℕ) → position_of scope name ≡ Some place → HasType (kind_of (slice_get scope place))
 known_at [] known name place at = absurd cc
-known_at (v ∷ vs) known name place at = go (bytes_eq v.name name) refl (place_of vs name) refl (known_at vs known.1 name) where
-  go : (b : Bool) → bytes_eq v.name name ≡ b → (o : Option ℕ) → place_of vs name ≡ o → ((q : ℕ) → place_of vs name ≡ Some q → HasType (kind_of (slice_get vs q))) → HasType (kind_of (slice_get (v ∷ vs) place))
+known_at (v ∷ vs) known name place at = go (bytes_eq v.name name) refl (position_of vs name) refl (known_at vs known.1 name) where
+  go : (b : Bool) → bytes_eq v.name name ≡ b → (o : Option ℕ) → position_of vs name ≡ o → ((q : ℕ) → position_of vs name ≡ Some q → HasType (kind_of (slice_get vs q))) → HasType (kind_of (slice_get (v ∷ vs) place))
   go true is o there rec =
-      let e : Some 0 ≡ Some place = sym (ap (λ b. cond b (Some 0) (option_map suc (place_of vs name))) is) ∙ at in
+      let e : Some 0 ≡ Some place = sym (ap (λ b. cond b (Some 0) (option_map suc (position_of vs name))) is) ∙ at in
       subst (λ n. HasType (kind_of (slice_get (v ∷ vs) n))) (same_Some 0 place e) known.0
   go false is None there rec =
-      let e : None ≡ Some place = sym (ap (λ b. cond b (Some 0) (option_map suc (place_of vs name))) is ∙ ap (option_map suc) there) ∙ at in absurd cc
+      let e : None ≡ Some place = sym (ap (λ b. cond b (Some 0) (option_map suc (position_of vs name))) is ∙ ap (option_map suc) there) ∙ at in absurd cc
   go false is (Some q) there rec =
-      let e : Some (suc q) ≡ Some place = sym (ap (λ b. cond b (Some 0) (option_map suc (place_of vs name))) is ∙ ap (option_map suc) there) ∙ at in
+      let e : Some (suc q) ≡ Some place = sym (ap (λ b. cond b (Some 0) (option_map suc (position_of vs name))) is ∙ ap (option_map suc) there) ∙ at in
       subst (λ n. HasType (kind_of (slice_get (v ∷ vs) n))) (same_Some (suc q) place e) (rec q there)
 
 abbrev KnownKinds : List (Option ValueType) → Type 0
@@ -210,13 +210,13 @@ good_origin scope (FromMake channel) first built none =
     (s, (Typed (types.Channel s.0), ap (λ o. option_map (λ x. Typed (types.Channel x)) (channel_type o)) s.1))
 
 assigned_is : (scope : Scope) → Known scope → (name : List ℕ) (o : Option Worth) (place value : ℕ) → HasWorth o → 1 ≤ place → ((flaw : Flaw) → AssignsHas scope name o place value flaw → ⊥) → HasType (assigned_type scope o name)
-assigned_is scope known name o place value w le none = go (is_blank name) refl (place_of scope name) refl where
-  go : (b : Bool) → is_blank name ≡ b → (p : Option ℕ) → place_of scope name ≡ p → HasType (assigned_type scope o name)
-  go true is p at = let d = default_is o w in (d.0, ap (λ b. cond b (default_type o) (option_and_then (λ q. kind_of (slice_get scope q)) (place_of scope name))) is ∙ d.1)
-  go false is None at = let found = at_end rules.Visible place le in absurd (none found.0 (inl (ap (λ b. not b && is_none (place_of scope name)) is ∙ ap is_none at, found.1)))
+assigned_is scope known name o place value w le none = go (is_blank name) refl (position_of scope name) refl where
+  go : (b : Bool) → is_blank name ≡ b → (p : Option ℕ) → position_of scope name ≡ p → HasType (assigned_type scope o name)
+  go true is p at = let d = default_is o w in (d.0, ap (λ b. cond b (default_type o) (option_and_then (λ q. kind_of (slice_get scope q)) (position_of scope name))) is ∙ d.1)
+  go false is None at = let found = at_end rules.Visible place le in absurd (none found.0 (inl (ap (λ b. not b && is_none (position_of scope name)) is ∙ ap is_none at, found.1)))
   go false is (Some q) at =
       let k = known_at scope known name q at in
-      (k.0, ap (λ b. cond b (default_type o) (option_and_then (λ q. kind_of (slice_get scope q)) (place_of scope name))) is ∙ ap (option_and_then (λ q. kind_of (slice_get scope q))) at ∙ k.1)
+      (k.0, ap (λ b. cond b (default_type o) (option_and_then (λ q. kind_of (slice_get scope q)) (position_of scope name))) is ∙ ap (option_and_then (λ q. kind_of (slice_get scope q))) at ∙ k.1)
 
 good_sets : (scope : Scope) → Known scope → (t : Target) (o : Origin) (first : ℕ) → IsTrue (is_built_origin o) → ((flaw : Flaw) → SetsHas scope first t o flaw → ⊥)
     → IsGoodOrigin scope o × IsUsable (origin_worth scope o) (target_type scope t (origin_worth scope o)) × Known (after scope (Some (Sets t o)))
@@ -300,14 +300,14 @@ known_type (Some t) first none = (t, refl)
 known_parameters : (scope : Scope) → Known scope → (ds : List Declared) (first : ℕ) → ((flaw : Flaw) → ParametersHave scope first ds flaw → ⊥) → Known (with_parameters scope ds)
 known_parameters scope known [] first none = known
 known_parameters scope known (d ∷ ds) first none =
-    let t = known_type (type_in d.kind) first (λ flaw has. none flaw (inl has)) in
-    known_parameters (with_names scope (type_in d.kind) d.names) (known_names scope known (type_in d.kind) t d.names) ds (first + declared_size d) (λ flaw has. none flaw (inr (inr has)))
+    let t = known_type (type_in d.type_expression) first (λ flaw has. none flaw (inl has)) in
+    known_parameters (with_names scope (type_in d.type_expression) d.names) (known_names scope known (type_in d.type_expression) t d.names) ds (first + declared_size d) (λ flaw has. none flaw (inr (inr has)))
 
 typed_parameters : (scope : Scope) (ds : List Declared) (first : ℕ) → ((flaw : Flaw) → ParametersHave scope first ds flaw → ⊥) → IsTrue (are_all is_typed_parameter ds)
 typed_parameters scope [] first none = refl
 typed_parameters scope (d ∷ ds) first none =
-    let t = known_type (type_in d.kind) first (λ flaw has. none flaw (inl has)) in
-    two (is_some (type_in d.kind)) (are_all is_typed_parameter ds) (ap is_some t.1) (typed_parameters (with_names scope (type_in d.kind) d.names) ds (first + declared_size d) (λ flaw has. none flaw (inr (inr has))))
+    let t = known_type (type_in d.type_expression) first (λ flaw has. none flaw (inl has)) in
+    two (is_some (type_in d.type_expression)) (are_all is_typed_parameter ds) (ap is_some t.1) (typed_parameters (with_names scope (type_in d.type_expression) d.names) ds (first + declared_size d) (λ flaw has. none flaw (inr (inr has))))
   where
     two : (a b : Bool) → a ≡ true → IsTrue b → IsTrue (a && b)
     two true b e h = h

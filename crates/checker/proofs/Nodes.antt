@@ -173,9 +173,9 @@ names_within scope end kind (name ∷ names) flaw (inr has) = names_within (scop
 
 parameters_within : (scope : Scope) (ds : List Declared) (first : ℕ) (flaw : Flaw) → ParametersHave scope first ds flaw → node_of flaw < first + sum_by declared_size ds
 parameters_within scope [] first flaw has = absurd has
-parameters_within scope (d ∷ ds) first flaw (inl has) = omega (arith, type_within (type_in d.kind) first flaw has, sum_by-cons declared_size d ds)
-parameters_within scope (d ∷ ds) first flaw (inr (inl has)) = omega (arith, names_within scope (first + declared_size d) (type_in d.kind) d.names flaw has, sum_by-cons declared_size d ds)
-parameters_within scope (d ∷ ds) first flaw (inr (inr has)) = omega (arith, parameters_within (with_names scope (type_in d.kind) d.names) ds (first + declared_size d) flaw has, sum_by-cons declared_size d ds)
+parameters_within scope (d ∷ ds) first flaw (inl has) = omega (arith, type_within (type_in d.type_expression) first flaw has, sum_by-cons declared_size d ds)
+parameters_within scope (d ∷ ds) first flaw (inr (inl has)) = omega (arith, names_within scope (first + declared_size d) (type_in d.type_expression) d.names flaw has, sum_by-cons declared_size d ds)
+parameters_within scope (d ∷ ds) first flaw (inr (inr has)) = omega (arith, parameters_within (with_names scope (type_in d.type_expression) d.names) ds (first + declared_size d) flaw has, sum_by-cons declared_size d ds)
 
 header_within : (before : List Signature) (f : Function) (first : ℕ) (flaw : Flaw) → HeaderHas before first f flaw → node_of flaw < first + top_size (FunctionTop f)
 header_within before f first flaw (inl has) = omega (arith, parameters_within [] f.parameters first flaw has)

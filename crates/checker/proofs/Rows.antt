@@ -34,7 +34,7 @@ row = record {
       })
       ∷ FunctionTop (record {
         name = codes "f";
-        parameters = record { names = codes "c" ∷ []; kind = Channel directions.Both (NamedType (codes "int")) } ∷ [];
+        parameters = record { names = codes "c" ∷ []; type_expression = Channel directions.Both (NamedType (codes "int")) } ∷ [];
         trailing = false;
         result = None;
         body = statements (Alone (Send (Named (codes "c")) (Integer (Some 7))) ∷ []);

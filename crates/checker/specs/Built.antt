@@ -36,7 +36,7 @@ abbrev pub is_built_statement : Statement → Bool
 is_built_statement statement = is_built_in (action statement)
 
 abbrev pub is_built_parameter : Declared → Bool
-is_built_parameter declared = is_built_type declared.kind
+is_built_parameter declared = is_built_type declared.type_expression
 
 abbrev pub is_absent : {A : Type 0} → Option A → Bool
 is_absent None = true

@@ -91,7 +91,7 @@ AreGood functions scope (statement ∷ rest) = IsGood functions scope (action st
 
 -- the parameters have types
 abbrev pub is_typed_parameter : Declared → Bool
-is_typed_parameter declared = is_some (type_in declared.kind)
+is_typed_parameter declared = is_some (type_in declared.type_expression)
 
 pub record IsGoodFunction (functions : List Signature) (function : Function) : Type 0 where
   pub typed : IsTrue (are_all is_typed_parameter function.parameters)

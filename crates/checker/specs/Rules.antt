@@ -15,7 +15,7 @@ use Rattle.checker_base.specs.declared.types.ValueType.TheVariants as types
 use Rattle.checker_base.specs.declared.worth.Worth.{Worth}
 use Rattle.checker_base.specs.declared.worth.Worth.TheVariants.{Typed, Constant}
 use Rattle.checker_base.specs.Types.{int, is_int as is_int_type, type_in}
-use Rattle.checker_base.specs.Scopes.{Variable, Scope, is_blank, is_reserved, place_of, kind_of}
+use Rattle.checker_base.specs.Scopes.{Variable, Scope, is_blank, is_reserved, position_of, kind_of}
 use Rattle.checker_base.specs.Worths.{is_int, worth}
 use Rattle.checker_base.specs.Flaws.{IsBroken, IsExceeded}
 use Rattle.checker_base.specs.Expressions.{ExpressionHas}
@@ -121,7 +121,7 @@ origin_worth scope (FromMake channel) = option_map (λ s. Typed (types.Channel s
 
 -- a name is new in its block
 abbrev pub is_new : Scope → List ℕ → Bool
-is_new scope name = not (is_blank name) && is_none (place_of scope name)
+is_new scope name = not (is_blank name) && is_none (position_of scope name)
 
 -- a `:=` declares this name, and the value is the last node before a number; the statement's own node too
 abbrev pub DeclaresHas : Scope → List ℕ → Option Worth → ℕ → ℕ → Flaw → Type 0
@@ -132,12 +132,12 @@ DeclaresHas scope name w value end flaw =
 
 -- the type of what is assigned to: that of the variable, and any for `_`
 abbrev pub assigned_type : Scope → Option Worth → List ℕ → Option ValueType
-assigned_type scope w name = if is_blank name then default_type w else option_and_then (λ place. kind_of (slice_get scope place)) (place_of scope name)
+assigned_type scope w name = if is_blank name then default_type w else option_and_then (λ place. kind_of (slice_get scope place)) (position_of scope name)
 
 -- a `=` assigns to this name; the place and the value are the last nodes before numbers
 abbrev pub AssignsHas : Scope → List ℕ → Option Worth → ℕ → ℕ → Flaw → Type 0
 AssignsHas scope name w place value flaw =
-    (((not (is_blank name) && is_none (place_of scope name)) ≡ true) × IsBroken rules.Visible place flaw)
+    (((not (is_blank name) && is_none (position_of scope name)) ≡ true) × IsBroken rules.Visible place flaw)
     ⊎ ValueHas w (assigned_type scope w name) value flaw
 
 abbrev pub SetsHas : Scope → ℕ → Target → Origin → Flaw → Type 0
@@ -168,7 +168,7 @@ function_of_name (f ∷ rest) name = if bytes_eq f.name name then Some 0 else op
 
 -- the function that a name stands for, which no variable hides
 abbrev pub callee : List Signature → Scope → List ℕ → Option ℕ
-callee functions scope name = if is_some (place_of scope name) then None else function_of_name functions name
+callee functions scope name = if is_some (position_of scope name) then None else function_of_name functions name
 
 abbrev pub kinds_in : Option Signature → List (Option ValueType)
 kinds_in None = []
@@ -237,7 +237,7 @@ after_all scope (statement ∷ rest) = after_all (after scope (action statement)
 
 -- a name can't be declared, or not again
 abbrev pub is_taken : Scope → List ℕ → Bool
-is_taken scope name = is_reserved name || (not (is_blank name) && is_some (place_of scope name))
+is_taken scope name = is_reserved name || (not (is_blank name) && is_some (position_of scope name))
 
 abbrev pub NamesHave : Scope → ℕ → Option ValueType → List (List ℕ) → Flaw → Type 0
 NamesHave scope end kind [] flaw = ⊥
@@ -251,13 +251,13 @@ with_names scope kind (name ∷ names) = with_names (scope ++ record { name = na
 abbrev pub ParametersHave : Scope → ℕ → List Declared → Flaw → Type 0
 ParametersHave scope first [] flaw = ⊥
 ParametersHave scope first (declared ∷ rest) flaw =
-    TypeHas (type_in declared.kind) first flaw
-    ⊎ (NamesHave scope (first + declared_size declared) (type_in declared.kind) declared.names flaw
-    ⊎ ParametersHave (with_names scope (type_in declared.kind) declared.names) (first + declared_size declared) rest flaw)
+    TypeHas (type_in declared.type_expression) first flaw
+    ⊎ (NamesHave scope (first + declared_size declared) (type_in declared.type_expression) declared.names flaw
+    ⊎ ParametersHave (with_names scope (type_in declared.type_expression) declared.names) (first + declared_size declared) rest flaw)
 
 abbrev pub with_parameters : Scope → List Declared → Scope
 with_parameters scope [] = scope
-with_parameters scope (declared ∷ rest) = with_parameters (with_names scope (type_in declared.kind) declared.names) rest
+with_parameters scope (declared ∷ rest) = with_parameters (with_names scope (type_in declared.type_expression) declared.names) rest
 
 -- the variables that a function's parameters are
 abbrev pub parameters : Function → Scope

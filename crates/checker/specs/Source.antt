@@ -10,7 +10,7 @@ use Rattle.checker_base.specs.declared.types.ValueType.TheVariants as types
 use Rattle.checker_base.specs.declared.worth.Worth.{Worth}
 use Rattle.checker_base.specs.declared.worth.Worth.TheVariants.{Constant}
 use Rattle.checker_base.specs.Types.{type_in}
-use Rattle.checker_base.specs.Scopes.{Variable, Scope, is_blank, is_truth, place_of}
+use Rattle.checker_base.specs.Scopes.{Variable, Scope, is_blank, is_truth, position_of}
 use Rattle.checker_base.specs.Worths.{worth}
 use Rattle.checker.specs.Actions.{Target, Declares, Assigns, FromValue, FromReceive, FromMake, Action, Idles, Prints, Sends, Receives, Sets, Starts, action}
 use Rattle.checker.specs.Rules.{default_type, channel_type, origin_worth, callee, function_of_name, Signature, signatures, parameters}
@@ -19,7 +19,7 @@ use Rattle.word.specs.declared.value.Word.TheVariants.{Int, Bool as Truth, Chan}
 use Rattle.word.specs.declared.apply.Op.TheVariants as ops
 use Rattle.word.specs.Apply.{Valued, value as applied}
 use Rattle.word.specs.Values.{Make, Go, Send, Receive, Print, End, Reply, Value, Received, Clause}
-use Rattle.word.specs.Kinds.{Next, Slides, Ticks, Asks, Stuck, Kind}
+use Rattle.word.specs.Kinds.{Next, Slides, Ticks, Asks, Stuck, GoroutineKind}
 use Rattle.word.specs.Text.{text_of}
 
 -- ---- variables
@@ -98,7 +98,7 @@ combined operator a b = outcome (applied ops.Add a b)
 abbrev pub value : Bindings → Expression → Word
 value bindings (Integer n) = exact (worth (scope_in bindings) (Integer n)) (Int (pos 0))
 value bindings (Named name) =
-    if is_truth name then Truth (bytes_eq name (codes "true")) else word_at bindings (place_of (scope_in bindings) name)
+    if is_truth name then Truth (bytes_eq name (codes "true")) else word_at bindings (position_of (scope_in bindings) name)
 value bindings (Parenthesized inner) = value bindings inner
 value bindings (Unary operator operand) =
     let a = value bindings operand in exact (worth (scope_in bindings) (Unary operator operand)) (outcome (applied ops.Neg a a))
@@ -138,7 +138,7 @@ running bindings tasks = record { bindings = bindings; tasks = tasks }
 
 abbrev pub written : Target → Option ValueType → Word → Bindings → Bindings
 written (Declares name) kind w bindings = bindings ++ record { name = name; kind = kind; word = w } ∷ []
-written (Assigns name) kind w bindings = if is_blank name then bindings else put (place_of (scope_in bindings) name) w bindings
+written (Assigns name) kind w bindings = if is_blank name then bindings else put (position_of (scope_in bindings) name) w bindings
 
 abbrev pub channel_in : Word → Option ℕ
 channel_in (Chan c) = c
@@ -210,7 +210,7 @@ begun (FunctionTop function ∷ rest) zero arguments = running (bound (parameter
 begun (FunctionTop function ∷ rest) (suc number) arguments = begun rest number arguments
 
 -- the kind of goroutine that runs this file
-abbrev pub source_kind : File → Kind
+abbrev pub source_kind : File → GoroutineKind
 source_kind file = record {
   State = Running;
   next = source_next (signatures file.tops);

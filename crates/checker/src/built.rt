@@ -218,7 +218,7 @@ fn parameters(first: NodeId, declared: &[DeclaredNode]) -> Result<NodeId, NodeId
     let Some((one, rest)) = declared.split_first() else {
         return Ok(first);
     };
-    let middle = kind(first, &one.kind)? + 1;
+    let middle = kind(first, &one.type_node)? + 1;
     let end = parameters(middle, rest)?;
     Ok(end)
 }

@@ -14,7 +14,7 @@ use crate::refusal::Refusal;
 use crate::signature::{FunctionType, function_of_name};
 use crate::statement::declare;
 use checker_base::flaw::Flaw;
-use checker_base::scope::{Entry, is_blank, is_reserved, place_of};
+use checker_base::scope::{Entry, is_blank, is_reserved, position_of};
 use checker_base::types::{ValueType, type_in};
 use go_text::{LimitKind, Rule};
 use std::alloc::{AllocError, Global};
@@ -28,7 +28,7 @@ const MOST_FUNCTIONS: usize = 4096;
 fn is_taken(scope: &[Entry], name: &[u8]) -> bool
     ensures { result ≡ is_taken (scope_of scope.now) name.now }
 {
-    is_reserved(name) || (!is_blank(name) && place_of(scope, name).is_some())
+    is_reserved(name) || (!is_blank(name) && position_of(scope, name).is_some())
 }
 
 /// Checks names that are declared together, as parameters of one type. Their declaration has this node.
@@ -70,8 +70,8 @@ pub(crate) fn parameters(
     let Some((one, rest)) = declared.split_first() else {
         return Ok(first);
     };
-    let node = first + type_size(&one.kind);
-    let Some(kind) = type_in(&one.kind) else {
+    let node = first + type_size(&one.type_node);
+    let Some(kind) = type_in(&one.type_node) else {
         return Err(Refusal::Flawed(Flaw::Broken(Rule::Visible, first)));
     };
     names(alloc, scope, node, kind, one.names.as_slice())?;

@@ -16,7 +16,7 @@ use crate::action::Origin;
 use crate::value::{channel, default_type, value};
 use checker_base::flaw::Flaw;
 use checker_base::operand::{Operand, checked};
-use checker_base::scope::{Entry, is_blank, is_reserved, place_of};
+use checker_base::scope::{Entry, is_blank, is_reserved, position_of};
 use checker_base::types::{ValueType, type_in};
 use checker_base::worth::Worth;
 use go_text::Rule;
@@ -79,7 +79,7 @@ pub(crate) fn given(scope: &[Entry], first: NodeId, origin: &Origin<'_>) -> Resu
 fn is_new(scope: &[Entry], name: &[u8]) -> bool
     ensures { result ≡ is_new (scope_of scope.now) name.now }
 {
-    !is_blank(name) && place_of(scope, name).is_none()
+    !is_blank(name) && position_of(scope, name).is_none()
 }
 
 /// Checks the declaration of a variable with this value, whose statement's node is the next one, and answers its type.
@@ -114,7 +114,7 @@ pub(crate) fn assigns(
         value(operand, default_type(operand.worth))?;
         return Ok(());
     }
-    match place_of(scope, name) {
+    match position_of(scope, name) {
         None => Err(Flaw::Broken(Rule::Visible, place)),
         Some(at) => {
             value(operand, scope[at].kind)?;

@@ -4,7 +4,7 @@ ghost use Rattle.std.specs.Prelude.{◌≡◌, ◌<◌, IfSome, length, ◌||◌
 ghost use Rattle.checker_base.specs.Scopes.{scope_of};
 ghost use Rattle.checker.specs.Rules.{signatures_of, function_of_name, callee, has_main};
 
-use checker_base::scope::{Entry, place_of};
+use checker_base::scope::{Entry, position_of};
 use checker_base::types::ValueType;
 
 /// A function's name, and the types of its parameters.
@@ -32,7 +32,7 @@ pub(crate) fn callee(functions: &[FunctionType], scope: &[Entry], name: &[u8]) -
     ensures number { result ≡ callee (signatures_of functions.now) (scope_of scope.now) name.now }
     ensures there { IfSome result (λ number. number < length functions.now) }
 {
-    if place_of(scope, name).is_some() {
+    if position_of(scope, name).is_some() {
         None
     } else {
         function_of_name(functions, name)

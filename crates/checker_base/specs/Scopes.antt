@@ -37,9 +37,9 @@ is_reserved name =
     || bytes_eq name (codes "print") || bytes_eq name (codes "println") || bytes_eq name (codes "init")
 
 -- the place of the variable with this name
-abbrev pub place_of : Scope → List ℕ → Option ℕ
-place_of [] name = None
-place_of (variable ∷ rest) name = if bytes_eq variable.name name then Some 0 else option_map suc (place_of rest name)
+abbrev pub position_of : Scope → List ℕ → Option ℕ
+position_of [] name = None
+position_of (variable ∷ rest) name = if bytes_eq variable.name name then Some 0 else option_map suc (position_of rest name)
 
 abbrev pub kind_of : Option Variable → Option ValueType
 kind_of None = None
@@ -53,4 +53,4 @@ variable_worth scope (Some place) = option_map Typed (kind_of (slice_get scope p
 -- what a name is worth as an operand: true and false are bools, and else it is a variable's; `_` is not read
 abbrev pub named_worth : Scope → List ℕ → Option Worth
 named_worth scope name =
-    if is_truth name then Some (Typed bool) else (if is_blank name then None else variable_worth scope (place_of scope name))
+    if is_truth name then Some (Typed bool) else (if is_blank name then None else variable_worth scope (position_of scope name))

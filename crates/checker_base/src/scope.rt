@@ -1,7 +1,7 @@
 //! Variables, by their names.
 
 ghost use Rattle.std.specs.Prelude.{◌≡◌, ◌<◌, IfSome, option_map, length, map};
-ghost use Rattle.checker_base.specs.Scopes.{is_reserved, is_blank, is_truth, place_of, scope_of, variable_of, named_worth};
+ghost use Rattle.checker_base.specs.Scopes.{is_reserved, is_blank, is_truth, position_of, scope_of, variable_of, named_worth};
 ghost use Rattle.checker_base.specs.Worths.{IsSmall};
 
 use crate::types::{Scalar, ValueType};
@@ -47,8 +47,8 @@ pub fn is_reserved(name: &[u8]) -> bool
 }
 
 /// The place among the variables of the one with this name.
-pub fn place_of(scope: &[Entry], name: &[u8]) -> Option<usize>
-    ensures place { result ≡ place_of (scope_of scope.now) name.now }
+pub fn position_of(scope: &[Entry], name: &[u8]) -> Option<usize>
+    ensures place { result ≡ position_of (scope_of scope.now) name.now }
     ensures there { IfSome result (λ place. place < length scope.now) }
 {
     for (place, entry) in scope.iter().enumerate() {
@@ -70,7 +70,7 @@ pub fn named_worth(scope: &[Entry], name: &[u8]) -> Option<Worth>
     if is_blank(name) {
         return None;
     }
-    match place_of(scope, name) {
+    match position_of(scope, name) {
         Some(place) => Some(Worth::Typed(scope[place].kind)),
         None => None,
     }

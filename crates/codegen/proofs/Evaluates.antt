@@ -13,7 +13,7 @@ use Rattle.checker_base.specs.declared.worth.Worth.TheVariants.{Typed, Constant}
 use Rattle.checker_base.specs.declared.worth.Misuse.{Misuse}
 use Rattle.checker_base.specs.declared.worth.Misuse.TheVariants as misuses
 use Rattle.checker_base.specs.Types.{int, bool, is_int as is_int_type}
-use Rattle.checker_base.specs.Scopes.{Scope, is_blank, is_truth, place_of, kind_of as kind_there, variable_worth}
+use Rattle.checker_base.specs.Scopes.{Scope, is_blank, is_truth, position_of, kind_of as kind_there, variable_worth}
 use Rattle.checker_base.specs.Worths.{literal, is_int, bounded, sized, int_if, beside, unary, binary, unary_worth, binary_worth, worth}
 use Rattle.checker.specs.Program.{IsUsable}
 use Rattle.checker.specs.Source.{Bindings, scope_in, word_at, outcome, exact, combined, value}
@@ -184,7 +184,7 @@ module _ (code : Code) (g : ℕ) (f : Function) (there : slice_get code.function
       go : (o : Option ℤ) → option_map Constant o ≡ Some (Typed s) → ⊥
       go None e = absurd cc
       go (Some m) e = absurd cc
-  evaluates (Named name) t usable = named (is_truth name) (is_blank name) (place_of (scope_in bs) name) (bytes_eq name (codes "true")) t (place_within bs name) usable
+  evaluates (Named name) t usable = named (is_truth name) (is_blank name) (position_of (scope_in bs) name) (bytes_eq name (codes "true")) t (place_within bs name) usable
   evaluates (Parenthesized inner) t usable = evaluates inner t usable
   evaluates (Selection whole field) t usable = absurd usable
   evaluates (Composite name vs trailing) t usable = absurd usable

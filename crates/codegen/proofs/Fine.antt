@@ -3,8 +3,8 @@ use Rattle.std.proofs.Common.{◌≡◌, ℤ, pos, bytes_eq, ℕ, zero, suc, ◌
 use Rattle.std.proofs.lemmas.Option.{same_Some, slice_get_within}
 use Rattle.std.proofs.lemmas.Bool.{false≢true}
 use Rattle.std.proofs.lemmas.List.{append-nil, length-map, map-append}
-use Rattle.bytecode.specs.declared.instr.Kind.{Kind}
-use Rattle.bytecode.specs.declared.instr.Kind.TheVariants as kinds
+use Rattle.bytecode.specs.declared.instr.WordKind.{WordKind}
+use Rattle.bytecode.specs.declared.instr.WordKind.TheVariants as kinds
 use Rattle.bytecode.specs.declared.instr.Instr.{Instr}
 use Rattle.bytecode.specs.declared.instr.Instr.TheVariants as instrs
 use Rattle.bytecode.specs.declared.table.Part.{Part as TablePart}
@@ -18,7 +18,7 @@ use Rattle.checker_base.specs.declared.types.ValueType.TheVariants as types
 use Rattle.checker_base.specs.declared.worth.Worth.{Worth}
 use Rattle.checker_base.specs.declared.worth.Worth.TheVariants.{Typed, Constant}
 use Rattle.checker_base.specs.Types.{int, bool, type_in}
-use Rattle.checker_base.specs.Scopes.{Variable, Scope, is_blank, is_truth, place_of, kind_of as kind_there, variable_worth}
+use Rattle.checker_base.specs.Scopes.{Variable, Scope, is_blank, is_truth, position_of, kind_of as kind_there, variable_worth}
 use Rattle.checker_base.specs.Worths.{literal, worth}
 use Rattle.checker.specs.Actions.{Target, Declares, Assigns, Origin, FromValue, FromReceive, FromMake, Action, Idles, Prints, Sends, Receives, Sets, Starts, right_origin, place_target, sets, action}
 use Rattle.checker.specs.Program.{IsUsable, IsPrintable, AreGoodParts, IsChannel, IsGoodOrigin, target_type, AllFit, IsGoodAction, IsGood, AreGood, IsProgram}
@@ -50,32 +50,32 @@ module _ (code : Code) (f : CodeFunction) where
   -- an instruction that leads to the next one alone
   pub record Plain (i : Instr) : Type 0 where
     pub ways-is : (place : ℕ) → ways code i place ≡ (place + 1) ∷ []
-    pub leaves-is : (top : List Kind) → leaves code f i 0 top ≡ gives_kinds code f i top
+    pub leaves-is : (top : List WordKind) → leaves code f i 0 top ≡ gives_kinds code f i top
     pub directed : (place : ℕ) → Directed code place i
     pub inside : (place : ℕ) → place + 1 < length f.instrs → Inside f place i
     pub enough : (n have : ℕ) → n ≤ have → Enough i n have
 
   -- instructions that fit the kinds on the stack, up to a return
-  abbrev pub Flows : List Kind → List Instr → Type 0
+  abbrev pub Flows : List WordKind → List Instr → Type 0
   Flows ks [] = ⊥
   Flows ks (i ∷ []) = (i ≡ instrs.Return) × (ks ≡ [])
   Flows ks (i ∷ j ∷ is) = Plain i × Named code f i × Fits code f i ks × Flows (afterwards code f i 0 ks) (j ∷ is)
 
-  flows_cons : (ks : List Kind) (i : Instr) (is : List Instr) → Plain i → Named code f i → Fits code f i ks → Flows (afterwards code f i 0 ks) is → Flows ks (i ∷ is)
+  flows_cons : (ks : List WordKind) (i : Instr) (is : List Instr) → Plain i → Named code f i → Fits code f i ks → Flows (afterwards code f i 0 ks) is → Flows ks (i ∷ is)
   flows_cons ks i [] plain named fits rest = absurd rest
   flows_cons ks i (j ∷ is) plain named fits rest = (plain, named, fits, rest)
 
   -- the operands are these
-  pub flows_step : (low top : List Kind) (i : Instr) (is : List Instr) → Plain i → Named code f i → count (wants code f i) ≡ length top → Meets (wants code f i) top → Flows (low ++ gives_kinds code f i top) is → Flows (low ++ top) (i ∷ is)
+  pub flows_step : (low top : List WordKind) (i : Instr) (is : List Instr) → Plain i → Named code f i → count (wants code f i) ≡ length top → Meets (wants code f i) top → Flows (low ++ gives_kinds code f i top) is → Flows (low ++ top) (i ∷ is)
   flows_step low top i is plain named n meets rest =
       let t : top_of (count (wants code f i)) (low ++ top) ≡ top = top_of_is low top (count (wants code f i)) n in
       let b : below (count (wants code f i)) (low ++ top) ≡ low = below_of low top (count (wants code f i)) n in
       flows_cons (low ++ top) i is plain named
       (plain.enough (count (wants code f i)) (length (low ++ top)) (omega (arith, n, length-append low top)), subst (Meets (wants code f i)) (sym t) meets)
-      (subst (λ (ks : List Kind). Flows ks is) (sym (ap (λ (xs : List Kind). below (count (wants code f i)) (low ++ top) ++ leaves code f i 0 xs) t ∙ ap (λ (xs : List Kind). below (count (wants code f i)) (low ++ top) ++ xs) (plain.leaves-is top) ∙ ap (λ (xs : List Kind). xs ++ gives_kinds code f i top) b)) rest)
+      (subst (λ (ks : List WordKind). Flows ks is) (sym (ap (λ (xs : List WordKind). below (count (wants code f i)) (low ++ top) ++ leaves code f i 0 xs) t ∙ ap (λ (xs : List WordKind). below (count (wants code f i)) (low ++ top) ++ xs) (plain.leaves-is top) ∙ ap (λ (xs : List WordKind). xs ++ gives_kinds code f i top) b)) rest)
 
-  pub flows_none : (ks : List Kind) (i : Instr) (is : List Instr) → Plain i → Named code f i → count (wants code f i) ≡ 0 → Meets (wants code f i) [] → Flows (ks ++ gives_kinds code f i []) is → Flows ks (i ∷ is)
-  flows_none ks i is plain named n meets rest = subst (λ (xs : List Kind). Flows xs (i ∷ is)) (append-nil ks) (flows_step ks [] i is plain named n meets rest)
+  pub flows_none : (ks : List WordKind) (i : Instr) (is : List Instr) → Plain i → Named code f i → count (wants code f i) ≡ 0 → Meets (wants code f i) [] → Flows (ks ++ gives_kinds code f i []) is → Flows ks (i ∷ is)
+  flows_none ks i is plain named n meets rest = subst (λ (xs : List WordKind). Flows xs (i ∷ is)) (append-nil ks) (flows_step ks [] i is plain named n meets rest)
 
   -- what stands at each place
   record Stood (place : ℕ) (i : Instr) : Type 0 where
@@ -86,7 +86,7 @@ module _ (code : Code) (f : CodeFunction) where
   shifted : (base p : ℕ) (i : Instr) → Stood (suc base + p) i → Stood (base + suc p) i
   shifted base p i n = let e : suc base + p ≡ base + suc p = omega arith in subst (λ m. Stood m i) e n
 
-  stood : (ks : List Kind) (base : ℕ) (xs : List Instr) → Flows ks xs → base + length xs ≡ length f.instrs → (p : ℕ) (i : Instr) → slice_get xs p ≡ Some i → Stood (base + p) i
+  stood : (ks : List WordKind) (base : ℕ) (xs : List Instr) → Flows ks xs → base + length xs ≡ length f.instrs → (p : ℕ) (i : Instr) → slice_get xs p ≡ Some i → Stood (base + p) i
   stood ks base [] g e p i at = absurd g
   stood ks base (x ∷ []) g e zero i at = subst (Stood (base + 0)) (sym g.0 ∙ same_Some x i at) (record { named = tt; inside = tt; directed = tt })
   stood ks base (x ∷ []) g e (suc p) i at = absurd cc
@@ -95,44 +95,44 @@ module _ (code : Code) (f : CodeFunction) where
   stood ks base (x ∷ y ∷ xs) g e (suc p) i at = shifted base p i (stood (afterwards code f x 0 ks) (suc base) (y ∷ xs) g.3 (omega (arith, e)) p i at)
 
   module _ (whole : Flows [] f.instrs) (plain : f.results ≡ []) where
-    record On (n place : ℕ) (ks : List Kind) : Type 0 where
+    record On (n place : ℕ) (ks : List WordKind) : Type 0 where
       is-place : place ≡ n
       flows : Flows ks (drop place f.instrs)
 
     -- behind an instruction
-    onward : (n from place : ℕ) (js ks : List Kind) (i : Instr) (k : ℕ) (xs : List Instr) → from ≡ n → Flows js (i ∷ xs) → drop (suc from) f.instrs ≡ xs → slice_get (ways code i from) k ≡ Some place → ks ≡ afterwards code f i k js → On (suc n) place ks
+    onward : (n from place : ℕ) (js ks : List WordKind) (i : Instr) (k : ℕ) (xs : List Instr) → from ≡ n → Flows js (i ∷ xs) → drop (suc from) f.instrs ≡ xs → slice_get (ways code i from) k ≡ Some place → ks ≡ afterwards code f i k js → On (suc n) place ks
     onward n from place js ks i k [] e g left way out = let w : slice_get (ways code instrs.Return from) k ≡ Some place = subst (λ j. slice_get (ways code j from) k ≡ Some place) g.0 way in absurd cc
     onward n from place js ks i zero (x ∷ xs) e g left way out =
         let p : place ≡ suc from = sym (same_Some (from + 1) place (sym (ap (λ l. slice_get l 0) (g.0.ways-is from)) ∙ way)) ∙ add-one from in
-        record { is-place = p ∙ ap suc e; flows = subst (λ m. Flows ks (drop m f.instrs)) (sym p) (subst (λ (l : List Instr). Flows ks l) (sym left) (subst (λ (l : List Kind). Flows l (x ∷ xs)) (sym out) g.3)) }
+        record { is-place = p ∙ ap suc e; flows = subst (λ m. Flows ks (drop m f.instrs)) (sym p) (subst (λ (l : List Instr). Flows ks l) (sym left) (subst (λ (l : List WordKind). Flows l (x ∷ xs)) (sym out) g.3)) }
     onward n from place js ks i (suc k) (x ∷ xs) e g left way out = let w : slice_get ((from + 1) ∷ []) (suc k) ≡ Some place = sym (ap (λ l. slice_get l (suc k)) (g.0.ways-is from)) ∙ way in absurd cc
 
-    on_path : (n place : ℕ) (ks : List Kind) → Path code f n place ks → On n place ks
-    on_path zero place ks p = record { is-place = p.0; flows = subst (λ m. Flows ks (drop m f.instrs)) (sym p.0) (subst (λ (l : List Kind). Flows l f.instrs) (sym p.1) whole) }
+    on_path : (n place : ℕ) (ks : List WordKind) → Path code f n place ks → On n place ks
+    on_path zero place ks p = record { is-place = p.0; flows = subst (λ m. Flows ks (drop m f.instrs)) (sym p.0) (subst (λ (l : List WordKind). Flows l f.instrs) (sym p.1) whole) }
     on_path (suc n) place ks (from, js, i, k, p, here, fits, way, out) =
         let o = on_path n from js p in
         onward n from place js ks i k (drop (suc from) f.instrs) o.is-place (subst (Flows js) (at_left f.instrs from i here) o.flows) refl way out
 
     -- there is one way at most
-    way_is : (from place : ℕ) (js : List Kind) (i : Instr) (k : ℕ) (xs : List Instr) → Flows js (i ∷ xs) → slice_get (ways code i from) k ≡ Some place → k ≡ 0
+    way_is : (from place : ℕ) (js : List WordKind) (i : Instr) (k : ℕ) (xs : List Instr) → Flows js (i ∷ xs) → slice_get (ways code i from) k ≡ Some place → k ≡ 0
     way_is from place js i k [] g way = let w : slice_get (ways code instrs.Return from) k ≡ Some place = subst (λ j. slice_get (ways code j from) k ≡ Some place) g.0 way in absurd cc
     way_is from place js i zero (x ∷ xs) g way = refl
     way_is from place js i (suc k) (x ∷ xs) g way = let w : slice_get ((from + 1) ∷ []) (suc k) ≡ Some place = sym (ap (λ l. slice_get l (suc k)) (g.0.ways-is from)) ∙ way in absurd cc
 
-    only_way : (n from place : ℕ) (js : List Kind) (i : Instr) (k : ℕ) → Path code f n from js → slice_get f.instrs from ≡ Some i → slice_get (ways code i from) k ≡ Some place → k ≡ 0
+    only_way : (n from place : ℕ) (js : List WordKind) (i : Instr) (k : ℕ) → Path code f n from js → slice_get f.instrs from ≡ Some i → slice_get (ways code i from) k ≡ Some place → k ≡ 0
     only_way n from place js i k p here way = way_is from place js i k (drop (suc from) f.instrs) (subst (Flows js) (at_left f.instrs from i here) (on_path n from js p).flows) way
 
-    fits_at : (ks : List Kind) (xs : List Instr) → Flows ks xs → (i : Instr) × (rest : List Instr) × (xs ≡ i ∷ rest) × Fits code f i ks
+    fits_at : (ks : List WordKind) (xs : List Instr) → Flows ks xs → (i : Instr) × (rest : List Instr) × (xs ≡ i ∷ rest) × Fits code f i ks
     fits_at ks [] g = absurd g
     fits_at ks (i ∷ []) g =
-        let fit : Fits code f instrs.Return [] = (ap length plain, subst (λ (rs : List Kind). top_of (length rs) [] ≡ rs) (sym plain) refl) in
+        let fit : Fits code f instrs.Return [] = (ap length plain, subst (λ (rs : List WordKind). top_of (length rs) [] ≡ rs) (sym plain) refl) in
         (i, [], refl, subst (λ (j : Instr). Fits code f j ks) (sym g.0) (subst (Fits code f instrs.Return) (sym g.1) fit))
     fits_at ks (i ∷ j ∷ is) g = (i, j ∷ is, refl, g.2)
 
-    fit : (n place : ℕ) (ks : List Kind) → Path code f n place ks → (i : Instr) × (slice_get f.instrs place ≡ Some i) × Fits code f i ks
+    fit : (n place : ℕ) (ks : List WordKind) → Path code f n place ks → (i : Instr) × (slice_get f.instrs place ≡ Some i) × Fits code f i ks
     fit n place ks p = let t = fits_at ks (drop place f.instrs) (on_path n place ks p).flows in (t.0, first_left f.instrs place t.0 t.1 t.2, t.3)
 
-    same_steps : (n place there : ℕ) (ks js : List Kind) → Path code f n place ks → Path code f n there js → ks ≡ js
+    same_steps : (n place there : ℕ) (ks js : List WordKind) → Path code f n place ks → Path code f n there js → ks ≡ js
     same_steps zero place there ks js p q = p.1 ∙ sym q.1
     same_steps (suc n) place there ks js (a, us, i, k, p, here, fits, way, out) (b, vs, j, l, q, here', fits', way', out') =
         let at = (on_path n a us p).is-place ∙ sym (on_path n b vs q).is-place in
@@ -140,7 +140,7 @@ module _ (code : Code) (f : CodeFunction) where
         let stack = same_steps n a b us vs p q in
         out ∙ ap (λ (m : ℕ). afterwards code f i m us) (only_way n a place us i k p here way ∙ sym (only_way n b there vs j l q here' way')) ∙ ap (λ x. afterwards code f x l us) e ∙ ap (afterwards code f j l) stack ∙ sym out'
 
-    same : (n m place : ℕ) (ks js : List Kind) → Path code f n place ks → Path code f m place js → ks ≡ js
+    same : (n m place : ℕ) (ks js : List WordKind) → Path code f n place ks → Path code f m place js → ks ≡ js
     same n m place ks js p q =
         let e : m ≡ n = sym (on_path m place js q).is-place ∙ (on_path n place ks p).is-place in
         same_steps n place place ks js p (subst (λ x. Path code f x place js) e q)
@@ -151,7 +151,7 @@ module _ (code : Code) (f : CodeFunction) where
 
     pub holds : f.params ≤ length f.locals → AreThere code f.locals → Holds code f
     holds params locals = record {
-      headed = record { filled = filled f.instrs whole; params = params; locals = locals; results = λ n k at. absurd (let e : slice_get [] n ≡ Some k = sym (ap (λ (l : List Kind). slice_get l n) plain) ∙ at in cc) };
+      headed = record { filled = filled f.instrs whole; params = params; locals = locals; results = λ n k at. absurd (let e : slice_get [] n ≡ Some k = sym (ap (λ (l : List WordKind). slice_get l n) plain) ∙ at in cc) };
       named = λ place i at. let s = stood [] 0 f.instrs whole (omega arith) place i at in let z : 0 + place ≡ place = omega arith in (s.named, subst (λ m. Inside f m i) z s.inside);
       directed = λ place i at. let s = stood [] 0 f.instrs whole (omega arith) place i at in let z : 0 + place ≡ place = omega arith in subst (λ m. Directed code m i) z s.directed;
       fit = fit;
@@ -196,47 +196,47 @@ plain_receive code f s = record { ways-is = λ p. refl; leaves-is = λ top. refl
 plain_print : (code : Code) (f : CodeFunction) (q : ℕ) → Plain code f (instrs.Print q)
 plain_print code f q = record { ways-is = λ p. refl; leaves-is = λ top. refl; directed = λ p. tt; inside = λ p lt. lt; enough = λ x y le. le }
 
-scope_within : (scope : Scope) (name : List ℕ) (p : ℕ) → place_of scope name ≡ Some p → p < length scope
+scope_within : (scope : Scope) (name : List ℕ) (p : ℕ) → position_of scope name ≡ Some p → p < length scope
 scope_within scope name p at =
     let same = bound_scope scope [] in
-    let lt = place_within (bound scope []) name p (ap (λ (sc : Scope). place_of sc name) same ∙ at) in
+    let lt = place_within (bound scope []) name p (ap (λ (sc : Scope). position_of sc name) same ∙ at) in
     omega (arith, lt, ap length same, length-map (bound scope []) declared)
 
 -- the kind of a local at a place
-local_at : (scope : Scope) (extra : List Kind) (p : ℕ) → p < length scope → slice_range (local_kinds scope ++ extra) p (p + 1) ≡ kind_of (kind_there (slice_get scope p)) ∷ []
+local_at : (scope : Scope) (extra : List WordKind) (p : ℕ) → p < length scope → slice_range (local_kinds scope ++ extra) p (p + 1) ≡ kind_of (kind_there (slice_get scope p)) ∷ []
 local_at scope extra p lt = let e : p + 1 - p ≡ 1 = omega arith in ap (λ n. take n (drop p (local_kinds scope ++ extra))) e ∙ one scope p lt where
   one : (scope : Scope) (p : ℕ) → p < length scope → take 1 (drop p (local_kinds scope ++ extra)) ≡ kind_of (kind_there (slice_get scope p)) ∷ []
   one [] p lt = absurd (omega (arith, lt))
   one (v ∷ vs) zero lt = refl
   one (v ∷ vs) (suc p) lt = one vs p (omega (arith, lt))
 
-local_size : (scope : Scope) (extra : List Kind) → length (local_kinds scope ++ extra) ≡ length scope + length extra
+local_size : (scope : Scope) (extra : List WordKind) → length (local_kinds scope ++ extra) ≡ length scope + length extra
 local_size scope extra = omega (arith, length-append (local_kinds scope) extra, length-map scope (λ (v : Variable). kind_of v.kind))
 
 operands_of : (code : Code) (f : CodeFunction) (o : BinaryOperator) → (count (wants code f (instrs.Apply (operator o))) ≡ 2) × Meets (wants code f (instrs.Apply (operator o))) (kinds.Int ∷ (kinds.Int ∷ []))
 operands_of code f Subtract = (refl, refl)
 operands_of code f o = (refl, refl)
 
-gives_of : (code : Code) (f : CodeFunction) (o : BinaryOperator) (top : List Kind) → gives_kinds code f (instrs.Apply (operator o)) top ≡ kinds.Int ∷ []
+gives_of : (code : Code) (f : CodeFunction) (o : BinaryOperator) (top : List WordKind) → gives_kinds code f (instrs.Apply (operator o)) top ≡ kinds.Int ∷ []
 gives_of code f Subtract top = refl
 gives_of code f o top = refl
 
-module _ (code : Code) (f : CodeFunction) (scope : Scope) (extra : List Kind) (locals : f.locals ≡ local_kinds scope ++ extra) where
-  abbrev Flow : List Kind → List Instr → Type 0
+module _ (code : Code) (f : CodeFunction) (scope : Scope) (extra : List WordKind) (locals : f.locals ≡ local_kinds scope ++ extra) where
+  abbrev Flow : List WordKind → List Instr → Type 0
   Flow = Flows code f
 
-  flow_constant : (o : Option Worth) (is : List Instr) (t : ValueType) → IsUsable o (Some t) → (ks : List Kind) (rest : List Instr) → Flow (ks ++ kind_of (Some t) ∷ []) rest → ((s : ValueType) → o ≡ Some (Typed s) → s ≡ t → Flow ks (is ++ rest)) → Flow ks (folded o is ++ rest)
+  flow_constant : (o : Option Worth) (is : List Instr) (t : ValueType) → IsUsable o (Some t) → (ks : List WordKind) (rest : List Instr) → Flow (ks ++ kind_of (Some t) ∷ []) rest → ((s : ValueType) → o ≡ Some (Typed s) → s ≡ t → Flow ks (is ++ rest)) → Flow ks (folded o is ++ rest)
   flow_constant None is t usable ks rest flow other = absurd usable
   flow_constant (Some (Constant n)) is t usable ks rest flow other = flows_none code f ks (instrs.Int (int_of n)) rest (plain_int code f (int_of n)) tt refl tt (subst (λ x. Flow (ks ++ kind_of (Some x) ∷ []) rest) usable.0 flow)
   flow_constant (Some (Typed s)) is t usable ks rest flow other = other s refl usable
 
-  flow_load : (p : ℕ) (t : ValueType) → p < length scope → kind_there (slice_get scope p) ≡ Some t → (ks : List Kind) (rest : List Instr) → Flow (ks ++ kind_of (Some t) ∷ []) rest → Flow ks (instrs.Load p 1 ∷ rest)
+  flow_load : (p : ℕ) (t : ValueType) → p < length scope → kind_there (slice_get scope p) ≡ Some t → (ks : List WordKind) (rest : List Instr) → Flow (ks ++ kind_of (Some t) ∷ []) rest → Flow ks (instrs.Load p 1 ∷ rest)
   flow_load p t lt is ks rest flow =
-      let e : slice_range f.locals p (p + 1) ≡ kind_of (Some t) ∷ [] = ap (λ (ls : List Kind). slice_range ls p (p + 1)) locals ∙ local_at scope extra p lt ∙ ap (λ k. kind_of k ∷ []) is in
-      flows_none code f ks (instrs.Load p 1) rest (plain_load code f p 1) (omega (arith, lt, ap length locals, local_size scope extra)) refl tt (subst (λ (xs : List Kind). Flow (ks ++ xs) rest) (sym e) flow)
+      let e : slice_range f.locals p (p + 1) ≡ kind_of (Some t) ∷ [] = ap (λ (ls : List WordKind). slice_range ls p (p + 1)) locals ∙ local_at scope extra p lt ∙ ap (λ k. kind_of k ∷ []) is in
+      flows_none code f ks (instrs.Load p 1) rest (plain_load code f p 1) (omega (arith, lt, ap length locals, local_size scope extra)) refl tt (subst (λ (xs : List WordKind). Flow (ks ++ xs) rest) (sym e) flow)
 
   flow_named : (b c : Bool) (o : Option ℕ) (truth : Bool) (t : ValueType) → ((p : ℕ) → o ≡ Some p → p < length scope) → IsUsable (cond b (Some (Typed bool)) (cond c None (variable_worth scope o))) (Some t)
-      → (ks : List Kind) (rest : List Instr) → Flow (ks ++ kind_of (Some t) ∷ []) rest → Flow ks (cond b (instrs.Bool truth ∷ []) (load o) ++ rest)
+      → (ks : List WordKind) (rest : List Instr) → Flow (ks ++ kind_of (Some t) ∷ []) rest → Flow ks (cond b (instrs.Bool truth ∷ []) (load o) ++ rest)
   flow_named true c o truth t lt usable ks rest flow = flows_none code f ks (instrs.Bool truth) rest (plain_bool code f truth) tt refl tt (subst (λ x. Flow (ks ++ kind_of (Some x) ∷ []) rest) (sym usable) flow)
   flow_named false true o truth t lt usable ks rest flow = absurd usable
   flow_named false false None truth t lt usable ks rest flow = absurd usable
@@ -245,25 +245,25 @@ module _ (code : Code) (f : CodeFunction) (scope : Scope) (extra : List Kind) (l
     go None is u = absurd u
     go (Some s) is u = flow_load p t (lt p refl) (is ∙ ap Some u) ks rest flow
 
-  pub flow_pushes : (e : Expression) (t : ValueType) → IsUsable (worth scope e) (Some t) → (ks : List Kind) (rest : List Instr) → Flow (ks ++ kind_of (Some t) ∷ []) rest → Flow ks (pushes scope e ++ rest)
+  pub flow_pushes : (e : Expression) (t : ValueType) → IsUsable (worth scope e) (Some t) → (ks : List WordKind) (rest : List Instr) → Flow (ks ++ kind_of (Some t) ∷ []) rest → Flow ks (pushes scope e ++ rest)
   flow_pushes (Integer n) t usable ks rest flow = flow_constant (worth scope (Integer n)) [] t usable ks rest flow (λ s is same. absurd (none (literal n) s is)) where
     none : (o : Option ℤ) (s : ValueType) → option_map Constant o ≡ Some (Typed s) → ⊥
     none None s e = absurd cc
     none (Some m) s e = absurd cc
-  flow_pushes (NamedExpression name) t usable ks rest flow = flow_named (is_truth name) (is_blank name) (place_of scope name) (bytes_eq name (codes "true")) t (scope_within scope name) usable ks rest flow
+  flow_pushes (NamedExpression name) t usable ks rest flow = flow_named (is_truth name) (is_blank name) (position_of scope name) (bytes_eq name (codes "true")) t (scope_within scope name) usable ks rest flow
   flow_pushes (Parenthesized inner) t usable ks rest flow = flow_pushes inner t usable ks rest flow
   flow_pushes (Selection whole field) t usable ks rest flow = absurd usable
   flow_pushes (Composite name vs trailing) t usable ks rest flow = absurd usable
   flow_pushes (Unary o e) t usable ks rest flow = flow_constant (worth scope (Unary o e)) (pushes scope e ++ instrs.Apply ops.Neg ∷ []) t usable ks rest flow (other (flow_pushes e int)) where
-    other : (IsUsable (worth scope e) (Some int) → (ks : List Kind) (rest : List Instr) → Flow (ks ++ kind_of (Some int) ∷ []) rest → Flow ks (pushes scope e ++ rest)) → (s : ValueType) → worth scope (Unary o e) ≡ Some (Typed s) → s ≡ t → Flow ks ((pushes scope e ++ instrs.Apply ops.Neg ∷ []) ++ rest)
+    other : (IsUsable (worth scope e) (Some int) → (ks : List WordKind) (rest : List Instr) → Flow (ks ++ kind_of (Some int) ∷ []) rest → Flow ks (pushes scope e ++ rest)) → (s : ValueType) → worth scope (Unary o e) ≡ Some (Typed s) → s ≡ t → Flow ks ((pushes scope e ++ instrs.Apply ops.Neg ∷ []) ++ rest)
     other rec s is same =
         let u = unary_typed scope o e s is in
         let k : t ≡ int = sym same ∙ u.1 in
         subst (Flow ks) (sym (append_assoc (pushes scope e) (instrs.Apply ops.Neg ∷ []) rest))
         (rec u.0 ks (instrs.Apply ops.Neg ∷ rest) (flows_step code f ks (kinds.Int ∷ []) (instrs.Apply ops.Neg) rest (plain_apply code f ops.Neg) tt refl refl (subst (λ x. Flow (ks ++ kind_of (Some x) ∷ []) rest) k flow)))
   flow_pushes (Binary o l r) t usable ks rest flow = flow_constant (worth scope (Binary o l r)) (pushes scope l ++ (pushes scope r ++ instrs.Apply (operator o) ∷ [])) t usable ks rest flow (other (flow_pushes l int) (flow_pushes r int)) where
-    other : (IsUsable (worth scope l) (Some int) → (ks : List Kind) (rest : List Instr) → Flow (ks ++ kind_of (Some int) ∷ []) rest → Flow ks (pushes scope l ++ rest))
-        → (IsUsable (worth scope r) (Some int) → (ks : List Kind) (rest : List Instr) → Flow (ks ++ kind_of (Some int) ∷ []) rest → Flow ks (pushes scope r ++ rest))
+    other : (IsUsable (worth scope l) (Some int) → (ks : List WordKind) (rest : List Instr) → Flow (ks ++ kind_of (Some int) ∷ []) rest → Flow ks (pushes scope l ++ rest))
+        → (IsUsable (worth scope r) (Some int) → (ks : List WordKind) (rest : List Instr) → Flow (ks ++ kind_of (Some int) ∷ []) rest → Flow ks (pushes scope r ++ rest))
         → (s : ValueType) → worth scope (Binary o l r) ≡ Some (Typed s) → s ≡ t → Flow ks ((pushes scope l ++ (pushes scope r ++ instrs.Apply (operator o) ∷ [])) ++ rest)
     other left right s is same =
         let u = binary_typed scope o l r s is in
@@ -271,9 +271,9 @@ module _ (code : Code) (f : CodeFunction) (scope : Scope) (extra : List Kind) (l
         let i = instrs.Apply (operator o) in
         let ops' = operands_of code f o in
         let last : Flow (ks ++ (kinds.Int ∷ (kinds.Int ∷ []))) (i ∷ rest) = flows_step code f ks (kinds.Int ∷ (kinds.Int ∷ [])) i rest (plain_apply code f (operator o)) tt ops'.0 ops'.1
-        (subst (λ (xs : List Kind). Flow (ks ++ xs) rest) (sym (gives_of code f o (kinds.Int ∷ (kinds.Int ∷ [])))) (subst (λ x. Flow (ks ++ kind_of (Some x) ∷ []) rest) k flow)) in
+        (subst (λ (xs : List WordKind). Flow (ks ++ xs) rest) (sym (gives_of code f o (kinds.Int ∷ (kinds.Int ∷ [])))) (subst (λ x. Flow (ks ++ kind_of (Some x) ∷ []) rest) k flow)) in
         subst (Flow ks) (sym (append_assoc (pushes scope l) (pushes scope r ++ i ∷ []) rest ∙ ap (λ xs. pushes scope l ++ xs) (append_assoc (pushes scope r) (i ∷ []) rest)))
-        (left u.0 ks (pushes scope r ++ (i ∷ rest)) (right u.1 (ks ++ kinds.Int ∷ []) (i ∷ rest) (subst (λ (xs : List Kind). Flow xs (i ∷ rest)) (sym (append_assoc ks (kinds.Int ∷ []) (kinds.Int ∷ []))) last)))
+        (left u.0 ks (pushes scope r ++ (i ∷ rest)) (right u.1 (ks ++ kinds.Int ∷ []) (i ∷ rest) (subst (λ (xs : List WordKind). Flow xs (i ∷ rest)) (sym (append_assoc ks (kinds.Int ∷ []) (kinds.Int ∷ []))) last)))
 
   -- ---- what is printed, and arguments
 
@@ -284,25 +284,25 @@ module _ (code : Code) (f : CodeFunction) (scope : Scope) (extra : List Kind) (l
   part_kind (Some (Typed (types.Scalar scalars.Bool))) p = (bool, refl, λ ps. refl)
   part_kind (Some (Typed (types.Channel s))) p = absurd p
 
-  flow_parts : (ps : List Part) → AreGoodParts scope ps → (ks : List Kind) (rest : List Instr) → Flow (ks ++ part_kinds (map (part_in scope) ps)) rest → Flow ks (pushes_parts scope ps ++ rest)
-  flow_parts [] good ks rest flow = subst (λ (xs : List Kind). Flow xs rest) (append-nil ks) flow
+  flow_parts : (ps : List Part) → AreGoodParts scope ps → (ks : List WordKind) (rest : List Instr) → Flow (ks ++ part_kinds (map (part_in scope) ps)) rest → Flow ks (pushes_parts scope ps ++ rest)
+  flow_parts [] good ks rest flow = subst (λ (xs : List WordKind). Flow xs rest) (append-nil ks) flow
   flow_parts (Value e ∷ ps) good ks rest flow =
       let t = part_kind (worth scope e) good.0 in
       let more' = part_kinds (map (part_in scope) ps) in
-      let split : ks ++ part_kinds (map (part_in scope) (Value e ∷ ps)) ≡ (ks ++ kind_of (Some t.0) ∷ []) ++ more' = ap (λ (xs : List Kind). ks ++ xs) (t.2 (map (part_in scope) ps)) ∙ sym (append_assoc ks (kind_of (Some t.0) ∷ []) more') in
+      let split : ks ++ part_kinds (map (part_in scope) (Value e ∷ ps)) ≡ (ks ++ kind_of (Some t.0) ∷ []) ++ more' = ap (λ (xs : List WordKind). ks ++ xs) (t.2 (map (part_in scope) ps)) ∙ sym (append_assoc ks (kind_of (Some t.0) ∷ []) more') in
       subst (Flow ks) (sym (append_assoc (pushes scope e) (pushes_parts scope ps) rest))
-      (flow_pushes e t.0 t.1 ks (pushes_parts scope ps ++ rest) (flow_parts ps good.1 (ks ++ kind_of (Some t.0) ∷ []) rest (subst (λ (xs : List Kind). Flow xs rest) split flow)))
+      (flow_pushes e t.0 t.1 ks (pushes_parts scope ps ++ rest) (flow_parts ps good.1 (ks ++ kind_of (Some t.0) ∷ []) rest (subst (λ (xs : List WordKind). Flow xs rest) split flow)))
   flow_parts (Text bytes ∷ ps) good ks rest flow = flow_parts ps good.1 ks rest flow
 
-  flow_all : (args : List Expression) (kinds' : List (Option ValueType)) → AllFit scope args kinds' → (ks : List Kind) (rest : List Instr) → Flow (ks ++ map kind_of kinds') rest → Flow ks (pushes_all scope args ++ rest)
-  flow_all [] [] fit ks rest flow = subst (λ (xs : List Kind). Flow xs rest) (append-nil ks) flow
+  flow_all : (args : List Expression) (kinds' : List (Option ValueType)) → AllFit scope args kinds' → (ks : List WordKind) (rest : List Instr) → Flow (ks ++ map kind_of kinds') rest → Flow ks (pushes_all scope args ++ rest)
+  flow_all [] [] fit ks rest flow = subst (λ (xs : List WordKind). Flow xs rest) (append-nil ks) flow
   flow_all [] (k ∷ kinds') fit ks rest flow = absurd fit
   flow_all (a ∷ args) [] fit ks rest flow = absurd fit
   flow_all (a ∷ args) (k ∷ kinds') fit ks rest flow =
       let t = usable_type (worth scope a) k fit.0 in
       let split : ks ++ (kind_of k ∷ map kind_of kinds') ≡ (ks ++ kind_of (Some t.0) ∷ []) ++ map kind_of kinds' = ap (λ x. ks ++ (kind_of x ∷ map kind_of kinds')) t.1 ∙ sym (append_assoc ks (kind_of (Some t.0) ∷ []) (map kind_of kinds')) in
       subst (Flow ks) (sym (append_assoc (pushes scope a) (pushes_all scope args) rest))
-      (flow_pushes a t.0 (subst (IsUsable (worth scope a)) t.1 fit.0) ks (pushes_all scope args ++ rest) (flow_all args kinds' fit.1 (ks ++ kind_of (Some t.0) ∷ []) rest (subst (λ (xs : List Kind). Flow xs rest) split flow)))
+      (flow_pushes a t.0 (subst (IsUsable (worth scope a)) t.1 fit.0) ks (pushes_all scope args ++ rest) (flow_all args kinds' fit.1 (ks ++ kind_of (Some t.0) ∷ []) rest (subst (λ (xs : List WordKind). Flow xs rest) split flow)))
 
   -- ---- channels
 
@@ -325,7 +325,7 @@ module _ (code : Code) (f : CodeFunction) (scope : Scope) (extra : List Kind) (l
         let i = instrs.Receive (shape_of s) in
         subst (Flow []) (sym (ap (λ n. (pushes scope channel ++ instrs.Receive n ∷ []) ++ rest) sh ∙ append_assoc (pushes scope channel) (i ∷ []) rest))
         (flow_pushes channel (types.Channel s) (subst (λ o. IsUsable o (Some (types.Channel s))) (sym is) refl) [] (i ∷ rest)
-        (flows_step code f [] (kinds.Chan (shape_of s) ∷ []) i rest (plain_receive code f (shape_of s)) (shape_there s) refl refl (subst (λ (xs : List Kind). Flow (xs ++ kinds.Bool ∷ []) rest) (sym (shape_is s)) flow)))
+        (flows_step code f [] (kinds.Chan (shape_of s) ∷ []) i rest (plain_receive code f (shape_of s)) (shape_there s) refl refl (subst (λ (xs : List WordKind). Flow (xs ++ kinds.Bool ∷ []) rest) (sym (shape_is s)) flow)))
 
     flow_gives : (o : Origin) → IsGoodOrigin scope o → (t : ValueType) → IsUsable (origin_worth scope o) (Some t) → (rest : List Instr) → Flow (kind_of (Some t) ∷ []) rest → Flow [] (gives scope o ++ rest)
     flow_gives (FromValue e) good t usable rest flow = flow_pushes e t usable [] rest flow
@@ -357,7 +357,7 @@ module _ (code : Code) (f : CodeFunction) (scope : Scope) (extra : List Kind) (l
     flow_assigns false None t lt kind there rest flow = absurd (there refl refl)
     flow_assigns false (Some p) t lt kind there rest flow =
         let less = lt p refl in
-        flow_store p t (omega (arith, less, ap length locals, local_size scope extra)) (ap (λ (ls : List Kind). slice_range ls p (p + 1)) locals ∙ local_at scope extra p less ∙ ap (λ k. kind_of k ∷ []) (kind p refl refl)) rest flow
+        flow_store p t (omega (arith, less, ap length locals, local_size scope extra)) (ap (λ (ls : List WordKind). slice_range ls p (p + 1)) locals ∙ local_at scope extra p less ∙ ap (λ k. kind_of k ∷ []) (kind p refl refl)) rest flow
 
     flow_keeps : (t : Target) (w : Option Worth) (k : ValueType) → IsUsable w (target_type scope t w) → default_type w ≡ Some k → ((name : List ℕ) → t ≡ Declares name → slice_range f.locals (length scope) (length scope + 1) ≡ kind_of (Some k) ∷ []) → (rest : List Instr) → Flow [] rest
         → Flow (kind_of (Some k) ∷ []) (keeps scope t ++ rest)
@@ -365,10 +365,10 @@ module _ (code : Code) (f : CodeFunction) (scope : Scope) (extra : List Kind) (l
         let r = next name refl in
         flow_store (length scope) k (within f.locals (length scope) (kind_of (Some k)) r) r rest flow
       where
-        within : (xs : List Kind) (p : ℕ) (x : Kind) → slice_range xs p (p + 1) ≡ x ∷ [] → p < length xs
+        within : (xs : List WordKind) (p : ℕ) (x : WordKind) → slice_range xs p (p + 1) ≡ x ∷ [] → p < length xs
         within [] zero x e = absurd cc
         within [] (suc p) x e = let n : take (suc p + 1 - suc p) (drop (suc p) []) ≡ x ∷ [] = e in absurd (nothing (suc p + 1 - suc p) x n) where
-          nothing : (n : ℕ) (x : Kind) → take n [] ≡ x ∷ [] → ⊥
+          nothing : (n : ℕ) (x : WordKind) → take n [] ≡ x ∷ [] → ⊥
           nothing zero x e = cc
           nothing (suc n) x e = cc
         within (y ∷ ys) zero x e = omega arith
@@ -376,7 +376,7 @@ module _ (code : Code) (f : CodeFunction) (scope : Scope) (extra : List Kind) (l
             let m : suc p + 1 - suc p ≡ p + 1 - p = omega arith in
             let r = within ys p x (sym (ap (λ n. take n (drop p ys)) m) ∙ e) in omega (arith, r)
     flow_keeps (Assigns name) w k usable is next rest flow =
-        flow_assigns (is_blank name) (place_of scope name) k (scope_within scope name) (λ p off there. kind_at (is_blank name) (place_of scope name) p off there usable) (λ off there. none_at (is_blank name) (place_of scope name) off there usable) rest flow
+        flow_assigns (is_blank name) (position_of scope name) k (scope_within scope name) (λ p off there. kind_at (is_blank name) (position_of scope name) p off there usable) (λ off there. none_at (is_blank name) (position_of scope name) off there usable) rest flow
       where
         kind_at : (b : Bool) (o : Option ℕ) (p : ℕ) → b ≡ false → o ≡ Some p → IsUsable w (cond b (default_type w) (option_and_then (λ q. kind_there (slice_get scope q)) o)) → kind_there (slice_get scope p) ≡ Some k
         kind_at true o p off there u = absurd cc
@@ -408,7 +408,7 @@ module _ (code : Code) (f : CodeFunction) (functions : List Signature) (shaped :
       let g1 = grows_one scope (Some (Sets t o)) in
       let g2 = grows (after scope (Some (Sets t o))) ss in
       let all : after_all (after scope (Some (Sets t o))) ss ≡ scope ++ (g1.0 ++ g2.0) = g2.1 ∙ ap (λ (xs : Scope). xs ++ g2.0) g1.1 ∙ append_assoc scope g1.0 g2.0 in
-      let kind : Variable → Kind = λ v. kind_of v.kind in
+      let kind : Variable → WordKind = λ v. kind_of v.kind in
       let extra = local_kinds (g1.0 ++ g2.0) in
       let is : f.locals ≡ local_kinds scope ++ extra = locals ∙ ap local_kinds all ∙ map-append kind scope (g1.0 ++ g2.0) in
       subst (Flows code f []) (sym (append_assoc (gives scope o) (keeps scope t) rest))
@@ -420,15 +420,15 @@ module _ (code : Code) (f : CodeFunction) (functions : List Signature) (shaped :
       declared_kind (Assigns other) name declares k same locals g = absurd cc
       declared_kind (Declares other) name declares k same locals g =
           let v : Variable = record { name = other; kind = default_type (origin_worth scope o) } in
-          let kind : Variable → Kind = λ x. kind_of x.kind in
+          let kind : Variable → WordKind = λ x. kind_of x.kind in
           let is : f.locals ≡ local_kinds (scope ++ v ∷ []) ++ local_kinds g.0 = locals ∙ ap local_kinds g.1 ∙ map-append kind (scope ++ v ∷ []) g.0 in
-          ap (λ (ls : List Kind). slice_range ls (length scope) (length scope + 1)) is ∙ local_at (scope ++ v ∷ []) (local_kinds g.0) (length scope) (omega (arith, length-append scope (v ∷ [])))
+          ap (λ (ls : List WordKind). slice_range ls (length scope) (length scope + 1)) is ∙ local_at (scope ++ v ∷ []) (local_kinds g.0) (length scope) (omega (arith, length-append scope (v ∷ [])))
           ∙ ap (λ o. kind_of (kind_there o) ∷ []) (last_there scope v) ∙ ap (λ k. kind_of k ∷ []) same
 
-  base : (scope : Scope) (ss : List Statement) → f.locals ≡ local_kinds (after_all scope ss) → (extra : List Kind) × (f.locals ≡ local_kinds scope ++ extra)
+  base : (scope : Scope) (ss : List Statement) → f.locals ≡ local_kinds (after_all scope ss) → (extra : List WordKind) × (f.locals ≡ local_kinds scope ++ extra)
   base scope ss locals =
       let g = grows scope ss in
-      let kind : Variable → Kind = λ v. kind_of v.kind in
+      let kind : Variable → WordKind = λ v. kind_of v.kind in
       (local_kinds g.0, locals ∙ ap local_kinds g.1 ∙ map-append kind scope g.0)
 
   flow_action : (scope : Scope) (q : ℕ) (a : Action) (ss : List Statement) (others : List PrintTable) → f.locals ≡ local_kinds (after_all (after scope (Some a)) ss) → IsGoodAction functions scope a → drop q code.prints ≡ table_in scope (Some a) ++ others
@@ -438,7 +438,7 @@ module _ (code : Code) (f : CodeFunction) (functions : List Signature) (shaped :
       let b = base scope ss locals in
       let table : PrintTable = record { parts = map (part_in scope) ps; line = line } in
       let at : slice_get code.prints q ≡ Some table = first_left code.prints q table others tables in
-      let ks : List Kind = part_kinds (map (part_in scope) ps) in
+      let ks : List WordKind = part_kinds (map (part_in scope) ps) in
       let e : print_kinds (slice_get code.prints q) ≡ ks = ap print_kinds at in
       subst (Flows code f []) (sym (append_assoc (pushes_parts scope ps) (instrs.Print q ∷ []) rest))
       (flow_parts code f scope b.0 b.1 ps good [] (instrs.Print q ∷ rest) (flows_step code f [] ks (instrs.Print q) rest (plain_print code f q) (slice_get_within code.prints q table at) (ap length e) (sym e) flow))
@@ -448,7 +448,7 @@ module _ (code : Code) (f : CodeFunction) (functions : List Signature) (shaped :
       let sh : shape_in (element_of (worth scope channel)) ≡ shape_of s = ap (λ o. shape_in (element_of o)) good.1 in
       let i = instrs.Send (shape_of s) in
       let sk = shape_is code f scope b.0 b.1 shaped s in
-      let both : kinds.Chan (shape_of s) ∷ shape_kinds code (shape_of s) ≡ kinds.Chan (shape_of s) ∷ (kind_of (Some (types.Scalar s)) ∷ []) = ap (λ (xs : List Kind). kinds.Chan (shape_of s) ∷ xs) sk in
+      let both : kinds.Chan (shape_of s) ∷ shape_kinds code (shape_of s) ≡ kinds.Chan (shape_of s) ∷ (kind_of (Some (types.Scalar s)) ∷ []) = ap (λ (xs : List WordKind). kinds.Chan (shape_of s) ∷ xs) sk in
       subst (Flows code f []) (sym (ap (λ n. (pushes scope channel ++ (pushes scope item ++ instrs.Send n ∷ [])) ++ rest) sh ∙ append_assoc (pushes scope channel) (pushes scope item ++ i ∷ []) rest ∙ ap (λ xs. pushes scope channel ++ xs) (append_assoc (pushes scope item) (i ∷ []) rest)))
       (flow_pushes code f scope b.0 b.1 channel (types.Channel s) (subst (λ o. IsUsable o (Some (types.Channel s))) (sym good.1) refl) [] (pushes scope item ++ (i ∷ rest))
       (flow_pushes code f scope b.0 b.1 item (types.Scalar s) good.2 (kinds.Chan (shape_of s) ∷ []) (i ∷ rest)
@@ -511,12 +511,12 @@ module _ (file : File) (program : IsProgram file) (most : most_entries file ≤ 
   params_are : (q : ℕ) (fn : Function) → params_in (Some (function_code (signatures file.tops) q fn)) ≡ map kind_of (map (λ (v : Variable). v.kind) (parameters fn))
   params_are q fn =
       let g = grows (parameters fn) (statements_in fn.body) in
-      let kind : Variable → Kind = λ v. kind_of v.kind in
+      let kind : Variable → WordKind = λ v. kind_of v.kind in
       ap (λ (sc : Scope). take (length (parameters fn)) (local_kinds sc)) g.1 ∙ ap (take (length (parameters fn))) (map-append kind (parameters fn) g.0) ∙ front (parameters fn) (local_kinds g.0)
     where
-      front : (scope : Scope) (extra : List Kind) → take (length scope) (local_kinds scope ++ extra) ≡ map kind_of (map (λ (v : Variable). v.kind) scope)
+      front : (scope : Scope) (extra : List WordKind) → take (length scope) (local_kinds scope ++ extra) ≡ map kind_of (map (λ (v : Variable). v.kind) scope)
       front [] extra = refl
-      front (v ∷ vs) extra = ap (λ (xs : List Kind). kind_of v.kind ∷ xs) (front vs extra)
+      front (v ∷ vs) extra = ap (λ (xs : List WordKind). kind_of v.kind ∷ xs) (front vs extra)
 
   callable : Callable (code_of file) (signatures file.tops)
   callable n lt =
@@ -533,13 +533,13 @@ module _ (file : File) (program : IsProgram file) (most : most_entries file ≤ 
       subst (Holds (code_of file)) (same_Some own f (sym at.there ∙ there))
       (holds (code_of file) own flow refl (omega (arith, longer (parameters fn) (statements_in fn.body), length-map (after_all (parameters fn) (statements_in fn.body)) (λ (v : Variable). kind_of v.kind))) (kinds_there (after_all (parameters fn) (statements_in fn.body)) (code_of file) refl))
 
-  shaped : (s : ℕ) (ks : List Kind) → slice_get shapes s ≡ Some ks → IsShaped (code_of file) ks
+  shaped : (s : ℕ) (ks : List WordKind) → slice_get shapes s ≡ Some ks → IsShaped (code_of file) ks
   shaped zero ks at = subst (IsShaped (code_of file)) (same_Some (kinds.Int ∷ []) ks at) (record { some = omega arith; most = omega arith; there = one kinds.Int tt }) where
-    one : (k : Kind) → IsThere (code_of file) k → AreThere (code_of file) (k ∷ [])
+    one : (k : WordKind) → IsThere (code_of file) k → AreThere (code_of file) (k ∷ [])
     one k there zero j e = subst (IsThere (code_of file)) (same_Some k j e) there
     one k there (suc n) j e = absurd cc
   shaped (suc zero) ks at = subst (IsShaped (code_of file)) (same_Some (kinds.Bool ∷ []) ks at) (record { some = omega arith; most = omega arith; there = one kinds.Bool tt }) where
-    one : (k : Kind) → IsThere (code_of file) k → AreThere (code_of file) (k ∷ [])
+    one : (k : WordKind) → IsThere (code_of file) k → AreThere (code_of file) (k ∷ [])
     one k there zero j e = subst (IsThere (code_of file)) (same_Some k j e) there
     one k there (suc n) j e = absurd cc
   shaped (suc (suc s)) ks at = absurd cc

@@ -1,14 +1,14 @@
 -- The code of a file does what the file does, step by step.
 use Rattle.std.proofs.Common.{◌≡◌, ℕ, pos, zero, suc, ◌+◌, ◌-◌, ◌<◌, ◌≤◌, Bool, true, false, cond, List, [], ◌∷◌, ◌++◌, length, drop, take, map, Option, Some, None, option_map, option_and_then, unwrap_or, refl, sym, ap, ◌∙◌, subst, arith, append_assoc, slice_get, codes, length-append}
 use Rattle.std.proofs.lemmas.List.{append-nil, length-map}
-use Rattle.bytecode.specs.declared.instr.Kind.{Kind}
-use Rattle.bytecode.specs.declared.instr.Kind.TheVariants as kinds
+use Rattle.bytecode.specs.declared.instr.WordKind.{WordKind}
+use Rattle.bytecode.specs.declared.instr.WordKind.TheVariants as kinds
 use Rattle.bytecode.specs.declared.instr.Instr.{Instr}
 use Rattle.bytecode.specs.declared.instr.Instr.TheVariants as instrs
 use Rattle.bytecode.specs.declared.table.Part.{Part as TablePart}
 use Rattle.bytecode.specs.Code.{Function as CodeFunction, PrintTable, Code}
 use Rattle.bytecode.specs.Effects.{part_kinds, print_kinds, shape_kinds, params_in}
-use Rattle.bytecode.specs.Machine.{Frames, Step, if_there, printed as code_printed, printed_rest, part_text as code_text, part_rest, pops, code_next, code_answer, code_begin, fitted, zero_of, on_chan, on_int, if_within, reply_words as code_words, code_kind, main_of}
+use Rattle.bytecode.specs.Machine.{Frames, NextFrames, if_there, printed as code_printed, printed_rest, part_text as code_text, part_rest, pops, code_next, code_answer, code_begin, fitted, zero_of, on_chan, on_int, if_within, reply_words as code_words, code_kind, main_of}
 use Rattle.checker_base.specs.declared.types.Scalar.{Scalar}
 use Rattle.checker_base.specs.declared.types.Scalar.TheVariants as scalars
 use Rattle.checker_base.specs.declared.types.ValueType.{ValueType}
@@ -16,7 +16,7 @@ use Rattle.checker_base.specs.declared.types.ValueType.TheVariants as types
 use Rattle.checker_base.specs.declared.worth.Worth.{Worth}
 use Rattle.checker_base.specs.declared.worth.Worth.TheVariants.{Typed, Constant}
 use Rattle.checker_base.specs.Types.{int, type_in}
-use Rattle.checker_base.specs.Scopes.{Variable, Scope, is_blank, place_of, kind_of as kind_there}
+use Rattle.checker_base.specs.Scopes.{Variable, Scope, is_blank, position_of, kind_of as kind_there}
 use Rattle.checker_base.specs.Worths.{worth}
 use Rattle.checker.specs.Actions.{Target, Declares, Assigns, Origin, FromValue, FromReceive, FromMake, Action, Idles, Prints, Sends, Receives, Sets, Starts, action}
 use Rattle.checker.specs.Program.{IsUsable, IsPrintable, AreGoodParts, IsChannel, target_type, AllFit, IsGoodAction, IsGood, AreGood, IsProgram}
@@ -154,7 +154,7 @@ fit_length scope (a ∷ rest) [] f = absurd f
 fit_length scope (a ∷ rest) (k ∷ ks) f = ap suc (fit_length scope rest ks f.1)
 
 pub hidden_name : (fs : List Signature) (scope : Scope) (name : List ℕ) (n : ℕ) → callee fs scope name ≡ Some n → function_of_name fs name ≡ Some n
-hidden_name fs scope name n e = go (is_some (place_of scope name)) e where
+hidden_name fs scope name n e = go (is_some (position_of scope name)) e where
   go : (b : Bool) → cond b None (function_of_name fs name) ≡ Some n → function_of_name fs name ≡ Some n
   go true e = absurd cc
   go false e = e
@@ -199,7 +199,7 @@ module _ (code : Code) (g : ℕ) (f : CodeFunction) (there : slice_get code.func
 -- ---- one goroutine
 
 module _ (file : File) (program : IsProgram file) where
-  abbrev next : Frames → Step
+  abbrev next : Frames → NextFrames
   next = code_next (code file)
 
   located : (n : ℕ) → n < length (functions file) → Located (functions file) (code file).prints file.tops 0 n
@@ -382,7 +382,7 @@ module _ (file : File) (program : IsProgram file) where
 
   fits_target : (bs : Bindings) (t : Target) (o : Origin) (w : Word) → IsUsable (origin_worth (scope_in bs) o) (target_type (scope_in bs) t (origin_worth (scope_in bs) o)) → HasType w (default_type (origin_worth (scope_in bs) o)) → FitsTarget file bs w t
   fits_target bs (Declares name) o w usable has = tt
-  fits_target bs (Assigns name) o w usable has = go (is_blank name) (place_of (scope_in bs) name) usable (place_within bs name) where
+  fits_target bs (Assigns name) o w usable has = go (is_blank name) (position_of (scope_in bs) name) usable (place_within bs name) where
     go : (b : Bool) (p : Option ℕ) → IsUsable (origin_worth (scope_in bs) o) (cond b (default_type (origin_worth (scope_in bs) o)) (option_and_then (λ place. kind_there (slice_get (scope_in bs) place)) p))
         → ((n : ℕ) → p ≡ Some n → n < length bs) → FitsAt file bs w b p
     go true p usable lt = tt
@@ -510,11 +510,11 @@ module _ (file : File) (program : IsProgram file) where
   params_taken q fn =
       let ss = statements_in fn.body in
       let extra = grows (parameters fn) ss in
-      let kind : Variable → Kind = λ v. kind_of v.kind in
+      let kind : Variable → WordKind = λ v. kind_of v.kind in
       let n : length (local_kinds (after_all (parameters fn) ss)) ≡ length (parameters fn) + length extra.0 = length-map (after_all (parameters fn) ss) kind ∙ ap length extra.1 ∙ length-append (parameters fn) extra.0 in
       length-take-le (length (parameters fn)) (local_kinds (after_all (parameters fn) ss)) (omega (arith, n))
     where
-      length-take-le : (n : ℕ) (xs : List Kind) → n ≤ length xs → length (take n xs) ≡ n
+      length-take-le : (n : ℕ) (xs : List WordKind) → n ≤ length xs → length (take n xs) ≡ n
       length-take-le zero xs le = refl
       length-take-le (suc n) [] le = absurd (omega (arith, le))
       length-take-le (suc n) (x ∷ xs) le = ap suc (length-take-le n xs (omega (arith, le)))
@@ -555,7 +555,7 @@ module _ (file : File) (program : IsProgram file) where
 
   store_one : (f : CodeFunction) (p : ℕ) → p < length f.locals → pops (code file) f (instrs.Store p 1) ≡ 1
   store_one f p lt = let e : p + 1 - p ≡ 1 = omega arith in ap (λ n. length (take n (drop p f.locals))) e ∙ one f.locals p lt where
-    one : (xs : List Kind) (p : ℕ) → p < length xs → length (take 1 (drop p xs)) ≡ 1
+    one : (xs : List WordKind) (p : ℕ) → p < length xs → length (take 1 (drop p xs)) ≡ 1
     one [] p lt = absurd (omega (arith, lt))
     one (x ∷ xs) zero lt = refl
     one (x ∷ xs) (suc p) lt = one xs p (omega (arith, lt))
@@ -681,7 +681,7 @@ module _ (file : File) (program : IsProgram file) where
 
   write : (bs : Bindings) (t : Target) (k : Option ValueType) (w : Word) (ss : List Statement) (rest : List Task) (c : Frames) → rest ≡ all_of ss → Writing file bs t k w ss c → WritesTo (written t k w bs) rest c
   write bs (Declares name) k w ss rest c all r = declares bs name k w ss rest c all r.has r.standing
-  write bs (Assigns name) k w ss rest c all r = puts bs w ss rest c (is_blank name) (place_of (scope_in bs) name) all r.standing r.fits
+  write bs (Assigns name) k w ss rest c all r = puts bs w ss rest c (is_blank name) (position_of (scope_in bs) name) all r.standing r.fits
 
   -- ---- every step
 

@@ -17,7 +17,7 @@ use Rattle.bytecode.specs.Code.{Function as CodeFunction, PrintTable, Code}
 use Rattle.bytecode.specs.Effects.{locals_in}
 use Rattle.bytecode.specs.Machine.{Frames, begun as code_begun, code_next, code_begin, main_of}
 use Rattle.checker_base.specs.declared.types.ValueType.{ValueType}
-use Rattle.checker_base.specs.Scopes.{Variable, Scope, is_blank, place_of, kind_of as kind_there}
+use Rattle.checker_base.specs.Scopes.{Variable, Scope, is_blank, position_of, kind_of as kind_there}
 use Rattle.checker.specs.Actions.{Target, Declares, Assigns, Origin, Action, Idles, Prints, Sends, Receives, Sets, Starts, action}
 use Rattle.checker.specs.Program.{AreGood, IsGoodFunction, AreGoodTops}
 use Rattle.checker.specs.Rules.{Signature, default_type, origin_worth, after, after_all, parameters, signature, signatures, function_of_name, kinds_at, has_none, has_main}
@@ -217,7 +217,7 @@ module _ (file : File) where
 
   abbrev pub FitsTarget : Bindings → Word → Target → Type 0
   FitsTarget bs w (Declares name) = Unit {0}
-  FitsTarget bs w (Assigns name) = FitsAt bs w (is_blank name) (place_of (scope_in bs) name)
+  FitsTarget bs w (Assigns name) = FitsAt bs w (is_blank name) (position_of (scope_in bs) name)
 
   -- a word is on the stack, and goes to this
   pub record Writing (bs : Bindings) (t : Target) (k : Option ValueType) (w : Word) (ss : List Statement) (c : Frames) : Type 0 where

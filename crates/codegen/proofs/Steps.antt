@@ -7,7 +7,7 @@ use Rattle.bytecode.specs.declared.instr.Instr.{Instr}
 use Rattle.bytecode.specs.declared.instr.Instr.TheVariants as instrs
 use Rattle.bytecode.specs.Code.{Function, Code}
 use Rattle.bytecode.specs.Effects.{below, top_of, gives}
-use Rattle.bytecode.specs.Machine.{Frame, Frames, Step, fetch, instrs_of, if_there, if_within, instr_next, pops, at_instr, at_function, code_next, told_in, code_answer, choice, selected, reply_words, put_at, fitted, is_told, on_value}
+use Rattle.bytecode.specs.Machine.{Frame, Frames, NextFrames, fetch, instrs_of, if_there, if_within, instr_next, pops, at_instr, at_function, code_next, told_in, code_answer, choice, selected, reply_words, put_at, fitted, is_told, on_value}
 use Rattle.codegen.proofs.Lists.{first_left}
 use Rattle.word.specs.declared.apply.Op.{Op}
 use Rattle.word.specs.Apply.{value}
@@ -17,7 +17,7 @@ use Rattle.word.specs.Values.{Reply}
 use Rattle.word.specs.Kinds.{Next, Slides, Ticks, Stuck}
 use Rattle.word.specs.Related.{Slips, here, more}
 
-pub within : (n have : ℕ) (step : Step) → n ≤ have → if_within n have step ≡ step
+pub within : (n have : ℕ) (step : NextFrames) → n ≤ have → if_within n have step ≡ step
 within n have step le = let b : nat_lt have n ≡ false = grind (arith, nat_tests, le) in ap (λ t. cond t Stuck step) b
 
 pub below_of : {A : Type 0} (low xs : List A) (n : ℕ) → n ≡ length xs → below n (low ++ xs) ≡ low

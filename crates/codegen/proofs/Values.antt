@@ -1,14 +1,14 @@
 -- Words of types, and variables with their values.
 use Rattle.std.proofs.Common.{◌≡◌, ℕ, zero, suc, ◌+◌, ◌-◌, ◌<◌, ℤ, Bool, true, false, cond, List, [], ◌∷◌, ◌++◌, map, length, take, drop, Option, Some, None, option_map, refl, sym, ap, ◌∙◌, arith, slice_get, slice_range, bytes_eq}
 use Rattle.std.proofs.lemmas.Option.{same_Some}
-use Rattle.bytecode.specs.declared.instr.Kind.{Kind}
+use Rattle.bytecode.specs.declared.instr.WordKind.{WordKind}
 use Rattle.bytecode.specs.Machine.{zero_of, as_kind, fitted}
 use Rattle.checker_base.specs.declared.types.Scalar.{Scalar}
 use Rattle.checker_base.specs.declared.types.Scalar.TheVariants as scalars
 use Rattle.checker_base.specs.declared.types.ValueType.{ValueType}
 use Rattle.checker_base.specs.declared.types.ValueType.TheVariants as types
 use Rattle.checker_base.specs.Types.{int}
-use Rattle.checker_base.specs.Scopes.{Scope, place_of, kind_of as kind_there}
+use Rattle.checker_base.specs.Scopes.{Scope, position_of, kind_of as kind_there}
 use Rattle.checker.specs.Source.{Binding, Bindings, declared, scope_in, zero_word, as_word, first_as, bound, word_at, put, channel_in}
 use Rattle.codegen.specs.Generated.{kind_of, local_kinds}
 use Rattle.word.specs.declared.value.Word.{Word}
@@ -84,17 +84,17 @@ chan_word s (Chan c) e = refl
 -- ---- parameters
 
 -- the locals of a function that begins: its parameters' values, and as many zeros as there are other locals
-pub record Begins (params : Scope) (more : List Kind) (ws : List Word) : Type 0 where
+pub record Begins (params : Scope) (more : List WordKind) (ws : List Word) : Type 0 where
   pub spare : List Word
   pub locals : fitted (local_kinds params ++ more) ws ≡ words (bound params ws) ++ spare
   pub size : length spare ≡ length more
 
-fitted_length : (ks : List Kind) (ws : List Word) → length (fitted ks ws) ≡ length ks
+fitted_length : (ks : List WordKind) (ws : List Word) → length (fitted ks ws) ≡ length ks
 fitted_length [] ws = refl
 fitted_length (k ∷ ks) [] = ap suc (fitted_length ks [])
 fitted_length (k ∷ ks) (w ∷ ws) = ap suc (fitted_length ks ws)
 
-pub begins : (params : Scope) (more : List Kind) (ws : List Word) → Begins params more ws
+pub begins : (params : Scope) (more : List WordKind) (ws : List Word) → Begins params more ws
 begins [] more ws = record { spare = fitted more ws; locals = refl; size = fitted_length more ws }
 begins (v ∷ vs) more [] =
     let rest = begins vs more [] in
@@ -115,17 +115,17 @@ bound_typed (v ∷ vs) (w ∷ ws) = (as_has v.kind w, bound_typed vs ws)
 
 -- ---- reading and writing variables
 
-pub place_within : (bs : Bindings) (name : List ℕ) (p : ℕ) → place_of (scope_in bs) name ≡ Some p → p < length bs
+pub place_within : (bs : Bindings) (name : List ℕ) (p : ℕ) → position_of (scope_in bs) name ≡ Some p → p < length bs
 place_within [] name p e = absurd cc
-place_within (b ∷ bs) name p e = go (bytes_eq b.name name) refl (place_of (scope_in bs) name) refl (place_within bs name) where
-  go : (t : Bool) → bytes_eq b.name name ≡ t → (o : Option ℕ) → place_of (scope_in bs) name ≡ o → ((q : ℕ) → place_of (scope_in bs) name ≡ Some q → q < length bs) → p < length (b ∷ bs)
+place_within (b ∷ bs) name p e = go (bytes_eq b.name name) refl (position_of (scope_in bs) name) refl (place_within bs name) where
+  go : (t : Bool) → bytes_eq b.name name ≡ t → (o : Option ℕ) → position_of (scope_in bs) name ≡ o → ((q : ℕ) → position_of (scope_in bs) name ≡ Some q → q < length bs) → p < length (b ∷ bs)
   go true is o there rec =
-      let f : Some 0 ≡ Some p = sym (ap (λ t. cond t (Some 0) (option_map suc (place_of (scope_in bs) name))) is) ∙ e in
+      let f : Some 0 ≡ Some p = sym (ap (λ t. cond t (Some 0) (option_map suc (position_of (scope_in bs) name))) is) ∙ e in
       let z = same_Some 0 p f in omega arith
   go false is None there rec =
-      let f : None ≡ Some p = sym (ap (λ t. cond t (Some 0) (option_map suc (place_of (scope_in bs) name))) is ∙ ap (option_map suc) there) ∙ e in absurd cc
+      let f : None ≡ Some p = sym (ap (λ t. cond t (Some 0) (option_map suc (position_of (scope_in bs) name))) is ∙ ap (option_map suc) there) ∙ e in absurd cc
   go false is (Some q) there rec =
-      let f : Some (suc q) ≡ Some p = sym (ap (λ t. cond t (Some 0) (option_map suc (place_of (scope_in bs) name))) is ∙ ap (option_map suc) there) ∙ e in
+      let f : Some (suc q) ≡ Some p = sym (ap (λ t. cond t (Some 0) (option_map suc (position_of (scope_in bs) name))) is ∙ ap (option_map suc) there) ∙ e in
       let z = same_Some (suc q) p f in let r = rec q there in omega arith
 
 pub read : (bs : Bindings) (spare : List Word) (p : ℕ) → p < length bs → slice_range (words bs ++ spare) p (p + 1) ≡ word_at bs (Some p) ∷ []

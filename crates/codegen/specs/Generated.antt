@@ -3,8 +3,8 @@ use Rattle.std.specs.Str.{is_utf8}
 use Rattle.std.specs.Prelude.{ℕ, ℤ, ◌+◌, pos, Option, Some, None, List, [], ◌∷◌, ◌++◌, map, length, unwrap_or, if◌then◌else◌, bytes_eq, codes}
 use Rattle.bytecode.specs.declared.instr.Instr.{Instr}
 use Rattle.bytecode.specs.declared.instr.Instr.TheVariants as instrs
-use Rattle.bytecode.specs.declared.instr.Kind.{Kind}
-use Rattle.bytecode.specs.declared.instr.Kind.TheVariants as kinds
+use Rattle.bytecode.specs.declared.instr.WordKind.{WordKind}
+use Rattle.bytecode.specs.declared.instr.WordKind.TheVariants as kinds
 use Rattle.bytecode.specs.declared.table.Part.{Part as TablePart}
 use Rattle.bytecode.specs.declared.table.Part.TheVariants as parts
 use Rattle.bytecode.specs.Code.{Function as CodeFunction, PrintTable, Code}
@@ -15,7 +15,7 @@ use Rattle.checker_base.specs.declared.types.ValueType.TheVariants as types
 use Rattle.checker_base.specs.declared.worth.Worth.{Worth}
 use Rattle.checker_base.specs.declared.worth.Worth.TheVariants.{Typed, Constant}
 use Rattle.checker_base.specs.Types.{type_in}
-use Rattle.checker_base.specs.Scopes.{Variable, Scope, is_blank, is_truth, place_of}
+use Rattle.checker_base.specs.Scopes.{Variable, Scope, is_blank, is_truth, position_of}
 use Rattle.checker_base.specs.Worths.{is_int, worth}
 use Rattle.checker.specs.Actions.{Target, Declares, Assigns, Origin, FromValue, FromReceive, FromMake, Action, Idles, Prints, Sends, Receives, Sets, Starts, action}
 use Rattle.checker.specs.Rules.{element_of, channel_type, Signature, callee, after, after_all, parameters, signatures}
@@ -36,12 +36,12 @@ abbrev pub shape_in : Option Scalar → ℕ
 shape_in None = 0
 shape_in (Some s) = shape_of s
 
-abbrev pub kind_of : Option ValueType → Kind
+abbrev pub kind_of : Option ValueType → WordKind
 kind_of (Some (types.Scalar scalars.Bool)) = kinds.Bool
 kind_of (Some (types.Channel s)) = kinds.Chan (shape_of s)
 kind_of kind = kinds.Int
 
-abbrev pub shapes : List (List Kind)
+abbrev pub shapes : List (List WordKind)
 shapes = (kinds.Int ∷ []) ∷ ((kinds.Bool ∷ []) ∷ [])
 
 -- ---- expressions
@@ -66,7 +66,7 @@ operator other = ops.Add
 -- an expression's value is pushed
 abbrev pub pushes : Scope → Expression → List Instr
 pushes scope (Integer value) = folded (worth scope (Integer value)) []
-pushes scope (Named name) = if is_truth name then instrs.Bool (bytes_eq name (codes "true")) ∷ [] else load (place_of scope name)
+pushes scope (Named name) = if is_truth name then instrs.Bool (bytes_eq name (codes "true")) ∷ [] else load (position_of scope name)
 pushes scope (Parenthesized inner) = pushes scope inner
 pushes scope (Unary o operand) = folded (worth scope (Unary o operand)) (pushes scope operand ++ instrs.Apply ops.Neg ∷ [])
 pushes scope (Binary o left right) = folded (worth scope (Binary o left right)) (pushes scope left ++ (pushes scope right ++ instrs.Apply (operator o) ∷ []))
@@ -106,7 +106,7 @@ store (Some place) = instrs.Store place 1 ∷ (instrs.Tick ∷ [])
 
 abbrev pub keeps : Scope → Target → List Instr
 keeps scope (Declares name) = store (Some (length scope))
-keeps scope (Assigns name) = if is_blank name then instrs.Discard 1 ∷ (instrs.Tick ∷ []) else store (place_of scope name)
+keeps scope (Assigns name) = if is_blank name then instrs.Discard 1 ∷ (instrs.Tick ∷ []) else store (position_of scope name)
 
 abbrev pub receive : Scope → Expression → List Instr
 receive scope channel = pushes scope channel ++ instrs.Receive (shape_in (element_of (worth scope channel))) ∷ []
@@ -142,7 +142,7 @@ tables_of scope (statement ∷ rest) = table_in scope (action statement) ++ tabl
 
 -- ---- functions
 
-abbrev pub local_kinds : Scope → List Kind
+abbrev pub local_kinds : Scope → List WordKind
 local_kinds scope = map (λ (v : Variable). kind_of v.kind) scope
 
 -- a function's name as text, which it always is

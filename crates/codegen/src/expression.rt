@@ -1,7 +1,7 @@
 //! The instructions that push values.
 
 ghost use Rattle.std.specs.Prelude.{◌≡◌, ◌^◌, ◌<◌, ◌++◌, IfOk, OnOk, length, map, Option};
-ghost use Rattle.checker_base.specs.Scopes.{scope_of, place_of as spec_place_of};
+ghost use Rattle.checker_base.specs.Scopes.{scope_of, position_of as spec_place_of};
 ghost use Rattle.checker_base.specs.Worths.{worth as spec_worth};
 ghost use Rattle.syntax.specs.Tree.{Named};
 ghost use Rattle.checker.specs.Rules.{element_of};
@@ -10,7 +10,7 @@ ghost use Rattle.syntax.specs.View.{expression_of, part_of};
 
 use bytecode::{Instr, Part, Text};
 use checker_base::operand::worth;
-use checker_base::scope::{Entry, is_truth, place_of};
+use checker_base::scope::{Entry, is_truth, position_of};
 use checker_base::types::{Scalar, ValueType};
 use checker_base::worth::{Worth, is_int};
 use std::alloc::{AllocError, Global};
@@ -59,7 +59,7 @@ fn push_variable(instrs: &mut Vec<Instr>, scope: &[Entry], name: &[u8]) -> Resul
     requires { length scope.now < 2 ^ 32 }
     ensures { OnOk result (instrs.new.items ≡ instrs.old.items ++ load (spec_place_of (scope_of scope.now) name.now)) }
 {
-    if let Some(place) = place_of(scope, name) {
+    if let Some(place) = position_of(scope, name) {
         instrs.push(Instr::Load(place as u32, 1))?;
     }
     Ok(())

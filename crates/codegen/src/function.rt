@@ -11,7 +11,7 @@ ghost use Rattle.syntax.specs.View.{name_of, declared_of, statement_of, function
 
 use crate::expression::shape_of;
 use crate::statement::{declare, put_body};
-use bytecode::{Function, Kind, PrintTable};
+use bytecode::{Function, PrintTable, WordKind};
 use checker_base::scope::Entry;
 use checker_base::types::{Scalar, ValueType, type_in};
 use std::alloc::{AllocError, Global};
@@ -46,7 +46,7 @@ fn declare_parameters(
     let Some((one, rest)) = declared.split_first() else {
         return Ok(());
     };
-    let Some(kind) = type_in(&one.kind) else {
+    let Some(kind) = type_in(&one.type_node) else {
         unreachable!()
     };
     declare_all(alloc, scope, kind, one.names.as_slice())?;
@@ -55,18 +55,18 @@ fn declare_parameters(
 }
 
 /// The kind of a word of a type.
-fn kind_of(kind: ValueType) -> Kind
+fn kind_of(kind: ValueType) -> WordKind
     ensures { result ≡ kind_of (Some kind) }
 {
     match kind {
-        ValueType::Scalar(Scalar::Int) => Kind::Int,
-        ValueType::Scalar(Scalar::Bool) => Kind::Bool,
-        ValueType::Channel(element) => Kind::Chan(shape_of(element)),
+        ValueType::Scalar(Scalar::Int) => WordKind::Int,
+        ValueType::Scalar(Scalar::Bool) => WordKind::Bool,
+        ValueType::Channel(element) => WordKind::Chan(shape_of(element)),
     }
 }
 
 /// The kinds of variables.
-fn kinds_of(alloc: Global, scope: &[Entry]) -> Result<Vec<Kind>, AllocError>
+fn kinds_of(alloc: Global, scope: &[Entry]) -> Result<Vec<WordKind>, AllocError>
     ensures { IfOk result (λ kinds. kinds.items ≡ local_kinds (scope_of scope.now)) }
 {
     let mut kinds = Vec::new(alloc);

@@ -15,7 +15,7 @@ ghost use Rattle.syntax.specs.View.{top_of, file_of};
 ghost use Rattle.word.specs.Worlds.{Equal};
 
 use crate::function::function;
-use bytecode::{Code, Function, Kind, PrintTable, Shape};
+use bytecode::{Code, Function, PrintTable, Shape, WordKind};
 use checker::Typed;
 use go_text::Fault;
 use std::alloc::{AllocError, Global};
@@ -25,8 +25,8 @@ use syntax::{FileNode, TopNode};
 fn shapes(alloc: Global) -> Result<Vec<Shape>, AllocError>
     ensures { IfOk result (λ made. made.items ≡ shapes) }
 {
-    let ints = Shape::new(Vec::from_array(alloc, [Kind::Int])?);
-    let bools = Shape::new(Vec::from_array(alloc, [Kind::Bool])?);
+    let ints = Shape::new(Vec::from_array(alloc, [WordKind::Int])?);
+    let bools = Shape::new(Vec::from_array(alloc, [WordKind::Bool])?);
     let mut made = Vec::new(alloc);
     made.push(ints)?;
     made.push(bools)?;

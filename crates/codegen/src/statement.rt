@@ -15,7 +15,7 @@ use crate::expression::{parts_in, push_all, push_parts, push_value, shape_in, sh
 use bytecode::{Instr, PrintTable};
 use checker::action::{Action, Origin, Target, action_in};
 use checker_base::operand::worth;
-use checker_base::scope::{Entry, is_blank, place_of};
+use checker_base::scope::{Entry, is_blank, position_of};
 use checker_base::types::{INT, ValueType, type_in};
 use checker_base::worth::Worth;
 use std::alloc::{AllocError, Global};
@@ -49,7 +49,7 @@ fn keep(instrs: &mut Vec<Instr>, scope: &[Entry], target: &Target<'_>) -> Result
                 instrs.push(Instr::Tick)?;
                 return Ok(());
             }
-            store(instrs, place_of(scope, name.bytes.as_slice()))?;
+            store(instrs, position_of(scope, name.bytes.as_slice()))?;
             Ok(())
         }
     }
@@ -126,7 +126,7 @@ fn callee(tops: &[TopNode], scope: &[Entry], name: &[u8]) -> usize
     ensures number { result ≡ unwrap_or (callee (signatures (map top_of tops.now)) (scope_of scope.now) name.now) 0 }
     ensures small { length tops.now < 2 ^ 32 → result < 2 ^ 32 }
 {
-    if place_of(scope, name).is_some() {
+    if position_of(scope, name).is_some() {
         return 0;
     }
     match function_number(tops, name) {

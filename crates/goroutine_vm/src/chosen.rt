@@ -6,18 +6,18 @@ ghost use Rattle.bytecode.specs.Machine.{fitted, way_of};
 ghost use Rattle.bytecode.specs.Rules.{IsVerified};
 
 use crate::told::{Told, tell, tell_with_truth};
-use bytecode::{Clause, Code, Kind};
+use bytecode::{Clause, Code, WordKind};
 use operands::width::clauses_of;
 use word::value::Word;
 
 /// An item of a shape and a truth value.
 pub(crate) fn tell_item(code: &Code, shape: u32, words: &[Word]) -> Told
     requires { IsVerified code.now }
-    ensures { result ≡ fitted (shape_kinds code.now shape ++ Kind.Bool ∷ []) words.now }
+    ensures { result ≡ fitted (shape_kinds code.now shape ++ WordKind.Bool ∷ []) words.now }
 {
     match code.shapes().get(shape as usize) {
         Some(shape) => tell_with_truth(shape.kinds(), words),
-        None => tell(&[Kind::Bool], words),
+        None => tell(&[WordKind::Bool], words),
     }
 }
 

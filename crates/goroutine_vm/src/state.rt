@@ -13,7 +13,7 @@ ghost use Rattle.word.specs.Views.{reply_of, request_of};
 use crate::frames::Frames;
 use crate::told::words_of;
 use go_text::Memory;
-use goroutine_vm_base::outcome::Step;
+use goroutine_vm_base::outcome::Stepped;
 use logical_clock::Clock;
 use std::alloc::{AllocError, Global};
 use std::marker::Model;
@@ -188,16 +188,16 @@ impl GoState {
         }
         let may = self.clock.time() < limit;
         match self.frames.step(alloc, code.code(), may)? {
-            Step::Slid => Ok(false),
-            Step::Ticked => {
+            Stepped::Slid => Ok(false),
+            Stepped::Ticked => {
                 if !may {
                     return Ok(true);
                 }
                 self.clock = Clock::at(self.clock.time() + 1);
                 Ok(false)
             }
-            Step::Asking => Ok(true),
-            Step::Stuck => unreachable!(),
+            Stepped::Asking => Ok(true),
+            Stepped::Stuck => unreachable!(),
         }
     }
 

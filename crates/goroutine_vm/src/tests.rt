@@ -2,7 +2,7 @@ ghost use Rattle.std.specs.Prelude.{◌≤◌, ◌^◌, IfOk};
 ghost use Rattle.goroutine_vm.specs.Advance.{IsStateOf};
 
 use crate::{GoState, Stop, spawn_state};
-use bytecode::{Clause, Code, Function, Instr, Kind, Part, PrintTable, SelectTable, Shape};
+use bytecode::{Clause, Code, Function, Instr, Part, PrintTable, SelectTable, Shape, WordKind};
 use go_text::{Fault, Memory};
 use logical_clock::{Clock, LAST};
 use std::alloc::{AllocError, Global};
@@ -17,7 +17,7 @@ use word::value::{Item, Word};
 fn function(
     alloc: Global,
     name: &str,
-    kinds: (u32, &[Kind], &[Kind]),
+    kinds: (u32, &[WordKind], &[WordKind]),
     instrs: &[Instr],
 ) -> Result<Function, AllocError> {
     let (params, locals, results) = kinds;
@@ -39,10 +39,20 @@ fn program(alloc: Global, instrs: &[Instr]) -> Result<Verified, Fault> {
         Instr::Return,
     ];
     let mut functions = Vec::new(alloc);
-    functions.push(function(alloc, "main", (0, &[Kind::Int, Kind::Int], &[]), instrs)?)?;
-    functions.push(function(alloc, "square", (1, &[Kind::Int], &[Kind::Int]), &square)?)?;
+    functions.push(function(
+        alloc,
+        "main",
+        (0, &[WordKind::Int, WordKind::Int], &[]),
+        instrs,
+    )?)?;
+    functions.push(function(
+        alloc,
+        "square",
+        (1, &[WordKind::Int], &[WordKind::Int]),
+        &square,
+    )?)?;
     let mut shapes = Vec::new(alloc);
-    shapes.push(Shape::new(Vec::from_slice(alloc, &[Kind::Int])?))?;
+    shapes.push(Shape::new(Vec::from_slice(alloc, &[WordKind::Int])?))?;
     let mut prints = Vec::new(alloc);
     prints.push(PrintTable::new(Vec::from_array(alloc, [Part::Int])?, true))?;
     prints.push(PrintTable::new(Vec::from_array(alloc, [Part::Bool])?, true))?;

@@ -3,7 +3,7 @@
 ghost use Rattle.std.specs.Prelude.{◌≡◌, ◌≤◌, ◌<◌, ◌++◌, ◌∷◌, [], length};
 ghost use Rattle.bytecode.specs.Machine.{fitted as fitted_of};
 
-use bytecode::Kind;
+use bytecode::WordKind;
 use operands::kinds::word_at;
 use std::marker::Model;
 use word::value::{Item, Word};
@@ -75,7 +75,7 @@ impl Told {
 }
 
 /// These words, of these kinds.
-pub(crate) fn tell(kinds: &[Kind], words: &[Word]) -> Told
+pub(crate) fn tell(kinds: &[WordKind], words: &[Word]) -> Told
     requires { length kinds.now ≤ 17 }
     ensures { result ≡ fitted_of kinds.now words.now }
 {
@@ -87,12 +87,12 @@ pub(crate) fn tell(kinds: &[Kind], words: &[Word]) -> Told
 }
 
 /// These words, of these kinds, and a truth value behind them.
-pub(crate) fn tell_with_truth(kinds: &[Kind], words: &[Word]) -> Told
+pub(crate) fn tell_with_truth(kinds: &[WordKind], words: &[Word]) -> Told
     requires { length kinds.now ≤ 16 }
-    ensures { result ≡ fitted_of (kinds.now ++ Kind.Bool ∷ []) words.now }
+    ensures { result ≡ fitted_of (kinds.now ++ WordKind.Bool ∷ []) words.now }
 {
     let mut told = tell(kinds, words);
-    told.push(word_at(Kind::Bool, words, kinds.len()));
+    told.push(word_at(WordKind::Bool, words, kinds.len()));
     told
 }
 

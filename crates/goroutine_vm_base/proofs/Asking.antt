@@ -1,10 +1,10 @@
 -- What the instructions that ask do ask.
 use Rattle.std.proofs.Common.{◌≡◌, ℕ, ℤ, zero, suc, ◌+◌, ◌<◌, ◌≤◌, Bool, false, cond, List, [], ◌∷◌, length, drop, map, Option, Some, None, Result, Ok, Err, refl, sym, ap, ◌∙◌, subst, arith, get_or, nat_lt, slice_get}
 use Rattle.std.proofs.lemmas.Bool.Decides.{nat_tests}
-use Rattle.bytecode.specs.declared.instr.Kind.{Kind}
+use Rattle.bytecode.specs.declared.instr.WordKind.{WordKind}
 use Rattle.bytecode.specs.declared.instr.Instr.TheVariants as instrs
 use Rattle.bytecode.specs.Code.{Function, Code}
-use Rattle.bytecode.specs.Machine.{Frame, Frames, Step as NextStep, zero_of, if_there, if_within, on_int, applied, on_value, pushed, printed, instr_next}
+use Rattle.bytecode.specs.Machine.{Frame, Frames, NextFrames as NextStep, zero_of, if_there, if_within, on_int, applied, on_value, pushed, printed, instr_next}
 use Rattle.std.specs.Option.{is_some}
 use Rattle.std.specs.Global.{Vec}
 use Rattle.bytecode.specs.Code.{PrintTable}
@@ -17,6 +17,7 @@ use Rattle.word.specs.declared.value.Word.TheVariants.{Int}
 use Rattle.word.specs.declared.panic.Panic.{Panic as Cause}
 use Rattle.word.specs.Values.{Make, Go, Print}
 use Rattle.word.specs.Kinds.{Slides, Ticks, Asks, Stuck}
+use Rattle.bytecode.proofs.Options.{get_some}
 
 pub drop_one : (st : List Word) (at : ℕ) (w : Word) → at + 1 ≡ length st → w ≡ get_or st at w → drop at st ≡ w ∷ []
 drop_one [] at w h e = absurd (omega (arith, h))
@@ -24,7 +25,7 @@ drop_one (x ∷ []) zero w h e = ap (λ (y : Word). y ∷ []) (sym e)
 drop_one (x ∷ (y ∷ st)) zero w h e = absurd (omega (arith, h))
 drop_one (x ∷ st) (suc at) w h e = drop_one st at w (omega (arith, h)) e
 
-pub make_for : (shapes : List (List Kind)) (s : ℕ) (ks : List Kind) (top : List Word) (n m : ℤ) (item : List Word) → slice_get shapes s ≡ Some ks → length ks ≤ 16 → top ≡ Int n ∷ [] → m ≡ n → item ≡ map zero_of ks
+pub make_for : (shapes : List (List WordKind)) (s : ℕ) (ks : List WordKind) (top : List Word) (n m : ℤ) (item : List Word) → slice_get shapes s ≡ Some ks → length ks ≤ 16 → top ≡ Int n ∷ [] → m ≡ n → item ≡ map zero_of ks
     → AsksFor (if_there (slice_get shapes s) (λ xs. if_within (length xs) 16 (on_int top (λ x. Asks (Make x (map zero_of xs)))))) (Some (asked.Make m item))
 make_for shapes s ks top n m item here short one same is =
     let b : nat_lt 16 (length ks) ≡ false = grind (arith, nat_tests, short) in
@@ -32,11 +33,6 @@ make_for shapes s ks top n m item here short one same is =
     (subst (λ (t : Bool). AsksFor (cond t Stuck (on_int top (λ x. Asks (Make x (map zero_of ks))))) (Some (asked.Make m item))) (sym b)
     (subst (λ (ws : List Word). AsksFor (on_int ws (λ x. Asks (Make x (map zero_of ks)))) (Some (asked.Make m item))) (sym one)
     (ap (λ x. Make x item) same ∙ ap (Make n) is)))
-
-get_some : {A : Type 0} → (xs : List A) (n : ℕ) → n < length xs → (x : A) × (slice_get xs n ≡ Some x)
-get_some [] n h = absurd (omega (arith, h))
-get_some (x ∷ xs) zero h = (x, refl)
-get_some (x ∷ xs) (suc n) h = get_some xs n (omega (arith, h))
 
 pub go_for : (functions : List Function) (g : ℕ) (top : List Word) (args : Vec Word) → g < length functions → args.items ≡ top → AsksFor (if_there (slice_get functions g) (λ f. Asks (Go g top))) (Some (asked.Go g args))
 go_for functions g top args below is =

@@ -5,7 +5,7 @@ ghost use Rattle.bytecode.specs.Machine.{Frame as FrameValue, Frames, begun, goe
 ghost use Rattle.goroutine_vm_base.specs.Steps.{Resumes};
 
 use crate::frame::{Frame, empty};
-use bytecode::Kind;
+use bytecode::WordKind;
 use std::alloc::{AllocError, Global};
 use std::marker::Model;
 use std::mem::swap;
@@ -86,7 +86,7 @@ impl CallStack {
     pub(crate) fn enter(
         &mut self,
         alloc: Global,
-        locals: &[Kind],
+        locals: &[WordKind],
         function: usize,
         at: usize,
     ) -> Result<(), AllocError>
@@ -139,7 +139,7 @@ fn keep_one(alloc: Global, frames: &mut Vec<Frame>, depth: usize) -> Result<(), 
 fn call_next(
     frames: &mut [Frame],
     place: usize,
-    locals: &[Kind],
+    locals: &[WordKind],
     function: usize,
     at: usize,
 ) -> Result<(), AllocError>

@@ -9,14 +9,12 @@ ghost use Rattle.word.specs.Kinds.{Stuck, Ticks};
 
 use crate::call_stack::CallStack;
 use crate::frame::Frame;
-use crate::outcome::Step;
+use crate::outcome::Stepped;
 use bytecode::{Code, Instr};
 use std::alloc::{AllocError, Global};
 use word::apply::{Op, checked_apply};
+use word::limits::MAX_DEPTH;
 use word::value::Word;
-
-/// The most functions that wait for one another, the running one counted.
-const MAX_DEPTH: usize = 1000;
 
 /// Pushes a word, and goes on to the next instruction.
 pub(crate) fn push(frame: &mut Frame, word: Word) -> Result<(), AllocError>
@@ -118,7 +116,7 @@ pub(crate) fn go_to(frame: &mut Frame, to: usize, at: usize)
 
 /// Puts an operator's value in place of its operands, and goes on; or asks to panic.
 #[inline(always)]
-pub(crate) fn operate(frame: &mut Frame, op: Op, at: usize) -> Step
+pub(crate) fn operate(frame: &mut Frame, op: Op, at: usize) -> Stepped
     requires place { frame.old.place + 1 < 2 ^ 64 }
     requires at { at + count (operands op) ≡ length frame.old.stack }
     ensures step { (may : Bool) → (code : CodeValue) → (callers : Frames) → Does may (frame.old ∷ callers) (instr_next code frame.old callers (take at frame.old.stack) (drop at frame.old.stack) (Instr.Apply op)) result (frame.new ∷ callers) }
@@ -126,19 +124,19 @@ pub(crate) fn operate(frame: &mut Frame, op: Op, at: usize) -> Step
 {
     let last = frame.stack.len() - 1;
     match checked_apply(op, frame.stack[at], frame.stack[last]) {
-        None => Step::Stuck,
-        Some(Err(_)) => Step::Asking,
+        None => Stepped::Stuck,
+        Some(Err(_)) => Stepped::Asking,
         Some(Ok(word)) => {
             frame.stack[at] = word;
             frame.stack.truncate(at + 1);
             frame.place += 1;
-            Step::Slid
+            Stepped::Slid
         }
     }
 }
 
 /// Goes on where the truth value on the top is true, else to a place.
-pub(crate) fn choose(frame: &mut Frame, to: usize, at: usize) -> Step
+pub(crate) fn choose(frame: &mut Frame, to: usize, at: usize) -> Stepped
     requires place { frame.old.place + 1 < 2 ^ 64 }
     requires at { at + 1 ≡ length frame.old.stack }
     requires small { to < 2 ^ 32 }
@@ -149,13 +147,13 @@ pub(crate) fn choose(frame: &mut Frame, to: usize, at: usize) -> Step
         Word::Bool(true) => {
             let next = frame.place + 1;
             go_to(frame, next, at);
-            Step::Slid
+            Stepped::Slid
         }
         Word::Bool(false) => {
             go_to(frame, to, at);
-            Step::Slid
+            Stepped::Slid
         }
-        Word::Int(_) | Word::Chan(_) => Step::Stuck,
+        Word::Int(_) | Word::Chan(_) => Stepped::Stuck,
     }
 }
 
@@ -168,7 +166,7 @@ pub(crate) fn call(
     frames: &mut CallStack,
     function: u32,
     at: usize,
-) -> Result<Step, AllocError>
+) -> Result<Stepped, AllocError>
     requires some { 0 < length frames.old }
     requires at { (c : FrameValue) → (cs : Frames) → frames.old ≡ c ∷ cs → at ≤ length c.stack }
     requires place { (c : FrameValue) → (cs : Frames) → frames.old ≡ c ∷ cs → c.place + 1 < 2 ^ 64 }
@@ -178,22 +176,22 @@ pub(crate) fn call(
 {
     let functions = code.functions();
     if function as usize >= functions.len() {
-        return Ok(Step::Stuck);
+        return Ok(Stepped::Stuck);
     }
     if frames.len() >= MAX_DEPTH {
-        return Ok(Step::Asking);
+        return Ok(Stepped::Asking);
     }
     if !may {
-        return Ok(Step::Ticked);
+        return Ok(Stepped::Ticked);
     }
     let locals = functions[function as usize].locals();
     frames.enter(alloc, locals, function as usize, at)?;
-    Ok(Step::Ticked)
+    Ok(Stepped::Ticked)
 }
 
 /// The last function called returns to its caller with the words on its stack; or asks to end.
 #[inline(always)]
-pub(crate) fn leave(frames: &mut CallStack, at: usize) -> Result<Step, AllocError>
+pub(crate) fn leave(frames: &mut CallStack, at: usize) -> Result<Stepped, AllocError>
     requires some { 0 < length frames.old }
     requires at { (c : FrameValue) → (cs : Frames) → frames.old ≡ c ∷ cs → at ≤ length c.stack }
     ensures ok { IfOk result (λ step. (may : Bool) → (code : CodeValue) → (c : FrameValue) → (cs : Frames) → frames.old ≡ c ∷ cs → Does may frames.old (instr_next code c cs (take at c.stack) (drop at c.stack) Instr.Return) step frames.new) }
@@ -201,13 +199,13 @@ pub(crate) fn leave(frames: &mut CallStack, at: usize) -> Result<Step, AllocErro
     ensures some { 0 < length frames.new }
 {
     if at > 0 {
-        return Ok(Step::Stuck);
+        return Ok(Stepped::Stuck);
     }
     if frames.len() == 1 {
-        return Ok(Step::Asking);
+        return Ok(Stepped::Asking);
     }
     frames.resume()?;
-    Ok(Step::Slid)
+    Ok(Stepped::Slid)
 }
 
 /// The running function calls another with the words from a place of its stack on.
@@ -219,7 +217,7 @@ fn call_from(
     callers: &mut CallStack,
     function: u32,
     at: usize,
-) -> Result<Step, AllocError>
+) -> Result<Stepped, AllocError>
     requires place { frame.old.place + 1 < 2 ^ 64 }
     requires at { at ≤ length frame.old.stack }
     ensures ok { IfOk result (λ step. Does may (frame.old ∷ callers.old) (instr_next code.now frame.old callers.old (take at frame.old.stack) (drop at frame.old.stack) (Instr.Call function)) step (frame.new ∷ callers.new)) }
@@ -237,7 +235,7 @@ fn leave_from(
     frame: &mut Frame,
     callers: &mut CallStack,
     at: usize,
-) -> Result<Step, AllocError>
+) -> Result<Stepped, AllocError>
     requires at { at ≤ length frame.old.stack }
     ensures ok { IfOk result (λ step. (may : Bool) → (code : CodeValue) → Does may (frame.old ∷ callers.old) (instr_next code frame.old callers.old (take at frame.old.stack) (drop at frame.old.stack) Instr.Return) step (frame.new ∷ callers.new)) }
     ensures err { OnErr result ((frame.new ≡ frame.old) × (callers.new ≡ callers.old)) }
@@ -257,7 +255,7 @@ pub(crate) fn instr(
     callers: &mut CallStack,
     i: Instr,
     at: usize,
-) -> Result<Step, AllocError>
+) -> Result<Stepped, AllocError>
     requires place { frame.old.place + 1 < 2 ^ 64 }
     requires at { FitsAt i at (length frame.old.stack) }
     requires below { at ≤ length frame.old.stack }
@@ -268,43 +266,43 @@ pub(crate) fn instr(
     match i {
         Instr::Int(number) => {
             push(frame, Word::Int(number))?;
-            Ok(Step::Slid)
+            Ok(Stepped::Slid)
         }
         Instr::Bool(truth) => {
             push(frame, Word::Bool(truth))?;
-            Ok(Step::Slid)
+            Ok(Stepped::Slid)
         }
         Instr::Nil(_) => {
             push(frame, Word::Chan(None))?;
-            Ok(Step::Slid)
+            Ok(Stepped::Slid)
         }
         Instr::Load(a, n) => {
             let to = a as usize + n as usize;
             if to > frame.locals.len() {
-                return Ok(Step::Stuck);
+                return Ok(Stepped::Stuck);
             }
             load(frame, a as usize, to)?;
-            Ok(Step::Slid)
+            Ok(Stepped::Slid)
         }
         Instr::Store(a, n) => {
             if a as usize + n as usize > frame.locals.len() {
-                return Ok(Step::Stuck);
+                return Ok(Stepped::Stuck);
             }
             store(frame, a as usize, at);
-            Ok(Step::Slid)
+            Ok(Stepped::Slid)
         }
         Instr::Pick(t, a, n) => {
             let to = a as usize + n as usize;
             if to > t as usize {
-                return Ok(Step::Stuck);
+                return Ok(Stepped::Stuck);
             }
             pick(alloc, frame, at, a as usize, to)?;
-            Ok(Step::Slid)
+            Ok(Stepped::Slid)
         }
         Instr::Discard(_) => {
             let next = frame.place + 1;
             go_to(frame, next, at);
-            Ok(Step::Slid)
+            Ok(Stepped::Slid)
         }
         Instr::Apply(op) => Ok(operate(frame, op, at)),
         Instr::Tick => {
@@ -313,7 +311,7 @@ pub(crate) fn instr(
         }
         Instr::Jump(to) => {
             go_to(frame, to as usize, at);
-            Ok(Step::Slid)
+            Ok(Stepped::Slid)
         }
         Instr::Unless(to) => Ok(choose(frame, to as usize, at)),
         Instr::Loop(to) => Ok(tick_to(may, frame, to as usize, at)),
@@ -327,17 +325,17 @@ pub(crate) fn instr(
         | Instr::Len
         | Instr::Cap
         | Instr::Print(_)
-        | Instr::Select(_) => Ok(Step::Asking),
+        | Instr::Select(_) => Ok(Stepped::Asking),
     }
 }
 
 /// Goes to a place where a tick may be made, with what lies below another place of the stack.
-pub(crate) fn tick_to(may: bool, frame: &mut Frame, to: usize, at: usize) -> Step
+pub(crate) fn tick_to(may: bool, frame: &mut Frame, to: usize, at: usize) -> Stepped
     ensures step { (callers : Frames) → Does may (frame.old ∷ callers) (Ticks (goes_to frame.old to (take at frame.old.stack) ∷ callers)) result (frame.new ∷ callers) }
     ensures same { frame.new.function ≡ frame.old.function }
 {
     if may {
         go_to(frame, to, at);
     }
-    Step::Ticked
+    Stepped::Ticked
 }

@@ -2,7 +2,7 @@
 
 /// What one instruction did.
 #[derive(Clone, Copy, Debug, PartialEq, Eq)]
-pub enum Step {
+pub enum Stepped {
     /// A step that costs nothing.
     Slid,
     /// A step that costs one, which is made below the limit alone.

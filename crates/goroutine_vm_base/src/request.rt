@@ -18,15 +18,10 @@ use operands::kinds::zeros;
 use operands::print::print;
 use std::alloc::{AllocError, Global};
 use word::apply::{Op, checked_apply};
+use word::limits::{MAX_DEPTH, MAX_WORDS};
 use word::panic::Panic;
 use word::request::Request;
 use word::value::{Item, Word};
-
-/// The most words of an item.
-const MAX_WORDS: usize = 16;
-
-/// The most functions that wait for one another, the running one counted.
-const MAX_DEPTH: usize = 1000;
 
 /// What a make asks.
 fn make(

@@ -10,7 +10,7 @@ use crate::call_stack::CallStack;
 use crate::fetch::fetch;
 use crate::frame::Frame;
 use crate::instrs::instr;
-use crate::outcome::Step;
+use crate::outcome::Stepped;
 use bytecode::Code;
 use std::alloc::{AllocError, Global};
 
@@ -21,7 +21,7 @@ pub fn step(
     may: bool,
     frame: &mut Frame,
     callers: &mut CallStack,
-) -> Result<Step, AllocError>
+) -> Result<Stepped, AllocError>
     requires verified { IsVerified code.now }
     requires sound { code_next code.now (frame.old ∷ callers.old) ≡ Stuck → ⊥ }
     ensures ok { IfOk result (λ step. Does may (frame.old ∷ callers.old) (code_next code.now (frame.old ∷ callers.old)) step (frame.new ∷ callers.new)) }

@@ -35,7 +35,7 @@ both_parts {A = A} {B = B} f g (Some x) a b first second =
 
 -- a command that does this with this file asks for both
 pub asked : (found : Option (Text × List Row)) (name : Text) (rows : List Row) (invocation : Invocation) → found ≡ Some (name, rows)
-    → Does name rows invocation.action → Some invocation.file.now ≡ first_of (codes "FILE") rows → IsAsked found (Some invocation)
+    → Does name rows invocation.subcommand → Some invocation.file.now ≡ first_of (codes "FILE") rows → IsAsked found (Some invocation)
 asked found name rows invocation is does file = subst (λ x. IsAsked x (Some invocation)) (sym is) (does, sym file)
 
 -- without a file it asks for nothing

@@ -1,10 +1,10 @@
 -- What a command finds in a text, and the exit status that tells it.
 use Rattle.std.proofs.Common.{◌≡◌, ℕ, ◌≤◌, ◌⊎◌, inl, inr, List, Result, Ok, Err, IfOk, IfErr, refl, sym, subst, arith}
 use Rattle.kendo.specs.Answers.{EndsAs, Finds, HasReading, IsStatus, Tells}
-use Rattle.kendo.specs.declared.arguments.Action.{Action}
-use Rattle.kendo.specs.declared.arguments.Action.TheVariants as actions
+use Rattle.kendo.specs.declared.arguments.Subcommand.{Subcommand}
+use Rattle.kendo.specs.declared.arguments.Subcommand.TheVariants as subcommands
 use Rattle.kendo_base.specs.Outcome.{fault_status, report_status}
-use Rattle.kendo_base.specs.Reading.{HasNoReading, IsRefusal, IsWhy, number_of}
+use Rattle.kendo_base.specs.Reading.{HasNoReading, IsRefusal, IsWhy, fault_number}
 use Rattle.kendo_base.specs.Runs.{IsLimit, IsWorkers}
 use Rattle.go_text.specs.declared.fault.Fault.{Fault}
 use Rattle.go_text.specs.declared.fault.Fault.TheVariants as faults
@@ -12,22 +12,22 @@ use Rattle.word.specs.declared.end.End.{End}
 use Rattle.word.specs.declared.end.End.TheVariants.{Finished, Panicked, Deadlock, Exhausted}
 
 pub list_finds : (text : List ℕ) (result : Result End Fault) → IfOk result (λ end. (end ≡ Finished) × HasReading text)
-    → IfErr result (λ fault. IsRefusal fault ⊎ (13 ≤ number_of fault)) → IfErr result (λ fault. IsRefusal fault → HasNoReading text)
-    → IfErr result (λ fault. IsRefusal fault → IsWhy text fault) → Finds actions.List text result
+    → IfErr result (λ fault. IsRefusal fault ⊎ (13 ≤ fault_number fault)) → IfErr result (λ fault. IsRefusal fault → HasNoReading text)
+    → IfErr result (λ fault. IsRefusal fault → IsWhy text fault) → Finds subcommands.List text result
 list_finds text (Ok end) listed only refused why = listed
 list_finds text (Err fault) listed only refused why = (only, λ is. (refused is, why is))
 
 pub run_finds : (workers limit : ℕ) (text : List ℕ) (result : Result End Fault) → IfOk result (λ end. IsWorkers workers × IsLimit limit × EndsAs text limit end)
-    → IfErr result (λ fault. IsRefusal fault ⊎ (13 ≤ number_of fault)) → IfErr result (λ fault. IsRefusal fault → HasNoReading text)
-    → IfErr result (λ fault. IsRefusal fault → IsWhy text fault) → Finds (actions.Run workers limit) text result
+    → IfErr result (λ fault. IsRefusal fault ⊎ (13 ≤ fault_number fault)) → IfErr result (λ fault. IsRefusal fault → HasNoReading text)
+    → IfErr result (λ fault. IsRefusal fault → IsWhy text fault) → Finds (subcommands.Run workers limit) text result
 run_finds workers limit text (Ok end) ends only refused why = ends
 run_finds workers limit text (Err fault) ends only refused why = (only, λ is. (refused is, why is))
 
-pub told : (action : Action) (text : List ℕ) (outcome : Result End Fault) (status : ℕ) → Finds action text outcome → status ≡ report_status outcome
-    → (status ≡ 64) ⊎ Tells action status
-told action text outcome status finds is = inr (text, outcome, finds, is)
+pub told : (subcommand : Subcommand) (text : List ℕ) (outcome : Result End Fault) (status : ℕ) → Finds subcommand text outcome → status ≡ report_status outcome
+    → (status ≡ 64) ⊎ Tells subcommand status
+told subcommand text outcome status finds is = inr (text, outcome, finds, is)
 
-fault_is : (fault : Fault) → IsRefusal fault ⊎ (13 ≤ number_of fault) → IsStatus (fault_status fault)
+fault_is : (fault : Fault) → IsRefusal fault ⊎ (13 ≤ fault_number fault) → IsStatus (fault_status fault)
 fault_is faults.TooLong only = inl (omega arith)
 fault_is faults.NotUtf8 only = inl (omega arith)
 fault_is (faults.BadCharacter place) only = inl (omega arith)
@@ -47,14 +47,14 @@ fault_is faults.BadWorkers only = inr refl
 fault_is faults.BadLimit only = inr refl
 fault_is (faults.NotYet place) only = inl (omega arith)
 
-outcome_is : (action : Action) (text : List ℕ) (outcome : Result End Fault) → Finds action text outcome → IsStatus (report_status outcome)
-outcome_is action text (Ok Finished) finds = inl (omega arith)
-outcome_is action text (Ok (Panicked cause)) finds = inl (omega arith)
-outcome_is action text (Ok Deadlock) finds = inl (omega arith)
-outcome_is action text (Ok Exhausted) finds = inl (omega arith)
-outcome_is actions.List text (Err fault) finds = fault_is fault finds.0
-outcome_is (actions.Run workers limit) text (Err fault) finds = fault_is fault finds.0
+outcome_is : (subcommand : Subcommand) (text : List ℕ) (outcome : Result End Fault) → Finds subcommand text outcome → IsStatus (report_status outcome)
+outcome_is subcommand text (Ok Finished) finds = inl (omega arith)
+outcome_is subcommand text (Ok (Panicked cause)) finds = inl (omega arith)
+outcome_is subcommand text (Ok Deadlock) finds = inl (omega arith)
+outcome_is subcommand text (Ok Exhausted) finds = inl (omega arith)
+outcome_is subcommands.List text (Err fault) finds = fault_is fault finds.0
+outcome_is (subcommands.Run workers limit) text (Err fault) finds = fault_is fault finds.0
 
-pub told_status : (action : Action) (status : ℕ) → (status ≡ 64) ⊎ Tells action status → IsStatus status
-told_status action status (inl is) = inr is
-told_status action status (inr (text, outcome, finds, is)) = subst IsStatus (sym is) (outcome_is action text outcome finds)
+pub told_status : (subcommand : Subcommand) (status : ℕ) → (status ≡ 64) ⊎ Tells subcommand status → IsStatus status
+told_status subcommand status (inl is) = inr is
+told_status subcommand status (inr (text, outcome, finds, is)) = subst IsStatus (sym is) (outcome_is subcommand text outcome finds)

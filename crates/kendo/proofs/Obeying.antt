@@ -22,7 +22,7 @@ asked app words m o is has a = subst (λ rows. IsAsked rows o) (subst (λ (a : A
 
 pub done : (app : App) (words : List Text) (m : ArgMatches) (invocation : Invocation) (status : ℕ) → app ≡ kendo
     → (is_simple_and_free app ≡ true → FailsBy {T = ArgMatches} (fault_of app words) (Ok m)) → HasMatchesOf app words m
-    → IsAsked (subcommand_rows_of m) (Some invocation) → (status ≡ 64) ⊎ Tells invocation.action status → Obeys words status
+    → IsAsked (subcommand_rows_of m) (Some invocation) → (status ≡ 64) ⊎ Tells invocation.subcommand status → Obeys words status
 done app words m invocation status is f has a tells = WasDone (fails app words (Ok m) is f) invocation (asked app words m (Some invocation) is has a) tells
 
 pub nothing_done : (app : App) (words : List Text) (m : ArgMatches) → app ≡ kendo
@@ -61,6 +61,6 @@ shown_status kinds.Format status is = inr is
 shown_status kinds.OutOfMemory status is = inr is
 
 pub obeyed_status : (words : List Text) (status : ℕ) → Obeys words status → IsStatus status
-obeyed_status words status (WasDone none invocation a tells) = told_status invocation.action status tells
+obeyed_status words status (WasDone none invocation a tells) = told_status invocation.subcommand status tells
 obeyed_status words status (WasNothing none a is) = inr is
 obeyed_status words status (WasShown kind among shows) = shown_status kind status shows

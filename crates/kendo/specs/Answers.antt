@@ -8,11 +8,11 @@ use Rattle.clap.specs.declared.error.kind.ErrorKind.{ErrorKind}
 use Rattle.clap.specs.declared.error.kind.ErrorKind.TheVariants as kinds
 use Rattle.checker.specs.Source.{source_kind}
 use Rattle.kendo.specs.CommandLine.{IsAsked, kendo}
-use Rattle.kendo.specs.declared.arguments.Action.{Action}
-use Rattle.kendo.specs.declared.arguments.Action.TheVariants as actions
+use Rattle.kendo.specs.declared.arguments.Subcommand.{Subcommand}
+use Rattle.kendo.specs.declared.arguments.Subcommand.TheVariants as subcommands
 use Rattle.kendo.specs.declared.arguments.Invocation.{Invocation}
 use Rattle.kendo_base.specs.Outcome.{report_status}
-use Rattle.kendo_base.specs.Reading.{HasNoReading, IsRefusal, IsWhy, Reads, number_of}
+use Rattle.kendo_base.specs.Reading.{HasNoReading, IsRefusal, IsWhy, Reads, fault_number}
 use Rattle.kendo_base.specs.Runs.{IsLimit, IsWorkers}
 use Rattle.go_text.specs.declared.fault.Fault.{Fault}
 use Rattle.syntax.specs.Tree.{File}
@@ -30,14 +30,14 @@ EndsAs text limit end = (file : File) × (n : ℕ) × Reads text file × (end_of
 
 -- what the command finds in the text: that it has a reading, or how its run ends; a refusal of the text tells why
 -- it has none
-abbrev pub Finds : Action → List ℕ → Result End Fault → Type 0
-Finds actions.List text (Ok end) = (end ≡ Finished) × HasReading text
-Finds (actions.Run workers limit) text (Ok end) = IsWorkers workers × IsLimit limit × EndsAs text limit end
-Finds action text (Err fault) = (IsRefusal fault ⊎ (13 ≤ number_of fault)) × (IsRefusal fault → HasNoReading text × IsWhy text fault)
+abbrev pub Finds : Subcommand → List ℕ → Result End Fault → Type 0
+Finds subcommands.List text (Ok end) = (end ≡ Finished) × HasReading text
+Finds (subcommands.Run workers limit) text (Ok end) = IsWorkers workers × IsLimit limit × EndsAs text limit end
+Finds subcommand text (Err fault) = (IsRefusal fault ⊎ (13 ≤ fault_number fault)) × (IsRefusal fault → HasNoReading text × IsWhy text fault)
 
 -- an exit status that tells what was found in some text
-abbrev pub Tells : Action → ℕ → Type 0
-Tells action status = (text : List ℕ) × (outcome : Result End Fault) × Finds action text outcome × (status ≡ report_status outcome)
+abbrev pub Tells : Subcommand → ℕ → Type 0
+Tells subcommand status = (text : List ℕ) × (outcome : Result End Fault) × Finds subcommand text outcome × (status ≡ report_status outcome)
 
 -- an exit status of the program
 abbrev pub IsStatus : ℕ → Type 0
@@ -52,7 +52,7 @@ ShowsAs kind status = status ≡ 64
 -- the exit status of a command line
 pub data Obeys (words : List Text) (status : ℕ) : Type 0 where
   -- the words are taken: 64, as where the file can't be read, or what was found in some text
-  WasDone : fault_of kendo words ≡ [] → (invocation : Invocation) → IsAsked (subcommand_of kendo words) (Some invocation) → (status ≡ 64) ⊎ Tells invocation.action status → Obeys words status
+  WasDone : fault_of kendo words ≡ [] → (invocation : Invocation) → IsAsked (subcommand_of kendo words) (Some invocation) → (status ≡ 64) ⊎ Tells invocation.subcommand status → Obeys words status
   -- they ask for nothing that is done
   WasNothing : fault_of kendo words ≡ [] → IsAsked (subcommand_of kendo words) None → status ≡ 64 → Obeys words status
   -- they are refused, or ask for help

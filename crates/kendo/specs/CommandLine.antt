@@ -4,8 +4,8 @@ use Rattle.std.specs.Str.Parse.{IsNumeral, digits_value, without_leading_plus}
 use Rattle.clap.specs.Words.{App, Row, Rule, Text, first_of, new_app, new_rule, one_of, with_rule, with_subcommand}
 use Rattle.clap.specs.declared.builder.action.ArgAction.TheVariants.{Set}
 use Rattle.clap.specs.declared.builder.value_parser.ValueParser.TheVariants.{Unsigned}
-use Rattle.kendo.specs.declared.arguments.Action.{Action}
-use Rattle.kendo.specs.declared.arguments.Action.TheVariants as actions
+use Rattle.kendo.specs.declared.arguments.Subcommand.{Subcommand}
+use Rattle.kendo.specs.declared.arguments.Subcommand.TheVariants as subcommands
 use Rattle.kendo.specs.declared.arguments.Invocation.{Invocation}
 
 -- ---- the commands that are taken
@@ -45,14 +45,14 @@ IsNumber None n = ⊥
 IsNumber (Some text) n = IsNumeral 10 (without_leading_plus text) × (digits_value 10 (without_leading_plus text) ≡ n) × (n < 2 ^ 64)
 
 -- the command of this name, with these values, asks for this
-abbrev pub Does : (name : Text) → List Row → Action → Type 0
-Does name rows actions.List = name ≡ codes "list"
-Does name rows (actions.Run workers limit) =
+abbrev pub Does : (name : Text) → List Row → Subcommand → Type 0
+Does name rows subcommands.List = name ≡ codes "list"
+Does name rows (subcommands.Run workers limit) =
     (name ≡ codes "run") × IsNumber (one_of (codes "workers") rows) workers × IsNumber (one_of (codes "limit") rows) limit
 
 -- the same with the file
 abbrev pub Asks : Text × List Row → Invocation → Type 0
-Asks (name, rows) invocation = Does name rows invocation.action × (first_of (codes "FILE") rows ≡ Some invocation.file.now)
+Asks (name, rows) invocation = Does name rows invocation.subcommand × (first_of (codes "FILE") rows ≡ Some invocation.file.now)
 
 -- the number that the text is, or none where it is no number
 abbrev pub IsNumberThere : Option Text → Option ℕ → Type 0
@@ -60,9 +60,9 @@ IsNumberThere text (Some n) = IsNumber text n
 IsNumberThere text None = (n : ℕ) → IsNumber text n → ⊥
 
 -- what the command does, or none where it does nothing
-abbrev pub IsDone : (name : Text) → List Row → Option Action → Type 0
-IsDone name rows (Some action) = Does name rows action
-IsDone name rows None = (action : Action) → Does name rows action → ⊥
+abbrev pub IsDone : (name : Text) → List Row → Option Subcommand → Type 0
+IsDone name rows (Some subcommand) = Does name rows subcommand
+IsDone name rows None = (subcommand : Subcommand) → Does name rows subcommand → ⊥
 
 -- what the words ask for where they name a command, or none where they ask for nothing
 abbrev pub IsAsked : Option (Text × List Row) → Option Invocation → Type 0

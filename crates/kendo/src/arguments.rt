@@ -13,12 +13,12 @@ pub struct Invocation<'a> {
     /// The path, as it was typed.
     pub file: &'a str,
     /// What is done with it.
-    pub action: Action,
+    pub subcommand: Subcommand,
 }
 
 /// What is done with a text.
 #[derive(Clone, Copy, Debug, PartialEq, Eq)]
-pub enum Action {
+pub enum Subcommand {
     /// Its code is listed.
     List,
     /// It is run.
@@ -94,21 +94,21 @@ pub(crate) fn command<'a>(alloc: Global) -> Result<Command<'a>, AllocError>
 }
 
 /// The number that an option has.
-fn number_of(matches: &ArgMatches<'_>, name: &str) -> Option<u64>
+fn option_number(matches: &ArgMatches<'_>, name: &str) -> Option<u64>
     ensures { IsNumberThere (one_of name.now (rows_of (found_of matches.now))) result }
 {
     matches.get_one::<u64>(name)
 }
 
 /// What the command of a name does, with the values that it has.
-fn action_of(name: &str, matches: &ArgMatches<'_>) -> Option<Action>
+fn subcommand_named(name: &str, matches: &ArgMatches<'_>) -> Option<Subcommand>
     ensures { IsDone name.now (rows_of (found_of matches.now)) result }
 {
     match name {
-        "list" => Some(Action::List),
-        "run" => Some(Action::Run {
-            workers: number_of(matches, "workers")?,
-            limit: number_of(matches, "limit")?,
+        "list" => Some(Subcommand::List),
+        "run" => Some(Subcommand::Run {
+            workers: option_number(matches, "workers")?,
+            limit: option_number(matches, "limit")?,
         }),
         _ => None,
     }
@@ -119,9 +119,9 @@ pub(crate) fn invocation_of<'a>(matches: &ArgMatches<'a>) -> Option<Invocation<'
     ensures { IsAsked (subcommand_rows_of matches.now) result }
 {
     let (name, matches) = matches.subcommand()?;
-    let action = action_of(name, matches)?;
+    let subcommand = subcommand_named(name, matches)?;
     Some(Invocation {
         file: matches.get_str("FILE")?,
-        action,
+        subcommand,
     })
 }

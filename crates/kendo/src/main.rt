@@ -4,14 +4,14 @@
 ghost use Rattle.std.specs.Prelude.{◌≡◌, ◌⊎◌, ◌↔◌, ◌≤◌, IsErr, IsErrOf, IfErr, IfOk, map, string_bytes};
 ghost use Rattle.clap.specs.Values.{kind_of};
 ghost use Rattle.kendo.specs.Answers.{EndsAs, Finds, HasReading, IsStatus, Obeys, ShowsAs, Tells};
-ghost use Rattle.kendo_base.specs.Reading.{HasNoReading, IsRefusal, IsWhy, number_of};
+ghost use Rattle.kendo_base.specs.Reading.{HasNoReading, IsRefusal, IsWhy, fault_number};
 ghost use Rattle.kendo_base.specs.Runs.{IsLimit, IsWorkers};
 
 mod arguments;
 #[cfg(test)]
 mod tests;
 
-use arguments::{Action, Invocation, command, invocation_of};
+use arguments::{Invocation, Subcommand, command, invocation_of};
 use clap::error::ErrorKind;
 use go_text::source::MAX_LENGTH;
 use go_text::{Fault, Memory};
@@ -136,7 +136,7 @@ fn perform(
     alloc: Global,
     invocation: &Invocation<'_>,
 ) -> Result<u8, Memory>
-    ensures { IfOk result (λ status. (status ≡ USAGE) ⊎ Tells invocation.now.action status) }
+    ensures { IfOk result (λ status. (status ≡ USAGE) ⊎ Tells invocation.now.subcommand status) }
 {
     let file = invocation.file;
     let bytes = match read(rt, alloc, file) {
@@ -148,7 +148,7 @@ fn perform(
             return Ok(USAGE);
         }
     };
-    let outcome = find(rt, leave, alloc, invocation.action, bytes);
+    let outcome = find(rt, leave, alloc, invocation.subcommand, bytes);
     let (line, status) = report(alloc, &outcome)?;
     tell(rt, line.as_slice());
     Ok(status)
@@ -160,14 +160,14 @@ fn find(
     rt: &HostRuntime,
     leave: &impl Wait,
     alloc: Global,
-    action: Action,
+    subcommand: Subcommand,
     bytes: Vec<u8>,
 ) -> Result<End, Fault>
-    ensures { Finds action bytes.items result }
+    ensures { Finds subcommand bytes.items result }
 {
-    match action {
-        Action::List => list(rt, alloc, bytes),
-        Action::Run { workers, limit } => run(rt, leave, alloc, bytes, workers, limit),
+    match subcommand {
+        Subcommand::List => list(rt, alloc, bytes),
+        Subcommand::Run { workers, limit } => run(rt, leave, alloc, bytes, workers, limit),
     }
 }
 
@@ -185,7 +185,7 @@ fn list(rt: &HostRuntime, alloc: Global, bytes: Vec<u8>) -> Result<End, Fault>
     ensures listed { IfOk result (λ end. (end ≡ End.Finished) × HasReading bytes.items) }
     ensures refused { IfErr result (λ fault. IsRefusal fault → HasNoReading bytes.items) }
     ensures why { IfErr result (λ fault. IsRefusal fault → IsWhy bytes.items fault) }
-    ensures only { IfErr result (λ fault. IsRefusal fault ⊎ (13 ≤ number_of fault)) }
+    ensures only { IfErr result (λ fault. IsRefusal fault ⊎ (13 ≤ fault_number fault)) }
     ensures neither { IfErr result (λ fault. (fault ≡ Fault.BadWorkers → ⊥) × (fault ≡ Fault.BadLimit → ⊥)) }
 {
     let stdout = BufWriter::new(alloc, rt.stdout()).map_err(|_| Fault::Memory)?;
@@ -209,7 +209,7 @@ fn run(
     ensures why { IfErr result (λ fault. IsRefusal fault → IsWhy bytes.items fault) }
     ensures workers { IsErrOf result Fault.BadWorkers → IsWorkers workers → ⊥ }
     ensures limit { IsErrOf result Fault.BadLimit → IsWorkers workers × (IsLimit limit → ⊥) }
-    ensures only { IfErr result (λ fault. IsRefusal fault ⊎ (13 ≤ number_of fault)) }
+    ensures only { IfErr result (λ fault. IsRefusal fault ⊎ (13 ≤ fault_number fault)) }
 {
     let stdout = BufWriter::new(alloc, rt.stdout()).map_err(|_| Fault::Memory)?;
     let mut out = Flagged::new(stdout);

@@ -1,4 +1,4 @@
-use crate::arguments::{Action, Invocation, command, invocation_of};
+use crate::arguments::{Invocation, Subcommand, command, invocation_of};
 use std::test::Fail;
 
 #[test]
@@ -21,8 +21,8 @@ fn accepted_words(rt: HostRuntime) -> Result<(), Fail> {
         let Some(invocation) = invocation_of(&matches) else {
             panic!(rt; "no invocation: {line}");
         };
-        let action = Action::Run { workers, limit };
-        let wanted = Invocation { file, action };
+        let subcommand = Subcommand::Run { workers, limit };
+        let wanted = Invocation { file, subcommand };
         assert_eq!(rt; invocation, wanted);
     }
     Ok(())
@@ -39,7 +39,7 @@ fn accepted_listing(rt: HostRuntime) -> Result<(), Fail> {
     };
     let wanted = Invocation {
         file: "a.go",
-        action: Action::List,
+        subcommand: Subcommand::List,
     };
     assert_eq!(rt; invocation, wanted);
     Ok(())

@@ -11,7 +11,7 @@ use Rattle.bytecode.specs.Code.{Code}
 use Rattle.bytecode.specs.Machine.{code_kind}
 use Rattle.turn_rule.specs.Schedule.{IsPrefixOf}
 use Rattle.word.specs.declared.end.End.{End as Ending}
-use Rattle.word.specs.Kinds.{Kind}
+use Rattle.word.specs.Kinds.{GoroutineKind}
 use Rattle.word.specs.Worlds.{Equal, moment}
 use Rattle.word.proofs.Outputs.{outputs_begin}
 use Rattle.kendo_base.specs.Runs.{BeginsOutput, IsSameRun, IsWhole, Written}
@@ -92,12 +92,12 @@ written_whole code limit before size known new ending w e =
     (e.moves, subst (Appends known new) same w.1, e.ending)
 
 -- the same of a kind that nobody can tell apart
-pub begins_also : (K M : Kind) (limit : ℕ) (old new : Option (List ℕ)) → Equal K M → BeginsOutput M limit old new → BeginsOutput K limit old new
+pub begins_also : (K M : GoroutineKind) (limit : ℕ) (old new : Option (List ℕ)) → Equal K M → BeginsOutput M limit old new → BeginsOutput K limit old new
 begins_also K M limit old new e b =
     let s = e.back limit b.0 in
     (s.0, b.1, subst (λ xs. Appends old new (take b.1 xs)) (ap (λ w. w.output) s.1.shared) b.2)
 
-pub whole_also : (K M : Kind) (limit : ℕ) (old new : Option (List ℕ)) (ending : Ending) → Equal K M → IsWhole M limit old new ending → IsWhole K limit old new ending
+pub whole_also : (K M : GoroutineKind) (limit : ℕ) (old new : Option (List ℕ)) (ending : Ending) → Equal K M → IsWhole M limit old new ending → IsWhole K limit old new ending
 whole_also K M limit old new ending e b =
     let s = e.back limit b.0 in
     (s.0, subst (Appends old new) (ap (λ w. w.output) s.1.shared) b.1, sym s.1.ends ∙ b.2)
@@ -136,8 +136,8 @@ pub written_out : (d e : Desk) (known new : Option (List ℕ)) → e ≡ record 
 written_out d e known new is w = subst (λ (x : Desk). Written x.code x.limit known new x.taken) (sym is) w
 
 -- the same of code that is the code that was proved
-pub begins_code : (K : Kind) (code code' : Code) (limit : ℕ) (old new : Option (List ℕ)) → code' ≡ code → Equal K (code_kind code) → BeginsOutput (code_kind code') limit old new → BeginsOutput K limit old new
+pub begins_code : (K : GoroutineKind) (code code' : Code) (limit : ℕ) (old new : Option (List ℕ)) → code' ≡ code → Equal K (code_kind code) → BeginsOutput (code_kind code') limit old new → BeginsOutput K limit old new
 begins_code K code code' limit old new is e b = begins_also K (code_kind code) limit old new e (begins_at code code' limit limit old new is refl b)
 
-pub whole_code : (K : Kind) (code code' : Code) (limit : ℕ) (old new : Option (List ℕ)) (ending : Ending) → code' ≡ code → Equal K (code_kind code) → IsWhole (code_kind code') limit old new ending → IsWhole K limit old new ending
+pub whole_code : (K : GoroutineKind) (code code' : Code) (limit : ℕ) (old new : Option (List ℕ)) (ending : Ending) → code' ≡ code → Equal K (code_kind code) → IsWhole (code_kind code') limit old new ending → IsWhole K limit old new ending
 whole_code K code code' limit old new ending is e b = whole_also K (code_kind code) limit old new ending e (subst (λ x. IsWhole (code_kind x) limit old new ending) is b)

@@ -36,28 +36,28 @@ abbrev pub HasNoReading : List ℕ → Type 0
 HasNoReading text = (file : File) → Reads text file → ⊥
 
 -- a refusal's number
-abbrev pub number_of : Fault → ℕ
-number_of faults.TooLong = 1
-number_of faults.NotUtf8 = 2
-number_of (faults.BadCharacter place) = 3
-number_of (faults.BadNumber place) = 4
-number_of (faults.OpenString place) = 5
-number_of (faults.OpenComment place) = 6
-number_of (faults.Syntax place) = 7
-number_of (faults.TooDeep place) = 8
-number_of (faults.Typing rule at place) = 9
-number_of (faults.Limit kind at place) = 10
-number_of (faults.Unverified rule function at) = 11
-number_of faults.NotYours = 12
-number_of faults.Memory = 13
-number_of faults.Write = 14
-number_of faults.BadWorkers = 15
-number_of faults.BadLimit = 16
-number_of (faults.NotYet place) = 17
+abbrev pub fault_number : Fault → ℕ
+fault_number faults.TooLong = 1
+fault_number faults.NotUtf8 = 2
+fault_number (faults.BadCharacter place) = 3
+fault_number (faults.BadNumber place) = 4
+fault_number (faults.OpenString place) = 5
+fault_number (faults.OpenComment place) = 6
+fault_number (faults.Syntax place) = 7
+fault_number (faults.TooDeep place) = 8
+fault_number (faults.Typing rule at place) = 9
+fault_number (faults.Limit kind at place) = 10
+fault_number (faults.Unverified rule function at) = 11
+fault_number faults.NotYours = 12
+fault_number faults.Memory = 13
+fault_number faults.Write = 14
+fault_number faults.BadWorkers = 15
+fault_number faults.BadLimit = 16
+fault_number (faults.NotYet place) = 17
 
 -- a text is refused by the numbers 1 to 10, and 17
 abbrev pub IsRefusal : Fault → Type 0
-IsRefusal fault = IsTrue (nat_le (number_of fault) 10 || number_of fault == 17)
+IsRefusal fault = IsTrue (nat_le (fault_number fault) 10 || fault_number fault == 17)
 
 -- a refusal of the text, or want of memory
 abbrev pub IsOfText : Fault → Type 0

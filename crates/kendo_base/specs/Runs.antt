@@ -3,11 +3,11 @@ use Rattle.std.specs.Prelude.{◌≡◌, ℕ, ◌+◌, ◌≤◌, ◌^◌, List,
 use Rattle.std.specs.Io.KnownBytes.{Appends}
 use Rattle.book.specs.Desks.{Desk, IsEnd, IsPiece}
 use Rattle.bytecode.specs.Code.{Code}
-use Rattle.output.specs.Progress.{place_of, run_of}
+use Rattle.output.specs.Progress.{progress_place, run_of}
 use Rattle.output.specs.declared.piece.Kind.TheVariants.{Output}
 use Rattle.output.specs.declared.progress.Progress.{Progress}
 use Rattle.word.specs.declared.end.End.{End as Ending}
-use Rattle.word.specs.Kinds.{Kind}
+use Rattle.word.specs.Kinds.{GoroutineKind}
 use Rattle.word.specs.Worlds.{end_of, moment}
 
 abbrev pub IsWorkers : ℕ → Type 0
@@ -17,11 +17,11 @@ abbrev pub IsLimit : ℕ → Type 0
 IsLimit limit = (1 ≤ limit) × (limit ≤ 2 ^ 62)
 
 -- what was written after the old contents begins the output of the one-thread run
-abbrev pub BeginsOutput : Kind → ℕ → Option (List ℕ) → Option (List ℕ) → Type 0
+abbrev pub BeginsOutput : GoroutineKind → ℕ → Option (List ℕ) → Option (List ℕ) → Type 0
 BeginsOutput K limit old new = (n : ℕ) × (k : ℕ) × Appends old new (take k (moment K limit n).shared.shared.output)
 
 -- it is all of it, and the run ends so
-abbrev pub IsWhole : Kind → ℕ → Option (List ℕ) → Option (List ℕ) → Ending → Type 0
+abbrev pub IsWhole : GoroutineKind → ℕ → Option (List ℕ) → Option (List ℕ) → Ending → Type 0
 IsWhole K limit old new ending =
     (n : ℕ) × Appends old new (moment K limit n).shared.shared.output × (end_of (moment K limit n) ≡ Some ending)
 
@@ -39,7 +39,7 @@ pub record IsSameRun (old new : Desk) : Type 0 where
 -- what was taken out was written
 pub record IsInStep (d : Desk) (p : Progress) : Type 0 where
   pub run : run_of p ≡ record { program = d.code; limit = d.limit; kind = Output }
-  pub place : place_of p ≡ d.taken
+  pub place : progress_place p ≡ d.taken
 
 -- the run of the book has ended, and so many bytes are its output
 abbrev pub HasEnded : Desk → Ending → Type 0

@@ -2,7 +2,7 @@
 
 ghost use Rattle.std.specs.Prelude.{◌≡◌, ◌≤◌, ◌⊎◌, ◌↔◌, IfErr, IfOk, IsErrOf, true};
 ghost use Rattle.checker.specs.Source.{source_kind};
-ghost use Rattle.kendo_base.specs.Reading.{HasNoReading, IsRefusal, IsWhy, Reads, number_of};
+ghost use Rattle.kendo_base.specs.Reading.{HasNoReading, IsRefusal, IsWhy, Reads, fault_number};
 ghost use Rattle.kendo_base.specs.Runs.{BeginsOutput, IsLimit, IsWhole, IsWorkers};
 ghost use Rattle.syntax.specs.Tree.{File};
 
@@ -32,7 +32,7 @@ pub fn run_bytes<R: Wait, G: Gate, O: Write, T: Write>(
     ensures limit { IsErrOf result Fault.BadLimit ↔ (IsWorkers workers × (IsLimit limit → ⊥)) }
     ensures refused { IfErr result (λ fault. IsRefusal fault → HasNoReading bytes.items) }
     ensures why { IfErr result (λ fault. IsRefusal fault → IsWhy bytes.items fault) }
-    ensures only { IfErr result (λ fault. IsRefusal fault ⊎ (13 ≤ number_of fault)) }
+    ensures only { IfErr result (λ fault. IsRefusal fault ⊎ (13 ≤ fault_number fault)) }
     ensures begins { (O.contents out.new ≡ O.contents out.old) ⊎ ((file : File) × Reads bytes.items file × BeginsOutput (source_kind file) limit (O.contents out.old) (O.contents out.new)) }
     ensures nothing { IfErr result (λ fault. (fault ≡ Fault.Memory → ⊥) → (fault ≡ Fault.Write → ⊥) → O.contents out.new ≡ O.contents out.old) }
     ensures whole { IfOk result (λ end. (file : File) × Reads bytes.items file × IsWhole (source_kind file) limit (O.contents out.old) (O.contents out.new) end) }

@@ -1,6 +1,6 @@
 -- Words made for kinds, one after the other.
 use Rattle.std.proofs.Common.{◌≡◌, ℕ, zero, suc, ◌+◌, ◌<◌, List, [], ◌∷◌, ◌++◌, length, drop, refl, sym, ap, ◌∙◌, subst, arith, get_or, add-one, append_assoc}
-use Rattle.bytecode.specs.declared.instr.Kind.{Kind}
+use Rattle.bytecode.specs.declared.instr.WordKind.{WordKind}
 use Rattle.bytecode.specs.Machine.{fitted}
 use Rattle.operands.specs.Words.{word_for}
 use Rattle.word.specs.declared.value.Word.{Word}
@@ -9,7 +9,7 @@ drop_nil : (n : ℕ) → drop {A = Word} n [] ≡ []
 drop_nil zero = refl
 drop_nil (suc n) = refl
 
-fitted_suc : (ks : List Kind) (ws : List Word) (i : ℕ) (d : Kind) → i < length ks → fitted (drop i ks) (drop i ws) ≡ word_for (get_or ks i d) (drop i ws) ∷ fitted (drop (suc i) ks) (drop (suc i) ws)
+fitted_suc : (ks : List WordKind) (ws : List Word) (i : ℕ) (d : WordKind) → i < length ks → fitted (drop i ks) (drop i ws) ≡ word_for (get_or ks i d) (drop i ws) ∷ fitted (drop (suc i) ks) (drop (suc i) ws)
 fitted_suc [] ws i d h = absurd (omega (arith, h))
 fitted_suc (k ∷ ks) [] zero d h = refl
 fitted_suc (k ∷ ks) (w ∷ ws) zero d h = refl
@@ -17,7 +17,7 @@ fitted_suc (k ∷ ks) [] (suc i) d h = subst (λ (l : List Word). fitted (drop i
 fitted_suc (k ∷ ks) (w ∷ ws) (suc i) d h = fitted_suc ks ws i d (omega (arith, h))
 
 -- one more word was made
-pub fitted_more : (made new : List Word) (ks : List Kind) (ws : List Word) (i : ℕ) (d : Kind) (w : Word) → i < length ks → made ++ fitted (drop i ks) (drop i ws) ≡ fitted ks ws → w ≡ word_for (get_or ks i d) (drop i ws) → new ≡ made ++ w ∷ [] → new ++ fitted (drop (i + 1) ks) (drop (i + 1) ws) ≡ fitted ks ws
+pub fitted_more : (made new : List Word) (ks : List WordKind) (ws : List Word) (i : ℕ) (d : WordKind) (w : Word) → i < length ks → made ++ fitted (drop i ks) (drop i ws) ≡ fitted ks ws → w ≡ word_for (get_or ks i d) (drop i ws) → new ≡ made ++ w ∷ [] → new ++ fitted (drop (i + 1) ks) (drop (i + 1) ws) ≡ fitted ks ws
 fitted_more made new ks ws i d w h inv is e =
     let rest = fitted (drop (i + 1) ks) (drop (i + 1) ws) in
     let s : fitted (drop i ks) (drop i ws) ≡ w ∷ rest = rw add-one (fitted_suc ks ws i d h ∙ ap (λ (v : Word). v ∷ fitted (drop (suc i) ks) (drop (suc i) ws)) (sym is)) in

@@ -4,35 +4,35 @@ ghost use Rattle.std.specs.Prelude.{◌≡◌, ◌↔◌, IsTrue, IfOk, OnOk, dr
 ghost use Rattle.bytecode.specs.Machine.{as_kind as as_kind_of, fitted as fitted_of, zero_of as zero_word};
 ghost use Rattle.operands.specs.Words.{word_for};
 
-use bytecode::Kind;
+use bytecode::WordKind;
 use std::alloc::{AllocError, Global};
 use word::value::Word;
 
 /// The zero of a kind.
-pub fn zero_of(kind: Kind) -> Word
+pub fn zero_of(kind: WordKind) -> Word
     ensures { result ≡ zero_word kind }
 {
     match kind {
-        Kind::Int => Word::Int(0),
-        Kind::Bool => Word::Bool(false),
-        Kind::Chan(_) => Word::Chan(None),
+        WordKind::Int => Word::Int(0),
+        WordKind::Bool => Word::Bool(false),
+        WordKind::Chan(_) => Word::Chan(None),
     }
 }
 
 /// The word where it is of the kind, else the kind's zero.
-fn as_kind(kind: Kind, word: Word) -> Word
+fn as_kind(kind: WordKind, word: Word) -> Word
     ensures { result ≡ as_kind_of kind word }
 {
     match kind {
-        Kind::Int => match word {
+        WordKind::Int => match word {
             Word::Int(number) => Word::Int(number),
             Word::Bool(_) | Word::Chan(_) => Word::Int(0),
         },
-        Kind::Bool => match word {
+        WordKind::Bool => match word {
             Word::Bool(truth) => Word::Bool(truth),
             Word::Int(_) | Word::Chan(_) => Word::Bool(false),
         },
-        Kind::Chan(_) => match word {
+        WordKind::Chan(_) => match word {
             Word::Chan(chan) => Word::Chan(chan),
             Word::Int(_) | Word::Bool(_) => Word::Chan(None),
         },
@@ -40,7 +40,7 @@ fn as_kind(kind: Kind, word: Word) -> Word
 }
 
 /// The word of a kind that stands at an index of these, a zero where there is none.
-pub fn word_at(kind: Kind, words: &[Word], index: usize) -> Word
+pub fn word_at(kind: WordKind, words: &[Word], index: usize) -> Word
     ensures { result ≡ word_for kind (drop index words.now) }
 {
     match words.get(index) {
@@ -50,7 +50,7 @@ pub fn word_at(kind: Kind, words: &[Word], index: usize) -> Word
 }
 
 /// Words of these kinds in place of others: those given, and zeros where there are no more.
-pub fn fit(made: &mut Vec<Word>, kinds: &[Kind], words: &[Word]) -> Result<(), AllocError>
+pub fn fit(made: &mut Vec<Word>, kinds: &[WordKind], words: &[Word]) -> Result<(), AllocError>
     ensures { OnOk result (made.new.items ≡ fitted_of kinds.now words.now) }
 {
     made.clear();
@@ -61,7 +61,7 @@ pub fn fit(made: &mut Vec<Word>, kinds: &[Kind], words: &[Word]) -> Result<(), A
 }
 
 /// The zero of a shape.
-pub fn zeros(alloc: Global, kinds: &[Kind]) -> Result<Vec<Word>, AllocError>
+pub fn zeros(alloc: Global, kinds: &[WordKind]) -> Result<Vec<Word>, AllocError>
     ensures { IfOk result (λ words. words.items ≡ map zero_word kinds.now) }
 {
     kinds.iter().map(|kind| zero_of(*kind)).collect(alloc)

@@ -7,11 +7,9 @@ ghost use Rattle.bytecode.specs.Rules.{IsVerified};
 use crate::width::clause_width;
 use bytecode::{Clause, Code};
 use std::alloc::{AllocError, Global};
+use word::limits::MAX_WORDS;
 use word::request::Case;
 use word::value::{Item, Word};
-
-/// The most words of an item.
-const MAX_WORDS: usize = 16;
 
 /// What a clause offers, by its operands; none where they are not of its kinds.
 fn case(alloc: Global, clause: Clause, words: &[Word]) -> Option<Case>

@@ -17,8 +17,8 @@ pub record Run : Type 0 where
   pub kind : Kind
 
 -- how many bytes were written
-abbrev pub place_of : Progress → ℕ
-place_of p = p.place
+abbrev pub progress_place : Progress → ℕ
+progress_place p = p.place
 
 -- what they are bytes of
 abbrev pub run_of : Progress → Run

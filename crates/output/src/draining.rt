@@ -2,7 +2,7 @@
 
 ghost use Rattle.std.specs.Prelude.{◌≡◌, ◌<◌, ◌≤◌, ◌+◌, ◌-◌, ◌↔◌, ◌⊎◌, take, true, OnOk, IsErr, IsErrOf, vec_len};
 ghost use Rattle.std.specs.Io.KnownBytes.{Appends};
-ghost use Rattle.output.specs.Progress.{place_of, run_of, IsNext};
+ghost use Rattle.output.specs.Progress.{progress_place, run_of, IsNext};
 
 use crate::piece::Piece;
 use crate::progress::Progress;
@@ -51,12 +51,12 @@ pub fn drain<W: Write>(
     writer: &mut W,
 ) -> Result<(), DrainFault>
     ensures not_yours { IsErrOf result DrainFault.NotYours ↔ ¬ (IsNext progress.old piece) }
-    ensures ok { OnOk result (place_of progress.new ≡ place_of progress.old + vec_len piece.bytes) }
-    ensures short { IsErrOf result DrainFault.Write → place_of progress.new < place_of progress.old + vec_len piece.bytes }
-    ensures forward { place_of progress.old ≤ place_of progress.new }
-    ensures none { IsErrOf result DrainFault.NotYours → place_of progress.new ≡ place_of progress.old }
+    ensures ok { OnOk result (progress_place progress.new ≡ progress_place progress.old + vec_len piece.bytes) }
+    ensures short { IsErrOf result DrainFault.Write → progress_place progress.new < progress_place progress.old + vec_len piece.bytes }
+    ensures forward { progress_place progress.old ≤ progress_place progress.new }
+    ensures none { IsErrOf result DrainFault.NotYours → progress_place progress.new ≡ progress_place progress.old }
     ensures bytes { Appends (W.contents writer.old) (W.contents writer.new)
-        (take (place_of progress.new - place_of progress.old) piece.bytes.items) }
+        (take (progress_place progress.new - progress_place progress.old) piece.bytes.items) }
     ensures flag { IsErrOf result DrainFault.Write → W.has_failed writer.new ≡ true }
     ensures same { run_of progress.new ≡ run_of progress.old }
 {
@@ -74,11 +74,11 @@ pub fn drain_next<W: Write>(
     writer: &mut W,
 ) -> Result<(), WriteFault>
     requires { IsNext progress.old piece }
-    ensures ok { OnOk result (place_of progress.new ≡ place_of progress.old + vec_len piece.bytes) }
-    ensures short { IsErr result → place_of progress.new < place_of progress.old + vec_len piece.bytes }
-    ensures forward { place_of progress.old ≤ place_of progress.new }
+    ensures ok { OnOk result (progress_place progress.new ≡ progress_place progress.old + vec_len piece.bytes) }
+    ensures short { IsErr result → progress_place progress.new < progress_place progress.old + vec_len piece.bytes }
+    ensures forward { progress_place progress.old ≤ progress_place progress.new }
     ensures bytes { Appends (W.contents writer.old) (W.contents writer.new)
-        (take (place_of progress.new - place_of progress.old) piece.bytes.items) }
+        (take (progress_place progress.new - progress_place progress.old) piece.bytes.items) }
     ensures flag { IsErr result → W.has_failed writer.new ≡ true }
     ensures same { run_of progress.new ≡ run_of progress.old }
 {

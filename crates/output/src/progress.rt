@@ -17,11 +17,11 @@ pub struct Progress {
 }
 
 impl Progress {
-    ghost use Rattle.output.specs.Progress.{place_of, run_of, IsNext};
+    ghost use Rattle.output.specs.Progress.{progress_place, run_of, IsNext};
 
     /// Nothing is written yet of this run's output or trace.
     pub fn new(program: Arc<Verified>, limit: u64, kind: Kind) -> Progress
-        ensures place { place_of result ≡ 0 }
+        ensures place { progress_place result ≡ 0 }
         ensures run { run_of result ≡ record { program = arc_value program; limit = limit; kind = kind } }
     {
         Progress {
@@ -34,15 +34,15 @@ impl Progress {
 
     /// How many bytes were written.
     pub fn place(&self) -> u128
-        ensures { result ≡ place_of self.now }
+        ensures { result ≡ progress_place self.now }
     {
         self.place
     }
 
     /// Counts bytes that a writer took.
     pub(crate) fn advance(&mut self, count: u128)
-        requires { place_of self.old + count < 2 ^ 128 }
-        ensures place { place_of self.new ≡ place_of self.old + count }
+        requires { progress_place self.old + count < 2 ^ 128 }
+        ensures place { progress_place self.new ≡ progress_place self.old + count }
         ensures run { run_of self.new ≡ run_of self.old }
     {
         self.place += count;

@@ -1,8 +1,8 @@
 -- Fields and parameters: what is spelt is read, and what is read is spelt so.
 use Rattle.std.proofs.Common.{◌≡◌, ℕ, zero, suc, ◌+◌, ◌-◌, ◌<◌, ◌≤◌, Bool, true, false, cond, List, [], ◌∷◌, ◌++◌, length, sum_by, Ok, refl, ap, ◌∙◌, subst, arith}
 use Rattle.std.proofs.lemmas.List.Sums.{sum_by-cons}
-use Rattle.scanner.specs.declared.kind.Kind.{Kind}
-use Rattle.scanner.specs.declared.kind.Kind.TheVariants as kinds
+use Rattle.scanner.specs.declared.kind.TokenKind.{TokenKind}
+use Rattle.scanner.specs.declared.kind.TokenKind.TheVariants as kinds
 use Rattle.syntax.specs.declared.node.Direction.TheVariants as directions
 use Rattle.syntax.specs.Tree.{TypeExpression, NamedType, ParenthesizedType, Channel, Declared}
 use Rattle.syntax.specs.Measures.{Listing, Entries as EntriesLimit, SelectClauses, entries, highest, type_height, declared_height, declared_count}
@@ -13,7 +13,7 @@ use Rattle.parser_base.specs.Spelling.{behind, separated, joined, closing, AreAl
 use Rattle.parser_base.specs.Reading.{Reading, ◌>>=◌, is_kind, expect, followed, entry_next}
 use Rattle.parser_base.specs.TypeReading.{type_words, IsType, type_at}
 use Rattle.parser_base.proofs.Marks.{bind_ok, ok_is, expect_is, expect_again}
-use Rattle.parser_base.proofs.ListLaws.{AreFew, Outcome, Found, High, Many}
+use Rattle.parser_base.proofs.ListLaws.{AreFew, ReadBack, Found, High, Many}
 use Rattle.parser_base.proofs.Steps.{then_again, gave}
 use Rattle.parser_base.proofs.TypeLaws.{Found as TypeFound, High as TypeHigh, type_again, type_sound}
 use Rattle.parser_base.proofs.ExpressionAgain.{entries-le, ending_again, more_entries}
@@ -27,7 +27,7 @@ use Rattle.parser.specs.Reading.{declared, some_declared, all_declared}
 -- ---- what is spelt is read
 
 -- no type begins with a comma or a brace
-pub type_begins : (kind : Kind) (t : TypeExpression) (rest : List Lexeme) → is_kind kinds.LeftParenthesis kind ≡ false → is_kind kinds.Chan kind ≡ false → is_kind kinds.Arrow kind ≡ false → begins_with kind (type_words t ++ rest) ≡ false
+pub type_begins : (kind : TokenKind) (t : TypeExpression) (rest : List Lexeme) → is_kind kinds.LeftParenthesis kind ≡ false → is_kind kinds.Chan kind ≡ false → is_kind kinds.Arrow kind ≡ false → begins_with kind (type_words t ++ rest) ≡ false
 unfolding begins_with
 type_begins kind (NamedType name) rest open' chan arrow = refl
 type_begins kind (ParenthesizedType inner) rest open' chan arrow = open'
@@ -36,13 +36,13 @@ type_begins kind (Channel directions.Send element) rest open' chan arrow = chan
 type_begins kind (Channel directions.Receive element) rest open' chan arrow = arrow
 
 abbrev made : List (List ℕ) → TypeExpression → Declared
-made ns kind = record { names = ns; kind = kind }
+made ns kind = record { names = ns; type_expression = kind }
 
 abbrev names_of : Listing → Declared → ℕ
 names_of listing d = entries listing (declared_count d)
 
 typed_again : (most room : ℕ) (ns : List (List ℕ)) (kind : TypeExpression) (rest : List Lexeme) → IsType kind → AreFew (λ listing. entries listing (length ns)) most
-    → Outcome (type_at room (type_words kind ++ rest) >>= λ found. Ok (made ns found.0, found.1)) (made ns kind) rest (type_height kind) room (λ listing. entries listing (length ns)) most
+    → ReadBack (type_at room (type_words kind ++ rest) >>= λ found. Ok (made ns found.0, found.1)) (made ns kind) rest (type_height kind) room (λ listing. entries listing (length ns)) most
 typed_again most room ns kind rest is few =
     elim (type_again room kind rest is) [
       | TypeFound low e ↦ Found low few (rw e refl)
@@ -50,15 +50,15 @@ typed_again most room ns kind rest is few =
     ]
 
 named_again : (most room : ℕ) (ns : List (List ℕ)) (kind : TypeExpression) (rest : List Lexeme) → AreSome IsName ns → IsType kind
-    → Outcome (declared most room (joined name_words (behind kinds.Comma) ns (type_words kind ++ rest))) (made ns kind) rest (type_height kind) room (λ listing. entries listing (length ns)) most
+    → ReadBack (declared most room (joined name_words (behind kinds.Comma) ns (type_words kind ++ rest))) (made ns kind) rest (type_height kind) room (λ listing. entries listing (length ns)) most
 unfolding declared
 named_again most room [] kind rest some is = absurd some
 named_again most room (n ∷ ns) kind rest some is =
     then_again _ (names_again kinds.Comma most n ns (type_words kind ++ rest) some (type_begins kinds.Comma kind rest refl refl refl)) (λ high. absurd (omega (arith, high))) (λ listing. omega arith)
     (λ low few. typed_again most room (n ∷ ns) kind rest is few)
 
-declared_again : (most room : ℕ) (d : Declared) (rest : List Lexeme) → IsDeclared d → Outcome (declared most room (declared_words d rest)) d rest (type_height d.kind) room (λ listing. names_of listing d) most
-declared_again most room d rest is = named_again most room d.names d.kind rest is.0 is.1
+declared_again : (most room : ℕ) (d : Declared) (rest : List Lexeme) → IsDeclared d → ReadBack (declared most room (declared_words d rest)) d rest (type_height d.type_expression) room (λ listing. names_of listing d) most
+declared_again most room d rest is = named_again most room d.names d.type_expression rest is.0 is.1
 
 name_begins : (ns : List (List ℕ)) (rest : List Lexeme) → AreSome IsName ns → begins_name (joined name_words (behind kinds.Comma) ns rest) ≡ true
 unfolding begins_name
@@ -66,9 +66,9 @@ name_begins [] rest some = absurd some
 name_begins (n ∷ ns) rest some = rw some.0 refl
 
 pub declared_begins : (d : Declared) (rest : List Lexeme) → IsDeclared d → begins_name (declared_words d rest) ≡ true
-declared_begins d rest is = name_begins d.names (type_words d.kind ++ rest) is.0
+declared_begins d rest is = name_begins d.names (type_words d.type_expression ++ rest) is.0
 
-no_name : (kind : Kind) (rest : List Lexeme) → begins_name (Mark kind ∷ rest) ≡ false
+no_name : (kind : TokenKind) (rest : List Lexeme) → begins_name (Mark kind ∷ rest) ≡ false
 unfolding begins_name
 no_name kind rest = refl
 
@@ -95,16 +95,16 @@ count_of listing ds = entries listing (sum_by declared_count ds)
 count_cons : (listing : Listing) (d : Declared) (ds : List Declared) → count_of listing (d ∷ ds) ≡ entries listing (declared_count d + sum_by declared_count ds)
 count_cons listing d ds = ap (entries listing) (sum_by-cons declared_count d ds)
 
-abbrev SomeAgain : (separator close : Kind) (trailing : Bool) (rest : List Lexeme) (room most left : ℕ) (d : Declared) (ds : List Declared) → Type 0
+abbrev SomeAgain : (separator close : TokenKind) (trailing : Bool) (rest : List Lexeme) (room most left : ℕ) (d : Declared) (ds : List Declared) → Type 0
 SomeAgain separator close trailing rest room most left d ds =
-    Outcome (some_declared separator close room most left (declared_words d (separated declared_words (behind separator) ds (closing separator close trailing rest)))) (d ∷ ds, trailing) rest
+    ReadBack (some_declared separator close room most left (declared_words d (separated declared_words (behind separator) ds (closing separator close trailing rest)))) (d ∷ ds, trailing) rest
     (highest declared_height (d ∷ ds)) (suc room) (λ listing. count_of listing (d ∷ ds)) left
 
-none_left : (separator close : Kind) (trailing : Bool) (rest : List Lexeme) (room left : ℕ) (d : Declared) (ds : List Declared) → left ≤ 0 → IsDeclared d → SomeAgain separator close trailing rest room 0 left d ds
+none_left : (separator close : TokenKind) (trailing : Bool) (rest : List Lexeme) (room left : ℕ) (d : Declared) (ds : List Declared) → left ≤ 0 → IsDeclared d → SomeAgain separator close trailing rest room 0 left d ds
 unfolding some_declared
 none_left separator close trailing rest room left d ds none is = Many EntriesLimit (omega (arith, count_cons EntriesLimit d ds, some_names d.names is.0)) refl
 
-last_again : (separator close : Kind) (trailing : Bool) (rest : List Lexeme) (room most left : ℕ) (d : Declared) → is_kind close separator ≡ false → IsDeclared d → SomeAgain separator close trailing rest room (suc most) left d []
+last_again : (separator close : TokenKind) (trailing : Bool) (rest : List Lexeme) (room most left : ℕ) (d : Declared) → is_kind close separator ≡ false → IsDeclared d → SomeAgain separator close trailing rest room (suc most) left d []
 unfolding some_declared
 last_again separator close trailing rest room most left d other is =
     elim (declared_again left room d (closing separator close trailing rest) is) [
@@ -113,7 +113,7 @@ last_again separator close trailing rest room most left d other is =
       | Many listing many e ↦ Many listing (omega (arith, count_cons listing d [], many_first listing (declared_count d) 0 left many)) (rw e refl)
     ]
 
-first_again : (separator close : Kind) (trailing : Bool) (rest : List Lexeme) (room most left : ℕ) (d next : Declared) (ds : List Declared) → IsDeclared d → IsDeclared next
+first_again : (separator close : TokenKind) (trailing : Bool) (rest : List Lexeme) (room most left : ℕ) (d next : Declared) (ds : List Declared) → IsDeclared d → IsDeclared next
     → SomeAgain separator close trailing rest room most (left - declared_count d) next ds → SomeAgain separator close trailing rest room (suc most) left d (next ∷ ds)
 unfolding some_declared
 first_again separator close trailing rest room most left d next ds is is' others =
@@ -130,15 +130,15 @@ first_again separator close trailing rest room most left d next ds is is' others
       ]
     ]
 
-some_again : (separator close : Kind) (trailing : Bool) (rest : List Lexeme) (room most left : ℕ) (d : Declared) (ds : List Declared) → is_kind close separator ≡ false → left ≤ most → AreAll IsDeclared (d ∷ ds) → SomeAgain separator close trailing rest room most left d ds
+some_again : (separator close : TokenKind) (trailing : Bool) (rest : List Lexeme) (room most left : ℕ) (d : Declared) (ds : List Declared) → is_kind close separator ≡ false → left ≤ most → AreAll IsDeclared (d ∷ ds) → SomeAgain separator close trailing rest room most left d ds
 some_again separator close trailing rest room zero left d ds other le all = none_left separator close trailing rest room left d ds le all.0
 some_again separator close trailing rest room (suc most) left d [] other le all = last_again separator close trailing rest room most left d other all.0
 some_again separator close trailing rest room (suc most) left d (next ∷ ds) other le all =
     first_again separator close trailing rest room most left d next ds all.0 all.1.0
     (some_again separator close trailing rest room most (left - declared_count d) next ds other (omega (arith, some_names d.names all.0.0)) all.1)
 
-pub all_again : (separator close : Kind) (most room : ℕ) (ds : List Declared) (trailing : Bool) (rest : List Lexeme) → is_kind close separator ≡ false → AreAll IsDeclared ds → IsTrailing ds trailing
-    → Outcome (all_declared separator close most room (joined declared_words (behind separator) ds (closing separator close trailing rest))) (ds, trailing) rest (highest declared_height ds) (suc room) (λ listing. count_of listing ds) most
+pub all_again : (separator close : TokenKind) (most room : ℕ) (ds : List Declared) (trailing : Bool) (rest : List Lexeme) → is_kind close separator ≡ false → AreAll IsDeclared ds → IsTrailing ds trailing
+    → ReadBack (all_declared separator close most room (joined declared_words (behind separator) ds (closing separator close trailing rest))) (ds, trailing) rest (highest declared_height ds) (suc room) (λ listing. count_of listing ds) most
 unfolding all_declared
 all_again separator close most room [] true rest other all last = absurd cc
 all_again separator close most room [] false rest other all last =
@@ -170,13 +170,13 @@ declared_sound most room ws d rest e =
     })
 
 -- fields or parameters that were read
-record AreDeclared (separator close : Kind) (room left : ℕ) (ws : List Lexeme) (found : (List Declared × Bool) × List Lexeme) : Type 0 where
+record AreDeclared (separator close : TokenKind) (room left : ℕ) (ws : List Lexeme) (found : (List Declared × Bool) × List Lexeme) : Type 0 where
   parts : ws ≡ joined declared_words (behind separator) found.0.0 (closing separator close found.0.1 found.1)
   are : AreSome IsDeclared found.0.0
   low : highest declared_height found.0.0 ≤ suc room
   few : sum_by declared_count found.0.0 ≤ left
 
-behind_one : (separator : Kind) (ds : List Declared) (rest : List Lexeme) → AreSome IsDeclared ds → Mark separator ∷ joined declared_words (behind separator) ds rest ≡ separated declared_words (behind separator) ds rest
+behind_one : (separator : TokenKind) (ds : List Declared) (rest : List Lexeme) → AreSome IsDeclared ds → Mark separator ∷ joined declared_words (behind separator) ds rest ≡ separated declared_words (behind separator) ds rest
 behind_one separator [] rest some = absurd some
 behind_one separator (d ∷ ds) rest some = refl
 
@@ -184,10 +184,10 @@ all_of : (ds : List Declared) → AreSome IsDeclared ds → AreAll IsDeclared ds
 all_of [] some = absurd some
 all_of (d ∷ ds) some = some
 
-abbrev ReadsDeclared : (separator close : Kind) (room left : ℕ) → (List Lexeme → Reading (List Declared × Bool)) → Type 0
+abbrev ReadsDeclared : (separator close : TokenKind) (room left : ℕ) → (List Lexeme → Reading (List Declared × Bool)) → Type 0
 ReadsDeclared separator close room left others = (ws : List Lexeme) (found : (List Declared × Bool) × List Lexeme) → others ws ≡ Ok found → AreDeclared separator close room left ws found
 
-followed_sound : (separator close : Kind) (room left : ℕ) (others : List Lexeme → Reading (List Declared × Bool)) (ws : List Lexeme) (d : Declared) (after : List Lexeme) → ReadsDeclared separator close room (left - declared_count d) others → IsOne left room ws d after
+followed_sound : (separator close : TokenKind) (room left : ℕ) (others : List Lexeme → Reading (List Declared × Bool)) (ws : List Lexeme) (d : Declared) (after : List Lexeme) → ReadsDeclared separator close room (left - declared_count d) others → IsOne left room ws d after
     → (next : Next × List Lexeme) (found : (List Declared × Bool) × List Lexeme) → entry_next separator begins_name close after ≡ Ok next → followed d others next ≡ Ok found → AreDeclared separator close room left ws found
 followed_sound separator close room left others ws d after sound one (More, rest) found n e =
     let a = bind_ok (others rest) (λ found. Ok ((d ∷ found.0.0, found.0.1), found.1)) found e in
@@ -212,7 +212,7 @@ followed_sound separator close room left others ws d after sound one (End traili
       few = omega (arith, one.few, sum_by-cons declared_count d []);
     })
 
-some_sound : (separator close : Kind) (room most left : ℕ) → ReadsDeclared separator close room left (some_declared separator close room most left)
+some_sound : (separator close : TokenKind) (room most left : ℕ) → ReadsDeclared separator close room left (some_declared separator close room most left)
 unfolding some_declared
 some_sound separator close room zero left ws found e = absurd cc
 some_sound separator close room (suc most) left ws found e =
@@ -222,7 +222,7 @@ some_sound separator close room (suc most) left ws found e =
     followed_sound separator close room left (others a.0.0) ws a.0.0 a.0.1 (some_sound separator close room most (left - declared_count a.0.0)) (declared_sound left room ws a.0.0 a.0.1 a.1) b.0 found b.1 b.2
 
 -- what was read of a list of fields or parameters
-pub record AreAllDeclared (separator close : Kind) (most room : ℕ) (ws : List Lexeme) (found : (List Declared × Bool) × List Lexeme) : Type 0 where
+pub record AreAllDeclared (separator close : TokenKind) (most room : ℕ) (ws : List Lexeme) (found : (List Declared × Bool) × List Lexeme) : Type 0 where
   pub parts : ws ≡ joined declared_words (behind separator) found.0.0 (closing separator close found.0.1 found.1)
   pub are : AreAll IsDeclared found.0.0
   pub last : IsTrailing found.0.0 found.0.1
@@ -233,7 +233,7 @@ trailing_of : (ds : List Declared) (trailing : Bool) → AreSome IsDeclared ds �
 trailing_of [] trailing some = absurd some
 trailing_of (d ∷ ds) trailing some = tt
 
-either_declared : (separator close : Kind) (most room : ℕ) (b : Bool) (ws : List Lexeme) (found : (List Declared × Bool) × List Lexeme)
+either_declared : (separator close : TokenKind) (most room : ℕ) (b : Bool) (ws : List Lexeme) (found : (List Declared × Bool) × List Lexeme)
     → cond b (some_declared separator close room most most ws) (expect close ws >>= λ after. gave ([], false) after) ≡ Ok found → AreAllDeclared separator close most room ws found
 either_declared separator close most room true ws found e =
     let s = some_sound separator close room most most ws found e in
@@ -248,6 +248,6 @@ either_declared separator close most room false ws found e =
       few = λ listing. omega (arith, entries-le listing 0);
     })
 
-pub all_sound : (separator close : Kind) (most room : ℕ) (ws : List Lexeme) (found : (List Declared × Bool) × List Lexeme) → all_declared separator close most room ws ≡ Ok found → AreAllDeclared separator close most room ws found
+pub all_sound : (separator close : TokenKind) (most room : ℕ) (ws : List Lexeme) (found : (List Declared × Bool) × List Lexeme) → all_declared separator close most room ws ≡ Ok found → AreAllDeclared separator close most room ws found
 unfolding all_declared
 all_sound separator close most room ws found e = either_declared separator close most room (begins_name ws) ws found e

@@ -1,6 +1,6 @@
 -- Fields and parameters one after the other, as a loop reads them.
 use Rattle.std.proofs.Common.{◌≡◌, ℕ, suc, ◌-◌, ◌+◌, ◌<◌, ◌≤◌, Bool, List, [], ◌∷◌, ◌++◌, length, Ok, Err, map, refl, sym, ap, ◌∙◌, arith}
-use Rattle.scanner.specs.declared.kind.Kind.{Kind}
+use Rattle.scanner.specs.declared.kind.TokenKind.{TokenKind}
 use Rattle.go_text.specs.declared.fault.Fault.{Fault}
 use Rattle.syntax.specs.Tree.{Declared}
 use Rattle.syntax.specs.Measures.{Entries}
@@ -16,22 +16,22 @@ use Rattle.parser_simple.specs.Reading.{begins_name}
 use Rattle.parser.specs.Reading.{declared, some_declared}
 
 -- what follows names and a type
-abbrev pub next_of : (separator close : Kind) → List Lexeme → Reading Next
+abbrev pub next_of : (separator close : TokenKind) → List Lexeme → Reading Next
 next_of separator close = entry_next separator begins_name close
 
-turn : (separator close : Kind) (room turns i left : ℕ) (ws : List Lexeme) → i < turns
+turn : (separator close : TokenKind) (room turns i left : ℕ) (ws : List Lexeme) → i < turns
     → some_declared separator close room (turns - i) left ws ≡ (declared left room ws >>= λ first. next_of separator close first.1 >>= λ after. followed first.0 (some_declared separator close room (turns - (i + 1)) (left - length first.0.names)) after)
 unfolding some_declared
 turn separator close room turns i left ws lt =
     let k : turns - i ≡ suc (turns - (i + 1)) = omega arith in
     ap (λ (n : ℕ). some_declared separator close room n left ws) k
 
-pub starts : (separator close : Kind) (room turns left : ℕ) (ws : List Lexeme) → with_front [] (some_declared separator close room (turns - 0) left ws) ≡ some_declared separator close room turns left ws
+pub starts : (separator close : TokenKind) (room turns left : ℕ) (ws : List Lexeme) → with_front [] (some_declared separator close room (turns - 0) left ws) ≡ some_declared separator close room turns left ws
 starts separator close room turns left ws =
     let k : turns - 0 ≡ turns = omega arith in
     same (some_declared separator close room (turns - 0) left ws) ∙ ap (λ (n : ℕ). some_declared separator close room n left ws) k
 
-pub more : (separator close : Kind) (room turns i left fewer : ℕ) (front : List DeclaredNode) (ws : List Lexeme) (x : DeclaredNode) (after rest : List Lexeme) (total : Reading (List Declared × Bool)) → i < turns → fewer ≡ left - length (declared_of x).names → declared left room ws ≡ Ok (declared_of x, after) → next_of separator close after ≡ Ok (More, rest)
+pub more : (separator close : TokenKind) (room turns i left fewer : ℕ) (front : List DeclaredNode) (ws : List Lexeme) (x : DeclaredNode) (after rest : List Lexeme) (total : Reading (List Declared × Bool)) → i < turns → fewer ≡ left - length (declared_of x).names → declared left room ws ≡ Ok (declared_of x, after) → next_of separator close after ≡ Ok (More, rest)
     → with_front (map declared_of front) (some_declared separator close room (turns - i) left ws) ≡ total
     → with_front (map declared_of (front ++ x ∷ [])) (some_declared separator close room (turns - (i + 1)) fewer rest) ≡ total
 more separator close room turns i left fewer front ws x after rest total lt count e n so_far =
@@ -39,20 +39,20 @@ more separator close room turns i left fewer front ws x after rest total lt coun
     let begins : some_declared separator close room (turns - i) left ws ≡ (others >>= λ others. Ok ((declared_of x ∷ others.0.0, others.0.1), others.1)) = turn separator close room turns i left ws lt ∙ rw (e, n, ← count) refl in
     sym (ap (with_front (map declared_of front)) begins ∙ regroup declared_of front x others) ∙ so_far
 
-pub ends : (separator close : Kind) (room turns i left : ℕ) (front : List DeclaredNode) (ws : List Lexeme) (x : DeclaredNode) (trailing : Bool) (after rest : List Lexeme) (total : Reading (List Declared × Bool)) → i < turns → declared left room ws ≡ Ok (declared_of x, after) → next_of separator close after ≡ Ok (End trailing, rest)
+pub ends : (separator close : TokenKind) (room turns i left : ℕ) (front : List DeclaredNode) (ws : List Lexeme) (x : DeclaredNode) (trailing : Bool) (after rest : List Lexeme) (total : Reading (List Declared × Bool)) → i < turns → declared left room ws ≡ Ok (declared_of x, after) → next_of separator close after ≡ Ok (End trailing, rest)
     → with_front (map declared_of front) (some_declared separator close room (turns - i) left ws) ≡ total → total ≡ Ok ((map declared_of (front ++ x ∷ []), trailing), rest)
 ends separator close room turns i left front ws x trailing after rest total lt e n so_far =
     let begins : some_declared separator close room (turns - i) left ws ≡ Ok ((declared_of x ∷ [], trailing), rest) = turn separator close room turns i left ws lt ∙ rw (e, n) refl in
     sym so_far ∙ ap (with_front (map declared_of front)) begins ∙ ap (λ (xs : List Declared). Ok ((xs, trailing), rest)) (sym (one_more declared_of front x))
 
-pub one_fails : (fault : Fault) (separator close : Kind) (room turns i left : ℕ) (front : List Declared) (ws : List Lexeme) (total : Reading (List Declared × Bool)) → i < turns → Fails fault (declared left room ws)
+pub one_fails : (fault : Fault) (separator close : TokenKind) (room turns i left : ℕ) (front : List Declared) (ws : List Lexeme) (total : Reading (List Declared × Bool)) → i < turns → Fails fault (declared left room ws)
     → with_front front (some_declared separator close room (turns - i) left ws) ≡ total → Fails fault total
 one_fails fault separator close room turns i left front ws total lt fails so_far =
     fails_on fault (declared left room ws) total fails (λ r e.
     let begins : some_declared separator close room (turns - i) left ws ≡ Err r = turn separator close room turns i left ws lt ∙ rw e refl in
     sym so_far ∙ ap (with_front front) begins)
 
-pub next_fails : (fault : Fault) (separator close : Kind) (room turns i left : ℕ) (front : List Declared) (ws : List Lexeme) (x : Declared) (after : List Lexeme) (total : Reading (List Declared × Bool)) → i < turns → declared left room ws ≡ Ok (x, after) → Fails fault (next_of separator close after)
+pub next_fails : (fault : Fault) (separator close : TokenKind) (room turns i left : ℕ) (front : List Declared) (ws : List Lexeme) (x : Declared) (after : List Lexeme) (total : Reading (List Declared × Bool)) → i < turns → declared left room ws ≡ Ok (x, after) → Fails fault (next_of separator close after)
     → with_front front (some_declared separator close room (turns - i) left ws) ≡ total → Fails fault total
 next_fails fault separator close room turns i left front ws x after total lt o fails so_far =
     fails_on fault (next_of separator close after) total fails (λ r e.
@@ -60,7 +60,7 @@ next_fails fault separator close room turns i left front ws x after total lt o f
     sym so_far ∙ ap (with_front front) begins)
 
 -- no turn is left
-pub is_full : (separator close : Kind) (room turns i left : ℕ) (front : List Declared) (ws : List Lexeme) (total : Reading (List Declared × Bool)) → turns ≤ i
+pub is_full : (separator close : TokenKind) (room turns i left : ℕ) (front : List Declared) (ws : List Lexeme) (total : Reading (List Declared × Bool)) → turns ≤ i
     → with_front front (some_declared separator close room (turns - i) left ws) ≡ total → total ≡ Err (TooMany Entries)
 unfolding some_declared
 is_full separator close room turns i left front ws total le so_far =

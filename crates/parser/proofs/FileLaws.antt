@@ -1,6 +1,6 @@
 -- Files: what is spelt is read, what is read is spelt so, and at most one file is spelt.
 use Rattle.std.proofs.Common.{◌≡◌, ℕ, suc, ◌+◌, ◌<◌, ◌≤◌, Bool, false, max, List, [], ◌∷◌, length, Result, Ok, Err, refl, sym, ap, ◌∙◌, subst, arith, codes}
-use Rattle.scanner.specs.declared.kind.Kind.TheVariants as kinds
+use Rattle.scanner.specs.declared.kind.TokenKind.TheVariants as kinds
 use Rattle.syntax.specs.Tree.{Top, StructTop, FunctionTop, File}
 use Rattle.syntax.specs.Measures.{Listing, Entries as EntriesLimit, SelectClauses, highest, top_height, top_longest, longest, height, most_entries, most_clauses}
 use Rattle.parser_base.specs.declared.list.Next.{Next}
@@ -9,7 +9,7 @@ use Rattle.parser_base.specs.Lexemes.{Lexeme, Name, Mark}
 use Rattle.parser_base.specs.Spelling.{behind, separated, joined, AreAll, AreSome}
 use Rattle.parser_base.specs.Reading.{Refusal, Syntax, TooDeep, TooMany, Reading, ◌>>=◌, expect, expect_name, listed}
 use Rattle.parser_base.proofs.Marks.{bind_ok, ok_is, expect_is, expect_name_is}
-use Rattle.parser_base.proofs.ListLaws.{AreFew, Outcome, Found as OneFound, High as OneHigh, Many as OneMany, Found as AllFound, High as AllHigh, Many as AllMany, Full, Entries, all_again, IsReadAgain, Separates, listed_again, ReadsSoundly, listed_sound}
+use Rattle.parser_base.proofs.ListLaws.{AreFew, ReadBack, Found as OneFound, High as OneHigh, Many as OneMany, Found as AllFound, High as AllHigh, Many as AllMany, Full, Entries, all_again, IsReadAgain, Separates, listed_again, ReadsSoundly, listed_sound}
 use Rattle.parser.specs.Spelling.{top_words, IsTop, tops_words, words, Spells}
 use Rattle.parser.specs.Reading.{top, more_tops, top_next, tops, file}
 use Rattle.parser.proofs.Sizes.{top_longer, tops_longer}
@@ -67,7 +67,7 @@ begun_tops most room (StructTop s) rest = refl
 begun_tops most room (FunctionTop f) rest = refl
 
 abbrev TopsOutcome : (room most : ℕ) → Reading (List Top × Bool) → List Top → Type 0
-TopsOutcome room most read ts = Outcome read (ts, false) [] (highest top_height ts) (suc (suc room)) (λ listing. highest (top_longest listing) ts) most
+TopsOutcome room most read ts = ReadBack read (ts, false) [] (highest top_height ts) (suc (suc room)) (λ listing. highest (top_longest listing) ts) most
 
 some_again : (room most : ℕ) (t : Top) (ts : List Top) → AreAll IsTop (t ∷ ts) → TopsOutcome room most (tops most room (joined top_words (behind kinds.Semicolon) (t ∷ ts) (Mark kinds.Semicolon ∷ []))) (t ∷ ts)
 some_again room most t ts all =

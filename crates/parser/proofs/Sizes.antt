@@ -1,8 +1,8 @@
 -- A tree has no more nodes than lexemes.
 use Rattle.std.proofs.Common.{ℕ, ◌+◌, ◌≤◌, List, [], ◌∷◌, ◌++◌, length, sum_by, arith, length-append, Option, Some, None}
 use Rattle.std.proofs.lemmas.List.Sums.{sum_by-cons}
-use Rattle.scanner.specs.declared.kind.Kind.{Kind}
-use Rattle.scanner.specs.declared.kind.Kind.TheVariants as kinds
+use Rattle.scanner.specs.declared.kind.TokenKind.{TokenKind}
+use Rattle.scanner.specs.declared.kind.TokenKind.TheVariants as kinds
 use Rattle.syntax.specs.Tree.{TypeExpression, statements_in, Declared, Struct, Function, Top, StructTop, FunctionTop, File}
 use Rattle.syntax.specs.Measures.{function_size, top_size, size, if_any, type_size, declared_size}
 use Rattle.parser_base.specs.Lexemes.{Lexeme, Mark}
@@ -20,17 +20,17 @@ declared_grows [] kind rest some = absurd some
 declared_grows (n ∷ ns) kind rest some =
     omega (arith, type_size-le kind, length-append (type_words kind) rest, separated_size (λ (n : List ℕ). 0) name_words kinds.Comma ns (type_words kind ++ rest) (λ n ws. omega arith))
 
-more_declared_grow : (separator : Kind) (ds : List Declared) (rest : List Lexeme) → AreAll IsDeclared ds → sum_by declared_size ds + length rest ≤ length (separated declared_words (behind separator) ds rest)
+more_declared_grow : (separator : TokenKind) (ds : List Declared) (rest : List Lexeme) → AreAll IsDeclared ds → sum_by declared_size ds + length rest ≤ length (separated declared_words (behind separator) ds rest)
 more_declared_grow separator [] rest are = omega arith
 more_declared_grow separator (d ∷ ds) rest are =
     let behind' = separated declared_words (behind separator) ds rest in
-    omega (arith, sum_by-cons declared_size d ds, more_declared_grow separator ds rest are.1, declared_grows d.names d.kind behind' are.0.0)
+    omega (arith, sum_by-cons declared_size d ds, more_declared_grow separator ds rest are.1, declared_grows d.names d.type_expression behind' are.0.0)
 
-all_declared_grow : (separator : Kind) (ds : List Declared) (rest : List Lexeme) → AreAll IsDeclared ds → sum_by declared_size ds + length rest ≤ length (joined declared_words (behind separator) ds rest)
+all_declared_grow : (separator : TokenKind) (ds : List Declared) (rest : List Lexeme) → AreAll IsDeclared ds → sum_by declared_size ds + length rest ≤ length (joined declared_words (behind separator) ds rest)
 all_declared_grow separator [] rest are = omega arith
 all_declared_grow separator (d ∷ ds) rest are =
     let behind' = separated declared_words (behind separator) ds rest in
-    omega (arith, sum_by-cons declared_size d ds, more_declared_grow separator ds rest are.1, declared_grows d.names d.kind behind' are.0.0)
+    omega (arith, sum_by-cons declared_size d ds, more_declared_grow separator ds rest are.1, declared_grows d.names d.type_expression behind' are.0.0)
 
 result_grows : (kind : Option TypeExpression) (rest : List Lexeme) → if_any type_size kind + length rest ≤ length (result_words kind rest)
 result_grows None rest = omega arith

@@ -1,6 +1,6 @@
 -- Declarations: what is spelt is read, and what is read is spelt so.
 use Rattle.std.proofs.Common.{◌≡◌, ℕ, suc, ◌≤◌, Bool, false, Option, Some, None, List, [], ◌∷◌, ◌++◌, length, Ok, inl, inr, refl, sym, ap, ◌∙◌, subst, arith}
-use Rattle.scanner.specs.declared.kind.Kind.TheVariants as kinds
+use Rattle.scanner.specs.declared.kind.TokenKind.TheVariants as kinds
 use Rattle.syntax.specs.Tree.{TypeExpression, Statement, statements_in, statements as made_statements, Declared, Struct, Function, Top, StructTop, FunctionTop}
 use Rattle.syntax.specs.Measures.{highest, if_any, type_height, statement_height, statement_longest, declared_height, top_height, top_longest}
 use Rattle.syntax.proofs.Lists.{statements-statements_in, statements_in-statements, statements_height-of, statements_longest-of}
@@ -9,7 +9,7 @@ use Rattle.parser_base.specs.Spelling.{behind, separated, joined, closing, AreSo
 use Rattle.parser_base.specs.Reading.{Syntax, Reading, ◌>>=◌, expect, plain_name, listed}
 use Rattle.parser_base.specs.TypeReading.{type_words, type_at}
 use Rattle.parser_base.proofs.Marks.{bind_ok, ok_is, expect_is, plain_name_is}
-use Rattle.parser_base.proofs.ListLaws.{AreFew, Outcome, Found, High, Many, Found as AllFound, High as AllHigh, Many as AllMany, Full, all_again, IsReadAgain, listed_again, listed_sound}
+use Rattle.parser_base.proofs.ListLaws.{AreFew, ReadBack, Found, High, Many, Found as AllFound, High as AllHigh, Many as AllMany, Full, all_again, IsReadAgain, listed_again, listed_sound}
 use Rattle.parser_base.proofs.Steps.{then_again, gave, made_is, either}
 use Rattle.parser_base.proofs.TypeLaws.{Found as TypeFound, High as TypeHigh, type_again, type_sound}
 use Rattle.parser_simple.specs.Reading.{as_one, begins_with}
@@ -24,7 +24,7 @@ use Rattle.parser.proofs.DeclaredLaws.{type_begins, count_of, all_again as decla
 -- ---- what is spelt is read
 
 abbrev pub TopOutcome : (most room : ℕ) → Reading Top → Top → List Lexeme → Type 0
-TopOutcome most room read t rest = Outcome read t rest (top_height t) (suc (suc room)) (λ listing. top_longest listing t) most
+TopOutcome most room read t rest = ReadBack read t rest (top_height t) (suc (suc room)) (λ listing. top_longest listing t) most
 
 struct_again : (most room : ℕ) (s : Struct) (rest : List Lexeme) → IsStruct s → TopOutcome most room (structure most room (struct_words s rest)) (StructTop s) rest
 unfolding structure expect plain_name
@@ -37,20 +37,20 @@ no_brace : (kind : TypeExpression) (rest : List Lexeme) → begins_with kinds.Le
 no_brace kind rest = type_begins kinds.LeftBrace kind rest refl refl refl
 
 typed_again : (most room : ℕ) (kind : TypeExpression) (rest : List Lexeme) → IsResult (Some kind)
-    → Outcome (as_one (λ t. Some t) (type_at room (type_words kind ++ rest))) (Some kind) rest (type_height kind) room (λ listing. 0) most
+    → ReadBack (as_one (λ t. Some t) (type_at room (type_words kind ++ rest))) (Some kind) rest (type_height kind) room (λ listing. 0) most
 typed_again most room kind rest is =
     elim (type_again room kind rest is) [
       | TypeFound low e ↦ Found low (λ listing. omega arith) (rw e refl)
       | TypeHigh high e ↦ High high (rw e refl)
     ]
 
-result_again : (most room : ℕ) (kind : Option TypeExpression) (rest : List Lexeme) → IsResult kind → Outcome (result_type room (result_words kind (Mark kinds.LeftBrace ∷ rest))) kind (Mark kinds.LeftBrace ∷ rest) (if_any type_height kind) room (λ listing. 0) most
+result_again : (most room : ℕ) (kind : Option TypeExpression) (rest : List Lexeme) → IsResult kind → ReadBack (result_type room (result_words kind (Mark kinds.LeftBrace ∷ rest))) kind (Mark kinds.LeftBrace ∷ rest) (if_any type_height kind) room (λ listing. 0) most
 unfolding result_type begins_with
 result_again most room None rest is = Found (omega arith) (λ listing. omega arith) refl
 result_again most room (Some kind) rest is = rw (no_brace kind (Mark kinds.LeftBrace ∷ rest)) (typed_again most room kind (Mark kinds.LeftBrace ∷ rest) is)
 
 block_again : (most room : ℕ) (body : List Statement) (rest : List Lexeme) → AreSome IsStatement body
-    → Outcome (block most room (block_words body rest)) (body, false) rest (highest statement_height body) room (λ listing. highest (statement_longest listing) body) most
+    → ReadBack (block most room (block_words body rest)) (body, false) rest (highest statement_height body) room (λ listing. highest (statement_longest listing) body) most
 unfolding block expect
 block_again most room [] rest some = absurd some
 block_again most room (s ∷ ss) rest some =

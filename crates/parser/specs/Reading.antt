@@ -1,7 +1,7 @@
 -- Reading from left to right.
 use Rattle.std.specs.Prelude.{ℕ, zero, suc, ◌-◌, Bool, false, Option, Some, None, List, [], ◌∷◌, Result, Ok, Err, if◌then◌else◌, length, codes}
-use Rattle.scanner.specs.declared.kind.Kind.{Kind}
-use Rattle.scanner.specs.declared.kind.Kind.TheVariants as kinds
+use Rattle.scanner.specs.declared.kind.TokenKind.{TokenKind}
+use Rattle.scanner.specs.declared.kind.TokenKind.TheVariants as kinds
 use Rattle.syntax.specs.Tree.{TypeExpression, Statement, statements, Declared, Top, StructTop, FunctionTop, File}
 use Rattle.syntax.specs.Measures.{Entries}
 use Rattle.parser_base.specs.declared.list.Next.{Next}
@@ -19,18 +19,18 @@ unfoldable pub declared : ℕ → ℕ → List Lexeme → Reading Declared
 declared most room words = do
   all ← names kinds.Comma most words
   kind ← type_at room all.1
-  Ok (record { names = all.0.0; kind = kind.0 }, kind.1)
+  Ok (record { names = all.0.0; type_expression = kind.0 }, kind.1)
 
 -- at least one field or parameter, of which there are at most so many, to the closing mark; `left` is how many names
 -- there may still be
-unfoldable pub some_declared : (separator close : Kind) → (room most left : ℕ) → List Lexeme → Reading (List Declared × Bool)
+unfoldable pub some_declared : (separator close : TokenKind) → (room most left : ℕ) → List Lexeme → Reading (List Declared × Bool)
 some_declared separator close room zero left words = Err (TooMany Entries)
 some_declared separator close room (suc most) left words =
     declared left room words >>= λ first. entry_next separator begins_name close first.1 >>= λ after.
     followed first.0 (some_declared separator close room most (left - length first.0.names)) after
 
 -- fields or parameters to the closing mark
-unfoldable pub all_declared : (separator close : Kind) → (most room : ℕ) → List Lexeme → Reading (List Declared × Bool)
+unfoldable pub all_declared : (separator close : TokenKind) → (most room : ℕ) → List Lexeme → Reading (List Declared × Bool)
 all_declared separator close most room words =
     if begins_name words then some_declared separator close room most most words
     else (expect close words >>= λ after. Ok (([], false), after))

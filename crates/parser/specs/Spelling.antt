@@ -2,7 +2,7 @@
 --
 -- `top_words top rest` is the declaration, and then `rest`; so with the others.
 use Rattle.std.specs.Prelude.{◌≡◌, Option, Some, None, List, [], ◌∷◌, ◌++◌, codes}
-use Rattle.scanner.specs.declared.kind.Kind.TheVariants as kinds
+use Rattle.scanner.specs.declared.type_expression.TokenKind.TheVariants as kinds
 use Rattle.syntax.specs.Tree.{TypeExpression, Statement, statements_in, Declared, Struct, Function, Top, StructTop, FunctionTop, File}
 use Rattle.parser_base.specs.Lexemes.{Lexeme, Name, Mark}
 use Rattle.parser_base.specs.Spelling.{behind, joined, closing, AreAll, AreSome, IsTrailing}
@@ -14,10 +14,10 @@ use Rattle.parser_statement.specs.Spelling.{statement_words, IsStatement}
 
 -- names with commas between them, and their type
 abbrev pub declared_words : Declared → List Lexeme → List Lexeme
-declared_words declared rest = joined name_words (behind kinds.Comma) declared.names (type_words declared.kind ++ rest)
+declared_words declared rest = joined name_words (behind kinds.Comma) declared.names (type_words declared.type_expression ++ rest)
 
 abbrev pub IsDeclared : Declared → Type 0
-IsDeclared declared = AreSome IsName declared.names × IsType declared.kind
+IsDeclared declared = AreSome IsName declared.names × IsType declared.type_expression
 
 -- ---- declarations
 

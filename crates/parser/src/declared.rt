@@ -1,7 +1,7 @@
 //! Fields of struct types, and parameters of functions.
 
 ghost use Rattle.std.specs.Prelude.{◌≡◌, ◌+◌, IfOk, map, sum_by, vec_len};
-ghost use Rattle.scanner.specs.declared.kind.Kind.{Kind};
+ghost use Rattle.scanner.specs.declared.kind.TokenKind.{TokenKind};
 ghost use Rattle.syntax.specs.Measures.{declared_size};
 ghost use Rattle.syntax.specs.View.{declared_of};
 ghost use Rattle.parser_base.specs.Cursor.{ahead};
@@ -16,15 +16,15 @@ use parser_base::list::{List, MAX_ENTRIES, Next};
 use parser_base::types::type_at;
 use parser_simple::form::begins_name;
 use parser_simple::place::names;
-use scanner::Kind;
+use scanner::TokenKind;
 use std::alloc::Global;
 use syntax::DeclaredNode;
 
 /// What follows the type of fields or parameters, with the span of its last token.
 #[tactic(auto, unfolding(parser_base::specs::Reading::entry_next))]
 fn declared_next(
-    separator: Kind,
-    close: Kind,
+    separator: TokenKind,
+    close: TokenKind,
     cursor: Cursor<'_>,
 ) -> Result<(Next, Span, Cursor<'_>), Fault>
     ensures { Gives (λ x. (x.0, ahead x.2)) result (entry_next separator begins_name close (ahead cursor.entry)) }
@@ -54,7 +54,7 @@ fn declared<'a>(
     ensures nodes { IfOk result (λ x. vec_len spans.new ≡ vec_len spans.old + declared_size (declared_of x.0)) }
 {
     let from = cursor.place().span.from;
-    let all = names(alloc, Kind::Comma, most, cursor)?;
+    let all = names(alloc, TokenKind::Comma, most, cursor)?;
     let found = type_at(alloc, room, all.rest, spans)?;
     spans.push(Span {
         from,
@@ -63,7 +63,7 @@ fn declared<'a>(
     Ok((
         DeclaredNode {
             names: all.entries,
-            kind: found.kind,
+            type_node: found.kind,
         },
         found.rest,
     ))
@@ -72,8 +72,8 @@ fn declared<'a>(
 /// At least one field or parameter, to the closing mark.
 fn some_declared<'a>(
     alloc: Global,
-    separator: Kind,
-    close: Kind,
+    separator: TokenKind,
+    close: TokenKind,
     room: u32,
     cursor: Cursor<'a>,
     spans: &mut Vec<Span>,
@@ -110,8 +110,8 @@ fn some_declared<'a>(
 #[tactic(auto, unfolding(crate::specs::Reading::all_declared))]
 pub(crate) fn all_declared<'a>(
     alloc: Global,
-    separator: Kind,
-    close: Kind,
+    separator: TokenKind,
+    close: TokenKind,
     room: u32,
     cursor: Cursor<'a>,
     spans: &mut Vec<Span>,

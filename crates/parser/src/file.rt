@@ -11,7 +11,7 @@ use crate::top::{STATEMENT_ROOM, top};
 use go_text::{Fault, Span};
 use parser_base::cursor::Cursor;
 use parser_base::list::{List, MAX_ENTRIES, Next};
-use scanner::Kind;
+use scanner::TokenKind;
 use std::alloc::Global;
 use syntax::{FileNode, TopNode};
 
@@ -20,7 +20,7 @@ use syntax::{FileNode, TopNode};
 fn top_next(cursor: Cursor<'_>) -> Result<(Next, Span, Cursor<'_>), Fault>
     ensures { Gives (λ x. (x.0, ahead x.2)) result (top_next (ahead cursor.entry)) }
 {
-    let (last, rest) = cursor.expect(Kind::Semicolon)?;
+    let (last, rest) = cursor.expect(TokenKind::Semicolon)?;
     let next = match rest.next() {
         Some(_) => Next::More,
         None => Next::End(false),
@@ -88,9 +88,9 @@ pub(crate) fn file(
     ensures file { Gives file_of result (file MAX_ENTRIES STATEMENT_ROOM (ahead cursor.entry)) }
     ensures nodes { IfOk result (λ f. vec_len spans.new ≡ vec_len spans.old + size (file_of f)) }
 {
-    let (package, rest) = cursor.expect(Kind::Package)?;
+    let (package, rest) = cursor.expect(TokenKind::Package)?;
     let rest = rest.expect_name(b"main")?;
-    let (first, rest) = rest.expect(Kind::Semicolon)?;
+    let (first, rest) = rest.expect(TokenKind::Semicolon)?;
     let all = tops(alloc, first, rest, spans)?;
     spans.push(Span {
         from: package.from,

@@ -16,7 +16,7 @@ use parser_base::types::type_at;
 use parser_simple::form::begins_with;
 use parser_simple::place::name_at;
 use parser_statement::statement::statements;
-use scanner::Kind;
+use scanner::TokenKind;
 use std::alloc::Global;
 use syntax::{FunctionNode, StatementNode, StructNode, TopNode, TypeNode};
 
@@ -33,14 +33,14 @@ fn structure<'a>(
     ensures top { Gives (λ x. (top_of x.0, ahead x.1)) result (structure MAX_ENTRIES STATEMENT_ROOM (ahead cursor.entry)) }
     ensures nodes { IfOk result (λ x. vec_len spans.new ≡ vec_len spans.old + top_size (top_of x.0)) }
 {
-    let (first, rest) = cursor.expect(Kind::TypeKeyword)?;
+    let (first, rest) = cursor.expect(TokenKind::TypeKeyword)?;
     let (name, _, rest) = name_at(alloc, rest)?;
-    let (_, rest) = rest.expect(Kind::Struct)?;
-    let (_, rest) = rest.expect(Kind::LeftBrace)?;
+    let (_, rest) = rest.expect(TokenKind::Struct)?;
+    let (_, rest) = rest.expect(TokenKind::LeftBrace)?;
     let fields = all_declared(
         alloc,
-        Kind::Semicolon,
-        Kind::RightBrace,
+        TokenKind::Semicolon,
+        TokenKind::RightBrace,
         STATEMENT_ROOM,
         rest,
         spans,
@@ -69,7 +69,7 @@ fn result_type<'a>(
     ensures kind { Gives (λ x. (option_map type_of x.0, ahead x.1)) result (result_type (STATEMENT_ROOM + 1) (ahead cursor.entry)) }
     ensures nodes { IfOk result (λ x. vec_len spans.new ≡ vec_len spans.old + if_any type_size (option_map type_of x.0)) }
 {
-    if begins_with(Kind::LeftBrace, cursor) {
+    if begins_with(TokenKind::LeftBrace, cursor) {
         return Ok((None, cursor));
     }
     let found = type_at(alloc, STATEMENT_ROOM + 1, cursor, spans)?;
@@ -86,7 +86,7 @@ fn block<'a>(
     ensures block { Gives (λ x. ((map statement_of x.entries.items, x.trailing), ahead x.rest)) result (block MAX_ENTRIES STATEMENT_ROOM (ahead cursor.entry)) }
     ensures nodes { IfOk result (λ x. vec_len spans.new ≡ vec_len spans.old + block_size (statements (map statement_of x.entries.items))) }
 {
-    let (brace, rest) = cursor.expect(Kind::LeftBrace)?;
+    let (brace, rest) = cursor.expect(TokenKind::LeftBrace)?;
     let body = statements(alloc, STATEMENT_ROOM, rest, spans)?;
     spans.push(Span {
         from: brace.from,
@@ -105,13 +105,13 @@ fn function<'a>(
     ensures top { Gives (λ x. (top_of x.0, ahead x.1)) result (function MAX_ENTRIES STATEMENT_ROOM (ahead cursor.entry)) }
     ensures nodes { IfOk result (λ x. vec_len spans.new ≡ vec_len spans.old + top_size (top_of x.0)) }
 {
-    let (first, rest) = cursor.expect(Kind::Func)?;
+    let (first, rest) = cursor.expect(TokenKind::Func)?;
     let (name, _, rest) = name_at(alloc, rest)?;
-    let (_, rest) = rest.expect(Kind::LeftParenthesis)?;
+    let (_, rest) = rest.expect(TokenKind::LeftParenthesis)?;
     let parameters = all_declared(
         alloc,
-        Kind::Comma,
-        Kind::RightParenthesis,
+        TokenKind::Comma,
+        TokenKind::RightParenthesis,
         STATEMENT_ROOM,
         rest,
         spans,
@@ -144,7 +144,7 @@ pub(crate) fn top<'a>(
     ensures top { Gives (λ x. (top_of x.0, ahead x.1)) result (top MAX_ENTRIES STATEMENT_ROOM (ahead cursor.entry)) }
     ensures nodes { IfOk result (λ x. vec_len spans.new ≡ vec_len spans.old + top_size (top_of x.0)) }
 {
-    if begins_with(Kind::TypeKeyword, cursor) {
+    if begins_with(TokenKind::TypeKeyword, cursor) {
         structure(alloc, cursor, spans)
     } else {
         function(alloc, cursor, spans)

@@ -1,8 +1,8 @@
 -- What is spelt as an expression is read.
 use Rattle.std.proofs.Common.{◌≡◌, ℕ, zero, suc, ◌+◌, ◌-◌, ◌<◌, ◌≤◌, List, [], ◌∷◌, ◌++◌, length, Option, Some, None, Ok, Err, Bool, true, false, leb, max, inl, inr, refl, ap, ◌∙◌, subst, arith, append_assoc}
 use Rattle.std.proofs.lemmas.Bool.{le-leb, lt-leb, cases_lt}
-use Rattle.scanner.specs.declared.kind.Kind.{Kind}
-use Rattle.scanner.specs.declared.kind.Kind.TheVariants as kinds
+use Rattle.scanner.specs.declared.kind.TokenKind.{TokenKind}
+use Rattle.scanner.specs.declared.kind.TokenKind.TheVariants as kinds
 use Rattle.syntax.specs.declared.node.BinaryOperator.{BinaryOperator}
 use Rattle.syntax.specs.declared.node.BinaryOperator.TheVariants as binaries
 use Rattle.syntax.specs.declared.node.UnaryOperator.{UnaryOperator}
@@ -10,23 +10,23 @@ use Rattle.syntax.specs.declared.node.UnaryOperator.TheVariants as unaries
 use Rattle.syntax.specs.Tree.{Expression, Integer, Named, Parenthesized, Selection, Composite, Unary, Binary, Expressions, NoMore, Behind, expressions, expressions_in}
 use Rattle.syntax.specs.Measures.{Listing, Entries, SelectClauses, entries, highest, expression_height, expressions_height, expression_longest, expressions_longest, expressions_count}
 use Rattle.syntax.proofs.Lists.{expressions-expressions_in}
-use Rattle.parser_base.specs.declared.operator.Step.{Step}
-use Rattle.parser_base.specs.declared.operator.Step.TheVariants.{Operator, Period}
+use Rattle.parser_base.specs.declared.operator.Infix.{Infix}
+use Rattle.parser_base.specs.declared.operator.Infix.TheVariants.{Operator, Period}
 use Rattle.parser_base.specs.declared.list.Next.TheVariants.{More, End}
 use Rattle.parser_base.specs.Lexemes.{Lexeme, Literal, Name, Text, Mark}
 use Rattle.parser_base.specs.Spelling.{is_builtin, behind, joined, separated, closing, before, AreAll, IsTrailing, HasLast, expression_words, expressions_words, more_words, outer_precedence, precedence, IsGrouped, AreGrouped, unary_kind, binary_kind}
-use Rattle.parser_base.specs.Reading.{Reading, TooDeep, TooMany, ◌>>=◌, is_kind, begins, entry_next, value_next, values, composite, named, step_of, strength, binding, step_at, negated, parenthesized, operand, applied, operation, operations, expression}
+use Rattle.parser_base.specs.Reading.{Reading, TooDeep, TooMany, ◌>>=◌, is_kind, begins, entry_next, value_next, values, composite, named, infix_of, strength, binding, step_at, negated, parenthesized, operand, applied, operation, operations, expression}
 use Rattle.parser_base.proofs.Marks.{is_kind_same, expect_again, plain_name_again}
-use Rattle.parser_base.proofs.ListLaws.{AreFew, Outcome, Found, High, Many, Found as AllFound, High as AllHigh, Many as AllMany, Full, Entries as Listed, IsReadAgain, Separates, listed_again, all_again}
+use Rattle.parser_base.proofs.ListLaws.{AreFew, ReadBack, Found, High, Many, Found as AllFound, High as AllHigh, Many as AllMany, Full, Entries as Listed, IsReadAgain, Separates, listed_again, all_again}
 
 -- ---- operators
 
 -- the mark of a step
-abbrev pub step_kind : Step → Kind
+abbrev pub step_kind : Infix → TokenKind
 step_kind (Operator o) = binary_kind o
 step_kind Period = kinds.Period
 
-operator_again : (o : BinaryOperator) → step_of (binary_kind o) ≡ Some (Operator o)
+operator_again : (o : BinaryOperator) → infix_of (binary_kind o) ≡ Some (Operator o)
 operator_again binaries.Add = refl
 operator_again binaries.Subtract = refl
 operator_again binaries.Multiply = refl
@@ -47,7 +47,7 @@ operator_again binaries.GreaterEqual = refl
 operator_again binaries.LogicalAnd = refl
 operator_again binaries.LogicalOr = refl
 
-step_again : (s : Step) → step_of (step_kind s) ≡ Some s
+step_again : (s : Infix) → infix_of (step_kind s) ≡ Some s
 step_again (Operator o) = operator_again o
 step_again Period = refl
 
@@ -100,7 +100,7 @@ precedence-lt binaries.GreaterEqual = omega arith
 precedence-lt binaries.LogicalAnd = omega arith
 precedence-lt binaries.LogicalOr = omega arith
 
-pub strength-lt : (s : Step) → strength s < 8
+pub strength-lt : (s : Infix) → strength s < 8
 strength-lt (Operator o) = omega (arith, precedence-lt o)
 strength-lt Period = omega arith
 
@@ -113,7 +113,7 @@ outer_precedence-le (Composite name vs trailing) = omega arith
 outer_precedence-le (Unary o inner) = omega arith
 outer_precedence-le (Binary o l r) = omega (arith, precedence-lt o)
 
-binding_up : (a b : ℕ) (ws : List Lexeme) (s : Option Step) → a ≤ b → binding a ws s ≡ None → binding b ws s ≡ None
+binding_up : (a b : ℕ) (ws : List Lexeme) (s : Option Infix) → a ≤ b → binding a ws s ≡ None → binding b ws s ≡ None
 binding_up a b ws None le e = refl
 binding_up a b ws (Some s) le e =
     elim (cases_lt (strength s) b) [
@@ -128,9 +128,9 @@ none_above a b [] le e = refl
 none_above a b (Literal value ∷ ws) le e = refl
 none_above a b (Name bytes ∷ ws) le e = refl
 none_above a b (Text bytes ∷ ws) le e = refl
-none_above a b (Mark kind ∷ ws) le e = binding_up a b ws (step_of kind) le e
+none_above a b (Mark kind ∷ ws) le e = binding_up a b ws (infix_of kind) le e
 
-binding_strong : (ws : List Lexeme) (s : Option Step) → binding 8 ws s ≡ None
+binding_strong : (ws : List Lexeme) (s : Option Infix) → binding 8 ws s ≡ None
 binding_strong ws None = refl
 binding_strong ws (Some s) = rw (lt-leb 8 (strength s) (strength-lt s)) refl
 
@@ -141,9 +141,9 @@ none_strong [] = refl
 none_strong (Literal value ∷ ws) = refl
 none_strong (Name bytes ∷ ws) = refl
 none_strong (Text bytes ∷ ws) = refl
-none_strong (Mark kind ∷ ws) = binding_strong ws (step_of kind)
+none_strong (Mark kind ∷ ws) = binding_strong ws (infix_of kind)
 
-binding_unary : (ws : List Lexeme) (s : Option Step) → binding 7 ws s ≡ None → binding 6 ws s ≡ None
+binding_unary : (ws : List Lexeme) (s : Option Infix) → binding 7 ws s ≡ None → binding 6 ws s ≡ None
 binding_unary ws None e = refl
 binding_unary ws (Some (Operator o)) e = rw (lt-leb 6 (precedence o) (precedence-lt o)) refl
 binding_unary ws (Some Period) e = absurd cc
@@ -155,13 +155,13 @@ none_unary [] e = refl
 none_unary (Literal value ∷ ws) e = refl
 none_unary (Name bytes ∷ ws) e = refl
 none_unary (Text bytes ∷ ws) e = refl
-none_unary (Mark kind ∷ ws) e = binding_unary ws (step_of kind) e
+none_unary (Mark kind ∷ ws) e = binding_unary ws (infix_of kind) e
 
-pub at_step : (least : ℕ) (s : Step) (ws : List Lexeme) → least ≤ strength s → step_at least (Mark (step_kind s) ∷ ws) ≡ Some (s, ws)
+pub at_step : (least : ℕ) (s : Infix) (ws : List Lexeme) → least ≤ strength s → step_at least (Mark (step_kind s) ∷ ws) ≡ Some (s, ws)
 unfolding step_at
 at_step least s ws le = rw (step_again s, le-leb least (strength s) le) refl
 
-past_step : (least : ℕ) (s : Step) (ws : List Lexeme) → strength s < least → step_at least (Mark (step_kind s) ∷ ws) ≡ None
+past_step : (least : ℕ) (s : Infix) (ws : List Lexeme) → strength s < least → step_at least (Mark (step_kind s) ∷ ws) ≡ None
 unfolding step_at
 past_step least s ws lt = rw (step_again s, lt-leb least (strength s) lt) refl
 
@@ -176,7 +176,7 @@ Shut true (Name name ∷ rest) = Unit {0}
 Shut true (Text bytes ∷ rest) = Unit {0}
 Shut true (Mark kind ∷ rest) = is_kind kind kinds.LeftBrace ≡ false
 
-pub shut : (literals : Bool) (kind : Kind) (ws : List Lexeme) → is_kind kind kinds.LeftBrace ≡ false → Shut literals (Mark kind ∷ ws)
+pub shut : (literals : Bool) (kind : TokenKind) (ws : List Lexeme) → is_kind kind kinds.LeftBrace ≡ false → Shut literals (Mark kind ∷ ws)
 shut false kind ws e = tt
 shut true kind ws e = e
 
@@ -231,7 +231,7 @@ words_in NoMore rest = refl
 words_in (Behind v vs) rest = append_assoc (expression_words v) (more_words vs) rest ∙ ap (λ (ws : List Lexeme). expression_words v ++ ws) (more_words_in vs rest)
 
 -- what closes a list, before what follows
-pub closing_before : (separator close : Kind) (trailing : Bool) (rest : List Lexeme) → closing separator close trailing [] ++ rest ≡ closing separator close trailing rest
+pub closing_before : (separator close : TokenKind) (trailing : Bool) (rest : List Lexeme) → closing separator close trailing [] ++ rest ≡ closing separator close trailing rest
 closing_before separator close true rest = refl
 closing_before separator close false rest = refl
 
@@ -255,7 +255,7 @@ last_in (Behind v vs) trailing last = tt
 -- how a tree is read where nothing goes on
 abbrev pub IsRead : (literals : Bool) (most : ℕ) → Expression → Type 0
 IsRead literals most t = (room least : ℕ) (rest : List Lexeme) → least ≤ outer_precedence t → step_at least rest ≡ None → Shut literals rest
-    → Outcome (expression literals most room least (expression_words t ++ rest)) t rest (expression_height t) room (λ listing. expression_longest listing t) most
+    → ReadBack (expression literals most room least (expression_words t ++ rest)) t rest (expression_height t) room (λ listing. expression_longest listing t) most
 
 -- A tree's words are read as the tree, and reading goes on behind it; or it is too high, or has too long a list.
 data Reads (literals : Bool) (most room least : ℕ) (t : Expression) (rest : List Lexeme) : Type 0 where
@@ -282,19 +282,19 @@ is_read literals most t goes (suc room) least rest le none is_shut =
       | TooLong listing many e ↦ Many listing many e
     ]
 
-one_step : (deeper : ℕ → List Lexeme → Reading Expression) (room least turns : ℕ) (left : Expression) (s : Step) (ws : List Lexeme) → least ≤ strength s → expression_height left < room
+one_step : (deeper : ℕ → List Lexeme → Reading Expression) (room least turns : ℕ) (left : Expression) (s : Infix) (ws : List Lexeme) → least ≤ strength s → expression_height left < room
     → operations deeper room least (suc turns) left (Mark (step_kind s) ∷ ws) ≡ (applied deeper left (s, ws) >>= λ more. operations deeper room least turns more.0 more.1)
 unfolding operations operation
 one_step deeper room least turns left s ws le low = rw (at_step least s ws le, lt-leb room (expression_height left) low) refl
 
-no_room : (deeper : ℕ → List Lexeme → Reading Expression) (room least turns : ℕ) (left : Expression) (s : Step) (ws : List Lexeme) → least ≤ strength s → room ≤ expression_height left
+no_room : (deeper : ℕ → List Lexeme → Reading Expression) (room least turns : ℕ) (left : Expression) (s : Infix) (ws : List Lexeme) → least ≤ strength s → room ≤ expression_height left
     → operations deeper room least turns left (Mark (step_kind s) ∷ ws) ≡ Err TooDeep
 unfolding operations operation
 no_room deeper room least zero left s ws le high = refl
 no_room deeper room least (suc turns) left s ws le high = rw (at_step least s ws le, le-leb room (expression_height left) high) refl
 
 -- the same, behind an expression that is read
-step_read : (literals : Bool) (most room least turns : ℕ) (left : Expression) (s : Step) (ws : List Lexeme) (read : Reading Expression) → 1 ≤ turns → least ≤ strength s → expression_height left < suc room
+step_read : (literals : Bool) (most room least turns : ℕ) (left : Expression) (s : Infix) (ws : List Lexeme) (read : Reading Expression) → 1 ≤ turns → least ≤ strength s → expression_height left < suc room
     → read ≡ operations (expression literals most room) (suc room) least turns left (Mark (step_kind s) ∷ ws)
     → read ≡ (applied (expression literals most room) left (s, ws) >>= λ more. operations (expression literals most room) (suc room) least (turns - 1) more.0 more.1)
 step_read literals most room least turns left s ws read some le low e =
@@ -387,8 +387,8 @@ reads_unary literals most o inner read strong room least rest le none is_shut =
 -- ---- lists of values
 
 -- marks that close lists
-pub record IsClose (close : Kind) : Type 0 where
-  pub step : step_of close ≡ None
+pub record IsClose (close : TokenKind) : Type 0 where
+  pub step : infix_of close ≡ None
   pub brace : is_kind close kinds.LeftBrace ≡ false
   pub comma : is_kind close kinds.Comma ≡ false
   pub begin : (rest : List Lexeme) → begins (Mark close ∷ rest) ≡ false
@@ -401,7 +401,7 @@ pub parenthesis_closes : IsClose kinds.RightParenthesis
 unfolding begins
 parenthesis_closes = record { step = refl; brace = refl; comma = refl; begin = λ rest. refl }
 
-abbrev pub listed_values : (literals : Bool) (most room : ℕ) (close : Kind) → Listed Expression
+abbrev pub listed_values : (literals : Bool) (most room : ℕ) (close : TokenKind) → Listed Expression
 listed_values literals most room close = record {
   one = expression literals most room 0;
   next = value_next close;
@@ -434,33 +434,33 @@ pub comma_ends : (literals : Bool) (rest : List Lexeme) → EndsExpression liter
 unfolding step_at
 comma_ends literals rest = record { none = refl; shut = shut literals kinds.Comma rest refl }
 
-pub close_ends : (literals : Bool) (close : Kind) (rest : List Lexeme) → IsClose close → EndsExpression literals (Mark close ∷ rest)
+pub close_ends : (literals : Bool) (close : TokenKind) (rest : List Lexeme) → IsClose close → EndsExpression literals (Mark close ∷ rest)
 unfolding step_at
 close_ends literals close rest is = record { none = rw is.step refl; shut = shut literals close rest is.brace }
 
-pub closing_ends : (literals : Bool) (close : Kind) (trailing : Bool) (rest : List Lexeme) → IsClose close → EndsExpression literals (closing kinds.Comma close trailing rest)
+pub closing_ends : (literals : Bool) (close : TokenKind) (trailing : Bool) (rest : List Lexeme) → IsClose close → EndsExpression literals (closing kinds.Comma close trailing rest)
 closing_ends literals close true rest is = comma_ends literals (Mark close ∷ rest)
 closing_ends literals close false rest is = close_ends literals close rest is
 
 -- a list's end is read, where no entry starts with its closing mark
-pub ending_again : (separator : Kind) (starts : List Lexeme → Bool) (close : Kind) (trailing : Bool) (rest : List Lexeme) → is_kind close separator ≡ false → starts (Mark close ∷ rest) ≡ false
+pub ending_again : (separator : TokenKind) (starts : List Lexeme → Bool) (close : TokenKind) (trailing : Bool) (rest : List Lexeme) → is_kind close separator ≡ false → starts (Mark close ∷ rest) ≡ false
     → entry_next separator starts close (closing separator close trailing rest) ≡ Ok (End trailing, rest)
 unfolding entry_next
 ending_again separator starts close true rest other none = rw (is_kind_same separator, none, expect_again close rest) refl
 ending_again separator starts close false rest other none = rw (other, expect_again close rest) refl
 
 -- another entry is read behind a separator, where one starts so
-pub more_entries : (separator : Kind) (starts : List Lexeme → Bool) (close : Kind) (words : List Lexeme) → starts words ≡ true → entry_next separator starts close (Mark separator ∷ words) ≡ Ok (More, words)
+pub more_entries : (separator : TokenKind) (starts : List Lexeme → Bool) (close : TokenKind) (words : List Lexeme) → starts words ≡ true → entry_next separator starts close (Mark separator ∷ words) ≡ Ok (More, words)
 unfolding entry_next
 more_entries separator starts close words is = rw (is_kind_same separator, is) refl
 
-pub closing_again : (close : Kind) (trailing : Bool) (rest : List Lexeme) → IsClose close → value_next close (closing kinds.Comma close trailing rest) ≡ Ok (End trailing, rest)
+pub closing_again : (close : TokenKind) (trailing : Bool) (rest : List Lexeme) → IsClose close → value_next close (closing kinds.Comma close trailing rest) ≡ Ok (End trailing, rest)
 closing_again close trailing rest is = ending_again kinds.Comma begins close trailing rest is.comma (is.begin rest)
 
-pub more_values : (literals : Bool) (close : Kind) (t : Expression) (rest : List Lexeme) → IsGrouped literals t → value_next close (Mark kinds.Comma ∷ (expression_words t ++ rest)) ≡ Ok (More, expression_words t ++ rest)
+pub more_values : (literals : Bool) (close : TokenKind) (t : Expression) (rest : List Lexeme) → IsGrouped literals t → value_next close (Mark kinds.Comma ∷ (expression_words t ++ rest)) ≡ Ok (More, expression_words t ++ rest)
 more_values literals close t rest g = more_entries kinds.Comma begins close (expression_words t ++ rest) (begins_again literals t rest g)
 
-values_separate : (literals : Bool) (most room : ℕ) (close : Kind) (trailing : Bool) (rest : List Lexeme) → IsClose close → Separates (listed_values literals most room close) (EndsExpression literals) trailing rest
+values_separate : (literals : Bool) (most room : ℕ) (close : TokenKind) (trailing : Bool) (rest : List Lexeme) → IsClose close → Separates (listed_values literals most room close) (EndsExpression literals) trailing rest
 values_separate literals most room close trailing rest is = record {
   separator = λ t words one. comma_ends literals (before t words);
   more = λ t words one. more_values literals close t words one;
@@ -472,15 +472,15 @@ values_separate literals most room close trailing rest is = record {
 abbrev all_longest : List Expression → Listing → ℕ
 all_longest vs listing = max (entries listing (length vs)) (highest (expression_longest listing) vs)
 
-none_values : (literals : Bool) (most room : ℕ) (close : Kind) (rest : List Lexeme) → IsClose close
-    → Outcome (values (expression literals most room) close most (Mark close ∷ rest)) ([], false) rest 0 room (all_longest []) most
+none_values : (literals : Bool) (most room : ℕ) (close : TokenKind) (rest : List Lexeme) → IsClose close
+    → ReadBack (values (expression literals most room) close most (Mark close ∷ rest)) ([], false) rest 0 room (all_longest []) most
 unfolding values
 none_values literals most room close rest is =
     Found (omega arith) (λ listing. omega (arith, entries-le listing 0)) (rw (is.begin rest, expect_again close rest) refl)
 
-some_values : (literals : Bool) (most room : ℕ) (close : Kind) (v : Expression) (vs : List Expression) (trailing : Bool) (rest : List Lexeme) → IsClose close
+some_values : (literals : Bool) (most room : ℕ) (close : TokenKind) (v : Expression) (vs : List Expression) (trailing : Bool) (rest : List Lexeme) → IsClose close
     → AreAll (IsGrouped literals) (v ∷ vs) → AreAll (IsRead literals most) (v ∷ vs)
-    → Outcome (values (expression literals most room) close most (joined before (behind kinds.Comma) (v ∷ vs) (closing kinds.Comma close trailing rest))) (v ∷ vs, trailing) rest
+    → ReadBack (values (expression literals most room) close most (joined before (behind kinds.Comma) (v ∷ vs) (closing kinds.Comma close trailing rest))) (v ∷ vs, trailing) rest
     (highest expression_height (v ∷ vs)) room (all_longest (v ∷ vs)) most
 unfolding values
 some_values literals most room close v vs trailing rest is grouped read =
@@ -494,9 +494,9 @@ some_values literals most room close v vs trailing rest is grouped read =
       | Full count e ↦ Many Entries (omega (arith, count)) (rw e refl)
     ])
 
-pub values_again : (literals : Bool) (most room : ℕ) (close : Kind) (vs : List Expression) (trailing : Bool) (rest : List Lexeme) → IsClose close
+pub values_again : (literals : Bool) (most room : ℕ) (close : TokenKind) (vs : List Expression) (trailing : Bool) (rest : List Lexeme) → IsClose close
     → AreAll (IsGrouped literals) vs → AreAll (IsRead literals most) vs → IsTrailing vs trailing
-    → Outcome (values (expression literals most room) close most (joined before (behind kinds.Comma) vs (closing kinds.Comma close trailing rest))) (vs, trailing) rest
+    → ReadBack (values (expression literals most room) close most (joined before (behind kinds.Comma) vs (closing kinds.Comma close trailing rest))) (vs, trailing) rest
     (highest expression_height vs) room (all_longest vs) most
 values_again literals most room close [] true rest is grouped read last = absurd cc
 values_again literals most room close [] false rest is grouped read last = none_values literals most room close rest is
@@ -514,7 +514,7 @@ composite_goes : (most room least : ℕ) (name : List ℕ) (vs : Expressions) (t
     → expression true most (suc room) least (expression_words (Composite name vs trailing) ++ rest)
     ≡ ((values (expression true most room) kinds.RightBrace most (joined before (behind kinds.Comma) (expressions_in vs) (closing kinds.Comma kinds.RightBrace trailing rest)) >>= composed name)
     >>= goes_behind most room least)
-    → Outcome (values (expression true most room) kinds.RightBrace most (joined before (behind kinds.Comma) (expressions_in vs) (closing kinds.Comma kinds.RightBrace trailing rest))) (expressions_in vs, trailing) rest
+    → ReadBack (values (expression true most room) kinds.RightBrace most (joined before (behind kinds.Comma) (expressions_in vs) (closing kinds.Comma kinds.RightBrace trailing rest))) (expressions_in vs, trailing) rest
     (highest expression_height (expressions_in vs)) room (all_longest (expressions_in vs)) most
     → Reads true most room least (Composite name vs trailing) rest
 composite_goes most room least name vs trailing rest begin (Found low few e) =

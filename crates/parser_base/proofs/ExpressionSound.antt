@@ -1,8 +1,8 @@
 -- What is read as an expression is spelt so.
 use Rattle.std.proofs.Common.{◌≡◌, ℕ, zero, suc, ◌+◌, ◌<◌, ◌≤◌, max, min, List, [], ◌∷◌, ◌++◌, length, Option, Some, None, Ok, Bool, true, false, cond, leb, inl, inr, refl, ap, ◌∙◌, sym, subst, arith, append_assoc}
 use Rattle.std.proofs.lemmas.Bool.{le-leb, lt-leb, leb-false, cases_lt}
-use Rattle.scanner.specs.declared.kind.Kind.{Kind}
-use Rattle.scanner.specs.declared.kind.Kind.TheVariants as kinds
+use Rattle.scanner.specs.declared.kind.TokenKind.{TokenKind}
+use Rattle.scanner.specs.declared.kind.TokenKind.TheVariants as kinds
 use Rattle.syntax.specs.declared.node.BinaryOperator.{BinaryOperator}
 use Rattle.syntax.specs.declared.node.BinaryOperator.TheVariants as binaries
 use Rattle.syntax.specs.declared.node.UnaryOperator.{UnaryOperator}
@@ -10,13 +10,13 @@ use Rattle.syntax.specs.declared.node.UnaryOperator.TheVariants as unaries
 use Rattle.syntax.specs.Tree.{Expression, Integer, Named, Parenthesized, Selection, Composite, Unary, Binary, expressions}
 use Rattle.syntax.specs.Measures.{Entries, entries, highest, expression_height, expression_longest, expressions_longest}
 use Rattle.syntax.proofs.Lists.{expressions_in-expressions, expressions_height-of, expressions_longest-of, expressions_count-of}
-use Rattle.parser_base.specs.declared.operator.Step.{Step}
-use Rattle.parser_base.specs.declared.operator.Step.TheVariants.{Operator, Period}
+use Rattle.parser_base.specs.declared.operator.Infix.{Infix}
+use Rattle.parser_base.specs.declared.operator.Infix.TheVariants.{Operator, Period}
 use Rattle.parser_base.specs.declared.list.Next.{Next}
 use Rattle.parser_base.specs.declared.list.Next.TheVariants.{More, End}
 use Rattle.parser_base.specs.Lexemes.{Lexeme, Literal, Name, Text, Mark}
 use Rattle.parser_base.specs.Spelling.{is_builtin, behind, joined, closing, before, AreAll, AreSome, IsTrailing, HasLast, expression_words, outer_precedence, precedence, IsGrouped, AreGrouped, unary_kind, binary_kind}
-use Rattle.parser_base.specs.Reading.{Reading, Syntax, TooDeep, TooMany, ◌>>=◌, is_kind, expect, begins, closed, behind_separator, entry_next, value_next, values, composite, named, plain_name, binary_of, unary_of, operator_step, step_of, strength, binding, step_at, negated, parenthesized, operand, applied, operation, operations, expression, listed}
+use Rattle.parser_base.specs.Reading.{Reading, Syntax, TooDeep, TooMany, ◌>>=◌, is_kind, expect, begins, closed, behind_separator, entry_next, value_next, values, composite, named, plain_name, binary_of, unary_of, operator_step, infix_of, strength, binding, step_at, negated, parenthesized, operand, applied, operation, operations, expression, listed}
 use Rattle.parser_base.proofs.Marks.{bind_ok, unless_ok, ok_is, kind_is, expect_is, plain_name_is}
 use Rattle.parser_base.proofs.ListLaws.{AreFew, Entries as Listed, ReadsSoundly as EntriesSoundly, listed_sound}
 use Rattle.parser_base.proofs.ExpressionAgain.{step_kind, precedence-lt, outer_precedence-le, none_above, none_strong, at_step, entries-le, composite_words}
@@ -29,7 +29,7 @@ some_is x y e = cc
 
 -- ---- operators
 
-binary_is : (k : Kind) (o : BinaryOperator) → binary_of k ≡ Some o → k ≡ binary_kind o
+binary_is : (k : TokenKind) (o : BinaryOperator) → binary_of k ≡ Some o → k ≡ binary_kind o
 binary_is kinds.Plus o e = let p : binaries.Add ≡ o = cc in ap binary_kind p
 binary_is kinds.Minus o e = let p : binaries.Subtract ≡ o = cc in ap binary_kind p
 binary_is kinds.Star o e = let p : binaries.Multiply ≡ o = cc in ap binary_kind p
@@ -51,44 +51,44 @@ binary_is kinds.LogicalAnd o e = let p : binaries.LogicalAnd ≡ o = cc in ap bi
 binary_is kinds.LogicalOr o e = let p : binaries.LogicalOr ≡ o = cc in ap binary_kind p
 binary_is _ o e = absurd cc
 
-unary_is : (k : Kind) (o : UnaryOperator) → unary_of k ≡ Some o → k ≡ unary_kind o
+unary_is : (k : TokenKind) (o : UnaryOperator) → unary_of k ≡ Some o → k ≡ unary_kind o
 unary_is kinds.Plus o e = let p : unaries.Plus ≡ o = cc in ap unary_kind p
 unary_is kinds.Minus o e = let p : unaries.Negate ≡ o = cc in ap unary_kind p
 unary_is kinds.Not o e = let p : unaries.Not ≡ o = cc in ap unary_kind p
 unary_is kinds.Caret o e = let p : unaries.Complement ≡ o = cc in ap unary_kind p
 unary_is _ o e = absurd cc
 
-operator_step_is : (k : Kind) (o : Option BinaryOperator) (s : Step) → binary_of k ≡ o → operator_step o ≡ Some s → k ≡ step_kind s
+operator_step_is : (k : TokenKind) (o : Option BinaryOperator) (s : Infix) → binary_of k ≡ o → operator_step o ≡ Some s → k ≡ step_kind s
 operator_step_is k None s is e = absurd cc
 operator_step_is k (Some o) s is e = binary_is k o is ∙ ap step_kind (some_is (Operator o) s e)
 
-step_mark_is : (k : Kind) (b : Bool) (s : Step) → is_kind k kinds.Period ≡ b → cond b (some Period) (operator_step (binary_of k)) ≡ Some s → k ≡ step_kind s
+step_mark_is : (k : TokenKind) (b : Bool) (s : Infix) → is_kind k kinds.Period ≡ b → cond b (some Period) (operator_step (binary_of k)) ≡ Some s → k ≡ step_kind s
 step_mark_is k true s is e = kind_is k kinds.Period is ∙ ap step_kind (some_is Period s e)
 step_mark_is k false s is e = operator_step_is k (binary_of k) s refl e
 
-binding_is : (least : ℕ) (rest : List Lexeme) (p : Option Step) (s : Step) (after : List Lexeme) → binding least rest p ≡ Some (s, after) → (p ≡ Some s) × (rest ≡ after) × (least ≤ strength s)
+binding_is : (least : ℕ) (rest : List Lexeme) (p : Option Infix) (s : Infix) (after : List Lexeme) → binding least rest p ≡ Some (s, after) → (p ≡ Some s) × (rest ≡ after) × (least ≤ strength s)
 binding_is least rest None s after e = absurd cc
 binding_is least rest (Some q) s after e =
     elim (cases_lt (strength q) least) [
       | inl lt ↦ let bad = rw (lt-leb least (strength q) lt) at e in absurd cc
       | inr le ↦
           let is = rw (le-leb least (strength q) le) at e in
-          let same : q ≡ s = ap (λ (x : Step × List Lexeme). x.0) (some_is (q, rest) (s, after) is) in
-          (ap (λ (x : Step). Some x) same, ap (λ (x : Step × List Lexeme). x.1) (some_is (q, rest) (s, after) is), subst (λ (x : Step). least ≤ strength x) same le)
+          let same : q ≡ s = ap (λ (x : Infix × List Lexeme). x.0) (some_is (q, rest) (s, after) is) in
+          (ap (λ (x : Infix). Some x) same, ap (λ (x : Infix × List Lexeme). x.1) (some_is (q, rest) (s, after) is), subst (λ (x : Infix). least ≤ strength x) same le)
     ]
 
-step_is : (least : ℕ) (ws : List Lexeme) (s : Step) (after : List Lexeme) → step_at least ws ≡ Some (s, after) → (ws ≡ Mark (step_kind s) ∷ after) × (least ≤ strength s)
+step_is : (least : ℕ) (ws : List Lexeme) (s : Infix) (after : List Lexeme) → step_at least ws ≡ Some (s, after) → (ws ≡ Mark (step_kind s) ∷ after) × (least ≤ strength s)
 unfolding step_at
 step_is least [] s after e = absurd cc
 step_is least (Literal value ∷ ws) s after e = absurd cc
 step_is least (Name bytes ∷ ws) s after e = absurd cc
 step_is least (Text bytes ∷ ws) s after e = absurd cc
 step_is least (Mark kind ∷ ws) s after e =
-    let b = binding_is least ws (step_of kind) s after e in
+    let b = binding_is least ws (infix_of kind) s after e in
     ((λ i. Mark (step_mark_is kind (is_kind kind kinds.Period) s refl b.0 i) ∷ b.1 i), b.2)
 
 -- where nothing binds more strongly than so, the next step doesn't
-order_of : (n : ℕ) (ws : List Lexeme) (s : Step) (after : List Lexeme) → ws ≡ Mark (step_kind s) ∷ after → step_at (suc n) ws ≡ None → strength s ≤ n
+order_of : (n : ℕ) (ws : List Lexeme) (s : Infix) (after : List Lexeme) → ws ≡ Mark (step_kind s) ∷ after → step_at (suc n) ws ≡ None → strength s ≤ n
 order_of n ws s after is none =
     elim (cases_lt n (strength s)) [
       | inr le ↦ le
@@ -140,7 +140,7 @@ parenthesized_sound literals most deeper room sound ws t rest e =
       none = none_strong b.0;
     })
 
-negated_sound : (literals : Bool) (most : ℕ) (deeper : ℕ → List Lexeme → Reading Expression) (room : ℕ) → ReadsSoundly literals most deeper room → (kind : Kind) (ws : List Lexeme) (o : Option UnaryOperator) (t : Expression) (rest : List Lexeme) → unary_of kind ≡ o → negated deeper ws o ≡ Ok (t, rest) → IsOperand literals most (suc room) (Mark kind ∷ ws) t rest
+negated_sound : (literals : Bool) (most : ℕ) (deeper : ℕ → List Lexeme → Reading Expression) (room : ℕ) → ReadsSoundly literals most deeper room → (kind : TokenKind) (ws : List Lexeme) (o : Option UnaryOperator) (t : Expression) (rest : List Lexeme) → unary_of kind ≡ o → negated deeper ws o ≡ Ok (t, rest) → IsOperand literals most (suc room) (Mark kind ∷ ws) t rest
 negated_sound literals most deeper room sound kind ws None t rest is e = absurd cc
 negated_sound literals most deeper room sound kind ws (Some o) t rest is e =
     let a = bind_ok (deeper 6 ws) (λ inner. Ok (Unary o inner.0, inner.1)) (t, rest) e in
@@ -167,35 +167,35 @@ end_is a b ws rest e =
     let same : End a ≡ End b = ap (λ (x : Next × List Lexeme). x.0) e in
     (cc, ap (λ (x : Next × List Lexeme). x.1) e)
 
-close_sound : (close : Kind) (before : Bool) (ws : List Lexeme) (trailing : Bool) (rest : List Lexeme) → closed close before ws ≡ Ok (ends_with trailing rest) → (before ≡ trailing) × (ws ≡ Mark close ∷ rest)
+close_sound : (close : TokenKind) (before : Bool) (ws : List Lexeme) (trailing : Bool) (rest : List Lexeme) → closed close before ws ≡ Ok (ends_with trailing rest) → (before ≡ trailing) × (ws ≡ Mark close ∷ rest)
 close_sound close before ws trailing rest e =
     let a = bind_ok (expect close ws) (λ after. Ok (ends_with before after)) (ends_with trailing rest) e in
     let same = end_is before trailing a.0 rest (ok_is (ends_with before a.0) (ends_with trailing rest) a.2) in
     (same.0, expect_is close ws a.0 a.1 ∙ ap (λ (x : List Lexeme). Mark close ∷ x) same.1)
 
-close_no_more : (close : Kind) (before : Bool) (ws rest : List Lexeme) → closed close before ws ≡ Ok (goes_on_with rest) → ⊥
+close_no_more : (close : TokenKind) (before : Bool) (ws rest : List Lexeme) → closed close before ws ≡ Ok (goes_on_with rest) → ⊥
 close_no_more close before ws rest e =
     let a = bind_ok (expect close ws) (λ after. Ok (ends_with before after)) (goes_on_with rest) e in
     let same = ok_is (ends_with before a.0) (goes_on_with rest) a.2 in
     let kind : End before ≡ More = ap (λ (x : Next × List Lexeme). x.0) same in
     cc
 
-separator_more : (close : Kind) (b : Bool) (ws rest : List Lexeme) → cond b (Ok (goes_on_with ws)) (closed close true ws) ≡ Ok (goes_on_with rest) → ws ≡ rest
+separator_more : (close : TokenKind) (b : Bool) (ws rest : List Lexeme) → cond b (Ok (goes_on_with ws)) (closed close true ws) ≡ Ok (goes_on_with rest) → ws ≡ rest
 separator_more close true ws rest e = ap (λ (x : Next × List Lexeme). x.1) (ok_is (goes_on_with ws) (goes_on_with rest) e)
 separator_more close false ws rest e = absurd (close_no_more close true ws rest e)
 
-separator_end : (close : Kind) (b : Bool) (ws : List Lexeme) (trailing : Bool) (rest : List Lexeme) → cond b (Ok (goes_on_with ws)) (closed close true ws) ≡ Ok (ends_with trailing rest) → (true ≡ trailing) × (ws ≡ Mark close ∷ rest)
+separator_end : (close : TokenKind) (b : Bool) (ws : List Lexeme) (trailing : Bool) (rest : List Lexeme) → cond b (Ok (goes_on_with ws)) (closed close true ws) ≡ Ok (ends_with trailing rest) → (true ≡ trailing) × (ws ≡ Mark close ∷ rest)
 separator_end close true ws trailing rest e =
     let same = ok_is (goes_on_with ws) (ends_with trailing rest) e in
     let kind : More ≡ End trailing = ap (λ (x : Next × List Lexeme). x.0) same in
     absurd cc
 separator_end close false ws trailing rest e = close_sound close true ws trailing rest e
 
-mark_more : (separator : Kind) (starts : List Lexeme → Bool) (close kind : Kind) (b : Bool) (ws rest : List Lexeme) → is_kind kind separator ≡ b → cond b (behind_separator starts close ws) (closed close false (Mark kind ∷ ws)) ≡ Ok (goes_on_with rest) → Mark kind ∷ ws ≡ Mark separator ∷ rest
+mark_more : (separator : TokenKind) (starts : List Lexeme → Bool) (close kind : TokenKind) (b : Bool) (ws rest : List Lexeme) → is_kind kind separator ≡ b → cond b (behind_separator starts close ws) (closed close false (Mark kind ∷ ws)) ≡ Ok (goes_on_with rest) → Mark kind ∷ ws ≡ Mark separator ∷ rest
 mark_more separator starts close kind true ws rest is e = λ i. Mark (kind_is kind separator is i) ∷ separator_more close (starts ws) ws rest e i
 mark_more separator starts close kind false ws rest is e = absurd (close_no_more close false (Mark kind ∷ ws) rest e)
 
-pub entry_more_sound : (separator : Kind) (starts : List Lexeme → Bool) (close : Kind) (ws rest : List Lexeme) → entry_next separator starts close ws ≡ Ok (goes_on_with rest) → ws ≡ Mark separator ∷ rest
+pub entry_more_sound : (separator : TokenKind) (starts : List Lexeme → Bool) (close : TokenKind) (ws rest : List Lexeme) → entry_next separator starts close ws ≡ Ok (goes_on_with rest) → ws ≡ Mark separator ∷ rest
 unfolding entry_next
 entry_more_sound separator starts close [] rest e = absurd cc
 entry_more_sound separator starts close (Literal value ∷ ws) rest e = absurd cc
@@ -203,7 +203,7 @@ entry_more_sound separator starts close (Name bytes ∷ ws) rest e = absurd cc
 entry_more_sound separator starts close (Text bytes ∷ ws) rest e = absurd cc
 entry_more_sound separator starts close (Mark kind ∷ ws) rest e = mark_more separator starts close kind (is_kind kind separator) ws rest refl e
 
-mark_end : (separator : Kind) (starts : List Lexeme → Bool) (close kind : Kind) (b : Bool) (ws : List Lexeme) (trailing : Bool) (rest : List Lexeme) → is_kind kind separator ≡ b → cond b (behind_separator starts close ws) (closed close false (Mark kind ∷ ws)) ≡ Ok (ends_with trailing rest) → Mark kind ∷ ws ≡ closing separator close trailing rest
+mark_end : (separator : TokenKind) (starts : List Lexeme → Bool) (close kind : TokenKind) (b : Bool) (ws : List Lexeme) (trailing : Bool) (rest : List Lexeme) → is_kind kind separator ≡ b → cond b (behind_separator starts close ws) (closed close false (Mark kind ∷ ws)) ≡ Ok (ends_with trailing rest) → Mark kind ∷ ws ≡ closing separator close trailing rest
 mark_end separator starts close kind true ws trailing rest is e =
     let a = separator_end close (starts ws) ws trailing rest e in
     let both : Mark kind ∷ ws ≡ closing separator close true rest = λ i. Mark (kind_is kind separator is i) ∷ a.1 i in
@@ -213,7 +213,7 @@ mark_end separator starts close kind false ws trailing rest is e =
     let both : Mark kind ∷ ws ≡ closing separator close false rest = a.1 in
     both ∙ ap (λ (b : Bool). closing separator close b rest) a.0
 
-pub entry_end_sound : (separator : Kind) (starts : List Lexeme → Bool) (close : Kind) (ws : List Lexeme) (trailing : Bool) (rest : List Lexeme) → entry_next separator starts close ws ≡ Ok (ends_with trailing rest) → ws ≡ closing separator close trailing rest
+pub entry_end_sound : (separator : TokenKind) (starts : List Lexeme → Bool) (close : TokenKind) (ws : List Lexeme) (trailing : Bool) (rest : List Lexeme) → entry_next separator starts close ws ≡ Ok (ends_with trailing rest) → ws ≡ closing separator close trailing rest
 unfolding entry_next
 entry_end_sound separator starts close [] trailing rest e = absurd cc
 entry_end_sound separator starts close (Literal value ∷ ws) trailing rest e = absurd cc
@@ -222,7 +222,7 @@ entry_end_sound separator starts close (Text bytes ∷ ws) trailing rest e = abs
 entry_end_sound separator starts close (Mark kind ∷ ws) trailing rest e = mark_end separator starts close kind (is_kind kind separator) ws trailing rest refl e
 
 -- values read by a reader that is sound
-abbrev deeper_values : (literals : Bool) (most room : ℕ) (close : Kind) (deeper : ℕ → List Lexeme → Reading Expression) → Listed Expression
+abbrev deeper_values : (literals : Bool) (most room : ℕ) (close : TokenKind) (deeper : ℕ → List Lexeme → Reading Expression) → Listed Expression
 deeper_values literals most room close deeper = record {
   one = deeper 0;
   next = value_next close;
@@ -236,14 +236,14 @@ deeper_values literals most room close deeper = record {
   IsOne = IsGrouped literals;
 }
 
-deeper_sound : (literals : Bool) (most room : ℕ) (close : Kind) (deeper : ℕ → List Lexeme → Reading Expression) → ReadsSoundly literals most deeper room → EntriesSoundly (deeper_values literals most room close deeper)
+deeper_sound : (literals : Bool) (most room : ℕ) (close : TokenKind) (deeper : ℕ → List Lexeme → Reading Expression) → ReadsSoundly literals most deeper room → EntriesSoundly (deeper_values literals most room close deeper)
 deeper_sound literals most room close deeper sound = record {
   one = λ ws t rest e. let s = sound 0 ws t rest e in record { parts = s.parts; is = s.grouped; low = s.low; few = s.few };
   more = entry_more_sound kinds.Comma begins close;
   end = entry_end_sound kinds.Comma begins close;
 }
 
-pub record AreValues (literals : Bool) (most room : ℕ) (close : Kind) (ws : List Lexeme) (vs : List Expression) (trailing : Bool) (rest : List Lexeme) : Type 0 where
+pub record AreValues (literals : Bool) (most room : ℕ) (close : TokenKind) (ws : List Lexeme) (vs : List Expression) (trailing : Bool) (rest : List Lexeme) : Type 0 where
   pub parts : ws ≡ joined before (behind kinds.Comma) vs (closing kinds.Comma close trailing rest)
   pub are : AreAll (IsGrouped literals) vs
   pub last : IsTrailing vs trailing
@@ -261,7 +261,7 @@ some_trailing P (x ∷ xs) trailing some = tt
 abbrev values_with : List Expression → Bool → List Lexeme → (List Expression × Bool) × List Lexeme
 values_with vs trailing rest = ((vs, trailing), rest)
 
-either_values : (literals : Bool) (most room : ℕ) (close : Kind) (deeper : ℕ → List Lexeme → Reading Expression) → ReadsSoundly literals most deeper room → (b : Bool) (ws : List Lexeme) (vs : List Expression) (trailing : Bool) (rest : List Lexeme)
+either_values : (literals : Bool) (most room : ℕ) (close : TokenKind) (deeper : ℕ → List Lexeme → Reading Expression) → ReadsSoundly literals most deeper room → (b : Bool) (ws : List Lexeme) (vs : List Expression) (trailing : Bool) (rest : List Lexeme)
     → cond b (listed (deeper 0) (value_next close) (TooMany Entries) most ws) (expect close ws >>= λ after. Ok (values_with [] false after)) ≡ Ok (values_with vs trailing rest) → AreValues literals most room close ws vs trailing rest
 either_values literals most room close deeper sound true ws vs trailing rest e =
     let l = listed_sound (deeper_values literals most room close deeper) (TooMany Entries) (deeper_sound literals most room close deeper sound) most ws (values_with vs trailing rest) e in
@@ -282,7 +282,7 @@ either_values literals most room close deeper sound false ws vs trailing rest e 
       few = λ listing. omega (arith, entries-le listing 0);
     })
 
-pub values_sound : (literals : Bool) (most room : ℕ) (close : Kind) (deeper : ℕ → List Lexeme → Reading Expression) → ReadsSoundly literals most deeper room → (ws : List Lexeme) (vs : List Expression) (trailing : Bool) (rest : List Lexeme)
+pub values_sound : (literals : Bool) (most room : ℕ) (close : TokenKind) (deeper : ℕ → List Lexeme → Reading Expression) → ReadsSoundly literals most deeper room → (ws : List Lexeme) (vs : List Expression) (trailing : Bool) (rest : List Lexeme)
     → values deeper close most ws ≡ Ok ((vs, trailing), rest) → AreValues literals most room close ws vs trailing rest
 unfolding values
 values_sound literals most room close deeper sound ws vs trailing rest e = either_values literals most room close deeper sound (begins ws) ws vs trailing rest e
@@ -326,10 +326,10 @@ name_sound literals most room name ws t rest plain e =
       none = none_strong ws;
     })
 
-brace_sound : (most : ℕ) (deeper : ℕ → List Lexeme → Reading Expression) (room : ℕ) → ReadsSoundly true most deeper room → (name : List ℕ) (kind : Kind) (b : Bool) (ws : List Lexeme) (t : Expression) (rest : List Lexeme) → is_builtin name ≡ false → is_kind kind kinds.LeftBrace ≡ b
+brace_sound : (most : ℕ) (deeper : ℕ → List Lexeme → Reading Expression) (room : ℕ) → ReadsSoundly true most deeper room → (name : List ℕ) (kind : TokenKind) (b : Bool) (ws : List Lexeme) (t : Expression) (rest : List Lexeme) → is_builtin name ≡ false → is_kind kind kinds.LeftBrace ≡ b
     → cond b (composite deeper most name ws) (Ok (with_rest (Named name) (Mark kind ∷ ws))) ≡ Ok (with_rest t rest) → IsOperand true most (suc room) (Name name ∷ Mark kind ∷ ws) t rest
 brace_sound most deeper room sound name kind true ws t rest plain is e =
-    subst (λ (k : Kind). IsOperand true most (suc room) (Name name ∷ Mark k ∷ ws) t rest) (sym (kind_is kind kinds.LeftBrace is)) (composite_sound most deeper room sound name ws t rest plain e)
+    subst (λ (k : TokenKind). IsOperand true most (suc room) (Name name ∷ Mark k ∷ ws) t rest) (sym (kind_is kind kinds.LeftBrace is)) (composite_sound most deeper room sound name ws t rest plain e)
 brace_sound most deeper room sound name kind false ws t rest plain is e = name_sound true most room name (Mark kind ∷ ws) t rest plain (ok_is (with_rest (Named name) (Mark kind ∷ ws)) (with_rest t rest) e)
 
 named_sound : (literals : Bool) (most : ℕ) (deeper : ℕ → List Lexeme → Reading Expression) (room : ℕ) → ReadsSoundly literals most deeper room → (name : List ℕ) (ws : List Lexeme) (t : Expression) (rest : List Lexeme) → is_builtin name ≡ false → named literals deeper most name ws ≡ Ok (with_rest t rest) → IsOperand literals most (suc room) (Name name ∷ ws) t rest
@@ -343,9 +343,9 @@ named_sound true most deeper room sound name (Mark kind ∷ ws) t rest plain e =
 
 -- ---- operands and what follows
 
-mark_sound : (literals : Bool) (most : ℕ) (deeper : ℕ → List Lexeme → Reading Expression) (room : ℕ) → ReadsSoundly literals most deeper room → (kind : Kind) (ws : List Lexeme) (b : Bool) (t : Expression) (rest : List Lexeme) → is_kind kind kinds.LeftParenthesis ≡ b → cond b (parenthesized deeper ws) (negated deeper ws (unary_of kind)) ≡ Ok (t, rest) → IsOperand literals most (suc room) (Mark kind ∷ ws) t rest
+mark_sound : (literals : Bool) (most : ℕ) (deeper : ℕ → List Lexeme → Reading Expression) (room : ℕ) → ReadsSoundly literals most deeper room → (kind : TokenKind) (ws : List Lexeme) (b : Bool) (t : Expression) (rest : List Lexeme) → is_kind kind kinds.LeftParenthesis ≡ b → cond b (parenthesized deeper ws) (negated deeper ws (unary_of kind)) ≡ Ok (t, rest) → IsOperand literals most (suc room) (Mark kind ∷ ws) t rest
 mark_sound literals most deeper room sound kind ws true t rest is e =
-    subst (λ (k : Kind). IsOperand literals most (suc room) (Mark k ∷ ws) t rest) (sym (kind_is kind kinds.LeftParenthesis is)) (parenthesized_sound literals most deeper room sound ws t rest e)
+    subst (λ (k : TokenKind). IsOperand literals most (suc room) (Mark k ∷ ws) t rest) (sym (kind_is kind kinds.LeftParenthesis is)) (parenthesized_sound literals most deeper room sound ws t rest e)
 mark_sound literals most deeper room sound kind ws false t rest is e = negated_sound literals most deeper room sound kind ws (unary_of kind) t rest refl e
 
 operand_sound : (literals : Bool) (most : ℕ) (deeper : ℕ → List Lexeme → Reading Expression) (room : ℕ) → ReadsSoundly literals most deeper room → (ws : List Lexeme) (t : Expression) (rest : List Lexeme) → operand literals deeper most ws ≡ Ok (t, rest) → IsOperand literals most (suc room) ws t rest
@@ -365,7 +365,7 @@ GoesOn literals most next room least = (left : Expression) (ws : List Lexeme) (t
     → IsSound literals most room least (expression_words left ++ ws) t rest
 
 -- what a step makes of what was read before
-record IsApplied (literals : Bool) (most room : ℕ) (left : Expression) (s : Step) (after : List Lexeme) (t : Expression) (rest : List Lexeme) : Type 0 where
+record IsApplied (literals : Bool) (most room : ℕ) (left : Expression) (s : Infix) (after : List Lexeme) (t : Expression) (rest : List Lexeme) : Type 0 where
   parts : expression_words left ++ (Mark (step_kind s) ∷ after) ≡ expression_words t ++ rest
   grouped : IsGrouped literals t
   low : expression_height t ≤ suc room
@@ -373,7 +373,7 @@ record IsApplied (literals : Bool) (most room : ℕ) (left : Expression) (s : St
   strong : outer_precedence t ≡ strength s
   none : step_at (suc (outer_precedence t)) rest ≡ None
 
-applied_sound : (literals : Bool) (most : ℕ) (deeper : ℕ → List Lexeme → Reading Expression) (room : ℕ) → ReadsSoundly literals most deeper room → (left : Expression) (s : Step) (after : List Lexeme) (t : Expression) (rest : List Lexeme) → IsGrouped literals left → expression_height left ≤ room → AreFew (λ listing. expression_longest listing left) most → strength s ≤ outer_precedence left
+applied_sound : (literals : Bool) (most : ℕ) (deeper : ℕ → List Lexeme → Reading Expression) (room : ℕ) → ReadsSoundly literals most deeper room → (left : Expression) (s : Infix) (after : List Lexeme) (t : Expression) (rest : List Lexeme) → IsGrouped literals left → expression_height left ≤ room → AreFew (λ listing. expression_longest listing left) most → strength s ≤ outer_precedence left
     → applied deeper left (s, after) ≡ Ok (with_rest t rest) → IsApplied literals most room left s after t rest
 applied_sound literals most deeper room sound left (Operator o) after t rest grouped low few order e =
     let a = bind_ok (deeper (precedence o + 1) after) (λ right. Ok (with_rest (Binary o left right.0) right.1)) (with_rest t rest) e in
@@ -400,7 +400,7 @@ applied_sound literals most deeper room sound left Period after t rest grouped l
     })
 
 operation_sound : (literals : Bool) (most : ℕ) (deeper : ℕ → List Lexeme → Reading Expression) (next : Expression → List Lexeme → Reading Expression) (room least : ℕ) → ReadsSoundly literals most deeper room → GoesOn literals most next (suc room) least
-    → (left : Expression) (ws : List Lexeme) (found : Option (Step × List Lexeme)) (t : Expression) (rest : List Lexeme) → IsGrouped literals left → expression_height left ≤ suc room → AreFew (λ listing. expression_longest listing left) most → min least 6 ≤ outer_precedence left → step_at (suc (outer_precedence left)) ws ≡ None
+    → (left : Expression) (ws : List Lexeme) (found : Option (Infix × List Lexeme)) (t : Expression) (rest : List Lexeme) → IsGrouped literals left → expression_height left ≤ suc room → AreFew (λ listing. expression_longest listing left) most → min least 6 ≤ outer_precedence left → step_at (suc (outer_precedence left)) ws ≡ None
     → step_at least ws ≡ found → operation deeper next (suc room) left ws found ≡ Ok (t, rest) → IsSound literals most (suc room) least (expression_words left ++ ws) t rest
 unfolding operation
 operation_sound literals most deeper next room least sound goes left ws None t rest grouped low few strong none is e =

@@ -14,10 +14,10 @@ AreFew longest most = (listing : Listing) → longest listing ≤ most
 
 -- ---- what is read of words that spell something: that, or a refusal of what is too high or has too long a list
 
-pub data Outcome {A : Type 0} (read : Reading A) (x : A) (rest : List Lexeme) (height room : ℕ) (longest : Listing → ℕ) (most : ℕ) : Type 0 where
-  Found : height ≤ room → AreFew longest most → read ≡ Ok (x, rest) → Outcome read x rest height room longest most
-  High : room < height → read ≡ Err TooDeep → Outcome read x rest height room longest most
-  Many : (listing : Listing) → most < longest listing → read ≡ Err (TooMany listing) → Outcome read x rest height room longest most
+pub data ReadBack {A : Type 0} (read : Reading A) (x : A) (rest : List Lexeme) (height room : ℕ) (longest : Listing → ℕ) (most : ℕ) : Type 0 where
+  Found : height ≤ room → AreFew longest most → read ≡ Ok (x, rest) → ReadBack read x rest height room longest most
+  High : room < height → read ≡ Err TooDeep → ReadBack read x rest height room longest most
+  Many : (listing : Listing) → most < longest listing → read ≡ Err (TooMany listing) → ReadBack read x rest height room longest most
 
 -- the same of a list, which may also be longer than there are turns
 pub data ListOutcome {X : Type 0} (read : Reading (List X × Bool)) (xs : List X) (trailing : Bool) (rest : List Lexeme) (height room : ℕ) (longest : Listing → ℕ) (most turns : ℕ) (full : Refusal) : Type 0 where
@@ -43,7 +43,7 @@ pub record Entries (X : Type 0) : Type 1 where
 -- ---- what is spelt is read
 
 abbrev pub IsReadAgain : {X : Type 0} → Entries X → (List Lexeme → Type 0) → X → Type 0
-IsReadAgain l Ends x = (rest : List Lexeme) → Ends rest → Outcome (l.one (l.each x rest)) x rest (l.height x) l.room (λ listing. l.longest listing x) l.most
+IsReadAgain l Ends x = (rest : List Lexeme) → Ends rest → ReadBack (l.one (l.each x rest)) x rest (l.height x) l.room (λ listing. l.longest listing x) l.most
 
 -- what may follow an entry, and how it is read
 pub record Separates {X : Type 0} (l : Entries X) (Ends : List Lexeme → Type 0) (trailing : Bool) (rest : List Lexeme) : Type 0 where

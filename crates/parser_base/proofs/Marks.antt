@@ -2,16 +2,16 @@
 use Rattle.std.proofs.Common.{◌≡◌, ℕ, bytes_eq, List, [], ◌∷◌, Result, Ok, Err, Bool, true, false, cond, refl, subst}
 use denote.Enum.Bare.{same_true, true_same}
 use Rattle.std.proofs.lemmas.Slice.Eq.{bytes_eq-Decides}
-use Rattle.scanner.specs.contracts.kind.Kind.{the_type}
-use Rattle.scanner.specs.declared.kind.Kind.{Kind}
+use Rattle.scanner.specs.contracts.kind.TokenKind.{the_type}
+use Rattle.scanner.specs.declared.kind.TokenKind.{TokenKind}
 use Rattle.parser_base.specs.Lexemes.{Lexeme, Literal, Name, Text, Mark}
 use Rattle.parser_base.specs.Spelling.{is_builtin}
 use Rattle.parser_base.specs.Reading.{Refusal, ◌>>=◌, is_kind, expect, expect_name, plain_name}
 
-pub kind_is : (a b : Kind) → is_kind a b ≡ true → a ≡ b
+pub kind_is : (a b : TokenKind) → is_kind a b ≡ true → a ≡ b
 kind_is a b e = same_true the_type tt a b e
 
-pub is_kind_same : (kind : Kind) → is_kind kind kind ≡ true
+pub is_kind_same : (kind : TokenKind) → is_kind kind kind ≡ true
 is_kind_same kind = true_same the_type kind kind refl
 
 -- ---- results
@@ -39,7 +39,7 @@ ok_is x y e = cc
 
 -- ---- marks
 
-pub expect_is : (kind : Kind) (ws rest : List Lexeme) → expect kind ws ≡ Ok rest → ws ≡ Mark kind ∷ rest
+pub expect_is : (kind : TokenKind) (ws rest : List Lexeme) → expect kind ws ≡ Ok rest → ws ≡ Mark kind ∷ rest
 unfolding expect
 expect_is kind [] rest e = absurd cc
 expect_is kind (Literal value ∷ ws) rest e = absurd cc
@@ -49,7 +49,7 @@ expect_is kind (Mark first ∷ ws) rest e =
     let w = when_ok (is_kind first kind) _ (Ok ws) rest e in
     λ i. Mark (kind_is first kind w.0 i) ∷ ok_is ws rest w.1 i
 
-pub expect_again : (kind : Kind) (rest : List Lexeme) → expect kind (Mark kind ∷ rest) ≡ Ok rest
+pub expect_again : (kind : TokenKind) (rest : List Lexeme) → expect kind (Mark kind ∷ rest) ≡ Ok rest
 unfolding expect
 expect_again kind rest = rw (is_kind_same kind) refl
 

@@ -4,7 +4,7 @@ use Rattle.std.proofs.lemmas.Bool.{le-leb, lt-leb}
 use Rattle.go_text.specs.declared.fault.Fault.{Fault}
 use Rattle.syntax.specs.Tree.{Expression}
 use Rattle.syntax.specs.Measures.{expression_height}
-use Rattle.parser_base.specs.declared.operator.Step.{Step}
+use Rattle.parser_base.specs.declared.operator.Infix.{Infix}
 use Rattle.parser_base.specs.Lexemes.{Lexeme}
 use Rattle.parser_base.specs.Reading.{Reading, TooDeep, Fails, ◌>>=◌, step_at, operand, applied, operation, operations, expression}
 use Rattle.parser_base.proofs.Results.{fails_on}
@@ -38,26 +38,26 @@ turn_stops deeper room least turns i left ws total h none so_far =
     sym so_far ∙ turn deeper room least turns i left ws h ∙ rw none refl
 
 -- a step follows what is so high already
-pub turn_too_high : (deeper : ℕ → List Lexeme → Reading Expression) (room least turns i : ℕ) (left : Expression) (ws : List Lexeme) (step : Step) (after : List Lexeme) (total : Reading Expression) → i < turns → Some (step, after) ≡ step_at least ws → room ≤ expression_height left
+pub turn_too_high : (deeper : ℕ → List Lexeme → Reading Expression) (room least turns i : ℕ) (left : Expression) (ws : List Lexeme) (step : Infix) (after : List Lexeme) (total : Reading Expression) → i < turns → Some (step, after) ≡ step_at least ws → room ≤ expression_height left
     → operations deeper room least (turns - i) left ws ≡ total → total ≡ Err TooDeep
 unfolding operation
 turn_too_high deeper room least turns i left ws step after total h found high so_far =
     let b : leb room (expression_height left) ≡ true = le-leb _ _ high in
     sym so_far ∙ turn deeper room least turns i left ws h ∙ rw (← found, b) refl
 
-goes_on : (deeper : ℕ → List Lexeme → Reading Expression) (room least turns i : ℕ) (left : Expression) (ws : List Lexeme) (step : Step) (after : List Lexeme) → i < turns → Some (step, after) ≡ step_at least ws → expression_height left < room
+goes_on : (deeper : ℕ → List Lexeme → Reading Expression) (room least turns i : ℕ) (left : Expression) (ws : List Lexeme) (step : Infix) (after : List Lexeme) → i < turns → Some (step, after) ≡ step_at least ws → expression_height left < room
     → operations deeper room least (turns - i) left ws ≡ (applied deeper left (step, after) >>= λ more. operations deeper room least (turns - (i + 1)) more.0 more.1)
 unfolding operation
 goes_on deeper room least turns i left ws step after h found low =
     let b : leb room (expression_height left) ≡ false = lt-leb _ _ low in
     turn deeper room least turns i left ws h ∙ rw (← found, b) refl
 
-pub turn_done : (deeper : ℕ → List Lexeme → Reading Expression) (room least turns i : ℕ) (left : Expression) (ws : List Lexeme) (step : Step) (after : List Lexeme) (more : Expression) (others : List Lexeme) (total : Reading Expression) → i < turns → Some (step, after) ≡ step_at least ws → expression_height left < room → applied deeper left (step, after) ≡ Ok (more, others)
+pub turn_done : (deeper : ℕ → List Lexeme → Reading Expression) (room least turns i : ℕ) (left : Expression) (ws : List Lexeme) (step : Infix) (after : List Lexeme) (more : Expression) (others : List Lexeme) (total : Reading Expression) → i < turns → Some (step, after) ≡ step_at least ws → expression_height left < room → applied deeper left (step, after) ≡ Ok (more, others)
     → operations deeper room least (turns - i) left ws ≡ total → operations deeper room least (turns - (i + 1)) more others ≡ total
 turn_done deeper room least turns i left ws step after more others total h found low e so_far =
     sym (goes_on deeper room least turns i left ws step after h found low ∙ rw e refl) ∙ so_far
 
-pub turn_fails : (fault : Fault) (deeper : ℕ → List Lexeme → Reading Expression) (room least turns i : ℕ) (left : Expression) (ws : List Lexeme) (step : Step) (after : List Lexeme) (total : Reading Expression) → i < turns → Some (step, after) ≡ step_at least ws → expression_height left < room → Fails fault (applied deeper left (step, after))
+pub turn_fails : (fault : Fault) (deeper : ℕ → List Lexeme → Reading Expression) (room least turns i : ℕ) (left : Expression) (ws : List Lexeme) (step : Infix) (after : List Lexeme) (total : Reading Expression) → i < turns → Some (step, after) ≡ step_at least ws → expression_height left < room → Fails fault (applied deeper left (step, after))
     → operations deeper room least (turns - i) left ws ≡ total → Fails fault total
 turn_fails fault deeper room least turns i left ws step after total h found low fails so_far =
     fails_on fault (applied deeper left (step, after)) total fails (λ r e. sym so_far ∙ goes_on deeper room least turns i left ws step after h found low ∙ rw e refl)

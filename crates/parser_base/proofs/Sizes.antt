@@ -1,6 +1,6 @@
 -- An expression has no more nodes than lexemes.
 use Rattle.std.proofs.Common.{◌≤◌, [], ◌∷◌, length, arith, length-append}
-use Rattle.scanner.specs.declared.kind.Kind.TheVariants as kinds
+use Rattle.scanner.specs.declared.kind.TokenKind.TheVariants as kinds
 use Rattle.syntax.specs.Tree.{Expression, Integer, Named, Parenthesized, Selection, Composite, Unary, Binary, Expressions, NoMore, Behind}
 use Rattle.syntax.specs.Measures.{expression_size, expressions_size}
 use Rattle.parser_base.specs.Lexemes.{Name, Mark}

@@ -4,21 +4,21 @@ use Rattle.syntax.specs.Measures.{Listing, Entries, entries, highest}
 use Rattle.parser_base.specs.Lexemes.{Lexeme}
 use Rattle.parser_base.specs.Reading.{Refusal, TooMany, Reading, ◌>>=◌}
 use Rattle.parser_base.proofs.Marks.{ok_is}
-use Rattle.parser_base.proofs.ListLaws.{AreFew, Outcome, Found, High, Many, ListOutcome, Found as AllFound, High as AllHigh, Many as AllMany, Full}
+use Rattle.parser_base.proofs.ListLaws.{AreFew, ReadBack, Found, High, Many, ListOutcome, Found as AllFound, High as AllHigh, Many as AllMany, Full}
 use Rattle.parser_base.proofs.ExpressionAgain.{entries-le}
 
 -- a part, and what is read behind it
 pub then_again : {A B : Type 0} (f : A × List Lexeme → Reading B) {read : Reading A} {x : A} {mid : List Lexeme} {y : B} {rest : List Lexeme} {part room height room' : ℕ} {longest longest' : Listing → ℕ} {most : ℕ}
-    → Outcome read x mid part room longest most → (room < part → room' < height) → ((listing : Listing) → longest listing ≤ longest' listing)
-    → (part ≤ room → AreFew longest most → Outcome (f (x, mid)) y rest height room' longest' most) → Outcome (read >>= f) y rest height room' longest' most
-then_again f {y = y} {rest = rest} {height = height} {room' = room'} {longest' = longest'} {most = most} (Found low few e) up more next = subst (λ (r : Reading _). Outcome (r >>= f) y rest height room' longest' most) (sym e) (next low few)
+    → ReadBack read x mid part room longest most → (room < part → room' < height) → ((listing : Listing) → longest listing ≤ longest' listing)
+    → (part ≤ room → AreFew longest most → ReadBack (f (x, mid)) y rest height room' longest' most) → ReadBack (read >>= f) y rest height room' longest' most
+then_again f {y = y} {rest = rest} {height = height} {room' = room'} {longest' = longest'} {most = most} (Found low few e) up more next = subst (λ (r : Reading _). ReadBack (r >>= f) y rest height room' longest' most) (sym e) (next low few)
 then_again f (High high e) up more next = High (up high) (rw e refl)
 then_again f (Many listing many e) up more next = Many listing (omega (arith, more listing, many)) (rw e refl)
 
 -- what is made of what was read
 pub made_again : {A B : Type 0} {read : Reading A} {x : A} {rest : List Lexeme} {part room height room' : ℕ} {longest longest' : Listing → ℕ} {most : ℕ} (make : A → B)
-    → Outcome read x rest part room longest most → (room < part → room' < height) → (part ≤ room → height ≤ room') → ((listing : Listing) → longest listing ≡ longest' listing)
-    → Outcome (read >>= λ found. Ok (make found.0, found.1)) (make x) rest height room' longest' most
+    → ReadBack read x rest part room longest most → (room < part → room' < height) → (part ≤ room → height ≤ room') → ((listing : Listing) → longest listing ≡ longest' listing)
+    → ReadBack (read >>= λ found. Ok (make found.0, found.1)) (make x) rest height room' longest' most
 made_again make (Found low few e) up down same = Found (down low) (λ listing. omega (arith, few listing, same listing)) (rw e refl)
 made_again make (High high e) up down same = High (up high) (rw e refl)
 made_again make (Many listing many e) up down same = Many listing (omega (arith, same listing, many)) (rw e refl)
@@ -26,7 +26,7 @@ made_again make (Many listing many e) up down same = Many listing (omega (arith,
 -- a list that may be longer than its limit
 pub listed_outcome : {X : Type 0} {read : Reading (List X × Bool)} {xs : List X} {trailing : Bool} {rest : List Lexeme} {height room : ℕ} {longest : Listing → ℕ} {most : ℕ}
     → ListOutcome read xs trailing rest height room longest most most (TooMany Entries)
-    → Outcome read (xs, trailing) rest height room (λ listing. max (entries listing (length xs)) (longest listing)) most
+    → ReadBack read (xs, trailing) rest height room (λ listing. max (entries listing (length xs)) (longest listing)) most
 listed_outcome {xs = xs} (AllFound low few count e) = Found low (λ listing. omega (arith, few listing, entries-le listing (length xs))) e
 listed_outcome (AllHigh high e) = High high e
 listed_outcome (AllMany listing many e) = Many listing (omega (arith, many)) e

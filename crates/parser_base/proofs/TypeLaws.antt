@@ -1,7 +1,7 @@
 -- Types: what is spelt is read, and what is read is spelt so.
 use Rattle.std.proofs.Common.{◌≡◌, ℕ, zero, suc, ◌+◌, ◌<◌, ◌≤◌, Bool, true, false, cond, List, [], ◌∷◌, ◌++◌, length, Ok, Err, refl, sym, ap, ◌∙◌, subst, arith, append_assoc, length-append}
-use Rattle.scanner.specs.declared.kind.Kind.{Kind}
-use Rattle.scanner.specs.declared.kind.Kind.TheVariants as kinds
+use Rattle.scanner.specs.declared.kind.TokenKind.{TokenKind}
+use Rattle.scanner.specs.declared.kind.TokenKind.TheVariants as kinds
 use Rattle.syntax.specs.declared.node.Direction.{Direction}
 use Rattle.syntax.specs.declared.node.Direction.TheVariants as directions
 use Rattle.syntax.specs.Tree.{TypeExpression, NamedType, ParenthesizedType, Channel}
@@ -145,10 +145,10 @@ both_sound : (deeper : List Lexeme → Reading TypeExpression) (room : ℕ) → 
 both_sound deeper room sound ws t rest other e =
     channel_sound directions.Both deeper room sound ws t rest (λ element after is. no_receiver element after (sym (ap is_arrow is) ∙ other)) e
 
-arrow_sound : (deeper : List Lexeme → Reading TypeExpression) (room : ℕ) → ReadsTypes deeper room → (kind : Kind) (b : Bool) (ws : List Lexeme) (t : TypeExpression) (rest : List Lexeme) → is_kind kind kinds.Arrow ≡ b
+arrow_sound : (deeper : List Lexeme → Reading TypeExpression) (room : ℕ) → ReadsTypes deeper room → (kind : TokenKind) (b : Bool) (ws : List Lexeme) (t : TypeExpression) (rest : List Lexeme) → is_kind kind kinds.Arrow ≡ b
     → cond b (channel directions.Send deeper ws) (channel directions.Both deeper (Mark kind ∷ ws)) ≡ Ok (with_rest t rest) → IsTypeSound (suc room) (Mark kinds.Chan ∷ Mark kind ∷ ws) t rest
 arrow_sound deeper room sound kind true ws t rest is e =
-    subst (λ (k : Kind). IsTypeSound (suc room) (Mark kinds.Chan ∷ Mark k ∷ ws) t rest) (sym (kind_is kind kinds.Arrow is)) (channel_sound directions.Send deeper room sound ws t rest (λ element after is. tt) e)
+    subst (λ (k : TokenKind). IsTypeSound (suc room) (Mark kinds.Chan ∷ Mark k ∷ ws) t rest) (sym (kind_is kind kinds.Arrow is)) (channel_sound directions.Send deeper room sound ws t rest (λ element after is. tt) e)
 arrow_sound deeper room sound kind false ws t rest is e = both_sound deeper room sound (Mark kind ∷ ws) t rest is e
 
 chan_sound : (deeper : List Lexeme → Reading TypeExpression) (room : ℕ) → ReadsTypes deeper room → (ws : List Lexeme) (t : TypeExpression) (rest : List Lexeme) → behind_chan deeper ws ≡ Ok (with_rest t rest) → IsTypeSound (suc room) (Mark kinds.Chan ∷ ws) t rest
@@ -159,7 +159,7 @@ chan_sound deeper room sound (Name name ∷ ws) t rest e = both_sound deeper roo
 chan_sound deeper room sound (Text bytes ∷ ws) t rest e = both_sound deeper room sound (Text bytes ∷ ws) t rest refl e
 chan_sound deeper room sound (Mark kind ∷ ws) t rest e = arrow_sound deeper room sound kind (is_kind kind kinds.Arrow) ws t rest refl e
 
-receive_sound : (deeper : List Lexeme → Reading TypeExpression) (room : ℕ) → ReadsTypes deeper room → (kind : Kind) (b : Bool) (ws : List Lexeme) (t : TypeExpression) (rest : List Lexeme) → is_kind kind kinds.Arrow ≡ b
+receive_sound : (deeper : List Lexeme → Reading TypeExpression) (room : ℕ) → ReadsTypes deeper room → (kind : TokenKind) (b : Bool) (ws : List Lexeme) (t : TypeExpression) (rest : List Lexeme) → is_kind kind kinds.Arrow ≡ b
     → cond b (behind_arrow deeper ws) (Err Syntax) ≡ Ok (with_rest t rest) → IsTypeSound (suc room) (Mark kind ∷ ws) t rest
 unfolding behind_arrow
 receive_sound deeper room sound kind true ws t rest is e =
@@ -168,17 +168,17 @@ receive_sound deeper room sound kind true ws t rest is e =
     subst (λ (x : List Lexeme). IsTypeSound (suc room) x t rest) (sym both) (channel_sound directions.Receive deeper room sound a.0 t rest (λ element after is. tt) a.2)
 receive_sound deeper room sound kind false ws t rest is e = absurd cc
 
-chan_or_receive_sound : (deeper : List Lexeme → Reading TypeExpression) (room : ℕ) → ReadsTypes deeper room → (kind : Kind) (b : Bool) (ws : List Lexeme) (t : TypeExpression) (rest : List Lexeme) → is_kind kind kinds.Chan ≡ b
+chan_or_receive_sound : (deeper : List Lexeme → Reading TypeExpression) (room : ℕ) → ReadsTypes deeper room → (kind : TokenKind) (b : Bool) (ws : List Lexeme) (t : TypeExpression) (rest : List Lexeme) → is_kind kind kinds.Chan ≡ b
     → cond b (behind_chan deeper ws) (cond (is_kind kind kinds.Arrow) (behind_arrow deeper ws) (Err Syntax)) ≡ Ok (with_rest t rest) → IsTypeSound (suc room) (Mark kind ∷ ws) t rest
 chan_or_receive_sound deeper room sound kind true ws t rest is e =
-    subst (λ (k : Kind). IsTypeSound (suc room) (Mark k ∷ ws) t rest) (sym (kind_is kind kinds.Chan is)) (chan_sound deeper room sound ws t rest e)
+    subst (λ (k : TokenKind). IsTypeSound (suc room) (Mark k ∷ ws) t rest) (sym (kind_is kind kinds.Chan is)) (chan_sound deeper room sound ws t rest e)
 chan_or_receive_sound deeper room sound kind false ws t rest is e = receive_sound deeper room sound kind (is_kind kind kinds.Arrow) ws t rest refl e
 
-mark_sound : (deeper : List Lexeme → Reading TypeExpression) (room : ℕ) → ReadsTypes deeper room → (kind : Kind) (b : Bool) (ws : List Lexeme) (t : TypeExpression) (rest : List Lexeme) → is_kind kind kinds.LeftParenthesis ≡ b
+mark_sound : (deeper : List Lexeme → Reading TypeExpression) (room : ℕ) → ReadsTypes deeper room → (kind : TokenKind) (b : Bool) (ws : List Lexeme) (t : TypeExpression) (rest : List Lexeme) → is_kind kind kinds.LeftParenthesis ≡ b
     → cond b (parenthesized_type deeper ws) (cond (is_kind kind kinds.Chan) (behind_chan deeper ws) (cond (is_kind kind kinds.Arrow) (behind_arrow deeper ws) (Err Syntax))) ≡ Ok (with_rest t rest)
     → IsTypeSound (suc room) (Mark kind ∷ ws) t rest
 mark_sound deeper room sound kind true ws t rest is e =
-    subst (λ (k : Kind). IsTypeSound (suc room) (Mark k ∷ ws) t rest) (sym (kind_is kind kinds.LeftParenthesis is)) (parenthesized_sound deeper room sound ws t rest e)
+    subst (λ (k : TokenKind). IsTypeSound (suc room) (Mark k ∷ ws) t rest) (sym (kind_is kind kinds.LeftParenthesis is)) (parenthesized_sound deeper room sound ws t rest e)
 mark_sound deeper room sound kind false ws t rest is e = chan_or_receive_sound deeper room sound kind (is_kind kind kinds.Chan) ws t rest refl e
 
 pub type_sound : (room : ℕ) (words : List Lexeme) (t : TypeExpression) (rest : List Lexeme) → type_at room words ≡ Ok (t, rest) → IsTypeSound room words t rest

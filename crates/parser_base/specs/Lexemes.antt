@@ -2,8 +2,8 @@
 use Rattle.std.specs.Prelude.{ℕ, ◌+◌, ◌*◌, ◌-◌, ◌^◌, Bool, true, false, ◌&&◌, ◌||◌, ◌==◌, nat_le, if◌then◌else◌, Option, Some, None, List, [], ◌∷◌, drop, map, slice_range}
 use Rattle.std.specs.Int.{is_in_range}
 use Rattle.go_text.specs.declared.place.Span.{Span}
-use Rattle.scanner.specs.declared.kind.Kind.{Kind}
-use Rattle.scanner.specs.declared.kind.Kind.TheVariants as kinds
+use Rattle.scanner.specs.declared.kind.TokenKind.{TokenKind}
+use Rattle.scanner.specs.declared.kind.TokenKind.TheVariants as kinds
 use Rattle.scanner.specs.declared.token.Token.{Token}
 
 pub data Lexeme : Type 0 where
@@ -12,7 +12,7 @@ pub data Lexeme : Type 0 where
   Name : (bytes : List ℕ) → Lexeme
   -- the bytes that a string stands for
   Text : (bytes : List ℕ) → Lexeme
-  Mark : (kind : Kind) → Lexeme
+  Mark : (kind : TokenKind) → Lexeme
 
 -- the value of a digit: 0 to 9, and a to f or A to F for 10 to 15
 abbrev pub digit_of : ℕ → ℕ
@@ -29,12 +29,12 @@ is_hexadecimal (zero' ∷ x ∷ digits) = (zero' == 48) && ((x == 120) || (x == 
 is_hexadecimal digits = false
 
 -- the value of a number as it is written
-abbrev pub number_of : List ℕ → ℕ
-number_of text = if is_hexadecimal text then number_behind 16 0 (drop 2 text) else number_behind 10 0 text
+abbrev pub integer_value : List ℕ → ℕ
+integer_value text = if is_hexadecimal text then number_behind 16 0 (drop 2 text) else number_behind 10 0 text
 
 -- its value, or None where that is over 2^100
 abbrev pub literal : List ℕ → Option ℕ
-literal text = if nat_le (number_of text) (2 ^ 100) then Some (number_of text) else None
+literal text = if nat_le (integer_value text) (2 ^ 100) then Some (integer_value text) else None
 
 -- the byte that a letter behind a backslash stands for
 abbrev pub escape : ℕ → ℕ
@@ -56,7 +56,7 @@ text (quote ∷ rest) = text_behind false rest
 abbrev pub piece : List ℕ → Span → List ℕ
 piece source span = slice_range source span.from span.to
 
-abbrev pub lexeme_at : Kind → List ℕ → Lexeme
+abbrev pub lexeme_at : TokenKind → List ℕ → Lexeme
 lexeme_at kinds.Integer bytes = Literal (literal bytes)
 lexeme_at kinds.Name bytes = Name bytes
 lexeme_at kinds.String bytes = Text (text bytes)

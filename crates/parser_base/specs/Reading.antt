@@ -5,17 +5,17 @@ use Rattle.go_text.specs.declared.fault.Fault.{Fault}
 use Rattle.go_text.specs.declared.fault.Fault.TheVariants as faults
 use Rattle.go_text.specs.declared.rule.LimitKind.{LimitKind}
 use Rattle.go_text.specs.declared.rule.LimitKind.TheVariants as limits
-use Rattle.scanner.specs.contracts.kind.Kind.{the_type}
-use Rattle.scanner.specs.declared.kind.Kind.{Kind}
-use Rattle.scanner.specs.declared.kind.Kind.TheVariants as kinds
+use Rattle.scanner.specs.contracts.kind.TokenKind.{the_type}
+use Rattle.scanner.specs.declared.kind.TokenKind.{TokenKind}
+use Rattle.scanner.specs.declared.kind.TokenKind.TheVariants as kinds
 use Rattle.syntax.specs.declared.node.BinaryOperator.{BinaryOperator}
 use Rattle.syntax.specs.declared.node.BinaryOperator.TheVariants as binaries
 use Rattle.syntax.specs.declared.node.UnaryOperator.{UnaryOperator}
 use Rattle.syntax.specs.declared.node.UnaryOperator.TheVariants as unaries
 use Rattle.syntax.specs.Tree.{Expression, Integer, Named, Parenthesized, Selection, Composite, Unary, Binary, expressions}
 use Rattle.syntax.specs.Measures.{Listing, Entries, SelectClauses, expression_height}
-use Rattle.parser_base.specs.declared.operator.Step.{Step}
-use Rattle.parser_base.specs.declared.operator.Step.TheVariants.{Operator, Period}
+use Rattle.parser_base.specs.declared.operator.Infix.{Infix}
+use Rattle.parser_base.specs.declared.operator.Infix.TheVariants.{Operator, Period}
 use Rattle.parser_base.specs.declared.list.Next.{Next}
 use Rattle.parser_base.specs.declared.list.Next.TheVariants.{More, End}
 use Rattle.parser_base.specs.Lexemes.{Lexeme, Literal, Name, Text, Mark}
@@ -65,11 +65,11 @@ abbrev pub ◌>>=◌ : {A B : Type 0} → Result A Refusal → (A → Result B R
 
 -- ---- marks
 
-abbrev pub is_kind : Kind → Kind → Bool
+abbrev pub is_kind : TokenKind → TokenKind → Bool
 is_kind kind other = sameb the_type kind other
 
 -- what follows a mark
-unfoldable pub expect : Kind → List Lexeme → Result (List Lexeme) Refusal
+unfoldable pub expect : TokenKind → List Lexeme → Result (List Lexeme) Refusal
 expect kind (Mark first ∷ rest) = if is_kind first kind then Ok rest else Err Syntax
 expect kind words = Err Syntax
 
@@ -104,26 +104,26 @@ begins (Mark kind ∷ rest) =
     is_kind kind kinds.LeftParenthesis || is_kind kind kinds.Plus || is_kind kind kinds.Minus || is_kind kind kinds.Not || is_kind kind kinds.Caret
 
 -- the end of a list
-abbrev pub closed : Kind → Bool → List Lexeme → Reading Next
+abbrev pub closed : TokenKind → Bool → List Lexeme → Reading Next
 closed close trailing words = expect close words >>= λ after. Ok (End trailing, after)
 
 -- what follows a list's separator, behind which another entry `starts`, or the list ends
-abbrev pub behind_separator : (List Lexeme → Bool) → Kind → List Lexeme → Reading Next
+abbrev pub behind_separator : (List Lexeme → Bool) → TokenKind → List Lexeme → Reading Next
 behind_separator starts close words = if starts words then Ok (More, words) else closed close true words
 
 -- what follows an entry of a list to a closing mark
-unfoldable pub entry_next : Kind → (List Lexeme → Bool) → Kind → List Lexeme → Reading Next
+unfoldable pub entry_next : TokenKind → (List Lexeme → Bool) → TokenKind → List Lexeme → Reading Next
 entry_next separator starts close (Mark kind ∷ rest) =
     if is_kind kind separator then behind_separator starts close rest else closed close false (Mark kind ∷ rest)
 entry_next separator starts close words = Err Syntax
 
 -- what follows a value of a list to a closing mark
-abbrev pub value_next : Kind → List Lexeme → Reading Next
+abbrev pub value_next : TokenKind → List Lexeme → Reading Next
 value_next close = entry_next kinds.Comma begins close
 
 -- ---- expressions
 
-abbrev pub binary_of : Kind → Option BinaryOperator
+abbrev pub binary_of : TokenKind → Option BinaryOperator
 binary_of kinds.Plus = Some binaries.Add
 binary_of kinds.Minus = Some binaries.Subtract
 binary_of kinds.Star = Some binaries.Multiply
@@ -145,32 +145,32 @@ binary_of kinds.LogicalAnd = Some binaries.LogicalAnd
 binary_of kinds.LogicalOr = Some binaries.LogicalOr
 binary_of kind = None
 
-abbrev pub unary_of : Kind → Option UnaryOperator
+abbrev pub unary_of : TokenKind → Option UnaryOperator
 unary_of kinds.Plus = Some unaries.Plus
 unary_of kinds.Minus = Some unaries.Negate
 unary_of kinds.Not = Some unaries.Not
 unary_of kinds.Caret = Some unaries.Complement
 unary_of kind = None
 
-abbrev pub operator_step : Option BinaryOperator → Option Step
+abbrev pub operator_step : Option BinaryOperator → Option Infix
 operator_step None = None
 operator_step (Some operator) = Some (Operator operator)
 
-abbrev pub step_of : Kind → Option Step
-step_of kind = if is_kind kind kinds.Period then Some Period else operator_step (binary_of kind)
+abbrev pub infix_of : TokenKind → Option Infix
+infix_of kind = if is_kind kind kinds.Period then Some Period else operator_step (binary_of kind)
 
-abbrev pub strength : Step → ℕ
+abbrev pub strength : Infix → ℕ
 strength (Operator operator) = precedence operator
 strength Period = 7
 
 -- a step, if it binds at least so strongly
-abbrev pub binding : ℕ → List Lexeme → Option Step → Option (Step × List Lexeme)
+abbrev pub binding : ℕ → List Lexeme → Option Infix → Option (Infix × List Lexeme)
 binding least rest None = None
 binding least rest (Some step) = if nat_le least (strength step) then Some (step, rest) else None
 
 -- the step at the front, if it binds at least so strongly, and what follows it
-unfoldable pub step_at : ℕ → List Lexeme → Option (Step × List Lexeme)
-step_at least (Mark kind ∷ rest) = binding least rest (step_of kind)
+unfoldable pub step_at : ℕ → List Lexeme → Option (Infix × List Lexeme)
+step_at least (Mark kind ∷ rest) = binding least rest (infix_of kind)
 step_at least words = None
 
 -- the operand of a unary operator
@@ -188,7 +188,7 @@ parenthesized deeper rest = do
   Ok (Parenthesized inner.0, after)
 
 -- values to a closing mark, behind the opening one
-unfoldable pub values : (ℕ → List Lexeme → Reading Expression) → Kind → ℕ → List Lexeme → Reading (List Expression × Bool)
+unfoldable pub values : (ℕ → List Lexeme → Reading Expression) → TokenKind → ℕ → List Lexeme → Reading (List Expression × Bool)
 values deeper close most words =
     if begins words then listed (deeper 0) (value_next close) (TooMany Entries) most words
     else (expect close words >>= λ after. Ok (([], false), after))
@@ -213,12 +213,12 @@ operand literals deeper most (Mark kind ∷ rest) =
     if is_kind kind kinds.LeftParenthesis then parenthesized deeper rest else negated deeper rest (unary_of kind)
 
 -- what was read so far as the left operand, or as that of a selection
-abbrev pub applied : (ℕ → List Lexeme → Reading Expression) → Expression → Step × List Lexeme → Reading Expression
+abbrev pub applied : (ℕ → List Lexeme → Reading Expression) → Expression → Infix × List Lexeme → Reading Expression
 applied deeper left (Operator operator, words) = deeper (precedence operator + 1) words >>= λ right. Ok (Binary operator left right.0, right.1)
 applied deeper left (Period, words) = plain_name words >>= λ field. Ok (Selection left field.0, field.1)
 
 -- one step on what was read so far, and what follows it
-unfoldable pub operation : (ℕ → List Lexeme → Reading Expression) → (Expression → List Lexeme → Reading Expression) → ℕ → Expression → List Lexeme → Option (Step × List Lexeme) → Reading Expression
+unfoldable pub operation : (ℕ → List Lexeme → Reading Expression) → (Expression → List Lexeme → Reading Expression) → ℕ → Expression → List Lexeme → Option (Infix × List Lexeme) → Reading Expression
 operation deeper next room left words None = Ok (left, words)
 operation deeper next room left words (Some found) =
     if nat_le room (expression_height left) then Err TooDeep

@@ -1,7 +1,7 @@
 -- The one list of lexemes that spells a type or an expression.
 use Rattle.std.specs.Prelude.{◌≡◌, ℕ, ◌<◌, ◌≤◌, Bool, true, false, ◌||◌, List, [], ◌∷◌, ◌++◌, IsTrue, bytes_eq, codes}
-use Rattle.scanner.specs.declared.kind.Kind.{Kind}
-use Rattle.scanner.specs.declared.kind.Kind.TheVariants as kinds
+use Rattle.scanner.specs.declared.kind.TokenKind.{TokenKind}
+use Rattle.scanner.specs.declared.kind.TokenKind.TheVariants as kinds
 use Rattle.syntax.specs.declared.node.BinaryOperator.{BinaryOperator}
 use Rattle.syntax.specs.declared.node.BinaryOperator.TheVariants as binaries
 use Rattle.syntax.specs.declared.node.UnaryOperator.{UnaryOperator}
@@ -20,7 +20,7 @@ is_builtin name =
 -- ---- lists
 
 -- a mark, and then these
-abbrev pub behind : Kind → List Lexeme → List Lexeme
+abbrev pub behind : TokenKind → List Lexeme → List Lexeme
 behind kind rest = Mark kind ∷ rest
 
 -- each of a list behind a separator, and then these; `each x` and `separator` say what stands before what follows
@@ -44,7 +44,7 @@ AreSome P [] = ⊥
 AreSome P (first ∷ rest) = P first × AreAll P rest
 
 -- what closes a list, behind whose last entry a separator may stand, and then these
-abbrev pub closing : (separator close : Kind) → (trailing : Bool) → List Lexeme → List Lexeme
+abbrev pub closing : (separator close : TokenKind) → (trailing : Bool) → List Lexeme → List Lexeme
 closing separator close true rest = Mark separator ∷ Mark close ∷ rest
 closing separator close false rest = Mark close ∷ rest
 
@@ -55,13 +55,13 @@ IsTrailing (first ∷ rest) trailing = Unit {0}
 
 -- ---- expressions
 
-abbrev pub unary_kind : UnaryOperator → Kind
+abbrev pub unary_kind : UnaryOperator → TokenKind
 unary_kind unaries.Plus = kinds.Plus
 unary_kind unaries.Negate = kinds.Minus
 unary_kind unaries.Not = kinds.Not
 unary_kind unaries.Complement = kinds.Caret
 
-abbrev pub binary_kind : BinaryOperator → Kind
+abbrev pub binary_kind : BinaryOperator → TokenKind
 binary_kind binaries.Add = kinds.Plus
 binary_kind binaries.Subtract = kinds.Minus
 binary_kind binaries.Multiply = kinds.Star

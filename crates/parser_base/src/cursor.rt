@@ -7,7 +7,7 @@ ghost use Rattle.parser_base.specs.Spelling.{is_builtin};
 ghost use Rattle.parser_base.specs.Reading.{Gives, expect, expect_name, plain_name};
 
 use go_text::{Fault, Place, Source, Span};
-use scanner::{Kind, Token};
+use scanner::{Token, TokenKind};
 
 /// What the grammar sees of a token.
 #[derive(Clone, Copy)]
@@ -19,7 +19,7 @@ pub enum Word<'a> {
     /// The bytes of a string, in its quotes.
     Text(&'a [u8]),
     /// Any other token.
-    Mark(Kind),
+    Mark(TokenKind),
 }
 
 /// The tokens of a text from some place on.
@@ -86,9 +86,9 @@ impl<'a> Cursor<'a> {
     {
         let (token, rest) = self.tokens.split_first()?;
         let word = match token.kind {
-            Kind::Integer => Word::Literal(piece(self.source.as_bytes(), token.span)),
-            Kind::Name => Word::Name(piece(self.source.as_bytes(), token.span)),
-            Kind::String => Word::Text(piece(self.source.as_bytes(), token.span)),
+            TokenKind::Integer => Word::Literal(piece(self.source.as_bytes(), token.span)),
+            TokenKind::Name => Word::Name(piece(self.source.as_bytes(), token.span)),
+            TokenKind::String => Word::Text(piece(self.source.as_bytes(), token.span)),
             kind => Word::Mark(kind),
         };
         Some((
@@ -103,7 +103,7 @@ impl<'a> Cursor<'a> {
 
     /// The span of a mark that is wanted here, and the place behind it.
     #[tactic(auto, unfolding(crate::specs::Reading::expect))]
-    pub fn expect(self, kind: Kind) -> Result<(Span, Cursor<'a>), Fault>
+    pub fn expect(self, kind: TokenKind) -> Result<(Span, Cursor<'a>), Fault>
         ensures { Gives (λ x. ahead x.1) result (expect kind (ahead self.entry)) }
     {
         match self.next() {

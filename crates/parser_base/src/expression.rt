@@ -12,9 +12,9 @@ ghost use Rattle.parser_base.specs.Reading.{Gives, Reading, TooMany, begins, clo
 use crate::cursor::{Cursor, Word, is_builtin};
 use crate::list::{MAX_ENTRIES, Next};
 use crate::literal::literal;
-use crate::operator::{Step, precedence, step_of, strength, unary_of};
+use crate::operator::{Infix, infix_of, precedence, strength, unary_of};
 use go_text::{Fault, LimitKind, Place, Span};
-use scanner::Kind;
+use scanner::TokenKind;
 use std::alloc::Global;
 use syntax::{BinaryOperator, ExpressionNode, Name, UnaryOperator};
 
@@ -44,13 +44,13 @@ pub struct FoundValues<'a> {
 
 /// The step here, if it binds at least so strongly, and the place behind its mark.
 #[tactic(auto, unfolding(crate::specs::Reading::step_at))]
-fn step_at(least: u32, cursor: Cursor<'_>) -> Option<(Step, Cursor<'_>)>
+fn step_at(least: u32, cursor: Cursor<'_>) -> Option<(Infix, Cursor<'_>)>
     ensures { option_map (λ x. (x.0, ahead x.1)) result ≡ step_at least (ahead cursor.entry) }
 {
     let (Word::Mark(kind), _, rest) = cursor.next()? else {
         return None;
     };
-    let step = step_of(kind)?;
+    let step = infix_of(kind)?;
     if least <= strength(step) {
         Some((step, rest))
     } else {
@@ -67,11 +67,11 @@ pub fn begins(cursor: Cursor<'_>) -> bool
         Some((Word::Literal(_), _, _)) => true,
         Some((Word::Name(name), _, _)) => !is_builtin(name),
         Some((Word::Mark(kind), _, _)) => {
-            kind == Kind::LeftParenthesis
-                || kind == Kind::Plus
-                || kind == Kind::Minus
-                || kind == Kind::Not
-                || kind == Kind::Caret
+            kind == TokenKind::LeftParenthesis
+                || kind == TokenKind::Plus
+                || kind == TokenKind::Minus
+                || kind == TokenKind::Not
+                || kind == TokenKind::Caret
         }
         _ => false,
     }
@@ -79,7 +79,7 @@ pub fn begins(cursor: Cursor<'_>) -> bool
 
 /// The end of a list, with the span of its token.
 pub fn closed(
-    close: Kind,
+    close: TokenKind,
     trailing: bool,
     cursor: Cursor<'_>,
 ) -> Result<(Next, Span, Cursor<'_>), Fault>
@@ -91,13 +91,13 @@ pub fn closed(
 
 /// What follows a value of a list, with the span of its last token.
 #[tactic(auto, unfolding(crate::specs::Reading::entry_next))]
-pub fn value_next(close: Kind, cursor: Cursor<'_>) -> Result<(Next, Span, Cursor<'_>), Fault>
+pub fn value_next(close: TokenKind, cursor: Cursor<'_>) -> Result<(Next, Span, Cursor<'_>), Fault>
     ensures { Gives (λ x. (x.0, ahead x.2)) result (value_next close (ahead cursor.entry)) }
 {
     let Some((Word::Mark(kind), span, rest)) = cursor.next() else {
         return Err(Fault::Syntax(cursor.place()));
     };
-    if kind != Kind::Comma {
+    if kind != TokenKind::Comma {
         return closed(close, false, cursor);
     }
     if begins(rest) {
@@ -192,7 +192,7 @@ pub fn values<'a>(
     alloc: Global,
     literals: bool,
     room: u32,
-    close: Kind,
+    close: TokenKind,
     cursor: Cursor<'a>,
     spans: &mut Vec<Span>,
 ) -> Result<FoundValues<'a>, Fault>
@@ -220,7 +220,7 @@ fn value_list<'a>(
     alloc: Global,
     literals: bool,
     room: u32,
-    close: Kind,
+    close: TokenKind,
     cursor: Cursor<'a>,
     spans: &mut Vec<Span>,
 ) -> Result<FoundValues<'a>, Fault>
@@ -273,7 +273,7 @@ fn composite<'a>(
     ensures within { IfOk result (λ x. x.height ≤ room) }
     ensures nodes { IfOk result (λ x. vec_len spans.new ≡ vec_len spans.old + expression_size (expression_of x.expression)) }
 {
-    let values = values(alloc, true, room - 1, Kind::RightBrace, cursor, spans)?;
+    let values = values(alloc, true, room - 1, TokenKind::RightBrace, cursor, spans)?;
     let span = Span {
         from: first.from,
         to: values.last.to,
@@ -308,7 +308,7 @@ fn named<'a>(
     ensures nodes { IfOk result (λ x. vec_len spans.new ≡ vec_len spans.old + expression_size (expression_of x.expression)) }
 {
     if literals {
-        if let Some((Word::Mark(Kind::LeftBrace), _, rest)) = cursor.next() {
+        if let Some((Word::Mark(TokenKind::LeftBrace), _, rest)) = cursor.next() {
             return composite(alloc, room, name, first, rest, spans);
         }
     }
@@ -344,7 +344,7 @@ fn parenthesized<'a>(
         return Err(Fault::TooDeep(Place::from(first)));
     }
     let inner = expression(alloc, literals, room - 1, 0, cursor, spans)?;
-    let (last, rest) = inner.rest.expect(Kind::RightParenthesis)?;
+    let (last, rest) = inner.rest.expect(TokenKind::RightParenthesis)?;
     let span = Span {
         from: first.from,
         to: last.to,
@@ -434,7 +434,7 @@ fn operand<'a>(
         }
         Word::Text(_) => Err(Fault::Syntax(Place::from(span))),
         Word::Mark(kind) => {
-            if kind == Kind::LeftParenthesis {
+            if kind == TokenKind::LeftParenthesis {
                 return parenthesized(alloc, literals, room, span, rest, spans);
             }
             let Some(operator) = unary_of(kind) else {
@@ -452,7 +452,7 @@ fn applied<'a>(
     literals: bool,
     room: u32,
     left: Found<'a>,
-    step: Step,
+    step: Infix,
     cursor: Cursor<'a>,
     spans: &mut Vec<Span>,
 ) -> Result<Found<'a>, Fault>
@@ -466,8 +466,8 @@ fn applied<'a>(
     ensures nodes { IfOk result (λ x. vec_len spans.new + expression_size (expression_of left.entry.expression) ≡ vec_len spans.old + expression_size (expression_of x.expression)) }
 {
     match step {
-        Step::Operator(operator) => binary(alloc, literals, room, left, operator, cursor, spans),
-        Step::Period => selection(alloc, room, left, cursor, spans),
+        Infix::Operator(operator) => binary(alloc, literals, room, left, operator, cursor, spans),
+        Infix::Period => selection(alloc, room, left, cursor, spans),
     }
 }
 
@@ -485,7 +485,7 @@ fn binary<'a>(
     requires room { 1 ≤ room }
     requires low { left.height < room }
     requires height { left.height ≡ expression_height (expression_of left.expression) }
-    ensures tree { Gives (λ x. (expression_of x.expression, ahead x.rest)) result (applied (expression literals MAX_ENTRIES (room - 1)) (expression_of left.entry.expression) (Step.Operator operator, ahead cursor.entry)) }
+    ensures tree { Gives (λ x. (expression_of x.expression, ahead x.rest)) result (applied (expression literals MAX_ENTRIES (room - 1)) (expression_of left.entry.expression) (Infix.Operator operator, ahead cursor.entry)) }
     ensures height { IfOk result (λ x. x.height ≡ expression_height (expression_of x.expression)) }
     ensures leaf { IfOk result (λ x. 1 ≤ x.height) }
     ensures within { IfOk result (λ x. x.height ≤ room) }
@@ -524,7 +524,7 @@ fn selection<'a>(
 ) -> Result<Found<'a>, Fault>
     requires low { left.height < room }
     requires height { left.height ≡ expression_height (expression_of left.expression) }
-    ensures tree { (deeper : ℕ → List Lexeme → Reading Expression) → Gives (λ x. (expression_of x.expression, ahead x.rest)) result (applied deeper (expression_of left.entry.expression) (Step.Period, ahead cursor.entry)) }
+    ensures tree { (deeper : ℕ → List Lexeme → Reading Expression) → Gives (λ x. (expression_of x.expression, ahead x.rest)) result (applied deeper (expression_of left.entry.expression) (Infix.Period, ahead cursor.entry)) }
     ensures height { IfOk result (λ x. x.height ≡ expression_height (expression_of x.expression)) }
     ensures leaf { IfOk result (λ x. 1 ≤ x.height) }
     ensures within { IfOk result (λ x. x.height ≤ room) }

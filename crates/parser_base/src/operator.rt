@@ -2,9 +2,9 @@
 
 ghost use Rattle.std.specs.Prelude.{◌≡◌};
 ghost use Rattle.parser_base.specs.Spelling.{precedence};
-ghost use Rattle.parser_base.specs.Reading.{binary_of, unary_of, step_of, strength};
+ghost use Rattle.parser_base.specs.Reading.{binary_of, unary_of, infix_of, strength};
 
-use scanner::Kind;
+use scanner::TokenKind;
 use syntax::{BinaryOperator, UnaryOperator};
 
 /// How strongly a binary operator binds, from 1 to 5 ("Operator precedence" of the Go specification).
@@ -29,70 +29,70 @@ pub fn precedence(operator: BinaryOperator) -> u32
 }
 
 /// The binary operator of a mark.
-pub fn binary_of(kind: Kind) -> Option<BinaryOperator>
+pub fn binary_of(kind: TokenKind) -> Option<BinaryOperator>
     ensures { result ≡ binary_of kind }
 {
     Some(match kind {
-        Kind::Plus => BinaryOperator::Add,
-        Kind::Minus => BinaryOperator::Subtract,
-        Kind::Star => BinaryOperator::Multiply,
-        Kind::Slash => BinaryOperator::Divide,
-        Kind::Percent => BinaryOperator::Remainder,
-        Kind::Ampersand => BinaryOperator::And,
-        Kind::Bar => BinaryOperator::Or,
-        Kind::Caret => BinaryOperator::ExclusiveOr,
-        Kind::AndNot => BinaryOperator::AndNot,
-        Kind::ShiftLeft => BinaryOperator::ShiftLeft,
-        Kind::ShiftRight => BinaryOperator::ShiftRight,
-        Kind::Equal => BinaryOperator::Equal,
-        Kind::NotEqual => BinaryOperator::NotEqual,
-        Kind::Less => BinaryOperator::Less,
-        Kind::LessEqual => BinaryOperator::LessEqual,
-        Kind::Greater => BinaryOperator::Greater,
-        Kind::GreaterEqual => BinaryOperator::GreaterEqual,
-        Kind::LogicalAnd => BinaryOperator::LogicalAnd,
-        Kind::LogicalOr => BinaryOperator::LogicalOr,
+        TokenKind::Plus => BinaryOperator::Add,
+        TokenKind::Minus => BinaryOperator::Subtract,
+        TokenKind::Star => BinaryOperator::Multiply,
+        TokenKind::Slash => BinaryOperator::Divide,
+        TokenKind::Percent => BinaryOperator::Remainder,
+        TokenKind::Ampersand => BinaryOperator::And,
+        TokenKind::Bar => BinaryOperator::Or,
+        TokenKind::Caret => BinaryOperator::ExclusiveOr,
+        TokenKind::AndNot => BinaryOperator::AndNot,
+        TokenKind::ShiftLeft => BinaryOperator::ShiftLeft,
+        TokenKind::ShiftRight => BinaryOperator::ShiftRight,
+        TokenKind::Equal => BinaryOperator::Equal,
+        TokenKind::NotEqual => BinaryOperator::NotEqual,
+        TokenKind::Less => BinaryOperator::Less,
+        TokenKind::LessEqual => BinaryOperator::LessEqual,
+        TokenKind::Greater => BinaryOperator::Greater,
+        TokenKind::GreaterEqual => BinaryOperator::GreaterEqual,
+        TokenKind::LogicalAnd => BinaryOperator::LogicalAnd,
+        TokenKind::LogicalOr => BinaryOperator::LogicalOr,
         _ => return None,
     })
 }
 
 /// The unary operator of a mark.
-pub fn unary_of(kind: Kind) -> Option<UnaryOperator>
+pub fn unary_of(kind: TokenKind) -> Option<UnaryOperator>
     ensures { result ≡ unary_of kind }
 {
     match kind {
-        Kind::Plus => Some(UnaryOperator::Plus),
-        Kind::Minus => Some(UnaryOperator::Negate),
-        Kind::Not => Some(UnaryOperator::Not),
-        Kind::Caret => Some(UnaryOperator::Complement),
+        TokenKind::Plus => Some(UnaryOperator::Plus),
+        TokenKind::Minus => Some(UnaryOperator::Negate),
+        TokenKind::Not => Some(UnaryOperator::Not),
+        TokenKind::Caret => Some(UnaryOperator::Complement),
         _ => None,
     }
 }
 
 /// What can follow an operand.
 #[derive(Clone, Copy)]
-pub enum Step {
+pub enum Infix {
     Operator(BinaryOperator),
     /// The period of a selection.
     Period,
 }
 
 /// What a mark that follows an operand stands for.
-pub fn step_of(kind: Kind) -> Option<Step>
-    ensures { result ≡ step_of kind }
+pub fn infix_of(kind: TokenKind) -> Option<Infix>
+    ensures { result ≡ infix_of kind }
 {
-    if kind == Kind::Period {
-        return Some(Step::Period);
+    if kind == TokenKind::Period {
+        return Some(Infix::Period);
     }
-    Some(Step::Operator(binary_of(kind)?))
+    Some(Infix::Operator(binary_of(kind)?))
 }
 
 /// How strongly a step binds, from 1 to 7.
-pub fn strength(step: Step) -> u32
+pub fn strength(step: Infix) -> u32
     ensures { result ≡ strength step }
 {
     match step {
-        Step::Operator(operator) => precedence(operator),
-        Step::Period => 7,
+        Infix::Operator(operator) => precedence(operator),
+        Infix::Period => 7,
     }
 }

@@ -12,7 +12,7 @@ ghost use Rattle.parser_base.specs.TypeReading.{parenthesized_type, channel, beh
 use crate::cursor::{Cursor, Word, is_builtin};
 use crate::expression::name_node;
 use go_text::{Fault, Place, Span};
-use scanner::Kind;
+use scanner::TokenKind;
 use std::alloc::Global;
 use syntax::{Direction, TypeNode};
 
@@ -67,7 +67,7 @@ fn parenthesized<'a>(
         return Err(Fault::TooDeep(Place::from(first)));
     }
     let inner = type_at(alloc, room - 1, cursor, spans)?;
-    let (last, rest) = inner.rest.expect(Kind::RightParenthesis)?;
+    let (last, rest) = inner.rest.expect(TokenKind::RightParenthesis)?;
     let span = Span {
         from: first.from,
         to: last.to,
@@ -124,7 +124,7 @@ fn sender_or_both<'a>(
     ensures nodes { IfOk result (λ x. vec_len spans.new ≡ vec_len spans.old + type_size (type_of x.kind)) }
 {
     if let Some((Word::Mark(kind), _, rest)) = cursor.next() {
-        if kind == Kind::Arrow {
+        if kind == TokenKind::Arrow {
             return element(alloc, room, Direction::Send, first, rest, spans);
         }
     }
@@ -145,7 +145,7 @@ fn receiver<'a>(
     ensures tree { Gives (λ x. (type_of x.kind, ahead x.rest)) result (behind_arrow (type_at (room - 1)) (ahead cursor.entry)) }
     ensures nodes { IfOk result (λ x. vec_len spans.new ≡ vec_len spans.old + type_size (type_of x.kind)) }
 {
-    let (_, rest) = cursor.expect(Kind::Chan)?;
+    let (_, rest) = cursor.expect(TokenKind::Chan)?;
     let found = element(alloc, room, Direction::Receive, first, rest, spans)?;
     Ok(found)
 }
@@ -175,13 +175,13 @@ pub fn type_at<'a>(
             Ok(FoundType { kind, span, rest })
         }
         Some((Word::Mark(kind), span, rest)) => {
-            if kind == Kind::LeftParenthesis {
+            if kind == TokenKind::LeftParenthesis {
                 return parenthesized(alloc, room, span, rest, spans);
             }
-            if kind == Kind::Chan {
+            if kind == TokenKind::Chan {
                 return sender_or_both(alloc, room, span, rest, spans);
             }
-            if kind == Kind::Arrow {
+            if kind == TokenKind::Arrow {
                 return receiver(alloc, room, span, rest, spans);
             }
             Err(Fault::Syntax(Place::from(span)))

@@ -1,6 +1,6 @@
 -- What no value begins with.
 use Rattle.std.proofs.Common.{◌≡◌, Bool, true, false, List, [], ◌∷◌, refl, sym, ap, ◌∙◌}
-use Rattle.scanner.specs.declared.kind.Kind.{Kind}
+use Rattle.scanner.specs.declared.kind.TokenKind.{TokenKind}
 use Rattle.syntax.specs.Tree.{Expression}
 use Rattle.parser_base.specs.Lexemes.{Lexeme, Literal, Name, Text, Mark}
 use Rattle.parser_base.specs.Spelling.{before, IsGrouped}
@@ -9,13 +9,13 @@ use Rattle.parser_base.proofs.Marks.{kind_is}
 use Rattle.parser_base.proofs.ExpressionAgain.{begins_again}
 use Rattle.parser_simple.specs.Reading.{begins_with}
 
-other_kind : (kind first : Kind) (b : Bool) (ws : List Lexeme) → is_kind first kind ≡ b → begins (Mark first ∷ ws) ≡ true → begins (Mark kind ∷ ws) ≡ false → b ≡ false
+other_kind : (kind first : TokenKind) (b : Bool) (ws : List Lexeme) → is_kind first kind ≡ b → begins (Mark first ∷ ws) ≡ true → begins (Mark kind ∷ ws) ≡ false → b ≡ false
 other_kind kind first false ws is begun none = refl
 other_kind kind first true ws is begun none =
-    let bad = sym begun ∙ ap (λ (k : Kind). begins (Mark k ∷ ws)) (kind_is first kind is) ∙ none in
+    let bad = sym begun ∙ ap (λ (k : TokenKind). begins (Mark k ∷ ws)) (kind_is first kind is) ∙ none in
     absurd cc
 
-not_begun : (kind : Kind) (ws : List Lexeme) → begins ws ≡ true → ((rest : List Lexeme) → begins (Mark kind ∷ rest) ≡ false) → begins_with kind ws ≡ false
+not_begun : (kind : TokenKind) (ws : List Lexeme) → begins ws ≡ true → ((rest : List Lexeme) → begins (Mark kind ∷ rest) ≡ false) → begins_with kind ws ≡ false
 unfolding begins_with
 not_begun kind [] begun none = refl
 not_begun kind (Literal value ∷ ws) begun none = refl
@@ -24,5 +24,5 @@ not_begun kind (Text bytes ∷ ws) begun none = refl
 not_begun kind (Mark first ∷ ws) begun none = other_kind kind first (is_kind first kind) ws refl begun (none ws)
 
 -- no value begins with a mark with which none begins
-pub value_not : (kind : Kind) (literals : Bool) (e : Expression) (ws : List Lexeme) → IsGrouped literals e → ((rest : List Lexeme) → begins (Mark kind ∷ rest) ≡ false) → begins_with kind (before e ws) ≡ false
+pub value_not : (kind : TokenKind) (literals : Bool) (e : Expression) (ws : List Lexeme) → IsGrouped literals e → ((rest : List Lexeme) → begins (Mark kind ∷ rest) ≡ false) → begins_with kind (before e ws) ≡ false
 value_not kind literals e ws g none = not_begun kind (before e ws) (begins_again literals e ws g) none

@@ -1,7 +1,7 @@
 -- Names and selections that are too high as values are refused only where no value has room.
 use Rattle.std.proofs.Common.{◌≡◌, ℕ, ◌<◌, ◌≤◌, Bool, true, false, cond, List, [], ◌∷◌, Result, Ok, Err, nat_le, ◌⊎◌, inl, inr, refl, arith, append_assoc, add-one}
 use Rattle.std.proofs.lemmas.Bool.{leb-false}
-use Rattle.scanner.specs.declared.kind.Kind.TheVariants as kinds
+use Rattle.scanner.specs.declared.kind.TokenKind.TheVariants as kinds
 use Rattle.syntax.specs.declared.node.BinaryOperator.{BinaryOperator}
 use Rattle.syntax.specs.declared.node.BinaryOperator.TheVariants as binaries
 use Rattle.syntax.specs.Tree.{Expression, Integer, Named, Parenthesized, Selection, Composite, Unary, Binary}
@@ -9,7 +9,7 @@ use Rattle.syntax.specs.Measures.{Listing, expression_height}
 use Rattle.parser_base.specs.Lexemes.{Lexeme, Name, Mark}
 use Rattle.parser_base.specs.Spelling.{before, expression_words, outer_precedence, IsGrouped, binary_kind}
 use Rattle.parser_base.specs.Reading.{Refusal, TooDeep, Reading, ◌>>=◌}
-use Rattle.parser_base.proofs.ListLaws.{Outcome, High}
+use Rattle.parser_base.proofs.ListLaws.{ReadBack, High}
 use Rattle.parser_base.proofs.ExpressionAgain.{height_positive, precedence-lt}
 use Rattle.parser_simple.specs.Reading.{goes_on, within, fits}
 
@@ -26,7 +26,7 @@ within_fits height high room low = either_fits (nat_le height room) high room (�
 
 -- what is read behind that
 pub fits_again : {A : Type 0} {part height room room' : ℕ} {longest : Listing → ℕ} {most : ℕ} {x : A} {rest : List Lexeme} (read : Reading A) (guard : Result (Unit {0}) Refusal)
-    → Fits part room guard → (room < part → room' < height) → Outcome read x rest height room' longest most → Outcome (guard >>= λ low. read) x rest height room' longest most
+    → Fits part room guard → (room < part → room' < height) → ReadBack read x rest height room' longest most → ReadBack (guard >>= λ low. read) x rest height room' longest most
 fits_again read guard (inl e) up again = rw e again
 fits_again read guard (inr high) up again = High (up high.1) (rw high.0 refl)
 

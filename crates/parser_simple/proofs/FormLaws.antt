@@ -1,7 +1,7 @@
 -- What stands behind a place, and what that says of a statement.
 use Rattle.std.proofs.Common.{◌≡◌, ℕ, ◌≤◌, Bool, true, false, cond, Option, None, List, [], ◌∷◌, ◌++◌, Ok, refl, ap, ◌∙◌, subst, arith, append_assoc}
-use Rattle.scanner.specs.declared.kind.Kind.{Kind}
-use Rattle.scanner.specs.declared.kind.Kind.TheVariants as kinds
+use Rattle.scanner.specs.declared.kind.TokenKind.{TokenKind}
+use Rattle.scanner.specs.declared.kind.TokenKind.TheVariants as kinds
 use Rattle.syntax.specs.declared.node.BinaryOperator.{BinaryOperator}
 use Rattle.syntax.specs.declared.node.BinaryOperator.TheVariants as binaries
 use Rattle.syntax.specs.Tree.{Expression, Integer, Named, Parenthesized, Selection, Composite, Unary, Binary, Place, Simple}
@@ -110,7 +110,7 @@ strong_as o p e strong =
     let same : o ≡ p = cc in
     subst (λ (x : BinaryOperator). 4 ≤ precedence x) same strong
 
-mark_strong : (k : Kind) (ws : List Lexeme) (o : BinaryOperator) → form_at k ws ≡ forms.Update o → 4 ≤ precedence o
+mark_strong : (k : TokenKind) (ws : List Lexeme) (o : BinaryOperator) → form_at k ws ≡ forms.Update o → 4 ≤ precedence o
 mark_strong kinds.PlusAssign ws o e = strong_as binaries.Add o e (omega arith)
 mark_strong kinds.MinusAssign ws o e = strong_as binaries.Subtract o e (omega arith)
 mark_strong kinds.StarAssign ws o e = strong_as binaries.Multiply o e (omega arith)
@@ -124,7 +124,7 @@ mark_strong kinds.ShiftLeftAssign ws o e = strong_as binaries.ShiftLeft o e (ome
 mark_strong kinds.ShiftRightAssign ws o e = strong_as binaries.ShiftRight o e (omega arith)
 mark_strong _ ws o e = absurd cc
 
-period_strong : (k : Kind) (b : Bool) (ws : List Lexeme) (o : BinaryOperator) → (form_of true ws ≡ forms.Update o → 4 ≤ precedence o) → cond b (form_of true ws) (form_at k ws) ≡ forms.Update o → 4 ≤ precedence o
+period_strong : (k : TokenKind) (b : Bool) (ws : List Lexeme) (o : BinaryOperator) → (form_of true ws ≡ forms.Update o → 4 ≤ precedence o) → cond b (form_of true ws) (form_at k ws) ≡ forms.Update o → 4 ≤ precedence o
 period_strong k true ws o deeper e = deeper e
 period_strong k false ws o deeper e = mark_strong k ws o e
 

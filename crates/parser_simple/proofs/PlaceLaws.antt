@@ -1,7 +1,7 @@
 -- Names and places: what is spelt is read, and what is read is spelt so.
 use Rattle.std.proofs.Common.{◌≡◌, ℕ, ◌<◌, ◌≤◌, Bool, true, false, cond, List, [], ◌∷◌, length, Ok, Err, refl, ap, ◌∙◌, subst, arith}
-use Rattle.scanner.specs.declared.kind.Kind.{Kind}
-use Rattle.scanner.specs.declared.kind.Kind.TheVariants as kinds
+use Rattle.scanner.specs.declared.kind.TokenKind.{TokenKind}
+use Rattle.scanner.specs.declared.kind.TokenKind.TheVariants as kinds
 use Rattle.syntax.specs.Tree.{Place}
 use Rattle.syntax.specs.Measures.{Entries as EntriesLimit, SelectClauses, entries}
 use Rattle.parser_base.specs.declared.list.Next.{Next}
@@ -10,18 +10,18 @@ use Rattle.parser_base.specs.Lexemes.{Lexeme, Literal, Name, Text, Mark}
 use Rattle.parser_base.specs.Spelling.{behind, separated, joined, AreAll, AreSome}
 use Rattle.parser_base.specs.Reading.{Syntax, TooMany, Reading, ◌>>=◌, is_kind, expect, plain_name}
 use Rattle.parser_base.proofs.Marks.{bind_ok, ok_is, kind_is, is_kind_same, expect_is, plain_name_is, plain_name_again}
-use Rattle.parser_base.proofs.ListLaws.{Outcome, Found, High, Many, Entries, IsReadAgain, Separates, listed_again, all_again, ReadsSoundly, listed_sound}
+use Rattle.parser_base.proofs.ListLaws.{ReadBack, Found, High, Many, Entries, IsReadAgain, Separates, listed_again, all_again, ReadsSoundly, listed_sound}
 use Rattle.parser_base.proofs.Steps.{listed_outcome, highest_none}
 use Rattle.parser_simple.specs.Spelling.{name_words, IsName, place_words, IsPlace}
 use Rattle.parser_simple.specs.Reading.{begins_with, begins_name, separator_next, names, fields, place, places}
 
 -- ---- separators
 
-pub separator_again : (starts : List Lexeme → Bool) (separator : Kind) (ws : List Lexeme) → starts ws ≡ true → separator_next starts separator (Mark separator ∷ ws) ≡ Ok (More, ws)
+pub separator_again : (starts : List Lexeme → Bool) (separator : TokenKind) (ws : List Lexeme) → starts ws ≡ true → separator_next starts separator (Mark separator ∷ ws) ≡ Ok (More, ws)
 unfolding separator_next
 separator_again starts separator ws begun = rw (is_kind_same separator, begun) refl
 
-pub no_separator : (starts : List Lexeme → Bool) (separator : Kind) (rest : List Lexeme) → begins_with separator rest ≡ false → separator_next starts separator rest ≡ Ok (End false, rest)
+pub no_separator : (starts : List Lexeme → Bool) (separator : TokenKind) (rest : List Lexeme) → begins_with separator rest ≡ false → separator_next starts separator rest ≡ Ok (End false, rest)
 unfolding separator_next begins_with
 no_separator starts separator [] none = refl
 no_separator starts separator (Literal value ∷ rest) none = refl
@@ -39,7 +39,7 @@ goes_on_with rest = (More, rest)
 abbrev ends_with : Bool → List Lexeme → Next × List Lexeme
 ends_with trailing rest = (End trailing, rest)
 
-mark_more : (separator kind : Kind) (b begun : Bool) (ws rest : List Lexeme) → is_kind kind separator ≡ b → cond b (cond begun (gave More ws) (Err Syntax)) (gave (End false) (Mark kind ∷ ws)) ≡ gave More rest → Mark kind ∷ ws ≡ Mark separator ∷ rest
+mark_more : (separator kind : TokenKind) (b begun : Bool) (ws rest : List Lexeme) → is_kind kind separator ≡ b → cond b (cond begun (gave More ws) (Err Syntax)) (gave (End false) (Mark kind ∷ ws)) ≡ gave More rest → Mark kind ∷ ws ≡ Mark separator ∷ rest
 mark_more separator kind true true ws rest is e =
     let same = ap (λ (x : Next × List Lexeme). x.1) (ok_is (goes_on_with ws) (goes_on_with rest) e) in
     λ i. Mark (kind_is kind separator is i) ∷ same i
@@ -53,7 +53,7 @@ no_more ws rest e =
     let same : End false ≡ More = ap (λ (x : Next × List Lexeme). x.0) (ok_is (ends_with false ws) (goes_on_with rest) e) in
     cc
 
-pub separator_more_sound : (starts : List Lexeme → Bool) (separator : Kind) (ws rest : List Lexeme) → separator_next starts separator ws ≡ Ok (More, rest) → ws ≡ Mark separator ∷ rest
+pub separator_more_sound : (starts : List Lexeme → Bool) (separator : TokenKind) (ws rest : List Lexeme) → separator_next starts separator ws ≡ Ok (More, rest) → ws ≡ Mark separator ∷ rest
 unfolding separator_next
 separator_more_sound starts separator [] rest e = absurd (no_more [] rest e)
 separator_more_sound starts separator (Literal value ∷ ws) rest e = absurd (no_more (Literal value ∷ ws) rest e)
@@ -71,7 +71,7 @@ mark_end true true ws all trailing rest e =
 mark_end true false ws all trailing rest e = absurd cc
 mark_end false begun ws all trailing rest e = end_is all trailing rest e
 
-pub separator_end_sound : (starts : List Lexeme → Bool) (separator : Kind) (ws : List Lexeme) (trailing : Bool) (rest : List Lexeme) → separator_next starts separator ws ≡ Ok (End trailing, rest) → ws ≡ rest
+pub separator_end_sound : (starts : List Lexeme → Bool) (separator : TokenKind) (ws : List Lexeme) (trailing : Bool) (rest : List Lexeme) → separator_next starts separator ws ≡ Ok (End trailing, rest) → ws ≡ rest
 unfolding separator_next
 separator_end_sound starts separator [] trailing rest e = end_is [] trailing rest e
 separator_end_sound starts separator (Literal value ∷ ws) trailing rest e = end_is (Literal value ∷ ws) trailing rest e
@@ -86,7 +86,7 @@ name_begins name ws is = rw is refl
 
 -- ---- names
 
-abbrev pub listed_names : (separator : Kind) (most : ℕ) → Entries (List ℕ)
+abbrev pub listed_names : (separator : TokenKind) (most : ℕ) → Entries (List ℕ)
 listed_names separator most = record {
   one = plain_name;
   next = separator_next begins_name separator;
@@ -103,10 +103,10 @@ listed_names separator most = record {
 abbrev Anything : List Lexeme → Type 0
 Anything rest = Unit {0}
 
-name_again : (separator : Kind) (most : ℕ) (name : List ℕ) → IsName name → IsReadAgain (listed_names separator most) Anything name
+name_again : (separator : TokenKind) (most : ℕ) (name : List ℕ) → IsName name → IsReadAgain (listed_names separator most) Anything name
 name_again separator most name is rest ends = Found (omega arith) (λ listing. omega arith) (plain_name_again name rest is)
 
-names_separate : (separator : Kind) (most : ℕ) (rest : List Lexeme) → begins_with separator rest ≡ false → Separates (listed_names separator most) Anything false rest
+names_separate : (separator : TokenKind) (most : ℕ) (rest : List Lexeme) → begins_with separator rest ≡ false → Separates (listed_names separator most) Anything false rest
 names_separate separator most rest none = record {
   separator = λ name words one. tt;
   more = λ name words one. separator_again begins_name separator (name_words name words) (name_begins name words one);
@@ -114,8 +114,8 @@ names_separate separator most rest none = record {
   end = no_separator begins_name separator rest none;
 }
 
-pub names_again : (separator : Kind) (most : ℕ) (name : List ℕ) (ns : List (List ℕ)) (rest : List Lexeme) → AreAll IsName (name ∷ ns) → begins_with separator rest ≡ false
-    → Outcome (names separator most (joined name_words (behind separator) (name ∷ ns) rest)) (name ∷ ns, false) rest 0 0 (λ listing. entries listing (length (name ∷ ns))) most
+pub names_again : (separator : TokenKind) (most : ℕ) (name : List ℕ) (ns : List (List ℕ)) (rest : List Lexeme) → AreAll IsName (name ∷ ns) → begins_with separator rest ≡ false
+    → ReadBack (names separator most (joined name_words (behind separator) (name ∷ ns) rest)) (name ∷ ns, false) rest 0 0 (λ listing. entries listing (length (name ∷ ns))) most
 names_again separator most name ns rest all none =
     let l = listed_names separator most in
     let each = all_again IsName (IsReadAgain l Anything) (name_again separator most) (name ∷ ns) all in
@@ -125,19 +125,19 @@ names_again separator most name ns rest all none =
       | Many listing many e ↦ Many listing (omega (arith, many, highest_none (name ∷ ns))) e
     ]
 
-pub names_soundly : (separator : Kind) (most : ℕ) → ReadsSoundly (listed_names separator most)
+pub names_soundly : (separator : TokenKind) (most : ℕ) → ReadsSoundly (listed_names separator most)
 names_soundly separator most = record {
   one = λ ws name rest e. let n = plain_name_is ws name rest e in record { parts = n.0; is = n.1; low = omega arith; few = λ listing. omega arith };
   more = separator_more_sound begins_name separator;
   end = λ ws trailing rest e. separator_end_sound begins_name separator ws trailing rest e;
 }
 
-pub record AreNames (separator : Kind) (most : ℕ) (ws : List Lexeme) (ns : List (List ℕ)) (rest : List Lexeme) : Type 0 where
+pub record AreNames (separator : TokenKind) (most : ℕ) (ws : List Lexeme) (ns : List (List ℕ)) (rest : List Lexeme) : Type 0 where
   pub parts : ws ≡ joined name_words (behind separator) ns rest
   pub are : AreSome IsName ns
   pub count : length ns ≤ most
 
-pub names_sound : (separator : Kind) (most : ℕ) (ws : List Lexeme) (found : (List (List ℕ) × Bool) × List Lexeme) → names separator most ws ≡ Ok found → AreNames separator most ws found.0.0 found.1
+pub names_sound : (separator : TokenKind) (most : ℕ) (ws : List Lexeme) (found : (List (List ℕ) × Bool) × List Lexeme) → names separator most ws ≡ Ok found → AreNames separator most ws found.0.0 found.1
 names_sound separator most ws found e =
     let s = listed_sound (listed_names separator most) (TooMany EntriesLimit) (names_soundly separator most) most ws found e in
     record { parts = s.parts; are = s.are; count = s.count }
@@ -203,7 +203,7 @@ places_separate most rest no_field none = record {
 }
 
 pub places_again : (most : ℕ) (p : Place) (ps : List Place) (rest : List Lexeme) → AreAll IsPlace (p ∷ ps) → begins_with kinds.Period rest ≡ false → begins_with kinds.Comma rest ≡ false
-    → Outcome (places most (joined place_words (behind kinds.Comma) (p ∷ ps) rest)) (p ∷ ps, false) rest 0 0 (λ listing. entries listing (length (p ∷ ps))) most
+    → ReadBack (places most (joined place_words (behind kinds.Comma) (p ∷ ps) rest)) (p ∷ ps, false) rest 0 0 (λ listing. entries listing (length (p ∷ ps))) most
 places_again most p ps rest all no_field none =
     let l = listed_places most in
     let again : (x : Place) → IsPlace x → IsReadAgain l NoField x = λ x is after ends. Found (omega arith) (λ listing. omega arith) (place_again x after is ends) in

@@ -1,8 +1,8 @@
 -- Right sides: what is spelt is read, and what is read is spelt so.
 use Rattle.std.proofs.Common.{◌≡◌, ℕ, zero, suc, ◌<◌, ◌≤◌, Bool, true, false, cond, Option, Some, None, max, List, [], ◌∷◌, ◌++◌, length, Result, Ok, Err, nat_le, inl, inr, refl, sym, ap, ◌∙◌, subst, arith, append_assoc, bytes_eq, codes}
 use Rattle.std.proofs.lemmas.Bool.{leb-false}
-use Rattle.scanner.specs.declared.kind.Kind.{Kind}
-use Rattle.scanner.specs.declared.kind.Kind.TheVariants as kinds
+use Rattle.scanner.specs.declared.kind.TokenKind.{TokenKind}
+use Rattle.scanner.specs.declared.kind.TokenKind.TheVariants as kinds
 use Rattle.syntax.specs.declared.node.BinaryOperator.{BinaryOperator}
 use Rattle.syntax.specs.declared.node.BinaryOperator.TheVariants as binaries
 use Rattle.syntax.specs.declared.node.UnaryOperator.TheVariants as unaries
@@ -13,7 +13,7 @@ use Rattle.parser_base.specs.Spelling.{is_builtin, behind, separated, joined, be
 use Rattle.parser_base.specs.Reading.{Refusal, Syntax, TooDeep, TooMany, Reading, ◌>>=◌, is_kind, expect, step_at, begins, expression, values}
 use Rattle.parser_base.specs.TypeReading.{type_words, IsType, type_at}
 use Rattle.parser_base.proofs.Marks.{bind_ok, when_ok, ok_is, kind_is, expect_is, bytes_are}
-use Rattle.parser_base.proofs.ListLaws.{Outcome, Found, High, Entries, IsReadAgain, Separates, listed_again, all_again, ReadsSoundly, listed_sound}
+use Rattle.parser_base.proofs.ListLaws.{ReadBack, Found, High, Entries, IsReadAgain, Separates, listed_again, all_again, ReadsSoundly, listed_sound}
 use Rattle.parser_base.proofs.ExpressionAgain.{reads, EndsExpression, shut, entries-le, height_positive, precedence-lt, none_above, parenthesis_closes, comma_ends, begins_again, values_again}
 use Rattle.parser_base.proofs.ExpressionSound.{expression_sound, values_sound}
 use Rattle.parser_base.proofs.TypeLaws.{type_again, type_sound, Found as TypeFound, High as TypeHigh}
@@ -56,12 +56,12 @@ operator_shut binaries.LogicalOr = refl
 
 -- what is found has them, and what has them not is too high
 needed : {A : Type 0} (b : Bool) (least : ℕ) {read : Reading A} {x : A} {rest : List Lexeme} {height room : ℕ} {longest : Listing → ℕ} {most : ℕ}
-    → (b ≡ false → room < height) → Outcome read x rest height room longest most → Outcome (cond b read (Err TooDeep)) x rest height room longest most
+    → (b ≡ false → room < height) → ReadBack read x rest height room longest most → ReadBack (cond b read (Err TooDeep)) x rest height room longest most
 needed true least high again = again
 needed false least high again = High (high refl) refl
 
 pub needing_again : {A : Type 0} (least have : ℕ) {read : Reading A} {x : A} {rest : List Lexeme} {height room : ℕ} {longest : Listing → ℕ} {most : ℕ}
-    → (have < least → room < height) → Outcome read x rest height room longest most → Outcome (needing least have read) x rest height room longest most
+    → (have < least → room < height) → ReadBack read x rest height room longest most → ReadBack (needing least have read) x rest height room longest most
 needing_again least have high again = needed (nat_le least have) least (λ none. high (leb-false least have none)) again
 
 pub needing_ok : {A : Type 0} (least room : ℕ) (read : Result A Refusal) (y : A) → needing least room read ≡ Ok y → read ≡ Ok y
@@ -70,7 +70,7 @@ needing_ok least room read y e = (when_ok (nat_le least room) TooDeep read y e).
 -- ---- values and operands
 
 abbrev pub ExpressionOutcome : (literals : Bool) (most room : ℕ) → Reading Expression → Expression → List Lexeme → Type 0
-ExpressionOutcome literals most room read e rest = Outcome read e rest (expression_height e) room (λ listing. expression_longest listing e) most
+ExpressionOutcome literals most room read e rest = ReadBack read e rest (expression_height e) room (λ listing. expression_longest listing e) most
 
 pub value_again : (literals : Bool) (most room : ℕ) (e : Expression) (rest : List Lexeme) → IsGrouped literals e → EndsExpression literals rest
     → ExpressionOutcome literals most room (expression literals most room 0 (before e rest)) e rest
@@ -102,7 +102,7 @@ unfolding step_at
 parenthesis_ends literals rest = record { none = refl; shut = shut literals kinds.RightParenthesis rest refl }
 
 pub arguments_again : (literals : Bool) (most room : ℕ) (all : Arguments) (rest : List Lexeme) → AreArguments literals all
-    → Outcome (arguments literals most room (arguments_words all rest)) all rest (arguments_height all) room (λ listing. arguments_longest listing all) most
+    → ReadBack (arguments literals most room (arguments_words all rest)) all rest (arguments_height all) room (λ listing. arguments_longest listing all) most
 unfolding arguments expect
 arguments_again literals most room all rest are =
     let each = all_again (IsGrouped literals) _ (λ e is. reads literals most e is) all.values are.0 in
@@ -119,7 +119,7 @@ argument_again literals most room e rest is =
 -- ---- operations
 
 size_again : (literals : Bool) (most room : ℕ) (s : Option Expression) (rest : List Lexeme) → IsSize literals s
-    → Outcome (size literals most room (size_words s (Mark kinds.RightParenthesis ∷ rest))) s (Mark kinds.RightParenthesis ∷ rest) (if_any expression_height s) room (λ listing. if_any (expression_longest listing) s) most
+    → ReadBack (size literals most room (size_words s (Mark kinds.RightParenthesis ∷ rest))) s (Mark kinds.RightParenthesis ∷ rest) (if_any expression_height s) room (λ listing. if_any (expression_longest listing) s) most
 unfolding size begins_with expect
 size_again literals most room None rest is = Found (omega arith) (λ listing. omega arith) refl
 size_again literals most room (Some s) rest is =
@@ -140,7 +140,7 @@ below_is (Make channel s) = refl
 below_is (Length channel) = refl
 below_is (Capacity channel) = refl
 
-pub type_outcome : (room most : ℕ) (t : TypeExpression) (rest : List Lexeme) → IsType t → Outcome (type_at room (type_words t ++ rest)) t rest (type_height t) room (λ listing. 0) most
+pub type_outcome : (room most : ℕ) (t : TypeExpression) (rest : List Lexeme) → IsType t → ReadBack (type_at room (type_words t ++ rest)) t rest (type_height t) room (λ listing. 0) most
 type_outcome room most t rest is =
     elim (type_again room t rest is) [
       | TypeFound low e ↦ Found low (λ listing. omega arith) e
@@ -154,7 +154,7 @@ type_positive (ParenthesizedType inner) = omega arith
 type_positive (Channel direction element) = omega arith
 
 make_again : (literals : Bool) (most room : ℕ) (t : TypeExpression) (s : Option Expression) (rest : List Lexeme) → IsType t → IsSize literals s
-    → Outcome (make literals most room (Mark kinds.LeftParenthesis ∷ (type_words t ++ size_words s (Mark kinds.RightParenthesis ∷ rest)))) (Make t s) rest (max (type_height t) (if_any expression_height s)) room (λ listing. if_any (expression_longest listing) s) most
+    → ReadBack (make literals most room (Mark kinds.LeftParenthesis ∷ (type_words t ++ size_words s (Mark kinds.RightParenthesis ∷ rest)))) (Make t s) rest (max (type_height t) (if_any expression_height s)) room (λ listing. if_any (expression_longest listing) s) most
 unfolding make expect
 make_again literals most room t s rest is size_is =
     then_again _ (type_outcome room most t (size_words s (Mark kinds.RightParenthesis ∷ rest)) is) (λ high. omega arith) (λ listing. omega arith) (λ low few.
@@ -162,7 +162,7 @@ make_again literals most room t s rest is size_is =
     Found (omega arith) few' refl))
 
 pub operation_again : (literals : Bool) (most room : ℕ) (o : Operation) (rest : List Lexeme) → IsOperation literals o → Stops literals rest
-    → Outcome (operation literals most room (operation_words o rest)) o rest (below o) room (λ listing. operation_longest listing o) most
+    → ReadBack (operation literals most room (operation_words o rest)) o rest (below o) room (λ listing. operation_longest listing o) most
 unfolding operation builtin_operation
 operation_again literals most room (Call function all) rest is stops =
     rw is.0 (made_again (Call function) (arguments_again literals most room all rest is.1) (λ high. high) (λ low. low) (λ listing. refl))
@@ -224,7 +224,7 @@ values_separate literals most room rest stops = record {
 }
 
 value_list_again : (literals : Bool) (most room : ℕ) (v : Expression) (vs : List Expression) (rest : List Lexeme) → AreAll (IsGrouped literals) (v ∷ vs) → Stops literals rest
-    → Outcome (value_list literals most room (joined before (behind kinds.Comma) (v ∷ vs) rest)) (v ∷ vs, false) rest (highest expression_height (v ∷ vs)) room
+    → ReadBack (value_list literals most room (joined before (behind kinds.Comma) (v ∷ vs) rest)) (v ∷ vs, false) rest (highest expression_height (v ∷ vs)) room
     (λ listing. max (entries listing (length (v ∷ vs))) (highest (expression_longest listing) (v ∷ vs))) most
 value_list_again literals most room v vs rest all stops =
     let l = right_values literals most room in
@@ -241,7 +241,7 @@ unfolding begins_with
 no_operation_behind literals e ws g = no_operation literals e (Mark kinds.Comma ∷ ws) g refl
 
 pub right_again : (literals : Bool) (most room : ℕ) (r : Right) (rest : List Lexeme) → IsRight literals r → Stops literals rest
-    → Outcome (right literals most room (right_words r rest)) r rest (right_height r) room (λ listing. right_longest listing r) most
+    → ReadBack (right literals most room (right_words r rest)) r rest (right_height r) room (λ listing. right_longest listing r) most
 unfolding right
 right_again literals most zero r rest is stops = High (right_positive literals r is) refl
 right_again literals most (suc room) (RightOperation o) rest is stops =
@@ -421,7 +421,7 @@ operation_sound literals most room (Literal value ∷ ws) o rest e = absurd cc
 operation_sound literals most room (Text bytes ∷ ws) o rest e = absurd cc
 operation_sound literals most room (Mark kind ∷ ws) o rest e =
     let w = when_ok (is_kind kind kinds.Arrow) Syntax (as_one Receive (received literals most room ws)) (o, rest) e in
-    subst (λ (x : Kind). OperationSound literals most room (Mark x ∷ ws) o rest) (sym (kind_is kind kinds.Arrow w.0)) (receive_sound literals most room ws o rest w.1)
+    subst (λ (x : TokenKind). OperationSound literals most room (Mark x ∷ ws) o rest) (sym (kind_is kind kinds.Arrow w.0)) (receive_sound literals most room ws o rest w.1)
 operation_sound literals most room (Name name ∷ ws) o rest e =
     elim (either (is_builtin name) (builtin_operation literals most room name ws) (as_one (Call name) (arguments literals most room ws)) (o, rest) e) [
       | inl b ↦ builtin_sound literals most room name ws o rest b.1

@@ -1,7 +1,7 @@
 -- Simple statements: what is spelt is read, and what is read is spelt so.
 use Rattle.std.proofs.Common.{◌≡◌, ℕ, zero, suc, ◌<◌, ◌≤◌, Bool, true, false, cond, ◌&&◌, Option, Some, None, max, List, [], ◌∷◌, length, Ok, Err, inl, inr, refl, sym, ap, ◌∙◌, subst, arith, bytes_eq, codes, nat_le, IsTrue}
-use Rattle.scanner.specs.declared.kind.Kind.{Kind}
-use Rattle.scanner.specs.declared.kind.Kind.TheVariants as kinds
+use Rattle.scanner.specs.declared.kind.TokenKind.{TokenKind}
+use Rattle.scanner.specs.declared.kind.TokenKind.TheVariants as kinds
 use Rattle.syntax.specs.declared.node.BinaryOperator.{BinaryOperator}
 use Rattle.syntax.specs.Tree.{Expression, Arguments, Right, Place, Part, Value, Text as TextPart, Simple, CallAlone, Close, Print, ReceiveAlone, Send, Increment, Decrement, Assign, Define, Update}
 use Rattle.syntax.specs.Measures.{Listing, Entries as EntriesLimit, entries, highest, expression_height, expression_longest, part_height, part_longest, simple_height, simple_longest}
@@ -9,7 +9,7 @@ use Rattle.parser_base.specs.Lexemes.{Lexeme, Literal, Name, Text, Mark}
 use Rattle.parser_base.specs.Spelling.{is_builtin, behind, separated, joined, closing, before, AreAll, AreSome, IsTrailing, precedence, IsGrouped}
 use Rattle.parser_base.specs.Reading.{Syntax, TooDeep, TooMany, Reading, ◌>>=◌, is_kind, expect, begins, step_at, entry_next, expression, listed}
 use Rattle.parser_base.proofs.Marks.{bind_ok, when_ok, ok_is, kind_is, expect_is, expect_again, bytes_are}
-use Rattle.parser_base.proofs.ListLaws.{AreFew, Outcome, Found, High, Entries, IsReadAgain, Separates, listed_again, all_again, IsEntry, ReadsSoundly, listed_sound}
+use Rattle.parser_base.proofs.ListLaws.{AreFew, ReadBack, Found, High, Entries, IsReadAgain, Separates, listed_again, all_again, IsEntry, ReadsSoundly, listed_sound}
 use Rattle.parser_base.proofs.ExpressionAgain.{EndsExpression, shut, entries-le, height_positive, parenthesis_closes, comma_ends, closing_ends, begins_again, ending_again, more_entries}
 use Rattle.parser_base.proofs.ExpressionSound.{entry_more_sound, entry_end_sound}
 use Rattle.parser_base.proofs.Steps.{then_again, made_again, listed_outcome, gave, Sound, made_is, either}
@@ -84,7 +84,7 @@ parts_separate literals most room trailing rest = record {
 }
 
 parts_again : (literals : Bool) (most room : ℕ) (ps : List Part) (trailing : Bool) (rest : List Lexeme) → AreAll (IsPart literals) ps → IsTrailing ps trailing
-    → Outcome (parts literals most room (joined part_words (behind kinds.Comma) ps (closing kinds.Comma kinds.RightParenthesis trailing rest))) (ps, trailing) rest (highest part_height ps) room
+    → ReadBack (parts literals most room (joined part_words (behind kinds.Comma) ps (closing kinds.Comma kinds.RightParenthesis trailing rest))) (ps, trailing) rest (highest part_height ps) room
     (λ listing. max (entries listing (length ps)) (highest (part_longest listing) ps)) most
 unfolding parts expect
 parts_again literals most room [] true rest all last = absurd cc
@@ -98,7 +98,7 @@ parts_again literals most room (p ∷ ps) trailing rest all last =
 -- ---- each form
 
 abbrev pub SimpleOutcome : (most room : ℕ) → Reading Simple → Simple → List Lexeme → Type 0
-SimpleOutcome most room read s rest = Outcome read s rest (simple_height s) room (λ listing. simple_longest listing s) most
+SimpleOutcome most room read s rest = ReadBack read s rest (simple_height s) room (λ listing. simple_longest listing s) most
 
 print_again : (line literals : Bool) (most room : ℕ) (ps : List Part) (trailing : Bool) (rest : List Lexeme) → AreAll (IsPart literals) ps → IsTrailing ps trailing
     → SimpleOutcome most room (print line literals most room (Mark kinds.LeftParenthesis ∷ joined part_words (behind kinds.Comma) ps (closing kinds.Comma kinds.RightParenthesis trailing rest))) (Print line ps trailing) rest
@@ -144,7 +144,7 @@ send_operand_again literals most room c ws is =
 
 -- a send, as any of what is made of one
 pub sent_again : {A : Type 0} (make : Expression → Expression → A) (literals : Bool) (most room : ℕ) (c v : Expression) (rest : List Lexeme) → IsPrimary literals c → IsGrouped literals v → EndsExpression literals rest
-    → Outcome (sent make literals most room (before c (Mark kinds.Arrow ∷ before v rest))) (make c v) rest (max (expression_height c) (expression_height v)) room (λ listing. max (expression_longest listing c) (expression_longest listing v)) most
+    → ReadBack (sent make literals most room (before c (Mark kinds.Arrow ∷ before v rest))) (make c v) rest (max (expression_height c) (expression_height v)) room (λ listing. max (expression_longest listing c) (expression_longest listing v)) most
 unfolding sent expect
 sent_again make literals most room c v rest is grouped ends =
     then_again _ (send_operand_again literals most room c (before v rest) is) (λ high. omega arith) (λ listing. omega arith) (λ low few.
@@ -154,7 +154,7 @@ sent_again make literals most room c v rest is grouped ends =
 -- ---- all but sends
 
 abbrev LedOutcome : (most room : ℕ) → Reading (Option Simple) → Simple → List Lexeme → Type 0
-LedOutcome most room read s rest = Outcome read (Some s) rest (simple_height s) room (λ listing. simple_longest listing s) most
+LedOutcome most room read s rest = ReadBack read (Some s) rest (simple_height s) room (λ listing. simple_longest listing s) most
 
 some_again : (most room : ℕ) (read : Reading Simple) (s : Simple) (rest : List Lexeme) → SimpleOutcome most room read s rest → LedOutcome most room (as_one (λ (x : Simple). Some x) read) s rest
 some_again most room read s rest again = made_again (λ (x : Simple). Some x) again (λ high. high) (λ low. low) (λ listing. refl)
@@ -203,7 +203,7 @@ led_update literals defining most room p o v rest is strong grouped stops =
 
 -- what is found has a level behind its first place
 behind_place_again : {A : Type 0} (p : Place) (after : List Lexeme) {read : Reading A} {x : A} {rest : List Lexeme} {height room : ℕ} {longest : Listing → ℕ} {most : ℕ} → IsPlace p → begins_with kinds.Period after ≡ false → (room < 1 → room < height)
-    → Outcome read x rest height room longest most → Outcome (behind_place room (place_words p after) read) x rest height room longest most
+    → ReadBack read x rest height room longest most → ReadBack (behind_place room (place_words p after) read) x rest height room longest most
 behind_place_again p after {room = room} is none high again = rw (place_again p after is none) (needing_again 1 room high again)
 
 behind_place_ok : {A : Type 0} (room : ℕ) (ws : List Lexeme) (read : Reading A) (found : A × List Lexeme) → behind_place room ws read ≡ Ok found → read ≡ Ok found
@@ -421,7 +421,7 @@ defined_sound literals most room ws s rest e =
       few = λ listing. omega (arith, r.few listing, n.count, entries-le listing (length a.0.0.0));
     })
 
-stepped_sound : (make : Place → Simple) (kind : Kind) (literals defining : Bool) (most room : ℕ) → ((p : Place) (rest : List Lexeme) → place_words p (Mark kind ∷ rest) ≡ simple_words (make p) rest) → ((p : Place) → IsPlace p → IsSimple literals defining (make p))
+stepped_sound : (make : Place → Simple) (kind : TokenKind) (literals defining : Bool) (most room : ℕ) → ((p : Place) (rest : List Lexeme) → place_words p (Mark kind ∷ rest) ≡ simple_words (make p) rest) → ((p : Place) → IsPlace p → IsSimple literals defining (make p))
     → ((p : Place) → simple_height (make p) ≡ 0) → ((p : Place) (listing : Listing) → simple_longest listing (make p) ≡ 0)
     → (ws : List Lexeme) (s : Simple) (rest : List Lexeme) → stepped make kind ws ≡ gave s rest → SimpleSound literals defining most room ws s rest
 unfolding stepped
@@ -544,7 +544,7 @@ led_sound literals defining most room (Literal value ∷ ws) found rest e = subs
 led_sound literals defining most room (Text bytes ∷ ws) found rest e = subst (λ (x : Option Simple × List Lexeme). LedSound literals defining most room (Text bytes ∷ ws) x.0 x.1) (ok_is (None, Text bytes ∷ ws) (found, rest) e) refl
 led_sound literals defining most room (Mark kind ∷ ws) found rest e =
     elim (either (is_kind kind kinds.Arrow) (as_one (λ (channel : Expression). Some (ReceiveAlone channel)) (received literals most room ws)) (gave None (Mark kind ∷ ws)) (found, rest) e) [
-      | inl r ↦ subst (λ (x : Kind). LedSound literals defining most room (Mark x ∷ ws) found rest) (sym (kind_is kind kinds.Arrow r.0)) (receive_sound literals defining most room ws found rest r.1)
+      | inl r ↦ subst (λ (x : TokenKind). LedSound literals defining most room (Mark x ∷ ws) found rest) (sym (kind_is kind kinds.Arrow r.0)) (receive_sound literals defining most room ws found rest r.1)
       | inr other ↦ subst (λ (x : Option Simple × List Lexeme). LedSound literals defining most room (Mark kind ∷ ws) x.0 x.1) (ok_is (None, Mark kind ∷ ws) (found, rest) other.1) refl
     ]
 led_sound literals defining most room (Name name ∷ ws) found rest e =

@@ -1,7 +1,7 @@
 -- Reading simple statements from left to right.
 use Rattle.std.specs.Prelude.{ℕ, zero, suc, ◌+◌, Bool, true, false, ◌&&◌, ◌||◌, List, [], ◌∷◌, Option, Some, None, Result, Ok, Err, nat_le, if◌then◌else◌, length, bytes_eq, codes}
-use Rattle.scanner.specs.declared.kind.Kind.{Kind}
-use Rattle.scanner.specs.declared.kind.Kind.TheVariants as kinds
+use Rattle.scanner.specs.declared.kind.TokenKind.{TokenKind}
+use Rattle.scanner.specs.declared.kind.TokenKind.TheVariants as kinds
 use Rattle.syntax.specs.declared.node.BinaryOperator.{BinaryOperator}
 use Rattle.syntax.specs.declared.node.BinaryOperator.TheVariants as binaries
 use Rattle.syntax.specs.Tree.{Expression, Arguments, Operation, Call, Receive, Make, Length, Capacity, Right, RightOperation, Values, Place, Part, Value, Text as TextPart, Simple, CallAlone, Close, Print, ReceiveAlone, Send, Increment, Decrement, Assign, Define, Update}
@@ -25,7 +25,7 @@ abbrev pub needing : {A : Type 0} → (least room : ℕ) → Result A Refusal �
 needing least room read = if nat_le least room then read else Err TooDeep
 
 -- this mark comes next
-unfoldable pub begins_with : Kind → List Lexeme → Bool
+unfoldable pub begins_with : TokenKind → List Lexeme → Bool
 begins_with kind (Mark first ∷ rest) = is_kind first kind
 begins_with kind words = false
 
@@ -37,13 +37,13 @@ begins_name (Name name ∷ rest) = if is_builtin name then false else true
 begins_name words = false
 
 -- what follows an entry of a list without a closing mark: behind a separator another one `starts`
-unfoldable pub separator_next : (List Lexeme → Bool) → Kind → List Lexeme → Reading Next
+unfoldable pub separator_next : (List Lexeme → Bool) → TokenKind → List Lexeme → Reading Next
 separator_next starts separator (Mark kind ∷ rest) =
     if is_kind kind separator then (if starts rest then Ok (More, rest) else Err Syntax) else Ok (End false, Mark kind ∷ rest)
 separator_next starts separator words = Ok (End false, words)
 
 -- names with a separator between each two, of which there are at most so many
-abbrev pub names : Kind → ℕ → List Lexeme → Reading (List (List ℕ) × Bool)
+abbrev pub names : TokenKind → ℕ → List Lexeme → Reading (List (List ℕ) × Bool)
 names separator most words = listed plain_name (separator_next begins_name separator) (TooMany Entries) most words
 
 -- the fields of a place, each behind a period
@@ -66,7 +66,7 @@ places most words = listed place (separator_next begins_name kinds.Comma) (TooMa
 -- ---- what stands behind a place
 
 -- the operator of an assignment with an operator
-abbrev pub update_of : Kind → Option BinaryOperator
+abbrev pub update_of : TokenKind → Option BinaryOperator
 update_of kinds.PlusAssign = Some binaries.Add
 update_of kinds.MinusAssign = Some binaries.Subtract
 update_of kinds.StarAssign = Some binaries.Multiply
@@ -85,7 +85,7 @@ update_form None = forms.Other
 update_form (Some operator) = forms.Update operator
 
 -- the form that a mark behind a place begins
-abbrev pub form_at : Kind → List Lexeme → Form
+abbrev pub form_at : TokenKind → List Lexeme → Form
 form_at kinds.Increment rest = forms.Increment
 form_at kinds.Decrement rest = forms.Decrement
 form_at kinds.Comma rest = forms.List
@@ -115,7 +115,7 @@ is_operator (Some operator) = true
 
 -- whether a name or a selection goes on as a value with this mark: as the operand of a send, in a condition where `header`
 -- holds, or as a composite literal where `literals` does
-abbrev pub goes_on : (header literals : Bool) → Kind → Bool
+abbrev pub goes_on : (header literals : Bool) → TokenKind → Bool
 goes_on header literals kinds.Arrow = true
 goes_on header literals kinds.LeftBrace = header || literals
 goes_on header literals kind = header && is_operator (binary_of kind)
@@ -269,7 +269,7 @@ defined literals most room words = do
   Ok (Define all.0.0 value.0, value.1)
 
 -- a `++` or `--` behind a place
-unfoldable pub stepped : (Place → Simple) → Kind → List Lexeme → Reading Simple
+unfoldable pub stepped : (Place → Simple) → TokenKind → List Lexeme → Reading Simple
 stepped make kind words = place words >>= λ target. expect kind target.1 >>= λ after. Ok (make target.0, after)
 
 -- an assignment with an operator

@@ -2,8 +2,8 @@
 --
 -- Each of the words below is what stands before what follows: `name_words name rest` is the name, and then `rest`.
 use Rattle.std.specs.Prelude.{◌≡◌, ℕ, ◌≤◌, Bool, true, false, List, ◌∷◌, ◌++◌, Option, Some, None, IsTrue, codes}
-use Rattle.scanner.specs.declared.kind.Kind.{Kind}
-use Rattle.scanner.specs.declared.kind.Kind.TheVariants as kinds
+use Rattle.scanner.specs.declared.kind.TokenKind.{TokenKind}
+use Rattle.scanner.specs.declared.kind.TokenKind.TheVariants as kinds
 use Rattle.syntax.specs.declared.node.BinaryOperator.{BinaryOperator}
 use Rattle.syntax.specs.declared.node.BinaryOperator.TheVariants as binaries
 use Rattle.syntax.specs.Tree.{Expression, Arguments, Operation, Call, Receive, Make, Length, Capacity, Right, RightOperation, Values, Place, Part, Value, Text as TextPart, Simple, CallAlone, Close, Print, ReceiveAlone, Send, Increment, Decrement, Assign, Define, Update}
@@ -91,7 +91,7 @@ print_name true = codes "println"
 print_name false = codes "print"
 
 -- the mark of an assignment with an operator
-abbrev pub update_kind : BinaryOperator → Kind
+abbrev pub update_kind : BinaryOperator → TokenKind
 update_kind binaries.Add = kinds.PlusAssign
 update_kind binaries.Subtract = kinds.MinusAssign
 update_kind binaries.Multiply = kinds.StarAssign

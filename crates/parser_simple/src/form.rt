@@ -11,7 +11,7 @@ use parser_base::cursor::{Cursor, Word, is_builtin};
 use parser_base::expression::begins;
 use parser_base::list::Next;
 use parser_base::operator::binary_of;
-use scanner::Kind;
+use scanner::TokenKind;
 use syntax::BinaryOperator;
 
 /// What follows a place, or a list of places that begins with it.
@@ -35,7 +35,7 @@ pub enum Form {
 
 /// Whether this mark comes next.
 #[tactic(auto, unfolding(crate::specs::Reading::begins_with))]
-pub fn begins_with(kind: Kind, cursor: Cursor<'_>) -> bool
+pub fn begins_with(kind: TokenKind, cursor: Cursor<'_>) -> bool
     ensures { result ≡ begins_with kind (ahead cursor.entry) }
 {
     match cursor.next() {
@@ -57,7 +57,7 @@ pub fn begins_name(cursor: Cursor<'_>) -> bool
 
 /// What follows a name or a place of a list without a closing mark, and the place of the next one or behind the list.
 #[tactic(auto, unfolding(crate::specs::Reading::separator_next))]
-pub fn name_next(separator: Kind, cursor: Cursor<'_>) -> Result<(Next, Cursor<'_>), Fault>
+pub fn name_next(separator: TokenKind, cursor: Cursor<'_>) -> Result<(Next, Cursor<'_>), Fault>
     ensures { Gives (λ x. (x.0, ahead x.1)) result (separator_next begins_name separator (ahead cursor.entry)) }
 {
     match cursor.next() {
@@ -74,10 +74,10 @@ pub fn name_next(separator: Kind, cursor: Cursor<'_>) -> Result<(Next, Cursor<'_
 /// What follows a value of a list without a closing mark, and the place of the next one or behind the list.
 #[tactic(auto, unfolding(crate::specs::Reading::separator_next))]
 pub fn value_next(cursor: Cursor<'_>) -> Result<(Next, Cursor<'_>), Fault>
-    ensures { Gives (λ x. (x.0, ahead x.1)) result (separator_next begins Kind.Comma (ahead cursor.entry)) }
+    ensures { Gives (λ x. (x.0, ahead x.1)) result (separator_next begins TokenKind.Comma (ahead cursor.entry)) }
 {
     match cursor.next() {
-        Some((Word::Mark(Kind::Comma), _, rest)) => {
+        Some((Word::Mark(TokenKind::Comma), _, rest)) => {
             if !begins(rest) {
                 return Err(Fault::Syntax(rest.place()));
             }
@@ -88,55 +88,55 @@ pub fn value_next(cursor: Cursor<'_>) -> Result<(Next, Cursor<'_>), Fault>
 }
 
 /// The operator of the mark of an assignment with an operator.
-fn update_of(kind: Kind) -> Option<BinaryOperator>
+fn update_of(kind: TokenKind) -> Option<BinaryOperator>
     ensures { result ≡ update_of kind }
 {
     Some(match kind {
-        Kind::PlusAssign => BinaryOperator::Add,
-        Kind::MinusAssign => BinaryOperator::Subtract,
-        Kind::StarAssign => BinaryOperator::Multiply,
-        Kind::SlashAssign => BinaryOperator::Divide,
-        Kind::PercentAssign => BinaryOperator::Remainder,
-        Kind::AmpersandAssign => BinaryOperator::And,
-        Kind::BarAssign => BinaryOperator::Or,
-        Kind::CaretAssign => BinaryOperator::ExclusiveOr,
-        Kind::AndNotAssign => BinaryOperator::AndNot,
-        Kind::ShiftLeftAssign => BinaryOperator::ShiftLeft,
-        Kind::ShiftRightAssign => BinaryOperator::ShiftRight,
+        TokenKind::PlusAssign => BinaryOperator::Add,
+        TokenKind::MinusAssign => BinaryOperator::Subtract,
+        TokenKind::StarAssign => BinaryOperator::Multiply,
+        TokenKind::SlashAssign => BinaryOperator::Divide,
+        TokenKind::PercentAssign => BinaryOperator::Remainder,
+        TokenKind::AmpersandAssign => BinaryOperator::And,
+        TokenKind::BarAssign => BinaryOperator::Or,
+        TokenKind::CaretAssign => BinaryOperator::ExclusiveOr,
+        TokenKind::AndNotAssign => BinaryOperator::AndNot,
+        TokenKind::ShiftLeftAssign => BinaryOperator::ShiftLeft,
+        TokenKind::ShiftRightAssign => BinaryOperator::ShiftRight,
         _ => return None,
     })
 }
 
 /// The mark of an assignment with this operator ("Assignment statements" of the Go specification).
-pub fn update_kind(operator: BinaryOperator) -> Kind
+pub fn update_kind(operator: BinaryOperator) -> TokenKind
     ensures { result ≡ update_kind operator }
 {
     match operator {
-        BinaryOperator::Add => Kind::PlusAssign,
-        BinaryOperator::Subtract => Kind::MinusAssign,
-        BinaryOperator::Multiply => Kind::StarAssign,
-        BinaryOperator::Divide => Kind::SlashAssign,
-        BinaryOperator::Remainder => Kind::PercentAssign,
-        BinaryOperator::And => Kind::AmpersandAssign,
-        BinaryOperator::Or => Kind::BarAssign,
-        BinaryOperator::ExclusiveOr => Kind::CaretAssign,
-        BinaryOperator::AndNot => Kind::AndNotAssign,
-        BinaryOperator::ShiftLeft => Kind::ShiftLeftAssign,
-        BinaryOperator::ShiftRight => Kind::ShiftRightAssign,
-        _ => Kind::Assign,
+        BinaryOperator::Add => TokenKind::PlusAssign,
+        BinaryOperator::Subtract => TokenKind::MinusAssign,
+        BinaryOperator::Multiply => TokenKind::StarAssign,
+        BinaryOperator::Divide => TokenKind::SlashAssign,
+        BinaryOperator::Remainder => TokenKind::PercentAssign,
+        BinaryOperator::And => TokenKind::AmpersandAssign,
+        BinaryOperator::Or => TokenKind::BarAssign,
+        BinaryOperator::ExclusiveOr => TokenKind::CaretAssign,
+        BinaryOperator::AndNot => TokenKind::AndNotAssign,
+        BinaryOperator::ShiftLeft => TokenKind::ShiftLeftAssign,
+        BinaryOperator::ShiftRight => TokenKind::ShiftRightAssign,
+        _ => TokenKind::Assign,
     }
 }
 
 /// The form that a mark behind a place begins, before what follows the mark.
-fn form_at(kind: Kind, rest: Cursor<'_>) -> Form
+fn form_at(kind: TokenKind, rest: Cursor<'_>) -> Form
     ensures { result ≡ form_at kind (ahead rest.entry) }
 {
     match kind {
-        Kind::Increment => Form::Increment,
-        Kind::Decrement => Form::Decrement,
-        Kind::Comma => Form::List,
-        Kind::Assign => Form::Assign(begins_with(Kind::Range, rest)),
-        Kind::Define => Form::Define(begins_with(Kind::Range, rest)),
+        TokenKind::Increment => Form::Increment,
+        TokenKind::Decrement => Form::Decrement,
+        TokenKind::Comma => Form::List,
+        TokenKind::Assign => Form::Assign(begins_with(TokenKind::Range, rest)),
+        TokenKind::Define => Form::Define(begins_with(TokenKind::Range, rest)),
         kind => match update_of(kind) {
             Some(operator) => Form::Update(operator),
             None => Form::Other,
@@ -158,7 +158,7 @@ pub fn form_of(cursor: Cursor<'_>) -> Form
                 rest = after;
             }
             (false, Some((Word::Mark(kind), _, after))) => {
-                if kind != Kind::Period {
+                if kind != TokenKind::Period {
                     return form_at(kind, after);
                 }
                 named = true;
@@ -184,10 +184,10 @@ pub fn defines(cursor: Cursor<'_>) -> bool
                 rest = after;
             }
             (false, Some((Word::Mark(kind), _, after))) => {
-                if kind == Kind::Define {
+                if kind == TokenKind::Define {
                     return true;
                 }
-                if kind != Kind::Comma {
+                if kind != TokenKind::Comma {
                     return false;
                 }
                 named = true;
@@ -201,12 +201,12 @@ pub fn defines(cursor: Cursor<'_>) -> bool
 
 /// Whether a name or a selection goes on as a value with this mark: as the operand of a send, in a condition where
 /// `header` holds, or as a composite literal where `literals` does.
-fn goes_on(header: bool, literals: bool, kind: Kind) -> bool
+fn goes_on(header: bool, literals: bool, kind: TokenKind) -> bool
     ensures { result ≡ goes_on header literals kind }
 {
     match kind {
-        Kind::Arrow => true,
-        Kind::LeftBrace => header || literals,
+        TokenKind::Arrow => true,
+        TokenKind::LeftBrace => header || literals,
         kind => header && binary_of(kind).is_some(),
     }
 }
@@ -248,7 +248,7 @@ pub fn fits(header: bool, literals: bool, room: u32, cursor: Cursor<'_>) -> Resu
                 rest = after;
             }
             (false, Some((Word::Mark(kind), _, after))) => {
-                if kind != Kind::Period {
+                if kind != TokenKind::Period {
                     return within(height, room, goes_on(header, literals, kind), rest);
                 }
                 literals = false;

@@ -12,7 +12,7 @@ use go_text::{Fault, LimitKind, Span};
 use parser_base::cursor::Cursor;
 use parser_base::expression::name_node;
 use parser_base::list::{List, MAX_ENTRIES, Next};
-use scanner::Kind;
+use scanner::TokenKind;
 use std::alloc::Global;
 use syntax::{Name, PlaceNode};
 
@@ -36,7 +36,7 @@ pub fn name_at(alloc: Global, cursor: Cursor<'_>) -> Result<(Name, Span, Cursor<
 /// Names with a separator between each two, of which there are at most so many.
 pub fn names(
     alloc: Global,
-    separator: Kind,
+    separator: TokenKind,
     most: usize,
     cursor: Cursor<'_>,
 ) -> Result<List<'_, Name>, Fault>
@@ -74,11 +74,11 @@ fn fields(
 ) -> Result<(Vec<Name>, Span, Cursor<'_>), Fault>
     ensures { Gives (λ x. (map name_of x.0.items, ahead x.2)) result (fields (ahead cursor.entry)) }
 {
-    if !begins_with(Kind::Period, cursor) {
+    if !begins_with(TokenKind::Period, cursor) {
         return Ok((Vec::new(alloc), name, cursor));
     }
-    let (_, rest) = cursor.expect(Kind::Period)?;
-    let fields = names(alloc, Kind::Period, rest.len(), rest)?;
+    let (_, rest) = cursor.expect(TokenKind::Period)?;
+    let fields = names(alloc, TokenKind::Period, rest.len(), rest)?;
     Ok((fields.entries, fields.last, fields.rest))
 }
 
@@ -120,7 +120,7 @@ pub fn places<'a>(
     for _ in 0..MAX_ENTRIES {
         let one = place(alloc, rest, spans)?;
         entries.push(one.place)?;
-        let (next, after) = name_next(Kind::Comma, one.rest)?;
+        let (next, after) = name_next(TokenKind::Comma, one.rest)?;
         match next {
             Next::More => rest = after,
             Next::End(trailing) => return Ok(List {

@@ -15,7 +15,7 @@ use parser_base::cursor::{Cursor, Word, is_builtin};
 use parser_base::expression::{Found, expression, name_node, values};
 use parser_base::list::{List, MAX_ENTRIES, Next};
 use parser_base::types::type_at;
-use scanner::Kind;
+use scanner::TokenKind;
 use std::alloc::Global;
 use syntax::{ArgumentsNode, ExpressionNode, OperationNode, RightNode};
 
@@ -63,7 +63,7 @@ fn begins_primary(cursor: Cursor<'_>) -> bool
     match cursor.next() {
         Some((Word::Literal(_), _, _)) => true,
         Some((Word::Name(name), _, _)) => !is_builtin(name),
-        Some((Word::Mark(kind), _, _)) => kind == Kind::LeftParenthesis,
+        Some((Word::Mark(kind), _, _)) => kind == TokenKind::LeftParenthesis,
         _ => false,
     }
 }
@@ -117,8 +117,15 @@ pub fn arguments<'a>(
     ensures arguments { Gives (λ x. (arguments_of x.arguments, ahead x.rest)) result (arguments literals MAX_ENTRIES room (ahead cursor.entry)) }
     ensures nodes { IfOk result (λ x. vec_len spans.new ≡ vec_len spans.old + arguments_size (arguments_of x.arguments)) }
 {
-    let (_, inside) = cursor.expect(Kind::LeftParenthesis)?;
-    let all = values(alloc, literals, room, Kind::RightParenthesis, inside, spans)?;
+    let (_, inside) = cursor.expect(TokenKind::LeftParenthesis)?;
+    let all = values(
+        alloc,
+        literals,
+        room,
+        TokenKind::RightParenthesis,
+        inside,
+        spans,
+    )?;
     Ok(FoundArguments {
         arguments: ArgumentsNode {
             values: all.values,
@@ -141,9 +148,9 @@ pub fn argument<'a>(
     ensures value { Gives (λ x. (expression_of x.value, ahead x.rest)) result (argument literals MAX_ENTRIES room (ahead cursor.entry)) }
     ensures nodes { IfOk result (λ x. vec_len spans.new ≡ vec_len spans.old + expression_size (expression_of x.value)) }
 {
-    let (_, inside) = cursor.expect(Kind::LeftParenthesis)?;
+    let (_, inside) = cursor.expect(TokenKind::LeftParenthesis)?;
     let value = expression(alloc, literals, room, 0, inside, spans)?;
-    let (last, rest) = value.rest.expect(Kind::RightParenthesis)?;
+    let (last, rest) = value.rest.expect(TokenKind::RightParenthesis)?;
     Ok(FoundArgument {
         value: value.expression,
         last,
@@ -163,10 +170,10 @@ fn size<'a>(
     ensures size { Gives (λ x. (option_map expression_of x.0, ahead x.1)) result (size literals MAX_ENTRIES room (ahead cursor.entry)) }
     ensures nodes { IfOk result (λ x. vec_len spans.new ≡ vec_len spans.old + if_any expression_size (option_map expression_of x.0)) }
 {
-    if !begins_with(Kind::Comma, cursor) {
+    if !begins_with(TokenKind::Comma, cursor) {
         return Ok((None, cursor));
     }
-    let (_, behind) = cursor.expect(Kind::Comma)?;
+    let (_, behind) = cursor.expect(TokenKind::Comma)?;
     let value = expression(alloc, literals, room, 0, behind, spans)?;
     Ok((Some(value.expression), value.rest))
 }
@@ -184,10 +191,10 @@ fn make<'a>(
     ensures operation { Gives (λ x. (operation_of x.operation, ahead x.rest)) result (make literals MAX_ENTRIES room (ahead cursor.entry)) }
     ensures nodes { IfOk result (λ x. vec_len spans.new ≡ vec_len spans.old + operation_size (operation_of x.operation)) }
 {
-    let (_, inside) = cursor.expect(Kind::LeftParenthesis)?;
+    let (_, inside) = cursor.expect(TokenKind::LeftParenthesis)?;
     let channel = type_at(alloc, room, inside, spans)?;
     let (size, rest) = size(alloc, literals, room, channel.rest, spans)?;
-    let (last, rest) = rest.expect(Kind::RightParenthesis)?;
+    let (last, rest) = rest.expect(TokenKind::RightParenthesis)?;
     let span = Span {
         from: name.from,
         to: last.to,
@@ -338,9 +345,9 @@ pub fn begins_operation(cursor: Cursor<'_>) -> bool
     ensures { result ≡ begins_operation (ahead cursor.entry) }
 {
     match cursor.next() {
-        Some((Word::Mark(kind), _, _)) => kind == Kind::Arrow,
+        Some((Word::Mark(kind), _, _)) => kind == TokenKind::Arrow,
         Some((Word::Name(name), _, rest)) => is_builtin(name)
-            || begins_with(Kind::LeftParenthesis, rest),
+            || begins_with(TokenKind::LeftParenthesis, rest),
         _ => false,
     }
 }
@@ -359,7 +366,7 @@ pub fn operation<'a>(
 {
     match cursor.next() {
         Some((Word::Mark(kind), first, rest)) => {
-            if kind != Kind::Arrow {
+            if kind != TokenKind::Arrow {
                 return Err(Fault::Syntax(Place::from(first)));
             }
             receive(alloc, literals, room, first, rest, spans)

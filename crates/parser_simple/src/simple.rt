@@ -16,7 +16,7 @@ use parser_base::cursor::{Cursor, Word, is_builtin};
 use parser_base::expression::{Found, begins, closed, expression, name_node};
 use parser_base::list::{List, MAX_ENTRIES, Next};
 use parser_base::text::text;
-use scanner::Kind;
+use scanner::TokenKind;
 use std::alloc::Global;
 use syntax::{BinaryOperator, PartNode, SimpleNode};
 
@@ -76,18 +76,18 @@ fn part<'a>(
 /// What follows an argument of `print` or `println`, with the span of its last token.
 #[tactic(auto, unfolding(parser_base::specs::Reading::entry_next))]
 fn part_next(cursor: Cursor<'_>) -> Result<(Next, Span, Cursor<'_>), Fault>
-    ensures { Gives (λ x. (x.0, ahead x.2)) result (entry_next Kind.Comma begins_part Kind.RightParenthesis (ahead cursor.entry)) }
+    ensures { Gives (λ x. (x.0, ahead x.2)) result (entry_next TokenKind.Comma begins_part TokenKind.RightParenthesis (ahead cursor.entry)) }
 {
     let Some((Word::Mark(kind), span, rest)) = cursor.next() else {
         return Err(Fault::Syntax(cursor.place()));
     };
-    if kind != Kind::Comma {
-        return closed(Kind::RightParenthesis, false, cursor);
+    if kind != TokenKind::Comma {
+        return closed(TokenKind::RightParenthesis, false, cursor);
     }
     if begins_part(rest) {
         Ok((Next::More, span, rest))
     } else {
-        closed(Kind::RightParenthesis, true, rest)
+        closed(TokenKind::RightParenthesis, true, rest)
     }
 }
 
@@ -99,7 +99,7 @@ fn part_list<'a>(
     cursor: Cursor<'a>,
     spans: &mut Vec<Span>,
 ) -> Result<List<'a, PartNode>, Fault>
-    ensures parts { Gives (λ x. ((map part_of x.entries.items, x.trailing), ahead x.rest)) result (listed (part literals MAX_ENTRIES room) (entry_next Kind.Comma begins_part Kind.RightParenthesis) (TooMany Entries) MAX_ENTRIES (ahead cursor.entry)) }
+    ensures parts { Gives (λ x. ((map part_of x.entries.items, x.trailing), ahead x.rest)) result (listed (part literals MAX_ENTRIES room) (entry_next TokenKind.Comma begins_part TokenKind.RightParenthesis) (TooMany Entries) MAX_ENTRIES (ahead cursor.entry)) }
     ensures nodes { IfOk result (λ x. vec_len spans.new ≡ vec_len spans.old + sum_by part_size (map part_of x.entries.items)) }
 {
     let mut entries = Vec::new(alloc);
@@ -140,7 +140,7 @@ fn parts<'a>(
     if begins_part(cursor) {
         return part_list(alloc, room, literals, cursor, spans);
     }
-    let (last, rest) = cursor.expect(Kind::RightParenthesis)?;
+    let (last, rest) = cursor.expect(TokenKind::RightParenthesis)?;
     Ok(List {
         entries: Vec::new(alloc),
         trailing: false,
@@ -163,7 +163,7 @@ fn print<'a>(
     ensures simple { Gives (λ x. (simple_of x.simple, ahead x.rest)) result (print line literals MAX_ENTRIES room (ahead cursor.entry)) }
     ensures nodes { IfOk result (λ x. vec_len spans.new ≡ vec_len spans.old + simple_size (simple_of x.simple)) }
 {
-    let (_, inside) = cursor.expect(Kind::LeftParenthesis)?;
+    let (_, inside) = cursor.expect(TokenKind::LeftParenthesis)?;
     let all = parts(alloc, room, literals, inside, spans)?;
     let span = Span {
         from: first.from,
@@ -297,7 +297,7 @@ fn assigned<'a>(
 {
     let first = cursor.place().span;
     let all = places(alloc, cursor, spans)?;
-    let (mark, rest) = all.rest.expect(Kind::Assign)?;
+    let (mark, rest) = all.rest.expect(TokenKind::Assign)?;
     if room == 0 {
         return Err(Fault::TooDeep(Place::from(mark)));
     }
@@ -327,8 +327,8 @@ fn defined<'a>(
     ensures nodes { IfOk result (λ x. vec_len spans.new ≡ vec_len spans.old + simple_size (simple_of x.simple)) }
 {
     let first = cursor.place().span;
-    let all = names(alloc, Kind::Comma, MAX_ENTRIES as usize, cursor)?;
-    let (mark, rest) = all.rest.expect(Kind::Define)?;
+    let all = names(alloc, TokenKind::Comma, MAX_ENTRIES as usize, cursor)?;
+    let (mark, rest) = all.rest.expect(TokenKind::Define)?;
     if room == 0 {
         return Err(Fault::TooDeep(Place::from(mark)));
     }
@@ -352,11 +352,11 @@ fn increment<'a>(
     cursor: Cursor<'a>,
     spans: &mut Vec<Span>,
 ) -> Result<FoundSimple<'a>, Fault>
-    ensures simple { Gives (λ x. (simple_of x.simple, ahead x.rest)) result (stepped Increment Kind.Increment (ahead cursor.entry)) }
+    ensures simple { Gives (λ x. (simple_of x.simple, ahead x.rest)) result (stepped Increment TokenKind.Increment (ahead cursor.entry)) }
     ensures nodes { IfOk result (λ x. vec_len spans.new ≡ vec_len spans.old + simple_size (simple_of x.simple)) }
 {
     let target = place(alloc, cursor, spans)?;
-    let (mark, rest) = target.rest.expect(Kind::Increment)?;
+    let (mark, rest) = target.rest.expect(TokenKind::Increment)?;
     let span = Span {
         from: target.span.from,
         to: mark.to,
@@ -376,11 +376,11 @@ fn decrement<'a>(
     cursor: Cursor<'a>,
     spans: &mut Vec<Span>,
 ) -> Result<FoundSimple<'a>, Fault>
-    ensures simple { Gives (λ x. (simple_of x.simple, ahead x.rest)) result (stepped Decrement Kind.Decrement (ahead cursor.entry)) }
+    ensures simple { Gives (λ x. (simple_of x.simple, ahead x.rest)) result (stepped Decrement TokenKind.Decrement (ahead cursor.entry)) }
     ensures nodes { IfOk result (λ x. vec_len spans.new ≡ vec_len spans.old + simple_size (simple_of x.simple)) }
 {
     let target = place(alloc, cursor, spans)?;
-    let (mark, rest) = target.rest.expect(Kind::Decrement)?;
+    let (mark, rest) = target.rest.expect(TokenKind::Decrement)?;
     let span = Span {
         from: target.span.from,
         to: mark.to,
@@ -488,7 +488,7 @@ pub fn led<'a>(
     ensures nodes { IfOk result (λ x. vec_len spans.new ≡ vec_len spans.old + if_any simple_size (option_map simple_of x.simple)) }
 {
     match cursor.next() {
-        Some((Word::Mark(Kind::Arrow), first, rest)) => {
+        Some((Word::Mark(TokenKind::Arrow), first, rest)) => {
             let found = receive(alloc, literals, room, first, rest, spans)?;
             Ok(led_by(found))
         }
@@ -497,7 +497,7 @@ pub fn led<'a>(
                 let found = builtin_call(alloc, literals, room, name, first, rest, spans)?;
                 return Ok(led_by(found));
             }
-            if begins_with(Kind::LeftParenthesis, rest) {
+            if begins_with(TokenKind::LeftParenthesis, rest) {
                 let found = call(alloc, literals, room, name, first, rest, spans)?;
                 return Ok(led_by(found));
             }
@@ -541,7 +541,7 @@ fn send<'a>(
     ensures nodes { IfOk result (λ x. vec_len spans.new ≡ vec_len spans.old + simple_size (simple_of x.simple)) }
 {
     let channel = send_operand(alloc, literals, room, cursor, spans)?;
-    let (_, rest) = channel.rest.expect(Kind::Arrow)?;
+    let (_, rest) = channel.rest.expect(TokenKind::Arrow)?;
     let value = expression(alloc, literals, room, 0, rest, spans)?;
     let span = Span {
         from: channel.span.from,

@@ -1,8 +1,8 @@
 -- Headers of an if and a for, and what a clause of a select waits for: what is spelt is read, and what is read is spelt so.
 use Rattle.std.proofs.Common.{◌≡◌, ℕ, suc, ◌≤◌, Bool, true, false, cond, ◌&&◌, ◌==◌, Option, Some, None, max, List, [], ◌∷◌, Ok, inl, inr, refl, sym, ap, ◌∙◌, subst, arith}
 use Rattle.std.proofs.lemmas.Bool.{eqb-true}
-use Rattle.scanner.specs.declared.kind.Kind.{Kind}
-use Rattle.scanner.specs.declared.kind.Kind.TheVariants as kinds
+use Rattle.scanner.specs.declared.kind.TokenKind.{TokenKind}
+use Rattle.scanner.specs.declared.kind.TokenKind.TheVariants as kinds
 use Rattle.syntax.specs.declared.node.BinaryOperator.{BinaryOperator}
 use Rattle.syntax.specs.Tree.{Expression, Call, Receive, Make, Length, Capacity, Right, RightOperation, Values, Place, Simple, CallAlone, Close, Print, ReceiveAlone, Send, Increment, Decrement, Assign, Define, Update, Comm, CommSend, CommReceive, CommDefine, CommAssign, IfHead, Bare, Semicolon, First, Target, NoTarget, DefineTarget, AssignTarget, ForHead, Forever, While, ForClauses, Range}
 use Rattle.syntax.specs.Measures.{Listing, if_any, expression_height, expression_longest, simple_height, simple_longest, if_head_height, if_head_longest, for_head_height, for_head_longest, comm_height, comm_longest}
@@ -10,7 +10,7 @@ use Rattle.parser_base.specs.Lexemes.{Lexeme, Literal, Name, Text, Mark}
 use Rattle.parser_base.specs.Spelling.{behind, separated, joined, before, outer_precedence, precedence, IsGrouped}
 use Rattle.parser_base.specs.Reading.{Reading, ◌>>=◌, is_kind, expect, plain_name, begins, step_at, expression}
 use Rattle.parser_base.proofs.Marks.{bind_ok, ok_is, kind_is, expect_is, plain_name_is, plain_name_again}
-use Rattle.parser_base.proofs.ListLaws.{AreFew, Outcome, Found}
+use Rattle.parser_base.proofs.ListLaws.{AreFew, ReadBack, Found}
 use Rattle.parser_base.proofs.ExpressionAgain.{EndsExpression, shut}
 use Rattle.parser_base.proofs.Steps.{then_again, made_again, gave, Sound, made_is, either}
 use Rattle.parser_simple.specs.declared.form.Form.{Form}
@@ -47,7 +47,7 @@ unfolding step_at
 arrow_ends ws = record { none = refl; shut = tt }
 
 abbrev HeadOutcome : (most room : ℕ) → Reading Head → Simple → List Lexeme → Type 0
-HeadOutcome most room read s rest = Outcome read (HeadSimple s) rest (simple_height s) room (λ listing. simple_longest listing s) most
+HeadOutcome most room read s rest = ReadBack read (HeadSimple s) rest (simple_height s) room (λ listing. simple_longest listing s) most
 
 head_led : (most room : ℕ) (s : Simple) (ws : List Lexeme) → IsSimple false true s → is_send s ≡ false → HeadOutcome most room (head most room (simple_words s (Mark kinds.Semicolon ∷ ws))) s (Mark kinds.Semicolon ∷ ws)
 unfolding head
@@ -76,7 +76,7 @@ head_simple most room (Define ns r) ws is = head_led most room (Define ns r) ws 
 head_simple most room (Update p o v) ws is = head_led most room (Update p o v) ws is refl
 
 head_condition : (most room : ℕ) (c : Expression) (ws : List Lexeme) → IsGrouped false c
-    → Outcome (head most room (before c (Mark kinds.LeftBrace ∷ ws))) (HeadCondition c) (Mark kinds.LeftBrace ∷ ws) (expression_height c) room (λ listing. expression_longest listing c) most
+    → ReadBack (head most room (before c (Mark kinds.LeftBrace ∷ ws))) (HeadCondition c) (Mark kinds.LeftBrace ∷ ws) (expression_height c) room (λ listing. expression_longest listing c) most
 unfolding head begins_with form_of
 head_condition most room c ws is =
     rw (led_none false true most room (before c (Mark kinds.LeftBrace ∷ ws)) (no_operation false c (Mark kinds.LeftBrace ∷ ws) is refl) (no_form c (Mark kinds.LeftBrace ∷ ws) refl))
@@ -158,7 +158,7 @@ simple_not_semicolon literals defining (Define (n ∷ ns) r) ws is = refl
 simple_not_semicolon literals defining (Update p o v) ws is = refl
 
 pub if_header_again : (most room : ℕ) (header : IfHead × Expression) (ws : List Lexeme) → IsIfHeader header
-    → Outcome (if_header most room (if_header_words header (Mark kinds.LeftBrace ∷ ws))) header (Mark kinds.LeftBrace ∷ ws) (if_header_height header) room (λ listing. if_header_longest listing header) most
+    → ReadBack (if_header most room (if_header_words header (Mark kinds.LeftBrace ∷ ws))) header (Mark kinds.LeftBrace ∷ ws) (if_header_height header) room (λ listing. if_header_longest listing header) most
 unfolding if_header expect begins_with begins
 if_header_again most room (Bare, test) ws is =
     rw (value_not kinds.Semicolon false test (Mark kinds.LeftBrace ∷ ws) is.1 (λ rest. refl))
@@ -213,10 +213,10 @@ if_header_sound most room ws header rest e =
 -- ---- for
 
 abbrev ForOutcome : (most room : ℕ) → Reading ForHead → ForHead → List Lexeme → Type 0
-ForOutcome most room read h rest = Outcome read h rest (for_head_height h) room (λ listing. for_head_longest listing h) most
+ForOutcome most room read h rest = ReadBack read h rest (for_head_height h) room (λ listing. for_head_longest listing h) most
 
 test_again : (most room : ℕ) (test : Option Expression) (ws : List Lexeme) → IsAny (IsGrouped false) test
-    → Outcome (unless_next kinds.Semicolon (condition most room) (optional before test (Mark kinds.Semicolon ∷ ws))) test (Mark kinds.Semicolon ∷ ws) (if_any expression_height test) room (λ listing. if_any (expression_longest listing) test) most
+    → ReadBack (unless_next kinds.Semicolon (condition most room) (optional before test (Mark kinds.Semicolon ∷ ws))) test (Mark kinds.Semicolon ∷ ws) (if_any expression_height test) room (λ listing. if_any (expression_longest listing) test) most
 unfolding begins_with begins
 test_again most room None ws is = Found (omega arith) (λ listing. omega arith) refl
 test_again most room (Some test) ws is =
@@ -239,7 +239,7 @@ simple_not_brace literals defining (Define (n ∷ ns) r) ws is = refl
 simple_not_brace literals defining (Update p o v) ws is = refl
 
 post_again : (most room : ℕ) (post : Option Simple) (ws : List Lexeme) → IsAny (IsSimple false false) post
-    → Outcome (unless_next kinds.LeftBrace (simple false false most room) (optional simple_words post (Mark kinds.LeftBrace ∷ ws))) post (Mark kinds.LeftBrace ∷ ws) (if_any simple_height post) room (λ listing. if_any (simple_longest listing) post) most
+    → ReadBack (unless_next kinds.LeftBrace (simple false false most room) (optional simple_words post (Mark kinds.LeftBrace ∷ ws))) post (Mark kinds.LeftBrace ∷ ws) (if_any simple_height post) room (λ listing. if_any (simple_longest listing) post) most
 unfolding begins_with
 post_again most room None ws is = Found (omega arith) (λ listing. omega arith) refl
 post_again most room (Some s) ws is =
@@ -408,7 +408,7 @@ abbrev pub ForSound : (most room : ℕ) → List Lexeme → ForHead → List Lex
 ForSound most room = Sound for_head_words IsForHead for_head_height room for_head_longest most
 
 -- what is there, or nothing
-unless_sound : {A : Type 0} (words : A → List Lexeme → List Lexeme) (Is : A → Type 0) (height : A → ℕ) (longest : Listing → A → ℕ) (kind : Kind) (one : List Lexeme → Reading A) (room most : ℕ)
+unless_sound : {A : Type 0} (words : A → List Lexeme → List Lexeme) (Is : A → Type 0) (height : A → ℕ) (longest : Listing → A → ℕ) (kind : TokenKind) (one : List Lexeme → Reading A) (room most : ℕ)
     → ((ws : List Lexeme) (x : A) (rest : List Lexeme) → one ws ≡ gave x rest → Sound words Is height room longest most ws x rest)
     → (ws : List Lexeme) (x : Option A) (rest : List Lexeme) → unless_next kind one ws ≡ gave x rest → Sound (optional words) (IsAny Is) (if_any height) room (λ listing. if_any (longest listing)) most ws x rest
 unless_sound words Is height longest kind one room most sound ws x rest e =
@@ -519,7 +519,7 @@ comm_below_is (CommDefine item ok c) = refl
 comm_below_is (CommAssign item ok c) = refl
 
 abbrev pub CommOutcome : (most room : ℕ) → Reading Comm → Comm → List Lexeme → Type 0
-CommOutcome most room read c rest = Outcome read c rest (comm_below c) room (λ listing. comm_longest listing c) most
+CommOutcome most room read c rest = ReadBack read c rest (comm_below c) room (λ listing. comm_longest listing c) most
 
 colon_ends : (ws : List Lexeme) → EndsExpression true (Mark kinds.Colon ∷ ws)
 unfolding step_at
@@ -688,6 +688,6 @@ comm_sound most room (Name name ∷ ws) c rest e = comm_formed_sound most room (
 comm_sound most room (Text bytes ∷ ws) c rest e = comm_formed_sound most room (form_of true (Text bytes ∷ ws)) (Text bytes ∷ ws) c rest e
 comm_sound most room (Mark kind ∷ ws) c rest e =
     elim (either (is_kind kind kinds.Arrow) (as_one CommReceive (primary true most room ws)) (comm_formed most room (form_of true (Mark kind ∷ ws)) (Mark kind ∷ ws)) (c, rest) e) [
-      | inl r ↦ subst (λ (x : Kind). CommSound most room (Mark x ∷ ws) c rest) (sym (kind_is kind kinds.Arrow r.0)) (comm_receive_sound most room ws c rest r.1)
+      | inl r ↦ subst (λ (x : TokenKind). CommSound most room (Mark x ∷ ws) c rest) (sym (kind_is kind kinds.Arrow r.0)) (comm_receive_sound most room ws c rest r.1)
       | inr f ↦ comm_formed_sound most room (form_of true (Mark kind ∷ ws)) (Mark kind ∷ ws) c rest f.1
     ]

@@ -1,7 +1,7 @@
 -- Statements in which no other stands: what is spelt is read, and what is read is spelt so.
 use Rattle.std.proofs.Common.{◌≡◌, ℕ, zero, suc, ◌<◌, ◌≤◌, Bool, true, false, cond, Option, Some, None, max, List, [], ◌∷◌, ◌++◌, length, Err, inl, inr, refl, ap, ◌∙◌, subst, arith}
-use Rattle.scanner.specs.declared.kind.Kind.{Kind}
-use Rattle.scanner.specs.declared.kind.Kind.TheVariants as kinds
+use Rattle.scanner.specs.declared.kind.TokenKind.{TokenKind}
+use Rattle.scanner.specs.declared.kind.TokenKind.TheVariants as kinds
 use Rattle.syntax.specs.declared.node.Direction.TheVariants as directions
 use Rattle.syntax.specs.Tree.{Expression, TypeExpression, NamedType, ParenthesizedType, Channel, Arguments, Operation, Call, Receive, Make, Length, Capacity, Right, Returned, NoValue, ReturnedOperation, ReturnedValue, Statement, Empty, Alone, VarTyped, VarUntyped, Go, Return, Break, Continue}
 use Rattle.syntax.specs.Measures.{Listing, if_any, type_height, right_height, right_longest, returned_height, returned_longest, statement_height, statement_longest}
@@ -10,7 +10,7 @@ use Rattle.parser_base.specs.Spelling.{is_builtin, before, AreSome, IsGrouped}
 use Rattle.parser_base.specs.Reading.{Syntax, TooDeep, Reading, ◌>>=◌, expect, plain_name, begins, step_at, expression}
 use Rattle.parser_base.specs.TypeReading.{type_words, IsType, type_at}
 use Rattle.parser_base.proofs.Marks.{bind_ok, ok_is, expect_is, plain_name_is, plain_name_again}
-use Rattle.parser_base.proofs.ListLaws.{AreFew, Outcome, Found, High, Many}
+use Rattle.parser_base.proofs.ListLaws.{AreFew, ReadBack, Found, High, Many}
 use Rattle.parser_base.proofs.ExpressionAgain.{shut, begins_again, height_positive, entries-le}
 use Rattle.parser_base.proofs.TypeLaws.{type_sound}
 use Rattle.parser_base.proofs.Steps.{then_again, made_again, gave, Sound, made_is, either}
@@ -54,14 +54,14 @@ ends_no_value _ (AtDefault rest) = refl
 
 -- the same of what is read, within more
 pub widened : {A : Type 0} {read : Reading A} {x : A} {rest : List Lexeme} {part room height room' : ℕ} {longest longest' : Listing → ℕ} {most : ℕ}
-    → Outcome read x rest part room longest most → (room < part → room' < height) → (part ≤ room → height ≤ room') → ((listing : Listing) → longest listing ≤ longest' listing) → (AreFew longest most → AreFew longest' most)
-    → Outcome read x rest height room' longest' most
+    → ReadBack read x rest part room longest most → (room < part → room' < height) → (part ≤ room → height ≤ room') → ((listing : Listing) → longest listing ≤ longest' listing) → (AreFew longest most → AreFew longest' most)
+    → ReadBack read x rest height room' longest' most
 widened (Found low few e) up down more down' = Found (down low) (down' few) e
 widened (High high e) up down more down' = High (up high) e
 widened (Many listing many e) up down more down' = Many listing (omega (arith, more listing, many)) e
 
 abbrev pub StatementOutcome : (most room : ℕ) → Reading Statement → Statement → List Lexeme → Type 0
-StatementOutcome most room read s rest = Outcome read s rest (statement_height s) room (λ listing. statement_longest listing s) most
+StatementOutcome most room read s rest = ReadBack read s rest (statement_height s) room (λ listing. statement_longest listing s) most
 
 -- ---- what is spelt is read
 
@@ -72,7 +72,7 @@ started_again most room f all rest plain are =
     (made_again (Go f) (arguments_again true most room all rest are) (λ high. omega arith) (λ low. omega arith) (λ listing. refl))
 
 abbrev ReturnedOutcome : (most room : ℕ) → Reading Returned → Returned → List Lexeme → Type 0
-ReturnedOutcome most room read r rest = Outcome read r rest (returned_height r) room (λ listing. returned_longest listing r) most
+ReturnedOutcome most room read r rest = ReadBack read r rest (returned_height r) room (λ listing. returned_longest listing r) most
 
 operation_returns : (o : Operation) (rest : List Lexeme) → IsOperation true o → begins_returned (operation_words o rest) ≡ true
 unfolding begins_returned
@@ -138,21 +138,21 @@ returned_again most room (ReturnedValue v) rest is ends =
     rw (begun_no_end (before v rest) (begins_again true v rest is)) (returned_expression most room v rest is (ends_stop rest ends))
 
 initial_again : (most room : ℕ) (r : Option Right) (rest : List Lexeme) → IsAny (IsRight true) r → Ends rest
-    → Outcome (behind_next kinds.Assign (right true most room) (initial_words r rest)) r rest (if_any right_height r) room (λ listing. if_any (right_longest listing) r) most
+    → ReadBack (behind_next kinds.Assign (right true most room) (initial_words r rest)) r rest (if_any right_height r) room (λ listing. if_any (right_longest listing) r) most
 unfolding begins_with expect
 initial_again most room None rest is ends = rw (ends_no_value rest ends) (Found (omega arith) (λ listing. omega arith) refl)
 initial_again most room (Some r) rest is ends =
     made_again (λ (x : Right). Some x) (right_again true most room r rest is (ends_stop rest ends)) (λ high. high) (λ low. low) (λ listing. refl)
 
 typed_again : (most room : ℕ) (all : List (List ℕ)) (t : TypeExpression) (r : Option Right) (rest : List Lexeme) → IsType t → IsAny (IsRight true) r → Ends rest
-    → Outcome (typed all most room (type_words t ++ initial_words r rest)) (VarTyped all t r) rest (max (type_height t) (if_any right_height r)) room (λ listing. if_any (right_longest listing) r) most
+    → ReadBack (typed all most room (type_words t ++ initial_words r rest)) (VarTyped all t r) rest (max (type_height t) (if_any right_height r)) room (λ listing. if_any (right_longest listing) r) most
 unfolding typed
 typed_again most room all t r rest is right_is ends =
     then_again _ (type_outcome room most t (initial_words r rest) is) (λ high. omega arith) (λ listing. omega arith) (λ low few.
     made_again (VarTyped all t) (initial_again most room r rest right_is ends) (λ high. omega arith) (λ low'. omega arith) (λ listing. refl))
 
 untyped_again : (most room : ℕ) (all : List (List ℕ)) (r : Right) (rest : List Lexeme) → IsRight true r → Ends rest
-    → Outcome (untyped all most room (Mark kinds.Assign ∷ right_words r rest)) (VarUntyped all r) rest (right_height r) room (λ listing. right_longest listing r) most
+    → ReadBack (untyped all most room (Mark kinds.Assign ∷ right_words r rest)) (VarUntyped all r) rest (right_height r) room (λ listing. right_longest listing r) most
 unfolding untyped expect
 untyped_again most room all r rest is ends =
     made_again (VarUntyped all) (right_again true most room r rest is (ends_stop rest ends)) (λ high. high) (λ low. low) (λ listing. refl)
@@ -328,7 +328,7 @@ word_sound : (most room : ℕ) (ws : List Lexeme) (word : Statement) (s : Statem
 word_sound most room ws word s after rest parts is low few e =
     subst (λ (x : Statement × List Lexeme). StatementSound most (suc room) ws x.0 x.1) (ok_is (word, after) (s, rest) e) (record { parts = parts; is = is; low = low; few = few })
 
-other_sound : (most room : ℕ) (kind : Kind) (ws : List Lexeme) (s : Statement) (rest : List Lexeme) → cond (is_end kind) (gave Empty (Mark kind ∷ ws)) (as_one Alone (simple true true most room (Mark kind ∷ ws))) ≡ gave s rest
+other_sound : (most room : ℕ) (kind : TokenKind) (ws : List Lexeme) (s : Statement) (rest : List Lexeme) → cond (is_end kind) (gave Empty (Mark kind ∷ ws)) (as_one Alone (simple true true most room (Mark kind ∷ ws))) ≡ gave s rest
     → StatementSound most (suc room) (Mark kind ∷ ws) s rest
 other_sound most room kind ws s rest e =
     elim (either (is_end kind) (gave Empty (Mark kind ∷ ws)) (as_one Alone (simple true true most room (Mark kind ∷ ws))) (s, rest) e) [
@@ -336,7 +336,7 @@ other_sound most room kind ws s rest e =
       | inr other ↦ alone_sound most room (Mark kind ∷ ws) s rest other.1
     ]
 
-pub leaf_sound : (most room : ℕ) (kind : Kind) (ws : List Lexeme) (s : Statement) (rest : List Lexeme) → leaf most room kind ws ≡ gave s rest → StatementSound most (suc room) (Mark kind ∷ ws) s rest
+pub leaf_sound : (most room : ℕ) (kind : TokenKind) (ws : List Lexeme) (s : Statement) (rest : List Lexeme) → leaf most room kind ws ≡ gave s rest → StatementSound most (suc room) (Mark kind ∷ ws) s rest
 leaf_sound most room kinds.Go ws s rest e = started_sound most room ws s rest e
 leaf_sound most room kinds.Var ws s rest e = variable_sound most room ws s rest e
 leaf_sound most room kinds.Return ws s rest e = return_sound most room ws s rest e

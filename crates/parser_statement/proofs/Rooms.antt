@@ -1,7 +1,7 @@
 -- A statement and its parts, in the room that is left below them.
 use Rattle.std.proofs.Common.{◌≡◌, ℕ, zero, suc, ◌-◌, ◌≤◌, Bool, List, length, Ok, refl, ap, ◌∙◌, arith}
 use Rattle.go_text.specs.declared.fault.Fault.{Fault}
-use Rattle.scanner.specs.declared.kind.Kind.TheVariants as kinds
+use Rattle.scanner.specs.declared.kind.TokenKind.TheVariants as kinds
 use Rattle.syntax.specs.Tree.{Statement, statements}
 use Rattle.parser_base.specs.Lexemes.{Lexeme}
 use Rattle.parser_base.specs.Reading.{Syntax, Fails, expect, listed}

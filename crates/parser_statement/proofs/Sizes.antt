@@ -1,8 +1,8 @@
 -- A statement has no more nodes than lexemes, and one.
 use Rattle.std.proofs.Common.{◌≡◌, ℕ, ◌+◌, ◌<◌, ◌≤◌, List, [], ◌∷◌, ◌++◌, length, sum_by, refl, arith, length-append, Bool, true, false, Option, Some, None}
 use Rattle.std.proofs.lemmas.List.Sums.{sum_by-cons}
-use Rattle.scanner.specs.declared.kind.Kind.{Kind}
-use Rattle.scanner.specs.declared.kind.Kind.TheVariants as kinds
+use Rattle.scanner.specs.declared.kind.TokenKind.{TokenKind}
+use Rattle.scanner.specs.declared.kind.TokenKind.TheVariants as kinds
 use Rattle.syntax.specs.Tree.{Expression, Arguments, Operation, Call, Receive, Make, Length, Capacity, Right, RightOperation, Values, Place, Part, Value, Text as TextPart, Simple, CallAlone, Close, Print, ReceiveAlone, Send, Increment, Decrement, Assign, Define, Update, IfHead, Bare, Semicolon, First, Target, NoTarget, DefineTarget, AssignTarget, ForHead, Forever, While, ForClauses, Range, Comm, CommSend, CommReceive, CommDefine, CommAssign, Returned, NoValue, ReturnedOperation, ReturnedValue, Statement, Statements, NoStatement, Then, Empty, Alone, VarTyped, VarUntyped, Block, If, For, Select, Go, Return, Break, Continue, Branch, Conditional, Otherwise, NoElse, ElseBlock, ElseIf, Clauses, NoClause, Clause, statements_in}
 use Rattle.syntax.specs.Measures.{expression_size, arguments_size, operation_size, right_size, part_size, simple_size, if_head_size, target_size, for_head_size, comm_size, returned_size, statement_size, statements_size, branch_size, otherwise_size, clauses_size, if_any}
 use Rattle.parser_base.specs.Lexemes.{Lexeme, Mark}
@@ -20,19 +20,19 @@ value_size : (e : Expression) (rest : List Lexeme) → expression_size e + lengt
 value_size e rest = omega (arith, expression_size-le e, length-append (expression_words e) rest)
 
 -- what is counted in a list is not more than its words
-pub separated_size : {A : Type 0} (count : A → ℕ) (each : A → List Lexeme → List Lexeme) (separator : Kind) (xs : List A) (rest : List Lexeme) → ((x : A) (ws : List Lexeme) → count x + length ws ≤ length (each x ws))
+pub separated_size : {A : Type 0} (count : A → ℕ) (each : A → List Lexeme → List Lexeme) (separator : TokenKind) (xs : List A) (rest : List Lexeme) → ((x : A) (ws : List Lexeme) → count x + length ws ≤ length (each x ws))
     → sum_by count xs + length rest ≤ length (separated each (behind separator) xs rest)
 separated_size count each separator [] rest grows = omega arith
 separated_size count each separator (x ∷ xs) rest grows =
     omega (arith, sum_by-cons count x xs, separated_size count each separator xs rest grows, grows x (separated each (behind separator) xs rest))
 
-joined_size : {A : Type 0} (count : A → ℕ) (each : A → List Lexeme → List Lexeme) (separator : Kind) (xs : List A) (rest : List Lexeme) → ((x : A) (ws : List Lexeme) → count x + length ws ≤ length (each x ws))
+joined_size : {A : Type 0} (count : A → ℕ) (each : A → List Lexeme → List Lexeme) (separator : TokenKind) (xs : List A) (rest : List Lexeme) → ((x : A) (ws : List Lexeme) → count x + length ws ≤ length (each x ws))
     → sum_by count xs + length rest ≤ length (joined each (behind separator) xs rest)
 joined_size count each separator [] rest grows = omega arith
 joined_size count each separator (x ∷ xs) rest grows =
     omega (arith, sum_by-cons count x xs, separated_size count each separator xs rest grows, grows x (separated each (behind separator) xs rest))
 
-pub closing_size : (separator close : Kind) (trailing : Bool) (rest : List Lexeme) → length rest < length (closing separator close trailing rest)
+pub closing_size : (separator close : TokenKind) (trailing : Bool) (rest : List Lexeme) → length rest < length (closing separator close trailing rest)
 closing_size separator close true rest = omega arith
 closing_size separator close false rest = omega arith
 

@@ -1,6 +1,6 @@
 -- Statements: what is spelt is read.
 use Rattle.std.proofs.Common.{◌≡◌, ℕ, zero, suc, ◌≤◌, Bool, true, false, Option, Some, None, max, List, [], ◌∷◌, length, Ok, refl, ap, ◌∙◌, subst, arith}
-use Rattle.scanner.specs.declared.kind.Kind.TheVariants as kinds
+use Rattle.scanner.specs.declared.kind.TokenKind.TheVariants as kinds
 use Rattle.syntax.specs.Tree.{Expression, TypeExpression, Arguments, Right, Returned, Simple, CallAlone, Close, Print, ReceiveAlone, Send, Increment, Decrement, Assign, Define, Update, IfHead, ForHead, Comm, CommSend, CommReceive, CommDefine, CommAssign, Statement, Empty, Alone, VarTyped, VarUntyped, Block, If, For, Select, Go, Return, Break, Continue, Statements, NoStatement, Then, statements_in, statements as made_statements, Branch, Conditional, Otherwise, NoElse, ElseBlock, ElseIf, Clauses, NoClause, Clause}
 use Rattle.syntax.specs.Measures.{SelectClauses, clauses as clause_entries, if_any, comm_height, comm_longest, statement_height, statements_height, branch_height, otherwise_height, block_height, clauses_height, statement_longest, statements_longest, branch_longest, otherwise_longest, clauses_longest, clauses_count}
 use Rattle.syntax.specs.View.{OneClause, clauses}
@@ -10,7 +10,7 @@ use Rattle.parser_base.specs.declared.list.Next.TheVariants.{More, End}
 use Rattle.parser_base.specs.Lexemes.{Lexeme, Literal, Name, Text, Mark}
 use Rattle.parser_base.specs.Spelling.{behind, before, separated, AreAll}
 use Rattle.parser_base.specs.Reading.{Syntax, TooMany, Reading, ◌>>=◌, expect, begins, listed}
-use Rattle.parser_base.proofs.ListLaws.{Outcome, Found, High, Many, Found as AllFound, High as AllHigh, Many as AllMany, Full, Entries, IsReadAgain, Separates, listed_again}
+use Rattle.parser_base.proofs.ListLaws.{ReadBack, Found, High, Many, Found as AllFound, High as AllHigh, Many as AllMany, Full, Entries, IsReadAgain, Separates, listed_again}
 use Rattle.parser_base.proofs.ExpressionAgain.{begins_again, height_positive}
 use Rattle.parser_base.proofs.Steps.{then_again, made_again, gave}
 use Rattle.parser_simple.specs.Spelling.{simple_words, IsSimple}
@@ -94,7 +94,7 @@ ends_some _ (AtDefault rest) = omega arith
 
 -- the statements of a block or a clause, read again
 abbrev BodyOutcome : (most room : ℕ) → Reading (List Statement × Bool) → Statements → List Lexeme → Type 0
-BodyOutcome most room read body rest = Outcome read (statements_in body, false) rest (statements_height body) room (λ listing. statements_longest listing body) most
+BodyOutcome most room read body rest = ReadBack read (statements_in body, false) rest (statements_height body) room (λ listing. statements_longest listing body) most
 
 body_again : (next : List Lexeme → Reading Next) (ending : List Lexeme → List Lexeme) (most room : ℕ) (first : Statement) (others : Statements) (rest : List Lexeme) → IsBody (Then first others) → Separates (statements_to next ending room most) Ends false rest
     → AreAll (IsReadAgain (statements room most) Ends) (first ∷ statements_in others)
@@ -200,17 +200,17 @@ ReadAgain most all = (room : ℕ) → AreAll (IsReadAgain (statements room most)
 
 -- a block that is
 abbrev BlockAgain : (most : ℕ) → Statements → Type 0
-BlockAgain most body = (room : ℕ) (rest : List Lexeme) → Outcome (block most room (block_words body rest)) body rest (block_height body) room (λ listing. statements_longest listing body) most
+BlockAgain most body = (room : ℕ) (rest : List Lexeme) → ReadBack (block most room (block_words body rest)) body rest (block_height body) room (λ listing. statements_longest listing body) most
 
 braced_again : (most room : ℕ) (first : Statement) (others : Statements) (rest : List Lexeme) → IsBody (Then first others) → AreAll (IsReadAgain (statements room most) Ends) (first ∷ statements_in others)
-    → Outcome (braced (statement most room) (block_words (Then first others) rest)) (Then first others) rest (block_height (Then first others)) (suc room) (λ listing. statements_longest listing (Then first others)) most
+    → ReadBack (braced (statement most room) (block_words (Then first others) rest)) (Then first others) rest (block_height (Then first others)) (suc room) (λ listing. statements_longest listing (Then first others)) most
 unfolding braced expect
 braced_again most room first others rest is each =
     let ending : List Lexeme → List Lexeme = λ ws. Mark kinds.RightBrace ∷ ws in
     let inside = body_words (Then first others) (ending rest) in
     let made = made_again (λ (found : List Statement × Bool). made_statements found.0) (body_again statement_next ending most room first others rest is (statements_separate room most rest) each) (λ high. high) (λ low. low) (λ listing. refl) in
     widened
-    (subst (λ (x : Statements). Outcome (listed (statement most room) statement_next Syntax (length inside) inside >>= λ all. Ok (made_statements all.0.0, all.1)) x rest (statements_height (Then first others)) room (λ listing. statements_longest listing (Then first others)) most) (statements-statements_in (Then first others)) made)
+    (subst (λ (x : Statements). ReadBack (listed (statement most room) statement_next Syntax (length inside) inside >>= λ all. Ok (made_statements all.0.0, all.1)) x rest (statements_height (Then first others)) room (λ listing. statements_longest listing (Then first others)) most) (statements-statements_in (Then first others)) made)
     (λ high. omega arith) (λ low. omega arith) (λ listing. omega arith) (λ few. few)
 
 block_again : (most : ℕ) (body : Statements) → IsBody body → ReadAgain most (statements_in body) → BlockAgain most body
@@ -233,14 +233,14 @@ for_statement most room h body is body_is again rest =
 -- ---- what is spelt is read: if
 
 abbrev BranchOutcome : (most room : ℕ) → Reading Branch → Branch → List Lexeme → Type 0
-BranchOutcome most room read b rest = Outcome read b rest (branch_height b) room (λ listing. branch_longest listing b) most
+BranchOutcome most room read b rest = ReadBack read b rest (branch_height b) room (λ listing. branch_longest listing b) most
 
 abbrev BranchAgain : (most : ℕ) → Branch → Type 0
 BranchAgain most b = (room : ℕ) (rest : List Lexeme) → Ends rest → BranchOutcome most (suc room) (branched most room (block most room) (branch most room) (branch_words b rest)) b rest
 
 abbrev OtherwiseAgain : (most : ℕ) → Otherwise → Type 0
 OtherwiseAgain most o = (room : ℕ) (rest : List Lexeme) → Ends rest
-    → Outcome (otherwise (block most room) (branch most room) (otherwise_words o rest)) o rest (otherwise_height o) room (λ listing. otherwise_longest listing o) most
+    → ReadBack (otherwise (block most room) (branch most room) (otherwise_words o rest)) o rest (otherwise_height o) room (λ listing. otherwise_longest listing o) most
 
 branch_again : (most room : ℕ) (h : IfHead) (c : Expression) (body : Statements) (o : Otherwise) (rest : List Lexeme) → IsBranch (Conditional h c body o) → BlockAgain most body → OtherwiseAgain most o → Ends rest
     → BranchOutcome most (suc room) (branched most room (block most room) (branch most room) (branch_words (Conditional h c body o) rest)) (Conditional h c body o) rest
@@ -282,7 +282,7 @@ if_statement most room b again rest ends = made_again If (again room rest ends) 
 
 -- ---- what is spelt is read: select
 
-waited_again : (most room : ℕ) (c : Comm) (ws : List Lexeme) → IsComm c → Outcome (waited most room (comm_words c (Mark kinds.Colon ∷ ws))) c (Mark kinds.Colon ∷ ws) (comm_height c) room (λ listing. comm_longest listing c) most
+waited_again : (most room : ℕ) (c : Comm) (ws : List Lexeme) → IsComm c → ReadBack (waited most room (comm_words c (Mark kinds.Colon ∷ ws))) c (Mark kinds.Colon ∷ ws) (comm_height c) room (λ listing. comm_longest listing c) most
 unfolding waited
 waited_again most zero c ws is = High (omega (arith, comm_below_is c)) refl
 waited_again most (suc room) c ws is = widened (comm_again most room c ws is) (λ high. omega (arith, comm_below_is c)) (λ low. omega (arith, comm_below_is c)) (λ listing. omega arith) (λ few. few)
@@ -326,17 +326,17 @@ clauses_separate room most rest = record {
 
 -- a clause from its colon on
 clause_body_again : (most room : ℕ) (waits : Option Comm) (body : Statements) (rest : List Lexeme) → IsBody body → ReadAgain most (statements_in body) → EndsClause rest
-    → Outcome (clause_body (statement most room) waits (Mark kinds.Colon ∷ body_words body rest)) (record { comm = waits; body = body }) rest (statements_height body) room (λ listing. statements_longest listing body) most
+    → ReadBack (clause_body (statement most room) waits (Mark kinds.Colon ∷ body_words body rest)) (record { comm = waits; body = body }) rest (statements_height body) room (λ listing. statements_longest listing body) most
 unfolding clause_body expect
 clause_body_again most room waits NoStatement rest is each ends = absurd is
 clause_body_again most room waits (Then first others) rest is each ends =
     let inside = body_words (Then first others) rest in
     let of : Statements → OneClause = λ body. record { comm = waits; body = body } in
     let made = made_again (λ (found : List Statement × Bool). of (made_statements found.0)) (body_again clause_next unseparated most room first others rest is (clause_separate room most rest ends) (each room)) (λ high. high) (λ low. low) (λ listing. refl) in
-    subst (λ (x : Statements). Outcome (listed (statement most room) clause_next Syntax (length inside) inside >>= λ all. Ok (of (made_statements all.0.0), all.1)) (of x) rest (statements_height (Then first others)) room (λ listing. statements_longest listing (Then first others)) most) (statements-statements_in (Then first others)) made
+    subst (λ (x : Statements). ReadBack (listed (statement most room) clause_next Syntax (length inside) inside >>= λ all. Ok (of (made_statements all.0.0), all.1)) (of x) rest (statements_height (Then first others)) room (λ listing. statements_longest listing (Then first others)) most) (statements-statements_in (Then first others)) made
 
 one_clause_again : (most room : ℕ) (waits : Option Comm) (body : Statements) (rest : List Lexeme) → IsAny IsComm waits → IsBody body → ReadAgain most (statements_in body) → EndsClause rest
-    → Outcome (one_clause most room (statement most room) (clause_start waits (body_words body rest))) (record { comm = waits; body = body }) rest (max (if_any comm_height waits) (statements_height body)) room (λ listing. clause_longest listing (record { comm = waits; body = body })) most
+    → ReadBack (one_clause most room (statement most room) (clause_start waits (body_words body rest))) (record { comm = waits; body = body }) rest (max (if_any comm_height waits) (statements_height body)) room (λ listing. clause_longest listing (record { comm = waits; body = body })) most
 unfolding one_clause
 one_clause_again most room None body rest is body_is each ends =
     needing_again 1 room (λ none. omega (arith, none, body_positive body body_is))
@@ -352,7 +352,7 @@ clause_again most (Some c) body is body_is each zero rest ends = High (omega ari
 clause_again most waits body is body_is each (suc room) rest ends = widened (one_clause_again most room waits body rest is body_is each ends) (λ high. omega arith) (λ low. omega arith) (λ listing. omega arith) (λ few. few)
 
 abbrev ClausesOutcome : (most room : ℕ) → Reading Clauses → Clauses → List Lexeme → Type 0
-ClausesOutcome most room read all rest = Outcome read all rest (clauses_height all) room (λ listing. max (clause_entries listing (clauses_count all)) (clauses_longest listing all)) most
+ClausesOutcome most room read all rest = ReadBack read all rest (clauses_height all) room (λ listing. max (clause_entries listing (clauses_count all)) (clauses_longest listing all)) most
 
 selected_some : (most room : ℕ) (waits : Option Comm) (body : Statements) (others : Clauses) (rest : List Lexeme) → AreClauses (Clause waits body others) → AreAll (IsReadAgain (clauses_of room most) EndsClause) (clauses_in (Clause waits body others))
     → ClausesOutcome most room (selected most (clause most room) (Mark kinds.LeftBrace ∷ clauses_words (Clause waits body others) (Mark kinds.RightBrace ∷ rest))) (Clause waits body others) rest

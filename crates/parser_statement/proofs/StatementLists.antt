@@ -1,7 +1,7 @@
 -- The statements of a block and the clauses of a select, as lists.
 use Rattle.std.proofs.Common.{◌≡◌, ℕ, suc, ◌≤◌, max, List, [], ◌∷◌, length, refl, ap, arith, sum_by}
 use Rattle.std.proofs.lemmas.List.Sums.{sum_by-cons}
-use Rattle.scanner.specs.declared.kind.Kind.TheVariants as kinds
+use Rattle.scanner.specs.declared.kind.TokenKind.TheVariants as kinds
 use Rattle.syntax.specs.Tree.{Statements, NoStatement, Then, statements_in, Clauses, NoClause, Clause}
 use Rattle.syntax.specs.Measures.{Listing, Entries, SelectClauses, highest, if_any, comm_height, comm_longest, statement_height, statements_height, statement_longest, statements_longest, clauses_height, clauses_longest, clauses_count, clauses_size, clauses as clause_entries}
 use Rattle.syntax.specs.View.{OneClause, clauses}

@@ -1,7 +1,7 @@
 -- Statements: what is read is spelt so.
 use Rattle.std.proofs.Common.{◌≡◌, ℕ, zero, suc, ◌≤◌, Bool, true, false, cond, Option, Some, None, max, List, [], ◌∷◌, length, Ok, Err, inl, inr, refl, sym, ap, ◌∙◌, subst, arith}
-use Rattle.scanner.specs.declared.kind.Kind.{Kind}
-use Rattle.scanner.specs.declared.kind.Kind.TheVariants as kinds
+use Rattle.scanner.specs.declared.kind.TokenKind.{TokenKind}
+use Rattle.scanner.specs.declared.kind.TokenKind.TheVariants as kinds
 use Rattle.syntax.specs.Tree.{Expression, IfHead, ForHead, Comm, Statement, Block, If, For, Select, Statements, statements_in, statements as made_statements, Branch, Conditional, Otherwise, NoElse, ElseBlock, ElseIf, Clauses}
 use Rattle.syntax.specs.Measures.{Listing, SelectClauses, clauses as clause_entries, highest, comm_height, comm_longest, statement_height, statements_height, branch_height, otherwise_height, block_height, clauses_height, statement_longest, statements_longest, branch_longest, otherwise_longest, clauses_longest, clauses_count}
 use Rattle.syntax.specs.View.{OneClause, clauses}
@@ -367,7 +367,7 @@ select_sound most room sound ws s rest e =
 -- ---- what is read is spelt so: statements
 
 marked_sound : (most room : ℕ) → BlockSoundly most room → BranchSoundly most room → ClauseSoundly most room
-    → (kind : Kind) (ws : List Lexeme) (s : Statement) (rest : List Lexeme) → marked most room (block most room) (branch most room) (clause most room) kind ws ≡ gave s rest → StatementSound most (suc room) (Mark kind ∷ ws) s rest
+    → (kind : TokenKind) (ws : List Lexeme) (s : Statement) (rest : List Lexeme) → marked most room (block most room) (branch most room) (clause most room) kind ws ≡ gave s rest → StatementSound most (suc room) (Mark kind ∷ ws) s rest
 marked_sound most room blocks branches sound kinds.LeftBrace ws s rest e = block_sound most room blocks (Mark kinds.LeftBrace ∷ ws) s rest (needing_ok 2 room (as_one Block (block most room (Mark kinds.LeftBrace ∷ ws))) (s, rest) e)
 marked_sound most room blocks branches sound kinds.If ws s rest e = if_sound most room blocks branches ws s rest e
 marked_sound most room blocks branches sound kinds.For ws s rest e = for_sound most room blocks ws s rest e

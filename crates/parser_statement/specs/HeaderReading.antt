@@ -1,7 +1,7 @@
 -- Reading what stands behind `if` and `for`, and what a clause of a select waits for.
 use Rattle.std.specs.Prelude.{ℕ, Bool, true, false, ◌&&◌, ◌==◌, List, ◌∷◌, Option, Some, None, Ok, if◌then◌else◌}
-use Rattle.scanner.specs.declared.kind.Kind.{Kind}
-use Rattle.scanner.specs.declared.kind.Kind.TheVariants as kinds
+use Rattle.scanner.specs.declared.kind.TokenKind.{TokenKind}
+use Rattle.scanner.specs.declared.kind.TokenKind.TheVariants as kinds
 use Rattle.syntax.specs.Tree.{Expression, Simple, Send, Comm, CommSend, CommReceive, CommDefine, CommAssign, IfHead, Bare, Semicolon, First, Target, NoTarget, DefineTarget, AssignTarget, ForHead, Forever, While, ForClauses, Range}
 use Rattle.parser_base.specs.Lexemes.{Lexeme, Mark}
 use Rattle.parser_base.specs.Spelling.{outer_precedence}
@@ -99,7 +99,7 @@ if_header most room words =
     if begins_with kinds.Semicolon words then behind_head Semicolon most room words else (head most room words >>= if_headed most room)
 
 -- what is there, unless this mark comes next
-abbrev pub unless_next : {A : Type 0} → Kind → (List Lexeme → Reading A) → List Lexeme → Reading (Option A)
+abbrev pub unless_next : {A : Type 0} → TokenKind → (List Lexeme → Reading A) → List Lexeme → Reading (Option A)
 unless_next kind one words = if begins_with kind words then Ok (None, words) else as_one (λ x. Some x) (one words)
 
 -- what is done behind each turn, behind the second semicolon of a `for`

@@ -1,7 +1,7 @@
 -- Reading statements from left to right.
 use Rattle.std.specs.Prelude.{ℕ, zero, suc, Bool, true, false, List, [], ◌∷◌, ◌||◌, Option, Some, None, Ok, Err, if◌then◌else◌, length, bytes_eq, codes}
-use Rattle.scanner.specs.declared.kind.Kind.{Kind}
-use Rattle.scanner.specs.declared.kind.Kind.TheVariants as kinds
+use Rattle.scanner.specs.declared.kind.TokenKind.{TokenKind}
+use Rattle.scanner.specs.declared.kind.TokenKind.TheVariants as kinds
 use Rattle.syntax.specs.Tree.{Comm, Returned, NoValue, ReturnedOperation, ReturnedValue, Statement, Empty, Alone, VarTyped, VarUntyped, Block, If, For, Select, Go, Return, Break, Continue, Statements, statements, Branch, Conditional, Otherwise, NoElse, ElseBlock, ElseIf, Clauses}
 use Rattle.syntax.specs.Measures.{SelectClauses}
 use Rattle.syntax.specs.View.{OneClause, clauses}
@@ -17,7 +17,7 @@ use Rattle.parser_statement.specs.HeaderReading.{comm, if_header, for_header}
 -- ---- what ends a statement
 
 -- a statement ends before this mark
-abbrev pub is_end : Kind → Bool
+abbrev pub is_end : TokenKind → Bool
 is_end kinds.Semicolon = true
 is_end kinds.RightBrace = true
 is_end kinds.Case = true
@@ -65,7 +65,7 @@ unfoldable pub started : ℕ → ℕ → List Lexeme → Reading Statement
 started most room words = plain_name words >>= λ name. as_one (Go name.0) (arguments true most room name.1)
 
 -- what is there, if this mark comes next, behind it
-abbrev pub behind_next : {A : Type 0} → Kind → (List Lexeme → Reading A) → List Lexeme → Reading (Option A)
+abbrev pub behind_next : {A : Type 0} → TokenKind → (List Lexeme → Reading A) → List Lexeme → Reading (Option A)
 behind_next kind one words = if begins_with kind words then (expect kind words >>= λ after. as_one (λ x. Some x) (one after)) else Ok (None, words)
 
 -- the type and the values of what is declared
@@ -90,7 +90,7 @@ abbrev pub variable : ℕ → ℕ → List Lexeme → Reading Statement
 variable most room words = needing 1 room (variables most room words)
 
 -- a statement behind this mark, in which no other stands and below which there are at most so many levels
-abbrev pub leaf : ℕ → ℕ → Kind → List Lexeme → Reading Statement
+abbrev pub leaf : ℕ → ℕ → TokenKind → List Lexeme → Reading Statement
 leaf most room kinds.Go rest = started most room rest
 leaf most room kinds.Var rest = variable most room rest
 leaf most room kinds.Return rest = as_one Return (returned most room rest)
@@ -165,7 +165,7 @@ selected most clause words =
     else (listed clause clauses_next (TooMany SelectClauses) most inside >>= λ all. Ok (clauses all.0.0, all.1))
 
 -- a statement behind this mark, below which there are at most so many levels
-abbrev pub marked : ℕ → ℕ → (block : List Lexeme → Reading Statements) → (branch : List Lexeme → Reading Branch) → (clause : List Lexeme → Reading OneClause) → Kind → List Lexeme → Reading Statement
+abbrev pub marked : ℕ → ℕ → (block : List Lexeme → Reading Statements) → (branch : List Lexeme → Reading Branch) → (clause : List Lexeme → Reading OneClause) → TokenKind → List Lexeme → Reading Statement
 marked most room block branch clause kinds.LeftBrace rest = needing 2 room (as_one Block (block (Mark kinds.LeftBrace ∷ rest)))
 marked most room block branch clause kinds.If rest = as_one If (branched most room block branch rest)
 marked most room block branch clause kinds.For rest = repeated most room block rest

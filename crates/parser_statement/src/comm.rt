@@ -18,7 +18,7 @@ use parser_simple::form::{Form, begins_with, defines, form_of};
 use parser_simple::place::{name_at, place};
 use parser_simple::right::primary;
 use parser_simple::simple::send_operand;
-use scanner::Kind;
+use scanner::TokenKind;
 use std::alloc::Global;
 use syntax::{CommNode, Name, PlaceNode};
 
@@ -34,10 +34,10 @@ pub struct FoundComm<'a> {
 fn second_name(alloc: Global, cursor: Cursor<'_>) -> Result<(Option<Name>, Cursor<'_>), Fault>
     ensures { Gives (λ x. (option_map name_of x.0, ahead x.1)) result (second plain_name (ahead cursor.entry)) }
 {
-    if !begins_with(Kind::Comma, cursor) {
+    if !begins_with(TokenKind::Comma, cursor) {
         return Ok((None, cursor));
     }
-    let (_, behind) = cursor.expect(Kind::Comma)?;
+    let (_, behind) = cursor.expect(TokenKind::Comma)?;
     let (name, _, rest) = name_at(alloc, behind)?;
     Ok((Some(name), rest))
 }
@@ -52,10 +52,10 @@ fn second_place<'a>(
     ensures place { Gives (λ x. (option_map place_of x.0, ahead x.1)) result (second place (ahead cursor.entry)) }
     ensures nodes { IfOk result (λ x. vec_len spans.new ≡ vec_len spans.old + if_any (λ (p : Target). 1) (option_map place_of x.0)) }
 {
-    if !begins_with(Kind::Comma, cursor) {
+    if !begins_with(TokenKind::Comma, cursor) {
         return Ok((None, cursor));
     }
-    let (_, behind) = cursor.expect(Kind::Comma)?;
+    let (_, behind) = cursor.expect(TokenKind::Comma)?;
     let target = place(alloc, behind, spans)?;
     Ok((Some(target.place), target.rest))
 }
@@ -89,8 +89,8 @@ fn defined<'a>(
 {
     let (item, first, rest) = name_at(alloc, cursor)?;
     let (ok, rest) = second_name(alloc, rest)?;
-    let (_, rest) = rest.expect(Kind::Define)?;
-    let (arrow, rest) = rest.expect(Kind::Arrow)?;
+    let (_, rest) = rest.expect(TokenKind::Define)?;
+    let (arrow, rest) = rest.expect(TokenKind::Arrow)?;
     let channel = primary(alloc, true, room, rest, spans)?;
     push_receive(first.from, arrow, channel.span, spans)?;
     Ok(FoundComm {
@@ -112,8 +112,8 @@ fn assigned<'a>(
 {
     let item = place(alloc, cursor, spans)?;
     let (ok, rest) = second_place(alloc, item.rest, spans)?;
-    let (_, rest) = rest.expect(Kind::Assign)?;
-    let (arrow, rest) = rest.expect(Kind::Arrow)?;
+    let (_, rest) = rest.expect(TokenKind::Assign)?;
+    let (arrow, rest) = rest.expect(TokenKind::Arrow)?;
     let channel = primary(alloc, true, room, rest, spans)?;
     push_receive(item.span.from, arrow, channel.span, spans)?;
     Ok(FoundComm {
@@ -134,7 +134,7 @@ fn send<'a>(
     ensures nodes { IfOk result (λ x. vec_len spans.new ≡ vec_len spans.old + comm_size (comm_of x.comm)) }
 {
     let channel = send_operand(alloc, true, room, cursor, spans)?;
-    let (_, rest) = channel.rest.expect(Kind::Arrow)?;
+    let (_, rest) = channel.rest.expect(TokenKind::Arrow)?;
     let value = expression(alloc, true, room, 0, rest, spans)?;
     spans.push(Span {
         from: channel.span.from,
@@ -200,7 +200,7 @@ pub fn comm<'a>(
     ensures comm { Gives (λ x. (comm_of x.comm, ahead x.rest)) result (comm MAX_ENTRIES room (ahead cursor.entry)) }
     ensures nodes { IfOk result (λ x. vec_len spans.new ≡ vec_len spans.old + comm_size (comm_of x.comm)) }
 {
-    if let Some((Word::Mark(Kind::Arrow), first, rest)) = cursor.next() {
+    if let Some((Word::Mark(TokenKind::Arrow), first, rest)) = cursor.next() {
         return receive(alloc, room, first, rest, spans);
     }
     formed(alloc, room, form_of(cursor), cursor, spans)

@@ -17,7 +17,7 @@ use parser_base::list::MAX_ENTRIES;
 use parser_simple::form::{Form, begins_with, defines, fits, form_of};
 use parser_simple::place::{name_at, place};
 use parser_simple::simple::{FoundLed, led, simple};
-use scanner::Kind;
+use scanner::TokenKind;
 use std::alloc::Global;
 use syntax::{ExpressionNode, ForHeader, IfHeader, RangeTarget, SimpleNode};
 
@@ -55,13 +55,13 @@ fn condition_or_send<'a>(
     ensures head { Gives (λ x. (head_of x.head, ahead x.rest)) result (condition_or_sent MAX_ENTRIES room (expression_of found.entry.expression, ahead found.entry.rest)) }
     ensures nodes { IfOk result (λ x. vec_len spans.new + expression_size (expression_of found.entry.expression) ≡ vec_len spans.old + head_size (head_of x.head)) }
 {
-    if !begins_with(Kind::Arrow, found.rest) || !is_primary(&found.expression) {
+    if !begins_with(TokenKind::Arrow, found.rest) || !is_primary(&found.expression) {
         return Ok(FoundHead {
             head: HeadNode::Condition(found.expression),
             rest: found.rest,
         });
     }
-    let (_, rest) = found.rest.expect(Kind::Arrow)?;
+    let (_, rest) = found.rest.expect(TokenKind::Arrow)?;
     let value = expression(alloc, false, room, 0, rest, spans)?;
     spans.push(Span {
         from: found.span.from,
@@ -127,7 +127,7 @@ fn if_condition<'a>(
     ensures condition { Gives (λ x. (expression_of x.expression, ahead x.rest)) result (behind_semicolon MAX_ENTRIES room (ahead cursor.entry)) }
     ensures nodes { IfOk result (λ x. vec_len spans.new ≡ vec_len spans.old + expression_size (expression_of x.expression)) }
 {
-    let (_, rest) = cursor.expect(Kind::Semicolon)?;
+    let (_, rest) = cursor.expect(TokenKind::Semicolon)?;
     expression(alloc, false, room, 0, rest, spans)
 }
 
@@ -143,7 +143,7 @@ pub fn if_header<'a>(
     ensures header { Gives (λ x. ((if_head_of x.header, expression_of x.condition), ahead x.rest)) result (if_header MAX_ENTRIES room (ahead cursor.entry)) }
     ensures nodes { IfOk result (λ x. vec_len spans.new ≡ vec_len spans.old + if_head_size (if_head_of x.header) + expression_size (expression_of x.condition)) }
 {
-    if begins_with(Kind::Semicolon, cursor) {
+    if begins_with(TokenKind::Semicolon, cursor) {
         let found = if_condition(alloc, room, cursor, spans)?;
         return Ok(FoundIfHeader {
             header: IfHeader::Semicolon,
@@ -176,10 +176,10 @@ fn test<'a>(
     cursor: Cursor<'a>,
     spans: &mut Vec<Span>,
 ) -> Result<(Option<ExpressionNode>, Cursor<'a>), Fault>
-    ensures test { Gives (λ x. (option_map expression_of x.0, ahead x.1)) result (unless_next Kind.Semicolon (condition MAX_ENTRIES room) (ahead cursor.entry)) }
+    ensures test { Gives (λ x. (option_map expression_of x.0, ahead x.1)) result (unless_next TokenKind.Semicolon (condition MAX_ENTRIES room) (ahead cursor.entry)) }
     ensures nodes { IfOk result (λ x. vec_len spans.new ≡ vec_len spans.old + if_any expression_size (option_map expression_of x.0)) }
 {
-    if begins_with(Kind::Semicolon, cursor) {
+    if begins_with(TokenKind::Semicolon, cursor) {
         return Ok((None, cursor));
     }
     let found = expression(alloc, false, room, 0, cursor, spans)?;
@@ -193,10 +193,10 @@ fn post<'a>(
     cursor: Cursor<'a>,
     spans: &mut Vec<Span>,
 ) -> Result<(Option<SimpleNode>, Cursor<'a>), Fault>
-    ensures post { Gives (λ x. (option_map simple_of x.0, ahead x.1)) result (unless_next Kind.LeftBrace (simple false false MAX_ENTRIES room) (ahead cursor.entry)) }
+    ensures post { Gives (λ x. (option_map simple_of x.0, ahead x.1)) result (unless_next TokenKind.LeftBrace (simple false false MAX_ENTRIES room) (ahead cursor.entry)) }
     ensures nodes { IfOk result (λ x. vec_len spans.new ≡ vec_len spans.old + if_any simple_size (option_map simple_of x.0)) }
 {
-    if begins_with(Kind::LeftBrace, cursor) {
+    if begins_with(TokenKind::LeftBrace, cursor) {
         return Ok((None, cursor));
     }
     let found = simple(alloc, false, false, room, cursor, spans)?;
@@ -213,7 +213,7 @@ fn post_behind<'a>(
     ensures post { Gives (λ x. (option_map simple_of x.0, ahead x.1)) result (post_behind MAX_ENTRIES room (ahead cursor.entry)) }
     ensures nodes { IfOk result (λ x. vec_len spans.new ≡ vec_len spans.old + if_any simple_size (option_map simple_of x.0)) }
 {
-    let (_, rest) = cursor.expect(Kind::Semicolon)?;
+    let (_, rest) = cursor.expect(TokenKind::Semicolon)?;
     post(alloc, room, rest, spans)
 }
 
@@ -252,7 +252,7 @@ fn ranged<'a>(
     ensures header { Gives (λ x. (for_head_of x.header, ahead x.rest)) result (ranged (target_of target) MAX_ENTRIES room (ahead cursor.entry)) }
     ensures nodes { IfOk result (λ x. vec_len spans.new + target_size (target_of target) ≡ vec_len spans.old + for_head_size (for_head_of x.header)) }
 {
-    let (_, rest) = cursor.expect(Kind::Range)?;
+    let (_, rest) = cursor.expect(TokenKind::Range)?;
     let found = expression(alloc, false, room, 0, rest, spans)?;
     Ok(FoundForHeader {
         header: ForHeader::Range(target, found.expression),
@@ -272,7 +272,7 @@ fn range_defined<'a>(
     ensures nodes { IfOk result (λ x. vec_len spans.new ≡ vec_len spans.old + for_head_size (for_head_of x.header)) }
 {
     let (name, _, rest) = name_at(alloc, cursor)?;
-    let (_, rest) = rest.expect(Kind::Define)?;
+    let (_, rest) = rest.expect(TokenKind::Define)?;
     ranged(alloc, room, RangeTarget::Define(name), rest, spans)
 }
 
@@ -288,7 +288,7 @@ fn range_assigned<'a>(
     ensures nodes { IfOk result (λ x. vec_len spans.new ≡ vec_len spans.old + for_head_size (for_head_of x.header)) }
 {
     let target = place(alloc, cursor, spans)?;
-    let (_, rest) = target.rest.expect(Kind::Assign)?;
+    let (_, rest) = target.rest.expect(TokenKind::Assign)?;
     ranged(alloc, room, RangeTarget::Assign(target.place), rest, spans)
 }
 
@@ -319,7 +319,7 @@ fn for_begun<'a>(
     let FoundHead { head, rest } = head(alloc, room, cursor, spans)?;
     match head {
         HeadNode::Simple(simple) => {
-            let (simple, (_, rest)) = beside(simple, rest.expect(Kind::Semicolon))?;
+            let (simple, (_, rest)) = beside(simple, rest.expect(TokenKind::Semicolon))?;
             clauses(alloc, room, Some(simple), rest, spans)
         }
         HeadNode::Condition(condition) => Ok(FoundForHeader {
@@ -341,17 +341,17 @@ pub fn for_header<'a>(
     ensures header { Gives (λ x. (for_head_of x.header, ahead x.rest)) result (for_header MAX_ENTRIES room (ahead cursor.entry)) }
     ensures nodes { IfOk result (λ x. vec_len spans.new ≡ vec_len spans.old + for_head_size (for_head_of x.header)) }
 {
-    if begins_with(Kind::LeftBrace, cursor) {
+    if begins_with(TokenKind::LeftBrace, cursor) {
         return Ok(FoundForHeader {
             header: ForHeader::Forever,
             rest: cursor,
         });
     }
-    if begins_with(Kind::Semicolon, cursor) {
-        let (_, rest) = cursor.expect(Kind::Semicolon)?;
+    if begins_with(TokenKind::Semicolon, cursor) {
+        let (_, rest) = cursor.expect(TokenKind::Semicolon)?;
         return clauses(alloc, room, None, rest, spans);
     }
-    if begins_with(Kind::Range, cursor) {
+    if begins_with(TokenKind::Range, cursor) {
         return ranged(alloc, room, RangeTarget::Nothing, cursor, spans);
     }
     for_begun(alloc, room, cursor, spans)

@@ -2,7 +2,7 @@
 
 ghost use Rattle.std.specs.Prelude.{◌≡◌, ◌+◌, ◌∷◌, ◌<◌, true, false, Some, None, IfOk, IfErr, map, option_map, vec_len};
 ghost use Rattle.go_text.specs.declared.fault.Fault.TheVariants as faults;
-ghost use Rattle.scanner.specs.declared.kind.Kind.TheVariants as kinds;
+ghost use Rattle.scanner.specs.declared.kind.TokenKind.TheVariants as kinds;
 ghost use Rattle.syntax.specs.Tree.{Alone, Return};
 ghost use Rattle.syntax.specs.Measures.{if_any, right_size, returned_size, statement_size};
 ghost use Rattle.syntax.specs.View.{name_of, right_of, returned_of, statement_of};
@@ -22,17 +22,17 @@ use parser_simple::form::begins_with;
 use parser_simple::place::{name_at, names};
 use parser_simple::right::{arguments, begins_operation, operation, right};
 use parser_simple::simple::simple;
-use scanner::Kind;
+use scanner::TokenKind;
 use std::alloc::Global;
 use syntax::{Name, ReturnNode, RightNode, StatementNode};
 
 /// Whether a statement ends before this mark.
-pub(crate) fn is_end(kind: Kind) -> bool
+pub(crate) fn is_end(kind: TokenKind) -> bool
     ensures { result ≡ is_end kind }
 {
     matches!(
         kind,
-        Kind::Semicolon | Kind::RightBrace | Kind::Case | Kind::Default
+        TokenKind::Semicolon | TokenKind::RightBrace | TokenKind::Case | TokenKind::Default
     )
 }
 
@@ -104,7 +104,7 @@ fn begins_returned(cursor: Cursor<'_>) -> bool
             name == b"make".as_slice() || name == b"len".as_slice() || name == b"cap".as_slice()
         }
         Some((Word::Name(_), _, _)) => true,
-        Some((Word::Mark(Kind::Arrow), _, _)) => true,
+        Some((Word::Mark(TokenKind::Arrow), _, _)) => true,
         _ => begins(cursor),
     }
 }
@@ -197,10 +197,10 @@ fn initial<'a>(
     ensures right { Gives (λ x. (option_map right_of x.0, ahead x.2)) result (behind_next kinds.Assign (right true MAX_ENTRIES room) (ahead cursor.entry)) }
     ensures nodes { IfOk result (λ x. vec_len spans.new ≡ vec_len spans.old + if_any right_size (option_map right_of x.0)) }
 {
-    if !begins_with(Kind::Assign, cursor) {
+    if !begins_with(TokenKind::Assign, cursor) {
         return Ok((None, end, cursor));
     }
-    let (_, rest) = cursor.expect(Kind::Assign)?;
+    let (_, rest) = cursor.expect(TokenKind::Assign)?;
     let found = right(alloc, true, room, rest, spans)?;
     Ok((Some(found.right), found.last.to, found.rest))
 }
@@ -242,7 +242,7 @@ fn untyped<'a>(
     ensures nodes { IfOk result (λ x. vec_len spans.new ≡ vec_len spans.old + statement_size (statement_of x.0)) }
     ensures place { IfOk result (λ _. last_begin spans.new.items ≡ Some first.from) }
 {
-    let (_, rest) = cursor.expect(Kind::Assign)?;
+    let (_, rest) = cursor.expect(TokenKind::Assign)?;
     let found = right(alloc, true, room, rest, spans)?;
     spans.push(Span {
         from: first.from,
@@ -264,8 +264,8 @@ fn variables<'a>(
     ensures nodes { IfOk result (λ x. vec_len spans.new ≡ vec_len spans.old + statement_size (statement_of x.0)) }
     ensures place { IfOk result (λ _. last_begin spans.new.items ≡ Some first.from) }
 {
-    let names = names(alloc, Kind::Comma, MAX_ENTRIES as usize, cursor)?;
-    if begins_with(Kind::Assign, names.rest) {
+    let names = names(alloc, TokenKind::Comma, MAX_ENTRIES as usize, cursor)?;
+    if begins_with(TokenKind::Assign, names.rest) {
         return untyped(alloc, room, first, names.entries, names.rest, spans);
     }
     typed(alloc, room, first, names.entries, names.rest, spans)
@@ -313,7 +313,7 @@ fn word<'a>(
 pub(crate) fn leaf<'a>(
     alloc: Global,
     room: u32,
-    kind: Kind,
+    kind: TokenKind,
     first: Span,
     rest: Cursor<'a>,
     cursor: Cursor<'a>,
@@ -325,11 +325,11 @@ pub(crate) fn leaf<'a>(
     ensures place { IfOk result (λ x. is_alone (statement_of x.0) ≡ false → last_begin spans.new.items ≡ Some first.from) }
 {
     match kind {
-        Kind::Go => started(alloc, room, first, rest, spans),
-        Kind::Var => variable(alloc, room, first, rest, spans),
-        Kind::Return => return_statement(alloc, room, first, rest, spans),
-        Kind::Break => word(StatementNode::Break, first, rest, spans),
-        Kind::Continue => word(StatementNode::Continue, first, rest, spans),
+        TokenKind::Go => started(alloc, room, first, rest, spans),
+        TokenKind::Var => variable(alloc, room, first, rest, spans),
+        TokenKind::Return => return_statement(alloc, room, first, rest, spans),
+        TokenKind::Break => word(StatementNode::Break, first, rest, spans),
+        TokenKind::Continue => word(StatementNode::Continue, first, rest, spans),
         kind if is_end(kind) => {
             let empty = Span {
                 from: first.from,

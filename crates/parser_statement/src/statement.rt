@@ -20,7 +20,7 @@ use go_text::{Fault, LimitKind, Place, Span};
 use parser_base::cursor::{Cursor, Word};
 use parser_base::list::{List, MAX_ENTRIES, Next};
 use parser_simple::form::begins_with;
-use scanner::Kind;
+use scanner::TokenKind;
 use std::alloc::Global;
 use syntax::{ClauseNode, CommNode, ElseNode, IfNode, StatementNode};
 
@@ -57,8 +57,8 @@ pub fn statement_next(cursor: Cursor<'_>) -> Result<(Next, Span, Cursor<'_>), Fa
     ensures { Gives (λ x. (x.0, ahead x.2)) result (statement_next (ahead cursor.entry)) }
 {
     match cursor.next() {
-        Some((Word::Mark(Kind::Semicolon), span, rest)) => Ok((Next::More, span, rest)),
-        Some((Word::Mark(Kind::RightBrace), span, rest)) => Ok((Next::End(false), span, rest)),
+        Some((Word::Mark(TokenKind::Semicolon), span, rest)) => Ok((Next::More, span, rest)),
+        Some((Word::Mark(TokenKind::RightBrace), span, rest)) => Ok((Next::End(false), span, rest)),
         _ => Err(Fault::Syntax(cursor.place())),
     }
 }
@@ -68,7 +68,7 @@ pub fn statement_next(cursor: Cursor<'_>) -> Result<(Next, Span, Cursor<'_>), Fa
 fn clause_next(cursor: Cursor<'_>) -> Result<(Next, Span, Cursor<'_>), Fault>
     ensures { Gives (λ x. (x.0, ahead x.2)) result (clause_next (ahead cursor.entry)) }
 {
-    if let Some((Word::Mark(Kind::Semicolon), last, rest)) = cursor.next() {
+    if let Some((Word::Mark(TokenKind::Semicolon), last, rest)) = cursor.next() {
         return Ok((Next::More, last, rest));
     }
     if ends_statement(cursor) {
@@ -82,8 +82,8 @@ fn clause_next(cursor: Cursor<'_>) -> Result<(Next, Span, Cursor<'_>), Fault>
 fn clauses_next(cursor: Cursor<'_>) -> Result<(Next, Span, Cursor<'_>), Fault>
     ensures { Gives (λ x. (x.0, ahead x.2)) result (clauses_next (ahead cursor.entry)) }
 {
-    if begins_with(Kind::RightBrace, cursor) {
-        let (brace, rest) = cursor.expect(Kind::RightBrace)?;
+    if begins_with(TokenKind::RightBrace, cursor) {
+        let (brace, rest) = cursor.expect(TokenKind::RightBrace)?;
         return Ok((Next::End(false), brace, rest));
     }
     Ok((Next::More, cursor.place().span, cursor))
@@ -177,7 +177,7 @@ fn block<'a>(
     if room == 0 {
         return Err(Fault::TooDeep(cursor.place()));
     }
-    let (first, rest) = cursor.expect(Kind::LeftBrace)?;
+    let (first, rest) = cursor.expect(TokenKind::LeftBrace)?;
     let all = statements(alloc, room - 1, rest, spans)?;
     spans.push(Span {
         from: first.from,
@@ -200,8 +200,8 @@ fn other<'a>(
     ensures otherwise { Gives (λ x. (otherwise_of x.otherwise, ahead x.rest)) result (other (block MAX_ENTRIES room) (branch MAX_ENTRIES room) (ahead cursor.entry)) }
     ensures nodes { IfOk result (λ x. vec_len spans.new ≡ vec_len spans.old + otherwise_size (otherwise_of x.otherwise)) }
 {
-    if begins_with(Kind::If, cursor) {
-        let (first, rest) = cursor.expect(Kind::If)?;
+    if begins_with(TokenKind::If, cursor) {
+        let (first, rest) = cursor.expect(TokenKind::If)?;
         if room == 0 {
             return Err(Fault::TooDeep(Place::from(first)));
         }
@@ -233,14 +233,14 @@ fn otherwise<'a>(
     ensures otherwise { Gives (λ x. (otherwise_of x.otherwise, ahead x.rest)) result (otherwise (block MAX_ENTRIES room) (branch MAX_ENTRIES room) (ahead cursor.entry)) }
     ensures nodes { IfOk result (λ x. vec_len spans.new ≡ vec_len spans.old + otherwise_size (otherwise_of x.otherwise)) }
 {
-    if !begins_with(Kind::Else, cursor) {
+    if !begins_with(TokenKind::Else, cursor) {
         return Ok(FoundOtherwise {
             otherwise: ElseNode::Nothing,
             end,
             rest: cursor,
         });
     }
-    let (_, rest) = cursor.expect(Kind::Else)?;
+    let (_, rest) = cursor.expect(TokenKind::Else)?;
     other(alloc, room, rest, spans)
 }
 
@@ -378,7 +378,7 @@ fn clause_body<'a>(
     ensures clause { Gives (λ x. (clause_of x.clause, ahead x.rest)) result (clause_body (statement MAX_ENTRIES room) (option_map comm_of waits) (ahead cursor.entry)) }
     ensures nodes { IfOk result (λ x. vec_len spans.new + if_any comm_size (option_map comm_of waits) ≡ vec_len spans.old + one_clause_size (clause_of x.clause)) }
 {
-    let (waits, (colon, rest)) = beside(waits, cursor.expect(Kind::Colon))?;
+    let (waits, (colon, rest)) = beside(waits, cursor.expect(TokenKind::Colon))?;
     let (waits, (body, _, end, rest)) = beside(
         waits,
         clause_statements(alloc, room, colon.to, rest, spans),
@@ -407,14 +407,14 @@ fn one_clause<'a>(
     ensures nodes { IfOk result (λ x. vec_len spans.new ≡ vec_len spans.old + one_clause_size (clause_of x.clause)) }
 {
     match cursor.next() {
-        Some((Word::Mark(Kind::Case), first, rest)) => {
+        Some((Word::Mark(TokenKind::Case), first, rest)) => {
             if room < 2 {
                 return Err(Fault::TooDeep(Place::from(first)));
             }
             let waits = waited(alloc, room, rest, spans)?;
             clause_body(alloc, room, first, Some(waits.comm), waits.rest, spans)
         }
-        Some((Word::Mark(Kind::Default), first, rest)) => {
+        Some((Word::Mark(TokenKind::Default), first, rest)) => {
             if room < 1 {
                 return Err(Fault::TooDeep(Place::from(first)));
             }
@@ -430,7 +430,7 @@ fn no_clause(cursor: Cursor<'_>) -> Fault
     ensures { Fails result (no_clause (ahead cursor.entry)) }
 {
     match cursor.next() {
-        Some((Word::Mark(Kind::Case | Kind::Default), first, _)) => {
+        Some((Word::Mark(TokenKind::Case | TokenKind::Default), first, _)) => {
             Fault::TooDeep(Place::from(first))
         }
         _ => Fault::Syntax(cursor.place()),
@@ -503,9 +503,9 @@ fn selected<'a>(
     ensures statement { Gives (λ x. (statement_of x.0, ahead x.1)) result (as_one Select (selected MAX_ENTRIES (clause MAX_ENTRIES room) (ahead cursor.entry))) }
     ensures nodes { IfOk result (λ x. vec_len spans.new ≡ vec_len spans.old + statement_size (statement_of x.0)) }
 {
-    let (_, inside) = cursor.expect(Kind::LeftBrace)?;
-    if begins_with(Kind::RightBrace, inside) {
-        let (last, rest) = inside.expect(Kind::RightBrace)?;
+    let (_, inside) = cursor.expect(TokenKind::LeftBrace)?;
+    if begins_with(TokenKind::RightBrace, inside) {
+        let (last, rest) = inside.expect(TokenKind::RightBrace)?;
         spans.push(Span {
             from: first.from,
             to: last.to,
@@ -527,7 +527,7 @@ fn selected<'a>(
 fn marked<'a>(
     alloc: Global,
     room: u32,
-    kind: Kind,
+    kind: TokenKind,
     first: Span,
     rest: Cursor<'a>,
     cursor: Cursor<'a>,
@@ -538,7 +538,7 @@ fn marked<'a>(
     ensures nodes { IfOk result (λ x. vec_len spans.new ≡ vec_len spans.old + statement_size (statement_of x.0)) }
 {
     match kind {
-        Kind::LeftBrace => {
+        TokenKind::LeftBrace => {
             if room < 2 {
                 return Err(Fault::TooDeep(Place::from(first)));
             }
@@ -549,12 +549,12 @@ fn marked<'a>(
             })?;
             Ok((StatementNode::Block(body.entries), body.rest))
         }
-        Kind::If => {
+        TokenKind::If => {
             let found = branched(alloc, room, first, rest, spans)?;
             Ok((if_node(alloc, found.branch)?, found.rest))
         }
-        Kind::For => repeated(alloc, room, first, rest, spans),
-        Kind::Select => selected(alloc, room, first, rest, spans),
+        TokenKind::For => repeated(alloc, room, first, rest, spans),
+        TokenKind::Select => selected(alloc, room, first, rest, spans),
         kind => leaf(alloc, room, kind, first, rest, cursor, spans),
     }
 }

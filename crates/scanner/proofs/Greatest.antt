@@ -3,15 +3,15 @@ use Rattle.std.proofs.Common.{◌≡◌, ℕ, zero, suc, ◌+◌, ◌<◌, ◌�
 use Rattle.std.specs.List.{list_all, prefix_len}
 use Rattle.std.proofs.lemmas.Bool.{cases_lt, ne_eqb}
 use Rattle.std.proofs.lemmas.List.Sums.{prefix_len-le-length}
-use Rattle.scanner.specs.declared.kind.Kind.{Kind}
-use Rattle.scanner.specs.declared.kind.Kind.TheVariants as kinds
+use Rattle.scanner.specs.declared.kind.TokenKind.{TokenKind}
+use Rattle.scanner.specs.declared.kind.TokenKind.TheVariants as kinds
 use Rattle.scanner.specs.Letters.{is_letter_byte, begins_letter, begins_letter_or_digit, are_letters_and_digits, is_name}
 use Rattle.scanner.proofs.Characters.{letter_is_either, name_is, name_ends, no_name}
 use Rattle.scanner.specs.Lexical.{is_digit, is_x, is_hex_digit, is_empty, is_hexadecimal, hexadecimal_len, word, mark, mark_1, mark_2, mark_3, exact, or_shorter, longest_mark, longest_within, longest}
 
 -- ---- the greatest length
 
-longest_within_is : (text : List ℕ) (n : ℕ) (k : Kind) (j : ℕ) → 1 ≤ n → exact (take n text) ≡ Some k → ((m : ℕ) → n < m → m ≤ length text → exact (take m text) ≡ None) → n ≤ j → j ≤ length text → longest_within j text ≡ Some (n, k)
+longest_within_is : (text : List ℕ) (n : ℕ) (k : TokenKind) (j : ℕ) → 1 ≤ n → exact (take n text) ≡ Some k → ((m : ℕ) → n < m → m ≤ length text → exact (take m text) ≡ None) → n ≤ j → j ≤ length text → longest_within j text ≡ Some (n, k)
 unfolding longest_within
 longest_within_is text n k zero pos is none le len = absurd (omega arith)
 longest_within_is text n k (suc j) pos is none le len =
@@ -27,7 +27,7 @@ unfolding longest_within
 longest_within_none text zero none len = refl
 longest_within_none text (suc j) none len = rw (none (suc j) (omega arith) len) (longest_within_none text j none (omega arith))
 
-pub longest_is : (text : List ℕ) (n : ℕ) (k : Kind) → 1 ≤ n → n ≤ length text → exact (take n text) ≡ Some k → ((m : ℕ) → n < m → m ≤ length text → exact (take m text) ≡ None) → longest text ≡ Some (n, k)
+pub longest_is : (text : List ℕ) (n : ℕ) (k : TokenKind) → 1 ≤ n → n ≤ length text → exact (take n text) ≡ Some k → ((m : ℕ) → n < m → m ≤ length text → exact (take m text) ≡ None) → longest text ≡ Some (n, k)
 unfolding longest
 longest_is text n k pos len is none = longest_within_is text n k (length text) pos is none len (omega arith)
 
@@ -189,7 +189,7 @@ longest_other (a ∷ b ∷ c ∷ rest) pos unlike none = marks_within a b c rest
 -- ---- the bounds of the length
 
 -- at least 1 and at most this
-abbrev pub IsBounded : ℕ → Option (ℕ × Kind) → Type 0
+abbrev pub IsBounded : ℕ → Option (ℕ × TokenKind) → Type 0
 IsBounded most None = Unit {0}
 IsBounded most (Some found) = (1 ≤ found.0) × (found.0 ≤ most)
 
@@ -197,7 +197,7 @@ longest_within_bounds : (text : List ℕ) (most n : ℕ) → n ≤ most → IsBo
 unfolding longest_within
 longest_within_bounds text most zero le = tt
 longest_within_bounds text most (suc n) le =
-    elim (exact (take (suc n) text)) as (λ (found : Option Kind). IsBounded most (or_shorter (suc n) found (longest_within n text))) [
+    elim (exact (take (suc n) text)) as (λ (found : Option TokenKind). IsBounded most (or_shorter (suc n) found (longest_within n text))) [
       | None ↦ longest_within_bounds text most n (omega arith)
       | Some kind ↦ (omega arith, le)
     ]

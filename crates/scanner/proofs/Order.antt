@@ -7,10 +7,10 @@ use Rattle.go_text.specs.declared.fault.Fault.{Fault}
 use Rattle.go_text.specs.declared.fault.Fault.TheVariants as faults
 use Rattle.scanner.specs.declared.element.Element.{Element}
 use Rattle.scanner.specs.declared.element.Element.TheVariants as elements
-use Rattle.scanner.specs.declared.kind.Kind.{Kind}
+use Rattle.scanner.specs.declared.kind.TokenKind.{TokenKind}
 use Rattle.scanner.specs.declared.token.Token.{Token}
 use Rattle.scanner.specs.Lexical.{is_space, longest, ends_line}
-use Rattle.scanner.specs.Elements.{length_of, place_of, byte_place, is_newline, is_forbidden, is_close, is_broken, is_closing, is_escaping, longer, line_comment_rest, general_comment_rest, string_rest, line_comment, general_comment, string_literal, goes_on, judged, token_at, opens, element_at}
+use Rattle.scanner.specs.Elements.{length_of, place_between, byte_place, is_newline, is_forbidden, is_close, is_broken, is_closing, is_escaping, longer, line_comment_rest, general_comment_rest, string_rest, line_comment, general_comment, string_literal, goes_on, judged, token_at, opens, element_at}
 use Rattle.scanner.specs.Tokens.{Scanned, behind, line_end, ender, taken, tokens, tokens_of, IsInOrder, LiesWithin}
 use Rattle.scanner.proofs.Characters.{front_len_le}
 use Rattle.scanner.proofs.Greatest.{IsBounded, longest_bounds}
@@ -30,7 +30,7 @@ ends_later : (from to to' : ℕ) (after : Option ℕ) → to ≤ to' → Ends fr
 ends_later from to to' None le ends = tt
 ends_later from to to' (Some place) le ends = (ends.0, omega (arith, ends.1))
 
-ender_ends : (kind : Kind) (place : ℕ) → Ends place place (ender kind place)
+ender_ends : (kind : TokenKind) (place : ℕ) → Ends place place (ender kind place)
 ender_ends kind place =
     elim (ends_line kind) as (λ (b : Bool). Ends place place (cond b (Some place) None)) [
       | true ↦ (omega arith, omega arith)
@@ -52,10 +52,10 @@ abbrev pub IsRead : (place most : ℕ) → Result Element Fault → Type 0
 IsRead place most (Ok element) = (1 ≤ length_of element) × (length_of element ≤ most)
 IsRead place most (Err e) = LiesWithin (place + most) e
 
-judged_is : (place : ℕ) (text : List ℕ) (found : Option (ℕ × Kind)) → 1 ≤ length text → IsBounded (length text) found → IsRead place (length text) (judged place text found)
+judged_is : (place : ℕ) (text : List ℕ) (found : Option (ℕ × TokenKind)) → 1 ≤ length text → IsBounded (length text) found → IsRead place (length text) (judged place text found)
 judged_is place text None pos bounded = (omega arith, omega (arith, front_len_le text))
 judged_is place text (Some found) pos bounded =
-    elim (goes_on found.1 (drop found.0 text)) as (λ (b : Bool). IsRead place (length text) (cond b (Err (faults.BadNumber (place_of place (place + found.0)))) (Ok (elements.Token found.0 found.1)))) [
+    elim (goes_on found.1 (drop found.0 text)) as (λ (b : Bool). IsRead place (length text) (cond b (Err (faults.BadNumber (place_between place (place + found.0)))) (Ok (elements.Token found.0 found.1)))) [
       | true ↦ (omega arith, omega (arith, bounded.1))
       | false ↦ bounded
     ]

@@ -1,7 +1,7 @@
 -- One turn of the scanner's loop.
 use Rattle.std.proofs.Common.{◌≡◌, ℕ, zero, suc, ◌+◌, ◌-◌, ◌<◌, ◌≤◌, List, [], ◌∷◌, ◌++◌, length, drop, get_or, Option, None, Result, Ok, Err, refl, ap, ◌∙◌, sym, arith, append_assoc, add-zero}
 use Rattle.std.proofs.lemmas.List.{drop-drop, drop_all, length-drop}
-use Rattle.scanner.specs.declared.kind.Kind.{Kind}
+use Rattle.scanner.specs.declared.kind.TokenKind.{TokenKind}
 use Rattle.scanner.specs.declared.token.Token.{Token}
 use Rattle.go_text.specs.declared.fault.Fault.{Fault}
 use Rattle.scanner.specs.declared.element.Element.{Element}
@@ -56,7 +56,7 @@ line_end_step out at n after text total lt is some le so_far =
     sym (behind_behind out (line_end after) (tokens 0 (at + n) None (drop (at + n) text)))
     ∙ ap (behind out) (sym (from_place at after text (Ok (LineEnd n)) lt is ∙ ap (behind (line_end after)) (over at n None text some le))) ∙ so_far
 
-pub token_step : (out : List Token) (at n : ℕ) (k : Kind) (after : Option ℕ) (text : List ℕ) (total : Scanned) → at < length text → Begins at text (Ok (elements.Token n k)) → 1 ≤ n → at + n ≤ length text
+pub token_step : (out : List Token) (at n : ℕ) (k : TokenKind) (after : Option ℕ) (text : List ℕ) (total : Scanned) → at < length text → Begins at text (Ok (elements.Token n k)) → 1 ≤ n → at + n ≤ length text
     → behind out (tokens 0 at after (drop at text)) ≡ total → behind (out ++ record { kind = k; span = record { from = at; to = at + n } } ∷ []) (tokens 0 (at + n) (ender k (at + n)) (drop (at + n) text)) ≡ total
 token_step out at n k after text total lt is some le so_far =
     let token : Token = record { kind = k; span = record { from = at; to = at + n } } in

@@ -5,8 +5,8 @@ use Rattle.std.specs.List.{list_any}
 use Rattle.go_text.specs.declared.fault.Fault.{Fault}
 use Rattle.go_text.specs.declared.fault.Fault.TheVariants as faults
 use Rattle.go_text.specs.declared.place.Place.{Place}
-use Rattle.scanner.specs.declared.kind.Kind.{Kind}
-use Rattle.scanner.specs.declared.kind.Kind.TheVariants as kinds
+use Rattle.scanner.specs.declared.kind.TokenKind.{TokenKind}
+use Rattle.scanner.specs.declared.kind.TokenKind.TheVariants as kinds
 use Rattle.scanner.specs.declared.element.Element.{Element}
 use Rattle.scanner.specs.declared.element.Element.TheVariants.{Blank, LineEnd, Token}
 use Rattle.scanner.specs.Letters.{front_bytes, begins_letter_or_digit}
@@ -19,12 +19,12 @@ length_of (LineEnd len) = len
 length_of (Token len kind) = len
 
 -- where a fault lies, before it has line and column
-abbrev pub place_of : (from to : ℕ) → Place
-place_of from to = record { span = record { from = from; to = to }; position = None }
+abbrev pub place_between : (from to : ℕ) → Place
+place_between from to = record { span = record { from = from; to = to }; position = None }
 
 -- the place of one byte
 abbrev pub byte_place : ℕ → Place
-byte_place at = place_of at (at + 1)
+byte_place at = place_between at (at + 1)
 
 -- a newline
 abbrev pub is_newline : ℕ → Bool
@@ -104,14 +104,14 @@ string_literal (Ok len) = Ok (Token (1 + len) kinds.String)
 string_literal (Err fault) = Err fault
 
 -- a number is followed directly by a letter, a digit or a point
-abbrev pub goes_on : Kind → List ℕ → Bool
+abbrev pub goes_on : TokenKind → List ℕ → Bool
 goes_on kinds.Integer (b ∷ rest) = (b == byte ".") || begins_letter_or_digit (b ∷ rest)
 goes_on kind rest = false
 
-abbrev pub judged : ℕ → List ℕ → Option (ℕ × Kind) → Result Element Fault
-judged place text None = Err (faults.BadCharacter (place_of place (place + length (front_bytes text))))
+abbrev pub judged : ℕ → List ℕ → Option (ℕ × TokenKind) → Result Element Fault
+judged place text None = Err (faults.BadCharacter (place_between place (place + length (front_bytes text))))
 judged place text (Some found) =
-    if goes_on found.1 (drop found.0 text) then Err (faults.BadNumber (place_of place (place + found.0))) else Ok (Token found.0 found.1)
+    if goes_on found.1 (drop found.0 text) then Err (faults.BadNumber (place_between place (place + found.0))) else Ok (Token found.0 found.1)
 
 -- the longest token at the front of a text that begins at this place
 abbrev pub token_at : ℕ → List ℕ → Result Element Fault

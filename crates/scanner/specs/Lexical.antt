@@ -4,8 +4,8 @@ use Rattle.std.specs.Str.{byte, bytes_eq}
 use Rattle.std.specs.List.{list_all, prefix_len}
 use Rattle.std.specs.Char.{is_ascii_digit, is_ascii_hexdigit}
 use Rattle.scanner.specs.Letters.{is_letter_byte, is_name}
-use Rattle.scanner.specs.declared.kind.Kind.{Kind}
-use Rattle.scanner.specs.declared.kind.Kind.TheVariants as kinds
+use Rattle.scanner.specs.declared.kind.TokenKind.{TokenKind}
+use Rattle.scanner.specs.declared.kind.TokenKind.TheVariants as kinds
 
 abbrev pub is_digit : ℕ → Bool
 is_digit b = is_ascii_digit b
@@ -15,7 +15,7 @@ abbrev pub is_space : ℕ → Bool
 is_space b = (b == 32) || ((b == 9) || (b == 13))
 
 -- the keyword of a statement that the bytes are
-unfoldable pub statement_keyword : List ℕ → Option Kind
+unfoldable pub statement_keyword : List ℕ → Option TokenKind
 statement_keyword text =
     if bytes_eq text (codes "break") then Some kinds.Break
     else (if bytes_eq text (codes "case") then Some kinds.Case
@@ -35,7 +35,7 @@ statement_keyword text =
     else None))))))))))))))
 
 -- the keyword of a declaration or a type that the bytes are
-unfoldable pub declaration_keyword : List ℕ → Option Kind
+unfoldable pub declaration_keyword : List ℕ → Option TokenKind
 declaration_keyword text =
     if bytes_eq text (codes "chan") then Some kinds.Chan
     else (if bytes_eq text (codes "const") then Some kinds.Const
@@ -49,17 +49,17 @@ declaration_keyword text =
     else (if bytes_eq text (codes "var") then Some kinds.Var
     else None)))))))))
 
-abbrev pub keyword_or_name : Option Kind → Option Kind → Kind
+abbrev pub keyword_or_name : Option TokenKind → Option TokenKind → TokenKind
 keyword_or_name (Some kind) declaration = kind
 keyword_or_name None (Some kind) = kind
 keyword_or_name None None = kinds.Name
 
 -- a keyword, or a name
-unfoldable pub word : List ℕ → Kind
+unfoldable pub word : List ℕ → TokenKind
 word text = keyword_or_name (statement_keyword text) (declaration_keyword text)
 
 -- the mark that one byte is
-unfoldable pub mark_1 : ℕ → Option Kind
+unfoldable pub mark_1 : ℕ → Option TokenKind
 mark_1 a =
     if a == byte "+" then Some kinds.Plus
     else (if a == byte "-" then Some kinds.Minus
@@ -87,7 +87,7 @@ mark_1 a =
     else None))))))))))))))))))))))
 
 -- the mark that two bytes are
-unfoldable pub mark_2 : ℕ → ℕ → Option Kind
+unfoldable pub mark_2 : ℕ → ℕ → Option TokenKind
 mark_2 a b =
     if (a == byte "<") && (b == byte "<") then Some kinds.ShiftLeft
     else (if (a == byte ">") && (b == byte ">") then Some kinds.ShiftRight
@@ -113,7 +113,7 @@ mark_2 a b =
     else None))))))))))))))))))))
 
 -- the mark that three bytes are
-unfoldable pub mark_3 : ℕ → ℕ → ℕ → Option Kind
+unfoldable pub mark_3 : ℕ → ℕ → ℕ → Option TokenKind
 mark_3 a b c =
     if (a == byte "<") && ((b == byte "<") && (c == byte "=")) then Some kinds.ShiftLeftAssign
     else (if (a == byte ">") && ((b == byte ">") && (c == byte "=")) then Some kinds.ShiftRightAssign
@@ -122,7 +122,7 @@ mark_3 a b c =
     else None)))
 
 -- the operator or mark that the bytes are
-abbrev pub mark : List ℕ → Option Kind
+abbrev pub mark : List ℕ → Option TokenKind
 mark [] = None
 mark (a ∷ []) = mark_1 a
 mark (a ∷ b ∷ []) = mark_2 a b
@@ -150,24 +150,24 @@ abbrev pub is_integer : ℕ → List ℕ → Bool
 is_integer first rest = if first == byte "0" then is_empty rest || is_hexadecimal rest else list_all is_digit rest
 
 -- the token that the bytes are, all of them
-unfoldable pub exact : List ℕ → Option Kind
+unfoldable pub exact : List ℕ → Option TokenKind
 exact [] = None
 exact (first ∷ rest) =
     if is_letter_byte first then (if is_name (first ∷ rest) then Some (word (first ∷ rest)) else None)
     else (if is_digit first then (if is_integer first rest then Some kinds.Integer else None)
     else mark (first ∷ rest))
 
-abbrev pub or_shorter : ℕ → Option Kind → Option (ℕ × Kind) → Option (ℕ × Kind)
+abbrev pub or_shorter : ℕ → Option TokenKind → Option (ℕ × TokenKind) → Option (ℕ × TokenKind)
 or_shorter n None shorter = shorter
 or_shorter n (Some kind) shorter = Some (n, kind)
 
 -- the longest token of at most n bytes with which the text begins: its length and its kind
-unfoldable pub longest_within : ℕ → List ℕ → Option (ℕ × Kind)
+unfoldable pub longest_within : ℕ → List ℕ → Option (ℕ × TokenKind)
 longest_within zero text = None
 longest_within (suc n) text = or_shorter (suc n) (exact (take (suc n) text)) (longest_within n text)
 
 -- the longest token with which the text begins
-unfoldable pub longest : List ℕ → Option (ℕ × Kind)
+unfoldable pub longest : List ℕ → Option (ℕ × TokenKind)
 longest text = longest_within (length text) text
 
 -- how many bytes behind a 0 make a hexadecimal number of it, as many as possible
@@ -178,7 +178,7 @@ hexadecimal_len (x ∷ digits) =
     if is_x x && not (run == 0) then run + 1 else 0
 
 -- the longest mark with which the text begins
-abbrev pub longest_mark : List ℕ → Option (ℕ × Kind)
+abbrev pub longest_mark : List ℕ → Option (ℕ × TokenKind)
 longest_mark [] = None
 longest_mark (a ∷ []) = or_shorter 1 (mark_1 a) None
 longest_mark (a ∷ b ∷ []) = or_shorter 2 (mark_2 a b) (or_shorter 1 (mark_1 a) None)
@@ -186,7 +186,7 @@ longest_mark (a ∷ b ∷ c ∷ rest) =
     or_shorter 3 (mark_3 a b c) (or_shorter 2 (mark_2 a b) (or_shorter 1 (mark_1 a) None))
 
 -- whether a line's end directly behind this token inserts a semicolon
-abbrev pub ends_line : Kind → Bool
+abbrev pub ends_line : TokenKind → Bool
 ends_line kinds.Name = true
 ends_line kinds.Integer = true
 ends_line kinds.String = true

@@ -3,8 +3,8 @@ use Rattle.std.specs.Prelude.{ℕ, zero, suc, ◌+◌, ◌-◌, ◌≤◌, List,
 use Rattle.go_text.specs.declared.fault.Fault.{Fault}
 use Rattle.go_text.specs.declared.fault.Fault.TheVariants as faults
 use Rattle.go_text.specs.declared.place.Place.{Place}
-use Rattle.scanner.specs.declared.kind.Kind.{Kind}
-use Rattle.scanner.specs.declared.kind.Kind.TheVariants as kinds
+use Rattle.scanner.specs.declared.kind.TokenKind.{TokenKind}
+use Rattle.scanner.specs.declared.kind.TokenKind.TheVariants as kinds
 use Rattle.scanner.specs.declared.element.Element.{Element}
 use Rattle.scanner.specs.declared.element.Element.TheVariants as elements
 use Rattle.scanner.specs.declared.token.Token.{Token}
@@ -24,7 +24,7 @@ line_end None = []
 line_end (Some place) = record { kind = kinds.Semicolon; span = record { from = place; to = place } } ∷ []
 
 -- where a line's end would put a semicolon behind a token that ends here
-abbrev pub ender : Kind → ℕ → Option ℕ
+abbrev pub ender : TokenKind → ℕ → Option ℕ
 ender kind place = if ends_line kind then Some place else None
 
 -- What stands at this place, and what follows it. White space changes nothing, a line's end inserts a semicolon where

@@ -4,7 +4,7 @@ ghost use Rattle.std.specs.Prelude.{◌≡◌, ◌+◌, ◌≤◌, length, slice
 ghost use Rattle.scanner.specs.Elements.{length_of, byte_place, goes_on, token_at, element_at};
 
 use crate::comment::{general_comment, line_comment};
-use crate::kind::Kind;
+use crate::kind::TokenKind;
 use crate::letters::{begins_letter_or_digit, front_len};
 use crate::lexical::is_space;
 use crate::longest::longest;
@@ -19,7 +19,7 @@ pub enum Element {
     /// A newline, or a comment that acts like one.
     LineEnd(usize),
     /// A name, a keyword, a number, a string, an operator or a mark, and which of them.
-    Token(usize, Kind),
+    Token(usize, TokenKind),
 }
 
 impl Element {
@@ -49,11 +49,11 @@ pub(crate) fn byte_place(at: u32) -> Place
 }
 
 /// Whether a token of this kind is a number that goes on wrongly.
-fn goes_on(kind: Kind, rest: &[u8]) -> bool
+fn goes_on(kind: TokenKind, rest: &[u8]) -> bool
     ensures { result ≡ goes_on kind rest.now }
 {
     match (kind, rest) {
-        (Kind::Integer, [first, ..]) => *first == b'.' || begins_letter_or_digit(rest),
+        (TokenKind::Integer, [first, ..]) => *first == b'.' || begins_letter_or_digit(rest),
         _ => false,
     }
 }

@@ -2,7 +2,7 @@
 
 /// What a token is: a keyword, a name, a number, a string, or an operator or mark.
 #[derive(Clone, Copy, Debug, PartialEq, Eq)]
-pub enum Kind {
+pub enum TokenKind {
     Break,
     Case,
     Chan,

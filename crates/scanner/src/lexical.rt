@@ -4,7 +4,7 @@ ghost use Rattle.std.specs.Prelude.{◌≡◌};
 ghost use Rattle.scanner.specs.Elements.{is_forbidden};
 ghost use Rattle.scanner.specs.Lexical.{is_digit, is_hex_digit, is_space, statement_keyword, declaration_keyword, word, mark_1, mark_2, mark_3, ends_line};
 
-use crate::kind::Kind;
+use crate::kind::TokenKind;
 
 /// Whether the byte is a decimal digit.
 pub(crate) fn is_digit(byte: u8) -> bool
@@ -40,39 +40,39 @@ pub(crate) fn is_forbidden(text: &[u8]) -> bool
 
 /// The keyword of a statement that the text is.
 #[tactic(auto, unfolding(crate::specs::Lexical::statement_keyword))]
-fn statement_keyword(text: &[u8]) -> Option<Kind>
+fn statement_keyword(text: &[u8]) -> Option<TokenKind>
     ensures { result ≡ statement_keyword text.now }
 {
     if text == b"break".as_slice() {
-        Some(Kind::Break)
+        Some(TokenKind::Break)
     } else if text == b"case".as_slice() {
-        Some(Kind::Case)
+        Some(TokenKind::Case)
     } else if text == b"continue".as_slice() {
-        Some(Kind::Continue)
+        Some(TokenKind::Continue)
     } else if text == b"default".as_slice() {
-        Some(Kind::Default)
+        Some(TokenKind::Default)
     } else if text == b"defer".as_slice() {
-        Some(Kind::Defer)
+        Some(TokenKind::Defer)
     } else if text == b"else".as_slice() {
-        Some(Kind::Else)
+        Some(TokenKind::Else)
     } else if text == b"fallthrough".as_slice() {
-        Some(Kind::Fallthrough)
+        Some(TokenKind::Fallthrough)
     } else if text == b"for".as_slice() {
-        Some(Kind::For)
+        Some(TokenKind::For)
     } else if text == b"go".as_slice() {
-        Some(Kind::Go)
+        Some(TokenKind::Go)
     } else if text == b"goto".as_slice() {
-        Some(Kind::Goto)
+        Some(TokenKind::Goto)
     } else if text == b"if".as_slice() {
-        Some(Kind::If)
+        Some(TokenKind::If)
     } else if text == b"range".as_slice() {
-        Some(Kind::Range)
+        Some(TokenKind::Range)
     } else if text == b"return".as_slice() {
-        Some(Kind::Return)
+        Some(TokenKind::Return)
     } else if text == b"select".as_slice() {
-        Some(Kind::Select)
+        Some(TokenKind::Select)
     } else if text == b"switch".as_slice() {
-        Some(Kind::Switch)
+        Some(TokenKind::Switch)
     } else {
         None
     }
@@ -80,29 +80,29 @@ fn statement_keyword(text: &[u8]) -> Option<Kind>
 
 /// The keyword of a declaration or a type that the text is.
 #[tactic(auto, unfolding(crate::specs::Lexical::declaration_keyword))]
-fn declaration_keyword(text: &[u8]) -> Option<Kind>
+fn declaration_keyword(text: &[u8]) -> Option<TokenKind>
     ensures { result ≡ declaration_keyword text.now }
 {
     if text == b"chan".as_slice() {
-        Some(Kind::Chan)
+        Some(TokenKind::Chan)
     } else if text == b"const".as_slice() {
-        Some(Kind::Const)
+        Some(TokenKind::Const)
     } else if text == b"func".as_slice() {
-        Some(Kind::Func)
+        Some(TokenKind::Func)
     } else if text == b"import".as_slice() {
-        Some(Kind::Import)
+        Some(TokenKind::Import)
     } else if text == b"interface".as_slice() {
-        Some(Kind::Interface)
+        Some(TokenKind::Interface)
     } else if text == b"map".as_slice() {
-        Some(Kind::Map)
+        Some(TokenKind::Map)
     } else if text == b"package".as_slice() {
-        Some(Kind::Package)
+        Some(TokenKind::Package)
     } else if text == b"struct".as_slice() {
-        Some(Kind::Struct)
+        Some(TokenKind::Struct)
     } else if text == b"type".as_slice() {
-        Some(Kind::TypeKeyword)
+        Some(TokenKind::TypeKeyword)
     } else if text == b"var".as_slice() {
-        Some(Kind::Var)
+        Some(TokenKind::Var)
     } else {
         None
     }
@@ -110,7 +110,7 @@ fn declaration_keyword(text: &[u8]) -> Option<Kind>
 
 /// A keyword, or a name.
 #[tactic(auto, unfolding(crate::specs::Lexical::word))]
-pub(crate) fn word(text: &[u8]) -> Kind
+pub(crate) fn word(text: &[u8]) -> TokenKind
     ensures { result ≡ word text.now }
 {
     if let Some(kind) = statement_keyword(text) {
@@ -118,105 +118,105 @@ pub(crate) fn word(text: &[u8]) -> Kind
     }
     match declaration_keyword(text) {
         Some(kind) => kind,
-        None => Kind::Name,
+        None => TokenKind::Name,
     }
 }
 
 /// The mark that one byte is.
 #[tactic(auto, unfolding(crate::specs::Lexical::mark_1))]
-pub(crate) fn mark_1(byte: u8) -> Option<Kind>
+pub(crate) fn mark_1(byte: u8) -> Option<TokenKind>
     ensures { result ≡ mark_1 byte }
 {
     match byte {
-        b'+' => Some(Kind::Plus),
-        b'-' => Some(Kind::Minus),
-        b'*' => Some(Kind::Star),
-        b'/' => Some(Kind::Slash),
-        b'%' => Some(Kind::Percent),
-        b'&' => Some(Kind::Ampersand),
-        b'|' => Some(Kind::Bar),
-        b'^' => Some(Kind::Caret),
-        b'<' => Some(Kind::Less),
-        b'>' => Some(Kind::Greater),
-        b'=' => Some(Kind::Assign),
-        b'!' => Some(Kind::Not),
-        b'~' => Some(Kind::Tilde),
-        b'(' => Some(Kind::LeftParenthesis),
-        b')' => Some(Kind::RightParenthesis),
-        b'[' => Some(Kind::LeftBracket),
-        b']' => Some(Kind::RightBracket),
-        b'{' => Some(Kind::LeftBrace),
-        b'}' => Some(Kind::RightBrace),
-        b',' => Some(Kind::Comma),
-        b';' => Some(Kind::Semicolon),
-        b'.' => Some(Kind::Period),
-        b':' => Some(Kind::Colon),
+        b'+' => Some(TokenKind::Plus),
+        b'-' => Some(TokenKind::Minus),
+        b'*' => Some(TokenKind::Star),
+        b'/' => Some(TokenKind::Slash),
+        b'%' => Some(TokenKind::Percent),
+        b'&' => Some(TokenKind::Ampersand),
+        b'|' => Some(TokenKind::Bar),
+        b'^' => Some(TokenKind::Caret),
+        b'<' => Some(TokenKind::Less),
+        b'>' => Some(TokenKind::Greater),
+        b'=' => Some(TokenKind::Assign),
+        b'!' => Some(TokenKind::Not),
+        b'~' => Some(TokenKind::Tilde),
+        b'(' => Some(TokenKind::LeftParenthesis),
+        b')' => Some(TokenKind::RightParenthesis),
+        b'[' => Some(TokenKind::LeftBracket),
+        b']' => Some(TokenKind::RightBracket),
+        b'{' => Some(TokenKind::LeftBrace),
+        b'}' => Some(TokenKind::RightBrace),
+        b',' => Some(TokenKind::Comma),
+        b';' => Some(TokenKind::Semicolon),
+        b'.' => Some(TokenKind::Period),
+        b':' => Some(TokenKind::Colon),
         _ => None,
     }
 }
 
 /// The mark that two bytes are.
 #[tactic(auto, unfolding(crate::specs::Lexical::mark_2))]
-pub(crate) fn mark_2(first: u8, second: u8) -> Option<Kind>
+pub(crate) fn mark_2(first: u8, second: u8) -> Option<TokenKind>
     ensures { result ≡ mark_2 first second }
 {
     match (first, second) {
-        (b'<', b'<') => Some(Kind::ShiftLeft),
-        (b'>', b'>') => Some(Kind::ShiftRight),
-        (b'&', b'^') => Some(Kind::AndNot),
-        (b'+', b'=') => Some(Kind::PlusAssign),
-        (b'-', b'=') => Some(Kind::MinusAssign),
-        (b'*', b'=') => Some(Kind::StarAssign),
-        (b'/', b'=') => Some(Kind::SlashAssign),
-        (b'%', b'=') => Some(Kind::PercentAssign),
-        (b'&', b'=') => Some(Kind::AmpersandAssign),
-        (b'|', b'=') => Some(Kind::BarAssign),
-        (b'^', b'=') => Some(Kind::CaretAssign),
-        (b'&', b'&') => Some(Kind::LogicalAnd),
-        (b'|', b'|') => Some(Kind::LogicalOr),
-        (b'<', b'-') => Some(Kind::Arrow),
-        (b'+', b'+') => Some(Kind::Increment),
-        (b'-', b'-') => Some(Kind::Decrement),
-        (b'=', b'=') => Some(Kind::Equal),
-        (b'!', b'=') => Some(Kind::NotEqual),
-        (b'<', b'=') => Some(Kind::LessEqual),
-        (b'>', b'=') => Some(Kind::GreaterEqual),
-        (b':', b'=') => Some(Kind::Define),
+        (b'<', b'<') => Some(TokenKind::ShiftLeft),
+        (b'>', b'>') => Some(TokenKind::ShiftRight),
+        (b'&', b'^') => Some(TokenKind::AndNot),
+        (b'+', b'=') => Some(TokenKind::PlusAssign),
+        (b'-', b'=') => Some(TokenKind::MinusAssign),
+        (b'*', b'=') => Some(TokenKind::StarAssign),
+        (b'/', b'=') => Some(TokenKind::SlashAssign),
+        (b'%', b'=') => Some(TokenKind::PercentAssign),
+        (b'&', b'=') => Some(TokenKind::AmpersandAssign),
+        (b'|', b'=') => Some(TokenKind::BarAssign),
+        (b'^', b'=') => Some(TokenKind::CaretAssign),
+        (b'&', b'&') => Some(TokenKind::LogicalAnd),
+        (b'|', b'|') => Some(TokenKind::LogicalOr),
+        (b'<', b'-') => Some(TokenKind::Arrow),
+        (b'+', b'+') => Some(TokenKind::Increment),
+        (b'-', b'-') => Some(TokenKind::Decrement),
+        (b'=', b'=') => Some(TokenKind::Equal),
+        (b'!', b'=') => Some(TokenKind::NotEqual),
+        (b'<', b'=') => Some(TokenKind::LessEqual),
+        (b'>', b'=') => Some(TokenKind::GreaterEqual),
+        (b':', b'=') => Some(TokenKind::Define),
         _ => None,
     }
 }
 
 /// The mark that three bytes are.
 #[tactic(auto, unfolding(crate::specs::Lexical::mark_3))]
-pub(crate) fn mark_3(first: u8, second: u8, third: u8) -> Option<Kind>
+pub(crate) fn mark_3(first: u8, second: u8, third: u8) -> Option<TokenKind>
     ensures { result ≡ mark_3 first second third }
 {
     match (first, second, third) {
-        (b'<', b'<', b'=') => Some(Kind::ShiftLeftAssign),
-        (b'>', b'>', b'=') => Some(Kind::ShiftRightAssign),
-        (b'&', b'^', b'=') => Some(Kind::AndNotAssign),
-        (b'.', b'.', b'.') => Some(Kind::Ellipsis),
+        (b'<', b'<', b'=') => Some(TokenKind::ShiftLeftAssign),
+        (b'>', b'>', b'=') => Some(TokenKind::ShiftRightAssign),
+        (b'&', b'^', b'=') => Some(TokenKind::AndNotAssign),
+        (b'.', b'.', b'.') => Some(TokenKind::Ellipsis),
         _ => None,
     }
 }
 
 /// Whether a line's end directly behind this token inserts a semicolon.
-pub(crate) fn ends_line(kind: Kind) -> bool
+pub(crate) fn ends_line(kind: TokenKind) -> bool
     ensures { result ≡ ends_line kind }
 {
     match kind {
-        Kind::Name => true,
-        Kind::Integer => true,
-        Kind::String => true,
-        Kind::Break => true,
-        Kind::Continue => true,
-        Kind::Fallthrough => true,
-        Kind::Return => true,
-        Kind::Increment => true,
-        Kind::Decrement => true,
-        Kind::RightParenthesis => true,
-        Kind::RightBracket => true,
-        Kind::RightBrace => true,
+        TokenKind::Name => true,
+        TokenKind::Integer => true,
+        TokenKind::String => true,
+        TokenKind::Break => true,
+        TokenKind::Continue => true,
+        TokenKind::Fallthrough => true,
+        TokenKind::Return => true,
+        TokenKind::Increment => true,
+        TokenKind::Decrement => true,
+        TokenKind::RightParenthesis => true,
+        TokenKind::RightBracket => true,
+        TokenKind::RightBrace => true,
         _ => false,
     }
 }

@@ -12,6 +12,6 @@ mod string_literal;
 pub mod token;
 mod tokens;
 
-pub use kind::Kind;
+pub use kind::TokenKind;
 pub use token::Token;
 pub use tokens::scan;

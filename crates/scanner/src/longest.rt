@@ -5,7 +5,7 @@ ghost use Rattle.std.specs.List.{prefix_len};
 ghost use Rattle.scanner.specs.Lexical.{longest, longest_mark, hexadecimal_len, is_digit, is_hex_digit};
 ghost use Rattle.scanner.specs.Letters.{are_letters_and_digits, begins_letter_or_digit};
 
-use crate::kind::Kind;
+use crate::kind::TokenKind;
 use crate::letters::{begins_letter, begins_letter_or_digit, front_len, is_letter_byte};
 use crate::lexical::{is_digit, is_hex_digit, mark_1, mark_2, mark_3, word};
 
@@ -51,7 +51,7 @@ fn hexadecimal_len(text: &[u8]) -> usize
 }
 
 /// The longest token at the front of a text that isn't empty: its length in bytes and its kind.
-pub(crate) fn longest(text: &[u8]) -> Option<(usize, Kind)>
+pub(crate) fn longest(text: &[u8]) -> Option<(usize, TokenKind)>
     requires some { 1 ≤ length text.now }
     requires short { length text.now ≤ 1048576 }
     ensures token { result ≡ longest text.now }
@@ -67,15 +67,15 @@ pub(crate) fn longest(text: &[u8]) -> Option<(usize, Kind)>
     }
     if is_digit(first) {
         if first == b'0' {
-            return Some((1 + hexadecimal_len(&text[1..]), Kind::Integer));
+            return Some((1 + hexadecimal_len(&text[1..]), TokenKind::Integer));
         }
-        return Some((digit_run(text), Kind::Integer));
+        return Some((digit_run(text), TokenKind::Integer));
     }
     longest_mark(text)
 }
 
 /// The longest operator or mark at the front: its length in bytes and its kind.
-fn longest_mark(text: &[u8]) -> Option<(usize, Kind)>
+fn longest_mark(text: &[u8]) -> Option<(usize, TokenKind)>
     ensures token { result ≡ longest_mark text.now }
     ensures within { IfSome result (λ found. (1 ≤ found.0) × (found.0 ≤ length text.now)) }
 {

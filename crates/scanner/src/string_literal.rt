@@ -4,7 +4,7 @@ ghost use Rattle.std.specs.Prelude.{◌≡◌, ◌+◌, ◌≤◌, length, false
 ghost use Rattle.scanner.specs.Elements.{length_of, is_escape, is_broken, is_closing, is_escaping, string_rest, string_literal};
 
 use crate::element::{Element, byte_place};
-use crate::kind::Kind;
+use crate::kind::TokenKind;
 use crate::lexical::is_forbidden;
 use go_text::Fault;
 
@@ -65,5 +65,5 @@ pub(crate) fn string_literal(opened: u32, text: &[u8]) -> Result<Element, Fault>
     ensures within { IfOk result (λ e. (1 ≤ length_of e) × (length_of e ≤ 1 + length text.now)) }
 {
     let len = string_rest(opened, text)?;
-    Ok(Element::Token(1 + len, Kind::String))
+    Ok(Element::Token(1 + len, TokenKind::String))
 }

@@ -5,14 +5,14 @@ ghost use Rattle.go_text.specs.Source.{bytes_of};
 ghost use Rattle.scanner.specs.Tokens.{tokens, tokens_of, line_end, ender, IsInOrder, LiesWithin};
 
 use crate::element::{Element, element_at};
-use crate::kind::Kind;
+use crate::kind::TokenKind;
 use crate::lexical::ends_line;
 use crate::token::Token;
 use go_text::{Fault, Source, Span};
 use std::alloc::{AllocError, Global};
 
 /// The place of the semicolon that a line's end would insert behind a token that ends here.
-fn ender(kind: Kind, place: u32) -> Option<u32>
+fn ender(kind: TokenKind, place: u32) -> Option<u32>
     ensures { result ≡ ender kind place }
 {
     if ends_line(kind) { Some(place) } else { None }
@@ -24,7 +24,7 @@ fn end_line(out: &mut Vec<Token>, after: Option<u32>) -> Result<(), AllocError>
 {
     if let Some(place) = after {
         out.push(Token {
-            kind: Kind::Semicolon,
+            kind: TokenKind::Semicolon,
             span: Span {
                 from: place,
                 to: place,
@@ -92,7 +92,7 @@ mod tests {
     use std::test::Fail;
 
     /// The kinds of a text's tokens, or the fault.
-    fn kinds(alloc: Global, text: &[u8]) -> Result<Vec<Kind>, Fault> {
+    fn kinds(alloc: Global, text: &[u8]) -> Result<Vec<TokenKind>, Fault> {
         let source = Source::new(text.to_vec(alloc)?)?;
         let tokens = scan(alloc, &source)?;
         let kinds = tokens.iter().map(|token| token.kind).collect(alloc)?;
@@ -104,24 +104,24 @@ mod tests {
         let text = b"package main; func main() { println(0X1f, x&^=y) }";
         let found = kinds(rt.alloc(), text.as_slice())?;
         let wanted = [
-            Kind::Package,
-            Kind::Name,
-            Kind::Semicolon,
-            Kind::Func,
-            Kind::Name,
-            Kind::LeftParenthesis,
-            Kind::RightParenthesis,
-            Kind::LeftBrace,
-            Kind::Name,
-            Kind::LeftParenthesis,
-            Kind::Integer,
-            Kind::Comma,
-            Kind::Name,
-            Kind::AndNotAssign,
-            Kind::Name,
-            Kind::RightParenthesis,
-            Kind::RightBrace,
-            Kind::Semicolon,
+            TokenKind::Package,
+            TokenKind::Name,
+            TokenKind::Semicolon,
+            TokenKind::Func,
+            TokenKind::Name,
+            TokenKind::LeftParenthesis,
+            TokenKind::RightParenthesis,
+            TokenKind::LeftBrace,
+            TokenKind::Name,
+            TokenKind::LeftParenthesis,
+            TokenKind::Integer,
+            TokenKind::Comma,
+            TokenKind::Name,
+            TokenKind::AndNotAssign,
+            TokenKind::Name,
+            TokenKind::RightParenthesis,
+            TokenKind::RightBrace,
+            TokenKind::Semicolon,
         ];
         assert_eq!(rt; found.as_slice(), wanted.as_slice());
         Ok(())
@@ -131,16 +131,16 @@ mod tests {
     fn takes_the_longest_mark(rt: HostRuntime) -> Result<(), Fail> {
         let found = kinds(rt.alloc(), b"<<=<<-.....+++--".as_slice())?;
         let wanted = [
-            Kind::ShiftLeftAssign,
-            Kind::ShiftLeft,
-            Kind::Minus,
-            Kind::Ellipsis,
-            Kind::Period,
-            Kind::Period,
-            Kind::Increment,
-            Kind::Plus,
-            Kind::Decrement,
-            Kind::Semicolon,
+            TokenKind::ShiftLeftAssign,
+            TokenKind::ShiftLeft,
+            TokenKind::Minus,
+            TokenKind::Ellipsis,
+            TokenKind::Period,
+            TokenKind::Period,
+            TokenKind::Increment,
+            TokenKind::Plus,
+            TokenKind::Decrement,
+            TokenKind::Semicolon,
         ];
         assert_eq!(rt; found.as_slice(), wanted.as_slice());
         Ok(())
@@ -151,12 +151,12 @@ mod tests {
         let source = Source::new(b"{ \n} \r\n\n;return".to_vec(rt.alloc())?)?;
         let found = scan(rt.alloc(), &source)?;
         let wanted = [
-            (Kind::LeftBrace, 0, 1),
-            (Kind::RightBrace, 3, 4),
-            (Kind::Semicolon, 4, 4),
-            (Kind::Semicolon, 8, 9),
-            (Kind::Return, 9, 15),
-            (Kind::Semicolon, 15, 15),
+            (TokenKind::LeftBrace, 0, 1),
+            (TokenKind::RightBrace, 3, 4),
+            (TokenKind::Semicolon, 4, 4),
+            (TokenKind::Semicolon, 8, 9),
+            (TokenKind::Return, 9, 15),
+            (TokenKind::Semicolon, 15, 15),
         ]
         .map(|(kind, from, to)| Token {
             kind,
@@ -211,10 +211,10 @@ mod tests {
         let source = Source::new("ªʰ世é٣_ǅ\n1".as_bytes().to_vec(rt.alloc())?)?;
         let found = scan(rt.alloc(), &source)?;
         let wanted = [
-            (Kind::Name, 0, 14),
-            (Kind::Semicolon, 14, 14),
-            (Kind::Integer, 15, 16),
-            (Kind::Semicolon, 16, 16),
+            (TokenKind::Name, 0, 14),
+            (TokenKind::Semicolon, 14, 14),
+            (TokenKind::Integer, 15, 16),
+            (TokenKind::Semicolon, 16, 16),
         ]
         .map(|(kind, from, to)| Token {
             kind,
@@ -249,15 +249,15 @@ mod tests {
         let source = Source::new(text.as_bytes().to_vec(rt.alloc())?)?;
         let found = scan(rt.alloc(), &source)?;
         let wanted = [
-            (Kind::Name, 0, 1),
-            (Kind::LeftParenthesis, 1, 2),
-            (Kind::Integer, 2, 3),
-            (Kind::Semicolon, 3, 3),
-            (Kind::RightParenthesis, 12, 13),
-            (Kind::Semicolon, 13, 13),
-            (Kind::Name, 19, 20),
-            (Kind::String, 26, 32),
-            (Kind::Semicolon, 32, 32),
+            (TokenKind::Name, 0, 1),
+            (TokenKind::LeftParenthesis, 1, 2),
+            (TokenKind::Integer, 2, 3),
+            (TokenKind::Semicolon, 3, 3),
+            (TokenKind::RightParenthesis, 12, 13),
+            (TokenKind::Semicolon, 13, 13),
+            (TokenKind::Name, 19, 20),
+            (TokenKind::String, 26, 32),
+            (TokenKind::Semicolon, 32, 32),
         ]
         .map(|(kind, from, to)| Token {
             kind,

@@ -124,7 +124,7 @@ abbrev pub block_height : Statements → ℕ
 block_height body = suc (statements_height body)
 
 abbrev pub declared_height : Declared → ℕ
-declared_height declared = suc (type_height declared.kind)
+declared_height declared = suc (type_height declared.type_expression)
 
 abbrev pub function_height : Function → ℕ
 function_height function =
@@ -253,7 +253,7 @@ abbrev pub block_size : Statements → ℕ
 block_size body = statements_size body + 1
 
 abbrev pub declared_size : Declared → ℕ
-declared_size declared = type_size declared.kind + 1
+declared_size declared = type_size declared.type_expression + 1
 
 abbrev pub function_size : Function → ℕ
 function_size function =

@@ -116,7 +116,7 @@ mutual
   pub data Statement : Type 0 where
     Empty : Statement
     Alone : (simple : Simple) → Statement
-    VarTyped : (names : List (List ℕ)) → (kind : TypeExpression) → (right : Option Right) → Statement
+    VarTyped : (names : List (List ℕ)) → (type_expression : TypeExpression) → (right : Option Right) → Statement
     VarUntyped : (names : List (List ℕ)) → (right : Right) → Statement
     Block : (body : Statements) → Statement
     If : (branch : Branch) → Statement
@@ -158,7 +158,7 @@ statements (first ∷ rest) = Then first (statements rest)
 -- names that are declared together with one type: fields, or parameters
 pub record Declared : Type 0 where
   pub names : List (List ℕ)
-  pub kind : TypeExpression
+  pub type_expression : TypeExpression
 
 pub record Struct : Type 0 where
   pub name : List ℕ

@@ -185,7 +185,7 @@ body_of body = statements (map statement_of body)
 -- ---- files
 
 abbrev pub declared_of : DeclaredNode → Declared
-declared_of declared = record { names = map name_of declared.names.items; kind = type_of declared.kind }
+declared_of declared = record { names = map name_of declared.names.items; type_expression = type_of declared.type_node }
 
 abbrev pub struct_of : StructNode → Struct
 struct_of struct = record { name = name_of struct.name; fields = map declared_of struct.fields.items; trailing = struct.trailing }

@@ -1,12 +1,10 @@
 //! Trees of programs, with the place of each node.
 #![tactic(auto)]
 
-pub mod names;
 pub mod node;
 pub mod size;
 pub mod tree;
 
-pub use names::{NameId, Names};
 pub use node::{
     ArgumentsNode, BinaryOperator, ClauseNode, CommNode, DeclaredNode, Direction, ElseNode,
     ExpressionNode, FileNode, ForHeader, FunctionNode, IfHeader, IfNode, Name, OperationNode,

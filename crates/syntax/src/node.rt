@@ -269,7 +269,7 @@ pub struct ClauseNode {
 #[derive(Drop)]
 pub struct DeclaredNode {
     pub names: Vec<Name>,
-    pub kind: TypeNode,
+    pub type_node: TypeNode,
 }
 
 /// A declaration of a struct type.

@@ -320,7 +320,7 @@ fn declared_size(declared: &[DeclaredNode]) -> u32
 {
     let mut size = 0;
     for one in declared {
-        size += type_size(&one.kind) + 1;
+        size += type_size(&one.type_node) + 1;
     }
     size
 }

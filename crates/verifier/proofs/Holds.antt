@@ -3,7 +3,7 @@ use Rattle.std.proofs.Common.{◌≡◌, ℕ, zero, suc, ◌+◌, ◌<◌, ◌�
 use Rattle.std.specs.Prelude.{Bool, true, false}
 use Rattle.std.proofs.Common.{inl, inr}
 use Rattle.std.proofs.lemmas.Bool.{cases_eq}
-use Rattle.bytecode.specs.declared.instr.Kind.{Kind}
+use Rattle.bytecode.specs.declared.instr.WordKind.{WordKind}
 use Rattle.bytecode.specs.declared.instr.Instr.{Instr}
 use Rattle.bytecode.specs.Code.{Function, Code}
 use Rattle.verifier.specs.declared.paths.Visit.TheVariants.{Settles, Grows}
@@ -17,14 +17,10 @@ use Rattle.bytecode.specs.Rules.{IsHeaded, Misfit, BrokenIn, Holds, rule_of}
 use Rattle.verifier.specs.declared.paths.Inferred.{Inferred}
 use Rattle.verifier.specs.declared.paths.Inferred.TheVariants.{Full, BrokenAt, PartedAt}
 use Rattle.verifier.specs.Tables.{Infers, Judged, judged_of, unknown, Going, Visited, Full', ScannedAt, Scanned}
+use Rattle.bytecode.proofs.Options.{some_inj, none_some}
+use Rattle.std.proofs.lemmas.Option.{slice_get_within}
 
-some_inj : {A : Type 0} {x y : A} → Some x ≡ Some y → x ≡ y
-some_inj e = cc
-
-none_some : {A : Type 0} {x : A} → None ≡ Some x → ⊥
-none_some e = cc
-
-entry_within : (t : Table) (n : ℕ) (ks : List Kind) → entry t n ≡ Some ks → n < length t
+entry_within : (t : Table) (n : ℕ) (ks : List WordKind) → entry t n ≡ Some ks → n < length t
 entry_within [] n ks e = absurd (none_some e)
 entry_within (x ∷ t) zero ks e = omega arith
 entry_within (x ∷ t) (suc n) ks e = omega (arith, entry_within t n ks e)
@@ -38,33 +34,28 @@ gone true code f old mid new place g v = omega (arith, g, v)
 gone false code f old mid new place g v = subst (λ t. unknown new < unknown t) g.0 v
 
 module _ (code : Code) (f : Function) (table : Table) (same : length table ≡ length f.instrs) (full : Full' code f table) where
-  settled_at : (place : ℕ) (ks : List Kind) → entry table place ≡ Some ks → (i : Instr) × (slice_get f.instrs place ≡ Some i) × Fits code f i ks × ((k to : ℕ) → slice_get (ways code i place) k ≡ Some to → entry table to ≡ Some (afterwards code f i k ks))
+  settled_at : (place : ℕ) (ks : List WordKind) → entry table place ≡ Some ks → (i : Instr) × (slice_get f.instrs place ≡ Some i) × Fits code f i ks × ((k to : ℕ) → slice_get (ways code i place) k ≡ Some to → entry table to ≡ Some (afterwards code f i k ks))
   settled_at place ks e = full.1 place (subst (λ n. place < n) same (entry_within table place ks e)) ks e
 
   -- each path ends at an entry
-  pub on_path : (n place : ℕ) (ks : List Kind) → Path code f n place ks → entry table place ≡ Some ks
+  pub on_path : (n place : ℕ) (ks : List WordKind) → Path code f n place ks → entry table place ≡ Some ks
   on_path zero place ks p = ap (entry table) p.0 ∙ (full.0 ∙ ap Some (sym p.1))
   on_path (suc n) place ks (from, js, i, k, p, hi, fits, way, out) =
       let s = settled_at from js (on_path n from js p) in
       let e : s.0 ≡ i = some_inj (sym s.1 ∙ hi) in
       s.3 k place (subst (λ x. slice_get (ways code x from) k ≡ Some place) (sym e) way) ∙ ap Some (ap (λ x. afterwards code f x k js) e ∙ sym out)
 
-  pub fit : (n place : ℕ) (ks : List Kind) → Path code f n place ks → (i : Instr) × (slice_get f.instrs place ≡ Some i) × Fits code f i ks
+  pub fit : (n place : ℕ) (ks : List WordKind) → Path code f n place ks → (i : Instr) × (slice_get f.instrs place ≡ Some i) × Fits code f i ks
   fit n place ks p = let s = settled_at place ks (on_path n place ks p) in (s.0, s.1, s.2)
 
-  pub alike : (n m place : ℕ) (ks js : List Kind) → Path code f n place ks → Path code f m place js → ks ≡ js
+  pub alike : (n m place : ℕ) (ks js : List WordKind) → Path code f n place ks → Path code f m place js → ks ≡ js
   alike n m place ks js p q = some_inj (sym (on_path n place ks p) ∙ on_path m place js q)
-
-get_within : {A : Type 0} → (xs : List A) (n : ℕ) (x : A) → slice_get xs n ≡ Some x → n < length xs
-get_within [] n x e = absurd (none_some e)
-get_within (y ∷ xs) zero x e = omega arith
-get_within (y ∷ xs) (suc n) x e = omega (arith, get_within xs n x e)
 
 pub scanned_more : (code : Code) (f : Function) (place : ℕ) → ((q : ℕ) → q < place → ScannedAt None code f q) → ScannedAt None code f place → (q : ℕ) → q < place + 1 → ScannedAt None code f q
 scanned_more code f place h g q l = elim (cases_eq q place) [ inl e ↦ subst (ScannedAt None code f) (sym e) g | inr n ↦ h q (grind (arith, l, n)) ]
 
 pub scanned_all : (code : Code) (f : Function) (n : ℕ) → length f.instrs ≤ n → ((q : ℕ) → q < n → ScannedAt None code f q) → Scanned None code f
-scanned_all code f n le h place i e = h place (omega (arith, get_within f.instrs place i e)) i e
+scanned_all code f n le h place i e = h place (omega (arith, slice_get_within f.instrs place i e)) i e
 
 abbrev IsPathRule : Rule → Type 0
 IsPathRule Names = ⊥
@@ -108,4 +99,4 @@ all_more P xs g x all e new h y l s =
     ]
 
 pub all_of : {A : Type 0} (P : A → Type 0) (xs : List A) (n : ℕ) → length xs ≤ n → ((h : ℕ) (y : A) → h < n → slice_get xs h ≡ Some y → P y) → (h : ℕ) (y : A) → slice_get xs h ≡ Some y → P y
-all_of P xs n le all h y e = all h y (omega (arith, get_within xs h y e)) e
+all_of P xs n le all h y e = all h y (omega (arith, slice_get_within xs h y e)) e

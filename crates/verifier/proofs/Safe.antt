@@ -8,9 +8,7 @@ use Rattle.bytecode.specs.Machine.{Frames}
 use Rattle.bytecode.specs.Rules.{Holds, IsVerified, IsFrameOf, Misfit, Parting, BrokenIn, BrokenBeside, Breaks}
 use Rattle.bytecode.proofs.Unstuck.{begin_keeps, step_keeps, tick_keeps, answer_keeps, not_stuck}
 use Rattle.verifier.specs.Refusals.{Comes, begins, slides, ticks, answers, NeverStuck}
-
-some_inj : {A : Type 0} {x y : A} → Some x ≡ Some y → x ≡ y
-some_inj e = cc
+use Rattle.bytecode.proofs.Options.{some_inj}
 
 comes_fits : (code : Code) → IsVerified code → (s : Frames) → Comes code s → IsFrameOf code s
 comes_fits code v s (begins g below args) = begin_keeps code v g args below
@@ -50,9 +48,9 @@ module _ (code : Code) where
   none_beside v Calls place b = b
   none_beside v Returns place b = b
   none_beside v Locals place b = b
-  none_beside v Tables place (inl b) = b.2 (v.shapes place b.0 b.1)
+  none_beside v Tables place (inl b) = let shaped = v.shapes place b.0 b.1 in b.2 (shaped.some, shaped.most)
   none_beside v Tables place (inr (inl b)) = b.2 (v.prints place b.0 b.1)
-  none_beside v Tables place (inr (inr b)) = b.2 (v.selects place b.0 b.1)
+  none_beside v Tables place (inr (inr b)) = b.2 (v.selects place b.0 b.1).most
   none_beside v Main place b = b.1 v.main
 
   pub never_broken : IsVerified code → (rule : Rule) (g place : ℕ) → Breaks code rule g place → ⊥

@@ -4,7 +4,7 @@ use Rattle.std.specs.Prelude.{Bool, true, false}
 use Rattle.std.proofs.Common.{inl, inr}
 use Rattle.std.proofs.lemmas.Bool.{cases_eq}
 use Rattle.verifier.specs.declared.paths.Visit.TheVariants.{Settles}
-use Rattle.bytecode.specs.declared.instr.Kind.{Kind}
+use Rattle.bytecode.specs.declared.instr.WordKind.{WordKind}
 use Rattle.bytecode.specs.declared.instr.Instr.{Instr}
 use Rattle.bytecode.specs.Code.{Function, Code}
 use Rattle.verifier.specs.Tables.{Table, entry, Reached, Settled}
@@ -12,16 +12,11 @@ use Rattle.verifier.specs.declared.paths.Onward.TheVariants.{Kept, Grown}
 use Rattle.bytecode.specs.Effects.{Fits, afterwards}
 use Rattle.bytecode.specs.Rules.{ways}
 use Rattle.verifier.specs.Tables.{unknown, AreReached, Followed, Spread, Visited, LeadsOn}
-
-none_some : {A : Type 0} {x : A} → None ≡ Some x → ⊥
-none_some e = cc
-
-some_inj : {A : Type 0} {x y : A} → Some x ≡ Some y → x ≡ y
-some_inj e = cc
+use Rattle.bytecode.proofs.Options.{some_inj, none_some}
 
 -- ---- the ways of an instruction, one after the other
 
-module _ (code : Code) (f : Function) (old : Table) (place : ℕ) (i : Instr) (ks : List Kind) where
+module _ (code : Code) (f : Function) (old : Table) (place : ℕ) (i : Instr) (ks : List WordKind) where
   pub kept : (grew : Bool) (mid new : Table) (number : ℕ) → Spread grew code f old mid place i ks number → Followed Kept code f mid new place i ks number → Spread grew code f old new place i ks (number + 1)
   kept true mid new number s h = subst (λ t. unknown t < unknown old) (sym h.0) s
   kept false mid new number s h = (
@@ -52,6 +47,6 @@ module _ (code : Code) (f : Function) (old : Table) (place : ℕ) (i : Instr) (k
           (i, leads.fetched, leads.fits, λ k to h. s.1 k to (let l = get_within (ways code i place) k to h in omega (arith, l, all)) h)
 
 -- each way leads to a place, on a path
-pub ways_reached : (code : Code) (f : Function) (table : Table) (place : ℕ) (i : Instr) (ks : List Kind) (at : ℕ) → Reached code f table → LeadsOn code f table place i ks at → AreReached code f place i ks
+pub ways_reached : (code : Code) (f : Function) (table : Table) (place : ℕ) (i : Instr) (ks : List WordKind) (at : ℕ) → Reached code f table → LeadsOn code f table place i ks at → AreReached code f place i ks
 ways_reached code f table place i ks at r l k to e =
     let p = r.1 place ks l.here in (suc p.0, (place, ks, i, k, p.1, l.fetched, l.fits, e, refl))

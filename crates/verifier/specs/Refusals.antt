@@ -1,11 +1,11 @@
 -- Which rule is broken where, and what the rules are for.
 use Rattle.std.specs.Prelude.{◌≡◌, ◌≢◌, ℕ, ◌<◌, List, Some, length, slice_get}
-use Rattle.bytecode.specs.declared.instr.Kind.{Kind}
+use Rattle.bytecode.specs.declared.instr.WordKind.{WordKind}
 use Rattle.bytecode.specs.declared.rule.Rule.{Rule}
 use Rattle.bytecode.specs.declared.rule.Rule.TheVariants.{Names, Tables}
 use Rattle.bytecode.specs.Code.{Function, PrintTable, SelectTable, Code}
 use Rattle.bytecode.specs.Machine.{Frames, code_begin, code_next, code_answer}
-use Rattle.bytecode.specs.Rules.{number_of, AreThere, Holds, HasShapes, Breaks, IsSelect, IsShaped, IsShort}
+use Rattle.bytecode.specs.Rules.{rule_number, AreThere, Holds, HasShapes, Breaks, IsFew, IsSelect, IsShaped, IsShort, IsSized}
 use Rattle.go_text.specs.declared.fault.Fault.{Fault}
 use Rattle.go_text.specs.declared.fault.Fault.TheVariants as faults
 use Rattle.word.specs.declared.value.Word.{Word}
@@ -14,7 +14,7 @@ use Rattle.word.specs.Kinds.{Slides, Ticks, Asks, Stuck}
 
 -- the refusal names a rule that is broken there, or want of memory
 abbrev pub IsRefused : Code → Fault → Type 0
-IsRefused code (faults.Unverified rule function place) = (r : Rule) × (rule ≡ number_of r) × Breaks code r function place
+IsRefused code (faults.Unverified rule function place) = (r : Rule) × (rule ≡ rule_number r) × Breaks code r function place
 IsRefused code faults.Memory = Unit {0}
 IsRefused code fault = ⊥
 
@@ -31,7 +31,7 @@ NeverStuck code = (s : Frames) → Comes code s → code_next code s ≢ Stuck
 
 -- each shape, each table, each function keeps its rules
 abbrev pub ShapesFine : Code → Type 0
-ShapesFine code = (s : ℕ) (ks : List Kind) → slice_get code.shapes s ≡ Some ks → IsShaped code ks
+ShapesFine code = (s : ℕ) (ks : List WordKind) → slice_get code.shapes s ≡ Some ks → IsShaped code ks
 
 abbrev pub PrintsFine : Code → Type 0
 PrintsFine code = (q : ℕ) (table : PrintTable) → slice_get code.prints q ≡ Some table → IsShort table
@@ -43,13 +43,13 @@ abbrev pub FunctionsFine : Code → Type 0
 FunctionsFine code = (g : ℕ) (f : Function) → slice_get code.functions g ≡ Some f → Holds code f
 
 -- the rule that a shape breaks
-abbrev pub ShapeBroken : Code → List Kind → Rule → Type 0
+abbrev pub ShapeBroken : Code → List WordKind → Rule → Type 0
 ShapeBroken code ks Names = AreThere code ks → ⊥
-ShapeBroken code ks Tables = IsShaped code ks → ⊥
+ShapeBroken code ks Tables = IsSized ks → ⊥
 ShapeBroken code ks rule = ⊥
 
 -- the rule that a select table breaks
 abbrev pub SelectBroken : Code → SelectTable → Rule → Type 0
 SelectBroken code table Names = HasShapes code table → ⊥
-SelectBroken code table Tables = IsSelect code table → ⊥
+SelectBroken code table Tables = IsFew table → ⊥
 SelectBroken code table rule = ⊥

@@ -1,7 +1,7 @@
 -- The verifier's table of the kinds at each place of a function, and what its steps do to it.
 use Rattle.std.specs.Prelude.{◌≡◌, ℕ, suc, ◌+◌, ◌<◌, List, [], ◌∷◌, length, Option, Some, None, Bool, true, false, slice_get, slice_set}
 use Rattle.std.specs.Global.{Vec}
-use Rattle.bytecode.specs.declared.instr.Kind.{Kind}
+use Rattle.bytecode.specs.declared.instr.WordKind.{WordKind}
 use Rattle.bytecode.specs.declared.instr.Instr.{Instr}
 use Rattle.bytecode.specs.declared.rule.Rule.{Rule}
 use Rattle.bytecode.specs.declared.rule.Rule.TheVariants.{Paths}
@@ -16,8 +16,8 @@ use Rattle.verifier.specs.declared.paths.Visit.{Visit}
 use Rattle.verifier.specs.declared.paths.Visit.TheVariants.{Settles, Grows, Unfit, Parts}
 use Rattle.verifier.specs.declared.paths.Onward.{Onward}
 use Rattle.verifier.specs.declared.paths.Onward.TheVariants.{Kept, Grown, Apart}
-use Rattle.verifier.specs.declared.paths.Step.{Step}
-use Rattle.verifier.specs.declared.paths.Step.TheVariants.{Dead, Unfits, Leads}
+use Rattle.verifier.specs.declared.paths.Transfer.{Transfer}
+use Rattle.verifier.specs.declared.paths.Transfer.TheVariants.{Dead, Unfits, Leads}
 use Rattle.verifier.specs.declared.paths.Sweep.{Sweep}
 use Rattle.verifier.specs.declared.paths.Sweep.TheVariants.{Done, More, Broken, Parted}
 use Rattle.verifier.specs.declared.paths.Inferred.{Inferred}
@@ -31,24 +31,24 @@ wants_of Channels = TwoChannels
 
 -- a table of the kinds at each place
 abbrev pub Table : Type 0
-Table = List (Option (Vec Kind))
+Table = List (Option (Vec WordKind))
 
-abbrev pub kinds_at : Option (Option (Vec Kind)) → Option (List Kind)
+abbrev pub kinds_at : Option (Option (Vec WordKind)) → Option (List WordKind)
 kinds_at None = None
 kinds_at (Some None) = None
 kinds_at (Some (Some ks)) = Some ks.items
 
-abbrev pub entry : Table → ℕ → Option (List Kind)
+abbrev pub entry : Table → ℕ → Option (List WordKind)
 entry table place = kinds_at (slice_get table place)
 
 -- a place with kinds has an instruction that fits them, and whose ways have what is after it
 abbrev pub Settled : Code → Function → Table → ℕ → Type 0
 Settled code f table place =
-    (ks : List Kind) → entry table place ≡ Some ks → (i : Instr) × (slice_get f.instrs place ≡ Some i) × Fits code f i ks × ((k to : ℕ) → slice_get (ways code i place) k ≡ Some to → entry table to ≡ Some (afterwards code f i k ks))
+    (ks : List WordKind) → entry table place ≡ Some ks → (i : Instr) × (slice_get f.instrs place ≡ Some i) × Fits code f i ks × ((k to : ℕ) → slice_get (ways code i place) k ≡ Some to → entry table to ≡ Some (afterwards code f i k ks))
 
 -- the function starts with nothing on the stack, and each entry has its path
 abbrev pub Reached : Code → Function → Table → Type 0
-Reached code f table = (entry table 0 ≡ Some []) × ((place : ℕ) (ks : List Kind) → entry table place ≡ Some ks → (n : ℕ) × Path code f n place ks)
+Reached code f table = (entry table 0 ≡ Some []) × ((place : ℕ) (ks : List WordKind) → entry table place ≡ Some ks → (n : ℕ) × Path code f n place ks)
 
 -- how many places have no kinds yet
 abbrev pub unknown : Table → ℕ
@@ -56,13 +56,13 @@ unknown [] = 0
 unknown (None ∷ t) = suc (unknown t)
 unknown (Some ks ∷ t) = unknown t
 
-abbrev pub Merged : Merge → Table → Table → ℕ → List Kind → Type 0
+abbrev pub Merged : Merge → Table → Table → ℕ → List WordKind → Type 0
 Merged Same old new to ks = (new ≡ old) × (entry old to ≡ Some ks)
-Merged Differs old new to ks = (new ≡ old) × ((js : List Kind) × (entry old to ≡ Some js) × (js ≡ ks → ⊥))
-Merged New old new to ks = (entry old to ≡ None) × ((v : Vec Kind) × (v.items ≡ ks) × (new ≡ slice_set old to (Some v)))
+Merged Differs old new to ks = (new ≡ old) × ((js : List WordKind) × (entry old to ≡ Some js) × (js ≡ ks → ⊥))
+Merged New old new to ks = (entry old to ≡ None) × ((v : Vec WordKind) × (v.items ≡ ks) × (new ≡ slice_set old to (Some v)))
 
 -- after a way to a place, on a path
-abbrev pub Led : Merge → Code → Function → Table → Table → ℕ → List Kind → Type 0
+abbrev pub Led : Merge → Code → Function → Table → Table → ℕ → List WordKind → Type 0
 Led Same code f old new to ks = (new ≡ old) × (entry old to ≡ Some ks)
 Led Differs code f old new to ks = Parting code f to
 Led New code f old new to ks = unknown new < unknown old
@@ -75,30 +75,30 @@ Visited (Unfit rule) code f old new place = Misfit code f rule place
 Visited (Parts to) code f old new place = Parting code f to
 
 -- the instruction there fits the kinds there, of which its operands begin at a number
-pub record LeadsOn (code : Code) (f : Function) (table : Table) (place : ℕ) (i : Instr) (ks : List Kind) (at : ℕ) : Type 0 where
+pub record LeadsOn (code : Code) (f : Function) (table : Table) (place : ℕ) (i : Instr) (ks : List WordKind) (at : ℕ) : Type 0 where
   pub fetched : slice_get f.instrs place ≡ Some i
   pub here : entry table place ≡ Some ks
   pub fits : Fits code f i ks
   pub operands : at + count (wants code f i) ≡ length ks
 
-abbrev pub Steps : Step → Code → Function → Table → ℕ → Type 0
+abbrev pub Steps : Transfer → Code → Function → Table → ℕ → Type 0
 Steps Dead code f table place = entry table place ≡ None
 Steps (Unfits rule) code f table place = Misfit code f rule place
 Steps (Leads i ks at) code f table place = LeadsOn code f table place i ks.items at
 
 -- each way of an instruction leads to its place on a path
-abbrev pub AreReached : Code → Function → ℕ → Instr → List Kind → Type 0
+abbrev pub AreReached : Code → Function → ℕ → Instr → List WordKind → Type 0
 AreReached code f place i ks = (k to : ℕ) → slice_get (ways code i place) k ≡ Some to → (n : ℕ) × Path code f n to (afterwards code f i k ks)
 
 -- after the way of this number, where there is one
-abbrev pub Followed : Onward → Code → Function → Table → Table → ℕ → Instr → List Kind → ℕ → Type 0
+abbrev pub Followed : Onward → Code → Function → Table → Table → ℕ → Instr → List WordKind → ℕ → Type 0
 Followed Kept code f old new place i ks number =
     (new ≡ old) × ((to : ℕ) → slice_get (ways code i place) number ≡ Some to → entry new to ≡ Some (afterwards code f i number ks))
 Followed Grown code f old new place i ks number = unknown new < unknown old
 Followed (Apart to) code f old new place i ks number = Parting code f to
 
 -- after so many ways of an instruction
-abbrev pub Spread : Bool → Code → Function → Table → Table → ℕ → Instr → List Kind → ℕ → Type 0
+abbrev pub Spread : Bool → Code → Function → Table → Table → ℕ → Instr → List WordKind → ℕ → Type 0
 Spread false code f old new place i ks number =
     (new ≡ old) × ((k to : ℕ) → k < number → slice_get (ways code i place) k ≡ Some to → entry new to ≡ Some (afterwards code f i k ks))
 Spread true code f old new place i ks number = unknown new < unknown old

@@ -5,7 +5,7 @@ ghost use Rattle.bytecode.specs.Effects.{all_clause_kinds, clause_gives, clauses
 ghost use Rattle.bytecode.specs.Rules.{Named};
 ghost use Rattle.verifier.specs.Tables.{wants_of};
 
-use bytecode::{Clause, Code, Function, Instr, Kind, Part, same_kinds};
+use bytecode::{Clause, Code, Function, Instr, Part, WordKind, same_kinds};
 use std::alloc::{AllocError, Global};
 use word::apply::Op;
 
@@ -13,7 +13,7 @@ use word::apply::Op;
 #[derive(Drop)]
 pub enum Need {
     /// These kinds.
-    These(Vec<Kind>),
+    These(Vec<WordKind>),
     /// So many words of any kind.
     Some(usize),
     /// A channel.
@@ -27,9 +27,9 @@ fn operands(alloc: Global, op: Op) -> Result<Need, AllocError>
     ensures ok { IfOk result (λ n. wants_of n ≡ operands_of op) }
 {
     match op {
-        Op::Neg | Op::Com => Ok(Need::These(vec![in alloc; Kind::Int]?)),
-        Op::Not => Ok(Need::These(vec![in alloc; Kind::Bool]?)),
-        Op::EqBool | Op::NeBool => Ok(Need::These(vec![in alloc; Kind::Bool, Kind::Bool]?)),
+        Op::Neg | Op::Com => Ok(Need::These(vec![in alloc; WordKind::Int]?)),
+        Op::Not => Ok(Need::These(vec![in alloc; WordKind::Bool]?)),
+        Op::EqBool | Op::NeBool => Ok(Need::These(vec![in alloc; WordKind::Bool, WordKind::Bool]?)),
         Op::EqChan | Op::NeChan => Ok(Need::Channels),
         Op::Add
         | Op::Sub
@@ -47,12 +47,12 @@ fn operands(alloc: Global, op: Op) -> Result<Need, AllocError>
         | Op::Lt
         | Op::Le
         | Op::Gt
-        | Op::Ge => Ok(Need::These(vec![in alloc; Kind::Int, Kind::Int]?)),
+        | Op::Ge => Ok(Need::These(vec![in alloc; WordKind::Int, WordKind::Int]?)),
     }
 }
 
 /// The kinds of a function's parameters.
-fn params_of(f: &Function) -> &[Kind]
+fn params_of(f: &Function) -> &[WordKind]
     ensures { result.now ≡ take f.now.params f.now.locals }
 {
     let params = f.params() as usize;
@@ -65,14 +65,14 @@ fn params_of(f: &Function) -> &[Kind]
 }
 
 /// The kinds of the words that a print takes.
-fn printed_kinds(alloc: Global, parts: &[Part]) -> Result<Vec<Kind>, AllocError>
+fn printed_kinds(alloc: Global, parts: &[Part]) -> Result<Vec<WordKind>, AllocError>
     ensures ok { IfOk result (λ ks. ks.items ≡ part_kinds parts.now) }
 {
     let mut kinds = Vec::new(alloc);
     for part in parts {
         match part {
-            Part::Int => kinds.push(Kind::Int)?,
-            Part::Bool => kinds.push(Kind::Bool)?,
+            Part::Int => kinds.push(WordKind::Int)?,
+            Part::Bool => kinds.push(WordKind::Bool)?,
             Part::Text(_) => {}
         }
     }
@@ -80,7 +80,7 @@ fn printed_kinds(alloc: Global, parts: &[Part]) -> Result<Vec<Kind>, AllocError>
 }
 
 /// The kinds of a shape; none where it is not there.
-fn kinds_of(code: &Code, s: u32) -> &[Kind]
+fn kinds_of(code: &Code, s: u32) -> &[WordKind]
     ensures { result.now ≡ shape_kinds code.now s }
 {
     match code.shapes().get(s as usize) {
@@ -104,12 +104,12 @@ fn operands_of_clauses(
     alloc: Global,
     code: &Code,
     clauses: &[Clause],
-) -> Result<Vec<Kind>, AllocError>
+) -> Result<Vec<WordKind>, AllocError>
     ensures ok { IfOk result (λ ks. ks.items ≡ all_clause_kinds code.now clauses.now) }
 {
     let mut kinds = Vec::new(alloc);
     for clause in clauses {
-        kinds.push(Kind::Chan(clause.shape()))?;
+        kinds.push(WordKind::Chan(clause.shape()))?;
         if let Clause::Send(shape, _) = *clause {
             kinds.extend_from_slice(kinds_of(code, shape))?;
         }
@@ -131,19 +131,19 @@ fn wanted(alloc: Global, code: &Code, f: &Function, i: Instr) -> Result<Need, Al
         Instr::Pick(t, _, _) => Ok(Need::Some(t as usize)),
         Instr::Discard(n) => Ok(Need::Some(n as usize)),
         Instr::Apply(op) => Ok(operands(alloc, op)?),
-        Instr::Unless(_) => Ok(Need::These(vec![in alloc; Kind::Bool]?)),
+        Instr::Unless(_) => Ok(Need::These(vec![in alloc; WordKind::Bool]?)),
         Instr::Call(g) | Instr::Go(g) => {
             let params = params_of(&code.functions()[g as usize]);
             Ok(Need::These(Vec::from_slice(alloc, params)?))
         }
         Instr::Return => Ok(Need::These(Vec::from_slice(alloc, f.results())?)),
-        Instr::Make(_) => Ok(Need::These(vec![in alloc; Kind::Int]?)),
+        Instr::Make(_) => Ok(Need::These(vec![in alloc; WordKind::Int]?)),
         Instr::Send(s) => {
-            let mut kinds = vec![in alloc; Kind::Chan(s)]?;
+            let mut kinds = vec![in alloc; WordKind::Chan(s)]?;
             kinds.extend_from_slice(kinds_of(code, s))?;
             Ok(Need::These(kinds))
         }
-        Instr::Receive(s) => Ok(Need::These(vec![in alloc; Kind::Chan(s)]?)),
+        Instr::Receive(s) => Ok(Need::These(vec![in alloc; WordKind::Chan(s)]?)),
         Instr::Close | Instr::Len | Instr::Cap => Ok(Need::Channel),
         Instr::Print(q) => {
             let kinds = printed_kinds(alloc, code.prints()[q as usize].parts())?;
@@ -176,25 +176,25 @@ fn amount(need: &Need) -> usize
 }
 
 /// Whether the words on the top are what is wanted.
-fn meets(need: &Need, top: &[Kind]) -> bool
+fn meets(need: &Need, top: &[WordKind]) -> bool
     ensures { IsTrue result ↔ Meets (wants_of need.now) top.now }
 {
     match need {
         Need::These(kinds) => same_kinds(top, kinds),
         Need::Some(_) => true,
         Need::Channel => match top {
-            [Kind::Chan(_)] => true,
+            [WordKind::Chan(_)] => true,
             _ => false,
         },
         Need::Channels => match top {
-            [Kind::Chan(s), Kind::Chan(t)] => s == t,
+            [WordKind::Chan(s), WordKind::Chan(t)] => s == t,
             _ => false,
         },
     }
 }
 
 /// The kind of an operator's value.
-fn outcome(op: Op) -> Kind
+fn outcome(op: Op) -> WordKind
     ensures { result ≡ outcome_of op }
 {
     match op {
@@ -208,7 +208,7 @@ fn outcome(op: Op) -> Kind
         | Op::EqBool
         | Op::NeBool
         | Op::EqChan
-        | Op::NeChan => Kind::Bool,
+        | Op::NeChan => WordKind::Bool,
         Op::Add
         | Op::Sub
         | Op::Mul
@@ -221,21 +221,25 @@ fn outcome(op: Op) -> Kind
         | Op::Shl
         | Op::Shr
         | Op::Neg
-        | Op::Com => Kind::Int,
+        | Op::Com => WordKind::Int,
     }
 }
 
 /// Appends the kinds of an item and of a truth value.
-fn give_item(code: &Code, s: u32, out: &mut Vec<Kind>) -> Result<(), AllocError>
-    ensures ok { OnOk result (out.new.items ≡ out.old.items ++ (shape_kinds code.now s ++ Kind.Bool ∷ [])) }
+fn give_item(code: &Code, s: u32, out: &mut Vec<WordKind>) -> Result<(), AllocError>
+    ensures ok { OnOk result (out.new.items ≡ out.old.items ++ (shape_kinds code.now s ++ WordKind.Bool ∷ [])) }
 {
     out.extend_from_slice(kinds_of(code, s))?;
-    out.push(Kind::Bool)?;
+    out.push(WordKind::Bool)?;
     Ok(())
 }
 
 /// Appends what is left where a clause was done.
-fn give_clause(code: &Code, clause: Option<Clause>, out: &mut Vec<Kind>) -> Result<(), AllocError>
+fn give_clause(
+    code: &Code,
+    clause: Option<Clause>,
+    out: &mut Vec<WordKind>,
+) -> Result<(), AllocError>
     ensures ok { OnOk result (out.new.items ≡ out.old.items ++ clause_gives code.now clause) }
 {
     match clause {
@@ -251,17 +255,17 @@ fn give(
     f: &Function,
     i: Instr,
     way: usize,
-    top: &[Kind],
-    out: &mut Vec<Kind>,
+    top: &[WordKind],
+    out: &mut Vec<WordKind>,
 ) -> Result<(), AllocError>
     requires named { Named code.now f.now i }
     requires enough { count (wants code.now f.now i) ≤ length top.now }
     ensures ok { OnOk result (out.new.items ≡ out.old.items ++ leaves code.now f.now i way top.now) }
 {
     match i {
-        Instr::Int(_) | Instr::Len | Instr::Cap => Ok(out.push(Kind::Int)?),
-        Instr::Bool(_) => Ok(out.push(Kind::Bool)?),
-        Instr::Nil(s) | Instr::Make(s) => Ok(out.push(Kind::Chan(s))?),
+        Instr::Int(_) | Instr::Len | Instr::Cap => Ok(out.push(WordKind::Int)?),
+        Instr::Bool(_) => Ok(out.push(WordKind::Bool)?),
+        Instr::Nil(s) | Instr::Make(s) => Ok(out.push(WordKind::Chan(s))?),
         Instr::Load(a, n) => {
             let from = a as usize;
             let to = from + n as usize;
@@ -299,7 +303,7 @@ pub(crate) fn operands_at(
     code: &Code,
     f: &Function,
     i: Instr,
-    kinds: &[Kind],
+    kinds: &[WordKind],
 ) -> Result<Option<usize>, AllocError>
     requires { Named code.now f.now i }
     ensures ok { IfOk result (λ o. MatchOption o (Fits code.now f.now i kinds.now → ⊥) (λ at. Fits code.now f.now i kinds.now × (at + count (wants code.now f.now i) ≡ length kinds.now))) }
@@ -326,9 +330,9 @@ pub(crate) fn behind(
     f: &Function,
     i: Instr,
     way: usize,
-    kinds: &[Kind],
+    kinds: &[WordKind],
     at: usize,
-) -> Result<Vec<Kind>, AllocError>
+) -> Result<Vec<WordKind>, AllocError>
     requires named { Named code.now f.now i }
     requires at { at + count (wants code.now f.now i) ≡ length kinds.now }
     ensures ok { IfOk result (λ v. v.items ≡ afterwards code.now f.now i way kinds.now) }

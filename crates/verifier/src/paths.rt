@@ -8,7 +8,7 @@ ghost use Rattle.verifier.specs.Tables.{AreReached, Merged, Led, Followed, Visit
 
 use crate::effect::{behind, operands_at};
 use crate::scan::{scan, select_way, select_ways};
-use bytecode::{Code, Function, Instr, Kind, Rule, same_kinds};
+use bytecode::{Code, Function, Instr, Rule, WordKind, same_kinds};
 use std::alloc::{AllocError, Global};
 
 /// What came of a way to a place.
@@ -22,9 +22,9 @@ pub enum Merge {
 /// Enters the kinds at a place that has none.
 fn enter_kinds(
     alloc: Global,
-    table: &mut Vec<Option<Vec<Kind>>>,
+    table: &mut Vec<Option<Vec<WordKind>>>,
     to: usize,
-    kinds: &[Kind],
+    kinds: &[WordKind],
 ) -> Result<Merge, AllocError>
     requires { to < vec_len table.old }
     ensures len { vec_len table.new ≡ vec_len table.old }
@@ -49,9 +49,9 @@ fn lead(
     alloc: Global,
     code: &Code,
     f: &Function,
-    table: &mut Vec<Option<Vec<Kind>>>,
+    table: &mut Vec<Option<Vec<WordKind>>>,
     to: usize,
-    kinds: &[Kind],
+    kinds: &[WordKind],
 ) -> Result<Merge, AllocError>
     requires there { to < vec_len table.old }
     requires path { (n : ℕ) × Path code.now f.now n to kinds.now }
@@ -179,10 +179,10 @@ fn broken_rule(i: Instr) -> Rule
 
 /// What an instruction does at its place: it fits the kinds there, of which its operands begin at a number.
 #[derive(Drop)]
-pub enum Step {
+pub enum Transfer {
     Dead,
     Unfits(Rule),
-    Leads(Instr, Vec<Kind>, usize),
+    Leads(Instr, Vec<WordKind>, usize),
 }
 
 /// The instruction at a place and the kinds there.
@@ -190,9 +190,9 @@ fn step_at(
     alloc: Global,
     code: &Code,
     f: &Function,
-    table: &[Option<Vec<Kind>>],
+    table: &[Option<Vec<WordKind>>],
     place: usize,
-) -> Result<Step, AllocError>
+) -> Result<Transfer, AllocError>
     requires there { place < length f.now.instrs }
     requires named { (i : Instr) → slice_get f.now.instrs place ≡ Some i → Named code.now f.now i × Inside f.now place i }
     requires len { length table.now ≡ length f.now.instrs }
@@ -200,12 +200,12 @@ fn step_at(
     ensures ok { IfOk result (λ s. Steps s code.now f.now table.now place) }
 {
     match &table[place] {
-        None => Ok(Step::Dead),
+        None => Ok(Transfer::Dead),
         Some(ks) => {
             let i = f.instrs()[place];
             match operands_at(alloc, code, f, i, ks)? {
-                None => Ok(Step::Unfits(broken_rule(i))),
-                Some(at) => Ok(Step::Leads(i, Vec::from_slice(alloc, ks)?, at)),
+                None => Ok(Transfer::Unfits(broken_rule(i))),
+                Some(at) => Ok(Transfer::Leads(i, Vec::from_slice(alloc, ks)?, at)),
             }
         }
     }
@@ -224,10 +224,10 @@ fn follow(
     alloc: Global,
     code: &Code,
     f: &Function,
-    table: &mut Vec<Option<Vec<Kind>>>,
+    table: &mut Vec<Option<Vec<WordKind>>>,
     place: usize,
     i: Instr,
-    kinds: &[Kind],
+    kinds: &[WordKind],
     at: usize,
     number: usize,
 ) -> Result<Onward, AllocError>
@@ -259,10 +259,10 @@ fn spread(
     alloc: Global,
     code: &Code,
     f: &Function,
-    table: &mut Vec<Option<Vec<Kind>>>,
+    table: &mut Vec<Option<Vec<WordKind>>>,
     place: usize,
     i: Instr,
-    kinds: &[Kind],
+    kinds: &[WordKind],
     at: usize,
 ) -> Result<Visit, AllocError>
     requires there { place < length f.now.instrs }
@@ -294,7 +294,7 @@ fn look(
     alloc: Global,
     code: &Code,
     f: &Function,
-    table: &mut Vec<Option<Vec<Kind>>>,
+    table: &mut Vec<Option<Vec<WordKind>>>,
     place: usize,
 ) -> Result<Visit, AllocError>
     requires there { place < length f.now.instrs }
@@ -306,9 +306,9 @@ fn look(
     ensures ok { IfOk result (λ v. Visited v code.now f.now table.old.items table.new.items place) }
 {
     match step_at(alloc, code, f, table, place)? {
-        Step::Dead => Ok(Visit::Settles),
-        Step::Unfits(rule) => Ok(Visit::Unfit(rule)),
-        Step::Leads(i, kinds, at) => Ok(spread(alloc, code, f, table, place, i, &kinds, at)?),
+        Transfer::Dead => Ok(Visit::Settles),
+        Transfer::Unfits(rule) => Ok(Visit::Unfit(rule)),
+        Transfer::Leads(i, kinds, at) => Ok(spread(alloc, code, f, table, place, i, &kinds, at)?),
     }
 }
 
@@ -326,7 +326,7 @@ fn pass(
     alloc: Global,
     code: &Code,
     f: &Function,
-    table: &mut Vec<Option<Vec<Kind>>>,
+    table: &mut Vec<Option<Vec<WordKind>>>,
 ) -> Result<Sweep, AllocError>
     requires named { (place : ℕ) → (i : Instr) → slice_get f.now.instrs place ≡ Some i → Named code.now f.now i × Inside f.now place i }
     requires len { vec_len table.old ≡ length f.now.instrs }
@@ -354,13 +354,13 @@ fn pass(
 /// The kinds at each place of a function, or the rule that it breaks.
 #[derive(Drop)]
 pub enum Inferred {
-    Full(Vec<Option<Vec<Kind>>>),
+    Full(Vec<Option<Vec<WordKind>>>),
     BrokenAt(Rule, usize),
     PartedAt(usize),
 }
 
 /// A table where only the start has kinds, which are none.
-fn blank(alloc: Global, code: &Code, f: &Function) -> Result<Vec<Option<Vec<Kind>>>, AllocError>
+fn blank(alloc: Global, code: &Code, f: &Function) -> Result<Vec<Option<Vec<WordKind>>>, AllocError>
     requires { 0 < length f.now.instrs }
     ensures ok { IfOk result (λ t. (vec_len t ≡ length f.now.instrs) × Reached code.now f.now t.items) }
 {

@@ -1,5 +1,5 @@
 use crate::verify;
-use bytecode::{Clause, Code, Function, Instr, Kind, Part, PrintTable, SelectTable, Shape};
+use bytecode::{Clause, Code, Function, Instr, Part, PrintTable, SelectTable, Shape, WordKind};
 use go_text::Fault;
 use std::alloc::{AllocError, Global};
 use std::test::Fail;
@@ -9,7 +9,7 @@ use word::apply::Op;
 fn function(
     alloc: Global,
     name: &str,
-    kinds: (u32, &[Kind], &[Kind]),
+    kinds: (u32, &[WordKind], &[WordKind]),
     instrs: &[Instr],
 ) -> Result<Function, AllocError> {
     let (params, locals, results) = kinds;
@@ -52,10 +52,15 @@ fn code(alloc: Global, instrs: &[Instr]) -> Result<Code, AllocError> {
         Instr::Return,
     ];
     let mut functions = Vec::new(alloc);
-    functions.push(function(alloc, "main", (0, &[Kind::Int], &[]), instrs)?)?;
-    functions.push(function(alloc, "negative", (1, &[Kind::Int], &[Kind::Bool]), &second)?)?;
+    functions.push(function(alloc, "main", (0, &[WordKind::Int], &[]), instrs)?)?;
+    functions.push(function(
+        alloc,
+        "negative",
+        (1, &[WordKind::Int], &[WordKind::Bool]),
+        &second,
+    )?)?;
     let mut shapes = Vec::new(alloc);
-    shapes.push(Shape::new(Vec::from_slice(alloc, &[Kind::Int, Kind::Chan(0)])?))?;
+    shapes.push(Shape::new(Vec::from_slice(alloc, &[WordKind::Int, WordKind::Chan(0)])?))?;
     let mut prints = Vec::new(alloc);
     prints.push(PrintTable::new(Vec::from_array(alloc, [Part::Int])?, false))?;
     prints.push(PrintTable::new(Vec::from_array(alloc, [Part::Bool])?, true))?;
@@ -154,12 +159,12 @@ fn bad_tables_are_refused(rt: HostRuntime) -> Result<(), Fail> {
     let alloc = rt.alloc();
     let mut wide = Vec::new(alloc);
     for _ in 0..17 {
-        wide.push(Kind::Int)?;
+        wide.push(WordKind::Int)?;
     }
     for (kinds, rule) in [
         (Vec::new(alloc), 7),
         (wide, 7),
-        (Vec::from_slice(alloc, &[Kind::Chan(1)])?, 1),
+        (Vec::from_slice(alloc, &[WordKind::Chan(1)])?, 1),
     ] {
         let mut functions = Vec::new(alloc);
         functions.push(function(alloc, "main", (0, &[], &[]), &[Instr::Return])?)?;
@@ -187,10 +192,10 @@ fn code_without_main_is_refused(rt: HostRuntime) -> Result<(), Fail> {
     for (name, params, result) in [
         ("Main", 0, Vec::new(alloc)),
         ("main", 1, Vec::new(alloc)),
-        ("main", 0, Vec::from_slice(alloc, &[Kind::Int])?),
+        ("main", 0, Vec::from_slice(alloc, &[WordKind::Int])?),
     ] {
         let instrs = [Instr::Load(0, 1), Instr::Return];
-        let kinds = (params, [Kind::Int].as_slice(), result.as_slice());
+        let kinds = (params, [WordKind::Int].as_slice(), result.as_slice());
         let mut functions = Vec::new(alloc);
         functions.push(function(alloc, name, kinds, &instrs)?)?;
         let code = Code::new(functions, Vec::new(alloc), Vec::new(alloc));

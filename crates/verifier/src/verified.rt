@@ -7,19 +7,11 @@ ghost use Rattle.verifier.specs.Refusals.{IsRefused, NeverStuck, ShapesFine, Pri
 ghost use Rattle.verifier.specs.Tables.{Judged};
 
 use crate::paths::check_function;
-use bytecode::{Code, Function, Kind, Rule, SelectTable};
+use bytecode::{Code, Function, MAX_CLAUSES, MAX_PARTS, Rule, SelectTable, WordKind};
 use go_text::Fault;
 use std::alloc::{AllocError, Global};
 use std::marker::Model;
-
-/// The most words of an item.
-const MAX_WORDS: usize = 16;
-
-/// The most parts of a print table.
-const MAX_PARTS: usize = 64;
-
-/// The most clauses of a select, a default counted too.
-const MAX_CLAUSES: usize = 64;
+use word::limits::MAX_WORDS;
 
 /// Code that keeps all rules of the verifier.
 #[derive(Debug, Drop)]
@@ -104,18 +96,18 @@ fn broken(alloc: Global, code: &Code) -> Result<Option<(Rule, usize, usize)>, Al
 }
 
 /// Whether the shape that a kind names is there.
-fn is_there(code: &Code, kind: Kind) -> bool
+fn is_there(code: &Code, kind: WordKind) -> bool
     ensures { IsTrue result ↔ IsThere code.now kind }
 {
     match kind {
-        Kind::Int => true,
-        Kind::Bool => true,
-        Kind::Chan(shape) => (shape as usize) < code.shapes().len(),
+        WordKind::Int => true,
+        WordKind::Bool => true,
+        WordKind::Chan(shape) => (shape as usize) < code.shapes().len(),
     }
 }
 
 /// Whether the shapes that these kinds name are there.
-fn are_there(code: &Code, kinds: &[Kind]) -> bool
+fn are_there(code: &Code, kinds: &[WordKind]) -> bool
     ensures { IsTrue result ↔ AreThere code.now kinds.now }
 {
     for number in 0..kinds.len() {
@@ -137,7 +129,7 @@ fn is_headed(code: &Code, f: &Function) -> bool
 }
 
 /// The rule that a shape breaks.
-fn shape_rule(code: &Code, kinds: &[Kind]) -> Option<Rule>
+fn shape_rule(code: &Code, kinds: &[WordKind]) -> Option<Rule>
     ensures none { IfNone result (IsShaped code.now kinds.now) }
     ensures some { IfSome result (λ rule. ShapeBroken code.now kinds.now rule) }
 {

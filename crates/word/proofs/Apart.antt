@@ -5,13 +5,13 @@ use Rattle.std.proofs.lemmas.List.{get_or_past, get_or_append_left}
 use Rattle.logical_clock.specs.declared.key.Key.{Key}
 use Rattle.turn_rule.specs.Turns.{World, next, changed, move_on, move_at, move_next, perform as perform_in, one, run}
 use Rattle.word.specs.Values.{Request, Reply, Sleeper}
-use Rattle.word.specs.Kinds.{Kind, Clocked, asks}
+use Rattle.word.specs.Kinds.{GoroutineKind, Clocked, asks}
 use Rattle.word.specs.Requests.{Fate, GoesOn, Dozes, Leaves, Stays, Deed, act, meant}
 use Rattle.word.specs.Worlds.{Bed, Rest, actor_after, woken_by, begun_at, effect, performs, rules, opening, moment}
 use Rattle.word.proofs.Found.{In}
 use Rattle.word.proofs.Fair.{IsApart, Lies, Fair, fair}
 
-module _ (K : Kind) (limit : ℕ) where
+module _ (K : GoroutineKind) (limit : ℕ) where
   abbrev States : Type 0
   States = List (Option (Clocked K.State))
 

@@ -5,8 +5,8 @@ use Rattle.std.specs.Option.{is_some}
 use Rattle.std.proofs.lemmas.Bool.{cases_lt, eq-eqb, ne_eqb}
 use Rattle.turn_rule.specs.Turns.{Effect, Rules, World, run}
 use Rattle.turn_rule.proofs.Twins.{RowAlike, ChangesAlike, AllAlike, EffectsAlike, Twins, twins_run, effects_flip, twins_flip}
-use Rattle.word.specs.Values.{Word, Request, Exit, Panic, Exhausted, Reply, Nothing, Value, Received, Clause, Default, Closed, Outcome, Done, Ending, Finished, RanOut, Sleeper, Shared, SendOnClosed}
-use Rattle.word.specs.Kinds.{Next, Slides, Ticks, Asks, Stuck, Kind, Clocked, at, asks_of, does, asks, told, Suits}
+use Rattle.word.specs.Values.{Word, Request, Exit, Panic, Exhausted, Reply, Nothing, Value, Received, Clause, Default, Closed, EventOutcome, Done, Ending, Finished, RanOut, Sleeper, Shared, SendOnClosed}
+use Rattle.word.specs.Kinds.{Next, Slides, Ticks, Asks, Stuck, GoroutineKind, Clocked, at, asks_of, does, asks, told, Suits}
 use Rattle.word.specs.Requests.{Fate, GoesOn, Dozes, Leaves, Stays, Deed, ends, act, meant, perform}
 use Rattle.word.specs.Worlds.{Rest, in_bed, actor_after, beds_after, woken_by, begun_at, effect, performs, rules, opening, moment, end_by, Same, Follows, Equal}
 use Rattle.word.proofs.Laws.{laws}
@@ -21,7 +21,7 @@ asks_spent limit clock (Ticks a) q e h = let c = cond_at clock limit (Some Exhau
 asks_spent limit clock (Asks p) q e h = let c = cond_at clock limit (Some Exhausted) (Some p) e in cc
 asks_spent limit clock Stuck q e h = cc
 
-module _ (K M : Kind) (R : K.State → M.State → Type 0) (limit : ℕ) (finds : (clock : ℕ) → clock ≤ limit → (s : K.State) (c : M.State) → R s c → Like K M R limit (at clock s) (at clock c)) where
+module _ (K M : GoroutineKind) (R : K.State → M.State → Type 0) (limit : ℕ) (finds : (clock : ℕ) → clock ≤ limit → (s : K.State) (c : M.State) → R s c → Like K M R limit (at clock s) (at clock c)) where
   abbrev Rk : Rules (Clocked K.State) (Rest K.State)
   Rk = rules K limit
 
@@ -100,7 +100,7 @@ module _ (K M : Kind) (R : K.State → M.State → Type 0) (limit : ℕ) (finds 
       shared = kept_after d.shared d.fate h.asleep;
     }
 
-    ends_by : (clock c : ℕ) (q : Request) (o : Outcome) (e : Ending) → EffectsLike (effect K limit w n clock s (ends w.shared n c q o e)) (effect M limit v n clock t (ends w.shared n c q o e))
+    ends_by : (clock c : ℕ) (q : Request) (o : EventOutcome) (e : Ending) → EffectsLike (effect K limit w n clock s (ends w.shared n c q o e)) (effect M limit v n clock t (ends w.shared n c q o e))
     ends_by clock c q o e = record {
       changes = (refl, like_here K M R limit s t same f, tt);
       started = tt;
@@ -197,7 +197,7 @@ module _ (K M : Kind) (R : K.State → M.State → Type 0) (limit : ℕ) (finds 
   back start m = let r = pairs_back m (opening K) (opening M) (opening_pair start) in (r.0, flip_same (moment K limit r.0) (moment M limit m) (same_seen (moment K limit r.0) (moment M limit m) r.1))
 
 -- what has to be shown of two kinds: a relation that each step keeps, silent steps that end, and alike beginnings
-pub equal : (K M : Kind) (R : K.State → M.State → Type 0) (size : K.State → ℕ)
+pub equal : (K M : GoroutineKind) (R : K.State → M.State → Type 0) (size : K.State → ℕ)
     → ((s : K.State) (c : M.State) → R s c → Matches K M R s (K.next s) c)
     → ((s : K.State) → Falls size (size s) (K.next s))
     → R (K.begin K.main []) (M.begin M.main [])

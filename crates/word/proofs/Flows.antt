@@ -6,9 +6,9 @@ use Rattle.std.proofs.lemmas.Bool.{eqb-true, eq-eqb, ne_eqb, true≢false, cases
 use Rattle.std.proofs.lemmas.Bool.Decides.{nat_tests}
 use Rattle.std.proofs.lemmas.Option.{same_Some}
 use Rattle.std.proofs.lemmas.List.{get_or_past, get_or_append_left, get_or-append_right}
-use Rattle.word.specs.Values.{Word, Int, Chan, Item, Case, Request, Make, Go, Send, Receive, Close, Select, Len, Cap, Print, End, Exit, Panic, Exhausted, Reply, Nothing, Value, Clause, Default, Outcome, Ending, Finished, Panicked, RanOut, Done, Sleeps, Panics, Event, Sleeper, Offer, Channel, Shared, ChannelSize, CloseOfClosed, CloseOfNil, SendOnClosed, TooManyChannels, TooManyGoroutines}
+use Rattle.word.specs.Values.{Word, Int, Chan, Item, Case, Request, Make, Go, Send, Receive, Close, Select, Len, Cap, Print, End, Exit, Panic, Exhausted, Reply, Nothing, Value, Clause, Default, EventOutcome, Ending, Finished, Panicked, RanOut, Done, Sleeps, Panics, Event, Sleeper, Offer, Channel, Shared, ChannelSize, CloseOfClosed, CloseOfNil, SendOnClosed, TooManyChannels, TooManyGoroutines}
 use Rattle.word.specs.Requests.{GoesOn, happened, no_channel, channel_of, with_offer, clause_offers, offers, first_offer, or_else, partner, without, without_all, sent, got, done, sleeps, ends, panics, with_channel, send_to, do_send, receive_from, do_receive, send_ready, receive_ready, is_ready, choose, do_clause, do_select, do_make, do_go, do_close, close_reply, partners, act}
-use Rattle.word.specs.Kinds.{Kind}
+use Rattle.word.specs.Kinds.{GoroutineKind}
 use Rattle.word.specs.Worlds.{opening, moment}
 use Rattle.word.specs.Flow.{clause_deal, Deal, Gives, Takes, NoDeal, reply_deal, case_deal, deal, latest, is_sleeps, dozed, slept, item_of, offered, enters, leaves, accepted_after, accepted, received, InOrder}
 use Rattle.word.proofs.Found.{In}
@@ -132,7 +132,7 @@ module _ (w : Shared) (n c : ℕ) (q : Request) (sw : IsSound w) where
   not_dozed x m true e = absurd (true≢false (sym e ∙ and_false (m == x)))
   not_dozed x m false e = refl
 
-  sound_on : (ss : List Sleeper) (cs : List Channel) (o : Outcome) (who : List ℕ) → is_sleeps o ≡ false → ((x : Sleeper) → In x ss → In x w.asleep)
+  sound_on : (ss : List Sleeper) (cs : List Channel) (o : EventOutcome) (who : List ℕ) → is_sleeps o ≡ false → ((x : Sleeper) → In x ss → In x w.asleep)
       → ((k : ℕ) (x : Sleeper) (f : Offer) → In x w.asleep → first_offer k false (offers x.request) ≡ Some f → (channel_of cs k).items ≡ [])
       → (let e : Event = record { clock = c; number = n; request = q; outcome = o; partners = who } in ((j : ℕ) → Ord j (deal e) who (channel_of cs j).items) → Sound ss cs (w.events ++ e ∷ []))
   sound_on ss cs o who ns sub calm order =
@@ -159,7 +159,7 @@ module _ (w : Shared) (n c : ℕ) (q : Request) (sw : IsSound w) where
   sound_idle v same sub reply ws e items =
       sound_done v same sub reply ws NoDeal e (λ k x f i t. items k ∙ sw.calm k x f i t) (λ j. idle (accepted j w.events) (received j w.events) (channel_of v.channels j).items (sw.order j ∙ ap (λ l. received j w.events ++ l) (sym (items j))))
 
-  sound_ends : (o : Outcome) (e : Ending) → is_sleeps o ≡ false → deal (record { clock = c; number = n; request = q; outcome = o; partners = [] }) ≡ NoDeal → IsSound (ends w n c q o e).shared
+  sound_ends : (o : EventOutcome) (e : Ending) → is_sleeps o ≡ false → deal (record { clock = c; number = n; request = q; outcome = o; partners = [] }) ≡ NoDeal → IsSound (ends w n c q o e).shared
   sound_ends o e ns nd = sound_on w.asleep w.channels o [] ns (λ x i. i) (λ k x f i t. sw.calm k x f i t) (λ j. subst (λ z. Ord j z [] (its j)) (sym nd) (idle (accepted j w.events) (received j w.events) (its j) (sw.order j)))
 
   sound_sleeps : ((k : ℕ) (f : Offer) → first_offer k false (offers q) ≡ Some f → its k ≡ []) → IsSound (sleeps w n c q).shared
@@ -385,8 +385,8 @@ empty_items : (k : ℕ) → (channel_of (no_channel ∷ []) k).items ≡ []
 empty_items zero = refl
 empty_items (suc k) = refl
 
-pub opening_sound : (K : Kind) → IsSound (opening K).shared.shared
+pub opening_sound : (K : GoroutineKind) → IsSound (opening K).shared.shared
 opening_sound K = record { asleep = λ x i. elim i [ ]; calm = λ k x f i t. elim i [ ]; order = λ k. sym (empty_items k) }
 
-pub in_order : (K : Kind) (limit n : ℕ) → InOrder (moment K limit n).shared.shared
+pub in_order : (K : GoroutineKind) (limit n : ℕ) → InOrder (moment K limit n).shared.shared
 in_order K limit n = (moment_keeps IsSound sound_act K limit (opening_sound K) n).order

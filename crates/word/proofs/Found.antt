@@ -7,7 +7,7 @@ use Rattle.turn_rule.specs.Turns.{moved}
 use Rattle.turn_rule.proofs.Stable.{stepped_is}
 use Rattle.turn_rule.proofs.Twins.{Alike}
 use Rattle.word.specs.Values.{Request, Exhausted, Sleeper}
-use Rattle.word.specs.Kinds.{Next, Slides, Ticks, Asks, Stuck, Kind, Clocked, at, local_of, asks_of, local, asks}
+use Rattle.word.specs.Kinds.{Next, Slides, Ticks, Asks, Stuck, GoroutineKind, Clocked, at, local_of, asks_of, local, asks}
 use Rattle.word.specs.Worlds.{Rest, in_bed, rules}
 use Rattle.word.specs.Related.{Slips, here, more, Falls, Starts, Answers, Matches}
 use Rattle.word.proofs.Laws.{laws}
@@ -23,7 +23,7 @@ cond_at clock limit a b e = ap (λ t. cond t a b) (eq-eqb clock limit e)
 pub cond_below : {A : Type 0} (clock limit : ℕ) (a b : A) → clock < limit → cond (clock == limit) a b ≡ b
 cond_below clock limit a b h = let ne : clock ≡ limit → ⊥ = omega arith in ap (λ t. cond t a b) (ne_eqb clock limit ne)
 
-module _ (K M : Kind) (R : K.State → M.State → Type 0) where
+module _ (K M : GoroutineKind) (R : K.State → M.State → Type 0) where
   module _ (limit : ℕ) where
     -- both ask the same, and go on alike
     pub record Ready (s : Clocked K.State) (t : Clocked M.State) : Type 0 where

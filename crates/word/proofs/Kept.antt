@@ -2,12 +2,12 @@
 use Rattle.std.proofs.Common.{ℕ, zero, suc, Bool, true, false, cond, Option, Some, None, get_or}
 use Rattle.logical_clock.specs.declared.key.Key.{Key}
 use Rattle.turn_rule.specs.Turns.{World, next, move_on, move_at, move_next, perform as perform_in, one, run}
-use Rattle.word.specs.Kinds.{Kind, Clocked, asks}
+use Rattle.word.specs.Kinds.{GoroutineKind, Clocked, asks}
 use Rattle.word.specs.Values.{Request, Shared}
 use Rattle.word.specs.Requests.{act, meant}
 use Rattle.word.specs.Worlds.{Rest, rules, performs, opening, moment}
 
-module _ (P : Shared → Type 0) (keeps : (w : Shared) (n c : ℕ) (q : Request) → P w → P (act w n c q q).shared) (K : Kind) (limit : ℕ) where
+module _ (P : Shared → Type 0) (keeps : (w : Shared) (n c : ℕ) (q : Request) → P w → P (act w n c q q).shared) (K : GoroutineKind) (limit : ℕ) where
   performs_keeps : (w : Rest K.State) (n : ℕ) (s : Clocked K.State) (o : Option Request) → P w.shared → P (performs K limit w n s o).shared.shared
   performs_keeps w n s None h = h
   performs_keeps w n s (Some q) h = keeps w.shared n s.clock (meant w.shared n q) h

@@ -4,7 +4,7 @@ use Rattle.std.specs.Prelude.{unwrap_or, ◌==◌}
 use Rattle.std.specs.Option.{is_some}
 use Rattle.turn_rule.specs.Schedule.{Laws}
 use Rattle.word.specs.Values.{Exhausted}
-use Rattle.word.specs.Kinds.{Next, Slides, Ticks, Asks, Stuck, Kind, Clocked, at, local_of, asks_of, does}
+use Rattle.word.specs.Kinds.{Next, Slides, Ticks, Asks, Stuck, GoroutineKind, Clocked, at, local_of, asks_of, does}
 use Rattle.word.specs.Worlds.{rules}
 
 ticks_climb : {A : Type 0} (s : Clocked A) (a : A) (b : Bool) → s.clock ≤ (unwrap_or (cond b None (Some (at (s.clock + 1) a))) s).clock
@@ -27,7 +27,7 @@ parks_by limit s (Ticks a) h = ticks_park s a (s.clock == limit) h
 parks_by limit s (Asks q) h = refl
 parks_by limit s Stuck h = refl
 
-pub laws : (K : Kind) (limit : ℕ) → Laws (rules K limit)
+pub laws : (K : GoroutineKind) (limit : ℕ) → Laws (rules K limit)
 laws K limit = record {
   climbs = λ s. climbs_by limit s (does K s);
   parks = λ s h. parks_by limit s (does K s) h;

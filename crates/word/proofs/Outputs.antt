@@ -7,7 +7,7 @@ use Rattle.turn_rule.specs.Turns.{World as Whole, run}
 use Rattle.turn_rule.proofs.Grows.{lengthens}
 use Rattle.turn_rule.proofs.Stable.{run_add}
 use Rattle.word.specs.Values.{Item, Case, Request, Make, Go, Send, Receive, Close, Select, Len, Cap, Print, End, Exit, Panic, Exhausted, Sleeper, Offer, Channel, Shared, ChannelSize, CloseOfClosed, SendOnClosed, TooManyChannels, TooManyGoroutines}
-use Rattle.word.specs.Kinds.{Kind, Clocked, asks}
+use Rattle.word.specs.Kinds.{GoroutineKind, Clocked, asks}
 use Rattle.word.specs.Requests.{Deed, channel_of, partner, sleeps, panics, send_to, do_send, receive_from, do_receive, send_ready, receive_ready, choose, do_clause, do_select, do_make, act, meant}
 use Rattle.word.specs.Worlds.{Rest, rules, performs, opening, moment}
 use Rattle.word.proofs.Laws.{laws}
@@ -70,7 +70,7 @@ module _ (w : Shared) (n c : ℕ) (q : Request) where
   longer_act (Panic p) = kept
   longer_act Exhausted = kept
 
-module _ (K : Kind) (limit : ℕ) where
+module _ (K : GoroutineKind) (limit : ℕ) where
   abbrev output_of : Rest K.State → List ℕ
   output_of w = w.shared.output
 

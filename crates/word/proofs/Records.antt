@@ -7,7 +7,7 @@ use Rattle.turn_rule.specs.Turns.{run}
 use Rattle.turn_rule.proofs.Grows.{grows}
 use Rattle.turn_rule.proofs.Settled.{same_count}
 use Rattle.word.specs.Values.{Item, Case, Request, Make, Go, Send, Receive, Close, Select, Len, Cap, Print, End, Exit, Panic, Exhausted, Event, Sleeper, Offer, Channel, Shared, ChannelSize, CloseOfClosed, SendOnClosed, TooManyChannels, TooManyGoroutines}
-use Rattle.word.specs.Kinds.{Kind, Clocked, asks}
+use Rattle.word.specs.Kinds.{GoroutineKind, Clocked, asks}
 use Rattle.word.specs.Requests.{Deed, channel_of, partner, sleeps, panics, send_to, do_send, receive_from, do_receive, send_ready, receive_ready, choose, do_clause, do_select, do_make, act, meant}
 use Rattle.word.specs.Worlds.{Rest, rules, performs, opening, moment}
 use Rattle.word.proofs.Laws.{laws}
@@ -67,7 +67,7 @@ module _ (w : Shared) (n c : ℕ) (q : Request) where
   one_act (Panic p) = (_, refl)
   one_act Exhausted = (_, refl)
 
-module _ (K : Kind) (limit : ℕ) where
+module _ (K : GoroutineKind) (limit : ℕ) where
   abbrev pub events_of : Rest K.State → List Event
   events_of w = w.shared.events
 

@@ -2,13 +2,13 @@
 use Rattle.std.proofs.Common.{◌≡◌, ℕ, zero, suc, ◌+◌, ◌<◌, ◌≤◌, ◌≢◌, ℤ, pos, negsuc, Bool, true, false, ◌&&◌, cond, List, [], ◌∷◌, ◌++◌, map, length, Option, Some, None, refl, sym, ap, ◌∙◌, subst, inl, inr, ◌⊎◌, arith, append_assoc, append-nil, length-append, get_or}
 use Rattle.std.specs.Prelude.{◌==◌, nat_lt}
 use Rattle.std.proofs.lemmas.Bool.{eq-eqb, ne_eqb}
-use Rattle.word.specs.Values.{Cause, Item, Case, Request, Make, Go, Send, Receive, Close, Select, Len, Cap, Print, End, Exit, Panic, Exhausted, Reply, Nothing, Outcome, Done, Sleeps, Panics, Event, Sleeper, Offer, Channel, Shared, ChannelSize, CloseOfClosed, CloseOfNil, SendOnClosed, TooManyChannels, TooManyGoroutines}
+use Rattle.word.specs.Values.{Cause, Item, Case, Request, Make, Go, Send, Receive, Close, Select, Len, Cap, Print, End, Exit, Panic, Exhausted, Reply, Nothing, EventOutcome, Done, Sleeps, Panics, Event, Sleeper, Offer, Channel, Shared, ChannelSize, CloseOfClosed, CloseOfNil, SendOnClosed, TooManyChannels, TooManyGoroutines}
 use Rattle.word.specs.Requests.{Fate, GoesOn, Dozes, Leaves, Stays, Deed, channel_of, offers, first_offer, partner, done, sleeps, panics, send_to, do_send, receive_from, send_ready, receive_ready, choose, do_clause, do_select, do_make, act, meant}
 use Rattle.word.specs.Flow.{Deal, Gives, Takes, NoDeal, deal, is_sleeps, item_of}
 use Rattle.word.specs.Rising.{Entry, later, falls_in, fell, offered_by, entered, entries_after, entries, IsIn, Rises, IsRising}
 use Rattle.logical_clock.specs.declared.key.Key.{Key}
 use Rattle.turn_rule.specs.Turns.{World, next, move_on, move_at, move_next, perform as perform_in, one, run}
-use Rattle.word.specs.Kinds.{Kind, Clocked, asks}
+use Rattle.word.specs.Kinds.{GoroutineKind, Clocked, asks}
 use Rattle.word.specs.Worlds.{Rest, rules, performs, opening, moment}
 use Rattle.word.proofs.Apart.{Apart, not_asleep, one_by as one_apart}
 use Rattle.word.proofs.Found.{In}
@@ -46,7 +46,7 @@ rises_append (a ∷ es) fs r s h = ((λ b i e. elim (is_in_append es fs b i) [ i
 
 -- what the event of a deed says
 pub record Logs (w : Shared) (n c : ℕ) (q : Request) (d : Deed) : Type 0 where
-  pub o : Outcome
+  pub o : EventOutcome
   pub who : List ℕ
   pub events : d.shared.events ≡ w.events ++ record { clock = c; number = n; request = q; outcome = o; partners = who } ∷ []
   pub dozes : d.fate ≡ Dozes → is_sleeps o ≡ true
@@ -130,7 +130,7 @@ is_in_map p i [] a h = elim h [ ]
 is_in_map p i (y ∷ ys) a (inl e) = (ap (λ (b : Entry). b.sender) e, ap (λ (b : Entry). b.event) e)
 is_in_map p i (y ∷ ys) a (inr h) = is_in_map p i ys a h
 
-sleeps_nodeal : (n c : ℕ) (q : Request) (o : Outcome) (who : List ℕ) → is_sleeps o ≡ true → deal (record { clock = c; number = n; request = q; outcome = o; partners = who }) ≡ NoDeal
+sleeps_nodeal : (n c : ℕ) (q : Request) (o : EventOutcome) (who : List ℕ) → is_sleeps o ≡ true → deal (record { clock = c; number = n; request = q; outcome = o; partners = who }) ≡ NoDeal
 sleeps_nodeal n c q (Done reply) who h = cc
 sleeps_nodeal n c q Sleeps who h = refl
 sleeps_nodeal n c q (Panics p k) who h = cc
@@ -253,7 +253,7 @@ module _ (w : Shared) (n c : ℕ) (q : Request) (rk : Ranked w.asleep w.events) 
   pub ranked_deed : Ranked d.shared.asleep d.shared.events
   ranked_deed = subst (Ranked d.shared.asleep) (sym lg.events) (record { low = low_now; since = λ x i. since_by d.fate refl x (fr.asleep x i) (fr.gone x i); rises = rises_now })
 
-module _ (K : Kind) (limit : ℕ) where
+module _ (K : GoroutineKind) (limit : ℕ) where
   abbrev Rank : World (Clocked K.State) (Rest K.State) → Type 0
   Rank w = Ranked w.shared.shared.asleep w.shared.shared.events
 

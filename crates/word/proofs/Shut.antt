@@ -5,9 +5,9 @@ use Rattle.std.specs.Option.{is_some}
 use Rattle.std.proofs.lemmas.Bool.{and_parts, eqb-true, ne_eqb, true≢false, cases_eq, cases_lt}
 use Rattle.std.proofs.lemmas.Bool.Decides.{nat_tests}
 use Rattle.std.proofs.lemmas.List.{get_or_past, get_or_append_left, get_or-append_right, set_past, append-nil}
-use Rattle.word.specs.Values.{Cause, Int, Chan, Item, Case, Request, Make, Go, Send, Receive, Close, Select, Len, Cap, Print, End, Exit, Panic, Exhausted, Reply, Nothing, Value, Clause, Default, Outcome, Ending, Finished, Panicked, RanOut, Done, Sleeps, Panics, Event, Sleeper, Offer, Channel, Shared, ChannelSize, CloseOfClosed, CloseOfNil, SendOnClosed, TooManyChannels, TooManyGoroutines}
+use Rattle.word.specs.Values.{Cause, Int, Chan, Item, Case, Request, Make, Go, Send, Receive, Close, Select, Len, Cap, Print, End, Exit, Panic, Exhausted, Reply, Nothing, Value, Clause, Default, EventOutcome, Ending, Finished, Panicked, RanOut, Done, Sleeps, Panics, Event, Sleeper, Offer, Channel, Shared, ChannelSize, CloseOfClosed, CloseOfNil, SendOnClosed, TooManyChannels, TooManyGoroutines}
 use Rattle.word.specs.Requests.{GoesOn, happened, no_channel, channel_of, with_offer, clause_offers, offers, first_offer, first_on, also, partner, without, without_all, sent, got, done, sleeps, ends, panics, with_channel, send_to, do_send, receive_from, do_receive, send_ready, receive_ready, is_ready, choose, do_clause, do_select, do_make, do_close, close_reply, partners, act}
-use Rattle.word.specs.Kinds.{Kind}
+use Rattle.word.specs.Kinds.{GoroutineKind}
 use Rattle.word.specs.Worlds.{opening, moment}
 use Rattle.word.specs.Flow.{clause_deal, Gives, Takes, NoDeal, reply_deal, deal, slept, offered, enters}
 use Rattle.word.specs.Closing.{is_done, is_make, is_close, makes, made_in, closes, closed_after, is_closed_in, ShutAfter, IsShut}
@@ -115,11 +115,11 @@ module _ (w : Shared) (n c : ℕ) (q : Request) (tw : IsTight w) where
   abbrev its : ℕ → Bool
   its j = (channel_of w.channels j).closed
 
-  abbrev event : Outcome → List ℕ → Event
+  abbrev event : EventOutcome → List ℕ → Event
   event o who = record { clock = c; number = n; request = q; outcome = o; partners = who }
 
   -- one event more
-  tight_on : (ss : List Sleeper) (cs : List Channel) (o : Outcome) (who : List ℕ) → length cs ≡ length w.channels + makes (event o who) → ((j : ℕ) → its j ≡ true → (channel_of cs j).closed ≡ true)
+  tight_on : (ss : List Sleeper) (cs : List Channel) (o : EventOutcome) (who : List ℕ) → length cs ≡ length w.channels + makes (event o who) → ((j : ℕ) → its j ≡ true → (channel_of cs j).closed ≡ true)
       → ((j : ℕ) → closes j (event o who) ≡ true → j < length w.channels → (channel_of cs j).closed ≡ true) → ((j : ℕ) (x : Sleeper) → (channel_of cs j).closed ≡ true → In x ss → first_on j (offers x.request) ≡ None)
       → ((j : ℕ) → its j ≡ true → enters j w.events (deal (event o who)) who ≡ []) → Tight ss cs (w.events ++ event o who ∷ [])
   tight_on ss cs o who count keep new calm enter =
@@ -140,7 +140,7 @@ module _ (w : Shared) (n c : ℕ) (q : Request) (tw : IsTight w) where
       below j m l h e = grind (arith, nat_tests)
 
   -- the channels stay as they are, closed or open
-  tight_still : (ss : List Sleeper) (cs : List Channel) (o : Outcome) (who : List ℕ) → length cs ≡ length w.channels → ((j : ℕ) → (channel_of cs j).closed ≡ its j) → is_make q ≡ false → ((j : ℕ) → is_close j q ≡ false)
+  tight_still : (ss : List Sleeper) (cs : List Channel) (o : EventOutcome) (who : List ℕ) → length cs ≡ length w.channels → ((j : ℕ) → (channel_of cs j).closed ≡ its j) → is_make q ≡ false → ((j : ℕ) → is_close j q ≡ false)
       → ((j : ℕ) (x : Sleeper) → its j ≡ true → In x ss → first_on j (offers x.request) ≡ None) → ((j : ℕ) → its j ≡ true → enters j w.events (deal (event o who)) who ≡ []) → Tight ss cs (w.events ++ event o who ∷ [])
   tight_still ss cs o who size same make close calm enter =
       let none : makes (event o who) ≡ 0 = ap (λ b. zero_or_one (is_done o && b)) make ∙ ap zero_or_one (and_false (is_done o)) in
@@ -150,7 +150,7 @@ module _ (w : Shared) (n c : ℕ) (q : Request) (tw : IsTight w) where
       and_false true = refl
       and_false false = refl
 
-  tight_ends : (o : Outcome) (e : Ending) → ((is_make q ≡ false) ⊎ (is_done o ≡ false)) → (((j : ℕ) → is_close j q ≡ false) ⊎ (is_done o ≡ false)) → ((j : ℕ) → enters j w.events (deal (event o [])) [] ≡ []) → IsTight (ends w n c q o e).shared
+  tight_ends : (o : EventOutcome) (e : Ending) → ((is_make q ≡ false) ⊎ (is_done o ≡ false)) → (((j : ℕ) → is_close j q ≡ false) ⊎ (is_done o ≡ false)) → ((j : ℕ) → enters j w.events (deal (event o [])) [] ≡ []) → IsTight (ends w n c q o e).shared
   tight_ends o e make close enter =
       tight_on w.asleep w.channels o [] (let z = not_made make in omega (arith, z)) (λ j h. h) (λ j h l. absurd (true≢false (sym h ∙ not_closed j close))) tw.calm (λ j h. enter j)
     where
@@ -366,8 +366,8 @@ tight_act w n c Exhausted tw = tight_ends w n c Exhausted tw (Done Nothing) RanO
 
 -- ---- the run
 
-pub opening_tight : (K : Kind) → IsTight (opening K).shared.shared
+pub opening_tight : (K : GoroutineKind) → IsTight (opening K).shared.shared
 opening_tight K = record { count = refl; shut = λ c h. absurd (true≢false (sym h)); calm = λ c x h i. elim i [ ]; law = λ c. tt }
 
-pub shut : (K : Kind) (limit n : ℕ) → IsShut (moment K limit n).shared.shared
+pub shut : (K : GoroutineKind) (limit n : ℕ) → IsShut (moment K limit n).shared.shared
 shut K limit n = (moment_keeps IsTight tight_act K limit (opening_tight K) n).law

@@ -5,8 +5,8 @@ use Rattle.std.specs.Option.{is_some}
 use Rattle.std.proofs.lemmas.Bool.{and_parts, eqb-true, eq-eqb, true≢false, cases_eq, cases_lt}
 use Rattle.std.proofs.lemmas.Bool.Decides.{nat_tests}
 use Rattle.std.proofs.lemmas.List.{append-nil, set_past}
-use Rattle.word.specs.Kinds.{Kind}
-use Rattle.word.specs.Values.{Cause, Int, Chan, Item, Case, Request, Make, Go, Send, Receive, Close, Select, Len, Cap, Print, End, Exit, Panic, Exhausted, Reply, Nothing, Value, Clause, Default, Outcome, Done, Sleeps, Panics, Event, Sleeper, Offer, Channel, Shared, ChannelSize, CloseOfClosed, CloseOfNil, SendOnClosed, TooManyChannels, TooManyGoroutines}
+use Rattle.word.specs.Kinds.{GoroutineKind}
+use Rattle.word.specs.Values.{Cause, Int, Chan, Item, Case, Request, Make, Go, Send, Receive, Close, Select, Len, Cap, Print, End, Exit, Panic, Exhausted, Reply, Nothing, Value, Clause, Default, EventOutcome, Done, Sleeps, Panics, Event, Sleeper, Offer, Channel, Shared, ChannelSize, CloseOfClosed, CloseOfNil, SendOnClosed, TooManyChannels, TooManyGoroutines}
 use Rattle.word.specs.Requests.{GoesOn, happened, no_channel, channel_of, offers, first_offer, first_on, also, partner, sent, got, done, sleeps, panics, with_channel, send_to, do_send, receive_from, do_receive, send_ready, receive_ready, is_ready, choose, do_clause, do_select, do_make, do_close, close_reply, partners, act}
 use Rattle.word.specs.Worlds.{moment}
 use Rattle.word.specs.Flow.{clause_deal, Deal, Gives, Takes, NoDeal, reply_deal, slept, accepted, received}
@@ -103,11 +103,11 @@ module _ (w : Shared) (n c : ℕ) (q : Request) (l : Late w) where
   abbrev its : ℕ → Channel
   its j = channel_of w.channels j
 
-  abbrev event_of : Outcome → List ℕ → Event
+  abbrev event_of : EventOutcome → List ℕ → Event
   event_of o who = record { clock = c; number = n; request = q; outcome = o; partners = who }
 
   -- no channel is closed, and no zero is given
-  adds_still : (v : Shared) (o : Outcome) (who : List ℕ) → v.events ≡ w.events ++ event_of o who ∷ [] → ((j : ℕ) → (channel_of v.channels j).closed ≡ (its j).closed) → ((j : ℕ) → gives_zero j w.events (event_of o who) ≡ false) → Adds w v
+  adds_still : (v : Shared) (o : EventOutcome) (who : List ℕ) → v.events ≡ w.events ++ event_of o who ∷ [] → ((j : ℕ) → (channel_of v.channels j).closed ≡ (its j).closed) → ((j : ℕ) → gives_zero j w.events (event_of o who) ≡ false) → Adds w v
   adds_still v o who e same none = record { event = event_of o who; events = e; closed = λ j h. inl (sym (same j) ∙ h); empty = λ j h. absurd (true≢false (sym h ∙ none j)) }
 
   adds_panics : (cause : Cause) (k : ℕ) → Adds w (panics w n c q cause k).shared
@@ -264,5 +264,5 @@ none_closed : (c : ℕ) → (channel_of (no_channel ∷ []) c).closed ≡ false
 none_closed zero = refl
 none_closed (suc c) = refl
 
-pub zero_last : (K : Kind) (limit n : ℕ) → IsZeroLast (moment K limit n).shared.shared
+pub zero_last : (K : GoroutineKind) (limit n : ℕ) → IsZeroLast (moment K limit n).shared.shared
 zero_last K limit n = (moment_keeps Late late_act K limit (record { sound = opening_sound K; tight = opening_tight K; known = λ c h. absurd (true≢false (sym h ∙ none_closed c)); law = λ c. tt }) n).law

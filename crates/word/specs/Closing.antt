@@ -1,9 +1,9 @@
 -- What a close ends, by the events alone.
 use Rattle.std.specs.Prelude.{◌≡◌, ℕ, ◌+◌, ◌==◌, nat_le, ◌&&◌, ◌||◌, Bool, true, false, cond, List, [], ◌∷◌, ◌++◌, Some}
-use Rattle.word.specs.Values.{Request, Make, Close, Outcome, Done, Sleeps, Panics, Event, Shared}
+use Rattle.word.specs.Values.{Request, Make, Close, EventOutcome, Done, Sleeps, Panics, Event, Shared}
 use Rattle.word.specs.Flow.{deal, enters}
 
-abbrev pub is_done : Outcome → Bool
+abbrev pub is_done : EventOutcome → Bool
 is_done (Done reply) = true
 is_done Sleeps = false
 is_done (Panics p k) = false

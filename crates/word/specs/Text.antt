@@ -1,5 +1,5 @@
--- What println writes.
-use Rattle.std.specs.Prelude.{List, [], ◌∷◌, ◌++◌, ℕ, true, false, codes}
+-- The texts of values, as print and println write them.
+use Rattle.std.specs.Prelude.{List, [], ℕ, true, false, codes}
 use Rattle.std.specs.Fmt.{signed_decimal}
 use Rattle.word.specs.Values.{Word, Int, Truth, Chan}
 
@@ -9,13 +9,3 @@ text_of (Int n) = signed_decimal n
 text_of (Truth true) = codes "true"
 text_of (Truth false) = codes "false"
 text_of (Chan c) = []
-
--- the texts of the values, each with a space before it
-abbrev pub spaced : List Word → List ℕ
-spaced [] = []
-spaced (word ∷ rest) = 32 ∷ (text_of word ++ spaced rest)
-
--- the texts of the values with one space between them, and a newline
-abbrev pub line_of : List Word → List ℕ
-line_of [] = 10 ∷ []
-line_of (word ∷ rest) = text_of word ++ spaced rest ++ 10 ∷ []

@@ -3,10 +3,10 @@ use Rattle.word.specs.declared.request.Request.{Request as Asked}
 use Rattle.word.specs.declared.request.Request.TheVariants as asked
 use Rattle.word.specs.declared.request.Reply.{Reply as Told}
 use Rattle.word.specs.declared.request.Reply.TheVariants as told
-use Rattle.word.specs.declared.request.Outcome.{Outcome as Came}
-use Rattle.word.specs.declared.request.Outcome.TheVariants as came
+use Rattle.word.specs.declared.request.EventOutcome.{EventOutcome as Came}
+use Rattle.word.specs.declared.request.EventOutcome.TheVariants as came
 use Rattle.word.specs.declared.request.Event.{Event as Recorded}
-use Rattle.word.specs.Values.{Request, Make, Go, Send, Receive, Close, Select, Len, Cap, Print, End, Exit, Panic, Exhausted, Reply, Nothing, Value, Received, Clause, Default, Closed, Outcome, Done, Sleeps, Panics, Event}
+use Rattle.word.specs.Values.{Request, Make, Go, Send, Receive, Close, Select, Len, Cap, Print, End, Exit, Panic, Exhausted, Reply, Nothing, Value, Received, Clause, Default, Closed, EventOutcome, Done, Sleeps, Panics, Event}
 
 abbrev pub request_of : Asked → Request
 request_of (asked.Make size zero) = Make size zero
@@ -31,7 +31,7 @@ reply_of (told.Clause k got) = Clause k got
 reply_of told.Default = Default
 reply_of told.Closed = Closed
 
-abbrev pub outcome_of : Came → Outcome
+abbrev pub outcome_of : Came → EventOutcome
 outcome_of (came.Done reply) = Done (reply_of reply)
 outcome_of came.Sleeps = Sleeps
 outcome_of (came.Panics cause k) = Panics cause k

@@ -3,7 +3,7 @@ use Rattle.std.specs.Prelude.{◌≡◌, ℕ, ◌+◌, ◌==◌, ◌&&◌, not, 
 use Rattle.std.specs.Option.{is_some}
 use Rattle.turn_rule.specs.Turns.{Effect, Rules, World, run}
 use Rattle.word.specs.Values.{Word, Request, Reply, Ending, Deadlock, Shared}
-use Rattle.word.specs.Kinds.{Kind, Clocked, at, local, asks, told}
+use Rattle.word.specs.Kinds.{GoroutineKind, Clocked, at, local, asks, told}
 use Rattle.word.specs.Requests.{Fate, GoesOn, Dozes, Leaves, Stays, Deed, no_channel, perform}
 
 pub record Bed (A : Type 0) : Type 0 where
@@ -19,7 +19,7 @@ abbrev pub in_bed : {A : Type 0} → ℕ → List (Bed A) → Option (Clocked A)
 in_bed n [] = None
 in_bed n (b ∷ bs) = cond (b.number == n) (Some b.state) (in_bed n bs)
 
-module _ (K : Kind) (limit : ℕ) where
+module _ (K : GoroutineKind) (limit : ℕ) where
   abbrev pub actor_after : ℕ → Clocked K.State → Fate → Option (Clocked K.State)
   actor_after clock s (GoesOn reply) = Some (told K s clock reply)
   actor_after clock s Dozes = None
@@ -62,14 +62,14 @@ module _ (K : Kind) (limit : ℕ) where
   }
 
 -- goroutine 1 alone, at main
-abbrev pub opening : (K : Kind) → World (Clocked K.State) (Rest K.State)
+abbrev pub opening : (K : GoroutineKind) → World (Clocked K.State) (Rest K.State)
 opening K = record {
   awake = None ∷ Some (at 0 (K.begin K.main [])) ∷ [];
   shared = record { shared = record { asleep = []; channels = no_channel ∷ []; output = []; live = 1; made = 1; events = []; ending = None }; beds = [] };
 }
 
 -- the world after n moves of the one-thread run
-abbrev pub moment : (K : Kind) → ℕ → ℕ → World (Clocked K.State) (Rest K.State)
+abbrev pub moment : (K : GoroutineKind) → ℕ → ℕ → World (Clocked K.State) (Rest K.State)
 moment K limit n = run (rules K limit) n (opening K)
 
 abbrev pub is_deserted : List Bool → Bool
@@ -90,10 +90,10 @@ pub record Same {A B : Type 0} (w : World (Clocked A) (Rest A)) (v : World (Cloc
   pub ends : end_of w ≡ end_of v
 
 -- whatever is seen in the one's run is seen in the other's
-abbrev pub Follows : Kind → Kind → ℕ → Type 0
+abbrev pub Follows : GoroutineKind → GoroutineKind → ℕ → Type 0
 Follows K M limit = (n : ℕ) → (m : ℕ) × Same (moment K limit n) (moment M limit m)
 
 -- two kinds that nobody can tell apart, at any limit
-pub record Equal (K M : Kind) : Type 0 where
+pub record Equal (K M : GoroutineKind) : Type 0 where
   pub there : (limit : ℕ) → Follows K M limit
   pub back : (limit : ℕ) → Follows M K limit

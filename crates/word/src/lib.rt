@@ -14,6 +14,7 @@ ghost use Rattle.word.specs.Zeros.{IsZeroLast};
 
 pub mod apply;
 pub mod end;
+pub mod limits;
 pub mod panic;
 pub mod request;
 pub mod text;

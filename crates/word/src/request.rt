@@ -62,7 +62,7 @@ pub enum Reply {
 
 /// What became of a request.
 #[derive(Debug, Drop)]
-pub enum Outcome {
+pub enum EventOutcome {
     /// It is done, and its goroutine goes on with this reply.
     Done(Reply),
     /// Its goroutine fell asleep.
@@ -79,7 +79,7 @@ pub struct Event {
     /// The actor's number, counted from 1.
     pub number: u64,
     pub request: Request,
-    pub outcome: Outcome,
+    pub outcome: EventOutcome,
     /// The numbers of those that were woken or started, in order.
     pub partners: Vec<u64>,
 }

@@ -2,7 +2,9 @@
 
 ghost use Rattle.std.specs.Prelude.{◌≡◌, ◌∷◌, ◌≤◌, [], IsTrue, ◌↔◌, length, pos};
 ghost use Rattle.smallvec.specs.SmallVec.{small_vec_len};
+ghost use Rattle.word.specs.declared.limits.TheConstants.{MAX_WORDS};
 
+use crate::limits::MAX_WORDS;
 use smallvec::SmallVec;
 use std::alloc::Global;
 use std::marker::Model;
@@ -30,8 +32,8 @@ impl Default for Word {
 /// What a channel carries: one word for each field of its type, in order, at most 16.
 #[derive(Debug, Drop)]
 pub struct Item {
-    words: SmallVec<Word, 16>,
-    ghost short: { small_vec_len words ≤ 16 },
+    words: SmallVec<Word, MAX_WORDS>,
+    ghost short: { small_vec_len words ≤ MAX_WORDS },
 }
 
 impl Model for Item {
@@ -46,7 +48,7 @@ impl Model for Item {
 impl Item {
     /// The item of these words.
     pub fn new(alloc: Global, words: &[Word]) -> Item
-        requires { length words.now ≤ 16 }
+        requires { length words.now ≤ MAX_WORDS }
         ensures { result ≡ words.now }
     {
         match SmallVec::from_slice(alloc, words) {
@@ -58,7 +60,7 @@ impl Item {
     /// The item's words.
     pub fn words(&self) -> &[Word]
         ensures words { result.now ≡ self.now }
-        ensures short { length self.now ≤ 16 }
+        ensures short { length self.now ≤ MAX_WORDS }
     {
         self.words.as_slice()
     }

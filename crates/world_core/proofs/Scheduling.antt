@@ -21,8 +21,8 @@ use Rattle.word.proofs.Zeros.{zero_last}
 use Rattle.word.proofs.Laws.{laws}
 use Rattle.word.specs.declared.end.End.{End as Ending}
 use Rattle.word.specs.declared.end.End.TheVariants.{Deadlock}
-use Rattle.world_core_base.specs.Cores.{World, CoreValue, Asks, FitsCore, HasTurn, IsCoreOf, shared_of, opened_core}
-use Rattle.world_core.specs.Schedules.{WorldValue, IsWorldOf, IsMoment, IsFirstInFirstOut, end_in, first_world, has_turn_with, is_turn, number_of, scheduled, turns_at, turns_in}
+use Rattle.world_core_base.specs.Cores.{CodeMachine, CoreValue, Asks, FitsCore, HasTurn, IsCoreOf, shared_of, opened_core}
+use Rattle.world_core.specs.Schedules.{WorldValue, IsWorldOf, IsMoment, IsFirstInFirstOut, end_in, first_world, has_turn_with, is_turn, goroutine_of, scheduled, turns_at, turns_in}
 use Rattle.world_core_base.specs.Slots.{State, Rows, FitsRow, IsAwake, IsNobodyAwake, stepped_row, stepped_rows, waiting_clock}
 use Rattle.world_core_base.proofs.Leases.{core_set, waiting_found}
 
@@ -71,21 +71,21 @@ none_of (Some x) h = absurd (h x refl)
 -- ---- one step
 
 module _ (code : Code) (limit : ℕ) where
-  still : (m : World) (w : WorldValue) → IsWorldOf m w → w.core.ending ≡ None → is_some (shared_of m).ending ≡ false
+  still : (m : CodeMachine) (w : WorldValue) → IsWorldOf m w → w.core.ending ≡ None → is_some (shared_of m).ending ≡ false
   still m w h going = ap is_some (sym h.core.ending ∙ going)
 
-  happens_is : (m : World) (step : Step) → is_some (shared_of m).ending ≡ false → happens (rules (code_kind code) limit) m step ≡ stepped_machine (rules (code_kind code) limit) m step
+  happens_is : (m : CodeMachine) (step : Step) → is_some (shared_of m).ending ≡ false → happens (rules (code_kind code) limit) m step ≡ stepped_machine (rules (code_kind code) limit) m step
   happens_is m step over = ap (λ b. cond b m (stepped_machine (rules (code_kind code) limit) m step)) over
 
   -- after an end nothing happens
-  pub over_step : (m : World) (w : WorldValue) (step : Step) → IsWorldOf m w → is_some w.core.ending ≡ true → IsWorldOf (happens (rules (code_kind code) limit) m step) w × (length w.events ≡ length w.events + turns_at code limit m step)
+  pub over_step : (m : CodeMachine) (w : WorldValue) (step : Step) → IsWorldOf m w → is_some w.core.ending ≡ true → IsWorldOf (happens (rules (code_kind code) limit) m step) w × (length w.events ≡ length w.events + turns_at code limit m step)
   over_step m w step h ended =
       let over : is_some (shared_of m).ending ≡ true = ap is_some (sym h.core.ending) ∙ ended in (
         subst (λ x. IsWorldOf x w) (sym (ap (λ b. cond b m (stepped_machine (rules (code_kind code) limit) m step)) over)) h,
         let none : turns_at code limit m step ≡ 0 = ap (λ b. cond b 0 (cond (is_turn m code limit step) 1 0)) over in omega (arith, none),
       )
 
-  row_step : (m : World) (step : Step) (n : ℕ) → number_of step ≡ Some n → stepped_machine (rules (code_kind code) limit) m step ≡ record m { rows = stepped_rows code limit step n m.rows }
+  row_step : (m : CodeMachine) (step : Step) (n : ℕ) → goroutine_of step ≡ Some n → stepped_machine (rules (code_kind code) limit) m step ≡ record m { rows = stepped_rows code limit step n m.rows }
   row_step m (Lend k) n e = ap (λ j. record m { rows = stepped_rows code limit (Lend k) j m.rows }) (same_Some k n e)
   row_step m (Local k) n e = ap (λ j. record m { rows = stepped_rows code limit (Local k) j m.rows }) (same_Some k n e)
   row_step m (Publish k) n e = ap (λ j. record m { rows = stepped_rows code limit (Publish k) j m.rows }) (same_Some k n e)
@@ -93,7 +93,7 @@ module _ (code : Code) (limit : ℕ) where
   row_step m (Return k) n e = ap (λ j. record m { rows = stepped_rows code limit (Return k) j m.rows }) (same_Some k n e)
   row_step m Settle n e = cc
 
-  no_turn : (m : World) (step : Step) (n : ℕ) → number_of step ≡ Some n → is_turn m code limit step ≡ false
+  no_turn : (m : CodeMachine) (step : Step) (n : ℕ) → goroutine_of step ≡ Some n → is_turn m code limit step ≡ false
   no_turn m (Lend k) n e = refl
   no_turn m (Local k) n e = refl
   no_turn m (Publish k) n e = refl
@@ -101,13 +101,13 @@ module _ (code : Code) (limit : ℕ) where
   no_turn m (Return k) n e = refl
   no_turn m Settle n e = cc
 
-  core_step : (m : World) (core : CoreValue) (step : Step) (n : ℕ) → IsCoreOf m core → IsCoreOf (record m { rows = stepped_rows code limit step n m.rows }) (record core { rows = stepped_rows code limit step n core.rows })
+  core_step : (m : CodeMachine) (core : CoreValue) (step : Step) (n : ℕ) → IsCoreOf m core → IsCoreOf (record m { rows = stepped_rows code limit step n m.rows }) (record core { rows = stepped_rows code limit step n core.rows })
   core_step m core step n h =
       subst (λ (rows : Rows). IsCoreOf (record m { rows = slice_set m.rows n (option_map (stepped_row code limit step) (slice_index_or rows n None)) }) (record core { rows = stepped_rows code limit step n core.rows })) h.rows
       (core_set m core n (option_map (stepped_row code limit step) (slice_index_or core.rows n None)) h)
 
   -- a step of one goroutine
-  pub moved_step : (m : World) (w new : WorldValue) (step : Step) (n : ℕ) → number_of step ≡ Some n → IsWorldOf m w → w.core.ending ≡ None → new ≡ record w { core = record w.core { rows = stepped_rows code limit step n w.core.rows } }
+  pub moved_step : (m : CodeMachine) (w new : WorldValue) (step : Step) (n : ℕ) → goroutine_of step ≡ Some n → IsWorldOf m w → w.core.ending ≡ None → new ≡ record w { core = record w.core { rows = stepped_rows code limit step n w.core.rows } }
       → IsWorldOf (happens (rules (code_kind code) limit) m step) new × (length new.events ≡ length w.events + turns_at code limit m step)
   moved_step m w new step n e h going is =
       let over = still m w h going in
@@ -119,11 +119,11 @@ module _ (code : Code) (limit : ℕ) where
         omega (arith, none, same),
       )
 
-  least_is : (m : World) (w : WorldValue) (o : Option Key) → IsWorldOf m w → least (keys waiting_clock 0 w.core.rows) ≡ o → least (keys (parked_clock (rules (code_kind code) limit)) 0 m.rows) ≡ o
+  least_is : (m : CodeMachine) (w : WorldValue) (o : Option Key) → IsWorldOf m w → least (keys waiting_clock 0 w.core.rows) ≡ o → least (keys (parked_clock (rules (code_kind code) limit)) 0 m.rows) ≡ o
   least_is m w o h e = subst (λ (rows : Rows). least (keys waiting_clock 0 rows) ≡ o) h.core.rows e
 
   -- nobody is parked, or the key is not below every floor
-  pub idle_settle : (m : World) (w : WorldValue) (o : Option Key) → IsWorldOf m w → w.core.ending ≡ None → least (keys waiting_clock 0 w.core.rows) ≡ o → has_turn_with w.core.rows o ≡ false → IsWorldOf (happens (rules (code_kind code) limit) m Settle) w × (length w.events ≡ length w.events + turns_at code limit m Settle)
+  pub idle_settle : (m : CodeMachine) (w : WorldValue) (o : Option Key) → IsWorldOf m w → w.core.ending ≡ None → least (keys waiting_clock 0 w.core.rows) ≡ o → has_turn_with w.core.rows o ≡ false → IsWorldOf (happens (rules (code_kind code) limit) m Settle) w × (length w.events ≡ length w.events + turns_at code limit m Settle)
   idle_settle m w o h going e waits =
       let over = still m w h going in
       let key = least_is m w o h e in
@@ -138,7 +138,7 @@ module _ (code : Code) (limit : ℕ) where
       go (Some k) t = ap (λ b. cond b (perform_row (rules (code_kind code) limit) m k.number (slice_index_or m.rows k.number None)) m) t
 
   -- the parked goroutine of least key has the turn
-  pub turn_settle : (m : World) (w new : WorldValue) (k : Key) → IsWorldOf m w → w.core.ending ≡ None → least (keys waiting_clock 0 w.core.rows) ≡ Some k → has_turn k 0 w.core.rows ≡ true
+  pub turn_settle : (m : CodeMachine) (w new : WorldValue) (k : Key) → IsWorldOf m w → w.core.ending ≡ None → least (keys waiting_clock 0 w.core.rows) ≡ Some k → has_turn k 0 w.core.rows ≡ true
       → IsWorldOf (perform_row (rules (code_kind code) limit) m k.number (slice_index_or m.rows k.number None)) new → length new.events ≡ length w.events + 1 → IsWorldOf (happens (rules (code_kind code) limit) m Settle) new × (length new.events ≡ length w.events + turns_at code limit m Settle)
   turn_settle m w new k h going e turn next more =
       let over = still m w h going in
@@ -152,14 +152,14 @@ module _ (code : Code) (limit : ℕ) where
 
   -- ---- a list of steps
 
-  pub more_steps : (steps : List Step) (i : ℕ) (d : Step) (m : World) → i < length steps → schedule (rules (code_kind code) limit) (take (i + 1) steps) m ≡ happens (rules (code_kind code) limit) (schedule (rules (code_kind code) limit) (take i steps) m) (slice_index_or steps i d)
+  pub more_steps : (steps : List Step) (i : ℕ) (d : Step) (m : CodeMachine) → i < length steps → schedule (rules (code_kind code) limit) (take (i + 1) steps) m ≡ happens (rules (code_kind code) limit) (schedule (rules (code_kind code) limit) (take i steps) m) (slice_index_or steps i d)
   more_steps [] i d m l = absurd (omega (arith, l))
   more_steps (s ∷ steps) zero d m l = refl
   more_steps (s ∷ steps) (suc i) d m l =
       let e : suc i + 1 ≡ suc (i + 1) = omega arith in
       rw e (more_steps steps i d (happens (rules (code_kind code) limit) m s) (omega (arith, l)))
 
-  pub more_turns : (steps : List Step) (i : ℕ) (d : Step) (m : World) → i < length steps
+  pub more_turns : (steps : List Step) (i : ℕ) (d : Step) (m : CodeMachine) → i < length steps
       → turns_in code limit (take (i + 1) steps) m ≡ turns_in code limit (take i steps) m + turns_at code limit (schedule (rules (code_kind code) limit) (take i steps) m) (slice_index_or steps i d)
   more_turns [] i d m l = absurd (omega (arith, l))
   more_turns (s ∷ steps) zero d m l = omega arith
@@ -175,7 +175,7 @@ module _ (code : Code) (limit : ℕ) where
     pub turns : length w.events ≡ turns_in code limit steps (first_world code limit)
 
   pub went_on : (steps : List Step) (i : ℕ) (d : Step) (w new : WorldValue) → i < length steps → Went (take i steps) w
-      → ((m : World) → IsWorldOf m w → IsWorldOf (happens (rules (code_kind code) limit) m (slice_index_or steps i d)) new) → ((m : World) → IsWorldOf m w → length new.events ≡ length w.events + turns_at code limit m (slice_index_or steps i d)) → FitsCore code limit new.core → Went (take (i + 1) steps) new
+      → ((m : CodeMachine) → IsWorldOf m w → IsWorldOf (happens (rules (code_kind code) limit) m (slice_index_or steps i d)) new) → ((m : CodeMachine) → IsWorldOf m w → length new.events ≡ length w.events + turns_at code limit m (slice_index_or steps i d)) → FitsCore code limit new.core → Went (take (i + 1) steps) new
   went_on steps i d w new l h happens' turns' fits =
       let m = scheduled code limit (take i steps) in
       let next = more_steps steps i d (first_world code limit) l in

@@ -18,7 +18,7 @@ use Rattle.word.specs.Rising.{Rises, entries}
 use Rattle.word.specs.Values.{Event}
 use Rattle.word.specs.Worlds.{end_of, is_deserted, moment, opening, rules}
 use Rattle.word.specs.Zeros.{ZeroAfter}
-use Rattle.world_core_base.specs.Cores.{World, CoreValue, IsCoreOf, shared_of}
+use Rattle.world_core_base.specs.Cores.{CodeMachine, CoreValue, IsCoreOf, shared_of}
 use Rattle.world_core_base.specs.Slots.{State}
 
 pub record WorldValue : Type 0 where
@@ -27,7 +27,7 @@ pub record WorldValue : Type 0 where
   pub output : List ℕ
 
 -- the world is this one
-pub record IsWorldOf (m : World) (w : WorldValue) : Type 0 where
+pub record IsWorldOf (m : CodeMachine) (w : WorldValue) : Type 0 where
   pub core : IsCoreOf m w.core
   pub events : w.events ≡ (shared_of m).events
   pub output : w.output ≡ (shared_of m).output
@@ -39,43 +39,43 @@ end_in core = cond (is_some core.ending) core.ending (cond (is_deserted (map is_
 -- ---- one step
 
 -- the goroutine of a step
-abbrev pub number_of : Step → Option ℕ
-number_of (Lend n) = Some n
-number_of (Local n) = Some n
-number_of (Publish n) = Some n
-number_of (Look n) = Some n
-number_of (Return n) = Some n
-number_of Settle = None
+abbrev pub goroutine_of : Step → Option ℕ
+goroutine_of (Lend n) = Some n
+goroutine_of (Local n) = Some n
+goroutine_of (Publish n) = Some n
+goroutine_of (Look n) = Some n
+goroutine_of (Return n) = Some n
+goroutine_of Settle = None
 
 -- whether a step is a Settle that has a turn, once that least key is parked
 abbrev pub has_turn_with : List (Option (Row State)) → Option Key → Bool
 has_turn_with rows None = false
 has_turn_with rows (Some key) = has_turn key 0 rows
 
-abbrev pub is_turn : World → Code → ℕ → Step → Bool
+abbrev pub is_turn : CodeMachine → Code → ℕ → Step → Bool
 is_turn m code limit Settle = has_turn_with m.rows (least (keys (parked_clock (rules (code_kind code) limit)) 0 m.rows))
 is_turn m code limit step = false
 
 -- the events that a step commits: one where it is a Settle that has a turn, before the end
-abbrev pub turns_at : Code → ℕ → World → Step → ℕ
+abbrev pub turns_at : Code → ℕ → CodeMachine → Step → ℕ
 turns_at code limit m step = cond (is_some (shared_of m).ending) 0 (cond (is_turn m code limit step) 1 0)
 
 -- goroutine n's request is performed, which is one event
 abbrev pub Commits : Code → ℕ → WorldValue → ℕ → WorldValue → Type 0
 Commits code limit old n new =
-    (m : World) → IsWorldOf m old → IsWorldOf (perform_row (rules (code_kind code) limit) m n (slice_index_or m.rows n None)) new × (length new.events ≡ length old.events + 1)
+    (m : CodeMachine) → IsWorldOf m old → IsWorldOf (perform_row (rules (code_kind code) limit) m n (slice_index_or m.rows n None)) new × (length new.events ≡ length old.events + 1)
 
 -- ---- a list of steps
 
-abbrev pub turns_in : Code → ℕ → List Step → World → ℕ
+abbrev pub turns_in : Code → ℕ → List Step → CodeMachine → ℕ
 turns_in code limit [] m = 0
 turns_in code limit (step ∷ steps) m = turns_at code limit m step + turns_in code limit steps (happens (rules (code_kind code) limit) m step)
 
 -- the world in which a schedule begins: goroutine 1 alone
-abbrev pub first_world : Code → ℕ → World
+abbrev pub first_world : Code → ℕ → CodeMachine
 first_world code limit = opened (rules (code_kind code) limit) (opening (code_kind code))
 
-abbrev pub scheduled : Code → ℕ → List Step → World
+abbrev pub scheduled : Code → ℕ → List Step → CodeMachine
 scheduled code limit steps = schedule (rules (code_kind code) limit) steps (first_world code limit)
 
 -- ---- what is committed

@@ -5,8 +5,8 @@ ghost use Rattle.bytecode.specs.Machine.{code_kind};
 ghost use Rattle.turn_rule.specs.Schedule.{happens};
 ghost use Rattle.word.specs.Views.{event_of};
 ghost use Rattle.word.specs.Worlds.{rules};
-ghost use Rattle.world_core_base.specs.Cores.{FitsCore, HasTurn, World as WorldOf, opened_core};
-ghost use Rattle.world_core.specs.Schedules.{Commits, IsFirstInFirstOut, IsMoment, IsWorldOf, end_in, first_world, number_of, scheduled, turns_at, turns_in};
+ghost use Rattle.world_core_base.specs.Cores.{FitsCore, HasTurn, CodeMachine as WorldOf, opened_core};
+ghost use Rattle.world_core.specs.Schedules.{Commits, IsFirstInFirstOut, IsMoment, IsWorldOf, end_in, first_world, goroutine_of, scheduled, turns_at, turns_in};
 
 use go_text::Memory;
 use std::alloc::Global;
@@ -87,7 +87,7 @@ impl World {
         if self.core.ending().is_some() {
             return Ok(());
         }
-        match number_of(step) {
+        match goroutine_of(step) {
             Some(number) => self.core.step(alloc, code, limit, number, step),
             None => self.settle(alloc, code, limit),
         }
@@ -136,8 +136,8 @@ impl World {
 }
 
 /// The goroutine of a step; none of a Settle.
-fn number_of(step: Step) -> Option<u64>
-    ensures { result ≡ number_of step }
+fn goroutine_of(step: Step) -> Option<u64>
+    ensures { result ≡ goroutine_of step }
 {
     match step {
         Step::Lend(number) => Some(number),

@@ -2,7 +2,7 @@
 
 use crate::schedule::run_schedule;
 use crate::{Core, first_awake, least_parked};
-use bytecode::{Code, Function, Instr, Kind, Part, PrintTable, Shape};
+use bytecode::{Code, Function, Instr, Part, PrintTable, Shape, WordKind};
 use std::alloc::{AllocError, Global};
 use std::process::Abort;
 use std::test::Fail;
@@ -10,7 +10,7 @@ use turn_rule::Step;
 use verifier::{Verified, verify};
 use word::end::End;
 use word::panic::Panic;
-use word::request::{Event, Outcome, Request};
+use word::request::{Event, EventOutcome, Request};
 
 /// A clock limit that is not reached.
 const LIMIT: u64 = 1 << 40;
@@ -39,9 +39,9 @@ fn letter(request: &Request) -> char {
 
 fn told(event: &Event) -> Told {
     let outcome = match &event.outcome {
-        Outcome::Done(_) => '.',
-        Outcome::Sleeps => 's',
-        Outcome::Panics(_, _) => 'p',
+        EventOutcome::Done(_) => '.',
+        EventOutcome::Sleeps => 's',
+        EventOutcome::Panics(_, _) => 'p',
     };
     (
         event.clock.time(),
@@ -55,7 +55,7 @@ fn function(
     alloc: Global,
     name: &str,
     params: u32,
-    locals: &[Kind],
+    locals: &[WordKind],
     instrs: &[Instr],
 ) -> Result<Function, AllocError> {
     Ok(Function::new(
@@ -68,7 +68,7 @@ fn function(
 }
 
 /// Code with channels of items of this one kind, which prints lines of one `int`.
-fn code(alloc: Global, functions: Vec<Function>, kind: Kind) -> Result<Code, AllocError> {
+fn code(alloc: Global, functions: Vec<Function>, kind: WordKind) -> Result<Code, AllocError> {
     let mut kinds = Vec::new(alloc);
     kinds.push(kind)?;
     let mut shapes = Vec::new(alloc);
@@ -81,7 +81,7 @@ fn code(alloc: Global, functions: Vec<Function>, kind: Kind) -> Result<Code, All
 }
 
 /// A channel of the code's shape.
-const CHAN: Kind = Kind::Chan(0);
+const CHAN: WordKind = WordKind::Chan(0);
 
 /// `c := make(chan int); go f(c); x := <-c; println(x)`, where `f` is `c <- 7`.
 fn hands_over(alloc: Global) -> Result<Code, AllocError> {
@@ -112,11 +112,11 @@ fn hands_over(alloc: Global) -> Result<Code, AllocError> {
         alloc,
         "main",
         0,
-        [CHAN, Kind::Int].as_slice(),
+        [CHAN, WordKind::Int].as_slice(),
         main.as_slice(),
     )?)?;
     functions.push(function(alloc, "f", 1, [CHAN].as_slice(), f.as_slice())?)?;
-    code(alloc, functions, Kind::Int)
+    code(alloc, functions, WordKind::Int)
 }
 
 /// `d := make(chan bool); go a(d); go b(d); <-d; <-d`, where `a` is `x := 1; println(1); d <- true` and `b` the same
@@ -160,9 +160,15 @@ fn meets_twice(alloc: Global) -> Result<Code, AllocError> {
     ];
     let mut functions = Vec::new(alloc);
     functions.push(function(alloc, "main", 0, [CHAN].as_slice(), main.as_slice())?)?;
-    functions.push(function(alloc, "a", 1, [CHAN, Kind::Int].as_slice(), a.as_slice())?)?;
+    functions.push(function(
+        alloc,
+        "a",
+        1,
+        [CHAN, WordKind::Int].as_slice(),
+        a.as_slice(),
+    )?)?;
     functions.push(function(alloc, "b", 1, [CHAN].as_slice(), b.as_slice())?)?;
-    code(alloc, functions, Kind::Bool)
+    code(alloc, functions, WordKind::Bool)
 }
 
 /// `c := make(chan int); c <- 1`.
@@ -179,7 +185,7 @@ fn waits_for_good(alloc: Global) -> Result<Code, AllocError> {
     ];
     let mut functions = Vec::new(alloc);
     functions.push(function(alloc, "main", 0, [CHAN].as_slice(), main.as_slice())?)?;
-    code(alloc, functions, Kind::Int)
+    code(alloc, functions, WordKind::Int)
 }
 
 /// `c := make(chan int); go f(c); x := 0; close(c); <-nil`, where `f` is `c <- 7`.
@@ -208,7 +214,7 @@ fn closes_on_a_sender(alloc: Global) -> Result<Code, AllocError> {
     let mut functions = Vec::new(alloc);
     functions.push(function(alloc, "main", 0, [CHAN].as_slice(), main.as_slice())?)?;
     functions.push(function(alloc, "f", 1, [CHAN].as_slice(), f.as_slice())?)?;
-    code(alloc, functions, Kind::Int)
+    code(alloc, functions, WordKind::Int)
 }
 
 /// `main` and `f` are both `go f(); c := make(chan int); <-c`.
@@ -227,7 +233,7 @@ fn starts_more(alloc: Global) -> Result<Code, AllocError> {
     let mut functions = Vec::new(alloc);
     functions.push(function(alloc, "main", 0, [CHAN].as_slice(), body.as_slice())?)?;
     functions.push(function(alloc, "f", 0, [CHAN].as_slice(), body.as_slice())?)?;
-    code(alloc, functions, Kind::Int)
+    code(alloc, functions, WordKind::Int)
 }
 
 /// The goroutine is lent, makes so many local steps, and comes back.

@@ -17,7 +17,7 @@ use Rattle.turn_rule.specs.Turns.{moved, Leads}
 use Rattle.turn_rule.proofs.Stable.{moved_add}
 use Rattle.word.specs.Worlds.{rules}
 use Rattle.word.proofs.Laws.{laws}
-use Rattle.world_core_base.specs.Cores.{World, CoreValue, FitsCore, IsCoreOf, opened_core}
+use Rattle.world_core_base.specs.Cores.{CodeMachine, CoreValue, FitsCore, IsCoreOf, opened_core}
 use Rattle.world_core_base.specs.Slots.{State, Rows, FitsAll, FitsBeds, FitsRow, IsRowOf, free_clock, free_row, waiting_clock}
 
 pub leads_goes : (code : Code) (limit quantum : ℕ) (base s t : State) → Leads (rules (code_kind code) limit) base s → Goes code limit quantum s t → Leads (rules (code_kind code) limit) base t
@@ -55,7 +55,7 @@ pub core_fits_set : (code : Code) (limit : ℕ) (core : CoreValue) (n : ℕ) (ro
 core_fits_set code limit core n row h fits = record { rows = fits_set code limit core.rows n row h.rows fits; beds = h.beds; size = h.size ∙ sym (length-set core.rows n row); live = h.live; once = h.once; count = h.count; places = h.places ∙ sym (length-set core.rows n row); here = h.here }
 
 -- a row is set in the world as in its core
-pub core_set : (m : World) (core : CoreValue) (n : ℕ) (row : Option (Row State)) → IsCoreOf m core → IsCoreOf (record m { rows = slice_set m.rows n row }) (record core { rows = slice_set core.rows n row })
+pub core_set : (m : CodeMachine) (core : CoreValue) (n : ℕ) (row : Option (Row State)) → IsCoreOf m core → IsCoreOf (record m { rows = slice_set m.rows n row }) (record core { rows = slice_set core.rows n row })
 core_set m core n row h = record {
   rows = ap (λ (rows : Rows). slice_set rows n row) h.rows;
   beds = h.beds;

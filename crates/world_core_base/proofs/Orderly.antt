@@ -7,7 +7,7 @@ use Rattle.word.specs.declared.request.Case.{Case}
 use Rattle.word.specs.declared.value.Word.{Word}
 use Rattle.word.specs.declared.panic.Panic.TheVariants.{CloseOfClosed, ChannelSize, SendOnClosed, TooManyChannels, TooManyGoroutines}
 use Rattle.word.specs.declared.end.End.{End as Ending}
-use Rattle.word.specs.Values.{Item, Request, Make, Go, Send, Receive, Close, Select, Len, Cap, Print, End, Exit, Panic, Exhausted, Reply, Outcome, Channel, Sleeper, Offer, Shared}
+use Rattle.word.specs.Values.{Item, Request, Make, Go, Send, Receive, Close, Select, Len, Cap, Print, End, Exit, Panic, Exhausted, Reply, EventOutcome, Channel, Sleeper, Offer, Shared}
 use Rattle.word.specs.Requests.{Deed, channel_of, offers, first_on, also, partner, partners, without, without_all, close_reply, done, sleeps, ends, panics, send_to, do_send, receive_from, do_receive, send_ready, receive_ready, do_close, choose, do_clause, do_select, do_make, do_go, act}
 use Rattle.world_core_base.specs.Cores.{Misses, Once, numbers, most_woken}
 
@@ -104,7 +104,7 @@ module _ (w : Shared) (n c : ℕ) (q : Request) (most : ℕ) where
   by_sleeps : Orderly w most (sleeps w n c q)
   by_sleeps = record { asleep = once_slept n q w.asleep; woken = λ h. tt; few = omega arith; made = omega arith; live = λ h. h }
 
-  by_ends : (o : Outcome) (e : Ending) → Orderly w most (ends w n c q o e)
+  by_ends : (o : EventOutcome) (e : Ending) → Orderly w most (ends w n c q o e)
   by_ends o e = record { asleep = λ h. h; woken = λ h. tt; few = omega arith; made = omega arith; live = λ h. h }
 
   by_cond : (b : Bool) (d e : Deed) → Orderly w most d → Orderly w most e → Orderly w most (cond b d e)

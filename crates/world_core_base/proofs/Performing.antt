@@ -22,7 +22,7 @@ use Rattle.word.specs.Views.{event_of}
 use Rattle.word.specs.Worlds.{Bed, Rest, in_bed, rules, performs, effect, actor_after, beds_after, woken_by, begun_at}
 use Rattle.word.proofs.Fair.{Fair, AllWake, AllStart, IsApart, Lies, fair}
 use Rattle.word.proofs.Found.{In}
-use Rattle.world_core_base.specs.Cores.{World, CoreValue, IsCoreOf, LieIn, FitsCore, Once, Misses, IsAsked, Performs, shared_of, woken_rows, left_beds, actor_row, actor_beds, new_rows, new_places, core_after, most_woken}
+use Rattle.world_core_base.specs.Cores.{CodeMachine, CoreValue, IsCoreOf, LieIn, FitsCore, Once, Misses, IsAsked, Performs, shared_of, woken_rows, left_beds, actor_row, actor_beds, new_rows, new_places, core_after, most_woken}
 use Rattle.world_core_base.specs.Slots.{State, Rows, Beds, FitsRow, FitsAll, FitsBeds, free_row}
 use Rattle.world_core_base.proofs.Leases.{fits_set, free_fits}
 use Rattle.world_core_base.proofs.Orderly.{Orderly, orderly, woken_numbers}
@@ -134,13 +134,13 @@ module _ (code : Code) (limit : ℕ) where
       (subst (λ n. slice_index_or beds n None ≡ in_bed n all) k.0.2 (lies_at beds all ss y h k.0.1), agree_all beds all ss ws h k.1)
 
   -- what performing goes on with
-  abbrev with_effect : World → Effect State (Rest Frames) → World
+  abbrev with_effect : CodeMachine → Effect State (Rest Frames) → CodeMachine
   with_effect m e = record { rows = changed_rows (rules (code_kind code) limit) m.rows e.changes ++ map (λ (t : State). Some (row_of (rules (code_kind code) limit) t)) e.started; shared = e.shared }
 
-  abbrev after_deed : World → ℕ → State → Deed → World
+  abbrev after_deed : CodeMachine → ℕ → State → Deed → CodeMachine
   after_deed m n s d = with_effect m (effect (code_kind code) limit m.shared n (s.clock + 1) s d)
 
-  asked_deed : (core : CoreValue) (m : World) (n clock : ℕ) (means : Request) (a : IsAsked code limit core n clock means) → IsCoreOf m core → perform_row (rules (code_kind code) limit) m n (slice_index_or m.rows n None) ≡ after_deed m n a.row.state (act (shared_of m) n clock means means)
+  asked_deed : (core : CoreValue) (m : CodeMachine) (n clock : ℕ) (means : Request) (a : IsAsked code limit core n clock means) → IsCoreOf m core → perform_row (rules (code_kind code) limit) m n (slice_index_or m.rows n None) ≡ after_deed m n a.row.state (act (shared_of m) n clock means means)
   asked_deed core m n clock means a h =
       let s = a.row.state in
       let here : slice_index_or m.rows n None ≡ Some a.row = subst (λ (rows : Rows). slice_index_or rows n None ≡ Some a.row) h.rows a.here in
@@ -163,7 +163,7 @@ module _ (code : Code) (limit : ℕ) where
   agree_actor n s Stays beds all ws xs q h = h
 
   -- a deed leaves the rows of the core
-  rows_after : (core : CoreValue) (m : World) (n : ℕ) (s : State) (d : Deed) → IsCoreOf m core → AllWake core.channels.asleep d.woken → Once (woken_numbers d.woken) → Quiet d.fate d.woken d.started
+  rows_after : (core : CoreValue) (m : CodeMachine) (n : ℕ) (s : State) (d : Deed) → IsCoreOf m core → AllWake core.channels.asleep d.woken → Once (woken_numbers d.woken) → Quiet d.fate d.woken d.started
       → (core_after code core n s d).rows ≡ (after_deed m n s d).rows
   rows_after core m n s d h woken once quiet =
       let rs = slice_set core.rows n (actor_row code s (s.clock + 1) d.fate) in
@@ -186,7 +186,7 @@ module _ (code : Code) (limit : ℕ) where
   beds_by n s q Leaves beds all ss x l h k = lies_at beds all ss x h k
   beds_by n s q Stays beds all ss x l h k = lies_at beds all ss x h k
 
-  beds_after_deed : (core : CoreValue) (m : World) (n : ℕ) (s : State) (q : Request) (d : Deed) → IsCoreOf m core → n < length core.beds → Fair core.channels.asleep n q d → LieIn (core_after code core n s d).beds (after_deed m n s d).shared.beds d.shared.asleep
+  beds_after_deed : (core : CoreValue) (m : CodeMachine) (n : ℕ) (s : State) (q : Request) (d : Deed) → IsCoreOf m core → n < length core.beds → Fair core.channels.asleep n q d → LieIn (core_after code core n s d).beds (after_deed m n s d).shared.beds d.shared.asleep
   beds_after_deed core m n s q d h l fair =
       lie_each _ _ d.shared.asleep (λ x i. new_at x.number d.started (left_beds (actor_beds core.beds n s d.fate) d.woken) ∙ left_at x.number d.woken (actor_beds core.beds n s d.fate) (fair.gone x i)
       ∙ beds_by n s q d.fate core.beds m.shared.beds core.channels.asleep x l h.beds (fair.asleep x i))
@@ -260,7 +260,7 @@ module _ (code : Code) (limit : ℕ) where
   abbrev pub LeavesAll : CoreValue → ℕ → ℕ → Request → State → Event → List ℕ → CoreValue → Type 0
   LeavesAll core n clock means s event bytes new = (o : Others) → Beside core o → Left core n clock means s o event bytes new
 
-  left_core : (core : CoreValue) (m : World) (n clock : ℕ) (means : Request) (s : State) (o : Others) (d : Deed) (event : Event) → IsCoreOf m core → FitsCore code limit core → n < length core.beds → (shared_of m).made ≡ o.made → length o.events ≡ core.events
+  left_core : (core : CoreValue) (m : CodeMachine) (n clock : ℕ) (means : Request) (s : State) (o : Others) (d : Deed) (event : Event) → IsCoreOf m core → FitsCore code limit core → n < length core.beds → (shared_of m).made ≡ o.made → length o.events ≡ core.events
       → Fair core.channels.asleep n means d → Orderly (shared_with o core.channels) (most_woken means (length core.channels.asleep)) d → Quiet d.fate d.woken d.started → d.shared.events ≡ o.events ++ event ∷ [] → IsCoreOf (after_deed m n s d) (core_after code core n s d)
   left_core core m n clock means s o d event h fits l made count fair ord quiet events =
       let w = woken_length d.woken (slice_set core.rows n (actor_row code s (s.clock + 1) d.fate)) (actor_beds core.beds n s d.fate) (s.clock + 1) in

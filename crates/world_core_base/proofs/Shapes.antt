@@ -15,7 +15,7 @@ use Rattle.word.specs.declared.panic.Panic.TheVariants.{TooManyGoroutines}
 use Rattle.word.specs.declared.value.Word.{Word}
 use Rattle.word.specs.Kinds.{at, told}
 use Rattle.word.specs.Requests.{Deed, GoesOn, Leaves, act, panics}
-use Rattle.word.specs.Values.{Request, End, Print, Go, Reply, Nothing, Outcome as Came, Done, Sleeps, Panics, Event}
+use Rattle.word.specs.Values.{Request, End, Print, Go, Reply, Nothing, EventOutcome as Came, Done, Sleeps, Panics, Event}
 use Rattle.word.specs.Views.{reply_of}
 use Rattle.world_core_base.specs.Cores.{CoreValue, IsAsked, answered_rows, woken_rows, left_beds, most_woken}
 use Rattle.world_core_base.specs.Slots.{State, Rows, Beds, free_row}

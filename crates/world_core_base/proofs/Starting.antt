@@ -6,7 +6,7 @@ use Rattle.std.proofs.lemmas.Option.{same_Some, slice_get_within}
 use Rattle.bytecode.specs.declared.instr.Instr.{Instr}
 use Rattle.bytecode.specs.declared.instr.Instr.TheVariants as instrs
 use Rattle.bytecode.specs.Code.{Code}
-use Rattle.bytecode.specs.Machine.{Frame, Frames, Step, code_kind, code_next, told_first, if_there, instr_next, on_truth, on_int, on_chan, on_value, returned, applied, begun, goes_on, cases_of}
+use Rattle.bytecode.specs.Machine.{Frame, Frames, NextFrames, code_kind, code_next, told_first, if_there, instr_next, on_truth, on_int, on_chan, on_value, returned, applied, begun, goes_on, cases_of}
 use Rattle.word.specs.declared.panic.Panic.{Panic as Cause}
 use Rattle.word.specs.declared.panic.Panic.TheVariants.{CallDepth, SendOnClosed}
 use Rattle.word.specs.declared.value.Word.{Word}
@@ -21,22 +21,22 @@ abbrev pub StartsWithin : Code → Request → Type 0
 StartsWithin code (Go f args) = f < length code.functions
 StartsWithin code q = Unit {0}
 
-abbrev InRange : Code → Step → Type 0
+abbrev InRange : Code → NextFrames → Type 0
 InRange code (Asks q) = StartsWithin code q
 InRange code (Slides a) = Unit {0}
 InRange code (Ticks a) = Unit {0}
 InRange code Stuck = Unit {0}
 
 module _ (code : Code) where
-  there_range : {A : Type 0} (o : Option A) (step : A → Step) → ((x : A) → o ≡ Some x → InRange code (step x)) → InRange code (if_there o step)
+  there_range : {A : Type 0} (o : Option A) (step : A → NextFrames) → ((x : A) → o ≡ Some x → InRange code (step x)) → InRange code (if_there o step)
   there_range None step h = tt
   there_range (Some x) step h = h x refl
 
-  cond_range : (b : Bool) (a c : Step) → InRange code a → InRange code c → InRange code (cond b a c)
+  cond_range : (b : Bool) (a c : NextFrames) → InRange code a → InRange code c → InRange code (cond b a c)
   cond_range true a c h k = h
   cond_range false a c h k = k
 
-  truth_range : (ws : List Word) (a c : Step) → InRange code a → InRange code c → InRange code (on_truth ws a c)
+  truth_range : (ws : List Word) (a c : NextFrames) → InRange code a → InRange code c → InRange code (on_truth ws a c)
   truth_range [] a c h k = tt
   truth_range (Int n ∷ ws) a c h k = tt
   truth_range (Chan n ∷ ws) a c h k = tt
@@ -45,20 +45,20 @@ module _ (code : Code) where
   truth_range (Truth true ∷ (w ∷ ws)) a c h k = tt
   truth_range (Truth false ∷ (w ∷ ws)) a c h k = tt
 
-  int_range : (ws : List Word) (step : ℤ → Step) → ((n : ℤ) → InRange code (step n)) → InRange code (on_int ws step)
+  int_range : (ws : List Word) (step : ℤ → NextFrames) → ((n : ℤ) → InRange code (step n)) → InRange code (on_int ws step)
   int_range [] step h = tt
   int_range (Int n ∷ []) step h = h n
   int_range (Int n ∷ (w ∷ ws)) step h = tt
   int_range (Truth b ∷ ws) step h = tt
   int_range (Chan c ∷ ws) step h = tt
 
-  chan_range : (ws : List Word) (step : Option ℕ → List Word → Step) → ((c : Option ℕ) (item : List Word) → InRange code (step c item)) → InRange code (on_chan ws step)
+  chan_range : (ws : List Word) (step : Option ℕ → List Word → NextFrames) → ((c : Option ℕ) (item : List Word) → InRange code (step c item)) → InRange code (on_chan ws step)
   chan_range [] step h = tt
   chan_range (Chan c ∷ item) step h = h c item
   chan_range (Int n ∷ ws) step h = tt
   chan_range (Truth b ∷ ws) step h = tt
 
-  value_range : (o : Option (Result Word Cause)) (step : Word → Step) → ((w : Word) → InRange code (step w)) → InRange code (on_value o step)
+  value_range : (o : Option (Result Word Cause)) (step : Word → NextFrames) → ((w : Word) → InRange code (step w)) → InRange code (on_value o step)
   value_range None step h = tt
   value_range (Some (Ok w)) step h = h w
   value_range (Some (Err cause)) step h = tt
@@ -103,7 +103,7 @@ module _ (code : Code) where
 
   -- ---- with the clock and the meaning of the request
 
-  asks_range : (limit clock : ℕ) (x : Step) (q : Request) → InRange code x → asks_of limit clock x ≡ Some q → StartsWithin code q
+  asks_range : (limit clock : ℕ) (x : NextFrames) (q : Request) → InRange code x → asks_of limit clock x ≡ Some q → StartsWithin code q
   asks_range limit clock (Slides a) q h e = cc
   asks_range limit clock (Ticks a) q h e = by_limit (clock == limit) e
     where

@@ -17,16 +17,17 @@ use Rattle.word.specs.declared.request.Request.TheVariants as asking
 use Rattle.word.specs.Kinds.{asks, at, told}
 use Rattle.word.specs.Requests.{Deed, Fate, GoesOn, Dozes, Leaves, Stays, asked, no_channel}
 use Rattle.word.specs.declared.value.Word.{Word}
+use Rattle.word.specs.declared.limits.TheConstants.{MAX_GOROUTINES}
 use Rattle.word.specs.Values.{Request, Close, Exit, Exhausted, Reply, Sleeper, Shared}
 use Rattle.word.specs.Views.{event_of}
 use Rattle.word.specs.Worlds.{Bed, Rest, in_bed, rules}
 use Rattle.world_core_base.specs.Slots.{State, Rows, Beds, FitsAll, FitsBeds, back_row, free_clock, free_row, waiting_clock}
 
-abbrev pub World : Type 0
-World = Machine State (Rest Frames)
+abbrev pub CodeMachine : Type 0
+CodeMachine = Machine State (Rest Frames)
 
 -- what all of a world share
-abbrev pub shared_of : World → Shared
+abbrev pub shared_of : CodeMachine → Shared
 shared_of m = m.shared.shared
 
 pub record CoreValue : Type 0 where
@@ -45,7 +46,7 @@ LieIn beds all [] = Unit {0}
 LieIn beds all (x ∷ xs) = (slice_index_or beds x.number None ≡ in_bed x.number all) × LieIn beds all xs
 
 -- the world is this one, but for its lists of events and bytes
-pub record IsCoreOf (m : World) (core : CoreValue) : Type 0 where
+pub record IsCoreOf (m : CodeMachine) (core : CoreValue) : Type 0 where
   pub rows : core.rows ≡ m.rows
   pub beds : LieIn core.beds m.shared.beds core.channels.asleep
   pub channels : core.channels.channels ≡ (shared_of m).channels
@@ -73,7 +74,7 @@ pub record FitsCore (code : Code) (limit : ℕ) (core : CoreValue) : Type 0 wher
   pub rows : FitsAll code limit core.rows
   pub beds : FitsBeds code limit core.beds
   pub size : length core.beds ≡ length core.rows
-  pub live : core.live ≤ 1024
+  pub live : core.live ≤ MAX_GOROUTINES
   pub once : Once (numbers core.channels.asleep)
   pub count : is_some core.ending ≡ false → core.events < 2 ^ 62
   pub places : length core.taken ≡ length core.rows
@@ -132,14 +133,14 @@ abbrev pub bytes_of : Recorded → List ℕ
 bytes_of event = printed_by event.request
 
 -- goroutine n's request is performed: this event, these bytes
-pub record IsPerformed (code : Code) (limit : ℕ) (m : World) (n : ℕ) (event : Recorded) (bytes : List ℕ) (new : CoreValue) : Type 0 where
+pub record IsPerformed (code : Code) (limit : ℕ) (m : CodeMachine) (n : ℕ) (event : Recorded) (bytes : List ℕ) (new : CoreValue) : Type 0 where
   pub core : IsCoreOf (perform_row (rules (code_kind code) limit) m n (slice_index_or m.rows n None)) new
   pub events : (shared_of (perform_row (rules (code_kind code) limit) m n (slice_index_or m.rows n None))).events ≡ (shared_of m).events ++ event_of event ∷ []
   pub output : (shared_of (perform_row (rules (code_kind code) limit) m n (slice_index_or m.rows n None))).output ≡ (shared_of m).output ++ bytes
 
 -- so it is in each world of which this is the core
 abbrev pub Performs : Code → ℕ → CoreValue → ℕ → Recorded → List ℕ → CoreValue → Type 0
-Performs code limit old n event bytes new = (m : World) → IsCoreOf m old → IsPerformed code limit m n event bytes new
+Performs code limit old n event bytes new = (m : CodeMachine) → IsCoreOf m old → IsPerformed code limit m n event bytes new
 
 -- ---- lending
 

@@ -22,12 +22,10 @@ use std::marker::Model;
 use turn_rule::Step;
 use verifier::Verified;
 use word::end::End;
+use word::limits::MAX_GOROUTINES;
 use word::panic::Panic;
-use word::request::{Event, Outcome, Reply, Request};
+use word::request::{Event, EventOutcome, Reply, Request};
 use word::value::Word;
-
-/// The most goroutines that are alive, awake or asleep.
-const MOST_ALIVE: u64 = 1024;
 
 /// A world of goroutines that run ahead of their turn, without its lists of events and bytes.
 #[derive(Debug, Drop)]
@@ -307,7 +305,7 @@ impl Core {
             clock,
             number,
             request: Request::Print(text),
-            outcome: Outcome::Done(Reply::Nothing),
+            outcome: EventOutcome::Done(Reply::Nothing),
             partners: Vec::new(alloc),
         }
     }
@@ -332,9 +330,9 @@ impl Core {
         ensures memory { OnErr result (self.new ≡ self.old) }
     {
         let mut partners = Vec::new(alloc);
-        if self.live == MOST_ALIVE {
+        if self.live == MAX_GOROUTINES {
             self.stop(number, End::Panicked(Panic::TooManyGoroutines));
-            let outcome = Outcome::Panics(Panic::TooManyGoroutines, 0);
+            let outcome = EventOutcome::Panics(Panic::TooManyGoroutines, 0);
             let request = Request::Go(function, args);
             return Ok(event(clock, number, request, outcome, partners));
         }
@@ -343,7 +341,7 @@ impl Core {
         let state = spawn_state(alloc, code, function as usize, args.as_slice(), later)?;
         self.add(state)?;
         self.go_on(code, number, Reply::Nothing, later);
-        let outcome = Outcome::Done(Reply::Nothing);
+        let outcome = EventOutcome::Done(Reply::Nothing);
         let request = Request::Go(function, args);
         Ok(event(clock, number, request, outcome, partners))
     }
@@ -371,18 +369,18 @@ impl Core {
         match self.ask(number, &request)? {
             Came::Done(reply, woken) => {
                 let later = next_time(clock, limit);
-                let outcome = Outcome::Done(copy_of(&reply));
+                let outcome = EventOutcome::Done(copy_of(&reply));
                 self.go_on(code, number, reply, later);
                 self.wake_all(code, later, woken, &mut partners);
                 Ok(event(clock, number, request, outcome, partners))
             }
             Came::Sleeps => {
                 self.fall_asleep(number);
-                Ok(event(clock, number, request, Outcome::Sleeps, partners))
+                Ok(event(clock, number, request, EventOutcome::Sleeps, partners))
             }
             Came::Panics(cause, clause) => {
                 self.stop(number, End::Panicked(cause));
-                let outcome = Outcome::Panics(cause, clause);
+                let outcome = EventOutcome::Panics(cause, clause);
                 Ok(event(clock, number, request, outcome, partners))
             }
         }
@@ -409,7 +407,7 @@ impl Core {
             clock,
             number,
             request: Request::End,
-            outcome: Outcome::Done(Reply::Nothing),
+            outcome: EventOutcome::Done(Reply::Nothing),
             partners: Vec::new(alloc),
         }
     }
@@ -441,7 +439,7 @@ impl Core {
             clock,
             number,
             request,
-            outcome: Outcome::Done(Reply::Nothing),
+            outcome: EventOutcome::Done(Reply::Nothing),
             partners: Vec::new(alloc),
         }
     }
@@ -468,7 +466,7 @@ impl Core {
             clock,
             number,
             request: Request::Panic(cause),
-            outcome: Outcome::Panics(cause, 0),
+            outcome: EventOutcome::Panics(cause, 0),
             partners: Vec::new(alloc),
         }
     }
@@ -511,7 +509,7 @@ impl Core {
 
     /// A new goroutine in this state.
     fn add(&mut self, state: GoState) -> Result<(), Memory>
-        requires { self.old.live < 1024 }
+        requires { self.old.live < MAX_GOROUTINES }
         ensures ok { OnOk result (self.new ≡ record self.old { rows = self.old.rows ++ Some (free_row state) ∷ []; beds = self.old.beds ++ None ∷ []; taken = self.old.taken ++ None ∷ []; live = self.old.live + 1 }) }
         ensures memory { OnErr result (self.new ≡ self.old) }
     {
@@ -573,7 +571,13 @@ impl Core {
 }
 
 /// The event of goroutine `number` at this clock.
-fn event(clock: Clock, number: u64, request: Request, outcome: Outcome, partners: Vec<u64>) -> Event
+fn event(
+    clock: Clock,
+    number: u64,
+    request: Request,
+    outcome: EventOutcome,
+    partners: Vec<u64>,
+) -> Event
     ensures { result ≡ record { clock = clock; number = number; request = request; outcome = outcome; partners = partners } }
 {
     Event {

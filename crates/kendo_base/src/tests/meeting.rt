@@ -4,7 +4,7 @@ use super::{LIMIT, expect, opened, settled};
 use book::Settled;
 use std::alloc::{AllocError, Global};
 use std::test::Fail;
-use word::request::{Event, Outcome, Reply, Request};
+use word::request::{Event, EventOutcome, Reply, Request};
 use word::value::Word;
 
 /// A goroutine sends to `main`.
@@ -37,11 +37,11 @@ fn named(alloc: Global, channel: Option<u32>) -> Result<String, AllocError> {
 /// What became of a send or a receive; its partner stands behind `word`.
 fn met(alloc: Global, event: &Event, word: &str) -> Result<String, AllocError> {
     match (&event.outcome, event.partners.first()) {
-        (Outcome::Sleeps, _) => String::from_str(alloc, "sleeps"),
-        (Outcome::Done(Reply::Received(_, false)), _) => String::from_str(alloc, "closed"),
-        (Outcome::Done(_), Some(partner)) => format!(in alloc; "{word} {partner}"),
-        (Outcome::Done(_), None) => String::from_str(alloc, "done"),
-        (Outcome::Panics(_, _), _) => String::from_str(alloc, "panics"),
+        (EventOutcome::Sleeps, _) => String::from_str(alloc, "sleeps"),
+        (EventOutcome::Done(Reply::Received(_, false)), _) => String::from_str(alloc, "closed"),
+        (EventOutcome::Done(_), Some(partner)) => format!(in alloc; "{word} {partner}"),
+        (EventOutcome::Done(_), None) => String::from_str(alloc, "done"),
+        (EventOutcome::Panics(_, _), _) => String::from_str(alloc, "panics"),
     }
 }
 
@@ -49,7 +49,7 @@ fn met(alloc: Global, event: &Event, word: &str) -> Result<String, AllocError> {
 fn about(alloc: Global, event: &Event) -> Result<String, AllocError> {
     match &event.request {
         Request::Make(_, _) => match &event.outcome {
-            Outcome::Done(Reply::Word(Word::Chan(channel))) => {
+            EventOutcome::Done(Reply::Word(Word::Chan(channel))) => {
                 let name = named(alloc, *channel)?;
                 format!(in alloc; "make {name}")
             }

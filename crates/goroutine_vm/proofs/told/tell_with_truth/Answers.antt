@@ -1,5 +1,5 @@
 use Rattle.std.proofs.Common.{◌∙◌, ◌++◌, ◌∷◌, [], List, ap, sym, length, arith}
-use Rattle.bytecode.specs.declared.instr.Kind.TheVariants as kinds
+use Rattle.bytecode.specs.declared.instr.WordKind.TheVariants as kinds
 use Rattle.word.specs.declared.value.Word.{Word}
 use Rattle.goroutine_vm.proofs.Quiet.{fitted_length, fitted_last}
 use Rattle.bytecode.specs.Machine.{fitted}

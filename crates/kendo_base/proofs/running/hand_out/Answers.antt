@@ -1,5 +1,5 @@
 use Rattle.std.proofs.Common.{◌≡◌, ℕ, ◌+◌, ◌-◌, ◌≤◌, length, ap, refl, subst, arith}
-use Rattle.output.specs.Progress.{place_of}
+use Rattle.output.specs.Progress.{progress_place}
 use Rattle.kendo_base.specs.Runs.{Written}
 use Rattle.kendo_base.proofs.Pieces.{handed, written_begins}
 use Rattle.kendo_base.proofs.running.hand_out.Goals as goal
@@ -9,7 +9,7 @@ returns-in-Ok-clause-whole g c = λ known w.
     let d = c.args.book.now in
     let piece = c.in_ok-piece.piece in
     let p = c.in_ok-piece.ensures in
-    let k : ℕ = place_of c.drain_next.new.progress - place_of c.args.progress.now in
+    let k : ℕ = progress_place c.drain_next.new.progress - progress_place c.args.progress.now in
     let ok = c.in-Ok.ensures.ok in
     let len = piece.bytes.ok.0 in
     let same = ap length p.place.1 in
@@ -23,7 +23,7 @@ returns-in-Ok-clause-begins g c = λ known w.
     let d = c.args.book.now in
     let piece = c.in_ok-piece.piece in
     let p = c.in_ok-piece.ensures in
-    let k : ℕ = place_of c.drain_next.new.progress - place_of c.args.progress.now in
+    let k : ℕ = progress_place c.drain_next.new.progress - progress_place c.args.progress.now in
     let ok = c.in-Ok.ensures.ok in
     let len = piece.bytes.ok.0 in
     let le : k ≤ length piece.bytes.items = omega (arith, ok, len) in
@@ -35,7 +35,7 @@ returns-in-Err-clause-begins g c = λ known w.
     let d = c.args.book.now in
     let piece = c.in_ok-piece.piece in
     let p = c.in_ok-piece.ensures in
-    let k : ℕ = place_of c.drain_next.new.progress - place_of c.args.progress.now in
+    let k : ℕ = progress_place c.drain_next.new.progress - progress_place c.args.progress.now in
     let short = c.in-Err.ensures.short refl in
     let len = piece.bytes.ok.0 in
     let le : k ≤ length piece.bytes.items = omega (arith, short, len) in

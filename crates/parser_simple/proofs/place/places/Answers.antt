@@ -5,7 +5,7 @@ use Rattle.syntax.specs.View.{place_of}
 use Rattle.parser_base.specs.Cursor.{ahead}
 use Rattle.parser_base.proofs.Lists.{more, ends, one_fails, next_fails, is_full, length-pushed}
 use Rattle.syntax.specs.Measures.{Entries}
-use Rattle.scanner.specs.declared.kind.Kind.TheVariants as kinds
+use Rattle.scanner.specs.declared.kind.TokenKind.TheVariants as kinds
 use Rattle.parser_base.specs.Reading.{TooMany}
 use Rattle.parser_simple.specs.Reading.{begins_name, separator_next, place}
 use Rattle.parser_simple.proofs.place.places.Goals as goal

@@ -4,7 +4,7 @@ use Rattle.parser_base.specs.Cursor.{ahead}
 use Rattle.parser_base.specs.Reading.{listed}
 use Rattle.parser_base.proofs.Lists.{with_front}
 use Rattle.syntax.specs.Measures.{Entries}
-use Rattle.scanner.specs.declared.kind.Kind.TheVariants as kinds
+use Rattle.scanner.specs.declared.kind.TokenKind.TheVariants as kinds
 use Rattle.parser_base.specs.Reading.{TooMany}
 use Rattle.parser_simple.specs.Reading.{begins_name, separator_next, place}
 use Rattle.parser_simple.proofs.place.places.Given as goal

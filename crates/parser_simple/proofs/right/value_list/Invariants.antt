@@ -4,7 +4,7 @@ use Rattle.parser_base.specs.Cursor.{ahead}
 use Rattle.parser_base.specs.Reading.{listed}
 use Rattle.parser_base.proofs.Lists.{with_front}
 use Rattle.syntax.specs.Measures.{Entries, expression_size}
-use Rattle.scanner.specs.declared.kind.Kind.TheVariants as kinds
+use Rattle.scanner.specs.declared.kind.TokenKind.TheVariants as kinds
 use Rattle.parser_base.specs.Reading.{TooMany, begins, expression}
 use Rattle.parser_simple.specs.Reading.{separator_next}
 use Rattle.parser_simple.proofs.right.value_list.Given as goal

@@ -5,7 +5,7 @@ use Rattle.syntax.specs.View.{part_of}
 use Rattle.parser_base.specs.Cursor.{ahead}
 use Rattle.parser_base.proofs.Lists.{more, ends, one_fails, next_fails, is_full, sum_by-pushed}
 use Rattle.syntax.specs.Measures.{Entries, part_size}
-use Rattle.scanner.specs.declared.kind.Kind.TheVariants as kinds
+use Rattle.scanner.specs.declared.kind.TokenKind.TheVariants as kinds
 use Rattle.parser_base.specs.Reading.{TooMany, entry_next}
 use Rattle.parser_simple.specs.Reading.{part, begins_part}
 use Rattle.parser_simple.proofs.simple.part_list.Goals as goal

@@ -3,13 +3,11 @@ use Rattle.std.proofs.lemmas.Option.{slice_get-get_or}
 use Rattle.bytecode.specs.Code.{Function}
 use Rattle.bytecode.specs.Machine.{main_of}
 use Rattle.verifier.proofs.verified.has_main.Goals as goal
+use Rattle.bytecode.proofs.Options.{some_inj}
 
 empty : {A : Type 0} (xs : List A) → length xs ≡ 0 → xs ≡ []
 empty [] e = refl
 empty (x ∷ xs) e = absurd (omega (arith, e))
-
-some_inj : {A : Type 0} {x y : A} → Some x ≡ Some y → x ≡ y
-some_inj e = cc
 
 pub returns-in-Some : goal.returns-in-Some
 returns-in-Some c =

@@ -3,7 +3,7 @@ use Rattle.channel_core.specs.Channels.{Does}
 use Rattle.channel_core.specs.declared.outcome.Outcome.TheVariants as outcomes
 use Rattle.channel_core.specs.declared.outcome.Outcome.{Outcome}
 use Rattle.word.specs.declared.request.Event.{Event as Recorded}
-use Rattle.word.specs.declared.request.Outcome.TheVariants as came
+use Rattle.word.specs.declared.request.EventOutcome.TheVariants as came
 use Rattle.word.specs.Values.{Exhausted, Done, Sleeps, Panics, Reply, Event}
 use Rattle.word.specs.Views.{event_of, reply_of, request_of}
 use Rattle.word.specs.declared.end.End.TheVariants.{Panicked}

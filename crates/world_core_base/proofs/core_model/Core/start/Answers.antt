@@ -2,7 +2,7 @@ use Rattle.std.proofs.Common.{◌≡◌, ◌≢◌, ◌<◌, ◌++◌, [], ◌�
 use Rattle.bytecode.specs.Machine.{code_begin}
 use Rattle.word.specs.Kinds.{at}
 use Rattle.word.specs.declared.request.Event.{Event as Recorded}
-use Rattle.word.specs.declared.request.Outcome.TheVariants as came
+use Rattle.word.specs.declared.request.EventOutcome.TheVariants as came
 use Rattle.word.specs.declared.request.Reply.TheVariants as replies
 use Rattle.word.specs.declared.request.Request.TheVariants as requests
 use Rattle.word.specs.Values.{Done, Go, Nothing, Event}
@@ -26,7 +26,7 @@ returns-clause-performs c =
     let later = c.next_time-later.result in
     let new = c.go_on.new.self in
     let below : c.args.clock < c.args.limit = still_below code c.args.limit core n c.args.clock means asked (λ e. cc) in
-    let room : core.live ≢ 1024 = λ e. c.if-self-eq-MOST_ALIVE.false (ap (λ (x : CoreValue). x.live) c.self.view_is ∙ e) in
+    let room : core.live ≢ 1024 = λ e. c.if-self-eq-MAX_GOROUTINES.false (ap (λ (x : CoreValue). x.live) c.self.view_is ∙ e) in
     let state : c.in_ok-state.state ≡ at later (code_begin code c.args.function c.args.args.items) = c.in_ok-state.ensures ∙ ap (λ ws. at later (code_begin code c.args.function ws)) c.as_slice.ensures.value in
     let is = added_core code n later c.in_ok-state.state (at later (code_begin code c.args.function c.args.args.items)) core c.add.new.self new state c.in_ok-add.ensures.ok c.go_on.ensures in
     let rows = c.len.ensures in
@@ -47,7 +47,7 @@ returns-clause-fits c =
     let later = c.next_time-later.result in
     let new = c.go_on.new.self in
     let below : c.args.clock < c.args.limit = still_below code c.args.limit core n c.args.clock means asked (λ e. cc) in
-    let room : core.live ≢ 1024 = λ e. c.if-self-eq-MOST_ALIVE.false (ap (λ (x : CoreValue). x.live) c.self.view_is ∙ e) in
+    let room : core.live ≢ 1024 = λ e. c.if-self-eq-MAX_GOROUTINES.false (ap (λ (x : CoreValue). x.live) c.self.view_is ∙ e) in
     let state : c.in_ok-state.state ≡ at later (code_begin code c.args.function c.args.args.items) = c.in_ok-state.ensures ∙ ap (λ ws. at later (code_begin code c.args.function ws)) c.as_slice.ensures.value in
     let is = added_core code n later c.in_ok-state.state (at later (code_begin code c.args.function c.args.args.items)) core c.add.new.self new state c.in_ok-add.ensures.ok c.go_on.ensures in
     let event : Event = recorded c.args.clock n means (Done Nothing) (length core.rows ∷ []) in

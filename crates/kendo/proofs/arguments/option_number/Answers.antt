@@ -2,7 +2,7 @@ use Rattle.std.specs.Str.Parse.{ParsesUnsigned, ExplainsUnsignedError, HasUnsign
 use Rattle.clap.specs.Words.{found_of}
 use Rattle.clap.proofs.WalkLemmas.{one_text-rows}
 use Rattle.kendo.proofs.CommandLine.{number_read}
-use Rattle.kendo.proofs.arguments.number_of.Goals as goal
+use Rattle.kendo.proofs.arguments.option_number.Goals as goal
 
 pub returns : goal.returns
 returns c =
