@@ -2,7 +2,7 @@
 --
 -- `top_words top rest` is the declaration, and then `rest`; so with the others.
 use Rattle.std.specs.Prelude.{◌≡◌, Option, Some, None, List, [], ◌∷◌, ◌++◌, codes}
-use Rattle.scanner.specs.declared.type_expression.TokenKind.TheVariants as kinds
+use Rattle.scanner.specs.declared.kind.TokenKind.TheVariants as kinds
 use Rattle.syntax.specs.Tree.{TypeExpression, Statement, statements_in, Declared, Struct, Function, Top, StructTop, FunctionTop, File}
 use Rattle.parser_base.specs.Lexemes.{Lexeme, Name, Mark}
 use Rattle.parser_base.specs.Spelling.{behind, joined, closing, AreAll, AreSome, IsTrailing}
