@@ -17,7 +17,7 @@ pub enum Flaw {
 }
 
 /// What is wrong where an operator does not go with its operands, whose nodes are these.
-pub fn misused(misuse: Misuse, left: NodeId, right: NodeId, own: NodeId) -> Flaw
+pub(crate) fn misused(misuse: Misuse, left: NodeId, right: NodeId, own: NodeId) -> Flaw
     ensures { IsMisuse misuse (left + 1) (right + 1) (own + 1) result }
 {
     match misuse {

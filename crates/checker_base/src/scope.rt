@@ -60,7 +60,7 @@ pub fn position_of(scope: &[Entry], name: &[u8]) -> Option<usize>
 }
 
 /// What a name is worth as an operand: a truth value, or a variable that is declared.
-pub fn named_worth(scope: &[Entry], name: &[u8]) -> Option<Worth>
+pub(crate) fn named_worth(scope: &[Entry], name: &[u8]) -> Option<Worth>
     ensures worth { result ≡ named_worth (scope_of scope.now) name.now }
     ensures small { IfSome result IsSmall }
 {

@@ -73,7 +73,7 @@ fn sized(value: Option<i128>) -> Result<Worth, Misuse>
 }
 
 /// What an operator before an operand makes of it.
-pub fn unary_worth(operator: UnaryOperator, operand: Worth) -> Result<Worth, Misuse>
+pub(crate) fn unary_worth(operator: UnaryOperator, operand: Worth) -> Result<Worth, Misuse>
     requires { IsSmall operand }
     ensures worth { result ≡ unary_worth operator operand }
     ensures small { IfOk result IsSmall }
@@ -131,7 +131,7 @@ fn beside(misuse: Misuse, value: i128, kind: ValueType) -> Result<Worth, Misuse>
 }
 
 /// What an operator between two operands makes of them.
-pub fn binary_worth(operator: BinaryOperator, left: Worth, right: Worth) -> Result<Worth, Misuse>
+pub(crate) fn binary_worth(operator: BinaryOperator, left: Worth, right: Worth) -> Result<Worth, Misuse>
     requires left { IsSmall left }
     requires right { IsSmall right }
     ensures worth { result ≡ binary_worth operator left right }

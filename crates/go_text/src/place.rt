@@ -39,7 +39,7 @@ impl From<Span> for Place {
 }
 
 /// The position of the place behind these bytes, which begin a text.
-pub fn position_behind(bytes: &[u8]) -> Position
+pub(crate) fn position_behind(bytes: &[u8]) -> Position
     requires { length bytes.now ≤ 1048576 }
     ensures { result ≡ position_after 1 1 bytes.now }
 {
