@@ -4,8 +4,6 @@
 mod effect;
 mod paths;
 mod scan;
-#[cfg(test)]
-mod tests;
 mod verified;
 
 pub use verified::{Verified, verify};

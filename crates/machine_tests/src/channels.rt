@@ -1,9 +1,11 @@
-use crate::{Channels, Outcome, Woken};
+//! What channels answer.
+
+use channel_core::{Channels, Outcome, Woken};
 use go_text::Memory;
 use std::alloc::Global;
 use std::test::Fail;
 use word::panic::Panic;
-use word::request::{Case, Reply, Request};
+use word::request::{Case, Reply};
 use word::value::{Item, Word};
 
 /// An item of one number.
@@ -129,6 +131,14 @@ fn close_wakes_all(rt: HostRuntime) -> Result<(), Fail> {
     assert_eq!(rt; channels.asleep(), 2);
     assert_eq!(rt; woken(channels.close(ONE)), Some((2, 2)));
     assert_eq!(rt; channels.asleep(), 0);
+    Ok(())
+}
+
+#[test]
+fn closed_channel_panics(rt: HostRuntime) -> Result<(), Fail> {
+    let mut channels = Channels::new(rt.alloc())?;
+    assert!(rt; woken(channels.make(1, 0, item(rt.alloc(), 0))).is_some());
+    assert!(rt; woken(channels.close(ONE)).is_some());
     for (chan, panic) in [(ONE, Panic::CloseOfClosed), (None, Panic::CloseOfNil)] {
         assert_eq!(rt; seen_in(channels.close(chan)), Seen::Panics(panic, 0));
     }
@@ -173,10 +183,8 @@ fn select_sleeps_with_all_its_clauses(rt: HostRuntime) -> Result<(), Fail> {
 #[test]
 fn lengths_and_capacities(rt: HostRuntime) -> Result<(), Fail> {
     let mut channels = Channels::new(rt.alloc())?;
-    let made = channels.perform(1, &Request::Make(3, item(rt.alloc(), 0)));
-    assert_ne!(rt; seen_in(made), Seen::NoMemory);
-    let sent = channels.perform(1, &Request::Send(ONE, item(rt.alloc(), 5)));
-    assert_ne!(rt; seen_in(sent), Seen::NoMemory);
+    assert!(rt; woken(channels.make(1, 3, item(rt.alloc(), 0))).is_some());
+    assert!(rt; woken(channels.send(1, ONE, item(rt.alloc(), 5))).is_some());
     for (chan, len, cap) in [(ONE, 1, 3), (None, 0, 0)] {
         assert_eq!(rt; channels.len(chan), len);
         assert_eq!(rt; channels.cap(chan), cap);
