@@ -2,10 +2,10 @@
 
 ghost use Rattle.std.specs.Prelude.{◌≡◌, ◌+◌, ◌≤◌, ◌<◌, ◌++◌, ◌↔◌, IsTrue, IfOk, OnOk, MatchOption, length, slice_get, take, [], ◌∷◌};
 ghost use Rattle.bytecode.specs.Effects.{all_clause_kinds, clause_gives, clauses_in, operands as operands_of, outcome as outcome_of, wants, leaves, count, Meets, Fits, afterwards, part_kinds, shape_kinds};
-ghost use Rattle.bytecode.specs.Rules.{Named};
-ghost use Rattle.verifier.specs.Tables.{wants_of};
+ghost use Rattle.bytecode.specs.Rules.{Named, rule_of};
+ghost use Rattle.verifier_base.specs.Needs.{wants_of};
 
-use bytecode::{Clause, Code, Function, Instr, Part, WordKind, same_kinds};
+use bytecode::{Clause, Code, Function, Instr, Part, Rule, WordKind, same_kinds};
 use std::alloc::{AllocError, Global};
 use word::apply::Op;
 
@@ -298,7 +298,7 @@ fn give(
 }
 
 /// Where the operands of an instruction begin among these kinds, or none where it does not fit them.
-pub(crate) fn operands_at(
+pub fn operands_at(
     alloc: Global,
     code: &Code,
     f: &Function,
@@ -324,7 +324,7 @@ pub(crate) fn operands_at(
 }
 
 /// The kinds behind an instruction on its way of this number, whose operands begin at a place of these.
-pub(crate) fn behind(
+pub fn behind(
     alloc: Global,
     code: &Code,
     f: &Function,
@@ -340,4 +340,34 @@ pub(crate) fn behind(
     let mut out = Vec::from_slice(alloc, &kinds[..at])?;
     give(code, f, i, way, &kinds[at..], &mut out)?;
     Ok(out)
+}
+
+/// The rule that an instruction breaks which does not fit.
+pub fn broken_rule(i: Instr) -> Rule
+    ensures { result ≡ rule_of i }
+{
+    match i {
+        Instr::Call(_) | Instr::Go(_) => Rule::Calls,
+        Instr::Return => Rule::Returns,
+        Instr::Store(_, _) => Rule::Locals,
+        Instr::Jump(_)
+        | Instr::Loop(_)
+        | Instr::Int(_)
+        | Instr::Bool(_)
+        | Instr::Nil(_)
+        | Instr::Load(_, _)
+        | Instr::Pick(_, _, _)
+        | Instr::Discard(_)
+        | Instr::Apply(_)
+        | Instr::Tick
+        | Instr::Unless(_)
+        | Instr::Make(_)
+        | Instr::Send(_)
+        | Instr::Receive(_)
+        | Instr::Close
+        | Instr::Len
+        | Instr::Cap
+        | Instr::Print(_)
+        | Instr::Select(_) => Rule::Paths,
+    }
 }

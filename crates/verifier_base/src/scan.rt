@@ -3,29 +3,10 @@
 ghost use Rattle.std.specs.Prelude.{◌≡◌, ◌↔◌, ◌<◌, IsTrue, length, slice_get};
 ghost use Rattle.bytecode.specs.Effects.{targets_in};
 ghost use Rattle.bytecode.specs.Rules.{AreBehind, AreWithin, Named, Inside, Directed};
-ghost use Rattle.verifier.specs.Tables.{Scanned, ScannedAt};
+ghost use Rattle.verifier_base.specs.Scans.{Scanned, ScannedAt};
 
+use crate::ways::{select_way, select_ways};
 use bytecode::{Code, Function, Instr, Rule};
-
-/// How many ways a select has.
-pub(crate) fn select_ways(code: &Code, q: u32) -> usize
-    ensures { result ≡ length (targets_in (slice_get code.now.selects q)) }
-{
-    match code.selects().get(q as usize) {
-        Some(table) => table.target_count(),
-        None => 0,
-    }
-}
-
-/// Where a select leads on its way of this number.
-pub(crate) fn select_way(code: &Code, q: u32, number: usize) -> Option<usize>
-    ensures { result ≡ slice_get (targets_in (slice_get code.now.selects q)) number }
-{
-    match code.selects().get(q as usize) {
-        Some(table) => table.target(number).map(|to| to as usize),
-        None => None,
-    }
-}
 
 /// Whether a select leads to places of a function of so many instructions.
 fn are_within(code: &Code, q: u32, n: usize) -> bool
@@ -165,8 +146,8 @@ fn scan_one(code: &Code, f: &Function, place: usize) -> Option<(Rule, usize)>
     None
 }
 
-/// The same for a function's first instruction that breaks one.
-pub(crate) fn scan(code: &Code, f: &Function) -> Option<(Rule, usize)>
+/// The first rule that an instruction of a function breaks by itself, and the instruction's place.
+pub fn first_broken(code: &Code, f: &Function) -> Option<(Rule, usize)>
     ensures { Scanned result code.now f.now }
 {
     for place in 0..f.instrs().len() {

@@ -1,6 +1,6 @@
 use Rattle.std.proofs.Common.{ap, length, arith}
-use Rattle.verifier.proofs.Holds.{scanned_more, scanned_all}
-use Rattle.verifier.proofs.scan.scan.Goals as goal
+use Rattle.verifier_base.proofs.Scanning.{scanned_more, scanned_all}
+use Rattle.verifier_base.proofs.scan.first_broken.Goals as goal
 
 pub loop-place-preserved : goal.loop-place-preserved
 loop-place-preserved c =
