@@ -4,8 +4,6 @@
 mod book_model;
 mod lease;
 mod settled;
-#[cfg(test)]
-mod tests;
 
 pub use book_model::Book;
 pub use lease::Lease;

@@ -1,4 +1,5 @@
 pub mod Options
+pub mod Fitted
 pub mod Instrs
 pub mod Unstuck
 pub mod Listings

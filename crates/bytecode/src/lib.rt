@@ -6,8 +6,6 @@ mod instr;
 mod lines;
 mod rule;
 mod table;
-#[cfg(test)]
-mod tests;
 
 pub use code::{Code, Function};
 pub use instr::{Instr, WordKind};

@@ -5,8 +5,6 @@ mod channel;
 mod channels;
 mod outcome;
 mod sleepers;
-#[cfg(test)]
-mod tests;
 
 pub use channels::Channels;
 pub use outcome::{Outcome, Woken};

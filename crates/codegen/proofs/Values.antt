@@ -1,6 +1,7 @@
 -- Words of types, and variables with their values.
 use Rattle.std.proofs.Common.{◌≡◌, ℕ, zero, suc, ◌+◌, ◌-◌, ◌<◌, ℤ, Bool, true, false, cond, List, [], ◌∷◌, ◌++◌, map, length, take, drop, Option, Some, None, option_map, refl, sym, ap, ◌∙◌, arith, slice_get, slice_range, bytes_eq}
 use Rattle.std.proofs.lemmas.Option.{same_Some}
+use Rattle.bytecode.proofs.Fitted.{fitted_length}
 use Rattle.bytecode.specs.declared.instr.WordKind.{WordKind}
 use Rattle.bytecode.specs.Machine.{zero_of, as_kind, fitted}
 use Rattle.checker_base.specs.declared.types.Scalar.{Scalar}
@@ -88,11 +89,6 @@ pub record Begins (params : Scope) (more : List WordKind) (ws : List Word) : Typ
   pub spare : List Word
   pub locals : fitted (local_kinds params ++ more) ws ≡ words (bound params ws) ++ spare
   pub size : length spare ≡ length more
-
-fitted_length : (ks : List WordKind) (ws : List Word) → length (fitted ks ws) ≡ length ks
-fitted_length [] ws = refl
-fitted_length (k ∷ ks) [] = ap suc (fitted_length ks [])
-fitted_length (k ∷ ks) (w ∷ ws) = ap suc (fitted_length ks ws)
 
 pub begins : (params : Scope) (more : List WordKind) (ws : List Word) → Begins params more ws
 begins [] more ws = record { spare = fitted more ws; locals = refl; size = fitted_length more ws }

@@ -1,4 +1,3 @@
 pub mod Turns
 pub mod Quanta
-pub mod Beginning
 pub mod Quiet

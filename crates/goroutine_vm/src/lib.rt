@@ -11,8 +11,6 @@ ghost use Rattle.word.specs.Kinds.{Clocked};
 mod chosen;
 mod frames;
 mod state;
-#[cfg(test)]
-mod tests;
 mod told;
 
 pub use state::{GoState, Stop, spawn_state};

@@ -1,19 +1,16 @@
 -- Words made for kinds, one after the other.
 use Rattle.std.proofs.Common.{◌≡◌, ℕ, zero, suc, ◌+◌, ◌<◌, List, [], ◌∷◌, ◌++◌, length, drop, refl, sym, ap, ◌∙◌, subst, arith, get_or, add-one, append_assoc}
+use Rattle.std.proofs.Math.Seq.{drop-nil}
 use Rattle.bytecode.specs.declared.instr.WordKind.{WordKind}
 use Rattle.bytecode.specs.Machine.{fitted}
 use Rattle.operands.specs.Words.{word_for}
 use Rattle.word.specs.declared.value.Word.{Word}
 
-drop_nil : (n : ℕ) → drop {A = Word} n [] ≡ []
-drop_nil zero = refl
-drop_nil (suc n) = refl
-
 fitted_suc : (ks : List WordKind) (ws : List Word) (i : ℕ) (d : WordKind) → i < length ks → fitted (drop i ks) (drop i ws) ≡ word_for (get_or ks i d) (drop i ws) ∷ fitted (drop (suc i) ks) (drop (suc i) ws)
 fitted_suc [] ws i d h = absurd (omega (arith, h))
 fitted_suc (k ∷ ks) [] zero d h = refl
 fitted_suc (k ∷ ks) (w ∷ ws) zero d h = refl
-fitted_suc (k ∷ ks) [] (suc i) d h = subst (λ (l : List Word). fitted (drop i ks) l ≡ word_for (get_or ks i d) l ∷ fitted (drop (suc i) ks) []) (drop_nil i) (fitted_suc ks [] i d (omega (arith, h)))
+fitted_suc (k ∷ ks) [] (suc i) d h = subst (λ (l : List Word). fitted (drop i ks) l ≡ word_for (get_or ks i d) l ∷ fitted (drop (suc i) ks) []) (drop-nil i) (fitted_suc ks [] i d (omega (arith, h)))
 fitted_suc (k ∷ ks) (w ∷ ws) (suc i) d h = fitted_suc ks ws i d (omega (arith, h))
 
 -- one more word was made

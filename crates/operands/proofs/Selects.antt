@@ -73,8 +73,3 @@ no_more code made clauses words some i index d all h e is inv =
     ∙ ap (λ x. also x o) is ∙ also_none o in
     sym inv ∙ ap (prefixed made) step
 
-past : {A : Type 0} (xs : List A) (n : ℕ) → length xs ≤ n → drop n xs ≡ []
-past [] zero h = refl
-past [] (suc n) h = refl
-past (x ∷ xs) zero h = absurd (omega (arith, h))
-past (x ∷ xs) (suc n) h = past xs n (omega (arith, h))

@@ -4,8 +4,6 @@
 pub mod draining;
 pub mod piece;
 pub mod progress;
-#[cfg(test)]
-mod tests;
 
 pub use draining::{DrainFault, drain, drain_next};
 pub use piece::{Kind, Piece};

@@ -16,7 +16,8 @@ use Rattle.bytecode.specs.declared.instr.Instr.TheVariants as instrs
 use Rattle.bytecode.specs.Rules.{IsHeaded, Misfit, BrokenIn, Holds, rule_of}
 use Rattle.verifier.specs.declared.paths.Inferred.{Inferred}
 use Rattle.verifier.specs.declared.paths.Inferred.TheVariants.{Full, BrokenAt, PartedAt}
-use Rattle.verifier.specs.Tables.{Infers, Judged, judged_of, unknown, Going, Visited, Full', ScannedAt, Scanned}
+use Rattle.verifier.specs.Tables.{Infers, Judged, judged_of, unknown, Going, Visited, Full'}
+use Rattle.verifier_base.specs.Scans.{Scanned}
 use Rattle.bytecode.proofs.Options.{some_inj, none_some}
 use Rattle.std.proofs.lemmas.Option.{slice_get_within}
 
@@ -50,12 +51,6 @@ module _ (code : Code) (f : Function) (table : Table) (same : length table ≡ l
 
   pub alike : (n m place : ℕ) (ks js : List WordKind) → Path code f n place ks → Path code f m place js → ks ≡ js
   alike n m place ks js p q = some_inj (sym (on_path n place ks p) ∙ on_path m place js q)
-
-pub scanned_more : (code : Code) (f : Function) (place : ℕ) → ((q : ℕ) → q < place → ScannedAt None code f q) → ScannedAt None code f place → (q : ℕ) → q < place + 1 → ScannedAt None code f q
-scanned_more code f place h g q l = elim (cases_eq q place) [ inl e ↦ subst (ScannedAt None code f) (sym e) g | inr n ↦ h q (grind (arith, l, n)) ]
-
-pub scanned_all : (code : Code) (f : Function) (n : ℕ) → length f.instrs ≤ n → ((q : ℕ) → q < n → ScannedAt None code f q) → Scanned None code f
-scanned_all code f n le h place i e = h place (omega (arith, slice_get_within f.instrs place i e)) i e
 
 abbrev IsPathRule : Rule → Type 0
 IsPathRule Names = ⊥

@@ -12,7 +12,8 @@ use Rattle.verifier.specs.declared.paths.Onward.TheVariants.{Kept, Grown}
 use Rattle.bytecode.specs.Effects.{Fits, afterwards}
 use Rattle.bytecode.specs.Rules.{ways}
 use Rattle.verifier.specs.Tables.{unknown, AreReached, Followed, Spread, Visited, LeadsOn}
-use Rattle.bytecode.proofs.Options.{some_inj, none_some}
+use Rattle.std.proofs.lemmas.Option.{slice_get_within}
+use Rattle.bytecode.proofs.Options.{some_inj}
 
 -- ---- the ways of an instruction, one after the other
 
@@ -32,11 +33,6 @@ module _ (code : Code) (f : Function) (old : Table) (place : ℕ) (i : Instr) (k
   grown true mid new number s h = omega (arith, s, h)
   grown false mid new number s h = subst (λ t. unknown new < unknown t) s.0 h
 
-  get_within : (xs : List ℕ) (n x : ℕ) → slice_get xs n ≡ Some x → n < length xs
-  get_within [] n x e = absurd (none_some e)
-  get_within (y ∷ xs) zero x e = omega arith
-  get_within (y ∷ xs) (suc n) x e = omega (arith, get_within xs n x e)
-
   pub all_kept : (at : ℕ) (new : Table) (number : ℕ) → LeadsOn code f old place i ks at → length (ways code i place) ≤ number → Spread false code f old new place i ks number → Visited Settles code f old new place
   all_kept at new number leads all s = (s.0, settled)
     where
@@ -44,7 +40,7 @@ module _ (code : Code) (f : Function) (old : Table) (place : ℕ) (i : Instr) (k
       settled js e =
           let same : ks ≡ js = some_inj (sym leads.here ∙ (ap (λ t. entry t place) (sym s.0) ∙ e)) in
           subst (λ l. (i : Instr) × (slice_get f.instrs place ≡ Some i) × Fits code f i l × ((k to : ℕ) → slice_get (ways code i place) k ≡ Some to → entry new to ≡ Some (afterwards code f i k l))) same
-          (i, leads.fetched, leads.fits, λ k to h. s.1 k to (let l = get_within (ways code i place) k to h in omega (arith, l, all)) h)
+          (i, leads.fetched, leads.fits, λ k to h. s.1 k to (let l = slice_get_within (ways code i place) k to h in omega (arith, l, all)) h)
 
 -- each way leads to a place, on a path
 pub ways_reached : (code : Code) (f : Function) (table : Table) (place : ℕ) (i : Instr) (ks : List WordKind) (at : ℕ) → Reached code f table → LeadsOn code f table place i ks at → AreReached code f place i ks

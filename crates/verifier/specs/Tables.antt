@@ -6,10 +6,8 @@ use Rattle.bytecode.specs.declared.instr.Instr.{Instr}
 use Rattle.bytecode.specs.declared.rule.Rule.{Rule}
 use Rattle.bytecode.specs.declared.rule.Rule.TheVariants.{Paths}
 use Rattle.bytecode.specs.Code.{Function, Code}
-use Rattle.bytecode.specs.Effects.{Fits, afterwards, wants, count, Wants, Exactly, Count, OneChannel, TwoChannels}
-use Rattle.bytecode.specs.Rules.{ways, Path, Named, Inside, Directed, Misfit, Parting, BrokenIn, Holds}
-use Rattle.verifier.specs.declared.effect.Need.{Need}
-use Rattle.verifier.specs.declared.effect.Need.TheVariants.{These, Some as Counted, Channel, Channels}
+use Rattle.bytecode.specs.Effects.{Fits, afterwards, wants, count}
+use Rattle.bytecode.specs.Rules.{ways, Path, Misfit, Parting, BrokenIn, Holds}
 use Rattle.verifier.specs.declared.paths.Merge.{Merge}
 use Rattle.verifier.specs.declared.paths.Merge.TheVariants.{Same, New, Differs}
 use Rattle.verifier.specs.declared.paths.Visit.{Visit}
@@ -22,12 +20,6 @@ use Rattle.verifier.specs.declared.paths.Sweep.{Sweep}
 use Rattle.verifier.specs.declared.paths.Sweep.TheVariants.{Done, More, Broken, Parted}
 use Rattle.verifier.specs.declared.paths.Inferred.{Inferred}
 use Rattle.verifier.specs.declared.paths.Inferred.TheVariants.{Full, BrokenAt, PartedAt}
-
-abbrev pub wants_of : Need → Wants
-wants_of (These ks) = Exactly ks.items
-wants_of (Counted n) = Count n
-wants_of Channel = OneChannel
-wants_of Channels = TwoChannels
 
 -- a table of the kinds at each place
 abbrev pub Table : Type 0
@@ -121,14 +113,6 @@ abbrev pub Infers : Inferred → Code → Function → Type 0
 Infers (Full table) code f = (length table.items ≡ length f.instrs) × Full' code f table.items
 Infers (BrokenAt rule place) code f = Misfit code f rule place
 Infers (PartedAt to) code f = Parting code f to
-
-abbrev pub Scanned : Option (Rule × ℕ) → Code → Function → Type 0
-Scanned None code f = (place : ℕ) (i : Instr) → slice_get f.instrs place ≡ Some i → (Named code f i × Inside f place i) × Directed code place i
-Scanned (Some b) code f = BrokenIn code f b.0 b.1
-
-abbrev pub ScannedAt : Option (Rule × ℕ) → Code → Function → ℕ → Type 0
-ScannedAt None code f place = (i : Instr) → slice_get f.instrs place ≡ Some i → (Named code f i × Inside f place i) × Directed code place i
-ScannedAt (Some b) code f place = BrokenIn code f b.0 b.1
 
 abbrev pub judged_of : Inferred → Option (Rule × ℕ)
 judged_of (Full table) = None

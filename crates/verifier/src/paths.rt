@@ -1,15 +1,14 @@
 //! The kinds on the operand stack at each place of a function, path by path.
 
-ghost use Rattle.std.specs.Prelude.{◌≡◌, ◌+◌, ◌^◌, [], ◌∷◌, ℕ, ◌<◌, IfOk, OnErr, length, vec_len, slice_get, Some};
+ghost use Rattle.std.specs.Prelude.{◌≡◌, ◌+◌, ℕ, ◌<◌, IfOk, OnErr, length, vec_len, slice_get, Some};
 ghost use Rattle.bytecode.specs.declared.instr.Instr.{Instr};
 ghost use Rattle.bytecode.specs.Effects.{count, wants};
-ghost use Rattle.bytecode.specs.Rules.{Named, Inside, rule_of, ways, Path, IsHeaded};
+ghost use Rattle.bytecode.specs.Rules.{Named, Inside, Path, IsHeaded};
 ghost use Rattle.verifier.specs.Tables.{AreReached, Merged, Led, Followed, Visited, Steps, LeadsOn, Swept, Infers, Reached, Judged, judged_of};
 
-use crate::effect::{behind, operands_at};
-use crate::scan::{scan, select_way, select_ways};
 use bytecode::{Code, Function, Instr, Rule, WordKind, same_kinds};
 use std::alloc::{AllocError, Global};
+use verifier_base::{behind, broken_rule, first_broken, operands_at, way, way_count};
 
 /// What came of a way to a place.
 #[derive(Clone, Copy)]
@@ -65,79 +64,6 @@ fn lead(
     enter_kinds(alloc, table, to, kinds)
 }
 
-/// How many ways an instruction has.
-fn way_count(code: &Code, i: Instr) -> usize
-    ensures { (place : ℕ) → result ≡ length (ways code.now i place) }
-{
-    match i {
-        Instr::Unless(_) => 2,
-        Instr::Return => 0,
-        Instr::Select(q) => select_ways(code, q),
-        Instr::Jump(_)
-        | Instr::Loop(_)
-        | Instr::Int(_)
-        | Instr::Bool(_)
-        | Instr::Nil(_)
-        | Instr::Load(_, _)
-        | Instr::Store(_, _)
-        | Instr::Pick(_, _, _)
-        | Instr::Discard(_)
-        | Instr::Apply(_)
-        | Instr::Tick
-        | Instr::Call(_)
-        | Instr::Make(_)
-        | Instr::Go(_)
-        | Instr::Send(_)
-        | Instr::Receive(_)
-        | Instr::Close
-        | Instr::Len
-        | Instr::Cap
-        | Instr::Print(_) => 1,
-    }
-}
-
-/// The only way of most instructions, of number 0.
-fn only(to: usize, number: usize) -> Option<usize>
-    ensures { result ≡ slice_get (to ∷ []) number }
-{
-    if number == 0 { Some(to) } else { None }
-}
-
-/// Where an instruction leads on its way of this number.
-fn way(code: &Code, i: Instr, place: usize, number: usize) -> Option<usize>
-    requires { place < 2 ^ 63 }
-    ensures { result ≡ slice_get (ways code.now i place) number }
-{
-    match i {
-        Instr::Jump(to) | Instr::Loop(to) => only(to as usize, number),
-        Instr::Unless(to) => match number {
-            0 => Some(place + 1),
-            1 => Some(to as usize),
-            _ => None,
-        },
-        Instr::Return => None,
-        Instr::Select(q) => select_way(code, q, number),
-        Instr::Int(_)
-        | Instr::Bool(_)
-        | Instr::Nil(_)
-        | Instr::Load(_, _)
-        | Instr::Store(_, _)
-        | Instr::Pick(_, _, _)
-        | Instr::Discard(_)
-        | Instr::Apply(_)
-        | Instr::Tick
-        | Instr::Call(_)
-        | Instr::Make(_)
-        | Instr::Go(_)
-        | Instr::Send(_)
-        | Instr::Receive(_)
-        | Instr::Close
-        | Instr::Len
-        | Instr::Cap
-        | Instr::Print(_) => only(place + 1, number),
-    }
-}
-
 /// What a look at a place came to.
 #[derive(Clone, Copy)]
 pub enum Visit {
@@ -145,36 +71,6 @@ pub enum Visit {
     Grows,
     Unfit(Rule),
     Parts(usize),
-}
-
-/// The rule that an instruction breaks which does not fit.
-fn broken_rule(i: Instr) -> Rule
-    ensures { result ≡ rule_of i }
-{
-    match i {
-        Instr::Call(_) | Instr::Go(_) => Rule::Calls,
-        Instr::Return => Rule::Returns,
-        Instr::Store(_, _) => Rule::Locals,
-        Instr::Jump(_)
-        | Instr::Loop(_)
-        | Instr::Int(_)
-        | Instr::Bool(_)
-        | Instr::Nil(_)
-        | Instr::Load(_, _)
-        | Instr::Pick(_, _, _)
-        | Instr::Discard(_)
-        | Instr::Apply(_)
-        | Instr::Tick
-        | Instr::Unless(_)
-        | Instr::Make(_)
-        | Instr::Send(_)
-        | Instr::Receive(_)
-        | Instr::Close
-        | Instr::Len
-        | Instr::Cap
-        | Instr::Print(_)
-        | Instr::Select(_) => Rule::Paths,
-    }
 }
 
 /// What an instruction does at its place: it fits the kinds there, of which its operands begin at a number.
@@ -411,7 +307,7 @@ pub(crate) fn check_function(
     requires { IsHeaded code.now f.now }
     ensures ok { IfOk result (λ o. Judged o code.now f.now) }
 {
-    match scan(code, f) {
+    match first_broken(code, f) {
         Some(broken) => Ok(Some(broken)),
         None => {
             let inferred = infer(alloc, code, f)?;

@@ -2,8 +2,6 @@
 #![tactic(auto)]
 
 mod schedule;
-#[cfg(test)]
-mod tests;
 
 pub use schedule::{World, run_schedule};
 pub use world_core_base::{Away, Core, Slot, Standing, Step, blocker, first_awake, least_parked};

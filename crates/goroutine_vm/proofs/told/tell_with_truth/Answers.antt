@@ -1,7 +1,8 @@
 use Rattle.std.proofs.Common.{◌∙◌, ◌++◌, ◌∷◌, [], List, ap, sym, length, arith}
 use Rattle.bytecode.specs.declared.instr.WordKind.TheVariants as kinds
 use Rattle.word.specs.declared.value.Word.{Word}
-use Rattle.goroutine_vm.proofs.Quiet.{fitted_length, fitted_last}
+use Rattle.bytecode.proofs.Fitted.{fitted_length}
+use Rattle.goroutine_vm.proofs.Quiet.{fitted_last}
 use Rattle.bytecode.specs.Machine.{fitted}
 use Rattle.goroutine_vm.proofs.told.tell_with_truth.Goals as goal
 

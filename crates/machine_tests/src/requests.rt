@@ -1,0 +1,242 @@
+//! What a goroutine asks for, when, and what it does with the answer.
+
+ghost use Rattle.std.specs.Prelude.{◌≤◌, ◌^◌, IfOk};
+ghost use Rattle.goroutine_vm.specs.Advance.{IsStateOf};
+
+use crate::made::main_program;
+use bytecode::Instr;
+use bytecode::Instr::*;
+use go_text::{Fault, Memory};
+use goroutine_vm::{GoState, Stop};
+use logical_clock::{Clock, LAST};
+use std::alloc::Global;
+use std::test::Fail;
+use verifier::Verified;
+use word::apply::Op;
+use word::panic::Panic;
+use word::request::{Reply, Request};
+use word::value::{Item, Word};
+use world_core::Core;
+
+/// Goroutine 1 at its beginning.
+fn main_state(alloc: Global, program: &Verified, limit: u64) -> Result<GoState, Memory>
+    requires { limit ≤ 2 ^ 62 }
+    ensures { IfOk result (IsStateOf program.now limit) }
+{
+    let _ = limit;
+    let mut core = Core::open(alloc, program)?;
+    Ok(core.take_state(1))
+}
+
+/// The request to which a goroutine comes next.
+fn next_request(
+    alloc: Global,
+    program: &Verified,
+    state: &mut GoState,
+) -> Result<Option<Request>, Memory>
+    requires { IsStateOf program.now LAST state.old }
+    ensures { IsStateOf program.now LAST state.new }
+{
+    match state.advance(alloc, program, LAST, 10_000)? {
+        Stop::AtOp(request) => Ok(Some(request)),
+        Stop::Quantum => Ok(None),
+    }
+}
+
+/// The first request of a `main` with these instructions, and its time.
+fn first_request(alloc: Global, instrs: &[Instr]) -> Result<(Option<Request>, u64), Fault> {
+    let program = main_program(alloc, instrs)?;
+    let mut state = main_state(alloc, &program, LAST)?;
+    let request = next_request(alloc, &program, &mut state)?;
+    Ok((request, state.clock().time()))
+}
+
+/// Whether a request prints this text.
+fn is_print(request: Option<Request>, text: &str) -> bool {
+    match request {
+        Some(Request::Print(bytes)) => bytes.as_slice() == text.as_bytes(),
+        _ => false,
+    }
+}
+
+/// The instructions of a `main`, what it prints first, and the time.
+const PRINTED: [(&[Instr], &str, u64); 10] = [
+    (&[Int(7), Print(0), Return], "7\n", 0),
+    (&[Bool(true), Print(1), Return], "true\n", 0),
+    (
+        &[Nil(0), Nil(0), Apply(Op::EqChan), Print(1), Return],
+        "true\n",
+        0,
+    ),
+    (
+        &[
+            Int(5),
+            Store(1, 1),
+            Load(0, 2),
+            Apply(Op::Sub),
+            Print(0),
+            Return,
+        ],
+        "-5\n",
+        0,
+    ),
+    (
+        &[Int(1), Int(2), Int(3), Pick(3, 1, 1), Print(0), Return],
+        "2\n",
+        0,
+    ),
+    (&[Int(1), Int(2), Discard(1), Print(0), Return], "1\n", 0),
+    (&[Tick, Int(8), Print(0), Return], "8\n", 1),
+    (&[Jump(2), Return, Int(4), Print(0), Return], "4\n", 0),
+    (
+        &[
+            Bool(false),
+            Unless(4),
+            Int(1),
+            Jump(5),
+            Int(2),
+            Print(0),
+            Return,
+        ],
+        "2\n",
+        0,
+    ),
+    (&[Int(-6), Call(1), Print(1), Return], "true\n", 1),
+];
+
+#[test]
+fn instructions_do_what_they_say(rt: HostRuntime) -> Result<(), Fail> {
+    for (instrs, text, time) in &PRINTED {
+        let (request, when) = first_request(rt.alloc(), instrs)?;
+        assert!(rt; is_print(request, text) && when == *time, "{text}");
+    }
+    Ok(())
+}
+
+/// What a request is called, with its channel's number or `nil`.
+fn called(request: &Option<Request>) -> &'static str {
+    match request {
+        Some(Request::Make(3, _)) => "make 3",
+        Some(Request::Go(1, _)) => "go 1",
+        Some(Request::Send(None, _)) => "send nil",
+        Some(Request::Receive(None)) => "receive nil",
+        Some(Request::Close(None)) => "close nil",
+        Some(Request::Len(None)) => "len nil",
+        Some(Request::Cap(None)) => "cap nil",
+        Some(Request::Select(_, true)) => "select with default",
+        Some(Request::End) => "end",
+        Some(Request::Panic(Panic::CallDepth)) => "panic of depth",
+        _ => "another",
+    }
+}
+
+/// A `main` that selects: where it received it prints the item; where it sent, 1; in its default, 2.
+const SELECT: [Instr; 12] = [
+    Nil(0),
+    Nil(0),
+    Int(4),
+    Select(0),
+    Return,
+    Discard(1),
+    Jump(10),
+    Int(1),
+    Jump(10),
+    Int(2),
+    Print(0),
+    Return,
+];
+
+/// The instructions of a `main`, what its first request is called, and the time.
+const ASKED: [(&[Instr], &str, u64); 10] = [
+    (&[Int(3), Make(0), Close, Return], "make 3", 0),
+    (&[Int(3), Tick, Go(1), Return], "go 1", 1),
+    (&[Nil(0), Int(3), Send(0), Return], "send nil", 0),
+    (&[Nil(0), Receive(0), Discard(2), Return], "receive nil", 0),
+    (&[Nil(0), Close, Return], "close nil", 0),
+    (&[Nil(0), Len, Discard(1), Return], "len nil", 0),
+    (&[Nil(0), Cap, Discard(1), Return], "cap nil", 0),
+    (&SELECT, "select with default", 0),
+    (&[Return], "end", 0),
+    (&[Call(0), Return], "panic of depth", 999),
+];
+
+#[test]
+fn requests_are_asked_in_their_time(rt: HostRuntime) -> Result<(), Fail> {
+    for (instrs, name, time) in &ASKED {
+        let (request, when) = first_request(rt.alloc(), instrs)?;
+        assert!(rt; called(&request) == *name && when == *time, "{name}");
+    }
+    Ok(())
+}
+
+/// The request to which a goroutine comes behind its next one, which is answered so at 5.
+fn request_after(
+    alloc: Global,
+    program: &Verified,
+    state: &mut GoState,
+    reply: Reply,
+) -> Result<Option<Request>, Memory>
+    requires { IsStateOf program.now LAST state.old }
+{
+    drop(next_request(alloc, program, state)?);
+    state.answer(program, reply, Clock::at(5));
+    next_request(alloc, program, state)
+}
+
+/// Whether a `main` with these instructions prints this text behind its first request, which is answered so at 5.
+fn prints_after(alloc: Global, instrs: &[Instr], reply: Reply, text: &str) -> Result<bool, Fault> {
+    let program = main_program(alloc, instrs)?;
+    let mut state = main_state(alloc, &program, LAST)?;
+    let request = request_after(alloc, &program, &mut state, reply)?;
+    Ok(is_print(request, text) && state.clock().time() == 5)
+}
+
+#[test]
+fn answers_lead_on(rt: HostRuntime) -> Result<(), Fail> {
+    let alloc = rt.alloc();
+    let item = Item::new(alloc, &[Word::Int(9)]);
+    assert!(rt; prints_after(alloc, &SELECT, Reply::Clause(1, Some((item, true))), "9\n")?);
+    assert!(rt; prints_after(alloc, &SELECT, Reply::Clause(2, None), "1\n")?);
+    assert!(rt; prints_after(alloc, &SELECT, Reply::Default, "2\n")?);
+    let receive = [Nil(0), Receive(0), Print(1), Print(0), Return];
+    let item = Item::new(alloc, &[Word::Int(9)]);
+    assert!(rt; prints_after(alloc, &receive, Reply::Received(item, true), "true\n")?);
+    Ok(())
+}
+
+/// Whether a goroutine goes on for two steps, up to this time.
+fn goes_on(
+    alloc: Global,
+    program: &Verified,
+    state: &mut GoState,
+    time: u64,
+) -> Result<bool, Memory>
+    requires { IsStateOf program.now 3 state.old }
+    ensures { IsStateOf program.now 3 state.new }
+{
+    let stop = state.advance(alloc, program, 3, 2)?;
+    Ok(matches!(&stop, Stop::Quantum) && state.clock().time() == time)
+}
+
+/// Whether a goroutine is exhausted within two steps, at this time.
+fn is_exhausted(
+    alloc: Global,
+    program: &Verified,
+    state: &mut GoState,
+    time: u64,
+) -> Result<bool, Memory>
+    requires { IsStateOf program.now 3 state.old }
+{
+    let stop = state.advance(alloc, program, 3, 2)?;
+    Ok(matches!(&stop, Stop::AtOp(Request::Exhausted)) && state.clock().time() == time)
+}
+
+#[test]
+fn loop_ends_at_the_limit(rt: HostRuntime) -> Result<(), Fail> {
+    let alloc = rt.alloc();
+    let program = main_program(alloc, &[Loop(0)])?;
+    let mut state = main_state(alloc, &program, 3)?;
+    assert!(rt; goes_on(alloc, &program, &mut state, 2)?);
+    assert!(rt; is_exhausted(alloc, &program, &mut state, 3)?);
+    Ok(())
+}

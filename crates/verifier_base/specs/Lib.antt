@@ -1,0 +1,2 @@
+pub mod Needs
+pub mod Scans

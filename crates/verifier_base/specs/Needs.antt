@@ -1,0 +1,10 @@
+-- What an instruction wants on the top of the stack.
+use Rattle.bytecode.specs.Effects.{Wants, Exactly, Count, OneChannel, TwoChannels}
+use Rattle.verifier_base.specs.declared.effect.Need.{Need}
+use Rattle.verifier_base.specs.declared.effect.Need.TheVariants.{These, Some as Counted, Channel, Channels}
+
+abbrev pub wants_of : Need → Wants
+wants_of (These ks) = Exactly ks.items
+wants_of (Counted n) = Count n
+wants_of Channel = OneChannel
+wants_of Channels = TwoChannels

@@ -1,0 +1,10 @@
+//! What single instructions ask of the operand stack and leave on it, where they lead, and what they break by themselves.
+#![tactic(auto)]
+
+mod effect;
+mod scan;
+mod ways;
+
+pub use effect::{behind, broken_rule, operands_at};
+pub use scan::first_broken;
+pub use ways::{way, way_count};
