@@ -181,23 +181,31 @@ abbrev begun : Desk → ℕ → Whole State (Rest Frames)
 begun d n = moment (code_kind d.code) d.limit n
 
 -- who is awake while nobody is parked stands before whatever comes
-pub waits_free : (d : Desk) (n : ℕ) → IsDesk d → least (keys waiting_clock 0 d.core.rows) ≡ None → IsAwake d.core.rows n → StandsBefore d.core n
-waits_free d n h e awake =
+pub waits_free : (d : Desk) (n : ℕ) → IsDesk d → d.core.ending ≡ None → least (keys waiting_clock 0 d.core.rows) ≡ None → IsAwake d.core.rows n → StandsBefore d.core n
+waits_free d n h going e awake =
     let a = h.at.2 in
-    let here : slice_index_or h.at.1.rows n None ≡ Some awake.0 = subst (λ (rows : Rows). slice_index_or rows n None ≡ Some awake.0) a.core.rows awake.1 in (
-      awake.0,
-      awake.1,
-      waits_alone (rules_of d) (laws (code_kind d.code) d.limit) h.at.1 n awake.0 (least_in d h.at.1 a.core None e) here,
-      subst (λ (o : Option Key). MatchOption o (Unit {0}) (λ k. is_before (record { clock = awake.0.floor; number = n }) k ≡ true)) (sym e) tt,
-    )
+    let here : slice_index_or h.at.1.rows n None ≡ Some awake.0 = subst (λ (rows : Rows). slice_index_or rows n None ≡ Some awake.0) a.core.rows awake.1 in
+    record {
+      going = going;
+      row = awake.0;
+      here = awake.1;
+      runs = waits_alone (rules_of d) (laws (code_kind d.code) d.limit) h.at.1 n awake.0 (least_in d h.at.1 a.core None e) here;
+      below = subst (λ (o : Option Key). MatchOption o (Unit {0}) (λ k. is_before (record { clock = awake.0.floor; number = n }) k ≡ true)) (sym e) tt;
+    }
 
 -- whose floor the least parked key is not below stands before it
-pub waits_key : (d : Desk) (n : ℕ) (k : Key) → IsDesk d → least (keys waiting_clock 0 d.core.rows) ≡ Some k → IsBefore d.core.rows k n → StandsBefore d.core n
-waits_key d n k h e b =
+pub waits_key : (d : Desk) (n : ℕ) (k : Key) → IsDesk d → d.core.ending ≡ None → least (keys waiting_clock 0 d.core.rows) ≡ Some k → IsBefore d.core.rows k n → StandsBefore d.core n
+waits_key d n k h going e b =
     let a = h.at.2 in
     let here : slice_index_or h.at.1.rows n None ≡ Some b.0 = subst (λ (rows : Rows). slice_index_or rows n None ≡ Some b.0) a.core.rows b.1 in
     let q = waits_before (rules_of d) (laws (code_kind d.code) d.limit) h.at.1 (begun d h.at.0) a.stands k n b.0 (least_in d h.at.1 a.core (Some k) e) here b.2 b.3 in
-    (b.0, b.1, q.0, subst (λ (o : Option Key). MatchOption o (Unit {0}) (λ k. is_before (record { clock = b.0.floor; number = n }) k ≡ true)) (sym e) q.1)
+    record {
+      going = going;
+      row = b.0;
+      here = b.1;
+      runs = q.0;
+      below = subst (λ (o : Option Key). MatchOption o (Unit {0}) (λ k. is_before (record { clock = b.0.floor; number = n }) k ≡ true)) (sym e) q.1;
+    }
 
 ends_by : (w : Whole State (Rest Frames)) (e : Ending) (o : Option Ending) → w.shared.shared.ending ≡ o → o ≡ Some e → end_of w ≡ Some e
 ends_by w e o is ended = ap (λ (x : Option Ending). cond (is_some x) x (cond (is_deserted (map is_some w.awake)) (Some Deadlock) None)) (is ∙ ended)

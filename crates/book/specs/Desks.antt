@@ -108,11 +108,13 @@ brought d l =
 
 -- ---- settling
 
--- n is awake and not parked, and its floor is below the least parked key, or nobody is parked
-abbrev pub StandsBefore : CoreValue → ℕ → Type 0
-StandsBefore core n =
-    (row : Row State) × (slice_index_or core.rows n None ≡ Some row) × (row.parked ≡ false)
-    × MatchOption (least (keys waiting_clock 0 core.rows)) (Unit {0}) (λ k. is_before (record { clock = row.floor; number = n }) k ≡ true)
+-- the run goes on, n is awake and not parked, and its floor is below the least parked key, or nobody is parked
+pub record StandsBefore (core : CoreValue) (n : ℕ) : Type 0 where
+  pub going : core.ending ≡ None
+  pub row : Row State
+  pub here : slice_index_or core.rows n None ≡ Some row
+  pub runs : row.parked ≡ false
+  pub below : MatchOption (least (keys waiting_clock 0 core.rows)) (Unit {0}) (λ k. is_before (record { clock = row.floor; number = n }) k ≡ true)
 
 -- one event more, and the run's next one; or somebody who stands before it; or the run's end
 abbrev pub Settles : Desk → Settled → Desk → Type 0

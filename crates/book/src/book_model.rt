@@ -135,11 +135,12 @@ impl Book {
         if let Some(end) = self.core.ending() {
             return Ok(Settled::Ended(end));
         }
-        let Some(key) = least_parked(self.core.rows()) else {
+        let rows = self.core.rows();
+        let Some(key) = least_parked(rows) else {
             return Ok(self.nobody_parked());
         };
         let first = key.number;
-        if let Some(number) = blocker(self.core.rows(), key) {
+        if let Some(number) = blocker(rows, key) {
             return Ok(Settled::Waiting(number));
         }
         Ok(self.commit(first)?)
