@@ -1,10 +1,11 @@
 -- Each call of the book leaves it where the one-thread run stands.
-use Rattle.std.proofs.Common.{◌≡◌, ℕ, zero, suc, ◌+◌, ◌<◌, ◌≤◌, ◌^◌, Bool, true, false, cond, List, [], ◌∷◌, ◌++◌, map, length, take, drop, Option, Some, None, refl, sym, ap, ◌∙◌, subst, inl, inr, arith, length-append, get_or-set_same}
+use Rattle.std.proofs.Common.{◌≡◌, ◌≢◌, ℕ, zero, suc, ◌+◌, ◌<◌, ◌≤◌, ◌^◌, Bool, true, false, cond, List, [], ◌∷◌, ◌++◌, map, length, take, drop, Option, Some, None, refl, sym, ap, ◌∙◌, subst, inl, inr, arith, length-append, get_or-set_same}
 use Rattle.std.specs.Prelude.{slice_index_or, slice_set, slice_get, option_map}
 use Rattle.std.specs.Option.{is_some, MatchOption}
 use Rattle.std.proofs.lemmas.Bool.{true≢false, cases_lt}
 use Rattle.std.proofs.Math.Seq.{take-length}
 use Rattle.std.proofs.lemmas.List.{get_or_past}
+use Rattle.std.proofs.lemmas.Option.{none-some}
 use Rattle.bytecode.specs.Code.{Code}
 use Rattle.bytecode.specs.Machine.{Frames, code_kind}
 use Rattle.bytecode.specs.Rules.{IsVerified}
@@ -21,12 +22,16 @@ use Rattle.word.specs.declared.request.Event.{Event as Recorded}
 use Rattle.word.specs.Kinds.{asks}
 use Rattle.word.specs.Views.{event_of}
 use Rattle.word.specs.Worlds.{Rest, rules, opening, moment, is_deserted, end_of}
+use Rattle.word.specs.Values.{Sleeper}
+use Rattle.word.proofs.Apart.{apart}
+use Rattle.word.proofs.Found.{In}
 use Rattle.word.proofs.Laws.{laws}
-use Rattle.world_core.specs.Cores.{CodeMachine, CoreValue, FitsCore, HasTurn, IsCoreOf, IsFreeIn, IsLentRow, Performs, Asks, shared_of}
+use Rattle.world_core.specs.Cores.{CodeMachine, CoreValue, FitsCore, HasTurn, IsCoreOf, IsFreeIn, IsLentRow, Performs, Asks, bytes_of, shared_of}
 use Rattle.world_core.specs.Slots.{State, Rows, FitsRow, IsAwake, IsNobodyAwake, IsBefore, free_row, lent_row, waiting_clock}
 use Rattle.world_core.proofs.Leases.{core_fits_set, core_set, opened_fits}
-use Rattle.book.specs.Desks.{Desk, IsDesk, IsEvent, IsPiece, IsEnd, StandsBefore, Held, IsLent, opened_desk, lent_desk}
-use Rattle.book.proofs.Desks.{lend_keeps, bring_keeps, settle_keeps, parked_asks, waits_alone, waits_before, nobody_awake}
+use Rattle.world_core.proofs.Others.{performed_other}
+use Rattle.book.specs.Desks.{Desk, CommitsNext, IsDesk, IsPiece, IsEnd, KeepsLeases, StandsBefore, Held, IsLent, opened_desk, lent_desk}
+use Rattle.book.proofs.Desks.{lend_keeps, bring_keeps, lent_other, row_awake, settle_keeps, parked_asks, waits_alone, waits_before, nobody_awake}
 
 abbrev rules_of : Desk → Rules State (Rest Frames)
 rules_of d = rules (code_kind d.code) d.limit
@@ -123,13 +128,13 @@ drop_more zero xs ys le = refl
 drop_more (suc n) [] ys le = absurd (omega (arith, le))
 drop_more (suc n) (x ∷ xs) ys le = drop_more n xs ys (omega (arith, le))
 
-pub record Commits (d : Desk) (event : Recorded) (bytes : List ℕ) (new : CoreValue) : Type 0 where
-  pub desk : IsDesk (record d { core = new; pending = d.pending ++ bytes })
-  pub is_event : IsEvent d.code d.limit d.core.events (event_of event)
-  pub one_more : new.events ≡ d.core.events + 1
+-- the desk after an event
+abbrev pub after_event : Desk → Recorded → CoreValue → Desk
+after_event d event new = record d { core = new; pending = d.pending ++ bytes_of event }
 
-pub commits : (d : Desk) (n : ℕ) (event : Recorded) (bytes : List ℕ) (new : CoreValue) → IsDesk d → HasTurn d.core n → Performs d.code d.limit d.core n event bytes new → FitsCore d.code d.limit new → length (d.pending ++ bytes) < 2 ^ 64 → Commits d event bytes new
-commits d n event bytes new h t done fits room =
+pub commits : (d : Desk) (n : ℕ) (event : Recorded) (new : CoreValue) → IsDesk d → HasTurn d.core n → Performs d.code d.limit d.core n event (bytes_of event) new → FitsCore d.code d.limit new → length (d.pending ++ bytes_of event) < 2 ^ 64 → IsDesk (after_event d event new) × CommitsNext d event (after_event d event new)
+commits d n event new h t done fits room =
+    let bytes = bytes_of event in
     let r = rules_of d in
     let L = laws (code_kind d.code) d.limit in
     let m = h.at.1 in
@@ -150,9 +155,8 @@ commits d n event bytes new h t done fits room =
     let more = ap length out ∙ length-append (shared_of m).output bytes in
     let longer = length-append d.pending bytes in
     let size = a.size in
-    let whole = h.room in
-    record {
-      desk = record {
+    let whole = h.room in (
+      record {
         verified = h.verified;
         limit = h.limit;
         many = omega (arith, was, one);
@@ -168,36 +172,80 @@ commits d n event bytes new h t done fits room =
             bytes = ap (drop d.taken) out ∙ drop_more d.taken (shared_of m).output bytes (omega (arith, size)) ∙ ap (λ xs. xs ++ bytes) a.bytes;
           },
         );
-      };
-      is_event = (
-        h.at.0 + s.0,
-        ap (λ es. slice_get es d.core.events) (sym (ap (λ (x : Rest Frames). x.shared.events) stands.shared) ∙ p.events)
-            ∙ ap (λ k. slice_get ((shared_of m).events ++ event_of event ∷ []) k) a.core.events ∙ at_end (shared_of m).events (event_of event),
-      );
-      one_more = one;
+      },
+      record {
+        number = n;
+        turn = t;
+        performs = done;
+        is_next = (
+          h.at.0 + s.0,
+          ap (λ es. slice_get es d.core.events) (sym (ap (λ (x : Rest Frames). x.shared.events) stands.shared) ∙ p.events)
+              ∙ ap (λ k. slice_get ((shared_of m).events ++ event_of event ∷ []) k) a.core.events ∙ at_end (shared_of m).events (event_of event),
+        );
+        one_more = one;
+        pending = refl;
+        code = refl;
+        limit = refl;
+        taken = refl;
+      },
+    )
+
+-- who is lent is neither the actor nor asleep, so its lease stays out
+pub commits_keeps : (d e : Desk) (event : Recorded) → IsDesk d → CommitsNext d event e → KeepsLeases d e
+commits_keeps d e event h c l out =
+    let r = rules_of d in
+    let L = laws (code_kind d.code) d.limit in
+    let m = h.at.1 in
+    let a = h.at.2 in
+    let w = moment (code_kind d.code) d.limit h.at.0 in
+    let t = c.turn in
+    let k = l.number in
+    let p = parked_asks r L m w a.stands t.key (least_in d m a.core (Some t.key) t.least) in
+    let actor : slice_index_or m.rows c.number None ≡ Some p.0 = subst (λ k. slice_index_or m.rows k None ≡ Some p.0) t.number p.1 in
+    let lent = out.row in
+    let here : slice_index_or m.rows k None ≡ Some lent.0 = subst (λ (rows : Rows). slice_index_or rows k None ≡ Some lent.0) a.core.rows lent.1 in
+    let other = lent_other r L m w a.stands c.number k p.0 lent.0 actor p.2 here lent.2 in
+    let s = row_awake r L m w a.stands k lent.0 here in
+    let awake : (y : Sleeper) → In y (shared_of m).asleep → k ≢ y.number = λ y i same.
+    let lies = apart (code_kind d.code) d.limit h.at.0 y (subst (λ (x : Rest Frames). In y x.shared.asleep) a.stands.shared i) in
+    let nobody : slice_index_or w.awake k None ≡ None = ap (λ j. slice_index_or w.awake j None) same ∙ lies.1 in
+    none-some s.0 (sym nobody ∙ s.1) in
+    let stays = performed_other d.code d.limit m c.number k p.0 lent.0 actor here other awake in
+    record {
+      code = c.code ∙ out.code;
+      limit = c.limit ∙ out.limit;
+      row = (lent.0, ap (λ (rows : Rows). slice_index_or rows k None) (c.performs m a.core).core.rows ∙ stays, lent.2, lent.3);
     }
 
 abbrev begun : Desk → ℕ → Whole State (Rest Frames)
 begun d n = moment (code_kind d.code) d.limit n
 
 -- who is awake while nobody is parked stands before whatever comes
-pub waits_free : (d : Desk) (n : ℕ) → IsDesk d → least (keys waiting_clock 0 d.core.rows) ≡ None → IsAwake d.core.rows n → StandsBefore d.core n
-waits_free d n h e awake =
+pub waits_free : (d : Desk) (n : ℕ) → IsDesk d → d.core.ending ≡ None → least (keys waiting_clock 0 d.core.rows) ≡ None → IsAwake d.core.rows n → StandsBefore d.core n
+waits_free d n h going e awake =
     let a = h.at.2 in
-    let here : slice_index_or h.at.1.rows n None ≡ Some awake.0 = subst (λ (rows : Rows). slice_index_or rows n None ≡ Some awake.0) a.core.rows awake.1 in (
-      awake.0,
-      awake.1,
-      waits_alone (rules_of d) (laws (code_kind d.code) d.limit) h.at.1 n awake.0 (least_in d h.at.1 a.core None e) here,
-      subst (λ (o : Option Key). MatchOption o (Unit {0}) (λ k. is_before (record { clock = awake.0.floor; number = n }) k ≡ true)) (sym e) tt,
-    )
+    let here : slice_index_or h.at.1.rows n None ≡ Some awake.0 = subst (λ (rows : Rows). slice_index_or rows n None ≡ Some awake.0) a.core.rows awake.1 in
+    record {
+      going = going;
+      row = awake.0;
+      here = awake.1;
+      runs = waits_alone (rules_of d) (laws (code_kind d.code) d.limit) h.at.1 n awake.0 (least_in d h.at.1 a.core None e) here;
+      below = subst (λ (o : Option Key). MatchOption o (Unit {0}) (λ k. is_before (record { clock = awake.0.floor; number = n }) k ≡ true)) (sym e) tt;
+    }
 
 -- whose floor the least parked key is not below stands before it
-pub waits_key : (d : Desk) (n : ℕ) (k : Key) → IsDesk d → least (keys waiting_clock 0 d.core.rows) ≡ Some k → IsBefore d.core.rows k n → StandsBefore d.core n
-waits_key d n k h e b =
+pub waits_key : (d : Desk) (n : ℕ) (k : Key) → IsDesk d → d.core.ending ≡ None → least (keys waiting_clock 0 d.core.rows) ≡ Some k → IsBefore d.core.rows k n → StandsBefore d.core n
+waits_key d n k h going e b =
     let a = h.at.2 in
     let here : slice_index_or h.at.1.rows n None ≡ Some b.0 = subst (λ (rows : Rows). slice_index_or rows n None ≡ Some b.0) a.core.rows b.1 in
     let q = waits_before (rules_of d) (laws (code_kind d.code) d.limit) h.at.1 (begun d h.at.0) a.stands k n b.0 (least_in d h.at.1 a.core (Some k) e) here b.2 b.3 in
-    (b.0, b.1, q.0, subst (λ (o : Option Key). MatchOption o (Unit {0}) (λ k. is_before (record { clock = b.0.floor; number = n }) k ≡ true)) (sym e) q.1)
+    record {
+      going = going;
+      row = b.0;
+      here = b.1;
+      runs = q.0;
+      below = subst (λ (o : Option Key). MatchOption o (Unit {0}) (λ k. is_before (record { clock = b.0.floor; number = n }) k ≡ true)) (sym e) q.1;
+    }
 
 ends_by : (w : Whole State (Rest Frames)) (e : Ending) (o : Option Ending) → w.shared.shared.ending ≡ o → o ≡ Some e → end_of w ≡ Some e
 ends_by w e o is ended = ap (λ (x : Option Ending). cond (is_some x) x (cond (is_deserted (map is_some w.awake)) (Some Deadlock) None)) (is ∙ ended)

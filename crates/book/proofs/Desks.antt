@@ -3,6 +3,8 @@ use Rattle.std.proofs.Common.{◌≡◌, ℕ, ◌≢◌, Bool, true, false, cond
 use Rattle.std.specs.Prelude.{slice_index_or, slice_set}
 use Rattle.std.proofs.lemmas.Bool.{true≢false}
 use Rattle.std.proofs.lemmas.List.{set-get_or}
+use Rattle.std.proofs.lemmas.Option.{same_Some}
+use Rattle.std.specs.Option.{is_some}
 use Rattle.logical_clock.specs.declared.key.Key.{Key}
 use Rattle.logical_clock.specs.Order.{is_before, keys, least}
 use Rattle.logical_clock.proofs.Keys.{key, before_or_not, IsNext, next_is}
@@ -68,6 +70,21 @@ module _ {S W : Type 0} (r : Rules S W) (laws : Laws r) where
             true≢false (sym before ∙ ap (λ c. is_before (key c n) k) (ok.parked p).1 ∙ above)),
         before,
       )
+
+  -- one that is lent is not the one that is parked
+  pub lent_other : (m : Machine S W) (w : World S W) → Stands r m w → (n k : ℕ) (row lent : Row S) → slice_index_or m.rows n None ≡ Some row → row.parked ≡ true → slice_index_or m.rows k None ≡ Some lent → is_some lent.lease ≡ true → k ≢ n
+  lent_other m w h n k row lent at parked here out same =
+      let ok = ok_at (get_or w.awake n None) row (rw at at (h.rows n)) in
+      let one : lent ≡ row = same_Some lent row (sym here ∙ ap (λ i. slice_index_or m.rows i None) same ∙ at) in
+      true≢false (sym out ∙ ap (λ (x : Row S). is_some x.lease) one ∙ ap is_some (ok.parked parked).2)
+
+  is_there : (o : Option S) (row : Row S) → RowStands r o (Some row) → (s : S) × (o ≡ Some s)
+  is_there None row h = elim h [ ]
+  is_there (Some s) row h = (s, refl)
+
+  -- who has a row is awake in the one-thread run
+  pub row_awake : (m : Machine S W) (w : World S W) → Stands r m w → (k : ℕ) (row : Row S) → slice_index_or m.rows k None ≡ Some row → (s : S) × (slice_index_or w.awake k None ≡ Some s)
+  row_awake m w h k row at = is_there (get_or w.awake k None) row (rw at at (h.rows k))
 
   none_awake : (o : Option S) → RowStands r o None → o ≡ None
   none_awake None h = refl

@@ -1,5 +1,5 @@
 -- The book of a run.
-use Rattle.std.specs.Prelude.{◌≡◌, ℕ, ◌+◌, ◌*◌, ◌≤◌, ◌^◌, false, true, cond, [], List, length, drop, take, Some, None, slice_get, slice_index_or, slice_set}
+use Rattle.std.specs.Prelude.{◌≡◌, ℕ, ◌+◌, ◌*◌, ◌≤◌, ◌^◌, ◌++◌, false, true, cond, [], List, length, drop, take, Some, None, slice_get, slice_index_or, slice_set}
 use Rattle.std.specs.Option.{is_some, MatchOption}
 use Rattle.bytecode.specs.Code.{Code}
 use Rattle.bytecode.specs.Machine.{code_kind}
@@ -8,13 +8,14 @@ use Rattle.logical_clock.specs.Order.{is_before, keys, least}
 use Rattle.turn_rule.specs.declared.Row.{Row}
 use Rattle.turn_rule.specs.Schedule.{Stands}
 use Rattle.word.specs.declared.end.End.{End as Ending}
+use Rattle.word.specs.declared.request.Event.{Event as Recorded}
 use Rattle.word.specs.Values.{Event}
 use Rattle.word.specs.Kinds.{asks}
 use Rattle.word.specs.Views.{event_of}
 use Rattle.word.specs.Worlds.{end_of, moment, rules}
 use Rattle.book.specs.declared.settled.Settled.{Settled}
 use Rattle.book.specs.declared.settled.Settled.TheVariants.{Committed, Waiting, Ended}
-use Rattle.world_core.specs.Cores.{CodeMachine, CoreValue, FitsCore, IsCoreOf, IsLentRow, opened_core, shared_of}
+use Rattle.world_core.specs.Cores.{CodeMachine, CoreValue, FitsCore, HasTurn, IsCoreOf, IsLentRow, Performs, bytes_of, opened_core, shared_of}
 use Rattle.world_core.specs.Slots.{State, lent_row, waiting_clock}
 
 -- ---- what is seen of the one-thread run of a code
@@ -92,6 +93,10 @@ pub record IsLent (d : Desk) (l : Held) : Type 0 where
   pub limit : d.limit ≡ l.limit
   pub row : IsLentRow d.core.rows l.number l.base
 
+-- a lease that is out stays out
+abbrev pub KeepsLeases : Desk → Desk → Type 0
+KeepsLeases old new = (l : Held) → IsLent old l → IsLent new l
+
 -- the present state is put back, before an end
 abbrev pub brought : Desk → Held → Desk
 brought d l =
@@ -108,17 +113,30 @@ brought d l =
 
 -- ---- settling
 
--- n is awake and not parked, and its floor is below the least parked key, or nobody is parked
-abbrev pub StandsBefore : CoreValue → ℕ → Type 0
-StandsBefore core n =
-    (row : Row State) × (slice_index_or core.rows n None ≡ Some row) × (row.parked ≡ false)
-    × MatchOption (least (keys waiting_clock 0 core.rows)) (Unit {0}) (λ k. is_before (record { clock = row.floor; number = n }) k ≡ true)
+-- the run goes on, n is awake and not parked, and its floor is below the least parked key, or nobody is parked
+pub record StandsBefore (core : CoreValue) (n : ℕ) : Type 0 where
+  pub going : core.ending ≡ None
+  pub row : Row State
+  pub here : slice_index_or core.rows n None ≡ Some row
+  pub runs : row.parked ≡ false
+  pub below : MatchOption (least (keys waiting_clock 0 core.rows)) (Unit {0}) (λ k. is_before (record { clock = row.floor; number = n }) k ≡ true)
+
+-- the request of the goroutine that has the turn is performed: the run's next event, which leaves the world that performing
+-- leaves, and whose bytes come behind those that were not taken out
+pub record CommitsNext (old : Desk) (event : Recorded) (new : Desk) : Type 0 where
+  pub number : ℕ
+  pub turn : HasTurn old.core number
+  pub performs : Performs old.code old.limit old.core number event (bytes_of event) new.core
+  pub is_next : IsEvent old.code old.limit old.core.events (event_of event)
+  pub one_more : new.core.events ≡ old.core.events + 1
+  pub pending : new.pending ≡ old.pending ++ bytes_of event
+  pub code : new.code ≡ old.code
+  pub limit : new.limit ≡ old.limit
+  pub taken : new.taken ≡ old.taken
 
 -- one event more, and the run's next one; or somebody who stands before it; or the run's end
 abbrev pub Settles : Desk → Settled → Desk → Type 0
-Settles old (Committed event) new =
-    IsEvent old.code old.limit old.core.events (event_of event) × (new.core.events ≡ old.core.events + 1)
-    × (new.code ≡ old.code) × (new.limit ≡ old.limit) × (new.taken ≡ old.taken)
+Settles old (Committed event) new = CommitsNext old event new
 Settles old (Waiting n) new = (new ≡ old) × StandsBefore old.core n
 Settles old (Ended ending) new =
     (new ≡ old) × IsEnd old.code old.limit old.core.events (old.taken + length old.pending) ending

@@ -7,7 +7,7 @@ ghost use Rattle.output.specs.declared.piece.Kind.TheVariants.{Output};
 ghost use Rattle.logical_clock.specs.Order.{keys, least};
 ghost use Rattle.world_core.specs.Slots.{waiting_clock};
 ghost use Rattle.world_core.specs.Cores.{HasTurn, IsFreeIn, to_lend};
-ghost use Rattle.book.specs.Desks.{IsDesk, IsLent, IsPiece, Settles, brought, lent_desk, opened_desk};
+ghost use Rattle.book.specs.Desks.{IsDesk, IsLent, IsPiece, KeepsLeases, Settles, brought, lent_desk, opened_desk};
 
 use crate::lease::Lease;
 use crate::settled::Settled;
@@ -127,19 +127,22 @@ impl Book {
         self.core.take_back(number, lease.into_present(), parked);
     }
 
-    /// Commits the next event of the one-thread run, or tells who stands before it, or how the run has ended.
+    /// Commits the next event of the one-thread run, or tells who stands before it, or how the run has ended. Every lease
+    /// that is out stays out.
     pub fn settle(&mut self) -> Result<Settled, Memory>
         ensures settles { IfOk result (λ s. Settles self.old s self.new) }
+        ensures leases { KeepsLeases self.old self.new }
         ensures memory { OnErr result (self.new ≡ self.old) }
     {
         if let Some(end) = self.core.ending() {
             return Ok(Settled::Ended(end));
         }
-        let Some(key) = least_parked(self.core.rows()) else {
+        let rows = self.core.rows();
+        let Some(key) = least_parked(rows) else {
             return Ok(self.nobody_parked());
         };
         let first = key.number;
-        if let Some(number) = blocker(self.core.rows(), key) {
+        if let Some(number) = blocker(rows, key) {
             return Ok(Settled::Waiting(number));
         }
         Ok(self.commit(first)?)
@@ -161,6 +164,7 @@ impl Book {
     fn commit(&mut self, number: u64) -> Result<Settled, Memory>
         requires { HasTurn self.old.core number }
         ensures settles { IfOk result (λ s. Settles self.old s self.new) }
+        ensures leases { OnOk result (KeepsLeases self.old self.new) }
         ensures memory { OnErr result (self.new ≡ self.old) }
     {
         let event = self.core.perform(

@@ -6,6 +6,7 @@ use Rattle.checker.specs.Program.{Tells}
 use Rattle.checker.specs.Rules.{IsTyped}
 use Rattle.go_text.specs.declared.fault.Fault.{Fault}
 use Rattle.go_text.specs.declared.fault.Fault.TheVariants as faults
+use Rattle.go_text.specs.declared.source.TheConstants.{MAX_LENGTH}
 use Rattle.parser_base.specs.Lexemes.{lexemes}
 use Rattle.parser.specs.Spelling.{Spells}
 use Rattle.scanner.specs.declared.token.Token.{Token}
@@ -32,7 +33,7 @@ untyped text ts file scanned spelt wrong other r =
     let same = one_file (lexemes text ts) other file (spelt_by text ts other scanned r) spelt in
     wrong (subst IsBuilt same r.built) (subst IsTyped same r.typed)
 
-pub reads : (text : List ℕ) (ts : List Token) (file : File) → IsUtf8 text → length text ≤ 1048576 → tokens_of text ≡ Ok ts → Spells (lexemes text ts) file → height file ≤ 200 → most_entries file ≤ 64 → most_clauses file ≤ 64 → IsBuilt file → IsTyped file → Reads text file
+pub reads : (text : List ℕ) (ts : List Token) (file : File) → IsUtf8 text → length text ≤ MAX_LENGTH → tokens_of text ≡ Ok ts → Spells (lexemes text ts) file → height file ≤ 200 → most_entries file ≤ 64 → most_clauses file ≤ 64 → IsBuilt file → IsTyped file → Reads text file
 reads text ts file utf8 short scanned spelt low few clauses built typed = record { utf8 = utf8; short = short; tokens = ts; scanned = scanned; spelt = spelt; low = low; few = few; clauses = clauses; built = built; typed = typed }
 
 abbrev pub Unread : List ℕ → List Token → Fault → Type 0
@@ -44,13 +45,13 @@ Explained text told = (told ≡ faults.Memory) ⊎ IsWhy text told
 explains : (bytes text : List ℕ) {told : Fault} → text ≡ bytes → Explained text told → Explained bytes told
 explains bytes text {told} same e = subst (λ bs. Explained bs told) same e
 
-pub unread : (bytes text : List ℕ) (ts us : List Token) {told : Fault} → text ≡ bytes → us ≡ ts → IsUtf8 text → tokens_of text ≡ Ok ts → Unread text us told → Explained bytes told
-unread bytes text ts us {told} same list utf8 scanned (inl memory) = inl memory
-unread bytes text ts us {told} same list utf8 scanned (inr w) = explains bytes text same (inr (w.0, IsUnread utf8 ts scanned (subst (λ vs. IsUnspelt (lexemes text vs) w.0) list w.1), w.2))
+pub unread : (bytes text : List ℕ) (ts us : List Token) {told : Fault} → text ≡ bytes → us ≡ ts → length text ≤ MAX_LENGTH → IsUtf8 text → tokens_of text ≡ Ok ts → Unread text us told → Explained bytes told
+unread bytes text ts us {told} same list short utf8 scanned (inl memory) = inl memory
+unread bytes text ts us {told} same list short utf8 scanned (inr w) = explains bytes text same (inr (w.0, IsUnread short utf8 ts scanned (subst (λ vs. IsUnspelt (lexemes text vs) w.0) list w.1), w.2))
 
 abbrev pub Wrong : List ℕ → Tree → Fault → Type 0
 Wrong text tree told = (told ≡ faults.Memory) ⊎ ((fault : Fault) × Tells tree fault × (told ≡ located_in text fault))
 
-pub wrong : (bytes text : List ℕ) (ts : List Token) (tree : Tree) {told : Fault} → text ≡ bytes → IsUtf8 text → tokens_of text ≡ Ok ts → Spells (lexemes text ts) (tree_of tree) → height (tree_of tree) ≤ 200 → most_entries (tree_of tree) ≤ 64 → most_clauses (tree_of tree) ≤ 64 → Wrong text tree told → Explained bytes told
-wrong bytes text ts tree same utf8 scanned spelt low few clauses (inl memory) = inl memory
-wrong bytes text ts tree same utf8 scanned spelt low few clauses (inr w) = explains bytes text same (inr (w.0, IsWrong utf8 tree (record { tokens = ts; scanned = scanned; spelt = spelt; low = low; few = few; clauses = clauses }) w.1, w.2))
+pub wrong : (bytes text : List ℕ) (ts : List Token) (tree : Tree) {told : Fault} → text ≡ bytes → length text ≤ MAX_LENGTH → IsUtf8 text → tokens_of text ≡ Ok ts → Spells (lexemes text ts) (tree_of tree) → height (tree_of tree) ≤ 200 → most_entries (tree_of tree) ≤ 64 → most_clauses (tree_of tree) ≤ 64 → Wrong text tree told → Explained bytes told
+wrong bytes text ts tree same short utf8 scanned spelt low few clauses (inl memory) = inl memory
+wrong bytes text ts tree same short utf8 scanned spelt low few clauses (inr w) = explains bytes text same (inr (w.0, IsWrong short utf8 tree (record { tokens = ts; scanned = scanned; spelt = spelt; low = low; few = few; clauses = clauses }) w.1, w.2))

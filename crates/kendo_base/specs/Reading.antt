@@ -6,6 +6,7 @@ use Rattle.go_text.specs.declared.fault.Fault.{Fault}
 use Rattle.go_text.specs.declared.fault.Fault.TheVariants as faults
 use Rattle.go_text.specs.declared.place.Place.{Place}
 use Rattle.go_text.specs.declared.rule.LimitKind.TheVariants as limits
+use Rattle.go_text.specs.declared.source.TheConstants.{MAX_LENGTH}
 use Rattle.go_text.specs.Lines.{position_after}
 use Rattle.parser_base.specs.Lexemes.{Lexeme, lexemes}
 use Rattle.parser.specs.Spelling.{Spells}
@@ -21,7 +22,7 @@ use Rattle.checker.specs.Built.{IsBuilt}
 -- is broken
 pub record Reads (text : List ℕ) (file : File) : Type 0 where
   pub utf8 : IsUtf8 text
-  pub short : length text ≤ 1048576
+  pub short : length text ≤ MAX_LENGTH
   pub tokens : List Token
   pub scanned : tokens_of text ≡ Ok tokens
   pub spelt : Spells (lexemes text tokens) file
@@ -109,14 +110,14 @@ pub record IsTreeOf (text : List ℕ) (tree : Tree) : Type 0 where
 
 -- why the text has no reading, by the first of these that is so
 pub data Flaw (text : List ℕ) (fault : Fault) : Type 0 where
-  IsLong : 1048576 < length text → fault ≡ faults.TooLong → Flaw text fault
-  IsNoText : length text ≤ 1048576 → ¬ (IsUtf8 text) → fault ≡ faults.NotUtf8 → Flaw text fault
+  IsLong : MAX_LENGTH < length text → fault ≡ faults.TooLong → Flaw text fault
+  IsNoText : length text ≤ MAX_LENGTH → ¬ (IsUtf8 text) → fault ≡ faults.NotUtf8 → Flaw text fault
   -- the first place where no token stands
-  HasFault : IsUtf8 text → tokens_of text ≡ Err fault → Flaw text fault
+  HasFault : length text ≤ MAX_LENGTH → IsUtf8 text → tokens_of text ≡ Err fault → Flaw text fault
   -- its tokens are no file's
-  IsUnread : IsUtf8 text → (tokens : List Token) → tokens_of text ≡ Ok tokens → IsUnspelt (lexemes text tokens) fault → Flaw text fault
+  IsUnread : length text ≤ MAX_LENGTH → IsUtf8 text → (tokens : List Token) → tokens_of text ≡ Ok tokens → IsUnspelt (lexemes text tokens) fault → Flaw text fault
   -- a rule is broken or a limit exceeded at a node of its tree
-  IsWrong : IsUtf8 text → (tree : Tree) → IsTreeOf text tree → Tells tree fault → Flaw text fault
+  IsWrong : length text ≤ MAX_LENGTH → IsUtf8 text → (tree : Tree) → IsTreeOf text tree → Tells tree fault → Flaw text fault
 
 -- the fault tells why the text has no reading, with line and column
 abbrev pub IsWhy : List ℕ → Fault → Type 0

@@ -15,6 +15,7 @@ ghost use Rattle.checker.specs.Built.{IsBuilt};
 ghost use Rattle.kendo_base.specs.Reading.{HasNoReading, HasNoTokens, HasNoTree, IsOfText, IsRefusal, IsUnspelt, IsWhy, Reads, located_in};
 
 use checker::{Typed, check};
+use go_text::source::MAX_LENGTH;
 use go_text::{Fault, Place, Source};
 use parser::parse;
 use scanner::{Token, scan};
@@ -31,7 +32,7 @@ pub(crate) fn read(alloc: Global, bytes: Vec<u8>) -> Result<Typed, Fault>
 {
     let source = Source::new(bytes)?;
     let text = source.as_str();
-    prove!(text.len() <= 1_048_576);
+    prove!(text.len() <= MAX_LENGTH);
     let tokens = tokens(alloc, &source)?;
     let tree = tree(alloc, &source, tokens.as_slice())?;
     Ok(checked(alloc, &source, tree)?)

@@ -1,2 +1,3 @@
 pub mod Scheduling
 pub use Rattle.world_core_base.proofs.Leases
+pub use Rattle.world_core_base.proofs.Others

@@ -5,3 +5,4 @@ pub mod Performing
 pub mod Shapes
 pub mod Stepping
 pub mod Taking
+pub mod Others

@@ -3,6 +3,7 @@ use Rattle.std.specs.Prelude.{IsUtf8}
 use Rattle.std.proofs.lemmas.Result.{err_from_is_err_and}
 use Rattle.checker.specs.Typed.{tree_in}
 use Rattle.go_text.specs.Source.{bytes_of}
+use Rattle.go_text.specs.declared.source.TheConstants.{MAX_LENGTH}
 use Rattle.parser_base.specs.Lexemes.{lexemes}
 use Rattle.parser.specs.Spelling.{Spells}
 use Rattle.scanner.specs.declared.token.Token.{Token}
@@ -34,7 +35,8 @@ pub returns-in_err-tree-clause-why : goal.returns-in_err-tree-clause-why
 returns-in_err-tree-clause-why c =
     let p = err_from_is_err_and c.from_residual-in_err-tree.result c.from_residual-in_err-tree.ensures.1 in
     let utf8 : IsUtf8 (bytes_of c.in_ok-source.source) = subst IsUtf8 c.as_str-text.ensures.bytes c.as_str-text.ensures.utf8 in
-    rw (p.1, p.2) (unread _ _ _ _ c.in_ok-source.ensures.text c.as_slice.ensures.value utf8 c.in_ok-tokens.ensures.tokens c.in_err-tree.ensures.why)
+    let short : length (bytes_of c.in_ok-source.source) ≤ MAX_LENGTH = subst (λ (bs : List ℕ). length bs ≤ MAX_LENGTH) c.as_str-text.ensures.bytes c.as_str-text.ensures.short in
+    rw (p.1, p.2) (unread _ _ _ _ c.in_ok-source.ensures.text c.as_slice.ensures.value short utf8 c.in_ok-tokens.ensures.tokens c.in_err-tree.ensures.why)
 
 pub returns-in_err-checked-clause-why : goal.returns-in_err-checked-clause-why
 returns-in_err-checked-clause-why c =
@@ -44,7 +46,8 @@ returns-in_err-checked-clause-why c =
     let tree = c.in_ok-tree.tree in
     let utf8 : IsUtf8 text = subst IsUtf8 c.as_str-text.ensures.bytes c.as_str-text.ensures.utf8 in
     let spelt : Spells (lexemes text ts) (tree_of tree) = subst (λ (us : List Token). Spells (lexemes text us) (tree_of tree)) c.as_slice.ensures.value c.in_ok-tree.ensures.spelt in
-    rw (p.1, p.2) (wrong _ text ts tree c.in_ok-source.ensures.text utf8 c.in_ok-tokens.ensures.tokens spelt c.in_ok-tree.ensures.low c.in_ok-tree.ensures.few c.in_ok-tree.ensures.clauses c.in_err-checked.ensures.why)
+    let short : length text ≤ MAX_LENGTH = subst (λ (bs : List ℕ). length bs ≤ MAX_LENGTH) c.as_str-text.ensures.bytes c.as_str-text.ensures.short in
+    rw (p.1, p.2) (wrong _ text ts tree c.in_ok-source.ensures.text short utf8 c.in_ok-tokens.ensures.tokens spelt c.in_ok-tree.ensures.low c.in_ok-tree.ensures.few c.in_ok-tree.ensures.clauses c.in_err-checked.ensures.why)
 
 pub returns-clause-reads : goal.returns-clause-reads
 returns-clause-reads c =
@@ -53,6 +56,6 @@ returns-clause-reads c =
     let file = tree_of c.in_ok-tree.tree in
     let spelt : Spells (lexemes text ts) file = subst (λ (us : List Token). Spells (lexemes text us) file) c.as_slice.ensures.value c.in_ok-tree.ensures.spelt in
     let utf8 : IsUtf8 text = subst IsUtf8 c.as_str-text.ensures.bytes c.as_str-text.ensures.utf8 in
-    let short : length text ≤ 1048576 = subst (λ (bs : List ℕ). length bs ≤ 1048576) c.as_str-text.ensures.bytes c.as_str-text.ensures.short in
+    let short : length text ≤ MAX_LENGTH = subst (λ (bs : List ℕ). length bs ≤ MAX_LENGTH) c.as_str-text.ensures.bytes c.as_str-text.ensures.short in
     let whole = reads text ts file utf8 short c.in_ok-tokens.ensures.tokens spelt c.in_ok-tree.ensures.low c.in_ok-tree.ensures.few c.in_ok-tree.ensures.clauses c.in_ok-checked.ensures.built c.in_ok-checked.ensures.typed in
     subst (λ bs. Reads bs (tree_of (tree_in c.in_ok-checked.field-0))) c.in_ok-source.ensures.text (subst (λ (t : Tree). Reads text (tree_of t)) (sym c.in_ok-checked.ensures.tree) whole)

@@ -1,10 +1,10 @@
-use Rattle.std.proofs.Common.{◌++◌, ◌<◌, ◌^◌, length, sym, subst, ap, arith, refl}
+use Rattle.std.proofs.Common.{◌++◌, ◌<◌, ◌^◌, length, sym, subst, ap, arith}
 use Rattle.std.specs.Arc.{arc_value}
 use Rattle.bytecode.specs.Code.{Code}
 use Rattle.world_core.specs.Cores.{Performs, bytes_of}
 use Rattle.world_core.specs.Cores.{FitsCore, HasTurn}
 use Rattle.book.specs.Desks.{Desk}
-use Rattle.book.proofs.Books.{asks_at, commits}
+use Rattle.book.proofs.Books.{after_event, asks_at, commits, commits_keeps}
 use Rattle.book.proofs.book_model.Book.commit.Goals as goal
 
 pub perform-requires-clause-asks : goal.perform-requires-clause-asks
@@ -29,11 +29,11 @@ invariant_of-self-2 c =
     let len = c.perform.new.output.ok.0 in
     let cap = c.perform.new.output.ok.1 in
     let room : length (d.pending ++ bytes_of event) < 2 ^ 64 = omega (arith, small, long, len, cap) in
-    let r = commits d c.args.number event (bytes_of event) new c.self.invariant turn done fits room in
-    rw out r.desk
+    let r = commits d c.args.number event new c.self.invariant turn done fits room in
+    rw out r.0
 
-pub returns-clause-settles : goal.returns-clause-settles
-returns-clause-settles c =
+pub returns : goal.returns
+returns c =
     let b = c.self.inside in
     let d : Desk = record { code = arc_value b.program; limit = b.limit; core = b.core; taken = b.taken; pending = b.pending.items } in
     let event = c.in_ok-event.event in
@@ -47,5 +47,5 @@ returns-clause-settles c =
     let len = c.perform.new.output.ok.0 in
     let cap = c.perform.new.output.ok.1 in
     let room : length (d.pending ++ bytes_of event) < 2 ^ 64 = omega (arith, small, long, len, cap) in
-    let r = commits d c.args.number event (bytes_of event) new c.self.invariant turn done fits room in
-    rw (← c.self.view_is) (r.is_event, r.one_more, refl, refl, refl)
+    let r = commits d c.args.number event new c.self.invariant turn done fits room in
+    rw (← c.self.view_is, out) (record { settles = r.1; leases = commits_keeps d (after_event d event new) event c.self.invariant r.1; memory = tt })

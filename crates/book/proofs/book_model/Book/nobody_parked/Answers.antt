@@ -12,9 +12,10 @@ returns-in-Some c =
     let b = c.self.inside in
     let d : Desk = record { code = arc_value b.program; limit = b.limit; core = b.core; taken = b.taken; pending = b.pending.items } in
     let n = c.in-Some.number in
+    let going : d.core.ending ≡ None = subst (λ (x : Desk). x.core.ending ≡ None) (sym c.self.view_is) c.requires.ending in
     let none : least (keys waiting_clock 0 d.core.rows) ≡ None = subst (λ (x : Desk). least (keys waiting_clock 0 x.core.rows) ≡ None) (sym c.self.view_is) c.requires.parked in
     let awake : IsAwake d.core.rows n = subst (λ (rows : Rows). IsAwake rows n) c.rows.ensures c.in-Some.ensures in
-    (refl, subst (λ (x : Desk). StandsBefore x.core n) c.self.view_is (waits_free d n c.self.invariant none awake))
+    (refl, subst (λ (x : Desk). StandsBefore x.core n) c.self.view_is (waits_free d n c.self.invariant going none awake))
 
 pub returns-in-None : goal.returns-in-None
 returns-in-None c =

@@ -1,4 +1,4 @@
-use Rattle.std.proofs.Common.{◌≡◌, ◌+◌, length, Some, refl, sym, ◌∙◌, subst}
+use Rattle.std.proofs.Common.{◌≡◌, ◌+◌, length, None, Some, rules, refl, sym, ◌∙◌, subst}
 use Rattle.std.specs.Arc.{arc_value}
 use Rattle.logical_clock.specs.Order.{keys, least}
 use Rattle.book.specs.Desks.{Desk, IsEnd, StandsBefore}
@@ -19,6 +19,7 @@ returns-in-Some-blocker-clause-settles c =
     let d : Desk = record { code = arc_value b.program; limit = b.limit; core = b.core; taken = b.taken; pending = b.pending.items } in
     let n = c.in-Some-blocker.number in
     let k = c.in-Some-least_parked.key in
-    let first : least (keys waiting_clock 0 d.core.rows) ≡ Some k = subst (λ (rows : Rows). least (keys waiting_clock 0 rows) ≡ Some k) c.rows.ensures (sym c.least_parked.ensures.least ∙ c.in-Some-least_parked.is) in
-    let before : IsBefore d.core.rows k n = subst (λ (rows : Rows). IsBefore rows k n) c.rows-2.ensures c.in-Some-blocker.ensures.1 in
-    (refl, subst (λ (x : Desk). StandsBefore x.core n) c.self.view_is (waits_key d n k c.self.invariant first before))
+    let going : d.core.ending ≡ None = search rules in
+    let first : least (keys waiting_clock 0 d.core.rows) ≡ Some k = subst (λ (rows : Rows). least (keys waiting_clock 0 rows) ≡ Some k) c.rows-rows.ensures (sym c.in-Some-least_parked.ensures.least) in
+    let before : IsBefore d.core.rows k n = subst (λ (rows : Rows). IsBefore rows k n) c.rows-rows.ensures c.in-Some-blocker.ensures.1 in
+    (refl, subst (λ (x : Desk). StandsBefore x.core n) c.self.view_is (waits_key d n k c.self.invariant going first before))
