@@ -19,7 +19,7 @@ use Rattle.parser_simple.specs.Reading.{as_one, begins_with, names, arguments, b
 use Rattle.parser_simple.proofs.PlaceLaws.{names_again, names_sound}
 use Rattle.parser_simple.proofs.RightLaws.{Stops, needing_again, needing_ok, value_again, arguments_again, below_is, type_positive, type_outcome, right_positive, operation_again, operation_begins, no_operation, right_again, value_sound, arguments_sound, operation_sound, right_sound}
 use Rattle.parser_simple.proofs.SimpleLaws.{simple_sound}
-use Rattle.parser_statement.specs.HeaderSpelling.{IsAny}
+use Rattle.parser_header.specs.Spelling.{IsAny}
 use Rattle.parser_statement.specs.Spelling.{returned_words, IsReturned, initial_words, names_words, statement_words, IsStatement}
 use Rattle.parser_statement.specs.Reading.{is_end, ends_statement, begins_returned, returned_value, returned, started, behind_next, typed, untyped, variables, variable, leaf}
 

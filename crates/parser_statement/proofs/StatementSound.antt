@@ -15,9 +15,9 @@ use Rattle.parser_base.proofs.Marks.{bind_ok, ok_is, expect_is}
 use Rattle.parser_base.proofs.ListLaws.{IsEntry, ReadsSoundly, AreEntries, listed_sound}
 use Rattle.parser_base.proofs.Steps.{gave, Sound, made_is, either}
 use Rattle.parser_simple.specs.Reading.{as_one, begins_with}
-use Rattle.parser_statement.specs.HeaderSpelling.{comm_words, IsComm, for_head_words}
-use Rattle.parser_statement.specs.HeaderReading.{if_header, for_header}
-use Rattle.parser_statement.proofs.HeaderLaws.{if_header_words, if_header_sound, for_header_sound, comm_below_is, comm_sound}
+use Rattle.parser_header.specs.Spelling.{comm_words, IsComm, for_head_words}
+use Rattle.parser_header.specs.Reading.{if_header, for_header}
+use Rattle.parser_header.proofs.HeaderLaws.{if_header_words, if_header_sound, for_header_sound, comm_below_is, comm_sound}
 use Rattle.parser_statement.specs.Spelling.{statement_words, body_words, branch_words, otherwise_words, clauses_words, IsStatement, IsBody, IsBranch, IsOtherwise, AreClauses}
 use Rattle.parser_statement.specs.Reading.{ends_statement, statement_next, clause_next, braced, other, otherwise, branched, repeated, waited, clause_body, one_clause, no_clause, clauses_next, selected, marked, stated, statement, block, branch, clause}
 use Rattle.parser_statement.proofs.StatementLists.{body_list, are_body, highest_in, longest_in, clauses_in, clauses_in-clauses, clause_words, IsClause, clause_height, clause_longest, unseparated, clauses_list, are_clauses, clauses_highest, clauses_longest_in, clauses_length, clause_entries-le, clause_entries_few}
