@@ -13,7 +13,7 @@ use Rattle.parser_base.specs.Spelling.{behind, separated, joined, closing, AreAl
 use Rattle.parser_base.specs.Reading.{Reading, ◌>>=◌, is_kind, expect, followed, entry_next}
 use Rattle.parser_base.specs.TypeReading.{type_words, IsType, type_at}
 use Rattle.parser_base.proofs.Marks.{bind_ok, ok_is, expect_is, expect_again}
-use Rattle.parser_base.proofs.ListLaws.{AreFew, ReadBack, Found, High, Many}
+use Rattle.parser_base.proofs.ListLaws.{AreFew, ReadBack, Found, High, Many, all_of}
 use Rattle.parser_base.proofs.Steps.{then_again, gave}
 use Rattle.parser_base.proofs.TypeLaws.{Found as TypeFound, High as TypeHigh, type_again, type_sound}
 use Rattle.parser_base.proofs.ExpressionAgain.{entries-le, ending_again, more_entries}
@@ -180,10 +180,6 @@ behind_one : (separator : TokenKind) (ds : List Declared) (rest : List Lexeme) �
 behind_one separator [] rest some = absurd some
 behind_one separator (d ∷ ds) rest some = refl
 
-all_of : (ds : List Declared) → AreSome IsDeclared ds → AreAll IsDeclared ds
-all_of [] some = absurd some
-all_of (d ∷ ds) some = some
-
 abbrev ReadsDeclared : (separator close : TokenKind) (room left : ℕ) → (List Lexeme → Reading (List Declared × Bool)) → Type 0
 ReadsDeclared separator close room left others = (ws : List Lexeme) (found : (List Declared × Bool) × List Lexeme) → others ws ≡ Ok found → AreDeclared separator close room left ws found
 
@@ -199,7 +195,7 @@ followed_sound separator close room left others ws d after sound one (More, rest
     entry_more_sound separator begins_name close after rest n ∙ ap (λ (x : List Lexeme). Mark separator ∷ x) s.parts ∙ behind_one separator ds tail s.are in
     subst (λ (y : (List Declared × Bool) × List Lexeme). AreDeclared separator close room left ws y) (ok_is made found a.2) (record {
       parts = one.parts ∙ ap (declared_words d) separate;
-      are = (one.is, all_of ds s.are);
+      are = (one.is, all_of IsDeclared ds s.are);
       low = omega (arith, one.low, s.low);
       few = omega (arith, one.few, s.few, sum_by-cons declared_count d ds);
     })
@@ -237,7 +233,7 @@ either_declared : (separator close : TokenKind) (most room : ℕ) (b : Bool) (ws
     → cond b (some_declared separator close room most most ws) (expect close ws >>= λ after. gave ([], false) after) ≡ Ok found → AreAllDeclared separator close most room ws found
 either_declared separator close most room true ws found e =
     let s = some_sound separator close room most most ws found e in
-    record { parts = s.parts; are = all_of found.0.0 s.are; last = trailing_of found.0.0 found.0.1 s.are; low = s.low; few = λ listing. omega (arith, s.few, entries-le listing (sum_by declared_count found.0.0)) }
+    record { parts = s.parts; are = all_of IsDeclared found.0.0 s.are; last = trailing_of found.0.0 found.0.1 s.are; low = s.low; few = λ listing. omega (arith, s.few, entries-le listing (sum_by declared_count found.0.0)) }
 either_declared separator close most room false ws found e =
     let a = bind_ok (expect close ws) (λ after. gave ([], false) after) found e in
     subst (λ (x : (List Declared × Bool) × List Lexeme). AreAllDeclared separator close most room ws x) (ok_is (([], false), a.0) found a.2) (record {

@@ -9,7 +9,7 @@ use Rattle.parser_base.specs.Lexemes.{Lexeme, Name, Mark}
 use Rattle.parser_base.specs.Spelling.{behind, separated, joined, AreAll, AreSome}
 use Rattle.parser_base.specs.Reading.{Refusal, Syntax, TooDeep, TooMany, Reading, ◌>>=◌, expect, expect_name, listed}
 use Rattle.parser_base.proofs.Marks.{bind_ok, ok_is, expect_is, expect_name_is}
-use Rattle.parser_base.proofs.ListLaws.{AreFew, ReadBack, Found as OneFound, High as OneHigh, Many as OneMany, Found as AllFound, High as AllHigh, Many as AllMany, Full, Entries, all_again, IsReadAgain, Separates, listed_again, ReadsSoundly, listed_sound}
+use Rattle.parser_base.proofs.ListLaws.{AreFew, ReadBack, Found as OneFound, High as OneHigh, Many as OneMany, Found as AllFound, High as AllHigh, Many as AllMany, Full, Entries, all_again, IsReadAgain, Separates, listed_again, ReadsSoundly, listed_sound, ends_with, goes_on_with, all_of}
 use Rattle.parser.specs.Spelling.{top_words, IsTop, tops_words, words, Spells}
 use Rattle.parser.specs.Reading.{top, more_tops, top_next, tops, file}
 use Rattle.parser.proofs.Sizes.{top_longer, tops_longer}
@@ -106,12 +106,6 @@ file_again room most f is =
 
 -- ---- what is read is spelt so
 
-abbrev ends_with : Bool → List Lexeme → Next × List Lexeme
-ends_with trailing rest = (End trailing, rest)
-
-abbrev goes_on_with : List Lexeme → Next × List Lexeme
-goes_on_with rest = (More, rest)
-
 more_is : (ws rest : List Lexeme) → more_tops ws ≡ goes_on_with rest → ws ≡ rest
 more_is [] rest e = let kind : End false ≡ More = ap (λ (x : Next × List Lexeme). x.0) e in absurd cc
 more_is (w ∷ ws) rest e = ap (λ (x : Next × List Lexeme). x.1) e
@@ -143,17 +137,13 @@ tops_apart : (ts : List Top) → AreSome IsTop ts → joined top_words (behind k
 tops_apart [] some = absurd some
 tops_apart (t ∷ ts) some = sym (tops_joined t ts)
 
-all_of : (ts : List Top) → AreSome IsTop ts → AreAll IsTop ts
-all_of [] some = absurd some
-all_of (t ∷ ts) some = some
-
 tops_sound : (room most : ℕ) (ws : List Lexeme) (found : (List Top × Bool) × List Lexeme) → tops most room ws ≡ Ok found → AreTopsSound room most ws found.0.0
 unfolding tops
 tops_sound room most [] found e =
     subst (λ (x : (List Top × Bool) × List Lexeme). AreTopsSound room most [] x.0.0) (ok_is (([], false), []) found e) (record { parts = refl; are = tt; low = omega arith; few = λ listing. omega arith })
 tops_sound room most (w ∷ ws) found e =
     let s = listed_sound (listed_tops room most) Syntax (tops_soundly room most) (length (w ∷ ws)) (w ∷ ws) found e in
-    record { parts = s.parts ∙ tops_apart found.0.0 s.are; are = all_of found.0.0 s.are; low = s.low; few = s.few }
+    record { parts = s.parts ∙ tops_apart found.0.0 s.are; are = all_of IsTop found.0.0 s.are; low = s.low; few = s.few }
 
 pub record IsFound (room most : ℕ) (ws : List Lexeme) (f : File) : Type 0 where
   pub spelt : Spells ws f

@@ -10,7 +10,8 @@ use Rattle.parser_base.specs.Spelling.{behind, AreAll, AreSome, separated, joine
 use Rattle.parser_base.specs.TypeReading.{type_words}
 use Rattle.parser_base.proofs.TypeLaws.{type_size-le}
 use Rattle.parser_simple.specs.Spelling.{name_words, IsName}
-use Rattle.parser_statement.proofs.Sizes.{separated_size, closing_size, joined_grows, sum_in}
+use Rattle.parser_simple.proofs.Sizes.{separated_size, closing_size}
+use Rattle.parser_statement.proofs.Sizes.{joined_grows, sum_in}
 use Rattle.parser.specs.Spelling.{declared_words, IsDeclared, struct_words, IsStruct, result_words, block_words, function_words, IsFunction, top_words, IsTop, tops_words, words}
 
 -- ---- declarations

@@ -1,4 +1,5 @@
--- Reading from left to right.
+-- Reading from left to right, as the code does: these words are proved against the grammar (`Spelling`), and claim
+-- nothing themselves.
 use Rattle.std.specs.Prelude.{ℕ, zero, suc, ◌-◌, Bool, false, Option, Some, None, List, [], ◌∷◌, Result, Ok, Err, if◌then◌else◌, length, codes}
 use Rattle.scanner.specs.declared.kind.TokenKind.{TokenKind}
 use Rattle.scanner.specs.declared.kind.TokenKind.TheVariants as kinds

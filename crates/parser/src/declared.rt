@@ -10,15 +10,17 @@ ghost use Rattle.parser_simple.specs.Reading.{begins_name};
 ghost use Rattle.parser.specs.Reading.{declared, some_declared, all_declared};
 
 use go_text::{Fault, LimitKind, Span};
+use parser_base::beside::{beside, with_span};
 use parser_base::cursor::{Cursor, Word};
 use parser_base::expression::closed;
-use parser_base::list::{List, MAX_ENTRIES, Next};
+use parser_base::list::{List, Next};
 use parser_base::types::type_at;
 use parser_simple::form::begins_name;
 use parser_simple::place::names;
 use scanner::TokenKind;
 use std::alloc::Global;
 use syntax::DeclaredNode;
+use syntax::limits::MAX_ENTRIES;
 
 /// What follows the type of fields or parameters, with the span of its last token.
 #[tactic(auto, unfolding(parser_base::specs::Reading::entry_next))]
@@ -55,18 +57,16 @@ fn declared<'a>(
 {
     let from = cursor.place().span.from;
     let all = names(alloc, TokenKind::Comma, most, cursor)?;
-    let found = type_at(alloc, room, all.rest, spans)?;
-    spans.push(Span {
+    let (names, found) = beside(all.entries, type_at(alloc, room, all.rest, spans))?;
+    let span = Span {
         from,
         to: found.span.to,
-    })?;
-    Ok((
-        DeclaredNode {
-            names: all.entries,
-            type_node: found.kind,
-        },
-        found.rest,
-    ))
+    };
+    let node = DeclaredNode {
+        names,
+        type_node: found.node,
+    };
+    Ok((with_span(node, span, spans)?, found.rest))
 }
 
 /// At least one field or parameter, to the closing mark.

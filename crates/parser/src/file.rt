@@ -7,17 +7,19 @@ ghost use Rattle.parser_base.specs.Cursor.{ahead};
 ghost use Rattle.parser_base.specs.Reading.{Gives, Syntax, listed};
 ghost use Rattle.parser.specs.Reading.{top, top_next, tops, file};
 
-use crate::top::{STATEMENT_ROOM, top};
+use crate::top::{STATEMENT_ROOM, declaration};
 use go_text::{Fault, Span};
+use parser_base::beside::with_span;
 use parser_base::cursor::Cursor;
-use parser_base::list::{List, MAX_ENTRIES, Next};
+use parser_base::list::{List, Next};
 use scanner::TokenKind;
 use std::alloc::Global;
+use syntax::limits::MAX_ENTRIES;
 use syntax::{FileNode, TopNode};
 
 /// What follows a declaration, with the span of its semicolon.
 #[tactic(auto, unfolding(crate::specs::Reading::top_next))]
-fn top_next(cursor: Cursor<'_>) -> Result<(Next, Span, Cursor<'_>), Fault>
+fn declaration_next(cursor: Cursor<'_>) -> Result<(Next, Span, Cursor<'_>), Fault>
     ensures { Gives (λ x. (x.0, ahead x.2)) result (top_next (ahead cursor.entry)) }
 {
     let (last, rest) = cursor.expect(TokenKind::Semicolon)?;
@@ -29,7 +31,7 @@ fn top_next(cursor: Cursor<'_>) -> Result<(Next, Span, Cursor<'_>), Fault>
 }
 
 /// At least one declaration, to the file's end.
-fn some_tops<'a>(
+fn declaration_list<'a>(
     alloc: Global,
     cursor: Cursor<'a>,
     spans: &mut Vec<Span>,
@@ -40,9 +42,9 @@ fn some_tops<'a>(
     let mut entries = Vec::new(alloc);
     let mut rest = cursor;
     for _ in 0..cursor.len() {
-        let (one, behind) = top(alloc, rest, spans)?;
+        let (one, behind) = declaration(alloc, rest, spans)?;
         entries.push(one)?;
-        let (next, last, after) = top_next(behind)?;
+        let (next, last, after) = declaration_next(behind)?;
         match next {
             Next::More => rest = after,
             Next::End(trailing) => return Ok(List {
@@ -58,7 +60,7 @@ fn some_tops<'a>(
 
 /// The declarations of a file behind the semicolon of its first line, which is `first`.
 #[tactic(auto, unfolding(crate::specs::Reading::tops))]
-fn tops<'a>(
+fn declarations<'a>(
     alloc: Global,
     first: Span,
     cursor: Cursor<'a>,
@@ -68,7 +70,7 @@ fn tops<'a>(
     ensures nodes { IfOk result (λ x. vec_len spans.new ≡ vec_len spans.old + sum_by top_size (map top_of x.entries.items)) }
 {
     if cursor.next().is_some() {
-        return some_tops(alloc, cursor, spans);
+        return declaration_list(alloc, cursor, spans);
     }
     Ok(List {
         entries: Vec::new(alloc),
@@ -91,10 +93,10 @@ pub(crate) fn file(
     let (package, rest) = cursor.expect(TokenKind::Package)?;
     let rest = rest.expect_name(b"main")?;
     let (first, rest) = rest.expect(TokenKind::Semicolon)?;
-    let all = tops(alloc, first, rest, spans)?;
-    spans.push(Span {
+    let all = declarations(alloc, first, rest, spans)?;
+    let span = Span {
         from: package.from,
         to: all.last.to,
-    })?;
-    Ok(FileNode { tops: all.entries })
+    };
+    Ok(with_span(FileNode { tops: all.entries }, span, spans)?)
 }

@@ -16,28 +16,29 @@ use parser_base::cursor::Cursor;
 use scanner::Token;
 use std::alloc::Global;
 use syntax::Tree;
+use syntax::limits::{MAX_CLAUSES, MAX_ENTRIES, MAX_HEIGHT};
 
 /// The tree that spells the tokens of a text.
 ///
 /// A fault lies at the first token up to which no tree's tokens begin so, or at the text's end: `Syntax` where no tree
-/// at all has such tokens, `TooDeep` where none of at most 200 levels has, and `Limit` of kind `ListEntries` or
-/// `SelectClauses` where none has whose lists have at most 64 entries, or whose selects have at most 64 clauses. At one
-/// token `Syntax` comes before `TooDeep`, and that before `Limit`.
+/// at all has such tokens, `TooDeep` where none of at most `MAX_HEIGHT` levels has, and `Limit` of kind `ListEntries` or
+/// `SelectClauses` where none has whose lists have at most `MAX_ENTRIES` entries, or whose selects have at most
+/// `MAX_CLAUSES` clauses. At one token `Syntax` comes before `TooDeep`, and that before `Limit`.
 pub fn parse(alloc: Global, source: &Source, tokens: &[Token]) -> Result<Tree, Fault>
     requires { length tokens.now < 2 ^ 32 }
     // The tree that is found has these tokens.
     ensures spelt { IfOk result (λ tree. Spells (lexemes (bytes_of source.now) tokens.now) (tree_of tree)) }
-    ensures low { IfOk result (λ tree. height (tree_of tree) ≤ 200) }
-    ensures few { IfOk result (λ tree. most_entries (tree_of tree) ≤ 64) }
-    ensures clauses { IfOk result (λ tree. most_clauses (tree_of tree) ≤ 64) }
+    ensures low { IfOk result (λ tree. height (tree_of tree) ≤ MAX_HEIGHT) }
+    ensures few { IfOk result (λ tree. most_entries (tree_of tree) ≤ MAX_ENTRIES) }
+    ensures clauses { IfOk result (λ tree. most_clauses (tree_of tree) ≤ MAX_CLAUSES) }
     // No tree at all has them.
     ensures syntax { IfErr result (λ fault. refusal_of fault ≡ Some Syntax → (file : File) → Spells (lexemes (bytes_of source.now) tokens.now) file → ⊥) }
-    // No tree of at most 200 levels has them.
-    ensures deep { IfErr result (λ fault. refusal_of fault ≡ Some TooDeep → (file : File) → Spells (lexemes (bytes_of source.now) tokens.now) file → height file ≤ 200 → ⊥) }
-    // No tree whose lists have at most 64 entries has them.
-    ensures many { IfErr result (λ fault. refusal_of fault ≡ Some (TooMany Entries) → (file : File) → Spells (lexemes (bytes_of source.now) tokens.now) file → most_entries file ≤ 64 → ⊥) }
-    // No tree whose selects have at most 64 clauses has them.
-    ensures wide { IfErr result (λ fault. refusal_of fault ≡ Some (TooMany SelectClauses) → (file : File) → Spells (lexemes (bytes_of source.now) tokens.now) file → most_clauses file ≤ 64 → ⊥) }
+    // No tree of at most so many levels has them.
+    ensures deep { IfErr result (λ fault. refusal_of fault ≡ Some TooDeep → (file : File) → Spells (lexemes (bytes_of source.now) tokens.now) file → height file ≤ MAX_HEIGHT → ⊥) }
+    // No tree whose lists have at most so many entries has them.
+    ensures many { IfErr result (λ fault. refusal_of fault ≡ Some (TooMany Entries) → (file : File) → Spells (lexemes (bytes_of source.now) tokens.now) file → most_entries file ≤ MAX_ENTRIES → ⊥) }
+    // No tree whose selects have at most so many clauses has them.
+    ensures wide { IfErr result (λ fault. refusal_of fault ≡ Some (TooMany SelectClauses) → (file : File) → Spells (lexemes (bytes_of source.now) tokens.now) file → most_clauses file ≤ MAX_CLAUSES → ⊥) }
     ensures only { IfErr result (λ fault. (fault ≡ faults.Memory) ⊎ IsSome (refusal_of fault)) }
 {
     let mut spans = Vec::new(alloc);

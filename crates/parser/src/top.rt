@@ -10,22 +10,24 @@ ghost use Rattle.parser.specs.Reading.{structure, result_type, block, function, 
 
 use crate::declared::all_declared;
 use go_text::{Fault, Span};
+use parser_base::beside::with_span;
 use parser_base::cursor::Cursor;
-use parser_base::list::{List, MAX_ENTRIES};
+use parser_base::list::List;
 use parser_base::types::type_at;
 use parser_simple::form::begins_with;
 use parser_simple::place::name_at;
-use parser_statement::statement::statements;
+use parser_statement::statement::statement_list;
 use scanner::TokenKind;
 use std::alloc::Global;
+use syntax::limits::{MAX_ENTRIES, MAX_HEIGHT};
 use syntax::{FunctionNode, StatementNode, StructNode, TopNode, TypeNode};
 
 /// The most levels of a function's statements: above them stand the file, its function and the function's block.
-pub const STATEMENT_ROOM: u32 = 197;
+pub const STATEMENT_ROOM: u32 = MAX_HEIGHT - 3;
 
 /// A declaration of a struct type.
 #[tactic(auto, unfolding(crate::specs::Reading::structure))]
-fn structure<'a>(
+fn type_declaration<'a>(
     alloc: Global,
     cursor: Cursor<'a>,
     spans: &mut Vec<Span>,
@@ -45,18 +47,17 @@ fn structure<'a>(
         rest,
         spans,
     )?;
-    spans.push(Span {
+    let span = Span {
         from: first.from,
         to: fields.last.to,
-    })?;
-    Ok((
-        TopNode::Struct(StructNode {
-            name,
-            fields: fields.entries,
-            trailing: fields.trailing,
-        }),
-        fields.rest,
-    ))
+    };
+    let node = StructNode {
+        name,
+        fields: fields.entries,
+        trailing: fields.trailing,
+    };
+    let node = with_span(TopNode::Struct(node), span, spans)?;
+    Ok((node, fields.rest))
 }
 
 /// The type of a function's result, if there is one before its block.
@@ -73,12 +74,12 @@ fn result_type<'a>(
         return Ok((None, cursor));
     }
     let found = type_at(alloc, STATEMENT_ROOM + 1, cursor, spans)?;
-    Ok((Some(found.kind), found.rest))
+    Ok((Some(found.node), found.rest))
 }
 
 /// The statements of a function's block.
 #[tactic(auto, unfolding(crate::specs::Reading::block))]
-fn block<'a>(
+fn function_body<'a>(
     alloc: Global,
     cursor: Cursor<'a>,
     spans: &mut Vec<Span>,
@@ -87,17 +88,17 @@ fn block<'a>(
     ensures nodes { IfOk result (λ x. vec_len spans.new ≡ vec_len spans.old + block_size (statements (map statement_of x.entries.items))) }
 {
     let (brace, rest) = cursor.expect(TokenKind::LeftBrace)?;
-    let body = statements(alloc, STATEMENT_ROOM, rest, spans)?;
-    spans.push(Span {
+    let body = statement_list(alloc, STATEMENT_ROOM, rest, spans)?;
+    let span = Span {
         from: brace.from,
         to: body.last.to,
-    })?;
-    Ok(body)
+    };
+    Ok(with_span(body, span, spans)?)
 }
 
 /// A declaration of a function.
 #[tactic(auto, unfolding(crate::specs::Reading::function))]
-fn function<'a>(
+fn function_declaration<'a>(
     alloc: Global,
     cursor: Cursor<'a>,
     spans: &mut Vec<Span>,
@@ -117,26 +118,25 @@ fn function<'a>(
         spans,
     )?;
     let (kind, rest) = result_type(alloc, parameters.rest, spans)?;
-    let body = block(alloc, rest, spans)?;
-    spans.push(Span {
+    let body = function_body(alloc, rest, spans)?;
+    let span = Span {
         from: first.from,
         to: body.last.to,
-    })?;
-    Ok((
-        TopNode::Function(FunctionNode {
-            name,
-            parameters: parameters.entries,
-            trailing: parameters.trailing,
-            result: kind,
-            body: body.entries,
-        }),
-        body.rest,
-    ))
+    };
+    let node = FunctionNode {
+        name,
+        parameters: parameters.entries,
+        trailing: parameters.trailing,
+        result: kind,
+        body: body.entries,
+    };
+    let node = with_span(TopNode::Function(node), span, spans)?;
+    Ok((node, body.rest))
 }
 
 /// A declaration of a struct type or a function.
 #[tactic(auto, unfolding(crate::specs::Reading::top))]
-pub(crate) fn top<'a>(
+pub(crate) fn declaration<'a>(
     alloc: Global,
     cursor: Cursor<'a>,
     spans: &mut Vec<Span>,
@@ -145,8 +145,8 @@ pub(crate) fn top<'a>(
     ensures nodes { IfOk result (λ x. vec_len spans.new ≡ vec_len spans.old + top_size (top_of x.0)) }
 {
     if begins_with(TokenKind::TypeKeyword, cursor) {
-        structure(alloc, cursor, spans)
+        type_declaration(alloc, cursor, spans)
     } else {
-        function(alloc, cursor, spans)
+        function_declaration(alloc, cursor, spans)
     }
 }

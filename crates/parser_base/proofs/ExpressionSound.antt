@@ -18,7 +18,7 @@ use Rattle.parser_base.specs.Lexemes.{Lexeme, Literal, Name, Text, Mark}
 use Rattle.parser_base.specs.Spelling.{is_builtin, behind, joined, closing, before, AreAll, AreSome, IsTrailing, HasLast, expression_words, outer_precedence, precedence, IsGrouped, AreGrouped, unary_kind, binary_kind}
 use Rattle.parser_base.specs.Reading.{Reading, Syntax, TooDeep, TooMany, ◌>>=◌, is_kind, expect, begins, closed, behind_separator, entry_next, value_next, values, composite, named, plain_name, binary_of, unary_of, operator_step, infix_of, strength, binding, step_at, negated, parenthesized, operand, applied, operation, operations, expression, listed}
 use Rattle.parser_base.proofs.Marks.{bind_ok, unless_ok, ok_is, kind_is, expect_is, plain_name_is}
-use Rattle.parser_base.proofs.ListLaws.{AreFew, Entries as Listed, ReadsSoundly as EntriesSoundly, listed_sound}
+use Rattle.parser_base.proofs.ListLaws.{AreFew, Entries as Listed, ReadsSoundly as EntriesSoundly, listed_sound, ends_with, goes_on_with, all_of}
 use Rattle.parser_base.proofs.ExpressionAgain.{step_kind, precedence-lt, outer_precedence-le, none_above, none_strong, at_step, entries-le, composite_words}
 
 abbrev some : {A : Type 0} → A → Option A
@@ -156,12 +156,6 @@ negated_sound literals most deeper room sound kind ws (Some o) t rest is e =
 
 -- ---- lists of values
 
-abbrev ends_with : Bool → List Lexeme → Next × List Lexeme
-ends_with trailing rest = (End trailing, rest)
-
-abbrev goes_on_with : List Lexeme → Next × List Lexeme
-goes_on_with rest = (More, rest)
-
 end_is : (a b : Bool) (ws rest : List Lexeme) → ends_with a ws ≡ ends_with b rest → (a ≡ b) × (ws ≡ rest)
 end_is a b ws rest e =
     let same : End a ≡ End b = ap (λ (x : Next × List Lexeme). x.0) e in
@@ -250,10 +244,6 @@ pub record AreValues (literals : Bool) (most room : ℕ) (close : TokenKind) (ws
   pub low : highest expression_height vs ≤ room
   pub few : AreFew (λ listing. max (entries listing (length vs)) (highest (expression_longest listing) vs)) most
 
-some_all : {X : Type 0} (P : X → Type 0) (xs : List X) → AreSome P xs → AreAll P xs
-some_all P [] some = absurd some
-some_all P (x ∷ xs) some = some
-
 some_trailing : {X : Type 0} (P : X → Type 0) (xs : List X) (trailing : Bool) → AreSome P xs → IsTrailing xs trailing
 some_trailing P [] trailing some = absurd some
 some_trailing P (x ∷ xs) trailing some = tt
@@ -267,7 +257,7 @@ either_values literals most room close deeper sound true ws vs trailing rest e =
     let l = listed_sound (deeper_values literals most room close deeper) (TooMany Entries) (deeper_sound literals most room close deeper sound) most ws (values_with vs trailing rest) e in
     record {
       parts = l.parts;
-      are = some_all (IsGrouped literals) vs l.are;
+      are = all_of (IsGrouped literals) vs l.are;
       last = some_trailing (IsGrouped literals) vs trailing l.are;
       low = l.low;
       few = λ listing. omega (arith, l.few listing, l.count, entries-le listing (length vs));

@@ -9,3 +9,4 @@ pub mod ExpressionSound
 pub mod Sizes
 pub mod TypeLaws
 pub mod Steps
+pub mod Spans

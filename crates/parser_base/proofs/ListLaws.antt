@@ -8,6 +8,14 @@ use Rattle.parser_base.specs.Spelling.{separated, joined, AreAll, AreSome}
 use Rattle.parser_base.specs.Reading.{Refusal, TooDeep, TooMany, Reading, ◌>>=◌, followed, listed}
 use Rattle.parser_base.proofs.Marks.{bind_ok, ok_is}
 
+-- the list ends here
+abbrev pub ends_with : Bool → List Lexeme → Next × List Lexeme
+ends_with trailing rest = (End trailing, rest)
+
+-- another entry follows here
+abbrev pub goes_on_with : List Lexeme → Next × List Lexeme
+goes_on_with rest = (More, rest)
+
 -- no list in it is longer
 abbrev pub AreFew : (Listing → ℕ) → ℕ → Type 0
 AreFew longest most = (listing : Listing) → longest listing ≤ most
@@ -124,7 +132,8 @@ behind_one : {X : Type 0} (l : Entries X) (xs : List X) (rest : List Lexeme) →
 behind_one l [] rest some = absurd some
 behind_one l (x ∷ xs) rest some = refl
 
-all_of : {X : Type 0} (P : X → Type 0) (xs : List X) → AreSome P xs → AreAll P xs
+-- what holds of at least one holds of all
+pub all_of : {X : Type 0} (P : X → Type 0) (xs : List X) → AreSome P xs → AreAll P xs
 all_of P [] some = absurd some
 all_of P (x ∷ xs) some = some
 

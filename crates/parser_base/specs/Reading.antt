@@ -1,4 +1,5 @@
--- Reading expressions from left to right.
+-- Reading expressions from left to right, as the code does: these words are proved against the grammar (`Spelling`), and
+-- claim nothing themselves.
 use Rattle.std.specs.Prelude.{◌≡◌, ℕ, zero, suc, ◌+◌, Bool, true, false, ◌||◌, List, [], ◌∷◌, Option, Some, None, Result, Ok, Err, nat_le, if◌then◌else◌, bytes_eq}
 use denote.Enum.Bare.{sameb}
 use Rattle.go_text.specs.declared.fault.Fault.{Fault}

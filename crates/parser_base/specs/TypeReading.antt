@@ -1,4 +1,5 @@
--- Types: how they are spelt, and how they are read from left to right.
+-- Types: how they are spelt, which is the grammar, and how they are read from left to right, as the code does. The words
+-- for reading are proved against the grammar, and claim nothing themselves.
 use Rattle.std.specs.Prelude.{◌≡◌, ℕ, zero, suc, Bool, true, false, List, [], ◌∷◌, ◌++◌, Ok, Err, if◌then◌else◌}
 use Rattle.scanner.specs.declared.kind.TokenKind.TheVariants as kinds
 use Rattle.syntax.specs.declared.node.Direction.{Direction}

@@ -1,6 +1,6 @@
 //! Expressions, by the strength of their operators.
 
-ghost use Rattle.std.specs.Prelude.{◌≡◌, ℕ, ◌<◌, ◌≤◌, ◌+◌, ◌-◌, true, List, IfOk, IfErr, option_map, map, sum_by, vec_len};
+ghost use Rattle.std.specs.Prelude.{◌≡◌, ℕ, ◌<◌, ◌≤◌, ◌+◌, ◌-◌, true, List as Lists, IfOk, IfErr, option_map, map, sum_by, vec_len};
 ghost use Rattle.go_text.specs.declared.fault.Fault.TheVariants as faults;
 ghost use Rattle.syntax.specs.Tree.{Expression, Named, Parenthesized, Selection, Composite, Unary, Binary, expressions};
 ghost use Rattle.syntax.specs.Measures.{Entries, highest, expression_height, expression_size};
@@ -9,37 +9,27 @@ ghost use Rattle.parser_base.specs.Cursor.{ahead};
 ghost use Rattle.parser_base.specs.Lexemes.{Lexeme};
 ghost use Rattle.parser_base.specs.Reading.{Gives, Reading, TooMany, begins, closed, value_next, listed, values, composite, named, step_at, parenthesized, negated, operand, applied, expression};
 
+use crate::beside::with_span;
 use crate::cursor::{Cursor, Word, is_builtin};
-use crate::list::{MAX_ENTRIES, Next};
+use crate::found::Found;
+use crate::list::{List, Next};
 use crate::literal::literal;
 use crate::operator::{Infix, infix_of, precedence, strength, unary_of};
 use go_text::{Fault, LimitKind, Place, Span};
 use scanner::TokenKind;
 use std::alloc::Global;
+use syntax::limits::MAX_ENTRIES;
 use syntax::{BinaryOperator, ExpressionNode, Name, UnaryOperator};
 
-/// An expression that was read, and what follows it.
+/// An expression that was read, with its height, and what follows it.
 #[derive(Drop)]
-pub struct Found<'a> {
-    pub expression: ExpressionNode,
+struct Measured<'a> {
+    node: ExpressionNode,
     /// Its height, which is 1 at a leaf.
-    pub height: u32,
+    height: u32,
     /// Its bytes, from its first token to its last.
-    pub span: Span,
-    pub rest: Cursor<'a>,
-}
-
-/// Values that were read to their closing mark, and what follows it.
-#[derive(Drop)]
-pub struct FoundValues<'a> {
-    pub values: Vec<ExpressionNode>,
-    /// Whether a comma follows the last one.
-    pub trailing: bool,
-    /// The height of the highest of them, or 0.
-    pub height: u32,
-    /// The span of the closing mark.
-    pub last: Span,
-    pub rest: Cursor<'a>,
+    span: Span,
+    rest: Cursor<'a>,
 }
 
 /// The step here, if it binds at least so strongly, and the place behind its mark.
@@ -185,7 +175,7 @@ fn composite_node(
     Ok(ExpressionNode::Composite(name, values, trailing))
 }
 
-/// The values of a list to its closing mark, behind the opening one, which stands at `first`.
+/// The values of a list to its closing mark, behind the opening one, and the height of the highest of them, or 0.
 #[cycle(expression)]
 #[tactic(auto, unfolding(crate::specs::Reading::values))]
 pub fn values<'a>(
@@ -195,57 +185,59 @@ pub fn values<'a>(
     close: TokenKind,
     cursor: Cursor<'a>,
     spans: &mut Vec<Span>,
-) -> Result<FoundValues<'a>, Fault>
-    ensures values { Gives (λ x. ((map expression_of x.values.items, x.trailing), ahead x.rest)) result (values (expression literals MAX_ENTRIES room) close MAX_ENTRIES (ahead cursor.entry)) }
-    ensures height { IfOk result (λ x. x.height ≡ highest expression_height (map expression_of x.values.items)) }
-    ensures within { IfOk result (λ x. x.height ≤ room) }
-    ensures nodes { IfOk result (λ x. vec_len spans.new ≡ vec_len spans.old + sum_by expression_size (map expression_of x.values.items)) }
+) -> Result<(List<'a, ExpressionNode>, u32), Fault>
+    ensures values { Gives (λ x. ((map expression_of x.0.entries.items, x.0.trailing), ahead x.0.rest)) result (values (expression literals MAX_ENTRIES room) close MAX_ENTRIES (ahead cursor.entry)) }
+    ensures height { IfOk result (λ x. x.1 ≡ highest expression_height (map expression_of x.0.entries.items)) }
+    ensures within { IfOk result (λ x. x.1 ≤ room) }
+    ensures nodes { IfOk result (λ x. vec_len spans.new ≡ vec_len spans.old + sum_by expression_size (map expression_of x.0.entries.items)) }
 {
     if begins(cursor) {
-        return value_list(alloc, literals, room, close, cursor, spans);
+        return expression_list(alloc, literals, room, close, cursor, spans);
     }
     let (last, rest) = cursor.expect(close)?;
-    Ok(FoundValues {
-        values: Vec::new(alloc),
+    let none = List {
+        entries: Vec::new(alloc),
         trailing: false,
-        height: 0,
         last,
         rest,
-    })
+    };
+    Ok((none, 0))
 }
 
-/// At least one value, to the closing mark of a list.
+/// At least one value, to the closing mark of a list, and the height of the highest.
 #[cycle(expression)]
-fn value_list<'a>(
+fn expression_list<'a>(
     alloc: Global,
     literals: bool,
     room: u32,
     close: TokenKind,
     cursor: Cursor<'a>,
     spans: &mut Vec<Span>,
-) -> Result<FoundValues<'a>, Fault>
-    ensures values { Gives (λ x. ((map expression_of x.values.items, x.trailing), ahead x.rest)) result (listed (expression literals MAX_ENTRIES room 0) (value_next close) (TooMany Entries) MAX_ENTRIES (ahead cursor.entry)) }
-    ensures height { IfOk result (λ x. x.height ≡ highest expression_height (map expression_of x.values.items)) }
-    ensures within { IfOk result (λ x. x.height ≤ room) }
-    ensures nodes { IfOk result (λ x. vec_len spans.new ≡ vec_len spans.old + sum_by expression_size (map expression_of x.values.items)) }
+) -> Result<(List<'a, ExpressionNode>, u32), Fault>
+    ensures values { Gives (λ x. ((map expression_of x.0.entries.items, x.0.trailing), ahead x.0.rest)) result (listed (expression literals MAX_ENTRIES room 0) (value_next close) (TooMany Entries) MAX_ENTRIES (ahead cursor.entry)) }
+    ensures height { IfOk result (λ x. x.1 ≡ highest expression_height (map expression_of x.0.entries.items)) }
+    ensures within { IfOk result (λ x. x.1 ≤ room) }
+    ensures nodes { IfOk result (λ x. vec_len spans.new ≡ vec_len spans.old + sum_by expression_size (map expression_of x.0.entries.items)) }
 {
-    let mut values = Vec::new(alloc);
+    let mut entries = Vec::new(alloc);
     let mut height = 0;
     let mut rest = cursor;
     for _ in 0..MAX_ENTRIES {
-        let found = expression(alloc, literals, room, 0, rest, spans)?;
-        values.push(found.expression)?;
+        let found = measured_expression(alloc, literals, room, 0, rest, spans)?;
+        entries.push(found.node)?;
         height = found.height.max(height);
         let (next, last, after) = value_next(close, found.rest)?;
         match next {
             Next::More => rest = after,
-            Next::End(trailing) => return Ok(FoundValues {
-                values,
-                trailing,
-                height,
-                last,
-                rest: after,
-            }),
+            Next::End(trailing) => {
+                let list = List {
+                    entries,
+                    trailing,
+                    last,
+                    rest: after,
+                };
+                return Ok((list, height));
+            }
         }
     }
     Err(Fault::Limit {
@@ -258,31 +250,30 @@ fn value_list<'a>(
 /// A composite literal of a type of this name, which stands at `first`, behind its first brace.
 #[cycle(expression)]
 #[tactic(auto, unfolding(crate::specs::Reading::composite))]
-fn composite<'a>(
+fn composite_literal<'a>(
     alloc: Global,
     room: u32,
     name: &[u8],
     first: Span,
     cursor: Cursor<'a>,
     spans: &mut Vec<Span>,
-) -> Result<Found<'a>, Fault>
+) -> Result<Measured<'a>, Fault>
     requires { 1 ≤ room }
-    ensures tree { Gives (λ x. (expression_of x.expression, ahead x.rest)) result (composite (expression true MAX_ENTRIES (room - 1)) MAX_ENTRIES name.now (ahead cursor.entry)) }
-    ensures height { IfOk result (λ x. x.height ≡ expression_height (expression_of x.expression)) }
+    ensures tree { Gives (λ x. (expression_of x.node, ahead x.rest)) result (composite (expression true MAX_ENTRIES (room - 1)) MAX_ENTRIES name.now (ahead cursor.entry)) }
+    ensures height { IfOk result (λ x. x.height ≡ expression_height (expression_of x.node)) }
     ensures leaf { IfOk result (λ x. 1 ≤ x.height) }
     ensures within { IfOk result (λ x. x.height ≤ room) }
-    ensures nodes { IfOk result (λ x. vec_len spans.new ≡ vec_len spans.old + expression_size (expression_of x.expression)) }
+    ensures nodes { IfOk result (λ x. vec_len spans.new ≡ vec_len spans.old + expression_size (expression_of x.node)) }
 {
-    let values = values(alloc, true, room - 1, TokenKind::RightBrace, cursor, spans)?;
+    let (values, highest) = values(alloc, true, room - 1, TokenKind::RightBrace, cursor, spans)?;
     let span = Span {
         from: first.from,
         to: values.last.to,
     };
-    let node = composite_node(alloc, name, values.values, values.trailing)?;
-    spans.push(span)?;
-    Ok(Found {
-        expression: node,
-        height: values.height + 1,
+    let node = composite_node(alloc, name, values.entries, values.trailing)?;
+    Ok(Measured {
+        node: with_span(node, span, spans)?,
+        height: highest + 1,
         span,
         rest: values.rest,
     })
@@ -291,7 +282,7 @@ fn composite<'a>(
 /// An operand name, which stands at `first`, or a composite literal of a type of this name.
 #[cycle(expression)]
 #[tactic(auto, unfolding(crate::specs::Reading::named))]
-fn named<'a>(
+fn operand_name<'a>(
     alloc: Global,
     literals: bool,
     room: u32,
@@ -299,23 +290,21 @@ fn named<'a>(
     first: Span,
     cursor: Cursor<'a>,
     spans: &mut Vec<Span>,
-) -> Result<Found<'a>, Fault>
+) -> Result<Measured<'a>, Fault>
     requires { 1 ≤ room }
-    ensures tree { Gives (λ x. (expression_of x.expression, ahead x.rest)) result (named literals (expression literals MAX_ENTRIES (room - 1)) MAX_ENTRIES name.now (ahead cursor.entry)) }
-    ensures height { IfOk result (λ x. x.height ≡ expression_height (expression_of x.expression)) }
+    ensures tree { Gives (λ x. (expression_of x.node, ahead x.rest)) result (named literals (expression literals MAX_ENTRIES (room - 1)) MAX_ENTRIES name.now (ahead cursor.entry)) }
+    ensures height { IfOk result (λ x. x.height ≡ expression_height (expression_of x.node)) }
     ensures leaf { IfOk result (λ x. 1 ≤ x.height) }
     ensures within { IfOk result (λ x. x.height ≤ room) }
-    ensures nodes { IfOk result (λ x. vec_len spans.new ≡ vec_len spans.old + expression_size (expression_of x.expression)) }
+    ensures nodes { IfOk result (λ x. vec_len spans.new ≡ vec_len spans.old + expression_size (expression_of x.node)) }
 {
     if literals {
         if let Some((Word::Mark(TokenKind::LeftBrace), _, rest)) = cursor.next() {
-            return composite(alloc, room, name, first, rest, spans);
+            return composite_literal(alloc, room, name, first, rest, spans);
         }
     }
-    let node = named_node(alloc, name)?;
-    spans.push(first)?;
-    Ok(Found {
-        expression: node,
+    Ok(Measured {
+        node: with_span(named_node(alloc, name)?, first, spans)?,
         height: 1,
         span: first,
         rest: cursor,
@@ -332,27 +321,26 @@ fn parenthesized<'a>(
     first: Span,
     cursor: Cursor<'a>,
     spans: &mut Vec<Span>,
-) -> Result<Found<'a>, Fault>
+) -> Result<Measured<'a>, Fault>
     requires { 1 ≤ room }
-    ensures tree { Gives (λ x. (expression_of x.expression, ahead x.rest)) result (parenthesized (expression literals MAX_ENTRIES (room - 1)) (ahead cursor.entry)) }
-    ensures height { IfOk result (λ x. x.height ≡ expression_height (expression_of x.expression)) }
+    ensures tree { Gives (λ x. (expression_of x.node, ahead x.rest)) result (parenthesized (expression literals MAX_ENTRIES (room - 1)) (ahead cursor.entry)) }
+    ensures height { IfOk result (λ x. x.height ≡ expression_height (expression_of x.node)) }
     ensures leaf { IfOk result (λ x. 1 ≤ x.height) }
     ensures within { IfOk result (λ x. x.height ≤ room) }
-    ensures nodes { IfOk result (λ x. vec_len spans.new ≡ vec_len spans.old + expression_size (expression_of x.expression)) }
+    ensures nodes { IfOk result (λ x. vec_len spans.new ≡ vec_len spans.old + expression_size (expression_of x.node)) }
 {
     if room < 2 {
         return Err(Fault::TooDeep(Place::from(first)));
     }
-    let inner = expression(alloc, literals, room - 1, 0, cursor, spans)?;
+    let inner = measured_expression(alloc, literals, room - 1, 0, cursor, spans)?;
     let (last, rest) = inner.rest.expect(TokenKind::RightParenthesis)?;
     let span = Span {
         from: first.from,
         to: last.to,
     };
-    let node = parenthesized_node(alloc, inner.expression)?;
-    spans.push(span)?;
-    Ok(Found {
-        expression: node,
+    let node = parenthesized_node(alloc, inner.node)?;
+    Ok(Measured {
+        node: with_span(node, span, spans)?,
         height: inner.height + 1,
         span,
         rest,
@@ -362,7 +350,7 @@ fn parenthesized<'a>(
 /// The operand of a unary operator, which stands at `first`.
 #[cycle(expression)]
 #[tactic(auto, unfolding(crate::specs::Reading::expression))]
-fn unary<'a>(
+fn unary_expression<'a>(
     alloc: Global,
     literals: bool,
     room: u32,
@@ -370,26 +358,25 @@ fn unary<'a>(
     first: Span,
     cursor: Cursor<'a>,
     spans: &mut Vec<Span>,
-) -> Result<Found<'a>, Fault>
+) -> Result<Measured<'a>, Fault>
     requires { 1 ≤ room }
-    ensures tree { Gives (λ x. (expression_of x.expression, ahead x.rest)) result (negated (expression literals MAX_ENTRIES (room - 1)) (ahead cursor.entry) (Some operator)) }
-    ensures height { IfOk result (λ x. x.height ≡ expression_height (expression_of x.expression)) }
+    ensures tree { Gives (λ x. (expression_of x.node, ahead x.rest)) result (negated (expression literals MAX_ENTRIES (room - 1)) (ahead cursor.entry) (Some operator)) }
+    ensures height { IfOk result (λ x. x.height ≡ expression_height (expression_of x.node)) }
     ensures leaf { IfOk result (λ x. 1 ≤ x.height) }
     ensures within { IfOk result (λ x. x.height ≤ room) }
-    ensures nodes { IfOk result (λ x. vec_len spans.new ≡ vec_len spans.old + expression_size (expression_of x.expression)) }
+    ensures nodes { IfOk result (λ x. vec_len spans.new ≡ vec_len spans.old + expression_size (expression_of x.node)) }
 {
     if room < 2 {
         return Err(Fault::TooDeep(Place::from(first)));
     }
-    let operand = expression(alloc, literals, room - 1, 6, cursor, spans)?;
+    let operand = measured_expression(alloc, literals, room - 1, 6, cursor, spans)?;
     let span = Span {
         from: first.from,
         to: operand.span.to,
     };
-    let node = unary_node(alloc, operator, operand.expression)?;
-    spans.push(span)?;
-    Ok(Found {
-        expression: node,
+    let node = unary_node(alloc, operator, operand.node)?;
+    Ok(Measured {
+        node: with_span(node, span, spans)?,
         height: operand.height + 1,
         span,
         rest: operand.rest,
@@ -405,22 +392,22 @@ fn operand<'a>(
     room: u32,
     cursor: Cursor<'a>,
     spans: &mut Vec<Span>,
-) -> Result<Found<'a>, Fault>
+) -> Result<Measured<'a>, Fault>
     requires { 1 ≤ room }
-    ensures tree { Gives (λ x. (expression_of x.expression, ahead x.rest)) result (operand literals (expression literals MAX_ENTRIES (room - 1)) MAX_ENTRIES (ahead cursor.entry)) }
-    ensures height { IfOk result (λ x. x.height ≡ expression_height (expression_of x.expression)) }
+    ensures tree { Gives (λ x. (expression_of x.node, ahead x.rest)) result (operand literals (expression literals MAX_ENTRIES (room - 1)) MAX_ENTRIES (ahead cursor.entry)) }
+    ensures height { IfOk result (λ x. x.height ≡ expression_height (expression_of x.node)) }
     ensures leaf { IfOk result (λ x. 1 ≤ x.height) }
     ensures within { IfOk result (λ x. x.height ≤ room) }
-    ensures nodes { IfOk result (λ x. vec_len spans.new ≡ vec_len spans.old + expression_size (expression_of x.expression)) }
+    ensures nodes { IfOk result (λ x. vec_len spans.new ≡ vec_len spans.old + expression_size (expression_of x.node)) }
 {
     let Some((word, span, rest)) = cursor.next() else {
         return Err(Fault::Syntax(cursor.place()));
     };
     match word {
         Word::Literal(digits) => {
-            spans.push(span)?;
-            Ok(Found {
-                expression: ExpressionNode::Integer(literal(digits)),
+            let node = ExpressionNode::Integer(literal(digits));
+            Ok(Measured {
+                node: with_span(node, span, spans)?,
                 height: 1,
                 span,
                 rest,
@@ -430,7 +417,7 @@ fn operand<'a>(
             if is_builtin(name) {
                 return Err(Fault::Syntax(Place::from(span)));
             }
-            named(alloc, literals, room, name, span, rest, spans)
+            operand_name(alloc, literals, room, name, span, rest, spans)
         }
         Word::Text(_) => Err(Fault::Syntax(Place::from(span))),
         Word::Mark(kind) => {
@@ -440,7 +427,7 @@ fn operand<'a>(
             let Some(operator) = unary_of(kind) else {
                 return Err(Fault::Syntax(Place::from(span)));
             };
-            unary(alloc, literals, room, operator, span, rest, spans)
+            unary_expression(alloc, literals, room, operator, span, rest, spans)
         }
     }
 }
@@ -451,47 +438,49 @@ fn applied<'a>(
     alloc: Global,
     literals: bool,
     room: u32,
-    left: Found<'a>,
+    left: Measured<'a>,
     step: Infix,
     cursor: Cursor<'a>,
     spans: &mut Vec<Span>,
-) -> Result<Found<'a>, Fault>
+) -> Result<Measured<'a>, Fault>
     requires room { 1 ≤ room }
     requires low { left.height < room }
-    requires height { left.height ≡ expression_height (expression_of left.expression) }
-    ensures tree { Gives (λ x. (expression_of x.expression, ahead x.rest)) result (applied (expression literals MAX_ENTRIES (room - 1)) (expression_of left.entry.expression) (step, ahead cursor.entry)) }
-    ensures height { IfOk result (λ x. x.height ≡ expression_height (expression_of x.expression)) }
+    requires height { left.height ≡ expression_height (expression_of left.node) }
+    ensures tree { Gives (λ x. (expression_of x.node, ahead x.rest)) result (applied (expression literals MAX_ENTRIES (room - 1)) (expression_of left.entry.node) (step, ahead cursor.entry)) }
+    ensures height { IfOk result (λ x. x.height ≡ expression_height (expression_of x.node)) }
     ensures leaf { IfOk result (λ x. 1 ≤ x.height) }
     ensures within { IfOk result (λ x. x.height ≤ room) }
-    ensures nodes { IfOk result (λ x. vec_len spans.new + expression_size (expression_of left.entry.expression) ≡ vec_len spans.old + expression_size (expression_of x.expression)) }
+    ensures nodes { IfOk result (λ x. vec_len spans.new + expression_size (expression_of left.entry.node) ≡ vec_len spans.old + expression_size (expression_of x.node)) }
 {
     match step {
-        Infix::Operator(operator) => binary(alloc, literals, room, left, operator, cursor, spans),
+        Infix::Operator(operator) => binary_expression(
+            alloc, literals, room, left, operator, cursor, spans,
+        ),
         Infix::Period => selection(alloc, room, left, cursor, spans),
     }
 }
 
 /// A binary operation, behind its operator.
 #[cycle(expression)]
-fn binary<'a>(
+fn binary_expression<'a>(
     alloc: Global,
     literals: bool,
     room: u32,
-    left: Found<'a>,
+    left: Measured<'a>,
     operator: BinaryOperator,
     cursor: Cursor<'a>,
     spans: &mut Vec<Span>,
-) -> Result<Found<'a>, Fault>
+) -> Result<Measured<'a>, Fault>
     requires room { 1 ≤ room }
     requires low { left.height < room }
-    requires height { left.height ≡ expression_height (expression_of left.expression) }
-    ensures tree { Gives (λ x. (expression_of x.expression, ahead x.rest)) result (applied (expression literals MAX_ENTRIES (room - 1)) (expression_of left.entry.expression) (Infix.Operator operator, ahead cursor.entry)) }
-    ensures height { IfOk result (λ x. x.height ≡ expression_height (expression_of x.expression)) }
+    requires height { left.height ≡ expression_height (expression_of left.node) }
+    ensures tree { Gives (λ x. (expression_of x.node, ahead x.rest)) result (applied (expression literals MAX_ENTRIES (room - 1)) (expression_of left.entry.node) (Infix.Operator operator, ahead cursor.entry)) }
+    ensures height { IfOk result (λ x. x.height ≡ expression_height (expression_of x.node)) }
     ensures leaf { IfOk result (λ x. 1 ≤ x.height) }
     ensures within { IfOk result (λ x. x.height ≤ room) }
-    ensures nodes { IfOk result (λ x. vec_len spans.new + expression_size (expression_of left.entry.expression) ≡ vec_len spans.old + expression_size (expression_of x.expression)) }
+    ensures nodes { IfOk result (λ x. vec_len spans.new + expression_size (expression_of left.entry.node) ≡ vec_len spans.old + expression_size (expression_of x.node)) }
 {
-    let right = expression(
+    let right = measured_expression(
         alloc,
         literals,
         room - 1,
@@ -504,10 +493,9 @@ fn binary<'a>(
         to: right.span.to,
     };
     let height = left.height.max(right.height) + 1;
-    let node = binary_node(alloc, operator, left.expression, right.expression)?;
-    spans.push(span)?;
-    Ok(Found {
-        expression: node,
+    let node = binary_node(alloc, operator, left.node, right.node)?;
+    Ok(Measured {
+        node: with_span(node, span, spans)?,
         height,
         span,
         rest: right.rest,
@@ -518,17 +506,17 @@ fn binary<'a>(
 fn selection<'a>(
     alloc: Global,
     room: u32,
-    left: Found<'a>,
+    left: Measured<'a>,
     cursor: Cursor<'a>,
     spans: &mut Vec<Span>,
-) -> Result<Found<'a>, Fault>
+) -> Result<Measured<'a>, Fault>
     requires low { left.height < room }
-    requires height { left.height ≡ expression_height (expression_of left.expression) }
-    ensures tree { (deeper : ℕ → List Lexeme → Reading Expression) → Gives (λ x. (expression_of x.expression, ahead x.rest)) result (applied deeper (expression_of left.entry.expression) (Infix.Period, ahead cursor.entry)) }
-    ensures height { IfOk result (λ x. x.height ≡ expression_height (expression_of x.expression)) }
+    requires height { left.height ≡ expression_height (expression_of left.node) }
+    ensures tree { (deeper : ℕ → Lists Lexeme → Reading Expression) → Gives (λ x. (expression_of x.node, ahead x.rest)) result (applied deeper (expression_of left.entry.node) (Infix.Period, ahead cursor.entry)) }
+    ensures height { IfOk result (λ x. x.height ≡ expression_height (expression_of x.node)) }
     ensures leaf { IfOk result (λ x. 1 ≤ x.height) }
     ensures within { IfOk result (λ x. x.height ≤ room) }
-    ensures nodes { IfOk result (λ x. vec_len spans.new + expression_size (expression_of left.entry.expression) ≡ vec_len spans.old + expression_size (expression_of x.expression)) }
+    ensures nodes { IfOk result (λ x. vec_len spans.new + expression_size (expression_of left.entry.node) ≡ vec_len spans.old + expression_size (expression_of x.node)) }
 {
     let (field, last, rest) = cursor.plain_name()?;
     let span = Span {
@@ -536,33 +524,31 @@ fn selection<'a>(
         to: last.to,
     };
     let height = left.height + 1;
-    let node = selection_node(alloc, left.expression, field)?;
-    spans.push(span)?;
-    Ok(Found {
-        expression: node,
+    let node = selection_node(alloc, left.node, field)?;
+    Ok(Measured {
+        node: with_span(node, span, spans)?,
         height,
         span,
         rest,
     })
 }
 
-/// An expression of at most so many levels, whose outermost operator binds at least so strongly. Composite literals stand
-/// in it only where `literals` holds.
+/// An expression of at most so many levels, as `expression` reads it.
 #[cycle(expression)]
 #[tactic(auto, unfolding(crate::specs::Reading::expression, crate::specs::Reading::operation, crate::specs::Reading::operations))]
-pub fn expression<'a>(
+fn measured_expression<'a>(
     alloc: Global,
     literals: bool,
     room: u32,
     least: u32,
     cursor: Cursor<'a>,
     spans: &mut Vec<Span>,
-) -> Result<Found<'a>, Fault>
-    ensures tree { Gives (λ x. (expression_of x.expression, ahead x.rest)) result (expression literals MAX_ENTRIES room least (ahead cursor.entry)) }
-    ensures height { IfOk result (λ x. x.height ≡ expression_height (expression_of x.expression)) }
+) -> Result<Measured<'a>, Fault>
+    ensures tree { Gives (λ x. (expression_of x.node, ahead x.rest)) result (expression literals MAX_ENTRIES room least (ahead cursor.entry)) }
+    ensures height { IfOk result (λ x. x.height ≡ expression_height (expression_of x.node)) }
     ensures leaf { IfOk result (λ x. 1 ≤ x.height) }
     ensures within { IfOk result (λ x. x.height ≤ room) }
-    ensures nodes { IfOk result (λ x. vec_len spans.new ≡ vec_len spans.old + expression_size (expression_of x.expression)) }
+    ensures nodes { IfOk result (λ x. vec_len spans.new ≡ vec_len spans.old + expression_size (expression_of x.node)) }
 {
     if room == 0 {
         return Err(Fault::TooDeep(cursor.place()));
@@ -578,4 +564,25 @@ pub fn expression<'a>(
         left = applied(alloc, literals, room, left, step, after, spans)?;
     }
     Err(Fault::TooDeep(left.rest.place()))
+}
+
+/// An expression of at most so many levels, whose outermost operator binds at least so strongly. Composite literals stand
+/// in it only where `literals` holds.
+pub fn expression<'a>(
+    alloc: Global,
+    literals: bool,
+    room: u32,
+    least: u32,
+    cursor: Cursor<'a>,
+    spans: &mut Vec<Span>,
+) -> Result<Found<'a, ExpressionNode>, Fault>
+    ensures tree { Gives (λ x. (expression_of x.node, ahead x.rest)) result (expression literals MAX_ENTRIES room least (ahead cursor.entry)) }
+    ensures nodes { IfOk result (λ x. vec_len spans.new ≡ vec_len spans.old + expression_size (expression_of x.node)) }
+{
+    let found = measured_expression(alloc, literals, room, least, cursor, spans)?;
+    Ok(Found {
+        node: found.node,
+        span: found.span,
+        rest: found.rest,
+    })
 }

@@ -1,8 +1,10 @@
 //! Reading types and expressions.
 #![tactic(auto)]
 
+pub mod beside;
 pub mod cursor;
 pub mod expression;
+pub mod found;
 pub mod list;
 pub mod literal;
 pub mod operator;

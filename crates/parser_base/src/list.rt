@@ -22,6 +22,3 @@ pub struct List<'a, T: Drop> {
     pub last: Span,
     pub rest: Cursor<'a>,
 }
-
-/// The most entries of a list.
-pub const MAX_ENTRIES: u32 = 64;

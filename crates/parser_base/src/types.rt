@@ -9,21 +9,14 @@ ghost use Rattle.parser_base.specs.Cursor.{ahead};
 ghost use Rattle.parser_base.specs.Reading.{Gives};
 ghost use Rattle.parser_base.specs.TypeReading.{parenthesized_type, channel, behind_chan, behind_arrow, type_at};
 
+use crate::beside::with_span;
 use crate::cursor::{Cursor, Word, is_builtin};
 use crate::expression::name_node;
+use crate::found::Found;
 use go_text::{Fault, Place, Span};
 use scanner::TokenKind;
 use std::alloc::Global;
 use syntax::{Direction, TypeNode};
-
-/// A type that was read, and what follows it.
-#[derive(Drop)]
-pub struct FoundType<'a> {
-    pub kind: TypeNode,
-    /// Its bytes, from its first token to its last.
-    pub span: Span,
-    pub rest: Cursor<'a>,
-}
 
 /// A type's name, as a node.
 fn named_node(alloc: Global, name: &[u8]) -> Result<TypeNode, Fault>
@@ -52,16 +45,16 @@ fn channel_node(alloc: Global, direction: Direction, element: TypeNode) -> Resul
 /// A type in parentheses, behind the first of them, which stands at `first`.
 #[cycle(type_at)]
 #[tactic(auto, unfolding(crate::specs::TypeReading::parenthesized_type, crate::specs::TypeReading::type_at))]
-fn parenthesized<'a>(
+fn parenthesized_type<'a>(
     alloc: Global,
     room: u32,
     first: Span,
     cursor: Cursor<'a>,
     spans: &mut Vec<Span>,
-) -> Result<FoundType<'a>, Fault>
+) -> Result<Found<'a, TypeNode>, Fault>
     requires { 1 ≤ room }
-    ensures tree { Gives (λ x. (type_of x.kind, ahead x.rest)) result (parenthesized_type (type_at (room - 1)) (ahead cursor.entry)) }
-    ensures nodes { IfOk result (λ x. vec_len spans.new ≡ vec_len spans.old + type_size (type_of x.kind)) }
+    ensures tree { Gives (λ x. (type_of x.node, ahead x.rest)) result (parenthesized_type (type_at (room - 1)) (ahead cursor.entry)) }
+    ensures nodes { IfOk result (λ x. vec_len spans.new ≡ vec_len spans.old + type_size (type_of x.node)) }
 {
     if room < 2 {
         return Err(Fault::TooDeep(Place::from(first)));
@@ -72,25 +65,24 @@ fn parenthesized<'a>(
         from: first.from,
         to: last.to,
     };
-    let kind = parenthesized_node(alloc, inner.kind)?;
-    spans.push(span)?;
-    Ok(FoundType { kind, span, rest })
+    let node = with_span(parenthesized_node(alloc, inner.node)?, span, spans)?;
+    Ok(Found { node, span, rest })
 }
 
 /// A channel type of this direction, from the type of its elements on; its first token stands at `first`.
 #[cycle(type_at)]
 #[tactic(auto, unfolding(crate::specs::TypeReading::type_at))]
-fn element<'a>(
+fn channel_type<'a>(
     alloc: Global,
     room: u32,
     direction: Direction,
     first: Span,
     cursor: Cursor<'a>,
     spans: &mut Vec<Span>,
-) -> Result<FoundType<'a>, Fault>
+) -> Result<Found<'a, TypeNode>, Fault>
     requires { 1 ≤ room }
-    ensures tree { Gives (λ x. (type_of x.kind, ahead x.rest)) result (channel direction (type_at (room - 1)) (ahead cursor.entry)) }
-    ensures nodes { IfOk result (λ x. vec_len spans.new ≡ vec_len spans.old + type_size (type_of x.kind)) }
+    ensures tree { Gives (λ x. (type_of x.node, ahead x.rest)) result (channel direction (type_at (room - 1)) (ahead cursor.entry)) }
+    ensures nodes { IfOk result (λ x. vec_len spans.new ≡ vec_len spans.old + type_size (type_of x.node)) }
 {
     if room < 2 {
         return Err(Fault::TooDeep(Place::from(first)));
@@ -100,10 +92,9 @@ fn element<'a>(
         from: first.from,
         to: element.span.to,
     };
-    let kind = channel_node(alloc, direction, element.kind)?;
-    spans.push(span)?;
-    Ok(FoundType {
-        kind,
+    let node = with_span(channel_node(alloc, direction, element.node)?, span, spans)?;
+    Ok(Found {
+        node,
         span,
         rest: element.rest,
     })
@@ -112,41 +103,41 @@ fn element<'a>(
 /// A channel type behind `chan`, which stands at `first`: one to send alone where `<-` follows.
 #[cycle(type_at)]
 #[tactic(auto, unfolding(crate::specs::TypeReading::behind_chan))]
-fn sender_or_both<'a>(
+fn behind_chan<'a>(
     alloc: Global,
     room: u32,
     first: Span,
     cursor: Cursor<'a>,
     spans: &mut Vec<Span>,
-) -> Result<FoundType<'a>, Fault>
+) -> Result<Found<'a, TypeNode>, Fault>
     requires { 1 ≤ room }
-    ensures tree { Gives (λ x. (type_of x.kind, ahead x.rest)) result (behind_chan (type_at (room - 1)) (ahead cursor.entry)) }
-    ensures nodes { IfOk result (λ x. vec_len spans.new ≡ vec_len spans.old + type_size (type_of x.kind)) }
+    ensures tree { Gives (λ x. (type_of x.node, ahead x.rest)) result (behind_chan (type_at (room - 1)) (ahead cursor.entry)) }
+    ensures nodes { IfOk result (λ x. vec_len spans.new ≡ vec_len spans.old + type_size (type_of x.node)) }
 {
     if let Some((Word::Mark(kind), _, rest)) = cursor.next() {
         if kind == TokenKind::Arrow {
-            return element(alloc, room, Direction::Send, first, rest, spans);
+            return channel_type(alloc, room, Direction::Send, first, rest, spans);
         }
     }
-    element(alloc, room, Direction::Both, first, cursor, spans)
+    channel_type(alloc, room, Direction::Both, first, cursor, spans)
 }
 
 /// A channel type to receive from alone, behind `<-`, which stands at `first`.
 #[cycle(type_at)]
 #[tactic(auto, unfolding(crate::specs::TypeReading::behind_arrow))]
-fn receiver<'a>(
+fn behind_arrow<'a>(
     alloc: Global,
     room: u32,
     first: Span,
     cursor: Cursor<'a>,
     spans: &mut Vec<Span>,
-) -> Result<FoundType<'a>, Fault>
+) -> Result<Found<'a, TypeNode>, Fault>
     requires { 1 ≤ room }
-    ensures tree { Gives (λ x. (type_of x.kind, ahead x.rest)) result (behind_arrow (type_at (room - 1)) (ahead cursor.entry)) }
-    ensures nodes { IfOk result (λ x. vec_len spans.new ≡ vec_len spans.old + type_size (type_of x.kind)) }
+    ensures tree { Gives (λ x. (type_of x.node, ahead x.rest)) result (behind_arrow (type_at (room - 1)) (ahead cursor.entry)) }
+    ensures nodes { IfOk result (λ x. vec_len spans.new ≡ vec_len spans.old + type_size (type_of x.node)) }
 {
     let (_, rest) = cursor.expect(TokenKind::Chan)?;
-    let found = element(alloc, room, Direction::Receive, first, rest, spans)?;
+    let found = channel_type(alloc, room, Direction::Receive, first, rest, spans)?;
     Ok(found)
 }
 
@@ -158,9 +149,9 @@ pub fn type_at<'a>(
     room: u32,
     cursor: Cursor<'a>,
     spans: &mut Vec<Span>,
-) -> Result<FoundType<'a>, Fault>
-    ensures tree { Gives (λ x. (type_of x.kind, ahead x.rest)) result (type_at room (ahead cursor.entry)) }
-    ensures nodes { IfOk result (λ x. vec_len spans.new ≡ vec_len spans.old + type_size (type_of x.kind)) }
+) -> Result<Found<'a, TypeNode>, Fault>
+    ensures tree { Gives (λ x. (type_of x.node, ahead x.rest)) result (type_at room (ahead cursor.entry)) }
+    ensures nodes { IfOk result (λ x. vec_len spans.new ≡ vec_len spans.old + type_size (type_of x.node)) }
 {
     if room == 0 {
         return Err(Fault::TooDeep(cursor.place()));
@@ -170,19 +161,18 @@ pub fn type_at<'a>(
             if is_builtin(name) {
                 return Err(Fault::Syntax(Place::from(span)));
             }
-            let kind = named_node(alloc, name)?;
-            spans.push(span)?;
-            Ok(FoundType { kind, span, rest })
+            let node = with_span(named_node(alloc, name)?, span, spans)?;
+            Ok(Found { node, span, rest })
         }
         Some((Word::Mark(kind), span, rest)) => {
             if kind == TokenKind::LeftParenthesis {
-                return parenthesized(alloc, room, span, rest, spans);
+                return parenthesized_type(alloc, room, span, rest, spans);
             }
             if kind == TokenKind::Chan {
-                return sender_or_both(alloc, room, span, rest, spans);
+                return behind_chan(alloc, room, span, rest, spans);
             }
             if kind == TokenKind::Arrow {
-                return receiver(alloc, room, span, rest, spans);
+                return behind_arrow(alloc, room, span, rest, spans);
             }
             Err(Fault::Syntax(Place::from(span)))
         }

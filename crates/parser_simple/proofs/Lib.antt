@@ -4,3 +4,4 @@ pub mod FormLaws
 pub mod FitLaws
 pub mod SimpleLaws
 pub mod BeginLaws
+pub mod Sizes

@@ -10,8 +10,8 @@ use Rattle.parser_base.specs.Lexemes.{Lexeme, Literal, Name, Text, Mark}
 use Rattle.parser_base.specs.Spelling.{behind, separated, joined, AreAll, AreSome}
 use Rattle.parser_base.specs.Reading.{Syntax, TooMany, Reading, ◌>>=◌, is_kind, expect, plain_name}
 use Rattle.parser_base.proofs.Marks.{bind_ok, ok_is, kind_is, is_kind_same, expect_is, plain_name_is, plain_name_again}
-use Rattle.parser_base.proofs.ListLaws.{ReadBack, Found, High, Many, Entries, IsReadAgain, Separates, listed_again, all_again, ReadsSoundly, listed_sound}
-use Rattle.parser_base.proofs.Steps.{listed_outcome, highest_none}
+use Rattle.parser_base.proofs.ListLaws.{ReadBack, Found, High, Many, Entries, IsReadAgain, Separates, listed_again, all_again, ReadsSoundly, listed_sound, ends_with, goes_on_with, all_of}
+use Rattle.parser_base.proofs.Steps.{listed_outcome, highest_none, gave}
 use Rattle.parser_simple.specs.Spelling.{name_words, IsName, place_words, IsPlace}
 use Rattle.parser_simple.specs.Reading.{begins_with, begins_name, separator_next, names, fields, place, places}
 
@@ -28,16 +28,6 @@ no_separator starts separator (Literal value ∷ rest) none = refl
 no_separator starts separator (Name name ∷ rest) none = refl
 no_separator starts separator (Text bytes ∷ rest) none = refl
 no_separator starts separator (Mark kind ∷ rest) none = rw none refl
-
--- what was read, and what follows it
-abbrev pub gave : {A : Type 0} → A → List Lexeme → Reading A
-gave x rest = Ok (x, rest)
-
-abbrev goes_on_with : List Lexeme → Next × List Lexeme
-goes_on_with rest = (More, rest)
-
-abbrev ends_with : Bool → List Lexeme → Next × List Lexeme
-ends_with trailing rest = (End trailing, rest)
 
 mark_more : (separator kind : TokenKind) (b begun : Bool) (ws rest : List Lexeme) → is_kind kind separator ≡ b → cond b (cond begun (gave More ws) (Err Syntax)) (gave (End false) (Mark kind ∷ ws)) ≡ gave More rest → Mark kind ∷ ws ≡ Mark separator ∷ rest
 mark_more separator kind true true ws rest is e =
@@ -217,10 +207,6 @@ places_again most p ps rest all no_field none =
 -- what was read, and what follows it
 abbrev pub with_rest : {A : Type 0} → A → List Lexeme → A × List Lexeme
 with_rest x rest = (x, rest)
-
-all_of : {X : Type 0} (P : X → Type 0) (xs : List X) → AreSome P xs → AreAll P xs
-all_of P [] some = absurd some
-all_of P (x ∷ xs) some = some
 
 separated_some : (ns : List (List ℕ)) (rest : List Lexeme) → AreSome IsName ns → Mark kinds.Period ∷ joined name_words (behind kinds.Period) ns rest ≡ separated name_words (behind kinds.Period) ns rest
 separated_some [] rest some = absurd some

@@ -16,7 +16,7 @@ use Rattle.parser_base.proofs.Marks.{bind_ok, when_ok, ok_is, kind_is, expect_is
 use Rattle.parser_base.proofs.ListLaws.{ReadBack, Found, High, Entries, IsReadAgain, Separates, listed_again, all_again, ReadsSoundly, listed_sound}
 use Rattle.parser_base.proofs.ExpressionAgain.{reads, EndsExpression, shut, entries-le, height_positive, precedence-lt, none_above, parenthesis_closes, comma_ends, begins_again, values_again}
 use Rattle.parser_base.proofs.ExpressionSound.{expression_sound, values_sound}
-use Rattle.parser_base.proofs.TypeLaws.{type_again, type_sound, Found as TypeFound, High as TypeHigh}
+use Rattle.parser_base.proofs.TypeLaws.{type_again, type_sound, Found as TypeFound, High as TypeHigh, type_height_positive}
 use Rattle.parser_base.proofs.Steps.{then_again, made_again, listed_outcome, gave, Sound, made_is, either}
 use Rattle.parser_simple.specs.Spelling.{IsName, IsPrimary, arguments_words, AreArguments, size_words, IsSize, operation_words, IsOperation, right_words, IsRight}
 use Rattle.parser_simple.specs.Reading.{as_one, begins_with, separator_next, begins_primary, primary, needing, received, arguments, argument, size, make, builtin_operation, begins_operation, operation, value_list, right}
@@ -148,11 +148,6 @@ type_outcome room most t rest is =
     ]
 
 -- a type is at least one level high
-pub type_positive : (t : TypeExpression) → 1 ≤ type_height t
-type_positive (NamedType name) = omega arith
-type_positive (ParenthesizedType inner) = omega arith
-type_positive (Channel direction element) = omega arith
-
 make_again : (literals : Bool) (most room : ℕ) (t : TypeExpression) (s : Option Expression) (rest : List Lexeme) → IsType t → IsSize literals s
     → ReadBack (make literals most room (Mark kinds.LeftParenthesis ∷ (type_words t ++ size_words s (Mark kinds.RightParenthesis ∷ rest)))) (Make t s) rest (max (type_height t) (if_any expression_height s)) room (λ listing. if_any (expression_longest listing) s) most
 unfolding make expect
@@ -169,7 +164,7 @@ operation_again literals most room (Call function all) rest is stops =
 operation_again literals most room (Receive channel) rest is stops =
     made_again Receive (received_again literals most room channel rest is stops.ends) (λ high. high) (λ low. low) (λ listing. refl)
 operation_again literals most room (Make channel s) rest is stops =
-    needing_again 1 room (λ none. omega (arith, none, type_positive channel)) (make_again literals most room channel s rest is.0 is.1)
+    needing_again 1 room (λ none. omega (arith, none, type_height_positive channel)) (make_again literals most room channel s rest is.0 is.1)
 operation_again literals most room (Length channel) rest is stops =
     needing_again 1 room (λ none. omega (arith, none, height_positive channel)) (made_again Length (argument_again literals most room channel rest is) (λ high. high) (λ low. low) (λ listing. refl))
 operation_again literals most room (Capacity channel) rest is stops =

@@ -1,4 +1,5 @@
--- Reading simple statements from left to right.
+-- Reading simple statements from left to right, as the code does: these words are proved against the grammar (`Spelling`),
+-- and claim nothing themselves.
 use Rattle.std.specs.Prelude.{ℕ, zero, suc, ◌+◌, Bool, true, false, ◌&&◌, ◌||◌, List, [], ◌∷◌, Option, Some, None, Result, Ok, Err, nat_le, if◌then◌else◌, length, bytes_eq, codes}
 use Rattle.scanner.specs.declared.kind.TokenKind.{TokenKind}
 use Rattle.scanner.specs.declared.kind.TokenKind.TheVariants as kinds

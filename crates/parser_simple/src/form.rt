@@ -15,7 +15,7 @@ use scanner::TokenKind;
 use syntax::BinaryOperator;
 
 /// What follows a place, or a list of places that begins with it.
-#[derive(Clone, Copy, Debug, PartialEq, Eq)]
+#[derive(Clone, Copy)]
 pub enum Form {
     /// `++`
     Increment,

@@ -9,21 +9,15 @@ ghost use Rattle.parser_simple.specs.Reading.{begins_name, separator_next, names
 
 use crate::form::{begins_with, name_next};
 use go_text::{Fault, LimitKind, Span};
+use parser_base::beside::with_span;
 use parser_base::cursor::Cursor;
 use parser_base::expression::name_node;
-use parser_base::list::{List, MAX_ENTRIES, Next};
+use parser_base::found::Found;
+use parser_base::list::{List, Next};
 use scanner::TokenKind;
 use std::alloc::Global;
+use syntax::limits::MAX_ENTRIES;
 use syntax::{Name, PlaceNode};
-
-/// A place that was read, and what follows it.
-#[derive(Drop)]
-pub struct FoundPlace<'a> {
-    pub place: PlaceNode,
-    /// Its bytes, from its first token to its last.
-    pub span: Span,
-    pub rest: Cursor<'a>,
-}
 
 /// A name that may be declared, its span, and the place behind it.
 pub fn name_at(alloc: Global, cursor: Cursor<'_>) -> Result<(Name, Span, Cursor<'_>), Fault>
@@ -88,8 +82,8 @@ pub fn place<'a>(
     alloc: Global,
     cursor: Cursor<'a>,
     spans: &mut Vec<Span>,
-) -> Result<FoundPlace<'a>, Fault>
-    ensures place { Gives (λ x. (place_of x.place, ahead x.rest)) result (place (ahead cursor.entry)) }
+) -> Result<Found<'a, PlaceNode>, Fault>
+    ensures place { Gives (λ x. (place_of x.node, ahead x.rest)) result (place (ahead cursor.entry)) }
     ensures nodes { IfOk result (λ x. vec_len spans.new ≡ vec_len spans.old + 1) }
 {
     let (name, first, rest) = name_at(alloc, cursor)?;
@@ -98,12 +92,8 @@ pub fn place<'a>(
         from: first.from,
         to: last.to,
     };
-    spans.push(span)?;
-    Ok(FoundPlace {
-        place: PlaceNode { name, fields },
-        span,
-        rest,
-    })
+    let node = with_span(PlaceNode { name, fields }, span, spans)?;
+    Ok(Found { node, span, rest })
 }
 
 /// Places with a comma between each two.
@@ -119,7 +109,7 @@ pub fn places<'a>(
     let mut rest = cursor;
     for _ in 0..MAX_ENTRIES {
         let one = place(alloc, rest, spans)?;
-        entries.push(one.place)?;
+        entries.push(one.node)?;
         let (next, after) = name_next(TokenKind::Comma, one.rest)?;
         match next {
             Next::More => rest = after,

@@ -11,49 +11,16 @@ ghost use Rattle.parser_simple.specs.Reading.{as_one, begins_primary, primary, r
 
 use crate::form::{begins_with, value_next};
 use go_text::{Fault, LimitKind, Place, Span};
+use parser_base::beside::{beside, with_span};
 use parser_base::cursor::{Cursor, Word, is_builtin};
-use parser_base::expression::{Found, expression, name_node, values};
-use parser_base::list::{List, MAX_ENTRIES, Next};
+use parser_base::expression::{expression, name_node, values};
+use parser_base::found::Found;
+use parser_base::list::{List, Next};
 use parser_base::types::type_at;
 use scanner::TokenKind;
 use std::alloc::Global;
+use syntax::limits::MAX_ENTRIES;
 use syntax::{ArgumentsNode, ExpressionNode, OperationNode, RightNode};
-
-/// Arguments that were read, and what follows them.
-#[derive(Drop)]
-pub struct FoundArguments<'a> {
-    pub arguments: ArgumentsNode,
-    /// The span of the closing parenthesis.
-    pub last: Span,
-    pub rest: Cursor<'a>,
-}
-
-/// An argument that was read with its parentheses, and what follows it.
-#[derive(Drop)]
-pub struct FoundArgument<'a> {
-    pub value: ExpressionNode,
-    /// The span of the closing parenthesis.
-    pub last: Span,
-    pub rest: Cursor<'a>,
-}
-
-/// An operation that was read, and what follows it.
-#[derive(Drop)]
-pub struct FoundOperation<'a> {
-    pub operation: OperationNode,
-    /// Its bytes, from its first token to its last.
-    pub span: Span,
-    pub rest: Cursor<'a>,
-}
-
-/// A right side that was read, and what follows it.
-#[derive(Drop)]
-pub struct FoundRight<'a> {
-    pub right: RightNode,
-    /// Its last token's span, or a span that ends where that ends.
-    pub last: Span,
-    pub rest: Cursor<'a>,
-}
 
 /// Whether an operand of a send or a receive can begin here.
 #[tactic(auto, unfolding(crate::specs::Reading::begins_primary))]
@@ -70,15 +37,15 @@ fn begins_primary(cursor: Cursor<'_>) -> bool
 
 /// An operand of a send or a receive: an expression without operators but selections.
 #[tactic(auto, unfolding(crate::specs::Reading::primary))]
-pub fn primary<'a>(
+pub fn primary_expression<'a>(
     alloc: Global,
     literals: bool,
     room: u32,
     cursor: Cursor<'a>,
     spans: &mut Vec<Span>,
-) -> Result<Found<'a>, Fault>
-    ensures value { Gives (λ x. (expression_of x.expression, ahead x.rest)) result (primary literals MAX_ENTRIES room (ahead cursor.entry)) }
-    ensures nodes { IfOk result (λ x. vec_len spans.new ≡ vec_len spans.old + expression_size (expression_of x.expression)) }
+) -> Result<Found<'a, ExpressionNode>, Fault>
+    ensures value { Gives (λ x. (expression_of x.node, ahead x.rest)) result (primary literals MAX_ENTRIES room (ahead cursor.entry)) }
+    ensures nodes { IfOk result (λ x. vec_len spans.new ≡ vec_len spans.old + expression_size (expression_of x.node)) }
 {
     if !begins_primary(cursor) {
         return Err(Fault::Syntax(cursor.place()));
@@ -87,22 +54,22 @@ pub fn primary<'a>(
 }
 
 /// The operand of a receive, behind its arrow, which stands at `arrow`.
-pub fn received<'a>(
+pub fn receive_operand<'a>(
     alloc: Global,
     literals: bool,
     room: u32,
     arrow: Span,
     cursor: Cursor<'a>,
     spans: &mut Vec<Span>,
-) -> Result<Found<'a>, Fault>
-    ensures value { Gives (λ x. (expression_of x.expression, ahead x.rest)) result (received literals MAX_ENTRIES room (ahead cursor.entry)) }
-    ensures nodes { IfOk result (λ x. vec_len spans.new ≡ vec_len spans.old + expression_size (expression_of x.expression)) }
+) -> Result<Found<'a, ExpressionNode>, Fault>
+    ensures value { Gives (λ x. (expression_of x.node, ahead x.rest)) result (received literals MAX_ENTRIES room (ahead cursor.entry)) }
+    ensures nodes { IfOk result (λ x. vec_len spans.new ≡ vec_len spans.old + expression_size (expression_of x.node)) }
     ensures place { room < 1 → IfErr result (λ fault. fault ≡ faults.TooDeep (record { span = arrow; position = None })) }
 {
     if room < 1 {
         return Err(Fault::TooDeep(Place::from(arrow)));
     }
-    primary(alloc, literals, room, cursor, spans)
+    primary_expression(alloc, literals, room, cursor, spans)
 }
 
 /// Arguments in parentheses.
@@ -113,25 +80,22 @@ pub fn arguments<'a>(
     room: u32,
     cursor: Cursor<'a>,
     spans: &mut Vec<Span>,
-) -> Result<FoundArguments<'a>, Fault>
-    ensures arguments { Gives (λ x. (arguments_of x.arguments, ahead x.rest)) result (arguments literals MAX_ENTRIES room (ahead cursor.entry)) }
-    ensures nodes { IfOk result (λ x. vec_len spans.new ≡ vec_len spans.old + arguments_size (arguments_of x.arguments)) }
+) -> Result<Found<'a, ArgumentsNode>, Fault>
+    ensures arguments { Gives (λ x. (arguments_of x.node, ahead x.rest)) result (arguments literals MAX_ENTRIES room (ahead cursor.entry)) }
+    ensures nodes { IfOk result (λ x. vec_len spans.new ≡ vec_len spans.old + arguments_size (arguments_of x.node)) }
 {
-    let (_, inside) = cursor.expect(TokenKind::LeftParenthesis)?;
-    let all = values(
-        alloc,
-        literals,
-        room,
-        TokenKind::RightParenthesis,
-        inside,
-        spans,
-    )?;
-    Ok(FoundArguments {
-        arguments: ArgumentsNode {
-            values: all.values,
+    let (first, inside) = cursor.expect(TokenKind::LeftParenthesis)?;
+    let close = TokenKind::RightParenthesis;
+    let (all, _) = values(alloc, literals, room, close, inside, spans)?;
+    Ok(Found {
+        node: ArgumentsNode {
+            values: all.entries,
             trailing: all.trailing,
         },
-        last: all.last,
+        span: Span {
+            from: first.from,
+            to: all.last.to,
+        },
         rest: all.rest,
     })
 }
@@ -144,23 +108,23 @@ pub fn argument<'a>(
     room: u32,
     cursor: Cursor<'a>,
     spans: &mut Vec<Span>,
-) -> Result<FoundArgument<'a>, Fault>
-    ensures value { Gives (λ x. (expression_of x.value, ahead x.rest)) result (argument literals MAX_ENTRIES room (ahead cursor.entry)) }
-    ensures nodes { IfOk result (λ x. vec_len spans.new ≡ vec_len spans.old + expression_size (expression_of x.value)) }
+) -> Result<Found<'a, ExpressionNode>, Fault>
+    ensures value { Gives (λ x. (expression_of x.node, ahead x.rest)) result (argument literals MAX_ENTRIES room (ahead cursor.entry)) }
+    ensures nodes { IfOk result (λ x. vec_len spans.new ≡ vec_len spans.old + expression_size (expression_of x.node)) }
 {
-    let (_, inside) = cursor.expect(TokenKind::LeftParenthesis)?;
+    let (first, inside) = cursor.expect(TokenKind::LeftParenthesis)?;
     let value = expression(alloc, literals, room, 0, inside, spans)?;
-    let (last, rest) = value.rest.expect(TokenKind::RightParenthesis)?;
-    Ok(FoundArgument {
-        value: value.expression,
-        last,
-        rest,
-    })
+    let (node, (last, rest)) = beside(value.node, value.rest.expect(TokenKind::RightParenthesis))?;
+    let span = Span {
+        from: first.from,
+        to: last.to,
+    };
+    Ok(Found { node, span, rest })
 }
 
 /// The size of a channel's buffer behind a comma, if there is one.
 #[tactic(auto, unfolding(crate::specs::Reading::size))]
-fn size<'a>(
+fn buffer_size<'a>(
     alloc: Global,
     literals: bool,
     room: u32,
@@ -175,83 +139,83 @@ fn size<'a>(
     }
     let (_, behind) = cursor.expect(TokenKind::Comma)?;
     let value = expression(alloc, literals, room, 0, behind, spans)?;
-    Ok((Some(value.expression), value.rest))
+    Ok((Some(value.node), value.rest))
 }
 
 /// What stands behind `make`, whose name stands at `name`.
 #[tactic(auto, unfolding(crate::specs::Reading::make))]
-fn make<'a>(
+fn make_call<'a>(
     alloc: Global,
     literals: bool,
     room: u32,
     name: Span,
     cursor: Cursor<'a>,
     spans: &mut Vec<Span>,
-) -> Result<FoundOperation<'a>, Fault>
-    ensures operation { Gives (λ x. (operation_of x.operation, ahead x.rest)) result (make literals MAX_ENTRIES room (ahead cursor.entry)) }
-    ensures nodes { IfOk result (λ x. vec_len spans.new ≡ vec_len spans.old + operation_size (operation_of x.operation)) }
+) -> Result<Found<'a, OperationNode>, Fault>
+    ensures operation { Gives (λ x. (operation_of x.node, ahead x.rest)) result (make literals MAX_ENTRIES room (ahead cursor.entry)) }
+    ensures nodes { IfOk result (λ x. vec_len spans.new ≡ vec_len spans.old + operation_size (operation_of x.node)) }
 {
     let (_, inside) = cursor.expect(TokenKind::LeftParenthesis)?;
     let channel = type_at(alloc, room, inside, spans)?;
-    let (size, rest) = size(alloc, literals, room, channel.rest, spans)?;
-    let (last, rest) = rest.expect(TokenKind::RightParenthesis)?;
+    let (kind, (size, rest)) = beside(
+        channel.node,
+        buffer_size(alloc, literals, room, channel.rest, spans),
+    )?;
+    let made = OperationNode::Make(kind, size);
+    let (made, (last, rest)) = beside(made, rest.expect(TokenKind::RightParenthesis))?;
     let span = Span {
         from: name.from,
         to: last.to,
     };
-    spans.push(span)?;
-    Ok(FoundOperation {
-        operation: OperationNode::Make(channel.kind, size),
-        span,
-        rest,
-    })
+    let node = with_span(made, span, spans)?;
+    Ok(Found { node, span, rest })
 }
 
 /// What stands behind `len`, whose name stands at `name`.
-fn length<'a>(
+fn len_call<'a>(
     alloc: Global,
     literals: bool,
     room: u32,
     name: Span,
     cursor: Cursor<'a>,
     spans: &mut Vec<Span>,
-) -> Result<FoundOperation<'a>, Fault>
-    ensures operation { Gives (λ x. (operation_of x.operation, ahead x.rest)) result (as_one Length (argument literals MAX_ENTRIES room (ahead cursor.entry))) }
-    ensures nodes { IfOk result (λ x. vec_len spans.new ≡ vec_len spans.old + operation_size (operation_of x.operation)) }
+) -> Result<Found<'a, OperationNode>, Fault>
+    ensures operation { Gives (λ x. (operation_of x.node, ahead x.rest)) result (as_one Length (argument literals MAX_ENTRIES room (ahead cursor.entry))) }
+    ensures nodes { IfOk result (λ x. vec_len spans.new ≡ vec_len spans.old + operation_size (operation_of x.node)) }
 {
     let channel = argument(alloc, literals, room, cursor, spans)?;
     let span = Span {
         from: name.from,
-        to: channel.last.to,
+        to: channel.span.to,
     };
-    spans.push(span)?;
-    Ok(FoundOperation {
-        operation: OperationNode::Length(channel.value),
+    let node = with_span(OperationNode::Length(channel.node), span, spans)?;
+    Ok(Found {
+        node,
         span,
         rest: channel.rest,
     })
 }
 
 /// What stands behind `cap`, whose name stands at `name`.
-fn capacity<'a>(
+fn cap_call<'a>(
     alloc: Global,
     literals: bool,
     room: u32,
     name: Span,
     cursor: Cursor<'a>,
     spans: &mut Vec<Span>,
-) -> Result<FoundOperation<'a>, Fault>
-    ensures operation { Gives (λ x. (operation_of x.operation, ahead x.rest)) result (as_one Capacity (argument literals MAX_ENTRIES room (ahead cursor.entry))) }
-    ensures nodes { IfOk result (λ x. vec_len spans.new ≡ vec_len spans.old + operation_size (operation_of x.operation)) }
+) -> Result<Found<'a, OperationNode>, Fault>
+    ensures operation { Gives (λ x. (operation_of x.node, ahead x.rest)) result (as_one Capacity (argument literals MAX_ENTRIES room (ahead cursor.entry))) }
+    ensures nodes { IfOk result (λ x. vec_len spans.new ≡ vec_len spans.old + operation_size (operation_of x.node)) }
 {
     let channel = argument(alloc, literals, room, cursor, spans)?;
     let span = Span {
         from: name.from,
-        to: channel.last.to,
+        to: channel.span.to,
     };
-    spans.push(span)?;
-    Ok(FoundOperation {
-        operation: OperationNode::Capacity(channel.value),
+    let node = with_span(OperationNode::Capacity(channel.node), span, spans)?;
+    Ok(Found {
+        node,
         span,
         rest: channel.rest,
     })
@@ -267,22 +231,22 @@ fn builtin_operation<'a>(
     first: Span,
     cursor: Cursor<'a>,
     spans: &mut Vec<Span>,
-) -> Result<FoundOperation<'a>, Fault>
-    ensures operation { Gives (λ x. (operation_of x.operation, ahead x.rest)) result (builtin_operation literals MAX_ENTRIES room name.now (ahead cursor.entry)) }
-    ensures nodes { IfOk result (λ x. vec_len spans.new ≡ vec_len spans.old + operation_size (operation_of x.operation)) }
+) -> Result<Found<'a, OperationNode>, Fault>
+    ensures operation { Gives (λ x. (operation_of x.node, ahead x.rest)) result (builtin_operation literals MAX_ENTRIES room name.now (ahead cursor.entry)) }
+    ensures nodes { IfOk result (λ x. vec_len spans.new ≡ vec_len spans.old + operation_size (operation_of x.node)) }
 {
     let measures = name == b"len".as_slice() || name == b"cap".as_slice();
     if (name == b"make".as_slice() || measures) && room < 1 {
         return Err(Fault::TooDeep(Place::from(first)));
     }
     if name == b"make".as_slice() {
-        return make(alloc, literals, room, first, cursor, spans);
+        return make_call(alloc, literals, room, first, cursor, spans);
     }
     if name == b"len".as_slice() {
-        return length(alloc, literals, room, first, cursor, spans);
+        return len_call(alloc, literals, room, first, cursor, spans);
     }
     if name == b"cap".as_slice() {
-        return capacity(alloc, literals, room, first, cursor, spans);
+        return cap_call(alloc, literals, room, first, cursor, spans);
     }
     Err(Fault::Syntax(Place::from(first)))
 }
@@ -296,44 +260,44 @@ fn call<'a>(
     first: Span,
     cursor: Cursor<'a>,
     spans: &mut Vec<Span>,
-) -> Result<FoundOperation<'a>, Fault>
-    ensures operation { Gives (λ x. (operation_of x.operation, ahead x.rest)) result (as_one (Call name.now) (arguments literals MAX_ENTRIES room (ahead cursor.entry))) }
-    ensures nodes { IfOk result (λ x. vec_len spans.new ≡ vec_len spans.old + operation_size (operation_of x.operation)) }
+) -> Result<Found<'a, OperationNode>, Fault>
+    ensures operation { Gives (λ x. (operation_of x.node, ahead x.rest)) result (as_one (Call name.now) (arguments literals MAX_ENTRIES room (ahead cursor.entry))) }
+    ensures nodes { IfOk result (λ x. vec_len spans.new ≡ vec_len spans.old + operation_size (operation_of x.node)) }
 {
     let found = arguments(alloc, literals, room, cursor, spans)?;
     let span = Span {
         from: first.from,
-        to: found.last.to,
+        to: found.span.to,
     };
-    let name = name_node(alloc, name)?;
-    spans.push(span)?;
-    Ok(FoundOperation {
-        operation: OperationNode::Call(name, found.arguments),
+    let (passed, name) = beside(found.node, name_node(alloc, name))?;
+    let node = with_span(OperationNode::Call(name, passed), span, spans)?;
+    Ok(Found {
+        node,
         span,
         rest: found.rest,
     })
 }
 
 /// A receive behind its arrow, which stands at `first`.
-fn receive<'a>(
+fn receive_operation<'a>(
     alloc: Global,
     literals: bool,
     room: u32,
     first: Span,
     cursor: Cursor<'a>,
     spans: &mut Vec<Span>,
-) -> Result<FoundOperation<'a>, Fault>
-    ensures operation { Gives (λ x. (operation_of x.operation, ahead x.rest)) result (as_one Receive (received literals MAX_ENTRIES room (ahead cursor.entry))) }
-    ensures nodes { IfOk result (λ x. vec_len spans.new ≡ vec_len spans.old + operation_size (operation_of x.operation)) }
+) -> Result<Found<'a, OperationNode>, Fault>
+    ensures operation { Gives (λ x. (operation_of x.node, ahead x.rest)) result (as_one Receive (received literals MAX_ENTRIES room (ahead cursor.entry))) }
+    ensures nodes { IfOk result (λ x. vec_len spans.new ≡ vec_len spans.old + operation_size (operation_of x.node)) }
 {
-    let channel = received(alloc, literals, room, first, cursor, spans)?;
+    let channel = receive_operand(alloc, literals, room, first, cursor, spans)?;
     let span = Span {
         from: first.from,
         to: channel.span.to,
     };
-    spans.push(span)?;
-    Ok(FoundOperation {
-        operation: OperationNode::Receive(channel.expression),
+    let node = with_span(OperationNode::Receive(channel.node), span, spans)?;
+    Ok(Found {
+        node,
         span,
         rest: channel.rest,
     })
@@ -360,16 +324,16 @@ pub fn operation<'a>(
     room: u32,
     cursor: Cursor<'a>,
     spans: &mut Vec<Span>,
-) -> Result<FoundOperation<'a>, Fault>
-    ensures operation { Gives (λ x. (operation_of x.operation, ahead x.rest)) result (operation literals MAX_ENTRIES room (ahead cursor.entry)) }
-    ensures nodes { IfOk result (λ x. vec_len spans.new ≡ vec_len spans.old + operation_size (operation_of x.operation)) }
+) -> Result<Found<'a, OperationNode>, Fault>
+    ensures operation { Gives (λ x. (operation_of x.node, ahead x.rest)) result (operation literals MAX_ENTRIES room (ahead cursor.entry)) }
+    ensures nodes { IfOk result (λ x. vec_len spans.new ≡ vec_len spans.old + operation_size (operation_of x.node)) }
 {
     match cursor.next() {
         Some((Word::Mark(kind), first, rest)) => {
             if kind != TokenKind::Arrow {
                 return Err(Fault::Syntax(Place::from(first)));
             }
-            receive(alloc, literals, room, first, rest, spans)
+            receive_operation(alloc, literals, room, first, rest, spans)
         }
         Some((Word::Name(name), first, rest)) => {
             if is_builtin(name) {
@@ -382,7 +346,7 @@ pub fn operation<'a>(
 }
 
 /// Values with a comma between each two.
-fn value_list<'a>(
+fn expression_list<'a>(
     alloc: Global,
     literals: bool,
     room: u32,
@@ -396,7 +360,7 @@ fn value_list<'a>(
     let mut rest = cursor;
     for _ in 0..MAX_ENTRIES {
         let one = expression(alloc, literals, room, 0, rest, spans)?;
-        entries.push(one.expression)?;
+        entries.push(one.node)?;
         let (next, after) = value_next(one.rest)?;
         match next {
             Next::More => rest = after,
@@ -417,31 +381,35 @@ fn value_list<'a>(
 
 /// The right side of an assignment, of at most so many levels.
 #[tactic(auto, unfolding(crate::specs::Reading::right))]
-pub fn right<'a>(
+pub fn right_side<'a>(
     alloc: Global,
     literals: bool,
     room: u32,
     cursor: Cursor<'a>,
     spans: &mut Vec<Span>,
-) -> Result<FoundRight<'a>, Fault>
-    ensures right { Gives (λ x. (right_of x.right, ahead x.rest)) result (right literals MAX_ENTRIES room (ahead cursor.entry)) }
-    ensures nodes { IfOk result (λ x. vec_len spans.new ≡ vec_len spans.old + right_size (right_of x.right)) }
+) -> Result<Found<'a, RightNode>, Fault>
+    ensures right { Gives (λ x. (right_of x.node, ahead x.rest)) result (right literals MAX_ENTRIES room (ahead cursor.entry)) }
+    ensures nodes { IfOk result (λ x. vec_len spans.new ≡ vec_len spans.old + right_size (right_of x.node)) }
 {
     if room == 0 {
         return Err(Fault::TooDeep(cursor.place()));
     }
     if begins_operation(cursor) {
         let found = operation(alloc, literals, room - 1, cursor, spans)?;
-        return Ok(FoundRight {
-            right: RightNode::Operation(found.operation),
-            last: found.span,
+        return Ok(Found {
+            node: RightNode::Operation(found.node),
+            span: found.span,
             rest: found.rest,
         });
     }
-    let values = value_list(alloc, literals, room, cursor, spans)?;
-    Ok(FoundRight {
-        right: RightNode::Values(values.entries),
-        last: values.last,
+    let from = cursor.place().span.from;
+    let values = expression_list(alloc, literals, room, cursor, spans)?;
+    Ok(Found {
+        node: RightNode::Values(values.entries),
+        span: Span {
+            from,
+            to: values.last.to,
+        },
         rest: values.rest,
     })
 }

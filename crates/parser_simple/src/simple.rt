@@ -10,37 +10,22 @@ ghost use Rattle.parser_simple.specs.Reading.{as_one, begins_part, part, parts, 
 
 use crate::form::{Form, begins_with, defines, fits, form_of, update_kind};
 use crate::place::{names, place, places};
-use crate::right::{argument, arguments, primary, received, right};
+use crate::right::{argument, arguments, primary_expression, receive_operand, right_side};
 use go_text::{Fault, LimitKind, Place, Span};
+use parser_base::beside::{beside, with_span};
 use parser_base::cursor::{Cursor, Word, is_builtin};
-use parser_base::expression::{Found, begins, closed, expression, name_node};
-use parser_base::list::{List, MAX_ENTRIES, Next};
+use parser_base::expression::{begins, closed, expression, name_node};
+use parser_base::found::Found;
+use parser_base::list::{List, Next};
 use parser_base::text::text;
 use scanner::TokenKind;
 use std::alloc::Global;
-use syntax::{BinaryOperator, PartNode, SimpleNode};
-
-/// A simple statement that was read, and what follows it.
-#[derive(Drop)]
-pub struct FoundSimple<'a> {
-    pub simple: SimpleNode,
-    /// Its bytes, from its first token to its last.
-    pub span: Span,
-    pub rest: Cursor<'a>,
-}
-
-/// A simple statement that was read, or none where a value or a send comes next, and what follows.
-#[derive(Drop)]
-pub struct FoundLed<'a> {
-    pub simple: Option<SimpleNode>,
-    /// The bytes of the statement, from its first token to its last.
-    pub span: Span,
-    pub rest: Cursor<'a>,
-}
+use syntax::limits::MAX_ENTRIES;
+use syntax::{BinaryOperator, ExpressionNode, PartNode, SimpleNode};
 
 /// Whether an argument of `print` or `println` can begin here.
 #[tactic(auto, unfolding(crate::specs::Reading::begins_part))]
-fn begins_part(cursor: Cursor<'_>) -> bool
+fn begins_print_argument(cursor: Cursor<'_>) -> bool
     ensures { result ≡ begins_part (ahead cursor.entry) }
 {
     match cursor.next() {
@@ -51,7 +36,7 @@ fn begins_part(cursor: Cursor<'_>) -> bool
 
 /// An argument of `print` or `println`, of at most so many levels.
 #[tactic(auto, unfolding(crate::specs::Reading::part))]
-fn part<'a>(
+fn print_argument<'a>(
     alloc: Global,
     room: u32,
     literals: bool,
@@ -65,17 +50,16 @@ fn part<'a>(
         return Err(Fault::TooDeep(cursor.place()));
     }
     if let Some((Word::Text(quoted), span, rest)) = cursor.next() {
-        let bytes = text(alloc, quoted)?;
-        spans.push(span)?;
-        return Ok((PartNode::Text(bytes), rest));
+        let node = with_span(PartNode::Text(text(alloc, quoted)?), span, spans)?;
+        return Ok((node, rest));
     }
     let value = expression(alloc, literals, room, 0, cursor, spans)?;
-    Ok((PartNode::Value(value.expression), value.rest))
+    Ok((PartNode::Value(value.node), value.rest))
 }
 
 /// What follows an argument of `print` or `println`, with the span of its last token.
 #[tactic(auto, unfolding(parser_base::specs::Reading::entry_next))]
-fn part_next(cursor: Cursor<'_>) -> Result<(Next, Span, Cursor<'_>), Fault>
+fn print_argument_next(cursor: Cursor<'_>) -> Result<(Next, Span, Cursor<'_>), Fault>
     ensures { Gives (λ x. (x.0, ahead x.2)) result (entry_next TokenKind.Comma begins_part TokenKind.RightParenthesis (ahead cursor.entry)) }
 {
     let Some((Word::Mark(kind), span, rest)) = cursor.next() else {
@@ -84,7 +68,7 @@ fn part_next(cursor: Cursor<'_>) -> Result<(Next, Span, Cursor<'_>), Fault>
     if kind != TokenKind::Comma {
         return closed(TokenKind::RightParenthesis, false, cursor);
     }
-    if begins_part(rest) {
+    if begins_print_argument(rest) {
         Ok((Next::More, span, rest))
     } else {
         closed(TokenKind::RightParenthesis, true, rest)
@@ -92,7 +76,7 @@ fn part_next(cursor: Cursor<'_>) -> Result<(Next, Span, Cursor<'_>), Fault>
 }
 
 /// At least one argument of `print` or `println`, to the closing parenthesis.
-fn part_list<'a>(
+fn print_argument_list<'a>(
     alloc: Global,
     room: u32,
     literals: bool,
@@ -105,9 +89,9 @@ fn part_list<'a>(
     let mut entries = Vec::new(alloc);
     let mut rest = cursor;
     for _ in 0..MAX_ENTRIES {
-        let (one, behind) = part(alloc, room, literals, rest, spans)?;
+        let (one, behind) = print_argument(alloc, room, literals, rest, spans)?;
         entries.push(one)?;
-        let (next, last, after) = part_next(behind)?;
+        let (next, last, after) = print_argument_next(behind)?;
         match next {
             Next::More => rest = after,
             Next::End(trailing) => return Ok(List {
@@ -127,7 +111,7 @@ fn part_list<'a>(
 
 /// The arguments of `print` or `println`, behind the first parenthesis.
 #[tactic(auto, unfolding(crate::specs::Reading::parts))]
-fn parts<'a>(
+fn print_arguments<'a>(
     alloc: Global,
     room: u32,
     literals: bool,
@@ -137,8 +121,8 @@ fn parts<'a>(
     ensures parts { Gives (λ x. ((map part_of x.entries.items, x.trailing), ahead x.rest)) result (parts literals MAX_ENTRIES room (ahead cursor.entry)) }
     ensures nodes { IfOk result (λ x. vec_len spans.new ≡ vec_len spans.old + sum_by part_size (map part_of x.entries.items)) }
 {
-    if begins_part(cursor) {
-        return part_list(alloc, room, literals, cursor, spans);
+    if begins_print_argument(cursor) {
+        return print_argument_list(alloc, room, literals, cursor, spans);
     }
     let (last, rest) = cursor.expect(TokenKind::RightParenthesis)?;
     Ok(List {
@@ -151,7 +135,7 @@ fn parts<'a>(
 
 /// A `print` or, where `line` holds, a `println`, behind its name, which stands at `first`.
 #[tactic(auto, unfolding(crate::specs::Reading::print))]
-fn print<'a>(
+fn print_call<'a>(
     alloc: Global,
     line: bool,
     literals: bool,
@@ -159,44 +143,48 @@ fn print<'a>(
     first: Span,
     cursor: Cursor<'a>,
     spans: &mut Vec<Span>,
-) -> Result<FoundSimple<'a>, Fault>
-    ensures simple { Gives (λ x. (simple_of x.simple, ahead x.rest)) result (print line literals MAX_ENTRIES room (ahead cursor.entry)) }
-    ensures nodes { IfOk result (λ x. vec_len spans.new ≡ vec_len spans.old + simple_size (simple_of x.simple)) }
+) -> Result<Found<'a, SimpleNode>, Fault>
+    ensures simple { Gives (λ x. (simple_of x.node, ahead x.rest)) result (print line literals MAX_ENTRIES room (ahead cursor.entry)) }
+    ensures nodes { IfOk result (λ x. vec_len spans.new ≡ vec_len spans.old + simple_size (simple_of x.node)) }
 {
     let (_, inside) = cursor.expect(TokenKind::LeftParenthesis)?;
-    let all = parts(alloc, room, literals, inside, spans)?;
+    let all = print_arguments(alloc, room, literals, inside, spans)?;
     let span = Span {
         from: first.from,
         to: all.last.to,
     };
-    spans.push(span)?;
-    Ok(FoundSimple {
-        simple: SimpleNode::Print(line, all.entries, all.trailing),
+    let node = with_span(
+        SimpleNode::Print(line, all.entries, all.trailing),
+        span,
+        spans,
+    )?;
+    Ok(Found {
+        node,
         span,
         rest: all.rest,
     })
 }
 
 /// A `close` behind its name, which stands at `first`.
-fn close<'a>(
+fn close_call<'a>(
     alloc: Global,
     literals: bool,
     room: u32,
     first: Span,
     cursor: Cursor<'a>,
     spans: &mut Vec<Span>,
-) -> Result<FoundSimple<'a>, Fault>
-    ensures simple { Gives (λ x. (simple_of x.simple, ahead x.rest)) result (as_one Close (argument literals MAX_ENTRIES room (ahead cursor.entry))) }
-    ensures nodes { IfOk result (λ x. vec_len spans.new ≡ vec_len spans.old + simple_size (simple_of x.simple)) }
+) -> Result<Found<'a, SimpleNode>, Fault>
+    ensures simple { Gives (λ x. (simple_of x.node, ahead x.rest)) result (as_one Close (argument literals MAX_ENTRIES room (ahead cursor.entry))) }
+    ensures nodes { IfOk result (λ x. vec_len spans.new ≡ vec_len spans.old + simple_size (simple_of x.node)) }
 {
     let channel = argument(alloc, literals, room, cursor, spans)?;
     let span = Span {
         from: first.from,
-        to: channel.last.to,
+        to: channel.span.to,
     };
-    spans.push(span)?;
-    Ok(FoundSimple {
-        simple: SimpleNode::Close(channel.value),
+    let node = with_span(SimpleNode::Close(channel.node), span, spans)?;
+    Ok(Found {
+        node,
         span,
         rest: channel.rest,
     })
@@ -212,27 +200,27 @@ fn builtin_call<'a>(
     first: Span,
     cursor: Cursor<'a>,
     spans: &mut Vec<Span>,
-) -> Result<FoundSimple<'a>, Fault>
-    ensures simple { Gives (λ x. (simple_of x.simple, ahead x.rest)) result (builtin_call literals MAX_ENTRIES room name.now (ahead cursor.entry)) }
-    ensures nodes { IfOk result (λ x. vec_len spans.new ≡ vec_len spans.old + simple_size (simple_of x.simple)) }
+) -> Result<Found<'a, SimpleNode>, Fault>
+    ensures simple { Gives (λ x. (simple_of x.node, ahead x.rest)) result (builtin_call literals MAX_ENTRIES room name.now (ahead cursor.entry)) }
+    ensures nodes { IfOk result (λ x. vec_len spans.new ≡ vec_len spans.old + simple_size (simple_of x.node)) }
 {
     if name == b"println".as_slice() {
-        return print(alloc, true, literals, room, first, cursor, spans);
+        return print_call(alloc, true, literals, room, first, cursor, spans);
     }
     if name == b"print".as_slice() {
-        return print(alloc, false, literals, room, first, cursor, spans);
+        return print_call(alloc, false, literals, room, first, cursor, spans);
     }
     if name == b"close".as_slice() {
         if room < 1 {
             return Err(Fault::TooDeep(Place::from(first)));
         }
-        return close(alloc, literals, room, first, cursor, spans);
+        return close_call(alloc, literals, room, first, cursor, spans);
     }
     Err(Fault::Syntax(Place::from(first)))
 }
 
 /// A call of a function alone, behind its name, which stands at `first`.
-fn call<'a>(
+fn call_statement<'a>(
     alloc: Global,
     literals: bool,
     room: u32,
@@ -240,44 +228,44 @@ fn call<'a>(
     first: Span,
     cursor: Cursor<'a>,
     spans: &mut Vec<Span>,
-) -> Result<FoundSimple<'a>, Fault>
-    ensures simple { Gives (λ x. (simple_of x.simple, ahead x.rest)) result (as_one (CallAlone name.now) (arguments literals MAX_ENTRIES room (ahead cursor.entry))) }
-    ensures nodes { IfOk result (λ x. vec_len spans.new ≡ vec_len spans.old + simple_size (simple_of x.simple)) }
+) -> Result<Found<'a, SimpleNode>, Fault>
+    ensures simple { Gives (λ x. (simple_of x.node, ahead x.rest)) result (as_one (CallAlone name.now) (arguments literals MAX_ENTRIES room (ahead cursor.entry))) }
+    ensures nodes { IfOk result (λ x. vec_len spans.new ≡ vec_len spans.old + simple_size (simple_of x.node)) }
 {
     let found = arguments(alloc, literals, room, cursor, spans)?;
     let span = Span {
         from: first.from,
-        to: found.last.to,
+        to: found.span.to,
     };
-    let name = name_node(alloc, name)?;
-    spans.push(span)?;
-    Ok(FoundSimple {
-        simple: SimpleNode::Call(name, found.arguments),
+    let (passed, name) = beside(found.node, name_node(alloc, name))?;
+    let node = with_span(SimpleNode::Call(name, passed), span, spans)?;
+    Ok(Found {
+        node,
         span,
         rest: found.rest,
     })
 }
 
 /// A receive alone, behind its arrow, which stands at `first`.
-fn receive<'a>(
+fn receive_statement<'a>(
     alloc: Global,
     literals: bool,
     room: u32,
     first: Span,
     cursor: Cursor<'a>,
     spans: &mut Vec<Span>,
-) -> Result<FoundSimple<'a>, Fault>
-    ensures simple { Gives (λ x. (simple_of x.simple, ahead x.rest)) result (as_one ReceiveAlone (received literals MAX_ENTRIES room (ahead cursor.entry))) }
-    ensures nodes { IfOk result (λ x. vec_len spans.new ≡ vec_len spans.old + simple_size (simple_of x.simple)) }
+) -> Result<Found<'a, SimpleNode>, Fault>
+    ensures simple { Gives (λ x. (simple_of x.node, ahead x.rest)) result (as_one ReceiveAlone (received literals MAX_ENTRIES room (ahead cursor.entry))) }
+    ensures nodes { IfOk result (λ x. vec_len spans.new ≡ vec_len spans.old + simple_size (simple_of x.node)) }
 {
-    let channel = received(alloc, literals, room, first, cursor, spans)?;
+    let channel = receive_operand(alloc, literals, room, first, cursor, spans)?;
     let span = Span {
         from: first.from,
         to: channel.span.to,
     };
-    spans.push(span)?;
-    Ok(FoundSimple {
-        simple: SimpleNode::Receive(channel.expression),
+    let node = with_span(SimpleNode::Receive(channel.node), span, spans)?;
+    Ok(Found {
+        node,
         span,
         rest: channel.rest,
     })
@@ -285,30 +273,30 @@ fn receive<'a>(
 
 /// An assignment to places.
 #[tactic(auto, unfolding(crate::specs::Reading::assigned, crate::specs::Reading::right))]
-fn assigned<'a>(
+fn assignment<'a>(
     alloc: Global,
     literals: bool,
     room: u32,
     cursor: Cursor<'a>,
     spans: &mut Vec<Span>,
-) -> Result<FoundSimple<'a>, Fault>
-    ensures simple { Gives (λ x. (simple_of x.simple, ahead x.rest)) result (assigned literals MAX_ENTRIES room (ahead cursor.entry)) }
-    ensures nodes { IfOk result (λ x. vec_len spans.new ≡ vec_len spans.old + simple_size (simple_of x.simple)) }
+) -> Result<Found<'a, SimpleNode>, Fault>
+    ensures simple { Gives (λ x. (simple_of x.node, ahead x.rest)) result (assigned literals MAX_ENTRIES room (ahead cursor.entry)) }
+    ensures nodes { IfOk result (λ x. vec_len spans.new ≡ vec_len spans.old + simple_size (simple_of x.node)) }
 {
     let first = cursor.place().span;
     let all = places(alloc, cursor, spans)?;
-    let (mark, rest) = all.rest.expect(TokenKind::Assign)?;
+    let (entries, (mark, rest)) = beside(all.entries, all.rest.expect(TokenKind::Assign))?;
     if room == 0 {
         return Err(Fault::TooDeep(Place::from(mark)));
     }
-    let value = right(alloc, literals, room, rest, spans)?;
+    let (entries, value) = beside(entries, right_side(alloc, literals, room, rest, spans))?;
     let span = Span {
         from: first.from,
-        to: value.last.to,
+        to: value.span.to,
     };
-    spans.push(span)?;
-    Ok(FoundSimple {
-        simple: SimpleNode::Assign(all.entries, value.right),
+    let node = with_span(SimpleNode::Assign(entries, value.node), span, spans)?;
+    Ok(Found {
+        node,
         span,
         rest: value.rest,
     })
@@ -316,30 +304,30 @@ fn assigned<'a>(
 
 /// A `:=`.
 #[tactic(auto, unfolding(crate::specs::Reading::defined, crate::specs::Reading::right))]
-fn defined<'a>(
+fn short_var_declaration<'a>(
     alloc: Global,
     literals: bool,
     room: u32,
     cursor: Cursor<'a>,
     spans: &mut Vec<Span>,
-) -> Result<FoundSimple<'a>, Fault>
-    ensures simple { Gives (λ x. (simple_of x.simple, ahead x.rest)) result (defined literals MAX_ENTRIES room (ahead cursor.entry)) }
-    ensures nodes { IfOk result (λ x. vec_len spans.new ≡ vec_len spans.old + simple_size (simple_of x.simple)) }
+) -> Result<Found<'a, SimpleNode>, Fault>
+    ensures simple { Gives (λ x. (simple_of x.node, ahead x.rest)) result (defined literals MAX_ENTRIES room (ahead cursor.entry)) }
+    ensures nodes { IfOk result (λ x. vec_len spans.new ≡ vec_len spans.old + simple_size (simple_of x.node)) }
 {
     let first = cursor.place().span;
     let all = names(alloc, TokenKind::Comma, MAX_ENTRIES as usize, cursor)?;
-    let (mark, rest) = all.rest.expect(TokenKind::Define)?;
+    let (entries, (mark, rest)) = beside(all.entries, all.rest.expect(TokenKind::Define))?;
     if room == 0 {
         return Err(Fault::TooDeep(Place::from(mark)));
     }
-    let value = right(alloc, literals, room, rest, spans)?;
+    let (entries, value) = beside(entries, right_side(alloc, literals, room, rest, spans))?;
     let span = Span {
         from: first.from,
-        to: value.last.to,
+        to: value.span.to,
     };
-    spans.push(span)?;
-    Ok(FoundSimple {
-        simple: SimpleNode::Define(all.entries, value.right),
+    let node = with_span(SimpleNode::Define(entries, value.node), span, spans)?;
+    Ok(Found {
+        node,
         span,
         rest: value.rest,
     })
@@ -347,90 +335,83 @@ fn defined<'a>(
 
 /// A `++` behind a place.
 #[tactic(auto, unfolding(crate::specs::Reading::stepped))]
-fn increment<'a>(
+fn increment_statement<'a>(
     alloc: Global,
     cursor: Cursor<'a>,
     spans: &mut Vec<Span>,
-) -> Result<FoundSimple<'a>, Fault>
-    ensures simple { Gives (λ x. (simple_of x.simple, ahead x.rest)) result (stepped Increment TokenKind.Increment (ahead cursor.entry)) }
-    ensures nodes { IfOk result (λ x. vec_len spans.new ≡ vec_len spans.old + simple_size (simple_of x.simple)) }
+) -> Result<Found<'a, SimpleNode>, Fault>
+    ensures simple { Gives (λ x. (simple_of x.node, ahead x.rest)) result (stepped Increment TokenKind.Increment (ahead cursor.entry)) }
+    ensures nodes { IfOk result (λ x. vec_len spans.new ≡ vec_len spans.old + simple_size (simple_of x.node)) }
 {
     let target = place(alloc, cursor, spans)?;
-    let (mark, rest) = target.rest.expect(TokenKind::Increment)?;
+    let (place, (mark, rest)) = beside(target.node, target.rest.expect(TokenKind::Increment))?;
     let span = Span {
         from: target.span.from,
         to: mark.to,
     };
-    spans.push(span)?;
-    Ok(FoundSimple {
-        simple: SimpleNode::Increment(target.place),
-        span,
-        rest,
-    })
+    let node = with_span(SimpleNode::Increment(place), span, spans)?;
+    Ok(Found { node, span, rest })
 }
 
 /// A `--` behind a place.
 #[tactic(auto, unfolding(crate::specs::Reading::stepped))]
-fn decrement<'a>(
+fn decrement_statement<'a>(
     alloc: Global,
     cursor: Cursor<'a>,
     spans: &mut Vec<Span>,
-) -> Result<FoundSimple<'a>, Fault>
-    ensures simple { Gives (λ x. (simple_of x.simple, ahead x.rest)) result (stepped Decrement TokenKind.Decrement (ahead cursor.entry)) }
-    ensures nodes { IfOk result (λ x. vec_len spans.new ≡ vec_len spans.old + simple_size (simple_of x.simple)) }
+) -> Result<Found<'a, SimpleNode>, Fault>
+    ensures simple { Gives (λ x. (simple_of x.node, ahead x.rest)) result (stepped Decrement TokenKind.Decrement (ahead cursor.entry)) }
+    ensures nodes { IfOk result (λ x. vec_len spans.new ≡ vec_len spans.old + simple_size (simple_of x.node)) }
 {
     let target = place(alloc, cursor, spans)?;
-    let (mark, rest) = target.rest.expect(TokenKind::Decrement)?;
+    let (place, (mark, rest)) = beside(target.node, target.rest.expect(TokenKind::Decrement))?;
     let span = Span {
         from: target.span.from,
         to: mark.to,
     };
-    spans.push(span)?;
-    Ok(FoundSimple {
-        simple: SimpleNode::Decrement(target.place),
-        span,
-        rest,
-    })
+    let node = with_span(SimpleNode::Decrement(place), span, spans)?;
+    Ok(Found { node, span, rest })
 }
 
 /// An assignment with an operator.
 #[tactic(auto, unfolding(crate::specs::Reading::updated, parser_base::specs::Reading::expression))]
-fn updated<'a>(
+fn operator_assignment<'a>(
     alloc: Global,
     literals: bool,
     room: u32,
     operator: BinaryOperator,
     cursor: Cursor<'a>,
     spans: &mut Vec<Span>,
-) -> Result<FoundSimple<'a>, Fault>
-    ensures simple { Gives (λ x. (simple_of x.simple, ahead x.rest)) result (updated literals MAX_ENTRIES room operator (ahead cursor.entry)) }
-    ensures nodes { IfOk result (λ x. vec_len spans.new ≡ vec_len spans.old + simple_size (simple_of x.simple)) }
+) -> Result<Found<'a, SimpleNode>, Fault>
+    ensures simple { Gives (λ x. (simple_of x.node, ahead x.rest)) result (updated literals MAX_ENTRIES room operator (ahead cursor.entry)) }
+    ensures nodes { IfOk result (λ x. vec_len spans.new ≡ vec_len spans.old + simple_size (simple_of x.node)) }
 {
     let target = place(alloc, cursor, spans)?;
-    let (mark, rest) = target.rest.expect(update_kind(operator))?;
+    let (place, (mark, rest)) = beside(target.node, target.rest.expect(update_kind(operator)))?;
     if room == 0 {
         return Err(Fault::TooDeep(Place::from(mark)));
     }
-    let value = expression(alloc, literals, room, 0, rest, spans)?;
+    let (place, value) = beside(place, expression(alloc, literals, room, 0, rest, spans))?;
     let span = Span {
         from: target.span.from,
         to: value.span.to,
     };
-    spans.push(span)?;
-    Ok(FoundSimple {
-        simple: SimpleNode::Update(target.place, operator, value.expression),
+    let updated = SimpleNode::Update(place, operator, value.node);
+    let node = with_span(updated, span, spans)?;
+    Ok(Found {
+        node,
         span,
         rest: value.rest,
     })
 }
 
 /// A simple statement, as what was looked for.
-fn led_by(found: FoundSimple<'_>) -> FoundLed<'_>
-    ensures simple { option_map simple_of result.simple ≡ Some (simple_of found.entry.simple) }
+fn as_some(found: Found<'_, SimpleNode>) -> Found<'_, Option<SimpleNode>>
+    ensures simple { option_map simple_of result.node ≡ Some (simple_of found.entry.node) }
     ensures rest { ahead result.rest ≡ ahead found.entry.rest }
 {
-    FoundLed {
-        simple: Some(found.simple),
+    Found {
+        node: Some(found.node),
         span: found.span,
         rest: found.rest,
     }
@@ -438,7 +419,7 @@ fn led_by(found: FoundSimple<'_>) -> FoundLed<'_>
 
 /// A statement that begins with a place and has this form, if it has any.
 #[tactic(auto, unfolding(crate::specs::Reading::formed))]
-fn formed<'a>(
+fn place_statement<'a>(
     alloc: Global,
     literals: bool,
     defining: bool,
@@ -446,66 +427,70 @@ fn formed<'a>(
     form: Form,
     cursor: Cursor<'a>,
     spans: &mut Vec<Span>,
-) -> Result<FoundLed<'a>, Fault>
-    ensures simple { Gives (λ x. (option_map simple_of x.simple, ahead x.rest)) result (formed literals defining MAX_ENTRIES room form (ahead cursor.entry)) }
-    ensures nodes { IfOk result (λ x. vec_len spans.new ≡ vec_len spans.old + if_any simple_size (option_map simple_of x.simple)) }
+) -> Result<Found<'a, Option<SimpleNode>>, Fault>
+    ensures simple { Gives (λ x. (option_map simple_of x.node, ahead x.rest)) result (formed literals defining MAX_ENTRIES room form (ahead cursor.entry)) }
+    ensures nodes { IfOk result (λ x. vec_len spans.new ≡ vec_len spans.old + if_any simple_size (option_map simple_of x.node)) }
 {
-    let found = match form {
-        Form::Increment => increment(alloc, cursor, spans)?,
-        Form::Decrement => decrement(alloc, cursor, spans)?,
-        Form::Update(operator) => updated(alloc, literals, room, operator, cursor, spans)?,
-        Form::Assign(_) => assigned(alloc, literals, room, cursor, spans)?,
-        Form::Define(_) if defining && defines(cursor) => defined(
+    let read = match form {
+        Form::Increment => increment_statement(alloc, cursor, spans),
+        Form::Decrement => decrement_statement(alloc, cursor, spans),
+        Form::Update(operator) => operator_assignment(
+            alloc, literals, room, operator, cursor, spans,
+        ),
+        Form::Assign(_) => assignment(alloc, literals, room, cursor, spans),
+        Form::Define(_) if defining && defines(cursor) => short_var_declaration(
             alloc, literals, room, cursor, spans,
-        )?,
-        Form::Define(_) => assigned(alloc, literals, room, cursor, spans)?,
+        ),
+        Form::Define(_) => assignment(alloc, literals, room, cursor, spans),
         Form::List if room < 1 => {
             let first = place(alloc, cursor, spans)?;
             return Err(Fault::TooDeep(first.rest.place()));
         }
-        Form::List if defining && defines(cursor) => defined(alloc, literals, room, cursor, spans)?,
-        Form::List => assigned(alloc, literals, room, cursor, spans)?,
-        Form::Other => return Ok(FoundLed {
-            simple: None,
+        Form::List if defining && defines(cursor) => short_var_declaration(
+            alloc, literals, room, cursor, spans,
+        ),
+        Form::List => assignment(alloc, literals, room, cursor, spans),
+        Form::Other => return Ok(Found {
+            node: None,
             span: cursor.place().span,
             rest: cursor,
         }),
     };
-    Ok(led_by(found))
+    Ok(as_some(read?))
 }
 
 /// A simple statement, if anything else comes next than a value or a send.
 #[tactic(auto, unfolding(crate::specs::Reading::led))]
-pub fn led<'a>(
+pub fn statement_unless_value<'a>(
     alloc: Global,
     literals: bool,
     defining: bool,
     room: u32,
     cursor: Cursor<'a>,
     spans: &mut Vec<Span>,
-) -> Result<FoundLed<'a>, Fault>
-    ensures simple { Gives (λ x. (option_map simple_of x.simple, ahead x.rest)) result (led literals defining MAX_ENTRIES room (ahead cursor.entry)) }
-    ensures nodes { IfOk result (λ x. vec_len spans.new ≡ vec_len spans.old + if_any simple_size (option_map simple_of x.simple)) }
+) -> Result<Found<'a, Option<SimpleNode>>, Fault>
+    ensures simple { Gives (λ x. (option_map simple_of x.node, ahead x.rest)) result (led literals defining MAX_ENTRIES room (ahead cursor.entry)) }
+    ensures nodes { IfOk result (λ x. vec_len spans.new ≡ vec_len spans.old + if_any simple_size (option_map simple_of x.node)) }
 {
     match cursor.next() {
         Some((Word::Mark(TokenKind::Arrow), first, rest)) => {
-            let found = receive(alloc, literals, room, first, rest, spans)?;
-            Ok(led_by(found))
+            let found = receive_statement(alloc, literals, room, first, rest, spans)?;
+            Ok(as_some(found))
         }
         Some((Word::Name(name), first, rest)) => {
             if is_builtin(name) {
                 let found = builtin_call(alloc, literals, room, name, first, rest, spans)?;
-                return Ok(led_by(found));
+                return Ok(as_some(found));
             }
             if begins_with(TokenKind::LeftParenthesis, rest) {
-                let found = call(alloc, literals, room, name, first, rest, spans)?;
-                return Ok(led_by(found));
+                let found = call_statement(alloc, literals, room, name, first, rest, spans)?;
+                return Ok(as_some(found));
             }
             let form = form_of(cursor);
-            formed(alloc, literals, defining, room, form, cursor, spans)
+            place_statement(alloc, literals, defining, room, form, cursor, spans)
         }
-        _ => Ok(FoundLed {
-            simple: None,
+        _ => Ok(Found {
+            node: None,
             span: cursor.place().span,
             rest: cursor,
         }),
@@ -520,36 +505,38 @@ pub fn send_operand<'a>(
     room: u32,
     cursor: Cursor<'a>,
     spans: &mut Vec<Span>,
-) -> Result<Found<'a>, Fault>
-    ensures value { Gives (λ x. (expression_of x.expression, ahead x.rest)) result (send_operand literals MAX_ENTRIES room (ahead cursor.entry)) }
-    ensures nodes { IfOk result (λ x. vec_len spans.new ≡ vec_len spans.old + expression_size (expression_of x.expression)) }
+) -> Result<Found<'a, ExpressionNode>, Fault>
+    ensures value { Gives (λ x. (expression_of x.node, ahead x.rest)) result (send_operand literals MAX_ENTRIES room (ahead cursor.entry)) }
+    ensures nodes { IfOk result (λ x. vec_len spans.new ≡ vec_len spans.old + expression_size (expression_of x.node)) }
 {
     fits(false, literals, room, cursor)?;
-    primary(alloc, literals, room, cursor, spans)
+    primary_expression(alloc, literals, room, cursor, spans)
 }
 
 /// A send.
 #[tactic(auto, unfolding(crate::specs::Reading::sent))]
-fn send<'a>(
+fn send_statement<'a>(
     alloc: Global,
     literals: bool,
     room: u32,
     cursor: Cursor<'a>,
     spans: &mut Vec<Span>,
-) -> Result<FoundSimple<'a>, Fault>
-    ensures simple { Gives (λ x. (simple_of x.simple, ahead x.rest)) result (sent Send literals MAX_ENTRIES room (ahead cursor.entry)) }
-    ensures nodes { IfOk result (λ x. vec_len spans.new ≡ vec_len spans.old + simple_size (simple_of x.simple)) }
+) -> Result<Found<'a, SimpleNode>, Fault>
+    ensures simple { Gives (λ x. (simple_of x.node, ahead x.rest)) result (sent Send literals MAX_ENTRIES room (ahead cursor.entry)) }
+    ensures nodes { IfOk result (λ x. vec_len spans.new ≡ vec_len spans.old + simple_size (simple_of x.node)) }
 {
     let channel = send_operand(alloc, literals, room, cursor, spans)?;
-    let (_, rest) = channel.rest.expect(TokenKind::Arrow)?;
-    let value = expression(alloc, literals, room, 0, rest, spans)?;
+    let from = channel.span.from;
+    let (channel, (_, rest)) = beside(channel.node, channel.rest.expect(TokenKind::Arrow))?;
+    let (channel, value) = beside(channel, expression(alloc, literals, room, 0, rest, spans))?;
     let span = Span {
-        from: channel.span.from,
+        from,
         to: value.span.to,
     };
-    spans.push(span)?;
-    Ok(FoundSimple {
-        simple: SimpleNode::Send(channel.expression, value.expression),
+    let sent = SimpleNode::Send(channel, value.node);
+    let node = with_span(sent, span, spans)?;
+    Ok(Found {
+        node,
         span,
         rest: value.rest,
     })
@@ -558,20 +545,22 @@ fn send<'a>(
 /// A simple statement, below which there are at most so many levels ("Simple statements" of the Go specification).
 /// Composite literals stand in it only where `literals` holds, and it is a `:=` only where `defining` does.
 #[tactic(auto, unfolding(crate::specs::Reading::simple))]
-pub fn simple<'a>(
+pub fn simple_statement<'a>(
     alloc: Global,
     literals: bool,
     defining: bool,
     room: u32,
     cursor: Cursor<'a>,
     spans: &mut Vec<Span>,
-) -> Result<FoundSimple<'a>, Fault>
-    ensures simple { Gives (λ x. (simple_of x.simple, ahead x.rest)) result (simple literals defining MAX_ENTRIES room (ahead cursor.entry)) }
-    ensures nodes { IfOk result (λ x. vec_len spans.new ≡ vec_len spans.old + simple_size (simple_of x.simple)) }
+) -> Result<Found<'a, SimpleNode>, Fault>
+    ensures simple { Gives (λ x. (simple_of x.node, ahead x.rest)) result (simple literals defining MAX_ENTRIES room (ahead cursor.entry)) }
+    ensures nodes { IfOk result (λ x. vec_len spans.new ≡ vec_len spans.old + simple_size (simple_of x.node)) }
 {
-    let FoundLed { simple, span, rest } = led(alloc, literals, defining, room, cursor, spans)?;
-    match simple {
-        Some(simple) => Ok(FoundSimple { simple, span, rest }),
-        None => send(alloc, literals, room, rest, spans),
+    let Found { node, span, rest } = statement_unless_value(
+        alloc, literals, defining, room, cursor, spans,
+    )?;
+    match node {
+        Some(node) => Ok(Found { node, span, rest }),
+        None => send_statement(alloc, literals, room, rest, spans),
     }
 }

@@ -12,14 +12,14 @@ use Rattle.parser_base.specs.TypeReading.{type_words, IsType, type_at}
 use Rattle.parser_base.proofs.Marks.{bind_ok, ok_is, expect_is, plain_name_is, plain_name_again}
 use Rattle.parser_base.proofs.ListLaws.{AreFew, ReadBack, Found, High, Many}
 use Rattle.parser_base.proofs.ExpressionAgain.{shut, begins_again, height_positive, entries-le}
-use Rattle.parser_base.proofs.TypeLaws.{type_sound}
+use Rattle.parser_base.proofs.TypeLaws.{type_sound, type_height_positive}
 use Rattle.parser_base.proofs.Steps.{then_again, made_again, gave, Sound, made_is, either}
 use Rattle.parser_simple.specs.Spelling.{IsName, AreArguments, arguments_words, operation_words, IsOperation, right_words, IsRight}
 use Rattle.parser_simple.specs.Reading.{as_one, begins_with, names, arguments, begins_operation, operation, right, simple}
 use Rattle.parser_simple.proofs.PlaceLaws.{names_again, names_sound}
-use Rattle.parser_simple.proofs.RightLaws.{Stops, needing_again, needing_ok, value_again, arguments_again, below_is, type_positive, type_outcome, right_positive, operation_again, operation_begins, no_operation, right_again, value_sound, arguments_sound, operation_sound, right_sound}
+use Rattle.parser_simple.proofs.RightLaws.{Stops, needing_again, needing_ok, value_again, arguments_again, below_is, type_outcome, right_positive, operation_again, operation_begins, no_operation, right_again, value_sound, arguments_sound, operation_sound, right_sound}
 use Rattle.parser_simple.proofs.SimpleLaws.{simple_sound}
-use Rattle.parser_statement.specs.HeaderSpelling.{IsAny}
+use Rattle.parser_header.specs.Spelling.{IsAny}
 use Rattle.parser_statement.specs.Spelling.{returned_words, IsReturned, initial_words, names_words, statement_words, IsStatement}
 use Rattle.parser_statement.specs.Reading.{is_end, ends_statement, begins_returned, returned_value, returned, started, behind_next, typed, untyped, variables, variable, leaf}
 
@@ -178,7 +178,7 @@ variable_typed : (most room : ℕ) (n : List ℕ) (ns : List (List ℕ)) (t : Ty
 unfolding variables
 variable_typed most room n ns t r rest are is right_is ends =
     let none = type_no_value t (initial_words r rest) in
-    needing_again 1 room (λ few'. omega (arith, few', type_positive t)) (then_again _ (names_again kinds.Comma most n ns (type_words t ++ initial_words r rest) are none.1) (λ high. omega arith) (λ listing. omega arith) (λ low few.
+    needing_again 1 room (λ few'. omega (arith, few', type_height_positive t)) (then_again _ (names_again kinds.Comma most n ns (type_words t ++ initial_words r rest) are none.1) (λ high. omega arith) (λ listing. omega arith) (λ low few.
     rw none.0 (widened (typed_again most room (n ∷ ns) t r rest is right_is ends) (λ high. omega arith) (λ low'. omega arith) (λ listing. omega arith) (λ few' listing. omega (arith, few listing, few' listing)))))
 
 -- a statement that begins with a mark of its own, or with none

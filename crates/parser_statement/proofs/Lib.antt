@@ -1,4 +1,3 @@
-pub mod HeaderLaws
 pub mod Sizes
 pub mod LeafLaws
 pub mod StatementLists
@@ -6,4 +5,3 @@ pub mod StatementAgain
 pub mod StatementSound
 pub mod StatementLaws
 pub mod Rooms
-pub mod Spans

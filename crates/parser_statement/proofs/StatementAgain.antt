@@ -17,8 +17,8 @@ use Rattle.parser_simple.specs.Spelling.{simple_words, IsSimple}
 use Rattle.parser_simple.specs.Reading.{as_one, begins_with, simple}
 use Rattle.parser_simple.proofs.RightLaws.{needing_again}
 use Rattle.parser_simple.proofs.SimpleLaws.{simple_again}
-use Rattle.parser_statement.specs.HeaderSpelling.{IsAny, comm_words, IsComm, IsForHead}
-use Rattle.parser_statement.proofs.HeaderLaws.{if_header_again, for_header_again, comm_below_is, comm_again}
+use Rattle.parser_header.specs.Spelling.{IsAny, comm_words, IsComm, IsForHead}
+use Rattle.parser_header.proofs.HeaderLaws.{if_header_again, for_header_again, comm_below_is, comm_again}
 use Rattle.parser_statement.specs.Spelling.{clause_start, statement_words, body_words, branch_words, otherwise_words, clauses_words, IsStatement, IsBody, AreStatements, IsBranch, IsOtherwise, AreClauses}
 use Rattle.parser_statement.specs.Reading.{ends_statement, statement_next, clause_next, braced, other, otherwise, branched, repeated, waited, clause_body, one_clause, no_clause, clauses_next, selected, stated, statement, block, branch, clause}
 use Rattle.parser_statement.proofs.Sizes.{statement_longer, separated_longer}

@@ -8,7 +8,7 @@ use Rattle.syntax.specs.View.{OneClause, clauses}
 use Rattle.parser_base.specs.Lexemes.{Lexeme}
 use Rattle.parser_base.specs.Spelling.{behind, separated, joined, AreAll, AreSome}
 use Rattle.parser_base.proofs.ListLaws.{AreFew}
-use Rattle.parser_statement.specs.HeaderSpelling.{IsAny, IsComm}
+use Rattle.parser_header.specs.Spelling.{IsAny, IsComm}
 use Rattle.parser_statement.specs.Spelling.{clause_start, statement_words, body_words, more_words, clauses_words, IsStatement, IsBody, AreStatements, AreClauses}
 use Rattle.parser_statement.specs.Views.{one_clause_size}
 

@@ -12,12 +12,12 @@ use Rattle.parser_base.specs.Lexemes.{Lexeme, Literal, Name, Text, Mark}
 use Rattle.parser_base.specs.Spelling.{behind, separated, joined, AreAll, AreSome}
 use Rattle.parser_base.specs.Reading.{Syntax, TooMany, Reading, ◌>>=◌, expect, listed}
 use Rattle.parser_base.proofs.Marks.{bind_ok, ok_is, expect_is}
-use Rattle.parser_base.proofs.ListLaws.{IsEntry, ReadsSoundly, AreEntries, listed_sound}
+use Rattle.parser_base.proofs.ListLaws.{IsEntry, ReadsSoundly, AreEntries, listed_sound, ends_with, goes_on_with, all_of}
 use Rattle.parser_base.proofs.Steps.{gave, Sound, made_is, either}
 use Rattle.parser_simple.specs.Reading.{as_one, begins_with}
-use Rattle.parser_statement.specs.HeaderSpelling.{comm_words, IsComm, for_head_words}
-use Rattle.parser_statement.specs.HeaderReading.{if_header, for_header}
-use Rattle.parser_statement.proofs.HeaderLaws.{if_header_words, if_header_sound, for_header_sound, comm_below_is, comm_sound}
+use Rattle.parser_header.specs.Spelling.{comm_words, IsComm, for_head_words}
+use Rattle.parser_header.specs.Reading.{if_header, for_header}
+use Rattle.parser_header.proofs.HeaderLaws.{if_header_words, if_header_sound, for_header_sound, comm_below_is, comm_sound}
 use Rattle.parser_statement.specs.Spelling.{statement_words, body_words, branch_words, otherwise_words, clauses_words, IsStatement, IsBody, IsBranch, IsOtherwise, AreClauses}
 use Rattle.parser_statement.specs.Reading.{ends_statement, statement_next, clause_next, braced, other, otherwise, branched, repeated, waited, clause_body, one_clause, no_clause, clauses_next, selected, marked, stated, statement, block, branch, clause}
 use Rattle.parser_statement.proofs.StatementLists.{body_list, are_body, highest_in, longest_in, clauses_in, clauses_in-clauses, clause_words, IsClause, clause_height, clause_longest, unseparated, clauses_list, are_clauses, clauses_highest, clauses_longest_in, clauses_length, clause_entries-le, clause_entries_few}
@@ -45,12 +45,6 @@ ClauseSoundly most room = (ws : List Lexeme) (c : OneClause) (rest : List Lexeme
 
 abbrev StatementSoundly : (most room : ℕ) → Type 0
 StatementSoundly most room = (ws : List Lexeme) (s : Statement) (rest : List Lexeme) → statement most room ws ≡ gave s rest → StatementSound most room ws s rest
-
-abbrev ends_with : Bool → List Lexeme → Next × List Lexeme
-ends_with trailing rest = (End trailing, rest)
-
-abbrev goes_on_with : List Lexeme → Next × List Lexeme
-goes_on_with rest = (More, rest)
 
 abbrev next_of : Next × List Lexeme → Next
 next_of found = found.0
@@ -302,10 +296,6 @@ joined_unseparated : (all : List OneClause) (rest : List Lexeme) → joined clau
 joined_unseparated [] rest = refl
 joined_unseparated (c ∷ cs) rest = refl
 
-all_of : (all : List OneClause) → AreSome IsClause all → AreAll IsClause all
-all_of [] some = absurd some
-all_of (c ∷ cs) some = some
-
 -- what stands behind `select`
 abbrev selected_words : Clauses → List Lexeme → List Lexeme
 selected_words all rest = Mark kinds.LeftBrace ∷ clauses_words all (Mark kinds.RightBrace ∷ rest)
@@ -327,7 +317,7 @@ clauses_sound most room ws inside found braces are =
     let count : clauses_count all ≤ most = omega (arith, are.count, sym (clauses_length all), ap (λ (cs : List OneClause). length cs) same) in
     record {
       parts = braces ∙ ap (λ (x : List Lexeme). Mark kinds.LeftBrace ∷ x) (are.parts ∙ sym words);
-      is = are_clauses all (subst (AreAll IsClause) (sym same) (all_of found.0.0 are.are));
+      is = are_clauses all (subst (AreAll IsClause) (sym same) (all_of IsClause found.0.0 are.are));
       low = omega (arith, are.low, sym (clauses_highest all), ap (highest clause_height) same);
       few = clause_entries_few most all count (λ listing. omega (arith, are.few listing, sym (clauses_longest_in listing all), ap (highest (clause_longest listing)) same));
     }

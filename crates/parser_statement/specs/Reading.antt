@@ -1,4 +1,5 @@
--- Reading statements from left to right.
+-- Reading statements from left to right, as the code does: these words are proved against the grammar (`Spelling`), and
+-- claim nothing themselves.
 use Rattle.std.specs.Prelude.{ℕ, zero, suc, Bool, true, false, List, [], ◌∷◌, ◌||◌, Option, Some, None, Ok, Err, if◌then◌else◌, length, bytes_eq, codes}
 use Rattle.scanner.specs.declared.kind.TokenKind.{TokenKind}
 use Rattle.scanner.specs.declared.kind.TokenKind.TheVariants as kinds
@@ -12,7 +13,7 @@ use Rattle.parser_base.specs.Spelling.{is_builtin}
 use Rattle.parser_base.specs.Reading.{Syntax, TooDeep, TooMany, Reading, ◌>>=◌, expect, plain_name, begins, listed, expression}
 use Rattle.parser_base.specs.TypeReading.{type_at}
 use Rattle.parser_simple.specs.Reading.{as_one, needing, begins_with, names, arguments, begins_operation, operation, right, simple}
-use Rattle.parser_statement.specs.HeaderReading.{comm, if_header, for_header}
+use Rattle.parser_header.specs.Reading.{comm, if_header, for_header}
 
 -- ---- what ends a statement
 

@@ -9,7 +9,7 @@ use Rattle.parser_base.specs.Lexemes.{Lexeme, Name, Mark}
 use Rattle.parser_base.specs.Spelling.{behind, joined, before, AreSome, IsGrouped}
 use Rattle.parser_base.specs.TypeReading.{type_words, IsType}
 use Rattle.parser_simple.specs.Spelling.{name_words, IsName, arguments_words, AreArguments, operation_words, IsOperation, right_words, IsRight, simple_words, IsSimple}
-use Rattle.parser_statement.specs.HeaderSpelling.{IsAny, comm_words, IsComm, if_head_words, IsIfHead, for_head_words, IsForHead}
+use Rattle.parser_header.specs.Spelling.{IsAny, comm_words, IsComm, if_head_words, IsIfHead, for_head_words, IsForHead}
 
 -- ---- what stands behind `return` and `var`
 

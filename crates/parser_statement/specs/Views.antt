@@ -22,12 +22,6 @@ clause_of = fold-ClauseNode Otherwise Statement OneClause Branch else_layer stat
 abbrev pub one_clause_size : OneClause → ℕ
 one_clause_size clause = if_any comm_size clause.comm + statements_size clause.body + 1
 
--- where the last of these spans begins
-abbrev pub last_begin : List Span → Option ℕ
-last_begin [] = None
-last_begin (span ∷ []) = Some span.from
-last_begin (span ∷ (next ∷ rest)) = last_begin (next ∷ rest)
-
 -- the statement is a simple one
 abbrev pub is_alone : Statement → Bool
 is_alone (Alone simple) = true

@@ -7,23 +7,26 @@ ghost use Rattle.syntax.specs.Tree.{Alone, Return};
 ghost use Rattle.syntax.specs.Measures.{if_any, right_size, returned_size, statement_size};
 ghost use Rattle.syntax.specs.View.{name_of, right_of, returned_of, statement_of};
 ghost use Rattle.parser_base.specs.Lexemes.{Mark};
+ghost use Rattle.parser_base.specs.Spans.{last_begin};
 ghost use Rattle.parser_base.specs.Cursor.{ahead};
 ghost use Rattle.parser_base.specs.Reading.{Gives};
 ghost use Rattle.parser_simple.specs.Reading.{as_one, right, simple};
-ghost use Rattle.parser_statement.specs.Views.{is_alone, last_begin};
+ghost use Rattle.parser_statement.specs.Views.{is_alone};
 ghost use Rattle.parser_statement.specs.Reading.{is_end, ends_statement, begins_returned, returned_value, returned, started, behind_next, typed, untyped, variables, variable, leaf};
 
 use go_text::{Fault, Place, Span};
+use parser_base::beside::{beside, with_span};
 use parser_base::cursor::{Cursor, Word, is_builtin};
 use parser_base::expression::{begins, expression};
-use parser_base::list::MAX_ENTRIES;
+use parser_base::found::Found;
 use parser_base::types::type_at;
 use parser_simple::form::begins_with;
 use parser_simple::place::{name_at, names};
-use parser_simple::right::{arguments, begins_operation, operation, right};
-use parser_simple::simple::simple;
+use parser_simple::right::{arguments, begins_operation, operation, right_side};
+use parser_simple::simple;
 use scanner::TokenKind;
 use std::alloc::Global;
+use syntax::limits::MAX_ENTRIES;
 use syntax::{Name, ReturnNode, RightNode, StatementNode};
 
 /// Whether a statement ends before this mark.
@@ -48,7 +51,7 @@ pub(crate) fn ends_statement(cursor: Cursor<'_>) -> bool
 }
 
 /// A simple statement, below which there are at most so many levels.
-pub(crate) fn alone<'a>(
+pub(crate) fn simple_statement<'a>(
     alloc: Global,
     room: u32,
     cursor: Cursor<'a>,
@@ -58,14 +61,14 @@ pub(crate) fn alone<'a>(
     ensures nodes { IfOk result (λ x. vec_len spans.new ≡ vec_len spans.old + statement_size (statement_of x.0)) }
     ensures alone { IfOk result (λ x. is_alone (statement_of x.0) ≡ true) }
 {
-    let found = simple(alloc, true, true, room, cursor, spans)?;
-    Ok((StatementNode::Simple(found.simple), found.rest))
+    let found = simple::simple_statement(alloc, true, true, room, cursor, spans)?;
+    Ok((StatementNode::Simple(found.node), found.rest))
 }
 
 /// A `go` ("Go statements" of the Go specification), behind its word, which stands at `first`, below which there are at
 /// most so many levels.
-#[tactic(auto, using(crate::proofs::Spans::pushed_last), unfolding(crate::specs::Reading::started))]
-pub(crate) fn started<'a>(
+#[tactic(auto, unfolding(crate::specs::Reading::started))]
+pub(crate) fn go_statement<'a>(
     alloc: Global,
     room: u32,
     first: Span,
@@ -77,26 +80,18 @@ pub(crate) fn started<'a>(
     ensures place { IfOk result (λ _. last_begin spans.new.items ≡ Some first.from) }
 {
     let (function, _, rest) = name_at(alloc, cursor)?;
-    let passed = arguments(alloc, true, room, rest, spans)?;
-    spans.push(Span {
+    let (function, passed) = beside(function, arguments(alloc, true, room, rest, spans))?;
+    let span = Span {
         from: first.from,
-        to: passed.last.to,
-    })?;
-    Ok((StatementNode::Go(function, passed.arguments), passed.rest))
-}
-
-/// What was read behind `return`, and what follows it.
-#[derive(Drop)]
-struct FoundReturned<'a> {
-    returned: ReturnNode,
-    /// Where its last token ends.
-    end: u32,
-    rest: Cursor<'a>,
+        to: passed.span.to,
+    };
+    let node = with_span(StatementNode::Go(function, passed.node), span, spans)?;
+    Ok((node, passed.rest))
 }
 
 /// Whether a value or an operation behind `return` can begin here.
 #[tactic(auto, unfolding(crate::specs::Reading::begins_returned))]
-fn begins_returned(cursor: Cursor<'_>) -> bool
+fn begins_return_value(cursor: Cursor<'_>) -> bool
     ensures { result ≡ begins_returned (ahead cursor.entry) }
 {
     match cursor.next() {
@@ -111,62 +106,64 @@ fn begins_returned(cursor: Cursor<'_>) -> bool
 
 /// A value behind `return`, of at most so many levels.
 #[tactic(auto, unfolding(crate::specs::Reading::returned_value))]
-fn returned_value<'a>(
+fn return_value<'a>(
     alloc: Global,
     room: u32,
     cursor: Cursor<'a>,
     spans: &mut Vec<Span>,
-) -> Result<FoundReturned<'a>, Fault>
-    ensures returned { Gives (λ x. (returned_of x.returned, ahead x.rest)) result (returned_value MAX_ENTRIES room (ahead cursor.entry)) }
-    ensures nodes { IfOk result (λ x. vec_len spans.new ≡ vec_len spans.old + returned_size (returned_of x.returned)) }
+) -> Result<Found<'a, ReturnNode>, Fault>
+    ensures returned { Gives (λ x. (returned_of x.node, ahead x.rest)) result (returned_value MAX_ENTRIES room (ahead cursor.entry)) }
+    ensures nodes { IfOk result (λ x. vec_len spans.new ≡ vec_len spans.old + returned_size (returned_of x.node)) }
 {
     if room == 0 {
-        if begins_returned(cursor) {
+        if begins_return_value(cursor) {
             return Err(Fault::TooDeep(cursor.place()));
         }
         return Err(Fault::Syntax(cursor.place()));
     }
     if begins_operation(cursor) {
         let found = operation(alloc, true, room - 1, cursor, spans)?;
-        return Ok(FoundReturned {
-            returned: ReturnNode::Operation(found.operation),
-            end: found.span.to,
+        return Ok(Found {
+            node: ReturnNode::Operation(found.node),
+            span: found.span,
             rest: found.rest,
         });
     }
     let found = expression(alloc, true, room, 0, cursor, spans)?;
-    Ok(FoundReturned {
-        returned: ReturnNode::Value(found.expression),
-        end: found.span.to,
+    Ok(Found {
+        node: ReturnNode::Value(found.node),
+        span: found.span,
         rest: found.rest,
     })
 }
 
-/// What stands behind a `return` at `first`.
+/// What stands behind a `return` at `first`; the span of nothing is empty, at the end of that.
 #[tactic(auto, unfolding(crate::specs::Reading::returned))]
-fn returned<'a>(
+fn return_operand<'a>(
     alloc: Global,
     room: u32,
     first: Span,
     cursor: Cursor<'a>,
     spans: &mut Vec<Span>,
-) -> Result<FoundReturned<'a>, Fault>
-    ensures returned { Gives (λ x. (returned_of x.returned, ahead x.rest)) result (returned MAX_ENTRIES room (ahead cursor.entry)) }
-    ensures nodes { IfOk result (λ x. vec_len spans.new ≡ vec_len spans.old + returned_size (returned_of x.returned)) }
+) -> Result<Found<'a, ReturnNode>, Fault>
+    ensures returned { Gives (λ x. (returned_of x.node, ahead x.rest)) result (returned MAX_ENTRIES room (ahead cursor.entry)) }
+    ensures nodes { IfOk result (λ x. vec_len spans.new ≡ vec_len spans.old + returned_size (returned_of x.node)) }
 {
     if ends_statement(cursor) {
-        return Ok(FoundReturned {
-            returned: ReturnNode::Nothing,
-            end: first.to,
+        return Ok(Found {
+            node: ReturnNode::Nothing,
+            span: Span {
+                from: first.to,
+                to: first.to,
+            },
             rest: cursor,
         });
     }
-    returned_value(alloc, room, cursor, spans)
+    return_value(alloc, room, cursor, spans)
 }
 
 /// A `return` ("Return statements" of the Go specification), behind its word, which stands at `first`, below which there
 /// are at most so many levels.
-#[tactic(auto, using(crate::proofs::Spans::pushed_last))]
 pub(crate) fn return_statement<'a>(
     alloc: Global,
     room: u32,
@@ -178,16 +175,17 @@ pub(crate) fn return_statement<'a>(
     ensures nodes { IfOk result (λ x. vec_len spans.new ≡ vec_len spans.old + statement_size (statement_of x.0)) }
     ensures place { IfOk result (λ _. last_begin spans.new.items ≡ Some first.from) }
 {
-    let found = returned(alloc, room, first, cursor, spans)?;
-    spans.push(Span {
+    let found = return_operand(alloc, room, first, cursor, spans)?;
+    let span = Span {
         from: first.from,
-        to: found.end,
-    })?;
-    Ok((StatementNode::Return(found.returned), found.rest))
+        to: found.span.to,
+    };
+    let node = with_span(StatementNode::Return(found.node), span, spans)?;
+    Ok((node, found.rest))
 }
 
 /// Values behind `=`, if it comes next, and where the last token ends: that of the values, or `end` if there are none.
-fn initial<'a>(
+fn initial_values<'a>(
     alloc: Global,
     room: u32,
     end: u32,
@@ -201,13 +199,13 @@ fn initial<'a>(
         return Ok((None, end, cursor));
     }
     let (_, rest) = cursor.expect(TokenKind::Assign)?;
-    let found = right(alloc, true, room, rest, spans)?;
-    Ok((Some(found.right), found.last.to, found.rest))
+    let found = right_side(alloc, true, room, rest, spans)?;
+    Ok((Some(found.node), found.span.to, found.rest))
 }
 
 /// The type of these names, which a `var` at `first` declares, and their values, if there are any.
-#[tactic(auto, using(crate::proofs::Spans::pushed_last), unfolding(crate::specs::Reading::typed))]
-fn typed<'a>(
+#[tactic(auto, unfolding(crate::specs::Reading::typed))]
+fn typed_var<'a>(
     alloc: Global,
     room: u32,
     first: Span,
@@ -219,18 +217,22 @@ fn typed<'a>(
     ensures nodes { IfOk result (λ x. vec_len spans.new ≡ vec_len spans.old + statement_size (statement_of x.0)) }
     ensures place { IfOk result (λ _. last_begin spans.new.items ≡ Some first.from) }
 {
-    let found = type_at(alloc, room, cursor, spans)?;
-    let (right, end, rest) = initial(alloc, room, found.span.to, found.rest, spans)?;
-    spans.push(Span {
+    let (names, found) = beside(names, type_at(alloc, room, cursor, spans))?;
+    let ((names, kind), (right, to, rest)) = beside(
+        (names, found.node),
+        initial_values(alloc, room, found.span.to, found.rest, spans),
+    )?;
+    let span = Span {
         from: first.from,
-        to: end,
-    })?;
-    Ok((StatementNode::Typed(names, found.kind, right), rest))
+        to,
+    };
+    let node = with_span(StatementNode::Typed(names, kind, right), span, spans)?;
+    Ok((node, rest))
 }
 
 /// The values of these names, which a `var` at `first` declares without a type.
-#[tactic(auto, using(crate::proofs::Spans::pushed_last), unfolding(crate::specs::Reading::untyped))]
-fn untyped<'a>(
+#[tactic(auto, unfolding(crate::specs::Reading::untyped))]
+fn untyped_var<'a>(
     alloc: Global,
     room: u32,
     first: Span,
@@ -242,18 +244,19 @@ fn untyped<'a>(
     ensures nodes { IfOk result (λ x. vec_len spans.new ≡ vec_len spans.old + statement_size (statement_of x.0)) }
     ensures place { IfOk result (λ _. last_begin spans.new.items ≡ Some first.from) }
 {
-    let (_, rest) = cursor.expect(TokenKind::Assign)?;
-    let found = right(alloc, true, room, rest, spans)?;
-    spans.push(Span {
+    let (names, (_, rest)) = beside(names, cursor.expect(TokenKind::Assign))?;
+    let (names, found) = beside(names, right_side(alloc, true, room, rest, spans))?;
+    let span = Span {
         from: first.from,
-        to: found.last.to,
-    })?;
-    Ok((StatementNode::Untyped(names, found.right), found.rest))
+        to: found.span.to,
+    };
+    let node = with_span(StatementNode::Untyped(names, found.node), span, spans)?;
+    Ok((node, found.rest))
 }
 
 /// The names behind a `var` at `first`, and their type or values.
 #[tactic(auto, unfolding(crate::specs::Reading::variables))]
-fn variables<'a>(
+fn var_spec<'a>(
     alloc: Global,
     room: u32,
     first: Span,
@@ -266,14 +269,14 @@ fn variables<'a>(
 {
     let names = names(alloc, TokenKind::Comma, MAX_ENTRIES as usize, cursor)?;
     if begins_with(TokenKind::Assign, names.rest) {
-        return untyped(alloc, room, first, names.entries, names.rest, spans);
+        return untyped_var(alloc, room, first, names.entries, names.rest, spans);
     }
-    typed(alloc, room, first, names.entries, names.rest, spans)
+    typed_var(alloc, room, first, names.entries, names.rest, spans)
 }
 
 /// A `var` ("Variable declarations" of the Go specification), behind its word, which stands at `first`, below which there
 /// are at most so many levels.
-pub(crate) fn variable<'a>(
+pub(crate) fn var_declaration<'a>(
     alloc: Global,
     room: u32,
     first: Span,
@@ -288,24 +291,7 @@ pub(crate) fn variable<'a>(
     if room < 1 {
         return Err(Fault::TooDeep(Place::from(first)));
     }
-    variables(alloc, room, first, cursor, spans)
-}
-
-/// A word that is a statement, which stands at `first`.
-#[tactic(auto, using(crate::proofs::Spans::pushed_last))]
-fn word<'a>(
-    statement: StatementNode,
-    first: Span,
-    rest: Cursor<'a>,
-    spans: &mut Vec<Span>,
-) -> Result<(StatementNode, Cursor<'a>), Fault>
-    ensures statement { IfOk result (λ x. (x.0 ≡ statement) × (x.1 ≡ rest.entry)) }
-    ensures nodes { IfOk result (λ x. vec_len spans.new ≡ vec_len spans.old + 1) }
-    ensures place { IfOk result (λ _. last_begin spans.new.items ≡ Some first.from) }
-    ensures err { IfErr result (λ e. e ≡ faults.Memory) }
-{
-    spans.push(first)?;
-    Ok((statement, rest))
+    var_spec(alloc, room, first, cursor, spans)
 }
 
 /// A statement that begins with this mark at `first`, in which no other one stands and below which there are at most so
@@ -325,18 +311,18 @@ pub(crate) fn leaf<'a>(
     ensures place { IfOk result (λ x. is_alone (statement_of x.0) ≡ false → last_begin spans.new.items ≡ Some first.from) }
 {
     match kind {
-        TokenKind::Go => started(alloc, room, first, rest, spans),
-        TokenKind::Var => variable(alloc, room, first, rest, spans),
+        TokenKind::Go => go_statement(alloc, room, first, rest, spans),
+        TokenKind::Var => var_declaration(alloc, room, first, rest, spans),
         TokenKind::Return => return_statement(alloc, room, first, rest, spans),
-        TokenKind::Break => word(StatementNode::Break, first, rest, spans),
-        TokenKind::Continue => word(StatementNode::Continue, first, rest, spans),
+        TokenKind::Break => Ok((with_span(StatementNode::Break, first, spans)?, rest)),
+        TokenKind::Continue => Ok((with_span(StatementNode::Continue, first, spans)?, rest)),
         kind if is_end(kind) => {
             let empty = Span {
                 from: first.from,
                 to: first.from,
             };
-            word(StatementNode::Empty, empty, cursor, spans)
+            Ok((with_span(StatementNode::Empty, empty, spans)?, cursor))
         }
-        _ => alone(alloc, room, cursor, spans),
+        _ => simple_statement(alloc, room, cursor, spans),
     }
 }

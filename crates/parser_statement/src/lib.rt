@@ -1,8 +1,5 @@
-//! Reading statements, with the headers of an if and a for, and what a clause of a select waits for.
+//! Reading statements.
 #![tactic(auto)]
 
-mod beside;
-pub mod comm;
-pub mod header;
 mod leaf;
 pub mod statement;

@@ -12,42 +12,19 @@ ghost use Rattle.parser_simple.specs.Reading.{as_one};
 ghost use Rattle.parser_statement.specs.Reading.{statement_next, clause_next, clauses_next, waited, clause_body, other, otherwise, branched, repeated, one_clause, no_clause, selected, marked, stated, statement, block, branch, clause};
 ghost use Rattle.parser_statement.specs.Views.{branch_of, otherwise_of, clause_of, one_clause_size};
 
-use crate::beside::{beside, push};
-use crate::comm::{FoundComm, comm};
-use crate::header::{for_header, if_header};
-use crate::leaf::{alone, ends_statement, leaf};
+use crate::leaf::{ends_statement, leaf, simple_statement};
 use go_text::{Fault, LimitKind, Place, Span};
+use parser_base::beside::{beside, with_span};
 use parser_base::cursor::{Cursor, Word};
-use parser_base::list::{List, MAX_ENTRIES, Next};
+use parser_base::found::Found;
+use parser_base::list::{List, Next};
+use parser_header::comm::comm_statement;
+use parser_header::header::{for_header, if_header};
 use parser_simple::form::begins_with;
 use scanner::TokenKind;
 use std::alloc::Global;
+use syntax::limits::{MAX_CLAUSES, MAX_ENTRIES};
 use syntax::{ClauseNode, CommNode, ElseNode, IfNode, StatementNode};
-
-/// What was read behind `if`, and what follows it.
-#[derive(Drop)]
-struct FoundBranch<'a> {
-    branch: IfNode,
-    /// Where its last token ends.
-    end: u32,
-    rest: Cursor<'a>,
-}
-
-/// What was read behind the block of an `if`, and what follows it.
-#[derive(Drop)]
-struct FoundOtherwise<'a> {
-    otherwise: ElseNode,
-    /// Where its last token ends.
-    end: u32,
-    rest: Cursor<'a>,
-}
-
-/// A clause that was read, and what follows it.
-#[derive(Drop)]
-struct FoundClause<'a> {
-    clause: ClauseNode,
-    rest: Cursor<'a>,
-}
 
 // ---- what follows a statement or a clause
 
@@ -134,7 +111,7 @@ fn end_behind(statement: &StatementNode, spans: &[Span], end: u32) -> u32 {
 
 /// The statements of a block, each of at most so many levels, behind its first brace.
 #[cycle(statement)]
-pub fn statements<'a>(
+pub fn statement_list<'a>(
     alloc: Global,
     room: u32,
     cursor: Cursor<'a>,
@@ -178,12 +155,12 @@ fn block<'a>(
         return Err(Fault::TooDeep(cursor.place()));
     }
     let (first, rest) = cursor.expect(TokenKind::LeftBrace)?;
-    let all = statements(alloc, room - 1, rest, spans)?;
-    spans.push(Span {
+    let all = statement_list(alloc, room - 1, rest, spans)?;
+    let span = Span {
         from: first.from,
         to: all.last.to,
-    })?;
-    Ok(all)
+    };
+    Ok(with_span(all, span, spans)?)
 }
 
 // ---- if and for
@@ -191,98 +168,101 @@ fn block<'a>(
 /// What stands behind `else`: an `if` or a block, of at most so many levels.
 #[cycle(statement)]
 #[tactic(auto, unfolding(crate::specs::Reading::statement, crate::specs::Reading::other))]
-fn other<'a>(
+fn else_branch<'a>(
     alloc: Global,
     room: u32,
     cursor: Cursor<'a>,
     spans: &mut Vec<Span>,
-) -> Result<FoundOtherwise<'a>, Fault>
-    ensures otherwise { Gives (λ x. (otherwise_of x.otherwise, ahead x.rest)) result (other (block MAX_ENTRIES room) (branch MAX_ENTRIES room) (ahead cursor.entry)) }
-    ensures nodes { IfOk result (λ x. vec_len spans.new ≡ vec_len spans.old + otherwise_size (otherwise_of x.otherwise)) }
+) -> Result<Found<'a, ElseNode>, Fault>
+    ensures otherwise { Gives (λ x. (otherwise_of x.node, ahead x.rest)) result (other (block MAX_ENTRIES room) (branch MAX_ENTRIES room) (ahead cursor.entry)) }
+    ensures nodes { IfOk result (λ x. vec_len spans.new ≡ vec_len spans.old + otherwise_size (otherwise_of x.node)) }
 {
     if begins_with(TokenKind::If, cursor) {
         let (first, rest) = cursor.expect(TokenKind::If)?;
         if room == 0 {
             return Err(Fault::TooDeep(Place::from(first)));
         }
-        let found = branched(alloc, room - 1, first, rest, spans)?;
-        return Ok(FoundOtherwise {
-            otherwise: else_node(alloc, found.branch)?,
-            end: found.end,
+        let found = if_statement(alloc, room - 1, first, rest, spans)?;
+        return Ok(Found {
+            node: else_node(alloc, found.node)?,
+            span: found.span,
             rest: found.rest,
         });
     }
+    let from = cursor.place().span.from;
     let body = block(alloc, room, cursor, spans)?;
-    Ok(FoundOtherwise {
-        otherwise: ElseNode::Block(body.entries),
-        end: body.last.to,
+    Ok(Found {
+        node: ElseNode::Block(body.entries),
+        span: Span {
+            from,
+            to: body.last.to,
+        },
         rest: body.rest,
     })
 }
 
-/// An `else` of at most so many levels, if there is one, behind a block that ends at `end`.
+/// An `else` of at most so many levels, if there is one, behind a block that ends at `end`; the span of none is empty,
+/// there.
 #[cycle(statement)]
 #[tactic(auto, unfolding(crate::specs::Reading::otherwise))]
-fn otherwise<'a>(
+fn optional_else<'a>(
     alloc: Global,
     room: u32,
     end: u32,
     cursor: Cursor<'a>,
     spans: &mut Vec<Span>,
-) -> Result<FoundOtherwise<'a>, Fault>
-    ensures otherwise { Gives (λ x. (otherwise_of x.otherwise, ahead x.rest)) result (otherwise (block MAX_ENTRIES room) (branch MAX_ENTRIES room) (ahead cursor.entry)) }
-    ensures nodes { IfOk result (λ x. vec_len spans.new ≡ vec_len spans.old + otherwise_size (otherwise_of x.otherwise)) }
+) -> Result<Found<'a, ElseNode>, Fault>
+    ensures otherwise { Gives (λ x. (otherwise_of x.node, ahead x.rest)) result (otherwise (block MAX_ENTRIES room) (branch MAX_ENTRIES room) (ahead cursor.entry)) }
+    ensures nodes { IfOk result (λ x. vec_len spans.new ≡ vec_len spans.old + otherwise_size (otherwise_of x.node)) }
 {
     if !begins_with(TokenKind::Else, cursor) {
-        return Ok(FoundOtherwise {
-            otherwise: ElseNode::Nothing,
-            end,
+        return Ok(Found {
+            node: ElseNode::Nothing,
+            span: Span { from: end, to: end },
             rest: cursor,
         });
     }
     let (_, rest) = cursor.expect(TokenKind::Else)?;
-    other(alloc, room, rest, spans)
+    else_branch(alloc, room, rest, spans)
 }
 
 /// What stands behind an `if` at `first` ("If statements" of the Go specification), below which there are at most so many
 /// levels.
 #[cycle(statement)]
 #[tactic(auto, unfolding(crate::specs::Reading::branched))]
-fn branched<'a>(
+fn if_statement<'a>(
     alloc: Global,
     room: u32,
     first: Span,
     cursor: Cursor<'a>,
     spans: &mut Vec<Span>,
-) -> Result<FoundBranch<'a>, Fault>
-    ensures branch { Gives (λ x. (branch_of x.branch, ahead x.rest)) result (branched MAX_ENTRIES room (block MAX_ENTRIES room) (branch MAX_ENTRIES room) (ahead cursor.entry)) }
-    ensures nodes { IfOk result (λ x. vec_len spans.new ≡ vec_len spans.old + branch_size (branch_of x.branch)) }
+) -> Result<Found<'a, IfNode>, Fault>
+    ensures branch { Gives (λ x. (branch_of x.node, ahead x.rest)) result (branched MAX_ENTRIES room (block MAX_ENTRIES room) (branch MAX_ENTRIES room) (ahead cursor.entry)) }
+    ensures nodes { IfOk result (λ x. vec_len spans.new ≡ vec_len spans.old + branch_size (branch_of x.node)) }
 {
     if room < 2 {
         return Err(Fault::TooDeep(Place::from(first)));
     }
-    let header = if_header(alloc, room, cursor, spans)?;
-    let head = (header.header, header.condition);
-    let (head, body) = beside(head, block(alloc, room, header.rest, spans))?;
-    let begun = (head, body.entries);
+    let (head, rest) = if_header(alloc, room, cursor, spans)?;
+    let (head, body) = beside(head, block(alloc, room, rest, spans))?;
     let (begun, last) = beside(
-        begun,
-        otherwise(alloc, room, body.last.to, body.rest, spans),
+        (head, body.entries),
+        optional_else(alloc, room, body.last.to, body.rest, spans),
     )?;
     let span = Span {
         from: first.from,
-        to: last.end,
+        to: last.span.to,
     };
-    let ((begun, otherwise), ()) = beside((begun, last.otherwise), push(spans, span))?;
     let ((header, condition), body) = begun;
-    Ok(FoundBranch {
-        branch: IfNode {
-            header,
-            condition,
-            body,
-            otherwise,
-        },
-        end: last.end,
+    let branch = IfNode {
+        header,
+        condition,
+        body,
+        otherwise: last.node,
+    };
+    Ok(Found {
+        node: with_span(branch, span, spans)?,
+        span,
         rest: last.rest,
     })
 }
@@ -291,7 +271,7 @@ fn branched<'a>(
 /// many levels.
 #[cycle(statement)]
 #[tactic(auto, unfolding(crate::specs::Reading::repeated))]
-fn repeated<'a>(
+fn for_statement<'a>(
     alloc: Global,
     room: u32,
     first: Span,
@@ -304,38 +284,39 @@ fn repeated<'a>(
     if room < 2 {
         return Err(Fault::TooDeep(Place::from(first)));
     }
-    let header = for_header(alloc, room, cursor, spans)?;
-    let body = block(alloc, room, header.rest, spans)?;
-    spans.push(Span {
+    let (header, rest) = for_header(alloc, room, cursor, spans)?;
+    let (header, body) = beside(header, block(alloc, room, rest, spans))?;
+    let span = Span {
         from: first.from,
         to: body.last.to,
-    })?;
-    Ok((StatementNode::For(header.header, body.entries), body.rest))
+    };
+    let node = with_span(StatementNode::For(header, body.entries), span, spans)?;
+    Ok((node, body.rest))
 }
 
 // ---- select
 
 /// What a clause waits for, of at most so many levels.
 #[tactic(auto, unfolding(crate::specs::Reading::waited))]
-fn waited<'a>(
+fn comm_case<'a>(
     alloc: Global,
     room: u32,
     cursor: Cursor<'a>,
     spans: &mut Vec<Span>,
-) -> Result<FoundComm<'a>, Fault>
-    ensures comm { Gives (λ x. (comm_of x.comm, ahead x.rest)) result (waited MAX_ENTRIES room (ahead cursor.entry)) }
-    ensures nodes { IfOk result (λ x. vec_len spans.new ≡ vec_len spans.old + comm_size (comm_of x.comm)) }
+) -> Result<(CommNode, Cursor<'a>), Fault>
+    ensures comm { Gives (λ x. (comm_of x.0, ahead x.1)) result (waited MAX_ENTRIES room (ahead cursor.entry)) }
+    ensures nodes { IfOk result (λ x. vec_len spans.new ≡ vec_len spans.old + comm_size (comm_of x.0)) }
 {
     if room == 0 {
         return Err(Fault::TooDeep(cursor.place()));
     }
-    comm(alloc, room - 1, cursor, spans)
+    comm_statement(alloc, room - 1, cursor, spans)
 }
 
 /// The statements of a clause, each of at most so many levels, behind its colon, which ends at `colon`; whether a
 /// separator ends them, which none does; and where their last token ends.
 #[cycle(statement)]
-fn clause_statements<'a>(
+fn clause_statement_list<'a>(
     alloc: Global,
     room: u32,
     colon: u32,
@@ -374,45 +355,41 @@ fn clause_body<'a>(
     waits: Option<CommNode>,
     cursor: Cursor<'a>,
     spans: &mut Vec<Span>,
-) -> Result<FoundClause<'a>, Fault>
-    ensures clause { Gives (λ x. (clause_of x.clause, ahead x.rest)) result (clause_body (statement MAX_ENTRIES room) (option_map comm_of waits) (ahead cursor.entry)) }
-    ensures nodes { IfOk result (λ x. vec_len spans.new + if_any comm_size (option_map comm_of waits) ≡ vec_len spans.old + one_clause_size (clause_of x.clause)) }
+) -> Result<(ClauseNode, Cursor<'a>), Fault>
+    ensures clause { Gives (λ x. (clause_of x.0, ahead x.1)) result (clause_body (statement MAX_ENTRIES room) (option_map comm_of waits) (ahead cursor.entry)) }
+    ensures nodes { IfOk result (λ x. vec_len spans.new + if_any comm_size (option_map comm_of waits) ≡ vec_len spans.old + one_clause_size (clause_of x.0)) }
 {
     let (waits, (colon, rest)) = beside(waits, cursor.expect(TokenKind::Colon))?;
     let (waits, (body, _, end, rest)) = beside(
         waits,
-        clause_statements(alloc, room, colon.to, rest, spans),
+        clause_statement_list(alloc, room, colon.to, rest, spans),
     )?;
     let span = Span {
         from: first.from,
         to: end,
     };
-    let ((waits, body), ()) = beside((waits, body), push(spans, span))?;
-    Ok(FoundClause {
-        clause: clause_node(waits, body),
-        rest,
-    })
+    Ok((with_span(clause_node(waits, body), span, spans)?, rest))
 }
 
 /// A clause, below which there are at most so many levels.
 #[cycle(statement)]
 #[tactic(auto, unfolding(crate::specs::Reading::one_clause))]
-fn one_clause<'a>(
+fn comm_clause_below<'a>(
     alloc: Global,
     room: u32,
     cursor: Cursor<'a>,
     spans: &mut Vec<Span>,
-) -> Result<FoundClause<'a>, Fault>
-    ensures clause { Gives (λ x. (clause_of x.clause, ahead x.rest)) result (one_clause MAX_ENTRIES room (statement MAX_ENTRIES room) (ahead cursor.entry)) }
-    ensures nodes { IfOk result (λ x. vec_len spans.new ≡ vec_len spans.old + one_clause_size (clause_of x.clause)) }
+) -> Result<(ClauseNode, Cursor<'a>), Fault>
+    ensures clause { Gives (λ x. (clause_of x.0, ahead x.1)) result (one_clause MAX_ENTRIES room (statement MAX_ENTRIES room) (ahead cursor.entry)) }
+    ensures nodes { IfOk result (λ x. vec_len spans.new ≡ vec_len spans.old + one_clause_size (clause_of x.0)) }
 {
     match cursor.next() {
         Some((Word::Mark(TokenKind::Case), first, rest)) => {
             if room < 2 {
                 return Err(Fault::TooDeep(Place::from(first)));
             }
-            let waits = waited(alloc, room, rest, spans)?;
-            clause_body(alloc, room, first, Some(waits.comm), waits.rest, spans)
+            let (waits, rest) = comm_case(alloc, room, rest, spans)?;
+            clause_body(alloc, room, first, Some(waits), rest, spans)
         }
         Some((Word::Mark(TokenKind::Default), first, rest)) => {
             if room < 1 {
@@ -440,38 +417,38 @@ fn no_clause(cursor: Cursor<'_>) -> Fault
 /// A clause of at most so many levels.
 #[cycle(statement)]
 #[tactic(auto, unfolding(crate::specs::Reading::statement))]
-fn clause<'a>(
+fn comm_clause<'a>(
     alloc: Global,
     room: u32,
     cursor: Cursor<'a>,
     spans: &mut Vec<Span>,
-) -> Result<FoundClause<'a>, Fault>
-    ensures clause { Gives (λ x. (clause_of x.clause, ahead x.rest)) result (clause MAX_ENTRIES room (ahead cursor.entry)) }
-    ensures nodes { IfOk result (λ x. vec_len spans.new ≡ vec_len spans.old + one_clause_size (clause_of x.clause)) }
+) -> Result<(ClauseNode, Cursor<'a>), Fault>
+    ensures clause { Gives (λ x. (clause_of x.0, ahead x.1)) result (clause MAX_ENTRIES room (ahead cursor.entry)) }
+    ensures nodes { IfOk result (λ x. vec_len spans.new ≡ vec_len spans.old + one_clause_size (clause_of x.0)) }
 {
     if room == 0 {
         return Err(no_clause(cursor));
     }
-    one_clause(alloc, room - 1, cursor, spans)
+    comm_clause_below(alloc, room - 1, cursor, spans)
 }
 
 /// The clauses of a `select`, each of at most so many levels.
 #[cycle(statement)]
-fn clauses<'a>(
+fn comm_clauses<'a>(
     alloc: Global,
     room: u32,
     cursor: Cursor<'a>,
     spans: &mut Vec<Span>,
 ) -> Result<List<'a, ClauseNode>, Fault>
-    ensures clauses { Gives (λ x. ((map clause_of x.entries.items, x.trailing), ahead x.rest)) result (listed (clause MAX_ENTRIES room) clauses_next (TooMany SelectClauses) MAX_ENTRIES (ahead cursor.entry)) }
+    ensures clauses { Gives (λ x. ((map clause_of x.entries.items, x.trailing), ahead x.rest)) result (listed (clause MAX_ENTRIES room) clauses_next (TooMany SelectClauses) MAX_CLAUSES (ahead cursor.entry)) }
     ensures nodes { IfOk result (λ x. vec_len spans.new ≡ vec_len spans.old + sum_by one_clause_size (map clause_of x.entries.items)) }
 {
     let mut entries = Vec::new(alloc);
     let mut rest = cursor;
-    for _ in 0..MAX_ENTRIES {
-        let found = clause(alloc, room, rest, spans)?;
-        entries.push(found.clause)?;
-        let (next, last, after) = clauses_next(found.rest)?;
+    for _ in 0..MAX_CLAUSES {
+        let (one, behind) = comm_clause(alloc, room, rest, spans)?;
+        entries.push(one)?;
+        let (next, last, after) = clauses_next(behind)?;
         match next {
             Next::More => rest = after,
             Next::End(trailing) => return Ok(List {
@@ -493,38 +470,40 @@ fn clauses<'a>(
 /// so many levels.
 #[cycle(statement)]
 #[tactic(auto, unfolding(crate::specs::Reading::selected))]
-fn selected<'a>(
+fn select_statement<'a>(
     alloc: Global,
     room: u32,
     first: Span,
     cursor: Cursor<'a>,
     spans: &mut Vec<Span>,
 ) -> Result<(StatementNode, Cursor<'a>), Fault>
-    ensures statement { Gives (λ x. (statement_of x.0, ahead x.1)) result (as_one Select (selected MAX_ENTRIES (clause MAX_ENTRIES room) (ahead cursor.entry))) }
+    ensures statement { Gives (λ x. (statement_of x.0, ahead x.1)) result (as_one Select (selected MAX_CLAUSES (clause MAX_ENTRIES room) (ahead cursor.entry))) }
     ensures nodes { IfOk result (λ x. vec_len spans.new ≡ vec_len spans.old + statement_size (statement_of x.0)) }
 {
     let (_, inside) = cursor.expect(TokenKind::LeftBrace)?;
     if begins_with(TokenKind::RightBrace, inside) {
         let (last, rest) = inside.expect(TokenKind::RightBrace)?;
-        spans.push(Span {
+        let span = Span {
             from: first.from,
             to: last.to,
-        })?;
-        return Ok((select_node(Vec::new(alloc)), rest));
+        };
+        let node = with_span(select_node(Vec::new(alloc)), span, spans)?;
+        return Ok((node, rest));
     }
-    let all = clauses(alloc, room, inside, spans)?;
-    spans.push(Span {
+    let all = comm_clauses(alloc, room, inside, spans)?;
+    let span = Span {
         from: first.from,
         to: all.last.to,
-    })?;
-    Ok((select_node(all.entries), all.rest))
+    };
+    let node = with_span(select_node(all.entries), span, spans)?;
+    Ok((node, all.rest))
 }
 
 // ---- statements
 
 /// A statement that begins with this mark at `first`, below which there are at most so many levels.
 #[cycle(statement)]
-fn marked<'a>(
+fn keyword_statement<'a>(
     alloc: Global,
     room: u32,
     kind: TokenKind,
@@ -543,18 +522,19 @@ fn marked<'a>(
                 return Err(Fault::TooDeep(Place::from(first)));
             }
             let body = block(alloc, room, cursor, spans)?;
-            spans.push(Span {
+            let span = Span {
                 from: first.from,
                 to: body.last.to,
-            })?;
-            Ok((StatementNode::Block(body.entries), body.rest))
+            };
+            let node = with_span(StatementNode::Block(body.entries), span, spans)?;
+            Ok((node, body.rest))
         }
         TokenKind::If => {
-            let found = branched(alloc, room, first, rest, spans)?;
-            Ok((if_node(alloc, found.branch)?, found.rest))
+            let found = if_statement(alloc, room, first, rest, spans)?;
+            Ok((if_node(alloc, found.node)?, found.rest))
         }
-        TokenKind::For => repeated(alloc, room, first, rest, spans),
-        TokenKind::Select => selected(alloc, room, first, rest, spans),
+        TokenKind::For => for_statement(alloc, room, first, rest, spans),
+        TokenKind::Select => select_statement(alloc, room, first, rest, spans),
         kind => leaf(alloc, room, kind, first, rest, cursor, spans),
     }
 }
@@ -562,7 +542,7 @@ fn marked<'a>(
 /// A statement, below which there are at most so many levels.
 #[cycle(statement)]
 #[tactic(auto, unfolding(crate::specs::Reading::stated))]
-fn stated<'a>(
+fn statement_below<'a>(
     alloc: Global,
     room: u32,
     cursor: Cursor<'a>,
@@ -572,10 +552,10 @@ fn stated<'a>(
     ensures nodes { IfOk result (λ x. vec_len spans.new ≡ vec_len spans.old + statement_size (statement_of x.0)) }
 {
     match cursor.next() {
-        Some((Word::Mark(kind), first, rest)) => marked(
+        Some((Word::Mark(kind), first, rest)) => keyword_statement(
             alloc, room, kind, first, rest, cursor, spans,
         ),
-        _ => alone(alloc, room, cursor, spans),
+        _ => simple_statement(alloc, room, cursor, spans),
     }
 }
 
@@ -594,5 +574,5 @@ pub fn statement<'a>(
     if room == 0 {
         return Err(Fault::TooDeep(cursor.place()));
     }
-    stated(alloc, room - 1, cursor, spans)
+    statement_below(alloc, room - 1, cursor, spans)
 }

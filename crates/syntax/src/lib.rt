@@ -1,6 +1,7 @@
 //! Trees of programs, with the place of each node.
 #![tactic(auto)]
 
+pub mod limits;
 pub mod node;
 pub mod size;
 pub mod tree;

@@ -3,6 +3,7 @@ use Rattle.std.proofs.ResultArms.{chosen}
 use Rattle.std.proofs.lemmas.Result.{err_from_is_err_and}
 use Rattle.syntax.specs.Measures.{Entries, expression_height, expression_size}
 use Rattle.syntax.specs.View.{expression_of}
+use Rattle.syntax.specs.declared.node.ExpressionNode.{ExpressionNode}
 use Rattle.syntax.proofs.Lists.{expressions_height-of, expressions_size-of}
 use Rattle.parser_base.specs.Cursor.{ahead}
 use Rattle.parser_base.specs.Reading.{TooMany, value_next, expression}
@@ -13,78 +14,78 @@ use Rattle.parser_base.proofs.expression.+expression.Goals as goal
 pub applied-returns-in-Period-clause-tree : goal.applied-returns-in-Period-clause-tree
 applied-returns-in-Period-clause-tree t c = rw c.in-Period.is (c.selection.ensures.tree (expression c.args.literals 64 (c.args.room - 1)))
 
-pub composite-returns-clause-height : goal.composite-returns-clause-height
-composite-returns-clause-height t c =
-    omega (arith, ap expression_height c.in_ok-node.ensures.ok, expressions_height-of (map expression_of c.in_ok-values.values.values.items), c.in_ok-values.ensures.height)
+pub composite_literal-returns-clause-height : goal.composite_literal-returns-clause-height
+composite_literal-returns-clause-height t c =
+    omega (arith, ap (λ (node : ExpressionNode). expression_height (expression_of node)) c.in_ok-with_span.ensures.node, ap expression_height c.in_ok-node.ensures.ok, expressions_height-of (map expression_of c.in_ok-values.values.entries.items), c.in_ok-values.ensures.height)
 
-pub composite-returns-clause-nodes : goal.composite-returns-clause-nodes
-composite-returns-clause-nodes t c =
-    omega (arith, ap expression_size c.in_ok-node.ensures.ok, expressions_size-of (map expression_of c.in_ok-values.values.values.items), c.in_ok-values.ensures.nodes, c.in_ok-push.ensures.len)
+pub composite_literal-returns-clause-nodes : goal.composite_literal-returns-clause-nodes
+composite_literal-returns-clause-nodes t c =
+    omega (arith, ap (λ (node : ExpressionNode). expression_size (expression_of node)) c.in_ok-with_span.ensures.node, ap expression_size c.in_ok-node.ensures.ok, expressions_size-of (map expression_of c.in_ok-values.values.entries.items), c.in_ok-values.ensures.nodes, c.in_ok-with_span.ensures.nodes)
 
-pub expression-loop-init : goal.expression-loop-init
-expression-loop-init t c = record {
-  total = opens c.args.literals 64 c.args.room c.args.least (ahead c.args.cursor) (expression_of c.in_ok-left.left.expression) (ahead c.in_ok-left.left.rest) (omega arith) c.in_ok-left.ensures.tree;
+pub measured_expression-loop-init : goal.measured_expression-loop-init
+measured_expression-loop-init t c = record {
+  total = opens c.args.literals 64 c.args.room c.args.least (ahead c.args.cursor) (expression_of c.in_ok-left.left.node) (ahead c.in_ok-left.left.rest) (omega arith) c.in_ok-left.ensures.tree;
   height = c.in_ok-left.ensures.height;
   leaf = c.in_ok-left.ensures.leaf;
   within = c.in_ok-left.ensures.within;
   nodes = c.in_ok-left.ensures.nodes;
 }
 
-pub expression-returns-in_default-clause-tree : goal.expression-returns-in_default-clause-tree
-expression-returns-in_default-clause-tree t c =
-    turn_stops (expression c.args.literals 64 (c.args.room - 1)) c.args.room c.args.least c.args.room c.loop.counter (expression_of c.loop.left.expression) (ahead c.loop.left.rest) _ c.loop-test.true (sym (rw c.in_default.is at c.step_at.ensures)) c.loop.invariant.total
+pub measured_expression-returns-in_default-clause-tree : goal.measured_expression-returns-in_default-clause-tree
+measured_expression-returns-in_default-clause-tree t c =
+    turn_stops (expression c.args.literals 64 (c.args.room - 1)) c.args.room c.args.least c.args.room c.loop.counter (expression_of c.loop.left.node) (ahead c.loop.left.rest) _ c.loop-test.true (sym (rw c.in_default.is at c.step_at.ensures)) c.loop.invariant.total
 
-pub expression-returns-then-left-room-clause-tree : goal.expression-returns-then-left-room-clause-tree
-expression-returns-then-left-room-clause-tree t c =
-    let high : c.args.room ≤ expression_height (expression_of c.loop.left.expression) = omega (arith, c.loop.invariant.height) in
-    turn_too_high (expression c.args.literals 64 (c.args.room - 1)) c.args.room c.args.least c.args.room c.loop.counter (expression_of c.loop.left.expression) (ahead c.loop.left.rest) c.in-Some.step (ahead c.in-Some.after) _ c.loop-test.true c.in-Some.ensures high c.loop.invariant.total
+pub measured_expression-returns-then-left-room-clause-tree : goal.measured_expression-returns-then-left-room-clause-tree
+measured_expression-returns-then-left-room-clause-tree t c =
+    let high : c.args.room ≤ expression_height (expression_of c.loop.left.node) = omega (arith, c.loop.invariant.height) in
+    turn_too_high (expression c.args.literals 64 (c.args.room - 1)) c.args.room c.args.least c.args.room c.loop.counter (expression_of c.loop.left.node) (ahead c.loop.left.rest) c.in-Some.step (ahead c.in-Some.after) _ c.loop-test.true c.in-Some.ensures high c.loop.invariant.total
 
-pub expression-returns-in_err-left-2-clause-tree : goal.expression-returns-in_err-left-2-clause-tree
-expression-returns-in_err-left-2-clause-tree t c =
+pub measured_expression-returns-in_err-left-2-clause-tree : goal.measured_expression-returns-in_err-left-2-clause-tree
+measured_expression-returns-in_err-left-2-clause-tree t c =
     let p = err_from_is_err_and c.from_residual-in_err-left-2.result c.from_residual-in_err-left-2.ensures.1 in
-    let low : expression_height (expression_of c.loop.left.expression) < c.args.room = omega (arith, c.loop.invariant.height) in
-    rw (p.1, p.2) (turn_fails c.in_err-left-2.field-0.0 (expression c.args.literals 64 (c.args.room - 1)) c.args.room c.args.least c.args.room c.loop.counter (expression_of c.loop.left.expression) (ahead c.loop.left.rest) c.in-Some.step (ahead c.in-Some.after) _ c.loop-test.true c.in-Some.ensures low c.in_err-left-2.ensures.tree c.loop.invariant.total)
+    let low : expression_height (expression_of c.loop.left.node) < c.args.room = omega (arith, c.loop.invariant.height) in
+    rw (p.1, p.2) (turn_fails c.in_err-left-2.field-0.0 (expression c.args.literals 64 (c.args.room - 1)) c.args.room c.args.least c.args.room c.loop.counter (expression_of c.loop.left.node) (ahead c.loop.left.rest) c.in-Some.step (ahead c.in-Some.after) _ c.loop-test.true c.in-Some.ensures low c.in_err-left-2.ensures.tree c.loop.invariant.total)
 
-pub expression-loop-preserved : goal.expression-loop-preserved
-expression-loop-preserved t c =
-    let low : expression_height (expression_of c.loop.left.expression) < c.args.room = omega (arith, c.loop.invariant.height) in
+pub measured_expression-loop-preserved : goal.measured_expression-loop-preserved
+measured_expression-loop-preserved t c =
+    let low : expression_height (expression_of c.loop.left.node) < c.args.room = omega (arith, c.loop.invariant.height) in
     record {
-      total = turn_done (expression c.args.literals 64 (c.args.room - 1)) c.args.room c.args.least c.args.room c.loop.counter (expression_of c.loop.left.expression) (ahead c.loop.left.rest) c.in-Some.step (ahead c.in-Some.after) (expression_of c.in_ok-left-2.left.expression) (ahead c.in_ok-left-2.left.rest) _ c.loop-test.true c.in-Some.ensures low c.in_ok-left-2.ensures.tree c.loop.invariant.total;
+      total = turn_done (expression c.args.literals 64 (c.args.room - 1)) c.args.room c.args.least c.args.room c.loop.counter (expression_of c.loop.left.node) (ahead c.loop.left.rest) c.in-Some.step (ahead c.in-Some.after) (expression_of c.in_ok-left-2.left.node) (ahead c.in_ok-left-2.left.rest) _ c.loop-test.true c.in-Some.ensures low c.in_ok-left-2.ensures.tree c.loop.invariant.total;
       height = c.in_ok-left-2.ensures.height;
       leaf = c.in_ok-left-2.ensures.leaf;
       within = c.in_ok-left-2.ensures.within;
       nodes = omega (arith, c.loop.invariant.nodes, c.in_ok-left-2.ensures.nodes);
     }
 
-pub value_list-returns-in_err-found-clause-values : goal.value_list-returns-in_err-found-clause-values
-value_list-returns-in_err-found-clause-values t c =
+pub expression_list-returns-in_err-found-clause-values : goal.expression_list-returns-in_err-found-clause-values
+expression_list-returns-in_err-found-clause-values t c =
     let p = err_from_is_err_and c.from_residual.result c.from_residual.ensures.1 in
     rw (p.1, p.2) (one_fails c.in_err-found.field-0.0 (expression c.args.literals 64 c.args.room 0) (value_next c.args.close) (TooMany Entries) 64 c.loop.counter _ (ahead c.loop.rest) _ c.loop-test.true c.in_err-found.ensures.tree c.loop.invariant.total)
 
-pub value_list-returns-in_err-next-clause-values : goal.value_list-returns-in_err-next-clause-values
-value_list-returns-in_err-next-clause-values t c =
+pub expression_list-returns-in_err-next-clause-values : goal.expression_list-returns-in_err-next-clause-values
+expression_list-returns-in_err-next-clause-values t c =
     let p = err_from_is_err_and c.from_residual-in_err-next.result c.from_residual-in_err-next.ensures.1 in
-    rw (p.1, p.2) (next_fails c.in_err-next.field-0.0 (expression c.args.literals 64 c.args.room 0) (value_next c.args.close) (TooMany Entries) 64 c.loop.counter _ (ahead c.loop.rest) (expression_of c.in_ok-found.found.expression) (ahead c.in_ok-found.found.rest) _ c.loop-test.true c.in_ok-found.ensures.tree c.in_err-next.ensures c.loop.invariant.total)
+    rw (p.1, p.2) (next_fails c.in_err-next.field-0.0 (expression c.args.literals 64 c.args.room 0) (value_next c.args.close) (TooMany Entries) 64 c.loop.counter _ (ahead c.loop.rest) (expression_of c.in_ok-found.found.node) (ahead c.in_ok-found.found.rest) _ c.loop-test.true c.in_ok-found.ensures.tree c.in_err-next.ensures c.loop.invariant.total)
 
-pub value_list-returns-in-End-clause-values : goal.value_list-returns-in-End-clause-values
-value_list-returns-in-End-clause-values t c =
+pub expression_list-returns-in-End-clause-values : goal.expression_list-returns-in-End-clause-values
+expression_list-returns-in-End-clause-values t c =
     let pushed = chosen _ _ _ _ c.push.ensures.items (ap is_ok c.in_ok-push.was) in
-    rw pushed (ends expression_of (expression c.args.literals 64 c.args.room 0) (value_next c.args.close) (TooMany Entries) 64 c.loop.counter c.loop.values.items (ahead c.loop.rest) c.in_ok-found.found.expression c.in-End.trailing (ahead c.in_ok-found.found.rest) (ahead c.in_ok-next.after) _ c.loop-test.true c.in_ok-found.ensures.tree (rw c.in-End.is at c.in_ok-next.ensures) c.loop.invariant.total)
+    rw pushed (ends expression_of (expression c.args.literals 64 c.args.room 0) (value_next c.args.close) (TooMany Entries) 64 c.loop.counter c.loop.entries.items (ahead c.loop.rest) c.in_ok-found.found.node c.in-End.trailing (ahead c.in_ok-found.found.rest) (ahead c.in_ok-next.after) _ c.loop-test.true c.in_ok-found.ensures.tree (rw c.in-End.is at c.in_ok-next.ensures) c.loop.invariant.total)
 
-pub value_list-returns-in-End-clause-height : goal.value_list-returns-in-End-clause-height
-value_list-returns-in-End-clause-height t c =
+pub expression_list-returns-in-End-clause-height : goal.expression_list-returns-in-End-clause-height
+expression_list-returns-in-End-clause-height t c =
     let pushed = chosen _ _ _ _ c.push.ensures.items (ap is_ok c.in_ok-push.was) in
-    rw pushed (omega (arith, highest-pushed expression_of expression_height c.loop.values.items c.in_ok-found.found.expression, c.loop.invariant.height, c.in_ok-found.ensures.height, c.max-height.ensures))
+    rw pushed (omega (arith, highest-pushed expression_of expression_height c.loop.entries.items c.in_ok-found.found.node, c.loop.invariant.height, c.in_ok-found.ensures.height, c.max-height.ensures))
 
-pub value_list-loop-preserved : goal.value_list-loop-preserved
-value_list-loop-preserved t c =
+pub expression_list-loop-preserved : goal.expression_list-loop-preserved
+expression_list-loop-preserved t c =
     let pushed = chosen _ _ _ _ c.push.ensures.items (ap is_ok c.in_ok-push.was) in
     record {
-      total = rw pushed (more expression_of (expression c.args.literals 64 c.args.room 0) (value_next c.args.close) (TooMany Entries) 64 c.loop.counter c.loop.values.items (ahead c.loop.rest) c.in_ok-found.found.expression (ahead c.in_ok-found.found.rest) (ahead c.in_ok-next.after) _ c.loop-test.true c.in_ok-found.ensures.tree (rw c.in-More.is at c.in_ok-next.ensures) c.loop.invariant.total);
-      height = rw pushed (omega (arith, highest-pushed expression_of expression_height c.loop.values.items c.in_ok-found.found.expression, c.loop.invariant.height, c.in_ok-found.ensures.height, c.max-height.ensures));
+      total = rw pushed (more expression_of (expression c.args.literals 64 c.args.room 0) (value_next c.args.close) (TooMany Entries) 64 c.loop.counter c.loop.entries.items (ahead c.loop.rest) c.in_ok-found.found.node (ahead c.in_ok-found.found.rest) (ahead c.in_ok-next.after) _ c.loop-test.true c.in_ok-found.ensures.tree (rw c.in-More.is at c.in_ok-next.ensures) c.loop.invariant.total);
+      height = rw pushed (omega (arith, highest-pushed expression_of expression_height c.loop.entries.items c.in_ok-found.found.node, c.loop.invariant.height, c.in_ok-found.ensures.height, c.max-height.ensures));
       within = omega (arith, c.loop.invariant.within, c.in_ok-found.ensures.within, c.max-height.ensures);
-      nodes = rw pushed (omega (arith, sum_by-pushed expression_of expression_size c.loop.values.items c.in_ok-found.found.expression, c.loop.invariant.nodes, c.in_ok-found.ensures.nodes));
+      nodes = rw pushed (omega (arith, sum_by-pushed expression_of expression_size c.loop.entries.items c.in_ok-found.found.node, c.loop.invariant.nodes, c.in_ok-found.ensures.nodes));
     }
 
-pub value_list-returns-clause-values : goal.value_list-returns-clause-values
-value_list-returns-clause-values t c = is_full (expression c.args.literals 64 c.args.room 0) (value_next c.args.close) (TooMany Entries) 64 c.loop.counter _ (ahead c.loop.rest) _ c.loop-test.false c.loop.invariant.total
+pub expression_list-returns-clause-values : goal.expression_list-returns-clause-values
+expression_list-returns-clause-values t c = is_full (expression c.args.literals 64 c.args.room 0) (value_next c.args.close) (TooMany Entries) 64 c.loop.counter _ (ahead c.loop.rest) _ c.loop-test.false c.loop.invariant.total

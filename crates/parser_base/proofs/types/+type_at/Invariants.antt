@@ -4,14 +4,14 @@ use Rattle.parser_base.proofs.types.+type_at.Given as goal
 abbrev pub decreases-type_at : goal.decreases-type_at
 decreases-type_at l = 4 * l.room + 3
 
-abbrev pub decreases-sender_or_both : goal.decreases-sender_or_both
-decreases-sender_or_both l = 4 * l.room + 2
+abbrev pub decreases-behind_chan : goal.decreases-behind_chan
+decreases-behind_chan l = 4 * l.room + 2
 
-abbrev pub decreases-element : goal.decreases-element
-decreases-element l = 4 * l.room + 1
+abbrev pub decreases-channel_type : goal.decreases-channel_type
+decreases-channel_type l = 4 * l.room + 1
 
-abbrev pub decreases-parenthesized : goal.decreases-parenthesized
-decreases-parenthesized l = 4 * l.room + 1
+abbrev pub decreases-parenthesized_type : goal.decreases-parenthesized_type
+decreases-parenthesized_type l = 4 * l.room + 1
 
-abbrev pub decreases-receiver : goal.decreases-receiver
-decreases-receiver l = 4 * l.room + 2
+abbrev pub decreases-behind_arrow : goal.decreases-behind_arrow
+decreases-behind_arrow l = 4 * l.room + 2

@@ -18,19 +18,19 @@ returns-in_err-one-clause-places c =
 pub returns-in_err-next-clause-places : goal.returns-in_err-next-clause-places
 returns-in_err-next-clause-places c =
     let p = err_from_is_err_and c.from_residual-in_err-next.result c.from_residual-in_err-next.ensures.1 in
-    rw (p.1, p.2) (next_fails c.in_err-next.field-0.0 (place) (separator_next begins_name kinds.Comma) (TooMany Entries) (64) c.loop.counter _ (ahead c.loop.rest) (place_of c.in_ok-one.one.place) (ahead c.in_ok-one.one.rest) _ c.loop-test.true c.in_ok-one.ensures.place c.in_err-next.ensures c.loop.invariant.total)
+    rw (p.1, p.2) (next_fails c.in_err-next.field-0.0 (place) (separator_next begins_name kinds.Comma) (TooMany Entries) (64) c.loop.counter _ (ahead c.loop.rest) (place_of c.in_ok-one.one.node) (ahead c.in_ok-one.one.rest) _ c.loop-test.true c.in_ok-one.ensures.place c.in_err-next.ensures c.loop.invariant.total)
 
 pub returns-in-End-clause-places : goal.returns-in-End-clause-places
 returns-in-End-clause-places c =
     let pushed = chosen _ _ _ _ c.push.ensures.items (ap is_ok c.in_ok-push.was) in
-    rw pushed (ends place_of (place) (separator_next begins_name kinds.Comma) (TooMany Entries) (64) c.loop.counter c.loop.entries.items (ahead c.loop.rest) c.in_ok-one.one.place c.in-End.trailing (ahead c.in_ok-one.one.rest) (ahead c.in_ok-next.after) _ c.loop-test.true c.in_ok-one.ensures.place (rw c.in-End.is at c.in_ok-next.ensures) c.loop.invariant.total)
+    rw pushed (ends place_of (place) (separator_next begins_name kinds.Comma) (TooMany Entries) (64) c.loop.counter c.loop.entries.items (ahead c.loop.rest) c.in_ok-one.one.node c.in-End.trailing (ahead c.in_ok-one.one.rest) (ahead c.in_ok-next.after) _ c.loop-test.true c.in_ok-one.ensures.place (rw c.in-End.is at c.in_ok-next.ensures) c.loop.invariant.total)
 
 pub loop-preserved : goal.loop-preserved
 loop-preserved c =
     let pushed = chosen _ _ _ _ c.push.ensures.items (ap is_ok c.in_ok-push.was) in
     record {
-      total = rw pushed (more place_of (place) (separator_next begins_name kinds.Comma) (TooMany Entries) (64) c.loop.counter c.loop.entries.items (ahead c.loop.rest) c.in_ok-one.one.place (ahead c.in_ok-one.one.rest) (ahead c.in_ok-next.after) _ c.loop-test.true c.in_ok-one.ensures.place (rw c.in-More.is at c.in_ok-next.ensures) c.loop.invariant.total);
-      nodes = rw pushed (omega (arith, length-pushed place_of c.loop.entries.items c.in_ok-one.one.place, c.loop.invariant.nodes, c.in_ok-one.ensures.nodes));
+      total = rw pushed (more place_of (place) (separator_next begins_name kinds.Comma) (TooMany Entries) (64) c.loop.counter c.loop.entries.items (ahead c.loop.rest) c.in_ok-one.one.node (ahead c.in_ok-one.one.rest) (ahead c.in_ok-next.after) _ c.loop-test.true c.in_ok-one.ensures.place (rw c.in-More.is at c.in_ok-next.ensures) c.loop.invariant.total);
+      nodes = rw pushed (omega (arith, length-pushed place_of c.loop.entries.items c.in_ok-one.one.node, c.loop.invariant.nodes, c.in_ok-one.ensures.nodes));
     }
 
 pub returns-clause-places : goal.returns-clause-places

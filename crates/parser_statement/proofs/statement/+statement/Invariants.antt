@@ -1,6 +1,7 @@
 use Rattle.std.proofs.Common.{◌≡◌, ◌-◌, ◌+◌, ◌*◌, map, length, sum_by, vec_len}
 use Rattle.syntax.specs.Measures.{SelectClauses, statement_size}
 use Rattle.syntax.specs.View.{statement_of}
+use Rattle.syntax.specs.declared.limits.TheConstants.{MAX_CLAUSES, MAX_ENTRIES}
 use Rattle.parser_base.specs.Cursor.{ahead}
 use Rattle.parser_base.specs.Reading.{Syntax, TooMany, listed}
 use Rattle.parser_base.proofs.Lists.{with_front}
@@ -11,62 +12,62 @@ use Rattle.parser_statement.proofs.statement.+statement.Given as goal
 abbrev pub decreases-statement : goal.decreases-statement
 decreases-statement l = 8 * l.room
 
-abbrev pub decreases-marked : goal.decreases-marked
-decreases-marked l = 8 * l.room + 4
+abbrev pub decreases-keyword_statement : goal.decreases-keyword_statement
+decreases-keyword_statement l = 8 * l.room + 4
 
-abbrev pub decreases-statements : goal.decreases-statements
-decreases-statements l = 8 * l.room + 1
+abbrev pub decreases-statement_list : goal.decreases-statement_list
+decreases-statement_list l = 8 * l.room + 1
 
 abbrev pub decreases-block : goal.decreases-block
 decreases-block l = 8 * l.room
 
-abbrev pub decreases-other : goal.decreases-other
-decreases-other l = 8 * l.room + 1
+abbrev pub decreases-else_branch : goal.decreases-else_branch
+decreases-else_branch l = 8 * l.room + 1
 
-abbrev pub decreases-otherwise : goal.decreases-otherwise
-decreases-otherwise l = 8 * l.room + 2
+abbrev pub decreases-optional_else : goal.decreases-optional_else
+decreases-optional_else l = 8 * l.room + 2
 
-abbrev pub decreases-branched : goal.decreases-branched
-decreases-branched l = 8 * l.room + 3
+abbrev pub decreases-if_statement : goal.decreases-if_statement
+decreases-if_statement l = 8 * l.room + 3
 
-abbrev pub decreases-repeated : goal.decreases-repeated
-decreases-repeated l = 8 * l.room + 3
+abbrev pub decreases-for_statement : goal.decreases-for_statement
+decreases-for_statement l = 8 * l.room + 3
 
-abbrev pub decreases-clause_statements : goal.decreases-clause_statements
-decreases-clause_statements l = 8 * l.room + 1
+abbrev pub decreases-clause_statement_list : goal.decreases-clause_statement_list
+decreases-clause_statement_list l = 8 * l.room + 1
 
 abbrev pub decreases-clause_body : goal.decreases-clause_body
 decreases-clause_body l = 8 * l.room + 2
 
-abbrev pub decreases-clause : goal.decreases-clause
-decreases-clause l = 8 * l.room
+abbrev pub decreases-comm_clause : goal.decreases-comm_clause
+decreases-comm_clause l = 8 * l.room
 
-abbrev pub decreases-one_clause : goal.decreases-one_clause
-decreases-one_clause l = 8 * l.room + 3
+abbrev pub decreases-comm_clause_below : goal.decreases-comm_clause_below
+decreases-comm_clause_below l = 8 * l.room + 3
 
-abbrev pub decreases-stated : goal.decreases-stated
-decreases-stated l = 8 * l.room + 5
+abbrev pub decreases-statement_below : goal.decreases-statement_below
+decreases-statement_below l = 8 * l.room + 5
 
-abbrev pub decreases-clauses : goal.decreases-clauses
-decreases-clauses l = 8 * l.room + 1
+abbrev pub decreases-comm_clauses : goal.decreases-comm_clauses
+decreases-comm_clauses l = 8 * l.room + 1
 
-abbrev pub decreases-selected : goal.decreases-selected
-decreases-selected l = 8 * l.room + 2
+abbrev pub decreases-select_statement : goal.decreases-select_statement
+decreases-select_statement l = 8 * l.room + 2
 
-abbrev pub invariant-statements-loop : goal.invariant-statements-loop
-invariant-statements-loop l = record {
-  total : with_front (map statement_of l.entries.items) (listed (statement 64 l.room) statement_next Syntax (length (ahead l.fn.cursor) - l.counter) (ahead l.rest)) ≡ listed (statement 64 l.room) statement_next Syntax (length (ahead l.fn.cursor)) (ahead l.fn.cursor);
+abbrev pub invariant-statement_list-loop : goal.invariant-statement_list-loop
+invariant-statement_list-loop l = record {
+  total : with_front (map statement_of l.entries.items) (listed (statement MAX_ENTRIES l.room) statement_next Syntax (length (ahead l.fn.cursor) - l.counter) (ahead l.rest)) ≡ listed (statement MAX_ENTRIES l.room) statement_next Syntax (length (ahead l.fn.cursor)) (ahead l.fn.cursor);
   nodes : vec_len l.spans ≡ vec_len l.fn.spans + sum_by statement_size (map statement_of l.entries.items);
 }
 
-abbrev pub invariant-clause_statements-loop : goal.invariant-clause_statements-loop
-invariant-clause_statements-loop l = record {
-  total : with_front (map statement_of l.entries.items) (listed (statement 64 l.room) clause_next Syntax (length (ahead l.fn.cursor) - l.counter) (ahead l.rest)) ≡ listed (statement 64 l.room) clause_next Syntax (length (ahead l.fn.cursor)) (ahead l.fn.cursor);
+abbrev pub invariant-clause_statement_list-loop : goal.invariant-clause_statement_list-loop
+invariant-clause_statement_list-loop l = record {
+  total : with_front (map statement_of l.entries.items) (listed (statement MAX_ENTRIES l.room) clause_next Syntax (length (ahead l.fn.cursor) - l.counter) (ahead l.rest)) ≡ listed (statement MAX_ENTRIES l.room) clause_next Syntax (length (ahead l.fn.cursor)) (ahead l.fn.cursor);
   nodes : vec_len l.spans ≡ vec_len l.fn.spans + sum_by statement_size (map statement_of l.entries.items);
 }
 
-abbrev pub invariant-clauses-loop : goal.invariant-clauses-loop
-invariant-clauses-loop l = record {
-  total : with_front (map clause_of l.entries.items) (listed (clause 64 l.room) clauses_next (TooMany SelectClauses) (64 - l.counter) (ahead l.rest)) ≡ listed (clause 64 l.room) clauses_next (TooMany SelectClauses) 64 (ahead l.fn.cursor);
+abbrev pub invariant-comm_clauses-loop : goal.invariant-comm_clauses-loop
+invariant-comm_clauses-loop l = record {
+  total : with_front (map clause_of l.entries.items) (listed (clause MAX_ENTRIES l.room) clauses_next (TooMany SelectClauses) (MAX_CLAUSES - l.counter) (ahead l.rest)) ≡ listed (clause MAX_ENTRIES l.room) clauses_next (TooMany SelectClauses) MAX_CLAUSES (ahead l.fn.cursor);
   nodes : vec_len l.spans ≡ vec_len l.fn.spans + sum_by one_clause_size (map clause_of l.entries.items);
 }

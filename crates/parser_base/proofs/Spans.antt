@@ -1,7 +1,7 @@
 -- The last of a list of spans.
 use Rattle.std.proofs.Common.{◌≡◌, Some, List, [], ◌∷◌, ◌++◌, refl, ap, ◌∙◌}
 use Rattle.go_text.specs.declared.place.Span.{Span}
-use Rattle.parser_statement.specs.Views.{last_begin}
+use Rattle.parser_base.specs.Spans.{last_begin}
 
 last_is : (spans : List Span) (span : Span) → last_begin (spans ++ span ∷ []) ≡ Some span.from
 last_is [] span = refl

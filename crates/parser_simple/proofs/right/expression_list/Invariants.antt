@@ -7,7 +7,7 @@ use Rattle.syntax.specs.Measures.{Entries, expression_size}
 use Rattle.scanner.specs.declared.kind.TokenKind.TheVariants as kinds
 use Rattle.parser_base.specs.Reading.{TooMany, begins, expression}
 use Rattle.parser_simple.specs.Reading.{separator_next}
-use Rattle.parser_simple.proofs.right.value_list.Given as goal
+use Rattle.parser_simple.proofs.right.expression_list.Given as goal
 
 abbrev pub invariant-loop : goal.invariant-loop
 invariant-loop l = record {

@@ -2,9 +2,9 @@
 use Rattle.std.specs.Prelude.{ℕ}
 use Rattle.syntax.specs.Measures.{expression_size, simple_size}
 use Rattle.syntax.specs.View.{expression_of, simple_of}
-use Rattle.parser_statement.specs.declared.header.HeadNode.{HeadNode}
-use Rattle.parser_statement.specs.declared.header.HeadNode.TheVariants as heads
-use Rattle.parser_statement.specs.HeaderReading.{Head, HeadSimple, HeadCondition}
+use Rattle.parser_header.specs.declared.header.HeadNode.{HeadNode}
+use Rattle.parser_header.specs.declared.header.HeadNode.TheVariants as heads
+use Rattle.parser_header.specs.Reading.{Head, HeadSimple, HeadCondition}
 
 abbrev pub head_of : HeadNode → Head
 head_of (heads.Simple simple) = HeadSimple (simple_of simple)

@@ -16,10 +16,10 @@ use Rattle.parser_base.proofs.Steps.{then_again, made_again, gave, Sound, made_i
 use Rattle.parser_simple.specs.declared.form.Form.{Form}
 use Rattle.parser_simple.specs.declared.form.Form.TheVariants as forms
 use Rattle.parser_simple.specs.Spelling.{name_words, IsName, place_words, IsPlace, IsPrimary, right_words, IsRight, update_kind, simple_words, IsSimple}
-use Rattle.parser_statement.specs.HeaderSpelling.{IsAny, second_name_words, second_place_words, comm_words, IsComm, if_head_words, IsIfHead, optional, target_words, IsTarget, for_head_words, IsForHead}
+use Rattle.parser_header.specs.Spelling.{IsAny, second_name_words, second_place_words, comm_words, IsComm, if_head_words, IsIfHead, optional, target_words, IsTarget, for_head_words, IsForHead}
 use Rattle.parser_simple.specs.Reading.{as_one, begins_with, begins_operation, defines, form_of, place, primary, sent, simple, led, fits}
 use Rattle.parser_simple.proofs.BeginLaws.{value_not}
-use Rattle.parser_statement.specs.HeaderReading.{Head, HeadSimple, HeadCondition, is_primary, condition_or_sent, led_or_condition, head, second, comm_defined, comm_assigned, comm_formed, comm, condition, behind_semicolon, behind_head, if_headed, if_header, unless_next, post_behind, for_clauses, ranged, range_defined, range_assigned, for_headed, ranges, for_begun, for_header}
+use Rattle.parser_header.specs.Reading.{Head, HeadSimple, HeadCondition, is_primary, condition_or_sent, led_or_condition, head, second, comm_defined, comm_assigned, comm_formed, comm, condition, behind_semicolon, behind_head, if_headed, if_header, unless_next, post_behind, for_clauses, ranged, range_defined, range_assigned, for_headed, ranges, for_begun, for_header}
 use Rattle.parser_simple.proofs.PlaceLaws.{place_again, place_sound}
 use Rattle.parser_simple.proofs.FormLaws.{update_again, fields_form, no_defines, no_form, led_none}
 use Rattle.parser_simple.proofs.FitLaws.{fits_again, operand_fits, condition_fits}

@@ -1,4 +1,5 @@
--- Reading what stands behind `if` and `for`, and what a clause of a select waits for.
+-- Reading what stands behind `if` and `for`, and what a clause of a select waits for, as the code does: these words are
+-- proved against the grammar (`Spelling`), and claim nothing themselves.
 use Rattle.std.specs.Prelude.{ℕ, Bool, true, false, ◌&&◌, ◌==◌, List, ◌∷◌, Option, Some, None, Ok, if◌then◌else◌}
 use Rattle.scanner.specs.declared.kind.TokenKind.{TokenKind}
 use Rattle.scanner.specs.declared.kind.TokenKind.TheVariants as kinds

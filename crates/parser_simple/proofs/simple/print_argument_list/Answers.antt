@@ -8,7 +8,7 @@ use Rattle.syntax.specs.Measures.{Entries, part_size}
 use Rattle.scanner.specs.declared.kind.TokenKind.TheVariants as kinds
 use Rattle.parser_base.specs.Reading.{TooMany, entry_next}
 use Rattle.parser_simple.specs.Reading.{part, begins_part}
-use Rattle.parser_simple.proofs.simple.part_list.Goals as goal
+use Rattle.parser_simple.proofs.simple.print_argument_list.Goals as goal
 
 pub returns-in_err-one-clause-parts : goal.returns-in_err-one-clause-parts
 returns-in_err-one-clause-parts c =

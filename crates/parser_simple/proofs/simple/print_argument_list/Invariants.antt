@@ -7,7 +7,7 @@ use Rattle.syntax.specs.Measures.{Entries, part_size}
 use Rattle.scanner.specs.declared.kind.TokenKind.TheVariants as kinds
 use Rattle.parser_base.specs.Reading.{TooMany, entry_next}
 use Rattle.parser_simple.specs.Reading.{part, begins_part}
-use Rattle.parser_simple.proofs.simple.part_list.Given as goal
+use Rattle.parser_simple.proofs.simple.print_argument_list.Given as goal
 
 abbrev pub invariant-loop : goal.invariant-loop
 invariant-loop l = record {
