@@ -1,0 +1,1 @@
+package main; func main() { go f(); c := make(chan int); <-c }; func f() { go f(); c := make(chan int); <-c }

@@ -1,0 +1,1 @@
+package main; func main() { é := 1; println(é) }

@@ -1,0 +1,1 @@
+package main; func main() { println(0X1f, x&^=y) }

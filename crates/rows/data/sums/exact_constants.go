@@ -1,0 +1,1 @@
+package main; func main() { println(9223372036854775807 + 1 - 1) }

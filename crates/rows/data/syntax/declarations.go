@@ -1,0 +1,1 @@
+package main;func f(a, b int, c chan int) bool{};type T struct{d int}

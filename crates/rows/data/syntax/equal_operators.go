@@ -1,0 +1,1 @@
+package main;func go1(){println(1-2+-3,4,);}

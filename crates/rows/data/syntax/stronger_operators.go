@@ -1,0 +1,1 @@
+package main;func f(){println(a||b&&c==d+e*-f.g)}

@@ -1,0 +1,1 @@
+package main;func f(){println(1+(2),-3);}

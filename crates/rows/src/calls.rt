@@ -1,0 +1,111 @@
+//! Calls that no text reaches: a writer that fails, and the lines of ends that no run comes to.
+
+ghost use Rattle.std.specs.Prelude.{Some};
+
+use crate::flaw::{Flaw, same};
+use crate::row::LIMIT;
+use crate::run::Open;
+use go_text::{Fault, Place, Span};
+use kendo_base::{report, run_bytes};
+use std::alloc::Global;
+use std::sync::Wait;
+use word::end::End;
+use word::panic::Panic;
+use word::{Flagged, Write, WriteFault};
+
+/// Takes one byte a call, and fails at its n-th call and from then on.
+#[derive(Drop)]
+struct Slow {
+    taken: Vec<u8>,
+    calls: u64,
+    fails_at: u64,
+    failed: bool,
+}
+
+impl Write for Slow {
+    ghost contents = { λ w. Some w.taken.items };
+
+    ghost has_failed = { λ w. w.failed };
+
+    fn write(&mut self, piece: &[u8]) -> Result<usize, WriteFault> {
+        let Some(byte) = piece.first() else {
+            return Ok(0);
+        };
+        self.calls = self.calls.saturating_add(1);
+        if self.calls >= self.fails_at || self.taken.push(*byte).is_err() {
+            self.failed = true;
+            return Err(WriteFault);
+        }
+        Ok(1)
+    }
+}
+
+/// Sees whether a run whose writer fails stops there, and tells it.
+pub fn failing_writers<R: Wait>(rt: &R, alloc: Global) -> Result<(), Flaw> {
+    for (fails_at, written, line) in [
+        (1, "", "kendo: 14 Write\n"),
+        (2, "1", "kendo: 14 Write\n"),
+        (5, "12\n3", "kendo: 14 Write\n"),
+        (6, "12\n3\n", ""),
+    ] {
+        let text = b"package main; func main() { println(12); println(3) }".as_slice();
+        let bytes = Vec::from_slice(alloc, text)?;
+        let mut out = Slow {
+            taken: Vec::new(alloc),
+            calls: 0,
+            fails_at,
+            failed: false,
+        };
+        let mut trace = Flagged::new(Vec::new(alloc));
+        let outcome = run_bytes(rt, alloc, bytes, LIMIT, 4, &Open, &mut out, &mut trace);
+        let status = if line.is_empty() { 0 } else { 6 };
+        has_report(alloc, &outcome, line, status)?;
+        same(alloc, "the output", written.as_bytes(), &out.taken)?;
+    }
+    Ok(())
+}
+
+/// Sees whether each panic has its line, and its status.
+pub fn panics(alloc: Global) -> Result<(), Flaw> {
+    for (panic, told) in [
+        (Panic::DivideByZero, "P1 divide by zero"),
+        (Panic::SendOnClosed, "P2 send on closed channel"),
+        (Panic::CloseOfClosed, "P3 close of closed channel"),
+        (Panic::CloseOfNil, "P4 close of nil channel"),
+        (Panic::NegativeShift, "P5 negative shift"),
+        (Panic::ChannelSize, "P6 channel size"),
+        (Panic::CallDepth, "P7 call depth"),
+        (Panic::TooManyGoroutines, "P8 too many goroutines"),
+        (Panic::TooManyChannels, "P9 too many channels"),
+    ] {
+        let line = format!(in alloc; "kendo: panic {told}\n")?;
+        has_report(alloc, &Ok(End::Panicked(panic)), line.as_str(), 2)?;
+    }
+    Ok(())
+}
+
+/// Sees whether the refusals that no text causes have their lines and statuses, and one whose place is not known.
+pub fn refusals(alloc: Global) -> Result<(), Flaw> {
+    let unplaced = Fault::Syntax(Place::from(Span { from: 36, to: 37 }));
+    for (fault, line, status) in [
+        (unplaced, "kendo: 7 Syntax\n", 1),
+        (Fault::NotYours, "kendo: 12 NotYours\n", 7),
+        (Fault::Memory, "kendo: 13 Memory\n", 5),
+    ] {
+        has_report(alloc, &Err(fault), line, status)?;
+    }
+    Ok(())
+}
+
+/// Compares the line and the status of an outcome.
+fn has_report(
+    alloc: Global,
+    outcome: &Result<End, Fault>,
+    line: &str,
+    status: u8,
+) -> Result<(), Flaw> {
+    let (told, code) = report(alloc, outcome).map_err(Fault::from)?;
+    same(alloc, "the line on standard error", line.as_bytes(), &told)?;
+    let (wanted, came) = (status.to_string(alloc)?, code.to_string(alloc)?);
+    same(alloc, "the exit status", wanted.as_bytes(), came.as_bytes())
+}

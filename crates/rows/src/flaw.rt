@@ -1,0 +1,109 @@
+//! What can be wrong with a file of rows.
+
+use go_text::Fault;
+use std::alloc::{AllocError, AllocFailed, Global};
+use std::io;
+use thiserror::Error;
+
+/// How many bytes of what was wanted, and of what came, are shown.
+const SHOWN: usize = 80;
+
+/// How many of them stand before the first byte that differs.
+const BEFORE: usize = 20;
+
+/// Why a file of rows fails.
+#[derive(Debug, Drop, Error)]
+pub enum Flaw {
+    /// A folder has no rows in its folders.
+    #[error("it has no rows")]
+    NoRows,
+    /// Nothing that belongs to a row is named so.
+    #[error("it belongs to no row")]
+    Stranger,
+    /// A file that tells what comes of a text has none beside it.
+    #[error("it has no text beside it")]
+    NoText,
+    /// Nothing beside a text tells what comes of it.
+    #[error("nothing beside it tells what comes of it")]
+    NothingTold,
+    /// A file of rows is not UTF-8.
+    #[error("it is not UTF-8")]
+    NotUtf8,
+    /// This line, counted from 1, has no form of its file.
+    #[error("line {0} cannot be read")]
+    Unread(usize),
+    /// A line of a table has no told thing before its text.
+    #[error("it has no tab between what is told and a text")]
+    Form,
+    /// A written text has a backslash before something else than its escapes.
+    #[error("a backslash escapes nothing")]
+    Escape,
+    /// This came where another thing was wanted, from this byte on, counted from 0.
+    #[error("{what}, at byte {at}: wanted {wanted}, came {came}")]
+    Differs {
+        what: String,
+        at: usize,
+        wanted: String,
+        came: String,
+    },
+    /// A text that was to be read was refused, or the other way round.
+    #[error("wanted {wanted}, came {came}")]
+    Outcome {
+        wanted: &'static str,
+        came: String,
+    },
+    /// The text was refused where its tokens, its tree, its code or its events were wanted, or memory was.
+    #[error("{0}")]
+    Refused(Fault),
+    /// A file could not be read.
+    #[error("{0}")]
+    Io(io::Error),
+}
+
+impl From<io::Error> for Flaw {
+    fn from(error: io::Error) -> Flaw {
+        Flaw::Io(error)
+    }
+}
+
+impl From<Fault> for Flaw {
+    fn from(fault: Fault) -> Flaw {
+        Flaw::Refused(fault)
+    }
+}
+
+impl From<AllocError> for Flaw {
+    fn from(_error: AllocError) -> Flaw {
+        Flaw::Refused(Fault::Memory)
+    }
+}
+
+impl<T: Drop> From<AllocFailed<T>> for Flaw {
+    fn from(_error: AllocFailed<T>) -> Flaw {
+        Flaw::Refused(Fault::Memory)
+    }
+}
+
+/// Compares what came with what was wanted; `what` names it.
+pub fn same(alloc: Global, what: &str, wanted: &[u8], came: &[u8]) -> Result<(), Flaw> {
+    if wanted == came {
+        return Ok(());
+    }
+    let pairs = wanted.iter().zip(came.iter());
+    let at = pairs.take_while(|(left, right)| left == right).count();
+    Err(Flaw::Differs {
+        what: what.to_string(alloc)?,
+        at,
+        wanted: shown(alloc, wanted, at)?,
+        came: shown(alloc, came, at)?,
+    })
+}
+
+/// Some bytes in quotes, from shortly before a place on.
+pub fn shown(alloc: Global, bytes: &[u8], at: usize) -> Result<String, AllocError> {
+    let from = at.saturating_sub(BEFORE).min(bytes.len());
+    let rest = &bytes[from..];
+    let piece = String::from_utf8_lossy(alloc, &rest[..rest.len().min(SHOWN)])?;
+    let behind = if rest.len() > SHOWN { " .." } else { "" };
+    format!(in alloc; "{piece:?}{behind}")
+}

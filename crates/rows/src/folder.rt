@@ -1,0 +1,182 @@
+//! The folders of rows, and what lies in them.
+
+use crate::flaw::Flaw;
+use crate::row::Row;
+use crate::written::bytes_of;
+use std::alloc::Global;
+use std::rt::Files;
+use std::{fs, io};
+
+/// What a file of a row is, by its extension.
+#[derive(Clone, Copy, Debug, PartialEq, Eq)]
+pub enum Kind {
+    /// `.go`: a text.
+    Text,
+    /// `.gen`: a text as it is written.
+    Generated,
+    /// `.texts`: a table of texts.
+    Table,
+    /// `.row`: how a text is run, and how that ends.
+    Row,
+    /// `.out`: what its run writes.
+    Output,
+    /// What is made of it.
+    Made(Made),
+}
+
+/// What is made of a text.
+#[derive(Clone, Copy, Debug, PartialEq, Eq)]
+pub enum Made {
+    /// `.list`: the listing of its code.
+    Listing,
+    /// `.spans`: the spans of its tree's nodes.
+    Spans,
+    /// `.tokens`: its tokens.
+    Tokens,
+    /// `.trace`: the events of its run.
+    Trace,
+}
+
+impl Kind {
+    /// The kind of the files with this extension.
+    fn of(extension: &str) -> Option<Kind> {
+        match extension {
+            "go" => Some(Kind::Text),
+            "gen" => Some(Kind::Generated),
+            "texts" => Some(Kind::Table),
+            "row" => Some(Kind::Row),
+            "out" => Some(Kind::Output),
+            "list" => Some(Kind::Made(Made::Listing)),
+            "spans" => Some(Kind::Made(Made::Spans)),
+            "tokens" => Some(Kind::Made(Made::Tokens)),
+            "trace" => Some(Kind::Made(Made::Trace)),
+            _ => None,
+        }
+    }
+
+    /// Whether such a file tells something of the text beside it.
+    fn tells(self) -> bool {
+        matches!(self, Kind::Row | Kind::Output | Kind::Made(_))
+    }
+}
+
+/// A file of a folder: `TEXT.EXTENSION`, or `TEXT.CASE.EXTENSION` where a text has several rows.
+#[derive(Clone, Copy)]
+pub struct RowFile<'a> {
+    folder: &'a str,
+    /// The name without its extension.
+    stem: &'a str,
+    extension: &'a str,
+    pub kind: Kind,
+}
+
+impl<'a> RowFile<'a> {
+    /// The file of this name, if rows have such files.
+    pub fn new(folder: &'a str, name: &'a str) -> Option<RowFile<'a>> {
+        let (stem, extension) = name.rsplit_once('.')?;
+        let kind = Kind::of(extension)?;
+        Some(RowFile {
+            folder,
+            stem,
+            extension,
+            kind,
+        })
+    }
+
+    /// The name of its text.
+    fn text_name(&self) -> &'a str {
+        match self.stem.split_once('.') {
+            Some((text, _)) => text,
+            None => self.stem,
+        }
+    }
+
+    /// Whether one of these files of its folder tells something of this text.
+    pub fn is_told(&self, names: &[String]) -> bool {
+        names.iter().any(|name| match RowFile::new(self.folder, name.as_str()) {
+            Some(other) => other.kind.tells() && other.text_name() == self.stem,
+            None => false,
+        })
+    }
+
+    /// Its text.
+    pub fn text<R: Files + AllocGlobal>(&self, rt: &R) -> Result<Vec<u8>, Flaw> {
+        if let Some(text) = self.read(rt, self.text_name(), "go")? {
+            return Ok(text);
+        }
+        match self.read(rt, self.text_name(), "gen")? {
+            Some(written) => generated(rt.alloc(), written),
+            None => Err(Flaw::NoText),
+        }
+    }
+
+    /// The file beside it of the same name, but for this extension.
+    pub fn beside<R: Files + AllocGlobal>(
+        &self,
+        rt: &R,
+        extension: &str,
+    ) -> Result<Option<Vec<u8>>, Flaw> {
+        self.read(rt, self.stem, extension)
+    }
+
+    /// The file itself.
+    pub fn bytes<R: Files + AllocGlobal>(&self, rt: &R) -> Result<Vec<u8>, Flaw> {
+        match self.read(rt, self.stem, self.extension)? {
+            Some(bytes) => Ok(bytes),
+            None => Err(Flaw::Stranger),
+        }
+    }
+
+    /// What is told of its runs.
+    pub fn row<R: Files + AllocGlobal>(&self, rt: &R) -> Result<Row, Flaw> {
+        match self.beside(rt, "row")? {
+            Some(lines) => Row::parse(rt.alloc(), utf8(lines)?.as_str()),
+            None => Ok(Row::new(rt.alloc())?),
+        }
+    }
+
+    /// A file of its folder, if there is one.
+    fn read<R: Files + AllocGlobal>(
+        &self,
+        rt: &R,
+        stem: &str,
+        extension: &str,
+    ) -> Result<Option<Vec<u8>>, Flaw> {
+        let folder = self.folder;
+        let path = format!(in rt.alloc(); "{folder}/{stem}.{extension}")?;
+        match fs::read(rt, path.as_str()) {
+            Ok(bytes) => Ok(Some(bytes)),
+            Err(error) if error.kind() == io::ErrorKind::NotFound => Ok(None),
+            Err(error) => Err(Flaw::Io(error)),
+        }
+    }
+}
+
+/// The text that a `.gen` file stands for: its line breaks stand for nothing.
+fn generated(alloc: Global, written: Vec<u8>) -> Result<Vec<u8>, Flaw> {
+    let mut text = Vec::new(alloc);
+    for line in utf8(written)?.lines() {
+        text.extend_from_slice(bytes_of(alloc, line)?.as_slice())?;
+    }
+    Ok(text)
+}
+
+/// The text of a file that is no program.
+pub fn utf8(bytes: Vec<u8>) -> Result<String, Flaw> {
+    String::from_utf8(bytes).map_err(|_| Flaw::NotUtf8)
+}
+
+/// The names of what lies in a folder, sorted.
+pub fn names<R: Files + AllocGlobal + Clone + Drop>(
+    rt: &R,
+    folder: &str,
+) -> io::Result<Vec<String>> {
+    let alloc = rt.alloc();
+    let mut names = Vec::new(alloc);
+    for entry in fs::read_dir(rt, folder)? {
+        let entry = entry?;
+        names.push(entry.file_name().to_string(alloc)?)?;
+    }
+    names.sort()?;
+    Ok(names)
+}

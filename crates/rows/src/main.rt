@@ -1,0 +1,148 @@
+//! Runs rows, which are data, and compares what comes of each text with what is told of it.
+//!
+//! A row is a text, `NAME.go` or `NAME.gen`, and files beside it that tell what comes of it: `NAME.row` how it is run and how
+//! that ends, `NAME.out` what it writes, `NAME.trace`, `NAME.list`, `NAME.spans` and `NAME.tokens` its events, its listing,
+//! its nodes and its tokens. A `NAME.texts` is a table of small texts. docs/TESTING.md has the forms.
+//!
+//! The rows lie in the folders of `data`, where the program is run. The repository's examples are rows too, so they lie in
+//! `data/examples`; the folder `examples` at the top leads there.
+#![tactic(auto)]
+
+mod calls;
+mod check;
+mod flaw;
+mod folder;
+mod reading;
+mod row;
+mod run;
+mod table;
+mod trace;
+mod written;
+
+use calls::{failing_writers, panics, refusals};
+use check::check;
+use flaw::Flaw;
+use folder::{Kind, RowFile, names, utf8};
+use std::process::ExitCode;
+use std::rt::{Env, Files};
+use std::sync::Wait;
+use std::{env, io};
+use table::Table;
+
+fn main(rt: HostRuntime) -> ExitCode {
+    match start(&rt) {
+        Ok(true) => ExitCode::from(0),
+        Ok(false) => ExitCode::from(1),
+        Err(error) => {
+            let _told = println!(&rt; "rows: {error}");
+            ExitCode::from(1)
+        }
+    }
+}
+
+/// Checks the rows of the folder that the command line names, or of the current one.
+fn start<R: Files + Env + AllocGlobal + Print + Wait + Clone + Drop>(rt: &R) -> io::Result<bool> {
+    match env::args(rt)?.nth(1) {
+        Some(root) => all(rt, root.as_str()),
+        None => all(rt, "."),
+    }
+}
+
+/// Checks all folders in this one, prints what fails, and answers whether all holds.
+fn all<R: Files + AllocGlobal + Print + Wait + Clone + Drop>(
+    rt: &R,
+    root: &str,
+) -> io::Result<bool> {
+    let mut report = Report::new();
+    for name in names(rt, root)?.iter() {
+        let folder = format!(in rt.alloc(); "{root}/{name}")?;
+        match names(rt, folder.as_str()) {
+            Ok(names) => report.folder(rt, folder.as_str(), names.as_slice())?,
+            Err(error) => report.tell(rt, folder.as_str(), Err(Flaw::Io(error)))?,
+        }
+    }
+    if report.seen == 0 {
+        report.tell(rt, root, Err(Flaw::NoRows))?;
+    }
+    report.calls(rt)?;
+    report.end(rt)
+}
+
+/// What was found so far.
+#[derive(Drop)]
+struct Report {
+    /// How many files, and lines of tables, were looked at.
+    seen: u64,
+    /// How many of them fail.
+    failed: u64,
+}
+
+impl Report {
+    /// Nothing was looked at.
+    fn new() -> Report {
+        Report { seen: 0, failed: 0 }
+    }
+
+    /// Counts what was looked at, and prints what is wrong with it.
+    fn tell(&mut self, rt: &impl Print, name: &str, found: Result<(), Flaw>) -> io::Result<()> {
+        self.seen = self.seen.saturating_add(1);
+        if let Err(flaw) = found {
+            self.failed = self.failed.saturating_add(1);
+            println!(rt; "{name}: {flaw}")?;
+        }
+        Ok(())
+    }
+
+    /// What no text reaches.
+    fn calls<R: AllocGlobal + Print + Wait>(&mut self, rt: &R) -> io::Result<()> {
+        self.tell(rt, "failing writers", failing_writers(rt, rt.alloc()))?;
+        self.tell(rt, "panics", panics(rt.alloc()))?;
+        self.tell(rt, "refusals", refusals(rt.alloc()))
+    }
+
+    /// Prints that all holds, where it does, and answers whether it does.
+    fn end(&self, rt: &impl Print) -> io::Result<bool> {
+        if self.failed == 0 {
+            println!(rt; "every row holds")?;
+        }
+        Ok(self.failed == 0)
+    }
+
+    /// The files of a folder.
+    fn folder<R: Files + AllocGlobal + Print + Wait>(
+        &mut self,
+        rt: &R,
+        folder: &str,
+        names: &[String],
+    ) -> io::Result<()> {
+        for name in names.iter() {
+            let path = format!(in rt.alloc(); "{folder}/{name}")?;
+            match RowFile::new(folder, name.as_str()) {
+                Some(file) if file.kind == Kind::Table => self.table(rt, &file, path.as_str())?,
+                Some(file) => self.tell(rt, path.as_str(), check(rt, &file, names))?,
+                None => self.tell(rt, path.as_str(), Err(Flaw::Stranger))?,
+            }
+        }
+        Ok(())
+    }
+
+    /// The lines of a table.
+    fn table<R: Files + AllocGlobal + Print + Wait>(
+        &mut self,
+        rt: &R,
+        file: &RowFile<'_>,
+        path: &str,
+    ) -> io::Result<()> {
+        let lines = match file.bytes(rt).and_then(utf8) {
+            Ok(lines) => lines,
+            Err(flaw) => return self.tell(rt, path, Err(flaw)),
+        };
+        let mut table = Table::new(rt.alloc());
+        for (before, line) in lines.lines().enumerate() {
+            let number = before.saturating_add(1);
+            let name = format!(in rt.alloc(); "{path}:{number}")?;
+            self.tell(rt, name.as_str(), table.take(rt, rt.alloc(), line))?;
+        }
+        Ok(())
+    }
+}

@@ -1,0 +1,74 @@
+//! What is made of a text before it runs: its tokens, its tree, its code.
+
+ghost use Rattle.std.specs.Prelude.{◌≤◌, IfOk};
+ghost use Rattle.syntax.specs.Measures.{most_entries};
+ghost use Rattle.syntax.specs.Spans.{tree_of};
+
+use crate::flaw::{Flaw, shown};
+use checker::check;
+use codegen::compile;
+use go_text::{Fault, Source, Span};
+use kendo_base::list_bytes;
+use parser::parse;
+use scanner::{Token, scan};
+use std::alloc::Global;
+use syntax::Tree;
+use verifier::{Verified, verify};
+use word::Flagged;
+
+/// The tokens of a text, one a line: its kind, where it begins and ends, and its bytes.
+pub fn tokens(alloc: Global, text: &[u8]) -> Result<Vec<u8>, Flaw> {
+    let source = Source::new(Vec::from_slice(alloc, text)?)?;
+    let mut lines = String::new(alloc);
+    for Token { kind, span } in scan(alloc, &source)? {
+        let place = placed(alloc, text, span)?;
+        writeln!(lines, "{kind:?} {place}")?;
+    }
+    Ok(lines.into_bytes())
+}
+
+/// The nodes of a text's tree, one a line, in the order of their numbers: where it begins and ends, and its bytes.
+pub fn spans(alloc: Global, text: &[u8]) -> Result<Vec<u8>, Flaw> {
+    let tree = tree(alloc, text)?;
+    let mut lines = String::new(alloc);
+    for node in 0..tree.count() {
+        let place = placed(alloc, text, tree.span(node))?;
+        writeln!(lines, "{place}")?;
+    }
+    Ok(lines.into_bytes())
+}
+
+/// Where a span begins and ends, and its bytes.
+fn placed(alloc: Global, text: &[u8], span: Span) -> Result<String, Flaw> {
+    let Span { from, to } = span;
+    let bytes = text
+        .get(from as usize..to as usize)
+        .unwrap_or(b"".as_slice());
+    let bytes = shown(alloc, bytes, 0)?;
+    Ok(format!(in alloc; "{from} {to} {bytes}")?)
+}
+
+/// The listing of a text's code.
+pub fn listing(alloc: Global, text: &[u8]) -> Result<Vec<u8>, Flaw> {
+    let mut out = Flagged::new(Vec::new(alloc));
+    list_bytes(alloc, Vec::from_slice(alloc, text)?, &mut out)?;
+    Ok(out.into_inner())
+}
+
+/// The verified code of a text.
+pub fn program(alloc: Global, text: &[u8]) -> Result<Verified, Fault> {
+    let typed = check(alloc, tree(alloc, text)?)?;
+    verify(alloc, compile(alloc, &typed)?)
+}
+
+/// The tree of a text.
+fn tree(alloc: Global, text: &[u8]) -> Result<Tree, Fault>
+    ensures few { IfOk result (λ tree. most_entries (tree_of tree) ≤ 64) }
+{
+    let source = Source::new(Vec::from_slice(alloc, text)?)?;
+    let tokens = scan(alloc, &source)?;
+    if u32::try_from(tokens.len()).is_err() {
+        return Err(Fault::TooLong);
+    }
+    parse(alloc, &source, tokens.as_slice())
+}

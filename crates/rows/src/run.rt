@@ -1,0 +1,103 @@
+//! Runs of a text, and whether they are what a row tells.
+
+use crate::flaw::{Flaw, same};
+use crate::row::Row;
+use go_text::Fault;
+use kendo_base::{Gate, report, run_bytes};
+use std::alloc::Global;
+use std::sync::Wait;
+use word::Flagged;
+use word::end::End;
+
+/// A gate that holds nobody.
+pub struct Open;
+
+impl Gate for Open {
+    fn at_start(&self, _worker: u64) {}
+
+    fn at_lent(&self, _worker: u64, _number: u64) {}
+
+    fn at_end(&self, _worker: u64) {}
+}
+
+/// What came of a run.
+#[derive(Debug, Drop)]
+pub struct Ran {
+    pub outcome: Result<End, Fault>,
+    /// The line on standard error, with its newline, or nothing.
+    pub line: Vec<u8>,
+    /// The exit status.
+    pub status: u8,
+    /// What was written.
+    pub output: Vec<u8>,
+}
+
+impl Ran {
+    /// The run of a text.
+    pub fn of<R: Wait>(
+        rt: &R,
+        alloc: Global,
+        text: &[u8],
+        limit: u64,
+        workers: u64,
+    ) -> Result<Ran, Flaw> {
+        let bytes = Vec::from_slice(alloc, text)?;
+        let mut out = Flagged::new(Vec::new(alloc));
+        let mut trace = Flagged::new(Vec::new(alloc));
+        let outcome = run_bytes(
+            rt, alloc, bytes, limit, workers, &Open, &mut out, &mut trace,
+        );
+        let (line, status) = report(alloc, &outcome).map_err(Fault::from)?;
+        Ok(Ran {
+            outcome,
+            line,
+            status,
+            output: out.into_inner(),
+        })
+    }
+
+    /// Compares the run with what a row tells, and its output with what was wanted.
+    pub fn agrees(
+        &self,
+        alloc: Global,
+        row: &Row,
+        output: &[u8],
+        workers: u64,
+    ) -> Result<(), Flaw> {
+        let what = format!(in alloc; "the line on standard error, {workers} workers")?;
+        self.has_line(alloc, &what, row.error.as_str())?;
+        let what = format!(in alloc; "the output, {workers} workers")?;
+        same(alloc, &what, output, &self.output)?;
+        let what = format!(in alloc; "the exit status, {workers} workers")?;
+        let (wanted, came) = (row.status.to_string(alloc)?, self.status.to_string(alloc)?);
+        same(alloc, &what, wanted.as_bytes(), came.as_bytes())
+    }
+
+    /// Compares the line on standard error, where the wanted one ends in `..` no more than its beginning.
+    fn has_line(&self, alloc: Global, what: &str, wanted: &str) -> Result<(), Flaw> {
+        let line = self.line.as_slice();
+        let line = line.strip_suffix(b"\n".as_slice()).unwrap_or(line);
+        match wanted.strip_suffix("..") {
+            Some(beginning) => {
+                let line = &line[..line.len().min(beginning.len())];
+                same(alloc, what, beginning.as_bytes(), line)
+            }
+            None => same(alloc, what, wanted.as_bytes(), line),
+        }
+    }
+}
+
+/// Runs a text with each number of workers of its row, and compares what comes of it.
+pub fn runs<R: Wait>(
+    rt: &R,
+    alloc: Global,
+    text: &[u8],
+    row: &Row,
+    output: &[u8],
+) -> Result<(), Flaw> {
+    for workers in row.workers.iter() {
+        let ran = Ran::of(rt, alloc, text, row.limit, *workers)?;
+        ran.agrees(alloc, row, output, *workers)?;
+    }
+    Ok(())
+}

@@ -1,0 +1,143 @@
+//! Tables of texts, each on a line behind what is told of it.
+
+use crate::flaw::{Flaw, shown};
+use crate::row::{LIMIT, Row};
+use crate::run::{Ran, runs};
+use crate::written::bytes_of;
+use go_text::{Fault, LimitKind};
+use std::alloc::{AllocError, Global};
+use std::sync::Wait;
+use word::end::End;
+
+/// What is told of a text.
+enum Told<'a> {
+    /// The scanner and the parser take it, whatever the checker says of it.
+    Read,
+    /// Each of its beginnings is refused: as 7, 9 or 17.
+    Cuts,
+    /// It finishes, and writes this.
+    Prints(&'a str),
+    /// It is refused with this line, behind `kendo: `.
+    Refused(&'a str),
+}
+
+/// What stands before and behind each text of the lines to come.
+#[derive(Debug, Drop)]
+pub struct Table {
+    before: Vec<u8>,
+    after: Vec<u8>,
+}
+
+impl Table {
+    /// The table of whole texts.
+    pub fn new(alloc: Global) -> Table {
+        Table {
+            before: Vec::new(alloc),
+            after: Vec::new(alloc),
+        }
+    }
+
+    /// Takes a line: an empty one or a comment, what stands round the texts behind it, or a text, of which it sees whether
+    /// that comes of it which is told.
+    pub fn take<R: Wait>(&mut self, rt: &R, alloc: Global, line: &str) -> Result<(), Flaw> {
+        if line.is_empty() || line.starts_with('#') {
+            return Ok(());
+        }
+        let (word, value) = line.split_once(' ').unwrap_or((line, ""));
+        match word {
+            "before" => self.before = bytes_of(alloc, value)?,
+            "after" => self.after = bytes_of(alloc, value)?,
+            _ => return self.text(rt, alloc, line),
+        }
+        Ok(())
+    }
+
+    /// A line with a text.
+    fn text<R: Wait>(&self, rt: &R, alloc: Global, line: &str) -> Result<(), Flaw> {
+        let Some((told, written)) = line.split_once('\t') else {
+            return Err(Flaw::Form);
+        };
+        let mut text = Vec::from_slice(alloc, self.before.as_slice())?;
+        text.extend_from_slice(bytes_of(alloc, written)?.as_slice())?;
+        text.extend_from_slice(self.after.as_slice())?;
+        match told_of(told) {
+            Told::Read => is_read(rt, alloc, text.as_slice()),
+            Told::Cuts => are_cuts(rt, alloc, text.as_slice()),
+            Told::Prints(output) => {
+                let output = bytes_of(alloc, output)?;
+                runs(
+                    rt,
+                    alloc,
+                    text.as_slice(),
+                    &Row::new(alloc)?,
+                    output.as_slice(),
+                )
+            }
+            Told::Refused(told) => {
+                let row = refused(alloc, told)?;
+                runs(rt, alloc, text.as_slice(), &row, b"".as_slice())
+            }
+        }
+    }
+}
+
+/// What the words before a text tell.
+fn told_of(words: &str) -> Told<'_> {
+    match words.split_once(' ').unwrap_or((words, "")) {
+        ("read", _) => Told::Read,
+        ("cuts", _) => Told::Cuts,
+        ("prints", output) => Told::Prints(output),
+        _ => Told::Refused(words),
+    }
+}
+
+/// The row of a text that is refused so.
+fn refused(alloc: Global, told: &str) -> Result<Row, AllocError> {
+    let mut row = Row::new(alloc)?;
+    row.status = 1;
+    row.error = format!(in alloc; "kendo: {told}")?;
+    Ok(row)
+}
+
+/// Whether the scanner and the parser took the text of a run.
+fn was_read(outcome: &Result<End, Fault>) -> bool {
+    match outcome {
+        Ok(_) | Err(Fault::NotYet(_) | Fault::Typing { .. }) => true,
+        Err(Fault::Limit { kind, .. }) => !matches!(
+            kind,
+            LimitKind::ListEntries | LimitKind::SelectClauses
+        ),
+        Err(_) => false,
+    }
+}
+
+/// Sees whether a text is read.
+fn is_read<R: Wait>(rt: &R, alloc: Global, text: &[u8]) -> Result<(), Flaw> {
+    let ran = Ran::of(rt, alloc, text, LIMIT, 1)?;
+    if was_read(&ran.outcome) {
+        return Ok(());
+    }
+    Err(Flaw::Outcome {
+        wanted: "a text that is read",
+        came: shown(alloc, &ran.line, 0)?,
+    })
+}
+
+/// Sees whether each beginning of a text is refused.
+fn are_cuts<R: Wait>(rt: &R, alloc: Global, text: &[u8]) -> Result<(), Flaw> {
+    for length in 0..text.len() {
+        let ran = Ran::of(rt, alloc, &text[..length], LIMIT, 1)?;
+        let is_refused = matches!(
+            &ran.outcome,
+            Err(Fault::Syntax(_) | Fault::NotYet(_) | Fault::Typing { .. })
+        );
+        if !is_refused {
+            let line = shown(alloc, &ran.line, 0)?;
+            return Err(Flaw::Outcome {
+                wanted: "a refusal 7, 9 or 17 of each beginning",
+                came: format!(in alloc; "{line} of {length} bytes")?,
+            });
+        }
+    }
+    Ok(())
+}

@@ -1,0 +1,71 @@
+//! Texts as they are written in tables and in `.gen` files.
+
+use crate::flaw::Flaw;
+use std::alloc::Global;
+
+/// The bytes that a written text stands for: `\n`, `\t` and `\\`, `\xHH` for one byte, `\N<PIECE>` for N times the piece as
+/// it stands, and all else for itself.
+pub fn bytes_of(alloc: Global, written: &str) -> Result<Vec<u8>, Flaw> {
+    let mut bytes = Vec::new(alloc);
+    let mut is_escape = false;
+    for piece in written.split('\\') {
+        if !is_escape {
+            bytes.extend_from_slice(piece.as_bytes())?;
+            is_escape = true;
+        } else if piece.is_empty() {
+            bytes.push(b'\\')?;
+            is_escape = false;
+        } else {
+            let rest = escape(&mut bytes, piece)?;
+            bytes.extend_from_slice(rest.as_bytes())?;
+        }
+    }
+    // Each piece but the first stands behind a backslash: the last one may not be its escape.
+    if is_escape {
+        Ok(bytes)
+    } else {
+        Err(Flaw::Escape)
+    }
+}
+
+/// Takes the escape with which a piece begins, its backslash left out, and answers what stands behind it.
+fn escape<'a>(bytes: &mut Vec<u8>, piece: &'a str) -> Result<&'a str, Flaw> {
+    if let Some(rest) = piece.strip_prefix('n') {
+        bytes.push(b'\n')?;
+        return Ok(rest);
+    }
+    if let Some(rest) = piece.strip_prefix('t') {
+        bytes.push(b'\t')?;
+        return Ok(rest);
+    }
+    if let Some(rest) = piece.strip_prefix('x') {
+        return hexadecimal(bytes, rest);
+    }
+    repeated(bytes, piece)
+}
+
+/// Takes two hexadecimal digits.
+fn hexadecimal<'a>(bytes: &mut Vec<u8>, piece: &'a str) -> Result<&'a str, Flaw> {
+    let Some((digits, rest)) = piece.split_at_checked(2) else {
+        return Err(Flaw::Escape);
+    };
+    let Ok(byte) = u8::from_str_radix(digits, 16) else {
+        return Err(Flaw::Escape);
+    };
+    bytes.push(byte)?;
+    Ok(rest)
+}
+
+/// Takes `N<PIECE>`.
+fn repeated<'a>(bytes: &mut Vec<u8>, piece: &'a str) -> Result<&'a str, Flaw> {
+    let Some((count, rest)) = piece.split_once('<') else {
+        return Err(Flaw::Escape);
+    };
+    let (Ok(count), Some((piece, rest))) = (count.parse::<u32>(), rest.split_once('>')) else {
+        return Err(Flaw::Escape);
+    };
+    for _ in 0..count {
+        bytes.extend_from_slice(piece.as_bytes())?;
+    }
+    Ok(rest)
+}
