@@ -1,6 +1,6 @@
 -- What a command finds in a text, and the exit status that tells it.
-use Rattle.std.proofs.Common.{◌≡◌, ℕ, ◌≤◌, ◌⊎◌, inl, inr, List, Result, Ok, Err, IfOk, IfErr, refl, sym, subst, arith}
-use Rattle.kendo.specs.Answers.{EndsAs, Finds, HasReading, IsStatus, Tells}
+use Rattle.std.proofs.Common.{◌≡◌, ℕ, ◌≤◌, ◌⊎◌, inl, inr, List, Result, Ok, Err, IfOk, IfErr, IsErrOf, refl, sym, ap, subst, arith}
+use Rattle.kendo.specs.Answers.{EndsAs, Finds, HasReading, IsReason, IsStatus, Tells}
 use Rattle.kendo.specs.declared.arguments.Subcommand.{Subcommand}
 use Rattle.kendo.specs.declared.arguments.Subcommand.TheVariants as subcommands
 use Rattle.kendo_base.specs.Outcome.{fault_status, report_status}
@@ -11,49 +11,69 @@ use Rattle.go_text.specs.declared.fault.Fault.TheVariants as faults
 use Rattle.word.specs.declared.end.End.{End}
 use Rattle.word.specs.declared.end.End.TheVariants.{Finished, Panicked, Deadlock, Exhausted}
 
+-- why a text is refused
+unreadable : (subcommand : Subcommand) (text : List ℕ) (fault : Fault) → IsRefusal fault → HasNoReading text → IsWhy text fault → IsReason subcommand text fault
+unreadable subcommand text faults.TooLong is none why = (none, why)
+unreadable subcommand text faults.NotUtf8 is none why = (none, why)
+unreadable subcommand text (faults.BadCharacter place) is none why = (none, why)
+unreadable subcommand text (faults.BadNumber place) is none why = (none, why)
+unreadable subcommand text (faults.OpenString place) is none why = (none, why)
+unreadable subcommand text (faults.OpenComment place) is none why = (none, why)
+unreadable subcommand text (faults.Syntax place) is none why = (none, why)
+unreadable subcommand text (faults.TooDeep place) is none why = (none, why)
+unreadable subcommand text (faults.Typing rule at place) is none why = (none, why)
+unreadable subcommand text (faults.Limit kind at place) is none why = (none, why)
+unreadable subcommand text (faults.NotYet place) is none why = (none, why)
+unreadable subcommand text (faults.Unverified rule function at) is none why = absurd cc
+unreadable subcommand text faults.NotYours is none why = absurd cc
+unreadable subcommand text faults.BadWorkers is none why = absurd cc
+unreadable subcommand text faults.BadLimit is none why = absurd cc
+unreadable subcommand text faults.Memory is none why = tt
+unreadable subcommand text faults.Write is none why = absurd cc
+
 pub list_finds : (text : List ℕ) (result : Result End Fault) → IfOk result (λ end. (end ≡ Finished) × HasReading text)
-    → IfErr result (λ fault. IsRefusal fault ⊎ (13 ≤ fault_number fault)) → IfErr result (λ fault. IsRefusal fault → HasNoReading text)
-    → IfErr result (λ fault. IsRefusal fault → IsWhy text fault) → Finds subcommands.List text result
-list_finds text (Ok end) listed only refused why = listed
-list_finds text (Err fault) listed only refused why = (only, λ is. (refused is, why is))
+    → IfErr result (λ fault. IsRefusal fault ⊎ ((fault ≡ faults.Memory) ⊎ (fault ≡ faults.Write))) → IfErr result (λ fault. IsRefusal fault → HasNoReading text)
+    → IfErr result (λ fault. IsRefusal fault → IsWhy text fault) → (IsErrOf result faults.Write → HasReading text) → Finds subcommands.List text result
+list_finds text (Ok end) listed only refused why write = listed
+list_finds text (Err fault) listed (inl is) refused why write = unreadable subcommands.List text fault is (refused is) (why is)
+list_finds text (Err fault) listed (inr (inl is)) refused why write = subst (IsReason subcommands.List text) (sym is) tt
+list_finds text (Err fault) listed (inr (inr is)) refused why write = subst (IsReason subcommands.List text) (sym is) (write (ap (λ (f : Fault). Err f) is))
+
+-- a fault that is no refusal of the text
+run_reason : (workers limit : ℕ) (text : List ℕ) (fault : Fault) → 13 ≤ fault_number fault → (IsRefusal fault → IsReason (subcommands.Run workers limit) text fault) → (IsErrOf {T = End} (Err fault) faults.Write → HasReading text)
+    → (IsErrOf {T = End} (Err fault) faults.BadWorkers → IsWorkers workers → ⊥) → (IsErrOf {T = End} (Err fault) faults.BadLimit → IsWorkers workers × (IsLimit limit → ⊥)) → IsReason (subcommands.Run workers limit) text fault
+run_reason workers limit text faults.Memory is refused write bad_workers bad_limit = tt
+run_reason workers limit text faults.Write is refused write bad_workers bad_limit = write refl
+run_reason workers limit text faults.BadWorkers is refused write bad_workers bad_limit = bad_workers refl
+run_reason workers limit text faults.BadLimit is refused write bad_workers bad_limit = bad_limit refl
+run_reason workers limit text (faults.NotYet place) is refused write bad_workers bad_limit = refused refl
+run_reason workers limit text fault is refused write bad_workers bad_limit = absurd (omega (arith, is))
 
 pub run_finds : (workers limit : ℕ) (text : List ℕ) (result : Result End Fault) → IfOk result (λ end. IsWorkers workers × IsLimit limit × EndsAs text limit end)
     → IfErr result (λ fault. IsRefusal fault ⊎ (13 ≤ fault_number fault)) → IfErr result (λ fault. IsRefusal fault → HasNoReading text)
-    → IfErr result (λ fault. IsRefusal fault → IsWhy text fault) → Finds (subcommands.Run workers limit) text result
-run_finds workers limit text (Ok end) ends only refused why = ends
-run_finds workers limit text (Err fault) ends only refused why = (only, λ is. (refused is, why is))
+    → IfErr result (λ fault. IsRefusal fault → IsWhy text fault) → (IsErrOf result faults.Write → HasReading text) → (IsErrOf result faults.BadWorkers → IsWorkers workers → ⊥)
+    → (IsErrOf result faults.BadLimit → IsWorkers workers × (IsLimit limit → ⊥)) → Finds (subcommands.Run workers limit) text result
+run_finds workers limit text (Ok end) ends only refused why write bad_workers bad_limit = ends
+run_finds workers limit text (Err fault) ends (inl is) refused why write bad_workers bad_limit = unreadable (subcommands.Run workers limit) text fault is (refused is) (why is)
+run_finds workers limit text (Err fault) ends (inr is) refused why write bad_workers bad_limit =
+    run_reason workers limit text fault is (λ refusal. unreadable (subcommands.Run workers limit) text fault refusal (refused refusal) (why refusal)) write bad_workers bad_limit
 
 pub told : (subcommand : Subcommand) (text : List ℕ) (outcome : Result End Fault) (status : ℕ) → Finds subcommand text outcome → status ≡ report_status outcome
     → (status ≡ 64) ⊎ Tells subcommand status
 told subcommand text outcome status finds is = inr (text, outcome, finds, is)
 
-fault_is : (fault : Fault) → IsRefusal fault ⊎ (13 ≤ fault_number fault) → IsStatus (fault_status fault)
-fault_is faults.TooLong only = inl (omega arith)
-fault_is faults.NotUtf8 only = inl (omega arith)
-fault_is (faults.BadCharacter place) only = inl (omega arith)
-fault_is (faults.BadNumber place) only = inl (omega arith)
-fault_is (faults.OpenString place) only = inl (omega arith)
-fault_is (faults.OpenComment place) only = inl (omega arith)
-fault_is (faults.Syntax place) only = inl (omega arith)
-fault_is (faults.TooDeep place) only = inl (omega arith)
-fault_is (faults.Typing rule at place) only = inl (omega arith)
-fault_is (faults.Limit kind at place) only = inl (omega arith)
-fault_is (faults.Unverified rule function at) only = inl (omega arith)
-fault_is faults.NotYours (inl is) = absurd cc
-fault_is faults.NotYours (inr is) = absurd (omega (arith, is))
-fault_is faults.Memory only = inl (omega arith)
-fault_is faults.Write only = inl (omega arith)
-fault_is faults.BadWorkers only = inr refl
-fault_is faults.BadLimit only = inr refl
-fault_is (faults.NotYet place) only = inl (omega arith)
+fault_is : (subcommand : Subcommand) (text : List ℕ) (fault : Fault) → IsReason subcommand text fault → IsStatus (fault_status fault)
+fault_is subcommand text faults.NotYours is = elim is [ ]
+fault_is subcommand text faults.BadWorkers is = inr refl
+fault_is subcommand text faults.BadLimit is = inr refl
+fault_is subcommand text fault is = inl (omega arith)
 
 outcome_is : (subcommand : Subcommand) (text : List ℕ) (outcome : Result End Fault) → Finds subcommand text outcome → IsStatus (report_status outcome)
 outcome_is subcommand text (Ok Finished) finds = inl (omega arith)
 outcome_is subcommand text (Ok (Panicked cause)) finds = inl (omega arith)
 outcome_is subcommand text (Ok Deadlock) finds = inl (omega arith)
 outcome_is subcommand text (Ok Exhausted) finds = inl (omega arith)
-outcome_is subcommands.List text (Err fault) finds = fault_is fault finds.0
-outcome_is (subcommands.Run workers limit) text (Err fault) finds = fault_is fault finds.0
+outcome_is subcommand text (Err fault) finds = fault_is subcommand text fault finds
 
 pub told_status : (subcommand : Subcommand) (status : ℕ) → (status ≡ 64) ⊎ Tells subcommand status → IsStatus status
 told_status subcommand status (inl is) = inr is

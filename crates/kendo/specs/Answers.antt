@@ -12,9 +12,10 @@ use Rattle.kendo.specs.declared.arguments.Subcommand.{Subcommand}
 use Rattle.kendo.specs.declared.arguments.Subcommand.TheVariants as subcommands
 use Rattle.kendo.specs.declared.arguments.Invocation.{Invocation}
 use Rattle.kendo_base.specs.Outcome.{report_status}
-use Rattle.kendo_base.specs.Reading.{HasNoReading, IsRefusal, IsWhy, Reads, fault_number}
+use Rattle.kendo_base.specs.Reading.{HasNoReading, IsWhy, Reads}
 use Rattle.kendo_base.specs.Runs.{IsLimit, IsWorkers}
 use Rattle.go_text.specs.declared.fault.Fault.{Fault}
+use Rattle.go_text.specs.declared.fault.Fault.TheVariants as faults
 use Rattle.syntax.specs.Tree.{File}
 use Rattle.word.specs.declared.end.End.{End}
 use Rattle.word.specs.declared.end.End.TheVariants.{Finished}
@@ -28,12 +29,24 @@ HasReading text = (file : File) × Reads text file
 abbrev pub EndsAs : List ℕ → ℕ → End → Type 0
 EndsAs text limit end = (file : File) × (n : ℕ) × Reads text file × (end_of (moment (source_kind file) limit n) ≡ Some end)
 
--- what the command finds in the text: that it has a reading, or how its run ends; a refusal of the text tells why
--- it has none
+-- why the command finds no end: want of memory; a writer that refused bytes, of a text that has a reading; workers or a
+-- limit out of their bounds; or, by this fault, why the text has no reading
+abbrev pub IsReason : Subcommand → List ℕ → Fault → Type 0
+IsReason subcommand text faults.Memory = Unit {0}
+IsReason subcommand text faults.Write = HasReading text
+IsReason subcommands.List text faults.BadWorkers = ⊥
+IsReason subcommands.List text faults.BadLimit = ⊥
+IsReason (subcommands.Run workers limit) text faults.BadWorkers = IsWorkers workers → ⊥
+IsReason (subcommands.Run workers limit) text faults.BadLimit = IsWorkers workers × (IsLimit limit → ⊥)
+IsReason subcommand text (faults.Unverified rule function place) = ⊥
+IsReason subcommand text faults.NotYours = ⊥
+IsReason subcommand text fault = HasNoReading text × IsWhy text fault
+
+-- what the command finds in the text: that it has a reading, or how its run ends, or why neither
 abbrev pub Finds : Subcommand → List ℕ → Result End Fault → Type 0
 Finds subcommands.List text (Ok end) = (end ≡ Finished) × HasReading text
 Finds (subcommands.Run workers limit) text (Ok end) = IsWorkers workers × IsLimit limit × EndsAs text limit end
-Finds subcommand text (Err fault) = (IsRefusal fault ⊎ (13 ≤ fault_number fault)) × (IsRefusal fault → HasNoReading text × IsWhy text fault)
+Finds subcommand text (Err fault) = IsReason subcommand text fault
 
 -- an exit status that tells what was found in some text
 abbrev pub Tells : Subcommand → ℕ → Type 0

@@ -155,7 +155,7 @@ fn perform(
 }
 
 /// What the command finds in the text, which it lists or runs.
-#[tactic(auto, using(crate::proofs::Findings::list_finds, crate::proofs::Findings::run_finds))]
+#[tactic(auto, using(crate::proofs::Findings::list_finds))]
 fn find(
     rt: &HostRuntime,
     leave: &impl Wait,
@@ -185,8 +185,8 @@ fn list(rt: &HostRuntime, alloc: Global, bytes: Vec<u8>) -> Result<End, Fault>
     ensures listed { IfOk result (λ end. (end ≡ End.Finished) × HasReading bytes.items) }
     ensures refused { IfErr result (λ fault. IsRefusal fault → HasNoReading bytes.items) }
     ensures why { IfErr result (λ fault. IsRefusal fault → IsWhy bytes.items fault) }
-    ensures only { IfErr result (λ fault. IsRefusal fault ⊎ (13 ≤ fault_number fault)) }
-    ensures neither { IfErr result (λ fault. (fault ≡ Fault.BadWorkers → ⊥) × (fault ≡ Fault.BadLimit → ⊥)) }
+    ensures write { IsErrOf result Fault.Write → HasReading bytes.items }
+    ensures only { IfErr result (λ fault. IsRefusal fault ⊎ ((fault ≡ Fault.Memory) ⊎ (fault ≡ Fault.Write))) }
 {
     let stdout = BufWriter::new(alloc, rt.stdout()).map_err(|_| Fault::Memory)?;
     let mut out = Flagged::new(stdout);
@@ -209,6 +209,7 @@ fn run(
     ensures why { IfErr result (λ fault. IsRefusal fault → IsWhy bytes.items fault) }
     ensures workers { IsErrOf result Fault.BadWorkers → IsWorkers workers → ⊥ }
     ensures limit { IsErrOf result Fault.BadLimit → IsWorkers workers × (IsLimit limit → ⊥) }
+    ensures write { IsErrOf result Fault.Write → HasReading bytes.items }
     ensures only { IfErr result (λ fault. IsRefusal fault ⊎ (13 ≤ fault_number fault)) }
 {
     let stdout = BufWriter::new(alloc, rt.stdout()).map_err(|_| Fault::Memory)?;
