@@ -317,15 +317,7 @@ pub(crate) fn instr(
         Instr::Loop(to) => Ok(tick_to(may, frame, to as usize, at)),
         Instr::Call(function) => Ok(call_from(alloc, code, may, frame, callers, function, at)?),
         Instr::Return => Ok(leave_from(alloc, frame, callers, at)?),
-        Instr::Make(_)
-        | Instr::Go(_)
-        | Instr::Send(_)
-        | Instr::Receive(_)
-        | Instr::Close
-        | Instr::Len
-        | Instr::Cap
-        | Instr::Print(_)
-        | Instr::Select(_) => Ok(Stepped::Asking),
+        _ => Ok(Stepped::Asking),
     }
 }
 

@@ -138,17 +138,7 @@ fn ask(
             Ok(Some(Request::Print(text)))
         }
         Instr::Select(table) => Ok(select(alloc, code, frame, table, at)?),
-        Instr::Int(_)
-        | Instr::Bool(_)
-        | Instr::Nil(_)
-        | Instr::Load(_, _)
-        | Instr::Store(_, _)
-        | Instr::Pick(_, _, _)
-        | Instr::Discard(_)
-        | Instr::Tick
-        | Instr::Jump(_)
-        | Instr::Unless(_)
-        | Instr::Loop(_) => Ok(None),
+        _ => Ok(None),
     }
 }
 
@@ -200,15 +190,7 @@ fn asks(at_limit: bool, frame: &Frame, callers: &CallStack, i: Instr, at: usize)
         | Instr::Cap
         | Instr::Print(_)
         | Instr::Select(_) => true,
-        Instr::Int(_)
-        | Instr::Bool(_)
-        | Instr::Nil(_)
-        | Instr::Load(_, _)
-        | Instr::Store(_, _)
-        | Instr::Pick(_, _, _)
-        | Instr::Discard(_)
-        | Instr::Jump(_)
-        | Instr::Unless(_) => false,
+        _ => false,
     }
 }
 

@@ -72,4 +72,3 @@ no_more code made clauses words some i index d all h e is inv =
     ∙ ap (λ (ws : List Word). also (case_of (get_or clauses i d) ws) o) (sym e)
     ∙ ap (λ x. also x o) is ∙ also_none o in
     sym inv ∙ ap (prefixed made) step
-

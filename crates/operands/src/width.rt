@@ -61,27 +61,7 @@ pub fn arity(op: Op) -> usize
 {
     match op {
         Op::Neg | Op::Com | Op::Not => 1,
-        Op::Add
-        | Op::Sub
-        | Op::Mul
-        | Op::Div
-        | Op::Rem
-        | Op::And
-        | Op::Or
-        | Op::Xor
-        | Op::AndNot
-        | Op::Shl
-        | Op::Shr
-        | Op::EqInt
-        | Op::NeInt
-        | Op::Lt
-        | Op::Le
-        | Op::Gt
-        | Op::Ge
-        | Op::EqBool
-        | Op::NeBool
-        | Op::EqChan
-        | Op::NeChan => 2,
+        _ => 2,
     }
 }
 
@@ -135,12 +115,6 @@ pub fn pops_of(code: &Code, f: &Function, i: Instr) -> usize
             None => 0,
         },
         Instr::Select(q) => select_width(code, q),
-        Instr::Int(_)
-        | Instr::Bool(_)
-        | Instr::Nil(_)
-        | Instr::Load(_, _)
-        | Instr::Tick
-        | Instr::Jump(_)
-        | Instr::Loop(_) => 0,
+        _ => 0,
     }
 }

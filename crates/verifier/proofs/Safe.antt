@@ -1,5 +1,5 @@
 -- Verified code is never stuck and breaks no rule.
-use Rattle.std.proofs.Common.{◌≡◌, ℕ, Some, sym, ◌∙◌, subst, inl, inr}
+use Rattle.std.proofs.Common.{ℕ, sym, ◌∙◌, subst, inl, inr}
 use Rattle.bytecode.specs.declared.rule.Rule.{Rule}
 use Rattle.bytecode.specs.declared.rule.Rule.TheVariants.{Names, Targets, Paths, Calls, Returns, Locals, Tables, Main}
 use Rattle.bytecode.specs.Code.{Function, Code}

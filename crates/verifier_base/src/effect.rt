@@ -31,23 +31,7 @@ fn operands(alloc: Global, op: Op) -> Result<Need, AllocError>
         Op::Not => Ok(Need::These(vec![in alloc; WordKind::Bool]?)),
         Op::EqBool | Op::NeBool => Ok(Need::These(vec![in alloc; WordKind::Bool, WordKind::Bool]?)),
         Op::EqChan | Op::NeChan => Ok(Need::Channels),
-        Op::Add
-        | Op::Sub
-        | Op::Mul
-        | Op::Div
-        | Op::Rem
-        | Op::And
-        | Op::Or
-        | Op::Xor
-        | Op::AndNot
-        | Op::Shl
-        | Op::Shr
-        | Op::EqInt
-        | Op::NeInt
-        | Op::Lt
-        | Op::Le
-        | Op::Gt
-        | Op::Ge => Ok(Need::These(vec![in alloc; WordKind::Int, WordKind::Int]?)),
+        _ => Ok(Need::These(vec![in alloc; WordKind::Int, WordKind::Int]?)),
     }
 }
 
@@ -153,13 +137,7 @@ fn wanted(alloc: Global, code: &Code, f: &Function, i: Instr) -> Result<Need, Al
             let clauses = clauses_of(code, q);
             Ok(Need::These(operands_of_clauses(alloc, code, clauses)?))
         }
-        Instr::Int(_)
-        | Instr::Bool(_)
-        | Instr::Nil(_)
-        | Instr::Load(_, _)
-        | Instr::Tick
-        | Instr::Jump(_)
-        | Instr::Loop(_) => Ok(Need::Some(0)),
+        _ => Ok(Need::Some(0)),
     }
 }
 
@@ -209,19 +187,7 @@ fn outcome(op: Op) -> WordKind
         | Op::NeBool
         | Op::EqChan
         | Op::NeChan => WordKind::Bool,
-        Op::Add
-        | Op::Sub
-        | Op::Mul
-        | Op::Div
-        | Op::Rem
-        | Op::And
-        | Op::Or
-        | Op::Xor
-        | Op::AndNot
-        | Op::Shl
-        | Op::Shr
-        | Op::Neg
-        | Op::Com => WordKind::Int,
+        _ => WordKind::Int,
     }
 }
 
@@ -283,17 +249,7 @@ fn give(
             let clauses = clauses_of(code, q);
             Ok(give_clause(code, clauses.get(way).copied(), out)?)
         }
-        Instr::Store(_, _)
-        | Instr::Discard(_)
-        | Instr::Tick
-        | Instr::Jump(_)
-        | Instr::Unless(_)
-        | Instr::Loop(_)
-        | Instr::Return
-        | Instr::Go(_)
-        | Instr::Send(_)
-        | Instr::Close
-        | Instr::Print(_) => Ok(()),
+        _ => Ok(()),
     }
 }
 
@@ -350,24 +306,6 @@ pub fn broken_rule(i: Instr) -> Rule
         Instr::Call(_) | Instr::Go(_) => Rule::Calls,
         Instr::Return => Rule::Returns,
         Instr::Store(_, _) => Rule::Locals,
-        Instr::Jump(_)
-        | Instr::Loop(_)
-        | Instr::Int(_)
-        | Instr::Bool(_)
-        | Instr::Nil(_)
-        | Instr::Load(_, _)
-        | Instr::Pick(_, _, _)
-        | Instr::Discard(_)
-        | Instr::Apply(_)
-        | Instr::Tick
-        | Instr::Unless(_)
-        | Instr::Make(_)
-        | Instr::Send(_)
-        | Instr::Receive(_)
-        | Instr::Close
-        | Instr::Len
-        | Instr::Cap
-        | Instr::Print(_)
-        | Instr::Select(_) => Rule::Paths,
+        _ => Rule::Paths,
     }
 }

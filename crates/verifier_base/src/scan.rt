@@ -54,18 +54,7 @@ fn is_named(code: &Code, f: &Function, i: Instr) -> bool
         Instr::Select(q) => {
             (q as usize) < code.selects().len() && are_within(code, q, f.instrs().len())
         }
-        Instr::Int(_)
-        | Instr::Bool(_)
-        | Instr::Discard(_)
-        | Instr::Apply(_)
-        | Instr::Tick
-        | Instr::Jump(_)
-        | Instr::Unless(_)
-        | Instr::Loop(_)
-        | Instr::Return
-        | Instr::Close
-        | Instr::Len
-        | Instr::Cap => true,
+        _ => true,
     }
 }
 
@@ -79,25 +68,7 @@ fn is_inside(f: &Function, place: usize, i: Instr) -> bool
         Instr::Jump(to) | Instr::Loop(to) => (to as usize) < n,
         Instr::Unless(to) => (to as usize) < n && place + 1 < n,
         Instr::Return => true,
-        Instr::Int(_)
-        | Instr::Bool(_)
-        | Instr::Nil(_)
-        | Instr::Load(_, _)
-        | Instr::Store(_, _)
-        | Instr::Pick(_, _, _)
-        | Instr::Discard(_)
-        | Instr::Apply(_)
-        | Instr::Tick
-        | Instr::Call(_)
-        | Instr::Make(_)
-        | Instr::Go(_)
-        | Instr::Send(_)
-        | Instr::Receive(_)
-        | Instr::Close
-        | Instr::Len
-        | Instr::Cap
-        | Instr::Print(_)
-        | Instr::Select(_) => place + 1 < n,
+        _ => place + 1 < n,
     }
 }
 
@@ -109,25 +80,7 @@ fn is_directed(code: &Code, place: usize, i: Instr) -> bool
         Instr::Jump(to) | Instr::Unless(to) => place < to as usize,
         Instr::Loop(to) => to as usize <= place,
         Instr::Select(q) => are_behind(code, q, place),
-        Instr::Return
-        | Instr::Int(_)
-        | Instr::Bool(_)
-        | Instr::Nil(_)
-        | Instr::Load(_, _)
-        | Instr::Store(_, _)
-        | Instr::Pick(_, _, _)
-        | Instr::Discard(_)
-        | Instr::Apply(_)
-        | Instr::Tick
-        | Instr::Call(_)
-        | Instr::Make(_)
-        | Instr::Go(_)
-        | Instr::Send(_)
-        | Instr::Receive(_)
-        | Instr::Close
-        | Instr::Len
-        | Instr::Cap
-        | Instr::Print(_) => true,
+        _ => true,
     }
 }
 

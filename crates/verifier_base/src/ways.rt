@@ -34,26 +34,7 @@ pub fn way_count(code: &Code, i: Instr) -> usize
         Instr::Unless(_) => 2,
         Instr::Return => 0,
         Instr::Select(q) => select_ways(code, q),
-        Instr::Jump(_)
-        | Instr::Loop(_)
-        | Instr::Int(_)
-        | Instr::Bool(_)
-        | Instr::Nil(_)
-        | Instr::Load(_, _)
-        | Instr::Store(_, _)
-        | Instr::Pick(_, _, _)
-        | Instr::Discard(_)
-        | Instr::Apply(_)
-        | Instr::Tick
-        | Instr::Call(_)
-        | Instr::Make(_)
-        | Instr::Go(_)
-        | Instr::Send(_)
-        | Instr::Receive(_)
-        | Instr::Close
-        | Instr::Len
-        | Instr::Cap
-        | Instr::Print(_) => 1,
+        _ => 1,
     }
 }
 
@@ -78,23 +59,6 @@ pub fn way(code: &Code, i: Instr, place: usize, number: usize) -> Option<usize>
         },
         Instr::Return => None,
         Instr::Select(q) => select_way(code, q, number),
-        Instr::Int(_)
-        | Instr::Bool(_)
-        | Instr::Nil(_)
-        | Instr::Load(_, _)
-        | Instr::Store(_, _)
-        | Instr::Pick(_, _, _)
-        | Instr::Discard(_)
-        | Instr::Apply(_)
-        | Instr::Tick
-        | Instr::Call(_)
-        | Instr::Make(_)
-        | Instr::Go(_)
-        | Instr::Send(_)
-        | Instr::Receive(_)
-        | Instr::Close
-        | Instr::Len
-        | Instr::Cap
-        | Instr::Print(_) => only(place + 1, number),
+        _ => only(place + 1, number),
     }
 }
