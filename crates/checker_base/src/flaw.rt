@@ -8,7 +8,7 @@ use go_text::{LimitKind, Rule};
 use syntax::NodeId;
 
 /// What is wrong with a tree, and the node where it is.
-#[derive(Clone, Copy, Debug, PartialEq, Eq)]
+#[derive(Clone, Copy, PartialEq, Eq)]
 pub enum Flaw {
     /// A typing rule is broken.
     Broken(Rule, NodeId),

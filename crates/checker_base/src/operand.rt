@@ -15,7 +15,7 @@ use go_text::{LimitKind, Rule};
 use syntax::{BinaryOperator, ExpressionNode, NodeId, UnaryOperator};
 
 /// An expression that is checked.
-#[derive(Clone, Copy, Debug, PartialEq, Eq)]
+#[derive(Clone, Copy, PartialEq, Eq)]
 pub struct Operand {
     /// The expression's own node, which is the last of its nodes.
     pub node: NodeId,

@@ -7,14 +7,14 @@ ghost use Rattle.checker_base.specs.Types.{scalar_named, scalar_in, type_in, is_
 use syntax::{Direction, TypeNode};
 
 /// A type whose values can be sent on a channel, today.
-#[derive(Clone, Copy, Debug, PartialEq, Eq)]
+#[derive(Clone, Copy, PartialEq, Eq)]
 pub enum Scalar {
     Int,
     Bool,
 }
 
 /// The type of a value ("Types" of the Go specification).
-#[derive(Clone, Copy, Debug, PartialEq, Eq)]
+#[derive(Clone, Copy, PartialEq, Eq)]
 pub enum ValueType {
     Scalar(Scalar),
     /// A channel with the type of its elements, on which one may send and receive.

@@ -11,14 +11,14 @@ const LARGEST: u128 = 1 << 100;
 
 /// What an expression is worth: a value of a type that is known when the program runs, or an untyped constant
 /// ("Constants" of the Go specification).
-#[derive(Clone, Copy, Debug, PartialEq, Eq)]
+#[derive(Clone, Copy, PartialEq, Eq)]
 pub enum Worth {
     Typed(ValueType),
     Constant(i128),
 }
 
 /// Why an operator does not go with its operands.
-#[derive(Clone, Copy, Debug, PartialEq, Eq)]
+#[derive(Clone, Copy, PartialEq, Eq)]
 pub enum Misuse {
     /// Their types do not fit it.
     Operands,
@@ -131,7 +131,11 @@ fn beside(misuse: Misuse, value: i128, kind: ValueType) -> Result<Worth, Misuse>
 }
 
 /// What an operator between two operands makes of them.
-pub(crate) fn binary_worth(operator: BinaryOperator, left: Worth, right: Worth) -> Result<Worth, Misuse>
+pub(crate) fn binary_worth(
+    operator: BinaryOperator,
+    left: Worth,
+    right: Worth,
+) -> Result<Worth, Misuse>
     requires left { IsSmall left }
     requires right { IsSmall right }
     ensures worth { result ≡ binary_worth operator left right }

@@ -1,7 +1,7 @@
 //! The nodes of a tree.
 
 /// An operator between two operands.
-#[derive(Clone, Copy, Debug, PartialEq, Eq)]
+#[derive(Clone, Copy, PartialEq, Eq)]
 pub enum BinaryOperator {
     /// `+`
     Add,
@@ -44,7 +44,7 @@ pub enum BinaryOperator {
 }
 
 /// An operator before its operand.
-#[derive(Clone, Copy, Debug, PartialEq, Eq)]
+#[derive(Clone, Copy, PartialEq, Eq)]
 pub enum UnaryOperator {
     /// `+`
     Plus,
@@ -57,7 +57,7 @@ pub enum UnaryOperator {
 }
 
 /// What a channel type allows.
-#[derive(Clone, Copy, Debug, PartialEq, Eq)]
+#[derive(Clone, Copy, PartialEq, Eq)]
 pub enum Direction {
     /// `chan`: to send and to receive.
     Both,

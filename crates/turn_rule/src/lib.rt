@@ -9,14 +9,14 @@ ghost use Rattle.turn_rule.specs.Turns.{Rules, World, run};
 use logical_clock::Clock;
 
 /// What is known of a goroutine that is lent.
-#[derive(Debug, Drop)]
+#[derive(Drop)]
 pub struct Lease<S> {
     pub present: S,
     pub published: Clock,
 }
 
 /// An awake goroutine.
-#[derive(Debug, Drop)]
+#[derive(Drop)]
 pub struct Row<S> {
     pub state: S,
     pub floor: Clock,
@@ -25,7 +25,7 @@ pub struct Row<S> {
 }
 
 /// A step of a schedule, on the goroutine of this number.
-#[derive(Clone, Copy, Debug)]
+#[derive(Clone, Copy)]
 pub enum Step {
     Lend(u64),
     Local(u64),

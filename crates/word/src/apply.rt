@@ -8,7 +8,7 @@ use crate::value::Word;
 
 /// An operator of the source on words (Go: Operators). Operands of `EqInt` and `NeInt` are ints, of `EqBool` and `NeBool`
 /// bools, of `EqChan` and `NeChan` channels.
-#[derive(Clone, Copy, Debug, PartialEq, Eq)]
+#[derive(Clone, Copy, PartialEq, Eq)]
 pub enum Op {
     /// `x + y`; sums, differences, products and negations wrap in two's complement.
     Add,

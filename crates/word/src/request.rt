@@ -5,7 +5,7 @@ use crate::value::{Item, Word};
 use logical_clock::Clock;
 
 /// A clause of a select: a send where there is an item. A channel is named by its number; `None` is `nil`.
-#[derive(Debug, Drop)]
+#[derive(Drop)]
 pub struct Case {
     pub chan: Option<u32>,
     pub item: Option<Item>,
@@ -13,7 +13,7 @@ pub struct Case {
 
 /// What a goroutine asks, its operands in source order. Requests are performed one by one, each in its turn. A channel is
 /// named by its number, counted from 1; `None` is `nil`.
-#[derive(Debug, Drop)]
+#[derive(Drop)]
 pub enum Request {
     /// A new channel of this size, whose zero item is this one (Go: Making slices, maps and channels).
     Make(i64, Item),
@@ -44,7 +44,7 @@ pub enum Request {
 }
 
 /// What one that asked is told.
-#[derive(Debug, Drop)]
+#[derive(Drop)]
 pub enum Reply {
     /// The request is done.
     Nothing,
@@ -61,7 +61,7 @@ pub enum Reply {
 }
 
 /// What became of a request.
-#[derive(Debug, Drop)]
+#[derive(Drop)]
 pub enum EventOutcome {
     /// It is done, and its goroutine goes on with this reply.
     Done(Reply),
@@ -72,7 +72,7 @@ pub enum EventOutcome {
 }
 
 /// A request that was performed.
-#[derive(Debug, Drop)]
+#[derive(Drop)]
 pub struct Event {
     /// The actor's clock before it.
     pub clock: Clock,

@@ -10,7 +10,7 @@ use std::alloc::Global;
 use std::marker::Model;
 
 /// A value that takes one word.
-#[derive(Clone, Copy, Debug, PartialEq, Eq)]
+#[derive(Clone, Copy, PartialEq, Eq)]
 pub enum Word {
     /// An `int`, of 64 bits.
     Int(i64),
@@ -30,7 +30,7 @@ impl Default for Word {
 }
 
 /// What a channel carries: one word for each field of its type, in order, at most 16.
-#[derive(Debug, Drop)]
+#[derive(Drop)]
 pub struct Item {
     words: SmallVec<Word, MAX_WORDS>,
     ghost short: { small_vec_len words ≤ MAX_WORDS },

@@ -24,7 +24,7 @@ use verifier::Verified;
 use word::request::Reply;
 
 /// Where an awake goroutine is.
-#[derive(Debug, Drop)]
+#[derive(Drop)]
 pub enum Standing {
     /// It may be lent.
     Free,
@@ -37,7 +37,7 @@ pub enum Standing {
 }
 
 /// An awake goroutine: its state, or that in which it was lent.
-#[derive(Debug, Drop)]
+#[derive(Drop)]
 pub struct Slot {
     state: GoState,
     /// A clock that its next request is not below.
