@@ -10,8 +10,6 @@ mod refusal;
 mod set;
 mod signature;
 mod statement;
-#[cfg(test)]
-mod tests;
 mod tree;
 mod typed;
 mod value;

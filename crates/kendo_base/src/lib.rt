@@ -7,8 +7,6 @@ pub mod outcome;
 mod reading;
 pub mod run;
 mod running;
-#[cfg(test)]
-mod tests;
 
 pub use gate::Gate;
 pub use listing::list_bytes;

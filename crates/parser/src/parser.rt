@@ -50,6 +50,3 @@ pub fn parse(alloc: Global, source: &Source, tokens: &[Token]) -> Result<Tree, F
 pub fn one_tree()
     ensures { (lexemes : List Lexeme) (first second : File) → Spells lexemes first → Spells lexemes second → first ≡ second }
 {}
-
-#[cfg(test)]
-mod tests;

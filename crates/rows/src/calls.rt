@@ -41,7 +41,7 @@ impl Write for Slow {
 }
 
 /// Sees whether a run whose writer fails stops there, and tells it.
-pub fn failing_writers<R: Wait>(rt: &R, alloc: Global) -> Result<(), Flaw> {
+pub fn check_failing_writers<R: Wait>(rt: &R, alloc: Global) -> Result<(), Flaw> {
     for (fails_at, written, line) in [
         (1, "", "kendo: 14 Write\n"),
         (2, "1", "kendo: 14 Write\n"),
@@ -59,14 +59,14 @@ pub fn failing_writers<R: Wait>(rt: &R, alloc: Global) -> Result<(), Flaw> {
         let mut trace = Flagged::new(Vec::new(alloc));
         let outcome = run_bytes(rt, alloc, bytes, LIMIT, 4, &Open, &mut out, &mut trace);
         let status = if line.is_empty() { 0 } else { 6 };
-        has_report(alloc, &outcome, line, status)?;
+        check_report(alloc, &outcome, line, status)?;
         same(alloc, "the output", written.as_bytes(), &out.taken)?;
     }
     Ok(())
 }
 
 /// Sees whether each panic has its line, and its status.
-pub fn panics(alloc: Global) -> Result<(), Flaw> {
+pub fn check_panics(alloc: Global) -> Result<(), Flaw> {
     for (panic, told) in [
         (Panic::DivideByZero, "P1 divide by zero"),
         (Panic::SendOnClosed, "P2 send on closed channel"),
@@ -79,26 +79,26 @@ pub fn panics(alloc: Global) -> Result<(), Flaw> {
         (Panic::TooManyChannels, "P9 too many channels"),
     ] {
         let line = format!(in alloc; "kendo: panic {told}\n")?;
-        has_report(alloc, &Ok(End::Panicked(panic)), line.as_str(), 2)?;
+        check_report(alloc, &Ok(End::Panicked(panic)), line.as_str(), 2)?;
     }
     Ok(())
 }
 
 /// Sees whether the refusals that no text causes have their lines and statuses, and one whose place is not known.
-pub fn refusals(alloc: Global) -> Result<(), Flaw> {
+pub fn check_refusals(alloc: Global) -> Result<(), Flaw> {
     let unplaced = Fault::Syntax(Place::from(Span { from: 36, to: 37 }));
     for (fault, line, status) in [
         (unplaced, "kendo: 7 Syntax\n", 1),
         (Fault::NotYours, "kendo: 12 NotYours\n", 7),
         (Fault::Memory, "kendo: 13 Memory\n", 5),
     ] {
-        has_report(alloc, &Err(fault), line, status)?;
+        check_report(alloc, &Err(fault), line, status)?;
     }
     Ok(())
 }
 
 /// Compares the line and the status of an outcome.
-fn has_report(
+fn check_report(
     alloc: Global,
     outcome: &Result<End, Fault>,
     line: &str,

@@ -3,37 +3,39 @@
 use crate::flaw::{Flaw, same};
 use crate::folder::{Kind, Made, RowFile};
 use crate::reading::{listing, spans, tokens};
-use crate::run::runs;
+use crate::run::check_runs;
 use crate::trace::trace;
 use std::alloc::Global;
 use std::rt::Files;
 use std::sync::Wait;
 
 /// Sees whether what a file tells comes of its text; of a text, whether one of these files of its folder tells something of
-/// it. The lines of a table are seen to one by one.
+/// it.
 pub fn check<R: Files + AllocGlobal + Wait>(
     rt: &R,
     file: &RowFile<'_>,
     names: &[String],
 ) -> Result<(), Flaw> {
     match file.kind {
-        Kind::Text | Kind::Table => told(file, names),
+        Kind::Text => check_told(file, names),
+        // Its lines tell something of texts of their own.
+        Kind::Table => Ok(()),
         Kind::Generated => match file.beside(rt, "go")? {
             Some(_) => Err(Flaw::Stranger),
-            None => told(file, names),
+            None => check_told(file, names),
         },
-        Kind::Row => run(rt, file),
+        Kind::Row => check_run(rt, file),
         // Beside a `.row` the output is compared there.
         Kind::Output => match file.beside(rt, "row")? {
             Some(_) => Ok(()),
-            None => run(rt, file),
+            None => check_run(rt, file),
         },
-        Kind::Made(made) => is_made(rt, file, made),
+        Kind::Made(made) => check_made(rt, file, made),
     }
 }
 
 /// Sees whether something is told of a text.
-fn told(file: &RowFile<'_>, names: &[String]) -> Result<(), Flaw> {
+fn check_told(file: &RowFile<'_>, names: &[String]) -> Result<(), Flaw> {
     if file.is_told(names) {
         Ok(())
     } else {
@@ -42,18 +44,18 @@ fn told(file: &RowFile<'_>, names: &[String]) -> Result<(), Flaw> {
 }
 
 /// Sees whether the runs of a text are what its `.row` and its `.out` tell.
-fn run<R: Files + AllocGlobal + Wait>(rt: &R, file: &RowFile<'_>) -> Result<(), Flaw> {
+fn check_run<R: Files + AllocGlobal + Wait>(rt: &R, file: &RowFile<'_>) -> Result<(), Flaw> {
     let text = file.text(rt)?;
     let row = file.row(rt)?;
     let output = match file.beside(rt, "out")? {
         Some(output) => output,
         None => Vec::new(rt.alloc()),
     };
-    runs(rt, rt.alloc(), &text, &row, &output)
+    check_runs(rt, rt.alloc(), &text, &row, &output)
 }
 
 /// Sees whether what a file tells is made of its text.
-fn is_made<R: Files + AllocGlobal>(rt: &R, file: &RowFile<'_>, made: Made) -> Result<(), Flaw> {
+fn check_made<R: Files + AllocGlobal>(rt: &R, file: &RowFile<'_>, made: Made) -> Result<(), Flaw> {
     let alloc = rt.alloc();
     let text = file.text(rt)?;
     let wanted = file.bytes(rt)?;
@@ -63,11 +65,11 @@ fn is_made<R: Files + AllocGlobal>(rt: &R, file: &RowFile<'_>, made: Made) -> Re
         Made::Tokens => ("the tokens", tokens(alloc, &text)?),
         Made::Trace => ("the trace", trace(alloc, &text, file.row(rt)?.limit)?),
     };
-    has_lines(alloc, what, &wanted, &came)
+    same_lines(alloc, what, &wanted, &came)
 }
 
 /// Compares what came with the lines of a file. Where its first line is `..`, the others are the last ones alone.
-fn has_lines(alloc: Global, what: &str, wanted: &[u8], came: &[u8]) -> Result<(), Flaw> {
+fn same_lines(alloc: Global, what: &str, wanted: &[u8], came: &[u8]) -> Result<(), Flaw> {
     match wanted.strip_prefix(b"..\n".as_slice()) {
         Some(end) => same(alloc, what, end, last_lines(came, end)),
         None => same(alloc, what, wanted, came),

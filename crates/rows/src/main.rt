@@ -19,7 +19,7 @@ mod table;
 mod trace;
 mod written;
 
-use calls::{failing_writers, panics, refusals};
+use calls::{check_failing_writers, check_panics, check_refusals};
 use check::check;
 use flaw::Flaw;
 use folder::{Kind, RowFile, names, utf8};
@@ -95,9 +95,9 @@ impl Report {
 
     /// What no text reaches.
     fn calls<R: AllocGlobal + Print + Wait>(&mut self, rt: &R) -> io::Result<()> {
-        self.tell(rt, "failing writers", failing_writers(rt, rt.alloc()))?;
-        self.tell(rt, "panics", panics(rt.alloc()))?;
-        self.tell(rt, "refusals", refusals(rt.alloc()))
+        self.tell(rt, "failing writers", check_failing_writers(rt, rt.alloc()))?;
+        self.tell(rt, "panics", check_panics(rt.alloc()))?;
+        self.tell(rt, "refusals", check_refusals(rt.alloc()))
     }
 
     /// Prints that all holds, where it does, and answers whether it does.
@@ -118,8 +118,12 @@ impl Report {
         for name in names.iter() {
             let path = format!(in rt.alloc(); "{folder}/{name}")?;
             match RowFile::new(folder, name.as_str()) {
-                Some(file) if file.kind == Kind::Table => self.table(rt, &file, path.as_str())?,
-                Some(file) => self.tell(rt, path.as_str(), check(rt, &file, names))?,
+                Some(file) => {
+                    self.tell(rt, path.as_str(), check(rt, &file, names))?;
+                    if file.kind == Kind::Table {
+                        self.table(rt, &file, path.as_str())?;
+                    }
+                }
                 None => self.tell(rt, path.as_str(), Err(Flaw::Stranger))?,
             }
         }
@@ -141,7 +145,7 @@ impl Report {
         for (before, line) in lines.lines().enumerate() {
             let number = before.saturating_add(1);
             let name = format!(in rt.alloc(); "{path}:{number}")?;
-            self.tell(rt, name.as_str(), table.take(rt, rt.alloc(), line))?;
+            self.tell(rt, name.as_str(), table.check_line(rt, rt.alloc(), line))?;
         }
         Ok(())
     }

@@ -27,9 +27,9 @@ pub struct Ran {
     /// The line on standard error, with its newline, or nothing.
     pub line: Vec<u8>,
     /// The exit status.
-    pub status: u8,
+    status: u8,
     /// What was written.
-    pub output: Vec<u8>,
+    output: Vec<u8>,
 }
 
 impl Ran {
@@ -57,24 +57,18 @@ impl Ran {
     }
 
     /// Compares the run with what a row tells, and its output with what was wanted.
-    pub fn agrees(
-        &self,
-        alloc: Global,
-        row: &Row,
-        output: &[u8],
-        workers: u64,
-    ) -> Result<(), Flaw> {
-        let what = format!(in alloc; "the line on standard error, {workers} workers")?;
-        self.has_line(alloc, &what, row.error.as_str())?;
-        let what = format!(in alloc; "the output, {workers} workers")?;
+    fn check(&self, alloc: Global, row: &Row, output: &[u8], workers: u64) -> Result<(), Flaw> {
+        let what = format!(in alloc; "the line on standard error (--workers {workers})")?;
+        self.check_line(alloc, &what, row.error.as_str())?;
+        let what = format!(in alloc; "the output (--workers {workers})")?;
         same(alloc, &what, output, &self.output)?;
-        let what = format!(in alloc; "the exit status, {workers} workers")?;
+        let what = format!(in alloc; "the exit status (--workers {workers})")?;
         let (wanted, came) = (row.status.to_string(alloc)?, self.status.to_string(alloc)?);
         same(alloc, &what, wanted.as_bytes(), came.as_bytes())
     }
 
     /// Compares the line on standard error, where the wanted one ends in `..` no more than its beginning.
-    fn has_line(&self, alloc: Global, what: &str, wanted: &str) -> Result<(), Flaw> {
+    fn check_line(&self, alloc: Global, what: &str, wanted: &str) -> Result<(), Flaw> {
         let line = self.line.as_slice();
         let line = line.strip_suffix(b"\n".as_slice()).unwrap_or(line);
         match wanted.strip_suffix("..") {
@@ -88,7 +82,7 @@ impl Ran {
 }
 
 /// Runs a text with each number of workers of its row, and compares what comes of it.
-pub fn runs<R: Wait>(
+pub fn check_runs<R: Wait>(
     rt: &R,
     alloc: Global,
     text: &[u8],
@@ -97,7 +91,7 @@ pub fn runs<R: Wait>(
 ) -> Result<(), Flaw> {
     for workers in row.workers.iter() {
         let ran = Ran::of(rt, alloc, text, row.limit, *workers)?;
-        ran.agrees(alloc, row, output, *workers)?;
+        ran.check(alloc, row, output, *workers)?;
     }
     Ok(())
 }

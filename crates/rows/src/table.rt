@@ -2,7 +2,7 @@
 
 use crate::flaw::{Flaw, shown};
 use crate::row::{LIMIT, Row};
-use crate::run::{Ran, runs};
+use crate::run::{Ran, check_runs};
 use crate::written::bytes_of;
 use go_text::{Fault, LimitKind};
 use std::alloc::{AllocError, Global};
@@ -37,9 +37,9 @@ impl Table {
         }
     }
 
-    /// Takes a line: an empty one or a comment, what stands round the texts behind it, or a text, of which it sees whether
-    /// that comes of it which is told.
-    pub fn take<R: Wait>(&mut self, rt: &R, alloc: Global, line: &str) -> Result<(), Flaw> {
+    /// Takes a line: an empty one, a comment, or what stands round the texts to come; or sees whether what a line tells of
+    /// its text comes of it.
+    pub fn check_line<R: Wait>(&mut self, rt: &R, alloc: Global, line: &str) -> Result<(), Flaw> {
         if line.is_empty() || line.starts_with('#') {
             return Ok(());
         }
@@ -47,13 +47,13 @@ impl Table {
         match word {
             "before" => self.before = bytes_of(alloc, value)?,
             "after" => self.after = bytes_of(alloc, value)?,
-            _ => return self.text(rt, alloc, line),
+            _ => return self.check_text(rt, alloc, line),
         }
         Ok(())
     }
 
-    /// A line with a text.
-    fn text<R: Wait>(&self, rt: &R, alloc: Global, line: &str) -> Result<(), Flaw> {
+    /// Sees whether what a line tells of its text comes of it.
+    fn check_text<R: Wait>(&self, rt: &R, alloc: Global, line: &str) -> Result<(), Flaw> {
         let Some((told, written)) = line.split_once('\t') else {
             return Err(Flaw::Form);
         };
@@ -61,11 +61,11 @@ impl Table {
         text.extend_from_slice(bytes_of(alloc, written)?.as_slice())?;
         text.extend_from_slice(self.after.as_slice())?;
         match told_of(told) {
-            Told::Read => is_read(rt, alloc, text.as_slice()),
-            Told::Cuts => are_cuts(rt, alloc, text.as_slice()),
+            Told::Read => check_read(rt, alloc, text.as_slice()),
+            Told::Cuts => check_cuts(rt, alloc, text.as_slice()),
             Told::Prints(output) => {
                 let output = bytes_of(alloc, output)?;
-                runs(
+                check_runs(
                     rt,
                     alloc,
                     text.as_slice(),
@@ -75,7 +75,7 @@ impl Table {
             }
             Told::Refused(told) => {
                 let row = refused(alloc, told)?;
-                runs(rt, alloc, text.as_slice(), &row, b"".as_slice())
+                check_runs(rt, alloc, text.as_slice(), &row, b"".as_slice())
             }
         }
     }
@@ -112,7 +112,7 @@ fn was_read(outcome: &Result<End, Fault>) -> bool {
 }
 
 /// Sees whether a text is read.
-fn is_read<R: Wait>(rt: &R, alloc: Global, text: &[u8]) -> Result<(), Flaw> {
+fn check_read<R: Wait>(rt: &R, alloc: Global, text: &[u8]) -> Result<(), Flaw> {
     let ran = Ran::of(rt, alloc, text, LIMIT, 1)?;
     if was_read(&ran.outcome) {
         return Ok(());
@@ -124,7 +124,7 @@ fn is_read<R: Wait>(rt: &R, alloc: Global, text: &[u8]) -> Result<(), Flaw> {
 }
 
 /// Sees whether each beginning of a text is refused.
-fn are_cuts<R: Wait>(rt: &R, alloc: Global, text: &[u8]) -> Result<(), Flaw> {
+fn check_cuts<R: Wait>(rt: &R, alloc: Global, text: &[u8]) -> Result<(), Flaw> {
     for length in 0..text.len() {
         let ran = Ran::of(rt, alloc, &text[..length], LIMIT, 1)?;
         let is_refused = matches!(
