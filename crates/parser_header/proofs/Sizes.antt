@@ -1,7 +1,7 @@
 -- What stands behind `if`, `for` or `case` has no more nodes than lexemes.
-use Rattle.std.proofs.Common.{ℕ, ◌+◌, ◌≤◌, List, [], ◌∷◌, length, refl, arith, Option, Some, None}
+use Rattle.std.proofs.Common.{ℕ, ◌+◌, ◌≤◌, List, ◌∷◌, length, arith, Option, Some, None}
 use Rattle.scanner.specs.declared.kind.TokenKind.TheVariants as kinds
-use Rattle.syntax.specs.Tree.{Place, Assign, Define, IfHead, Bare, Semicolon, First, Target, NoTarget, DefineTarget, AssignTarget, ForHead, Forever, While, ForClauses, Range, Comm, CommSend, CommReceive, CommDefine, CommAssign}
+use Rattle.syntax.specs.Tree.{Place, IfHead, Bare, Semicolon, First, Target, NoTarget, DefineTarget, AssignTarget, ForHead, Forever, While, ForClauses, Range, Comm, CommSend, CommReceive, CommDefine, CommAssign}
 use Rattle.syntax.specs.Measures.{expression_size, simple_size, if_head_size, target_size, for_head_size, comm_size, if_any}
 use Rattle.parser_base.specs.Lexemes.{Lexeme, Mark}
 use Rattle.parser_base.specs.Spelling.{before}

@@ -8,7 +8,7 @@ use Rattle.parser_base.specs.declared.list.Next.{Next}
 use Rattle.parser_base.specs.declared.list.Next.TheVariants.{More, End}
 use Rattle.parser_base.specs.Lexemes.{Lexeme, Literal, Name, Text, Mark}
 use Rattle.parser_base.specs.Spelling.{behind, separated, joined, AreAll, AreSome}
-use Rattle.parser_base.specs.Reading.{Syntax, TooMany, Reading, ◌>>=◌, is_kind, expect, plain_name}
+use Rattle.parser_base.specs.Reading.{Syntax, TooMany, ◌>>=◌, is_kind, expect, plain_name}
 use Rattle.parser_base.proofs.Marks.{bind_ok, ok_is, kind_is, is_kind_same, expect_is, plain_name_is, plain_name_again}
 use Rattle.parser_base.proofs.ListLaws.{ReadBack, Found, High, Many, Entries, IsReadAgain, Separates, listed_again, all_again, ReadsSoundly, listed_sound, ends_with, goes_on_with, all_of}
 use Rattle.parser_base.proofs.Steps.{listed_outcome, highest_none, gave}

@@ -6,7 +6,7 @@ use Rattle.scanner.specs.declared.kind.TokenKind.TheVariants as kinds
 use Rattle.syntax.specs.declared.node.BinaryOperator.{BinaryOperator}
 use Rattle.syntax.specs.declared.node.BinaryOperator.TheVariants as binaries
 use Rattle.syntax.specs.declared.node.UnaryOperator.TheVariants as unaries
-use Rattle.syntax.specs.Tree.{Expression, Integer, Named, Parenthesized, Selection, Composite, Unary, Binary, TypeExpression, NamedType, ParenthesizedType, Channel, Arguments, Operation, Call, Receive, Make, Length, Capacity, Right, RightOperation, Values}
+use Rattle.syntax.specs.Tree.{Expression, Integer, Named, Parenthesized, Selection, Composite, Unary, Binary, TypeExpression, Arguments, Operation, Call, Receive, Make, Length, Capacity, Right, RightOperation, Values}
 use Rattle.syntax.specs.Measures.{Listing, Entries as EntriesLimit, entries, highest, if_any, type_height, expression_height, expression_longest, arguments_height, arguments_longest, operation_height, operation_longest, right_height, right_longest}
 use Rattle.parser_base.specs.Lexemes.{Lexeme, Literal, Name, Text, Mark}
 use Rattle.parser_base.specs.Spelling.{is_builtin, behind, separated, joined, before, AreAll, expression_words, outer_precedence, IsGrouped, binary_kind}

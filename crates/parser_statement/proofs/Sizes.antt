@@ -2,7 +2,7 @@
 use Rattle.std.proofs.Common.{◌≡◌, ◌+◌, ◌≤◌, List, [], ◌∷◌, ◌++◌, length, sum_by, refl, arith, length-append, Option, Some, None}
 use Rattle.std.proofs.lemmas.List.Sums.{sum_by-cons}
 use Rattle.scanner.specs.declared.kind.TokenKind.TheVariants as kinds
-use Rattle.syntax.specs.Tree.{Right, Assign, Semicolon, Comm, Returned, NoValue, ReturnedOperation, ReturnedValue, Statement, Statements, NoStatement, Then, Empty, Alone, VarTyped, VarUntyped, Block, If, For, Select, Go, Return, Break, Continue, Branch, Conditional, Otherwise, NoElse, ElseBlock, ElseIf, Clauses, NoClause, Clause, statements_in}
+use Rattle.syntax.specs.Tree.{Right, Comm, Returned, NoValue, ReturnedOperation, ReturnedValue, Statement, Statements, NoStatement, Then, Empty, Alone, VarTyped, VarUntyped, Block, If, For, Select, Go, Return, Break, Continue, Branch, Conditional, Otherwise, NoElse, ElseBlock, ElseIf, Clauses, NoClause, Clause, statements_in}
 use Rattle.syntax.specs.Measures.{right_size, comm_size, returned_size, statement_size, statements_size, branch_size, otherwise_size, clauses_size, if_any}
 use Rattle.parser_base.specs.Lexemes.{Lexeme, Mark}
 use Rattle.parser_base.specs.Spelling.{behind, AreAll, AreSome, separated, joined, before}

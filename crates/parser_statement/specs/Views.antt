@@ -1,6 +1,5 @@
 -- What the parts of a statement in memory are.
-use Rattle.std.specs.Prelude.{ℕ, ◌+◌, Bool, true, false, List, [], ◌∷◌, Option, Some, None}
-use Rattle.go_text.specs.declared.place.Span.{Span}
+use Rattle.std.specs.Prelude.{ℕ, ◌+◌, Bool, true, false}
 use Rattle.syntax.specs.Tree.{Statement, Alone, Branch, Otherwise}
 use Rattle.syntax.specs.Measures.{if_any, comm_size, statements_size}
 use Rattle.syntax.specs.View.{OneClause, else_layer, statement_layer, clause_layer, branch_layer}

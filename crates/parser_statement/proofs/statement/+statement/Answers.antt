@@ -1,4 +1,4 @@
-use Rattle.std.proofs.Common.{◌≤◌, ◌<◌, ◌∙◌, length, is_ok, map, ap, arith, Option, option_map, sum_by, Vec, Global}
+use Rattle.std.proofs.Common.{◌≤◌, ◌<◌, ◌∙◌, length, is_ok, map, ap, arith, Option, option_map}
 use Rattle.std.proofs.ResultArms.{chosen}
 use Rattle.std.proofs.lemmas.Result.{err_from_is_err_and}
 use Rattle.syntax.specs.Tree.{statements}
