@@ -30,6 +30,7 @@ use Rattle.world_core.specs.Cores.{CodeMachine, CoreValue, FitsCore, HasTurn, Is
 use Rattle.world_core.specs.Slots.{State, Rows, FitsRow, IsAwake, IsNobodyAwake, IsBefore, free_row, lent_row, waiting_clock}
 use Rattle.world_core.proofs.Leases.{core_fits_set, core_set, opened_fits}
 use Rattle.world_core.proofs.Others.{performed_other}
+use Rattle.world_core.proofs.Scheduling.{deserted}
 use Rattle.book.specs.Desks.{Desk, CommitsNext, IsDesk, IsPiece, IsEnd, KeepsLeases, StandsBefore, Held, IsLent, opened_desk, lent_desk}
 use Rattle.book.proofs.Desks.{lend_keeps, bring_keeps, lent_other, row_awake, settle_keeps, parked_asks, waits_alone, waits_before, nobody_awake}
 
@@ -261,11 +262,6 @@ ended_desk d e h ended =
       bytes = ap (λ (x : Rest Frames). length x.shared.output) same ∙ a.size;
       ending = ends_by (begun d h.at.0) e d.core.ending (ap (λ (x : Rest Frames). x.shared.ending) same ∙ sym a.core.ending) ended;
     }
-
-deserted : {A : Type 0} (xs : List (Option A)) → ((n : ℕ) → slice_index_or xs n None ≡ None) → is_deserted (map is_some xs) ≡ true
-deserted [] none = refl
-deserted (None ∷ xs) none = deserted xs (λ n. none (suc n))
-deserted (Some x ∷ xs) none = absurd (true≢false (ap is_some (none zero)))
 
 -- nobody is awake
 pub dead_desk : (d : Desk) → IsDesk d → d.core.ending ≡ None → IsNobodyAwake d.core.rows → IsEnd d.code d.limit d.core.events (d.taken + length d.pending) Deadlock

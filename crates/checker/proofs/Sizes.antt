@@ -120,7 +120,7 @@ pub true_is : (b : Bool) → IsTrue b → b ≡ true
 true_is true h = refl
 true_is false h = absurd (false≢true h)
 
-no_size : (o : Option TypeExpression) → is_absent o ≡ true → if_any type_size o ≡ 0
+pub no_size : (o : Option TypeExpression) → is_absent o ≡ true → if_any type_size o ≡ 0
 no_size None e = refl
 no_size (Some t) e = absurd cc
 
@@ -161,5 +161,3 @@ pub absent_of : {A B : Type 0} (view : A → B) (o : Option A) → is_some o ≡
 absent_of view None e = refl
 absent_of view (Some x) e = absurd (false≢true (sym e))
 
-pub no_size_of : (o : Option TypeExpression) → is_absent o ≡ true → if_any type_size o ≡ 0
-no_size_of o e = no_size o e

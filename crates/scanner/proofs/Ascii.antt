@@ -28,11 +28,12 @@ ascii_agrees : all_below agrees 128 ≡ true
 unfolding all_below agrees general_category value_in general_category_rows
 ascii_agrees = refl
 
-and-left : (a b : Bool) → a && b ≡ true → a ≡ true
+-- both hold
+pub and-left : (a b : Bool) → a && b ≡ true → a ≡ true
 and-left true b is = refl
 and-left false b is = absurd cc
 
-and-right : (a b : Bool) → a && b ≡ true → b ≡ true
+pub and-right : (a b : Bool) → a && b ≡ true → b ≡ true
 and-right true b is = is
 and-right false b is = absurd cc
 

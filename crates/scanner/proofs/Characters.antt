@@ -9,6 +9,7 @@ use Rattle.std.proofs.Math.Seq.{take-add}
 use Rattle.std.specs.List.{list_all}
 use Rattle.std.specs.Prelude.{slice_get}
 use Rattle.std.specs.Str.{is_utf8, chars, IsUtf8, IsCharBoundary, continuation_len}
+use Rattle.scanner.proofs.Ascii.{and-left, and-right}
 use Rattle.scanner.specs.Letters.{is_letter, is_letter_or_digit, front_bytes, first_of, front_char, passes, begins_letter, begins_letter_or_digit, are_letters_and_digits, is_name}
 
 low : (c n : ℕ) → c < n → ltb c n ≡ true
@@ -59,14 +60,6 @@ pub front_encode : (c : ℕ) (rest : List ℕ) → scalar c ≡ true → front_c
 front_encode c rest is =
     let utf8 : is_utf8 (encode c) ≡ true = is_utf8-from_IsUtf8 (encode c) (IsUtf8-encode c is) in
     ap first_of (front_bytes_encode c rest is) ∙ rw (utf8, chars_encode c is) refl
-
-and-left : (a b : Bool) → a && b ≡ true → a ≡ true
-and-left true b is = refl
-and-left false b is = absurd cc
-
-and-right : (a b : Bool) → a && b ≡ true → b ≡ true
-and-right true b is = is
-and-right false b is = absurd cc
 
 -- ---- a text that begins with UTF-8
 

@@ -2,6 +2,7 @@
 use Rattle.std.proofs.Common.{◌≡◌, ℕ, zero, suc, ◌+◌, ◌-◌, ◌<◌, ◌≤◌, ℤ, pos, negsuc, Bool, true, false, ◌&&◌, ◌||◌, cond, List, [], ◌∷◌, ◌++◌, map, length, Option, Some, None, refl, sym, ap, ◌∙◌, subst, arith, inl, inr, ◌⊎◌, append_assoc, append-nil, get_or, set, get_or-set_same, get_or-set_other, length-set}
 use Rattle.std.specs.Prelude.{◌==◌, nat_lt, unwrap_or, slice_set}
 use Rattle.std.specs.Option.{is_some}
+use Rattle.std.proofs.Math.Bool.{and-false}
 use Rattle.std.proofs.lemmas.Bool.{eqb-true, eq-eqb, ne_eqb, true≢false, cases_eq, cases_lt}
 use Rattle.std.proofs.lemmas.Bool.Decides.{nat_tests}
 use Rattle.std.proofs.lemmas.Option.{same_Some}
@@ -14,10 +15,6 @@ use Rattle.word.specs.Flow.{clause_deal, Deal, Gives, Takes, NoDeal, reply_deal,
 use Rattle.word.proofs.Found.{In}
 use Rattle.word.proofs.Kept.{moment_keeps}
 use Rattle.word.proofs.Fair.{partner_is, in_without, in_without_all, in_back}
-
-and_false : (b : Bool) → (b && false) ≡ false
-and_false true = refl
-and_false false = refl
 
 latest_none : (o : Option Request) → latest o None ≡ o
 latest_none None = refl
@@ -129,7 +126,7 @@ module _ (w : Shared) (n c : ℕ) (q : Request) (sw : IsSound w) where
   Ord j d who items = accepted j w.events ++ enters j w.events d who ≡ (received j w.events ++ leaves j d who) ++ items
 
   not_dozed : (x m : ℕ) (b : Bool) → ((m == x) && false) ≡ b → ◌≡◌ {A = Option Request} (cond b (Some q) None) None
-  not_dozed x m true e = absurd (true≢false (sym e ∙ and_false (m == x)))
+  not_dozed x m true e = absurd (true≢false (sym e ∙ and-false (m == x)))
   not_dozed x m false e = refl
 
   sound_on : (ss : List Sleeper) (cs : List Channel) (o : EventOutcome) (who : List ℕ) → is_sleeps o ≡ false → ((x : Sleeper) → In x ss → In x w.asleep)

@@ -2,6 +2,7 @@
 use Rattle.std.proofs.Common.{◌≡◌, ℕ, zero, suc, ◌+◌, ◌-◌, ◌<◌, ◌≢◌, ℤ, pos, negsuc, Bool, true, false, ◌&&◌, ◌||◌, not, cond, List, [], ◌∷◌, ◌++◌, map, length, Option, Some, None, refl, sym, ap, ◌∙◌, subst, arith, inl, inr, ◌⊎◌, append_assoc, get_or-set_same, get_or-set_other, length-set, length-append}
 use Rattle.std.specs.Prelude.{◌==◌, nat_le, nat_lt, slice_index_or, slice_set, unwrap_or}
 use Rattle.std.specs.Option.{is_some}
+use Rattle.std.proofs.Math.Bool.{and-false}
 use Rattle.std.proofs.lemmas.Bool.{and_parts, eqb-true, ne_eqb, true≢false, cases_eq, cases_lt}
 use Rattle.std.proofs.lemmas.Bool.Decides.{nat_tests}
 use Rattle.std.proofs.lemmas.List.{get_or_past, get_or_append_left, get_or-append_right, set_past, append-nil}
@@ -143,12 +144,8 @@ module _ (w : Shared) (n c : ℕ) (q : Request) (tw : IsTight w) where
   tight_still : (ss : List Sleeper) (cs : List Channel) (o : EventOutcome) (who : List ℕ) → length cs ≡ length w.channels → ((j : ℕ) → (channel_of cs j).closed ≡ its j) → is_make q ≡ false → ((j : ℕ) → is_close j q ≡ false)
       → ((j : ℕ) (x : Sleeper) → its j ≡ true → In x ss → first_on j (offers x.request) ≡ None) → ((j : ℕ) → its j ≡ true → enters j w.events (deal (event o who)) who ≡ []) → Tight ss cs (w.events ++ event o who ∷ [])
   tight_still ss cs o who size same make close calm enter =
-      let none : makes (event o who) ≡ 0 = ap (λ b. zero_or_one (is_done o && b)) make ∙ ap zero_or_one (and_false (is_done o)) in
-      tight_on ss cs o who (omega (arith, size, none)) (λ j h. same j ∙ h) (λ j h l. absurd (true≢false (sym h ∙ ap (λ b. is_done o && b) (close j) ∙ and_false (is_done o)))) (λ j x h i. calm j x (sym (same j) ∙ h) i) enter
-    where
-      and_false : (b : Bool) → (b && false) ≡ false
-      and_false true = refl
-      and_false false = refl
+      let none : makes (event o who) ≡ 0 = ap (λ b. zero_or_one (is_done o && b)) make ∙ ap zero_or_one (and-false (is_done o)) in
+      tight_on ss cs o who (omega (arith, size, none)) (λ j h. same j ∙ h) (λ j h l. absurd (true≢false (sym h ∙ ap (λ b. is_done o && b) (close j) ∙ and-false (is_done o)))) (λ j x h i. calm j x (sym (same j) ∙ h) i) enter
 
   tight_ends : (o : EventOutcome) (e : Ending) → ((is_make q ≡ false) ⊎ (is_done o ≡ false)) → (((j : ℕ) → is_close j q ≡ false) ⊎ (is_done o ≡ false)) → ((j : ℕ) → enters j w.events (deal (event o [])) [] ≡ []) → IsTight (ends w n c q o e).shared
   tight_ends o e make close enter =

@@ -2,6 +2,7 @@
 use Rattle.std.proofs.Common.{◌≡◌, ℕ, zero, suc, ◌+◌, ◌<◌, ℤ, pos, negsuc, Bool, true, false, ◌&&◌, ◌||◌, not, cond, List, [], ◌∷◌, ◌++◌, map, length, Option, Some, None, refl, sym, ap, ◌∙◌, subst, arith, inl, inr, ◌⊎◌, append_assoc, get_or-set_same, get_or-set_other}
 use Rattle.std.specs.Prelude.{◌==◌, nat_le, nat_lt, slice_set, unwrap_or}
 use Rattle.std.specs.Option.{is_some}
+use Rattle.std.proofs.Math.Bool.{and-false}
 use Rattle.std.proofs.lemmas.Bool.{and_parts, eqb-true, eq-eqb, true≢false, cases_eq, cases_lt}
 use Rattle.std.proofs.lemmas.Bool.Decides.{nat_tests}
 use Rattle.std.proofs.lemmas.List.{append-nil, set_past}
@@ -26,10 +27,6 @@ zero_snoc c before (x ∷ es) e h new = (
   h.0,
   zero_snoc c (before ++ x ∷ []) es e h.1 (subst (λ b. gives_zero c b e ≡ true → (is_closed_in c (b ++ e ∷ []) ≡ true) × (accepted c (b ++ e ∷ []) ≡ received c (b ++ e ∷ []))) (sym (append_assoc before (x ∷ []) es)) new),
 )
-
-and_false : (b : Bool) → (b && false) ≡ false
-and_false true = refl
-and_false false = refl
 
 -- ---- receivers whom a close wakes
 
@@ -142,10 +139,10 @@ module _ (w : Shared) (n c : ℕ) (q : Request) (l : Late w) where
     adds_receive k i d r = go (its k).items refl (partner k true w.asleep) refl
       where
         go : (items : List Item) → (its k).items ≡ items → (o : Option (Sleeper × Offer)) → partner k true w.asleep ≡ o → Adds w (receive_from w n c q k (channel_of w.channels k) i items o).shared
-        go (x ∷ xs) e None f = adds_done (with_channel w n c q k (record (channel_of w.channels k) { items = xs })) (got i x true) [] (Takes k x true) refl (closed_kept w.channels k _ refl) (d x true) (λ j. and_false (k == j))
+        go (x ∷ xs) e None f = adds_done (with_channel w n c q k (record (channel_of w.channels k) { items = xs })) (got i x true) [] (Takes k x true) refl (closed_kept w.channels k _ refl) (d x true) (λ j. and-false (k == j))
         go (x ∷ xs) e (Some p) f =
-            adds_done (with_channel w n c q k (record (channel_of w.channels k) { items = xs ++ unwrap_or p.1.item [] ∷ [] })) (got i x true) ((p.0.number, sent p.1.case) ∷ []) (Takes k x true) refl (closed_kept w.channels k _ refl) (d x true) (λ j. and_false (k == j))
-        go [] e (Some p) f = adds_done w (got i (unwrap_or p.1.item []) true) ((p.0.number, sent p.1.case) ∷ []) (Takes k (unwrap_or p.1.item []) true) refl (λ j. refl) (d (unwrap_or p.1.item []) true) (λ j. and_false (k == j))
+            adds_done (with_channel w n c q k (record (channel_of w.channels k) { items = xs ++ unwrap_or p.1.item [] ∷ [] })) (got i x true) ((p.0.number, sent p.1.case) ∷ []) (Takes k x true) refl (closed_kept w.channels k _ refl) (d x true) (λ j. and-false (k == j))
+        go [] e (Some p) f = adds_done w (got i (unwrap_or p.1.item []) true) ((p.0.number, sent p.1.case) ∷ []) (Takes k (unwrap_or p.1.item []) true) refl (λ j. refl) (d (unwrap_or p.1.item []) true) (λ j. and-false (k == j))
         go [] e None f = record {
           event = event_of (Done (got i (its k).zero false)) [];
           events = refl;

@@ -15,6 +15,8 @@ use Rattle.word.specs.Kinds.{Clocked, asks}
 use Rattle.word.specs.Worlds.{rules}
 use Rattle.world_core_base.specs.declared.slot.Standing.{Standing}
 use Rattle.world_core_base.specs.declared.slot.Standing.TheVariants.{Free, Lent, Ahead, Parked}
+use Rattle.world_core_base.specs.declared.turns.Among.{Among}
+use Rattle.world_core_base.specs.declared.turns.Among.TheVariants as among
 
 abbrev pub State : Type 0
 State = Clocked Frames
@@ -66,6 +68,11 @@ IsBefore rows k n = (row : Row State) × (slice_index_or rows n None ≡ Some ro
 abbrev pub waiting_clock : Option (Row State) → Option ℕ
 waiting_clock None = None
 waiting_clock (Some row) = cond row.parked (Some row.state.clock) None
+
+-- its clock, where those that are parked count, or those that may be lent
+abbrev pub clock_among : Among → Option (Row State) → Option ℕ
+clock_among among.Parked row = waiting_clock row
+clock_among among.Free row = free_clock row
 
 -- one that is not lent, parked or not
 abbrev pub back_row : State → Bool → Row State

@@ -3,10 +3,31 @@
 ghost use Rattle.std.specs.Prelude.{◌≡◌, IfSome, MatchOption, None, Some, false, slice_index_or, true};
 ghost use Rattle.logical_clock.specs.Order.{keys, least};
 ghost use Rattle.turn_rule.specs.Schedule.{has_turn};
-ghost use Rattle.world_core_base.specs.Slots.{IsAwake, IsBefore, IsNobodyAwake, free_clock, waiting_clock};
+ghost use Rattle.world_core_base.specs.Slots.{IsAwake, IsBefore, IsNobodyAwake, clock_among, free_clock, waiting_clock};
 
 use crate::slot::Slot;
-use logical_clock::{Key, sooner};
+use logical_clock::{Clock, Key, sooner};
+
+/// Whose clocks count.
+#[derive(Clone, Copy)]
+enum Among {
+    /// Those that stand at their requests.
+    Parked,
+    /// Those that may be lent.
+    Free,
+}
+
+impl Among {
+    /// The goroutine's clock, where it counts.
+    fn clock(self, slot: &Slot) -> Option<Clock>
+        ensures { result ≡ clock_among self (Some slot.now) }
+    {
+        match self {
+            Among::Parked => slot.parked_clock(),
+            Among::Free => slot.free_clock(),
+        }
+    }
+}
 
 /// The parked goroutine of least key. A goroutine's number is its place in the rows.
 #[tactic(auto, using(crate::proofs::Leases::waiting_found))]
@@ -14,21 +35,7 @@ pub fn least_parked(rows: &[Option<Slot>]) -> Option<Key>
     ensures least { result ≡ least (keys waiting_clock 0 rows.now) }
     ensures found { IfSome result (λ key. waiting_clock (slice_index_or rows.now key.number None) ≡ Some key.clock) }
 {
-    let mut best: Option<Key> = None;
-    for place in (0..rows.len()).rev() {
-        if let Some(slot) = &rows[place] {
-            if let Some(clock) = slot.parked_clock() {
-                best = Some(sooner(
-                    Key {
-                        clock,
-                        number: place as u64,
-                    },
-                    best,
-                ));
-            }
-        }
-    }
-    best
+    least_among(rows, Among::Parked)
 }
 
 /// The goroutine of least key of those that are neither lent nor parked.
@@ -37,10 +44,17 @@ pub(crate) fn least_free(rows: &[Option<Slot>]) -> Option<Key>
     ensures least { result ≡ least (keys free_clock 0 rows.now) }
     ensures found { IfSome result (λ key. free_clock (slice_index_or rows.now key.number None) ≡ Some key.clock) }
 {
+    least_among(rows, Among::Free)
+}
+
+/// The goroutine of least key of those whose clocks count.
+fn least_among(rows: &[Option<Slot>], among: Among) -> Option<Key>
+    ensures { result ≡ least (keys (clock_among among) 0 rows.now) }
+{
     let mut best: Option<Key> = None;
     for place in (0..rows.len()).rev() {
         if let Some(slot) = &rows[place] {
-            if let Some(clock) = slot.free_clock() {
+            if let Some(clock) = among.clock(slot) {
                 best = Some(sooner(
                     Key {
                         clock,

@@ -5,7 +5,7 @@ use Rattle.syntax.specs.declared.node.StatementNode.{StatementNode}
 use Rattle.syntax.specs.Measures.{declared_size, statement_size}
 use Rattle.syntax.specs.View.{type_of, declared_of, statement_of, function_of}
 use Rattle.checker.specs.Built.{are_all, is_built_parameter, is_absent, is_built_statement}
-use Rattle.checker.proofs.Sizes.{is_built_of, function_size_of, third_of, all_three, absent_of, no_size_of}
+use Rattle.checker.proofs.Sizes.{is_built_of, function_size_of, third_of, all_three, absent_of, no_size}
 use Rattle.checker.proofs.built.function.Goals as goal
 
 pub statements-requires : goal.statements-requires
@@ -19,7 +19,7 @@ overflow_add-result-2 c =
 pub returns-clause-end : goal.returns-clause-end
 returns-clause-end c =
     let absent = absent_of type_of c.args.function.now.result (sym c.is_some.ensures ∙ c.if-is_some.false) in
-    omega (arith, function_size_of c.args.function.now, no_size_of (function_of c.args.function.now).result absent, c.in_ok-middle.ensures.end, c.in_ok-last.ensures.end, ap (λ (xs : List DeclaredNode). sum_by declared_size (map declared_of xs)) c.as_slice.ensures.value, ap (λ (xs : List StatementNode). sum_by statement_size (map statement_of xs)) c.as_slice-2.ensures.value)
+    omega (arith, function_size_of c.args.function.now, no_size (function_of c.args.function.now).result absent, c.in_ok-middle.ensures.end, c.in_ok-last.ensures.end, ap (λ (xs : List DeclaredNode). sum_by declared_size (map declared_of xs)) c.as_slice.ensures.value, ap (λ (xs : List StatementNode). sum_by statement_size (map statement_of xs)) c.as_slice-2.ensures.value)
 
 pub returns-clause-built : goal.returns-clause-built
 returns-clause-built c =
