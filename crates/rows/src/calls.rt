@@ -41,7 +41,7 @@ impl Write for Slow {
 }
 
 /// Sees whether a run whose writer fails stops there, and tells it.
-pub fn check_failing_writers<R: Wait>(rt: &R, alloc: Global) -> Result<(), Flaw> {
+pub(crate) fn check_failing_writers<R: Wait>(rt: &R, alloc: Global) -> Result<(), Flaw> {
     for (fails_at, written, line) in [
         (1, "", "kendo: 14 Write\n"),
         (2, "1", "kendo: 14 Write\n"),
@@ -66,7 +66,7 @@ pub fn check_failing_writers<R: Wait>(rt: &R, alloc: Global) -> Result<(), Flaw>
 }
 
 /// Sees whether each panic has its line, and its status.
-pub fn check_panics(alloc: Global) -> Result<(), Flaw> {
+pub(crate) fn check_panics(alloc: Global) -> Result<(), Flaw> {
     for (panic, told) in [
         (Panic::DivideByZero, "P1 divide by zero"),
         (Panic::SendOnClosed, "P2 send on closed channel"),
@@ -85,7 +85,7 @@ pub fn check_panics(alloc: Global) -> Result<(), Flaw> {
 }
 
 /// Sees whether the refusals that no text causes have their lines and statuses, and one whose place is not known.
-pub fn check_refusals(alloc: Global) -> Result<(), Flaw> {
+pub(crate) fn check_refusals(alloc: Global) -> Result<(), Flaw> {
     let unplaced = Fault::Syntax(Place::from(Span { from: 36, to: 37 }));
     for (fault, line, status) in [
         (unplaced, "kendo: 7 Syntax\n", 1),

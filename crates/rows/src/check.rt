@@ -1,7 +1,7 @@
 //! What a file tells of its text, and whether that comes of it.
 
 use crate::flaw::{Flaw, same};
-use crate::folder::{Kind, Made, RowFile};
+use crate::folder::{FileKind, Made, RowFile};
 use crate::reading::{listing, spans, tokens};
 use crate::run::check_runs;
 use crate::trace::trace;
@@ -11,26 +11,26 @@ use std::sync::Wait;
 
 /// Sees whether what a file tells comes of its text; of a text, whether one of these files of its folder tells something of
 /// it.
-pub fn check<R: Files + AllocGlobal + Wait>(
+pub(crate) fn check<R: Files + AllocGlobal + Wait>(
     rt: &R,
     file: &RowFile<'_>,
     names: &[String],
 ) -> Result<(), Flaw> {
     match file.kind {
-        Kind::Text => check_told(file, names),
+        FileKind::Text => check_told(file, names),
         // Its lines tell something of texts of their own.
-        Kind::Table => Ok(()),
-        Kind::Generated => match file.beside(rt, "go")? {
+        FileKind::Table => Ok(()),
+        FileKind::Generated => match file.beside(rt, "go")? {
             Some(_) => Err(Flaw::Stranger),
             None => check_told(file, names),
         },
-        Kind::Row => check_run(rt, file),
+        FileKind::Row => check_run(rt, file),
         // Beside a `.row` the output is compared there.
-        Kind::Output => match file.beside(rt, "row")? {
+        FileKind::Output => match file.beside(rt, "row")? {
             Some(_) => Ok(()),
             None => check_run(rt, file),
         },
-        Kind::Made(made) => check_made(rt, file, made),
+        FileKind::Made(made) => check_made(rt, file, made),
     }
 }
 

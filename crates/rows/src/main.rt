@@ -22,7 +22,7 @@ mod written;
 use calls::{check_failing_writers, check_panics, check_refusals};
 use check::check;
 use flaw::Flaw;
-use folder::{Kind, RowFile, names, utf8};
+use folder::{FileKind, RowFile, names, utf8};
 use std::process::ExitCode;
 use std::rt::{Env, Files};
 use std::sync::Wait;
@@ -120,7 +120,7 @@ impl Report {
             match RowFile::new(folder, name.as_str()) {
                 Some(file) => {
                     self.tell(rt, path.as_str(), check(rt, &file, names))?;
-                    if file.kind == Kind::Table {
+                    if file.kind == FileKind::Table {
                         self.table(rt, &file, path.as_str())?;
                     }
                 }

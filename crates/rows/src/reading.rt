@@ -17,7 +17,7 @@ use verifier::{Verified, verify};
 use word::Flagged;
 
 /// The tokens of a text, one a line: its kind, where it begins and ends, and its bytes.
-pub fn tokens(alloc: Global, text: &[u8]) -> Result<Vec<u8>, Flaw> {
+pub(crate) fn tokens(alloc: Global, text: &[u8]) -> Result<Vec<u8>, Flaw> {
     let source = Source::new(Vec::from_slice(alloc, text)?)?;
     let mut lines = String::new(alloc);
     for Token { kind, span } in scan(alloc, &source)? {
@@ -28,7 +28,7 @@ pub fn tokens(alloc: Global, text: &[u8]) -> Result<Vec<u8>, Flaw> {
 }
 
 /// The nodes of a text's tree, one a line, in the order of their numbers: where it begins and ends, and its bytes.
-pub fn spans(alloc: Global, text: &[u8]) -> Result<Vec<u8>, Flaw> {
+pub(crate) fn spans(alloc: Global, text: &[u8]) -> Result<Vec<u8>, Flaw> {
     let tree = tree(alloc, text)?;
     let mut lines = String::new(alloc);
     for node in 0..tree.count() {
@@ -49,14 +49,14 @@ fn placed(alloc: Global, text: &[u8], span: Span) -> Result<String, Flaw> {
 }
 
 /// The listing of a text's code.
-pub fn listing(alloc: Global, text: &[u8]) -> Result<Vec<u8>, Flaw> {
+pub(crate) fn listing(alloc: Global, text: &[u8]) -> Result<Vec<u8>, Flaw> {
     let mut out = Flagged::new(Vec::new(alloc));
     list_bytes(alloc, Vec::from_slice(alloc, text)?, &mut out)?;
     Ok(out.into_inner())
 }
 
 /// The verified code of a text.
-pub fn program(alloc: Global, text: &[u8]) -> Result<Verified, Fault> {
+pub(crate) fn program(alloc: Global, text: &[u8]) -> Result<Verified, Fault> {
     let typed = check(alloc, tree(alloc, text)?)?;
     verify(alloc, compile(alloc, &typed)?)
 }

@@ -10,7 +10,7 @@ use word::Flagged;
 use word::end::End;
 
 /// A gate that holds nobody.
-pub struct Open;
+pub(crate) struct Open;
 
 impl Gate for Open {
     fn at_start(&self, _worker: u64) {}
@@ -22,7 +22,7 @@ impl Gate for Open {
 
 /// What came of a run.
 #[derive(Debug, Drop)]
-pub struct Ran {
+pub(crate) struct Ran {
     pub outcome: Result<End, Fault>,
     /// The line on standard error, with its newline, or nothing.
     pub line: Vec<u8>,
@@ -34,7 +34,7 @@ pub struct Ran {
 
 impl Ran {
     /// The run of a text.
-    pub fn of<R: Wait>(
+    pub(crate) fn of<R: Wait>(
         rt: &R,
         alloc: Global,
         text: &[u8],
@@ -82,7 +82,7 @@ impl Ran {
 }
 
 /// Runs a text with each number of workers of its row, and compares what comes of it.
-pub fn check_runs<R: Wait>(
+pub(crate) fn check_runs<R: Wait>(
     rt: &R,
     alloc: Global,
     text: &[u8],

@@ -23,14 +23,14 @@ enum Told<'a> {
 
 /// What stands before and behind each text of the lines to come.
 #[derive(Debug, Drop)]
-pub struct Table {
+pub(crate) struct Table {
     before: Vec<u8>,
     after: Vec<u8>,
 }
 
 impl Table {
     /// The table of whole texts.
-    pub fn new(alloc: Global) -> Table {
+    pub(crate) fn new(alloc: Global) -> Table {
         Table {
             before: Vec::new(alloc),
             after: Vec::new(alloc),
@@ -39,7 +39,12 @@ impl Table {
 
     /// Takes a line: an empty one, a comment, or what stands round the texts to come; or sees whether what a line tells of
     /// its text comes of it.
-    pub fn check_line<R: Wait>(&mut self, rt: &R, alloc: Global, line: &str) -> Result<(), Flaw> {
+    pub(crate) fn check_line<R: Wait>(
+        &mut self,
+        rt: &R,
+        alloc: Global,
+        line: &str,
+    ) -> Result<(), Flaw> {
         if line.is_empty() || line.starts_with('#') {
             return Ok(());
         }

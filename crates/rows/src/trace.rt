@@ -15,7 +15,7 @@ use word::value::Word;
 const QUANTUM: u32 = 1;
 
 /// The events of a text's run up to this clock limit, one a line.
-pub fn trace(alloc: Global, text: &[u8], limit: u64) -> Result<Vec<u8>, Flaw> {
+pub(crate) fn trace(alloc: Global, text: &[u8], limit: u64) -> Result<Vec<u8>, Flaw> {
     let program = Arc::new(alloc, program(alloc, text)?)?;
     let mut book = Book::open(alloc, program, limit)?;
     let mut lines = String::new(alloc);
