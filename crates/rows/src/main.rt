@@ -4,8 +4,8 @@
 //! that ends, `NAME.out` what it writes, `NAME.trace`, `NAME.list`, `NAME.spans` and `NAME.tokens` its events, its listing,
 //! its nodes and its tokens. A `NAME.texts` is a table of small texts. docs/TESTING.md has the forms.
 //!
-//! The rows lie in the folders of `data`, where the program is run. The repository's examples are rows too, so they lie in
-//! `data/examples`; the folder `examples` at the top leads there.
+//! The rows lie in the folders of `data`, where the program is run. The repository's examples are rows too: those of
+//! `data/examples` are copies of the folder `examples` at the top.
 #![tactic(auto)]
 
 mod calls;
