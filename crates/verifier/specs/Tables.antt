@@ -1,4 +1,5 @@
--- The verifier's table of the kinds at each place of a function, and what its steps do to it.
+-- The verifier's table of the kinds at each place of a function, and what its steps do to it, as the code does: these words
+-- are proved against the rules (bytecode's `Rules`), and claim nothing themselves.
 use Rattle.std.specs.Prelude.{◌≡◌, ℕ, suc, ◌+◌, ◌<◌, List, [], ◌∷◌, length, Option, Some, None, Bool, true, false, slice_get, slice_set}
 use Rattle.std.specs.Global.{Vec}
 use Rattle.bytecode.specs.declared.instr.WordKind.{WordKind}
