@@ -23,7 +23,7 @@ use word::end::End;
 use world_core::{Core, blocker, first_awake, least_parked};
 
 /// The book of a run: what is committed, who is lent, and the bytes that were not yet taken out.
-#[derive(Debug, Drop)]
+#[derive(Drop)]
 pub struct Book {
     alloc: Global,
     program: Arc<Verified>,

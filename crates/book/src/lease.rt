@@ -18,7 +18,7 @@ use std::sync::Arc;
 use verifier::Verified;
 
 /// A goroutine that is lent: it makes its local steps outside the book.
-#[derive(Debug, Drop)]
+#[derive(Drop)]
 pub struct Lease {
     alloc: Global,
     program: Arc<Verified>,

@@ -4,7 +4,7 @@ use word::end::End;
 use word::request::Event;
 
 /// What a settling comes to.
-#[derive(Debug, Drop)]
+#[derive(Drop)]
 pub enum Settled {
     /// The next event of the run is committed.
     Committed(Event),

@@ -8,7 +8,7 @@ use std::marker::Model;
 
 /// A function: its name, how many of its locals are parameters, the kinds of its locals (the parameters first) and of its
 /// results, and its instructions.
-#[derive(Debug, Drop)]
+#[derive(Drop)]
 pub struct Function {
     name: String,
     params: u32,
@@ -94,7 +94,7 @@ impl Function {
 }
 
 /// A program's functions, shapes, print tables and select tables, each numbered from 0.
-#[derive(Debug, Drop)]
+#[derive(Drop)]
 pub struct Code {
     functions: Vec<Function>,
     shapes: Vec<Shape>,

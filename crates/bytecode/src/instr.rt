@@ -3,7 +3,7 @@
 use word::apply::Op;
 
 /// The kind of a word.
-#[derive(Clone, Copy, Debug, PartialEq, Eq)]
+#[derive(Clone, Copy, PartialEq, Eq)]
 pub enum WordKind {
     /// An `int`.
     Int,
@@ -15,7 +15,7 @@ pub enum WordKind {
 
 /// An instruction. Places of instructions, functions, locals, shapes and tables are counted from 0. Words are taken from
 /// the top of the operand stack, the last one named being on its top, and left there.
-#[derive(Clone, Copy, Debug, PartialEq, Eq)]
+#[derive(Clone, Copy, PartialEq, Eq)]
 pub enum Instr {
     /// Pushes this number.
     Int(i64),

@@ -13,7 +13,7 @@ pub const MAX_PARTS: usize = 64;
 pub const MAX_CLAUSES: usize = 64;
 
 /// The kinds of an item's words: 1 to 16 in verified code.
-#[derive(Debug, Drop)]
+#[derive(Drop)]
 pub struct Shape {
     kinds: Vec<WordKind>,
 }
@@ -66,7 +66,7 @@ pub fn same_kinds(left: &[WordKind], right: &[WordKind]) -> bool
 }
 
 /// The bytes of a string in the source.
-#[derive(Debug, Drop)]
+#[derive(Drop)]
 pub struct Text {
     bytes: Vec<u8>,
 }
@@ -96,7 +96,7 @@ impl Text {
 }
 
 /// A part of what is printed.
-#[derive(Debug, Drop)]
+#[derive(Drop)]
 pub enum Part {
     /// An `int`, taken from the stack.
     Int,
@@ -107,7 +107,7 @@ pub enum Part {
 }
 
 /// What a `print` or `println` writes.
-#[derive(Debug, Drop)]
+#[derive(Drop)]
 pub struct PrintTable {
     parts: Vec<Part>,
     line: bool,
@@ -186,7 +186,7 @@ fn same_parts(left: &[Part], right: &[Part]) -> bool
 }
 
 /// A clause of a select.
-#[derive(Clone, Copy, Debug, PartialEq, Eq)]
+#[derive(Clone, Copy, PartialEq, Eq)]
 pub enum Clause {
     /// Sends an item of the first number's shape, and goes on at the second number's place.
     Send(u32, u32),
@@ -218,7 +218,7 @@ impl Clause {
 }
 
 /// The clauses of a select, in source order, and where its default goes on, where it has one.
-#[derive(Debug, Drop)]
+#[derive(Drop)]
 pub struct SelectTable {
     clauses: Vec<Clause>,
     default: Option<u32>,

@@ -9,7 +9,7 @@ use std::marker::Model;
 use word::value::Item;
 
 /// A channel without its sleepers: its capacity, what is in its buffer, whether it is closed, and the zero item.
-#[derive(Debug, Drop)]
+#[derive(Drop)]
 pub struct Channel {
     capacity: u32,
     items: VecDeque<Item>,

@@ -20,7 +20,7 @@ use word::request::{Case, Reply, Request};
 use word::value::{Item, Word};
 
 /// The channels of a world, and those who sleep at them, in the order in which they fell asleep.
-#[derive(Debug, Drop)]
+#[derive(Drop)]
 pub struct Channels {
     alloc: Global,
     /// Channel c is at place c; place 0 is no channel's.

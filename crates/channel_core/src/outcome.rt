@@ -5,7 +5,7 @@ use word::panic::Panic;
 use word::request::Reply;
 
 /// One that was asleep, and what it is told.
-#[derive(Debug, Drop)]
+#[derive(Drop)]
 pub struct Woken {
     number: u64,
     reply: Reply,
@@ -49,7 +49,7 @@ impl Woken {
 }
 
 /// What became of a request to a channel.
-#[derive(Debug, Drop)]
+#[derive(Drop)]
 pub enum Outcome {
     /// It is done: its goroutine goes on with this reply, and these were woken, in the order in which they fell asleep.
     Done(Reply, Vec<Woken>),

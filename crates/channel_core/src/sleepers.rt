@@ -12,7 +12,7 @@ use word::request::{Case, Reply, Request};
 use word::value::Item;
 
 /// A goroutine that sleeps, and what it asked.
-#[derive(Debug, Drop)]
+#[derive(Drop)]
 pub struct Sleeper {
     number: u64,
     request: Request,
@@ -28,7 +28,7 @@ impl Model for Sleeper {
 }
 
 /// Whom a request meets: a sleeper's number, the clause that is served (0 outside a select), and what it sends.
-#[derive(Debug, Drop)]
+#[derive(Drop)]
 pub struct Partner {
     pub number: u64,
     pub case: usize,

@@ -23,7 +23,7 @@ use word::request::{Reply, Request};
 use word::value::Word;
 
 /// A goroutine: its clock, whether a close woke it at its send, and the functions that run.
-#[derive(Debug, Drop)]
+#[derive(Drop)]
 pub struct GoState {
     clock: Clock,
     doomed: bool,

@@ -12,7 +12,7 @@ use word::value::{Item, Word};
 pub(crate) const MAX_TOLD: usize = 17;
 
 /// The words that a goroutine was told, which the next step puts onto its stack. They take no memory of their own.
-#[derive(Debug, Drop)]
+#[derive(Drop)]
 pub(crate) struct Told {
     words: [Word; 17],
     len: usize,

@@ -12,7 +12,7 @@ use std::mem::swap;
 
 /// Functions of which each waits for the one called after it; contracts see the last one called first. Frames are kept for later
 /// calls, which no contract sees.
-#[derive(Debug, Drop)]
+#[derive(Drop)]
 pub struct CallStack {
     pub(crate) frames: Vec<Frame>,
     pub(crate) depth: usize,

@@ -1,7 +1,7 @@
 //! What came of one instruction.
 
 /// What one instruction did.
-#[derive(Clone, Copy, Debug, PartialEq, Eq)]
+#[derive(Clone, Copy, PartialEq, Eq)]
 pub enum Stepped {
     /// A step that costs nothing.
     Slid,

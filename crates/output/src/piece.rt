@@ -6,14 +6,14 @@ use std::sync::Arc;
 use verifier::Verified;
 
 /// Which bytes of a run.
-#[derive(Clone, Copy, Debug, PartialEq, Eq)]
+#[derive(Clone, Copy, PartialEq, Eq)]
 pub enum Kind {
     Output,
     Trace,
 }
 
 /// Bytes that stand at a place of the output, or of the trace, of a program's run.
-#[derive(Debug, Drop)]
+#[derive(Drop)]
 pub struct Piece {
     /// The program that runs.
     pub program: Arc<Verified>,

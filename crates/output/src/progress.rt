@@ -8,7 +8,7 @@ use std::sync::Arc;
 use verifier::Verified;
 
 /// How far a run's output, or its trace, was written.
-#[derive(Debug, Drop)]
+#[derive(Drop)]
 pub struct Progress {
     program: Arc<Verified>,
     limit: u64,

@@ -14,7 +14,7 @@ use std::marker::Model;
 use word::limits::MAX_WORDS;
 
 /// Code that keeps all rules of the verifier.
-#[derive(Debug, Drop)]
+#[derive(Drop)]
 pub struct Verified {
     code: Code,
 }

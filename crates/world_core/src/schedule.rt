@@ -18,7 +18,7 @@ use word::request::Event;
 use world_core_base::{Core, blocker, first_awake, least_parked};
 
 /// A world of goroutines that run ahead of their turn, and all that was committed.
-#[derive(Debug, Drop)]
+#[derive(Drop)]
 pub struct World {
     core: Core,
     events: Vec<Event>,

@@ -28,7 +28,7 @@ use word::request::{Event, EventOutcome, Reply, Request};
 use word::value::Word;
 
 /// A world of goroutines that run ahead of their turn, without its lists of events and bytes.
-#[derive(Debug, Drop)]
+#[derive(Drop)]
 pub struct Core {
     /// Goroutine n, if it is awake, is at place n; place 0 is never taken.
     rows: Vec<Option<Slot>>,

@@ -18,13 +18,13 @@ use logical_clock::Clock;
 use std::alloc::{AllocError, Global};
 use std::marker::Model;
 use std::snapshot::Snapshot;
-use std::{fmt, mem};
+use std::mem;
 use turn_rule::Step;
 use verifier::Verified;
 use word::request::Reply;
 
 /// Where an awake goroutine is.
-#[derive(Debug, Drop)]
+#[derive(Drop)]
 pub enum Standing {
     /// It may be lent.
     Free,
@@ -37,7 +37,7 @@ pub enum Standing {
 }
 
 /// An awake goroutine: its state, or that in which it was lent.
-#[derive(Debug, Drop)]
+#[derive(Drop)]
 pub struct Slot {
     state: GoState,
     /// A clock that its next request is not below.
@@ -323,13 +323,6 @@ impl Model for Away {
     ghost Value = { Row State };
 
     ghost view = { λ a. back_row a.kept.value a.parked };
-}
-
-impl fmt::Debug for Away {
-    fn fmt<W: fmt::Write>(&self, f: &mut fmt::Formatter<W>) -> fmt::Result {
-        let parked = self.parked;
-        write!(f, "Away {{ parked: {parked} }}")
-    }
 }
 
 impl Away {
