@@ -3,7 +3,7 @@
 use crate::made::{Body, program};
 use crate::programs::{HANDS_OVER, STARTS_MORE, WAITS_FOR_GOOD};
 use book::{Book, Lease, Settled};
-use go_text::{Fault, Memory, NotYours};
+use go_text::{Fault, NotYours};
 use std::alloc::Global;
 use std::process::Abort;
 use std::sync::Arc;
@@ -65,18 +65,20 @@ fn event_seen(event: &Event) -> Seen {
     Seen::Event(event.clock.time(), event.number, sleeps)
 }
 
-fn seen_in(settled: Result<Settled, Memory>) -> Seen {
-    match &settled {
-        Ok(Settled::Committed(event)) => event_seen(event),
-        Ok(Settled::Waiting(number)) => Seen::Waiting(*number),
-        Ok(Settled::Ended(end)) => Seen::Ended(*end),
-        Err(_) => Seen::NoMemory,
+fn seen_in(settled: Settled) -> Seen {
+    match settled {
+        Settled::Committed(event) => event_seen(&event),
+        Settled::Waiting(number) => Seen::Waiting(number),
+        Settled::Ended(end) => Seen::Ended(end),
     }
 }
 
 /// What the next settling comes to.
 fn settled(book: &mut Book) -> Seen {
-    seen_in(book.settle())
+    match book.settle() {
+        Ok(settled) => seen_in(settled),
+        Err(_) => Seen::NoMemory,
+    }
 }
 
 /// What the next settling comes to where all are parked.

@@ -61,10 +61,10 @@ fn answer_of(reply: &Reply) -> Answer {
 }
 
 fn seen_in(outcome: Result<Outcome, Memory>) -> Seen {
-    match &outcome {
-        Ok(Outcome::Done(reply, woken)) => Seen::Replied(answer_of(reply), awake(woken.as_slice())),
+    match outcome {
+        Ok(Outcome::Done(reply, woken)) => Seen::Replied(answer_of(&reply), awake(&woken)),
         Ok(Outcome::Sleeps) => Seen::Sleeps,
-        Ok(Outcome::Panics(panic, clause)) => Seen::Panics(*panic, *clause),
+        Ok(Outcome::Panics(panic, clause)) => Seen::Panics(panic, clause),
         Err(_) => Seen::NoMemory,
     }
 }

@@ -18,7 +18,7 @@ use logical_clock::Clock;
 use std::alloc::{AllocError, Global};
 use std::marker::Model;
 use std::snapshot::Snapshot;
-use std::{fmt, mem};
+use std::mem;
 use turn_rule::Step;
 use verifier::Verified;
 use word::request::Reply;
@@ -323,13 +323,6 @@ impl Model for Away {
     ghost Value = { Row State };
 
     ghost view = { λ a. back_row a.kept.value a.parked };
-}
-
-impl fmt::Debug for Away {
-    fn fmt<W: fmt::Write>(&self, f: &mut fmt::Formatter<W>) -> fmt::Result {
-        let parked = self.parked;
-        write!(f, "Away {{ parked: {parked} }}")
-    }
 }
 
 impl Away {
