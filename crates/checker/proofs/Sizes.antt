@@ -160,4 +160,3 @@ all_three false b c x y z = absurd (false≢true x)
 pub absent_of : {A B : Type 0} (view : A → B) (o : Option A) → is_some o ≡ false → is_absent (option_map view o) ≡ true
 absent_of view None e = refl
 absent_of view (Some x) e = absurd (false≢true (sym e))
-
