@@ -1,0 +1,4 @@
+pub mod Widths
+pub mod Written
+pub mod Tables
+pub mod Fields

@@ -1,0 +1,7 @@
+pub mod Types
+pub mod Containment
+pub mod Scopes
+pub mod Views
+pub mod Marks
+pub mod Trouble
+pub mod Visible

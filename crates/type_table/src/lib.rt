@@ -1,0 +1,10 @@
+//! The types of values, what is declared in a file, and which variables are visible.
+#![tactic(auto)]
+
+pub mod entry;
+pub mod layout;
+pub mod name_list;
+pub mod scope;
+pub mod table;
+pub mod value_type;
+pub mod width;
