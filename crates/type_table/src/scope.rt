@@ -138,6 +138,8 @@ pub fn own_variable<'a>(
 }
 
 /// Declares a variable.
+///
+/// Errors: want of memory, and a frame of over 2^64 words.
 pub fn declare<'a>(
     table: &TypeTable<'a>,
     visible: &mut Visible<'a>,
