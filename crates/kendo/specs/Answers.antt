@@ -6,7 +6,7 @@ use Rattle.clap.specs.Simple.{subcommand_of}
 use Rattle.clap.specs.Words.{Text}
 use Rattle.clap.specs.declared.error.kind.ErrorKind.{ErrorKind}
 use Rattle.clap.specs.declared.error.kind.ErrorKind.TheVariants as kinds
-use Rattle.checker.specs.Source.{source_kind}
+use Rattle.straight_checker.specs.Source.{source_kind}
 use Rattle.kendo.specs.CommandLine.{IsAsked, kendo}
 use Rattle.kendo.specs.declared.arguments.Subcommand.{Subcommand}
 use Rattle.kendo.specs.declared.arguments.Subcommand.TheVariants as subcommands

@@ -2,8 +2,8 @@
 use Rattle.std.proofs.Common.{◌≡◌, ℕ, ◌≤◌, ◌⊎◌, inl, inr, List, Result, Ok, Err, subst, length}
 use Rattle.std.specs.Prelude.{IsUtf8}
 use Rattle.parser.proofs.FileLaws.{one_file}
-use Rattle.checker.specs.Program.{Tells}
-use Rattle.checker.specs.Rules.{IsTyped}
+use Rattle.straight_checker.specs.Program.{Tells}
+use Rattle.straight_checker.specs.Rules.{IsTyped}
 use Rattle.go_text.specs.declared.fault.Fault.{Fault}
 use Rattle.go_text.specs.declared.fault.Fault.TheVariants as faults
 use Rattle.go_text.specs.declared.source.TheConstants.{MAX_LENGTH}
@@ -15,7 +15,7 @@ use Rattle.syntax.specs.declared.tree.Tree.{Tree}
 use Rattle.syntax.specs.Spans.{tree_of}
 use Rattle.syntax.specs.Tree.{File}
 use Rattle.syntax.specs.Measures.{height, most_entries, most_clauses}
-use Rattle.checker.specs.Built.{IsBuilt}
+use Rattle.straight_checker.specs.Built.{IsBuilt}
 use Rattle.kendo_base.specs.Reading.{Reads, HasNoReading, HasNoTree, IsUnspelt, IsUnread, IsWrong, IsWhy, located_in}
 
 same_tokens : {E : Type 0} (r : Result (List Token) E) (ts us : List Token) → r ≡ Ok ts → r ≡ Ok us → ts ≡ us

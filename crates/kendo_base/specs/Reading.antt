@@ -1,7 +1,7 @@
 -- The program that a text is.
 use Rattle.std.specs.Prelude.{◌≡◌, ℕ, ◌<◌, ◌≤◌, ◌⊎◌, ◌||◌, ◌==◌, nat_le, IsTrue, List, Some, Ok, Err, length, take, IsUtf8}
-use Rattle.checker.specs.Program.{Tells}
-use Rattle.checker.specs.Rules.{IsTyped}
+use Rattle.straight_checker.specs.Program.{Tells}
+use Rattle.straight_checker.specs.Rules.{IsTyped}
 use Rattle.go_text.specs.declared.fault.Fault.{Fault}
 use Rattle.go_text.specs.declared.fault.Fault.TheVariants as faults
 use Rattle.go_text.specs.declared.place.Place.{Place}
@@ -16,7 +16,7 @@ use Rattle.syntax.specs.declared.tree.Tree.{Tree}
 use Rattle.syntax.specs.Spans.{tree_of}
 use Rattle.syntax.specs.Tree.{File}
 use Rattle.syntax.specs.Measures.{height, most_entries, most_clauses}
-use Rattle.checker.specs.Built.{IsBuilt}
+use Rattle.straight_checker.specs.Built.{IsBuilt}
 
 -- the file spells the tokens of the text, within all limits, all forms in it are compiled today, and no typing rule
 -- is broken

@@ -1,9 +1,9 @@
 //! From bytes to a checked program.
 
 ghost use Rattle.std.specs.Prelude.{◌≡◌, ◌<◌, ◌≤◌, ◌^◌, ◌⊎◌, Ok, Err, IfErr, IfOk, IsUtf8, length};
-ghost use Rattle.checker.specs.Program.{Tells};
-ghost use Rattle.checker.specs.Rules.{IsTyped};
-ghost use Rattle.checker.specs.Typed.{tree_in};
+ghost use Rattle.straight_checker.specs.Program.{Tells};
+ghost use Rattle.straight_checker.specs.Rules.{IsTyped};
+ghost use Rattle.straight_checker.specs.Typed.{tree_in};
 ghost use Rattle.go_text.specs.Source.{bytes_of};
 ghost use Rattle.go_text.specs.declared.fault.Fault.{Fault as OneFault};
 ghost use Rattle.parser_base.specs.Lexemes.{lexemes};
@@ -11,10 +11,10 @@ ghost use Rattle.parser.specs.Spelling.{Spells};
 ghost use Rattle.scanner.specs.Tokens.{tokens_of as spec_tokens_of};
 ghost use Rattle.syntax.specs.Spans.{tree_of};
 ghost use Rattle.syntax.specs.Measures.{height, most_entries, most_clauses};
-ghost use Rattle.checker.specs.Built.{IsBuilt};
+ghost use Rattle.straight_checker.specs.Built.{IsBuilt};
 ghost use Rattle.kendo_base.specs.Reading.{HasNoReading, HasNoTokens, HasNoTree, IsOfText, IsRefusal, IsUnspelt, IsWhy, Reads, located_in};
 
-use checker::{Typed, check};
+use straight_checker::{Typed, check};
 use go_text::source::MAX_LENGTH;
 use go_text::{Fault, Place, Source};
 use parser::parse;

@@ -1,7 +1,7 @@
 //! From bytes to bytes.
 
 ghost use Rattle.std.specs.Prelude.{◌≡◌, ◌≤◌, ◌⊎◌, ◌↔◌, IfErr, IfOk, IsErrOf, true};
-ghost use Rattle.checker.specs.Source.{source_kind};
+ghost use Rattle.straight_checker.specs.Source.{source_kind};
 ghost use Rattle.kendo_base.specs.Reading.{HasNoReading, IsRefusal, IsWhy, Reads, fault_number};
 ghost use Rattle.kendo_base.specs.Runs.{BeginsOutput, IsLimit, IsWhole, IsWorkers};
 ghost use Rattle.syntax.specs.Tree.{File};

@@ -5,7 +5,7 @@ ghost use Rattle.syntax.specs.Measures.{most_entries};
 ghost use Rattle.syntax.specs.Spans.{tree_of};
 
 use crate::flaw::{Flaw, shown};
-use checker::check;
+use straight_checker::check;
 use codegen::compile;
 use go_text::{Fault, Source, Span};
 use kendo_base::list_bytes;

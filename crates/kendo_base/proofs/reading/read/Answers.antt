@@ -1,7 +1,7 @@
 use Rattle.std.proofs.Common.{◌≤◌, ℕ, List, length, sym, subst}
 use Rattle.std.specs.Prelude.{IsUtf8}
 use Rattle.std.proofs.lemmas.Result.{err_from_is_err_and}
-use Rattle.checker.specs.Typed.{tree_in}
+use Rattle.straight_checker.specs.Typed.{tree_in}
 use Rattle.go_text.specs.Source.{bytes_of}
 use Rattle.go_text.specs.declared.source.TheConstants.{MAX_LENGTH}
 use Rattle.parser_base.specs.Lexemes.{lexemes}
