@@ -2,3 +2,4 @@ pub mod Widths
 pub mod Written
 pub mod Tables
 pub mod Fields
+pub mod Names

@@ -4,4 +4,5 @@ pub mod Scopes
 pub mod Views
 pub mod Marks
 pub mod Trouble
+pub mod Indexes
 pub mod Visible

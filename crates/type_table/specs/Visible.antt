@@ -3,8 +3,8 @@ use Rattle.std.specs.Prelude.{◌≡◌, ℕ, List, map, Some, take, length}
 use Rattle.syntax.specs.View.{name_of}
 use Rattle.type_table.specs.declared.table.TypeTable.{TypeTable}
 use Rattle.type_table.specs.declared.layout.Selected.{Selected as InTable}
-use Rattle.type_table.specs.declared.scope.Entry.{Entry}
-use Rattle.type_table.specs.declared.scope.Visible.{Visible as InMemory}
+use Rattle.type_table.specs.declared.visible.Entry.{Entry}
+use Rattle.type_table.specs.declared.visible.Visible.{Visible as InMemory}
 use Rattle.type_table.specs.Containment.{Selected}
 use Rattle.type_table.specs.Scopes.{Globals, Variable, Scope}
 use Rattle.type_table.specs.Views.{names_of, kind_of, structs_of, signature_of}

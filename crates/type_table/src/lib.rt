@@ -3,8 +3,10 @@
 
 pub mod entry;
 pub mod layout;
+mod name_index;
 pub mod name_list;
 pub mod scope;
 pub mod table;
 pub mod value_type;
+pub mod visible;
 pub mod width;

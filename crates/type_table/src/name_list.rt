@@ -1,11 +1,13 @@
 //! Lists of names that are found by their bytes.
 
-ghost use Rattle.std.specs.Prelude.{◌≡◌, [], ◌∷◌, ◌++◌, map, OnOk, OnErr};
+ghost use Rattle.std.specs.Prelude.{◌≡◌, ℕ, List, [], ◌∷◌, ◌++◌, map, OnOk, OnErr};
 ghost use Rattle.syntax.specs.View.{name_of};
 ghost use Rattle.syntax.specs.declared.node.Name.{Name as OneName};
 ghost use Rattle.type_table.specs.Scopes.{number_of};
+ghost use Rattle.type_table.specs.Indexes.{number_in};
 ghost use denote.Ref.{Bor};
 
+use crate::name_index::NameIndex;
 use std::alloc::{AllocError, Global};
 use std::marker::Model;
 use syntax::Name;
@@ -14,6 +16,9 @@ use syntax::Name;
 #[derive(Drop)]
 pub struct NameList<'a> {
     names: Vec<&'a Name>,
+    /// For each name, the first of them that is the same.
+    first: NameIndex<'a>,
+    ghost found: { (name : List ℕ) → number_in first name ≡ number_of (map (λ (one : Bor OneName). name_of one.now) names.items) name },
 }
 
 impl<'a> Model for NameList<'a> {
@@ -27,18 +32,6 @@ impl<'a> Model for NameList<'a> {
     ghost view = { λ list. map (λ (name : Bor OneName). name_of name.now) list.names.items };
 }
 
-/// The number of the first of these names that has these bytes.
-fn first_named(names: &[&Name], name: &[u8]) -> Option<usize>
-    ensures { result ≡ number_of (map (λ (one : Bor OneName). name_of one.now) names.now) name.now }
-{
-    for (number, one) in names.iter().enumerate() {
-        if one.bytes.as_slice() == name {
-            return Some(number);
-        }
-    }
-    None
-}
-
 impl<'a> NameList<'a> {
     /// No names.
     pub fn new(alloc: Global) -> NameList<'a>
@@ -46,6 +39,7 @@ impl<'a> NameList<'a> {
     {
         NameList {
             names: Vec::new(alloc),
+            first: NameIndex::new(alloc),
         }
     }
 
@@ -54,14 +48,25 @@ impl<'a> NameList<'a> {
         ensures pushed { OnOk result (self.new ≡ self.old ++ name_of name.now ∷ []) }
         ensures err { OnErr result (self.new ≡ self.old) }
     {
+        let number = self.names.len();
+        let bytes = name.bytes.as_slice();
         self.names.push(name)?;
-        Ok(())
+        if self.first.number_of(bytes).is_some() {
+            return Ok(());
+        }
+        match self.first.set(bytes, number) {
+            Ok(()) => Ok(()),
+            Err(error) => {
+                self.names.pop();
+                Err(error)
+            }
+        }
     }
 
     /// The number of the first one of these bytes.
     pub fn number_of(&self, name: &[u8]) -> Option<usize>
         ensures { result ≡ number_of self.now name.now }
     {
-        first_named(self.names.as_slice(), name)
+        self.first.number_of(name)
     }
 }

@@ -1,7 +1,8 @@
 //! Variables, and where they are visible.
 
-ghost use Rattle.std.specs.Prelude.{◌≡◌, ℕ, [], Some, option_map, length, map, take, drop, OnOk, OnErr};
+ghost use Rattle.std.specs.Prelude.{◌≡◌, ◌-◌, ◌++◌, ◌∷◌, ℕ, [], Some, option_map, slice_get, length, map, take, drop, OnOk};
 ghost use Rattle.syntax.specs.View.{name_of};
+ghost use Rattle.type_table.specs.declared.visible.Entry.{Entry as OneEntry};
 ghost use Rattle.type_table.specs.declared.table.TypeTable.{TypeTable as OneTable};
 ghost use Rattle.type_table.specs.Containment.{variable_words};
 ghost use Rattle.type_table.specs.Scopes.{is_blank, is_truth, is_nil, is_reserved, last_named, variable_named, own_variable, entered, declared, nothing_declared};
@@ -9,28 +10,12 @@ ghost use Rattle.type_table.specs.Views.{kind_of};
 ghost use Rattle.type_table.specs.Visible.{types_of, globals_in, variable_of, scope_of, Keeps};
 
 use crate::layout::words_of;
+use crate::name_index::NameIndex;
 use crate::table::TypeTable;
 use crate::value_type::ValueType;
+pub use crate::visible::{Entry, Visible};
 use std::alloc::{AllocError, Global};
 use syntax::Name;
-
-/// A variable: its name, its type, and the first of its words in the frame of its function.
-#[derive(Clone, Copy)]
-pub struct Entry<'a> {
-    pub name: &'a Name,
-    pub kind: ValueType<'a>,
-    pub place: usize,
-}
-
-/// The variables that are visible, in the order of their declarations.
-#[derive(Drop)]
-pub struct Visible<'a> {
-    pub entries: Vec<Entry<'a>>,
-    /// How many of them were declared outside of the innermost block.
-    pub outer: usize,
-    /// How many words of the frame are taken, also by variables of blocks that have ended.
-    pub words: usize,
-}
 
 impl<'a> Visible<'a> {
     /// No variables.
@@ -42,6 +27,7 @@ impl<'a> Visible<'a> {
             entries: Vec::new(alloc),
             outer: 0,
             words: 0,
+            last: NameIndex::new(alloc),
         }
     }
 }
@@ -85,17 +71,26 @@ pub fn is_reserved(name: &[u8]) -> bool
         || name == b"init".as_slice()
 }
 
-/// The last of these variables that has this name.
-fn last_named<'a>(table: &TypeTable<'a>, entries: &[Entry<'a>], name: &[u8]) -> Option<Entry<'a>>
-    ensures { option_map (variable_of (types_of table.now)) result ≡ last_named (map (variable_of (types_of table.now)) entries.now) name.now }
+/// The variable at a place among those that are visible.
+fn entry_at<'a>(visible: &Visible<'a>, place: usize) -> Option<Entry<'a>>
+    ensures { result ≡ slice_get visible.now.entries.items place }
 {
-    let mut found = None;
-    for entry in entries {
-        if entry.name.bytes.as_slice() == name {
-            found = Some(*entry);
-        }
+    visible.entries.get(place).copied()
+}
+
+/// The last variable of this name, if it was declared behind so many.
+fn last_from<'a>(
+    table: &TypeTable<'a>,
+    visible: &Visible<'a>,
+    name: &[u8],
+    count: usize,
+) -> Option<Entry<'a>>
+    ensures { option_map (variable_of (types_of table.now)) result ≡ last_named (drop count (map (variable_of (types_of table.now)) visible.now.entries.items)) name.now }
+{
+    match visible.last.number_of(name) {
+        Some(place) if place >= count => entry_at(visible, place),
+        _ => None,
     }
-    found
 }
 
 /// The variable that a name stands for; `_` stands for none.
@@ -109,18 +104,7 @@ pub fn variable_named<'a>(
     if is_blank(name) {
         return None;
     }
-    last_named(table, visible.entries.as_slice(), name)
-}
-
-/// The variables that were declared in the innermost block.
-fn own_entries<'v, 'a>(visible: &'v Visible<'a>) -> &'v [Entry<'a>]
-    ensures { result.now ≡ drop visible.now.outer visible.now.entries.items }
-{
-    if visible.entries.len() < visible.outer {
-        &[]
-    } else {
-        &visible.entries[visible.outer..]
-    }
+    last_from(table, visible, name, 0)
 }
 
 /// The variable of this name that was declared in the innermost block.
@@ -134,7 +118,37 @@ pub fn own_variable<'a>(
     if is_blank(name) {
         return None;
     }
-    last_named(table, own_entries(visible), name)
+    last_from(table, visible, name, visible.outer)
+}
+
+/// Puts a variable behind those that are visible.
+fn put<'a>(
+    visible: &mut Visible<'a>,
+    kind: ValueType<'a>,
+    place: usize,
+    name: &'a Name,
+) -> Result<(), AllocError>
+    ensures entries { OnOk result ((entry : OneEntry) × (visible.new.entries.items ≡ visible.old.entries.items ++ entry ∷ []) × (entry.name ≡ name.entry) × (entry.kind ≡ kind.entry) × (entry.place ≡ place)) }
+    ensures outer { visible.new.outer ≡ visible.old.outer }
+    ensures words { visible.new.words ≡ visible.old.words }
+{
+    let count = visible.entries.len();
+    let bytes = name.bytes.as_slice();
+    let hides = visible.last.number_of(bytes);
+    visible.last.set(bytes, count)?;
+    let entry = Entry {
+        name,
+        kind,
+        place,
+        hides,
+    };
+    match visible.entries.push(entry) {
+        Ok(()) => Ok(()),
+        Err(_) => {
+            visible.last.restore(bytes, hides);
+            Err(AllocError)
+        }
+    }
 }
 
 /// Declares a variable.
@@ -151,7 +165,7 @@ pub fn declare<'a>(
 {
     let place = visible.words;
     let words = place.checked_add(words_of(table, kind)).ok_or(AllocError)?;
-    visible.entries.push(Entry { name, kind, place })?;
+    put(visible, kind, place, name)?;
     visible.words = words;
     Ok(())
 }
@@ -166,12 +180,27 @@ pub fn enter(visible: &mut Visible<'_>)
     visible.outer = visible.entries.len();
 }
 
+/// The last variable is not visible any more, and the one that it hid is visible again.
+fn forget_last(visible: &mut Visible<'_>)
+    ensures entries { visible.new.entries.items ≡ take (length visible.old.entries.items - 1) visible.old.entries.items }
+    ensures outer { visible.new.outer ≡ visible.old.outer }
+    ensures words { visible.new.words ≡ visible.old.words }
+{
+    if let Some(entry) = visible.entries.pop() {
+        visible
+            .last
+            .restore(entry.name.bytes.as_slice(), entry.hides);
+    }
+}
+
 /// A block has ended: so many variables are visible again, and so many were declared outside of the innermost block.
 pub fn leave(visible: &mut Visible<'_>, count: usize, outer: usize)
     ensures entries { visible.new.entries.items ≡ take count visible.old.entries.items }
     ensures outer { visible.new.outer ≡ outer }
     ensures words { visible.new.words ≡ visible.old.words }
 {
-    visible.entries.truncate(count);
+    while visible.entries.len() > count {
+        forget_last(visible);
+    }
     visible.outer = outer;
 }
