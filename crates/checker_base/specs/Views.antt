@@ -1,0 +1,36 @@
+-- What expressions are worth, and what is refused, as the definitions see it.
+use Rattle.std.specs.Prelude.{◌≡◌, ◌≤◌, ◌^◌, ℕ, ◌+◌, List, nat_abs, Option, Some}
+use Rattle.checker_base.specs.declared.flaw.Flaw.{Flaw}
+use Rattle.checker_base.specs.declared.refusal.Refusal.{Refusal}
+use Rattle.checker_base.specs.declared.refusal.Refusal.TheVariants.{Memory, Flawed}
+use Rattle.checker_base.specs.declared.worth.Worth.{Worth as InMemory}
+use Rattle.checker_base.specs.declared.worth.Worth.TheVariants as worths
+use Rattle.checker_base.specs.declared.operand.Operand.{Operand}
+use Rattle.type_table.specs.declared.value_type.ValueType.{ValueType as Kind}
+use Rattle.type_table.specs.Types.{ValueType}
+use Rattle.type_table.specs.Views.{kind_of}
+use Rattle.checker_base.specs.Flaws.{Nodes}
+use Rattle.checker_base.specs.Worths.{Worth, Typed, Constant, Nil}
+
+abbrev pub worth_of : List (List ℕ) → InMemory → Worth
+worth_of types (worths.Typed kind) = Typed (kind_of types kind)
+worth_of types (worths.Constant value) = Constant value
+worth_of types worths.Nil = Nil
+
+-- a constant's size is at most 2 ^ 100
+abbrev pub IsSmall : InMemory → Type 0
+IsSmall (worths.Constant value) = nat_abs value ≤ 2 ^ 100
+IsSmall worth = Unit {0}
+
+-- the nodes of an operand
+abbrev pub nodes_in : Operand → Nodes
+nodes_in operand = record { first = operand.first; end = operand.node + 1 }
+
+-- P of the flaw, if it is one; want of memory says nothing
+abbrev pub Refuses : (Flaw → Type 0) → Refusal → Type 0
+Refuses P Memory = Unit {0}
+Refuses P (Flawed flaw) = P flaw
+
+-- the type of a parameter or a field, which is known
+abbrev pub known_kind : List (List ℕ) → Kind → Option ValueType
+known_kind types kind = Some (kind_of types kind)
