@@ -1,6 +1,7 @@
 -- What expressions are worth, and what is refused, as the definitions see it.
-use Rattle.std.specs.Prelude.{◌≡◌, ◌≤◌, ◌^◌, ℕ, ◌+◌, List, nat_abs, Option, Some}
+use Rattle.std.specs.Prelude.{◌≡◌, ◌≤◌, ◌^◌, ℕ, ◌+◌, List, nat_abs, Option, Some, Result, Ok, Err}
 use Rattle.checker_base.specs.declared.flaw.Flaw.{Flaw}
+use Rattle.checker_base.specs.declared.flaw.Misuse.{Misuse}
 use Rattle.checker_base.specs.declared.refusal.Refusal.{Refusal}
 use Rattle.checker_base.specs.declared.refusal.Refusal.TheVariants.{Memory, Flawed}
 use Rattle.checker_base.specs.declared.worth.Worth.{Worth as InMemory}
@@ -16,6 +17,11 @@ abbrev pub worth_of : List (List ℕ) → InMemory → Worth
 worth_of types (worths.Typed kind) = Typed (kind_of types kind)
 worth_of types (worths.Constant value) = Constant value
 worth_of types worths.Nil = Nil
+
+-- what an operator makes, or what is wrong
+abbrev pub made_of : List (List ℕ) → Result InMemory Misuse → Result Worth Misuse
+made_of types (Ok made) = Ok (worth_of types made)
+made_of types (Err misuse) = Err misuse
 
 -- a constant's size is at most 2 ^ 100
 abbrev pub IsSmall : InMemory → Type 0

@@ -4,6 +4,7 @@
 pub mod constant;
 pub mod flaw;
 pub mod operand;
+pub(crate) mod operator;
 pub mod refusal;
 pub mod value;
 pub mod worth;
