@@ -1,5 +1,5 @@
 -- What expressions are worth, and what is refused, as the definitions see it.
-use Rattle.std.specs.Prelude.{◌≡◌, ◌≤◌, ◌^◌, ℕ, ◌+◌, List, nat_abs, Option, Some, Result, Ok, Err}
+use Rattle.std.specs.Prelude.{◌≡◌, ◌≤◌, ◌^◌, ℕ, ◌+◌, List, nat_abs, Option, Some, None, Result, Ok, Err}
 use Rattle.checker_base.specs.declared.flaw.Flaw.{Flaw}
 use Rattle.checker_base.specs.declared.flaw.Misuse.{Misuse}
 use Rattle.checker_base.specs.declared.refusal.Refusal.{Refusal}
@@ -8,6 +8,7 @@ use Rattle.checker_base.specs.declared.worth.Worth.{Worth as InMemory}
 use Rattle.checker_base.specs.declared.worth.Worth.TheVariants as worths
 use Rattle.checker_base.specs.declared.operand.Operand.{Operand}
 use Rattle.type_table.specs.declared.value_type.ValueType.{ValueType as Kind}
+use Rattle.type_table.specs.declared.entry.FieldEntry.{FieldEntry}
 use Rattle.type_table.specs.Types.{ValueType}
 use Rattle.type_table.specs.Views.{kind_of}
 use Rattle.checker_base.specs.Flaws.{Nodes}
@@ -40,3 +41,13 @@ Refuses P (Flawed flaw) = P flaw
 -- the type of a parameter or a field, which is known
 abbrev pub known_kind : List (List ℕ) → Kind → Option ValueType
 known_kind types kind = Some (kind_of types kind)
+
+-- the type of a field, if there is one
+abbrev pub kind_in : List (List ℕ) → Option FieldEntry → Option ValueType
+kind_in types None = None
+kind_in types (Some field) = Some (kind_of types field.kind)
+
+-- P of the flaw that is told; where none is, P of none
+abbrev pub Tells : (Flaw → Type 0) → Option Flaw → Type 0
+Tells P None = (flaw : Flaw) → ¬ (P flaw)
+Tells P (Some flaw) = P flaw
