@@ -391,6 +391,7 @@ pub fn worth<'a>(
 }
 
 /// Checks expressions, whose nodes have numbers from `first` on, and answers the number behind them.
+#[tactic(auto, using(crate::proofs::Literals::size_of_values))]
 pub fn values(
     table: &TypeTable<'_>,
     visible: &Visible<'_>,
