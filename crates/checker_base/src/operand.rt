@@ -1,6 +1,6 @@
 //! The check of expressions.
 
-ghost use Rattle.std.specs.Prelude.{◌≡◌, ℕ, ◌+◌, ◌^◌, ◌<◌, ◌⊎◌, Bool, List, map, option_map, option_copied, sum_by, Option, Some, None, IfSome, IfOk, IfErr};
+ghost use Rattle.std.specs.Prelude.{◌≡◌, ℕ, ◌+◌, ◌^◌, ◌<◌, ◌⊎◌, Bool, List, map, option_map, option_copied, slice_get, sum_by, Option, Some, None, IfSome, IfOk, IfErr};
 ghost use Rattle.std.specs.Result.{result_ok};
 ghost use Rattle.syntax.specs.Measures.{expression_size, expressions_size};
 ghost use Rattle.syntax.specs.Tree.{Composite, expressions};
@@ -138,6 +138,13 @@ fn fields_at<'t, 'a>(table: &'t TypeTable<'a>, number: usize) -> &'t [FieldEntry
     } else {
         &[]
     }
+}
+
+/// The field with this number, if there is one.
+fn field_at<'f, 'a>(fields: &'f [FieldEntry<'a>], number: usize) -> Option<&'f FieldEntry<'a>>
+    ensures { option_copied result ≡ slice_get fields.now number }
+{
+    fields.get(number)
 }
 
 /// How many nodes expressions have.
@@ -340,7 +347,7 @@ fn fit_fields<'a>(
     let mut misfit = None;
     for (number, value) in values.iter().enumerate() {
         let operand = checked(table, visible, end, value)?;
-        misfit = first_misfit(table, misfit, operand, fields.get(number));
+        misfit = first_misfit(table, misfit, operand, field_at(fields, number));
         end = operand.node + 1;
     }
     Ok(Filling { end, misfit })

@@ -1,4 +1,4 @@
-use Rattle.std.proofs.Common.{rules, arith, ◌≡◌, ◌∷◌, ◌+◌, suc, Bool, inl, inr, Some, drop, map, length, sym, ◌∙◌, option_copied, drop-cons}
+use Rattle.std.proofs.Common.{rules, arith, ◌≡◌, ◌∷◌, ◌+◌, suc, Bool, inl, inr, Some, drop, map, slice_get, length, sym, ◌∙◌, option_copied, drop-cons}
 use Rattle.std.proofs.lemmas.List.{length-map}
 use Rattle.std.proofs.lemmas.Result.{err_from_is_err_and}
 use Rattle.syntax.specs.declared.node.ExpressionNode.TheFolds.{the_lemmas}
@@ -85,12 +85,12 @@ fit_fields-loop-number-preserved t c =
     let passed = rw cut at c.loop-number.invariant.passed in
     let fits = rw cut at c.loop-number.invariant.fits in
     let end = rw cut at c.loop-number.invariant.end in
-    let lookup : option_copied c.get.result ≡ slice_get c.args.fields.now c.loop-number.number = c.get.ensures.lookup in
+    let lookup : option_copied c.field_at.result ≡ slice_get c.args.fields.now c.loop-number.number = c.field_at.ensures in
     let begins = rw (← lookup) at (next_field types c.args.fields.now c.loop-number.number) in
     record {
       end = rw more (omega arith);
       found = rw (more, ← next) (found_next globals scope has c.loop-number.end value rest found);
       passed = rw (more, ← next) (passed_next globals scope has c.loop-number.end value rest passed c.in_ok-operand.ensures.none);
-      fits = rw (more, ← next) (fits_next globals scope (ValuesFail globals scope c.args.first (map expression_of c.args.values.now) (field_kinds (map (field_in types) c.args.fields.now))) c.loop-number.end value rest kinds others (kind_in types (option_copied c.get.result)) c.loop-number.misfit c.first_misfit-misfit.result begins fits c.first_misfit-misfit.ensures.known
+      fits = rw (more, ← next) (fits_next globals scope (ValuesFail globals scope c.args.first (map expression_of c.args.values.now) (field_kinds (map (field_in types) c.args.fields.now))) c.loop-number.end value rest kinds others (kind_in types (option_copied c.field_at.result)) c.loop-number.misfit c.first_misfit-misfit.result begins fits c.first_misfit-misfit.ensures.known
       (λ none. c.first_misfit-misfit.ensures.new none (worth globals scope value) c.in_ok-operand.ensures.worth (nodes_of c.loop-number.end value) c.in_ok-operand.ensures.first next));
     }
