@@ -2,7 +2,7 @@
 use Rattle.std.proofs.Common.{◌≡◌, ℕ, suc, ◌+◌, ◌⊎◌, inl, inr, zero, Bool, List, [], ◌∷◌, map, drop, slice_get, Option, Some, None, length, sum_by, refl, arith}
 use Rattle.std.specs.Option.{IfSome}
 use Rattle.std.proofs.lemmas.Bool.Decides.{nat_tests}
-use Rattle.syntax.specs.Tree.{Expression, Composite, expressions, expressions_in}
+use Rattle.syntax.specs.Tree.{Expression, Composite, expressions}
 use Rattle.syntax.specs.Measures.{expression_size, expressions_size}
 use Rattle.syntax.proofs.Lists.{expressions_in-expressions, expressions_size-of}
 use Rattle.type_table.specs.declared.entry.FieldEntry.{FieldEntry}

@@ -1,6 +1,6 @@
 -- What an expression is worth to the typing rules: a value of a type, an exact constant of a size of at most 2 ^ 100, or
 -- the word `nil`. (An untyped truth value is a bool, as there is no other type that it could be of.)
-use Rattle.std.specs.Prelude.{ℕ, zero, suc, ◌-◌, ◌*◌, ◌^◌, ℤ, pos, negsuc, neg_ℤ, nat_abs, ◌+ℤ◌, ◌-ℤ◌, ◌*ℤ◌, int_le, int_lt, int_div, int_rem, nat_le, ◌==◌, Bool, true, false, not, ◌&&◌, ◌||◌, Option, Some, None, option_map, option_and_then, Result, Ok, Err, if◌then◌else◌, List}
+use Rattle.std.specs.Prelude.{ℕ, zero, ◌-◌, ◌^◌, ℤ, pos, negsuc, neg_ℤ, nat_abs, ◌+ℤ◌, ◌-ℤ◌, ◌*ℤ◌, int_le, int_div, int_rem, nat_le, Bool, true, false, not, ◌&&◌, ◌||◌, Option, Some, None, option_map, option_and_then, Result, Ok, Err, if◌then◌else◌, List}
 use Rattle.std.specs.Int.{w128, int_bit_and, int_bit_or, int_bit_xor, int_bit_not, int_shr}
 use Rattle.std.specs.Option.{is_some}
 use Rattle.std.specs.Result.{result_ok}

@@ -1,4 +1,4 @@
-use Rattle.std.proofs.Common.{◌≡◌, ◌^◌, ◌≤◌}
+use Rattle.std.proofs.Common.{◌≡◌, ◌^◌}
 use Rattle.checker_base.proofs.constant.power.Given as goal
 
 abbrev pub invariant-loop-number : goal.invariant-loop-number

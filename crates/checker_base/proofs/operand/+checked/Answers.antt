@@ -1,4 +1,4 @@
-use Rattle.std.proofs.Common.{rules, arith, ◌≡◌, ◌∷◌, ◌+◌, suc, Bool, inl, inr, Some, drop, map, slice_get, length, sym, ◌∙◌, option_copied, drop-cons}
+use Rattle.std.proofs.Common.{rules, arith, ◌≡◌, ◌∷◌, ◌+◌, suc, inl, inr, Some, drop, map, slice_get, length, option_copied, drop-cons}
 use Rattle.std.proofs.lemmas.List.{length-map}
 use Rattle.std.proofs.lemmas.Result.{err_from_is_err_and}
 use Rattle.syntax.specs.declared.node.ExpressionNode.TheFolds.{the_lemmas}
@@ -7,7 +7,6 @@ use Rattle.syntax.specs.Tree.{Composite, expressions}
 use Rattle.syntax.specs.View.{name_of, expression_of}
 use Rattle.type_table.specs.Views.{field_in}
 use Rattle.type_table.specs.Visible.{types_of, globals_in, scope_of}
-use Rattle.checker_base.specs.declared.flaw.Flaw.{Flaw}
 use Rattle.checker_base.specs.Worths.{literal_struct, worth}
 use Rattle.checker_base.specs.Views.{kind_in}
 use Rattle.checker_base.specs.Expressions.{ExpressionsHave, ValuesFail, field_kinds, nodes_of}
