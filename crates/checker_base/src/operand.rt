@@ -1,16 +1,16 @@
 //! The check of expressions.
 
-ghost use Rattle.std.specs.Prelude.{◌≡◌, ℕ, ◌+◌, ◌^◌, ◌<◌, ◌⊎◌, Bool, List, map, option_map, option_copied, slice_get, sum_by, Option, Some, None, IfSome, IfOk, IfErr};
+ghost use Rattle.std.specs.Prelude.{◌≡◌, ◌≢◌, ℕ, ◌+◌, ◌^◌, ◌<◌, ◌⊎◌, Bool, List, map, option_map, option_copied, slice_get, sum_by, Option, Some, None, IfSome, IfOk, IfErr};
 ghost use Rattle.std.specs.Result.{result_ok};
 ghost use Rattle.syntax.specs.Measures.{expression_size, expressions_size};
-ghost use Rattle.syntax.specs.Tree.{Composite, expressions};
+ghost use Rattle.syntax.specs.Tree.{Named, Composite, expressions};
 ghost use Rattle.syntax.specs.View.{name_of, expression_of};
 ghost use Rattle.type_table.specs.Containment.{fields_of};
 ghost use Rattle.type_table.specs.Views.{field_in, kind_of};
 ghost use Rattle.type_table.specs.Visible.{types_of, globals_in, scope_of};
 ghost use Rattle.checker_base.specs.declared.flaw.Flaw.{Flaw as OneFlaw};
-ghost use Rattle.checker_base.specs.Flaws.{Nodes};
-ghost use Rattle.checker_base.specs.Worths.{Worth as OneWorth, worth as spec_worth, selected_worth, unary_worth, binary_worth};
+ghost use Rattle.checker_base.specs.Flaws.{Nodes, IsExceeded};
+ghost use Rattle.checker_base.specs.Worths.{Worth as OneWorth, Constant, literal, worth as spec_worth, selected_worth, unary_worth, binary_worth};
 ghost use Rattle.checker_base.specs.Views.{worth_of, IsSmall, known_kind, kind_in, Tells};
 ghost use Rattle.checker_base.specs.Expressions.{ExpressionHas, ExpressionsHave, UnaryHas, BinaryHas, SelectionHas, FieldsHave, ValuesFail, PassedHave, field_kinds, nodes_of, ValueHas};
 
@@ -38,7 +38,50 @@ pub struct Operand<'a> {
     pub worth: Worth<'a>,
 }
 
-/// Checks the selection of a field of an operand ("Selectors" of the Go specification).
+/// Checks an integer, whose node is `first` ("Integer literals" of the Go specification).
+fn integer<'a>(first: NodeId, value: Option<u128>) -> Result<Operand<'a>, Flaw>
+    ensures worth { IfOk result (λ o. (types : List (List ℕ)) → option_map Constant (literal value) ≡ Some (worth_of types o.worth)) }
+    ensures small { IfOk result (λ o. IsSmall o.worth) }
+    ensures first { IfOk result (λ o. first ≡ o.first) }
+    ensures node { IfOk result (λ o. first ≡ o.node) }
+    ensures none { IfOk result (λ _. literal value ≢ None) }
+    ensures one { IfErr result (λ flaw. (literal value ≡ None) × IsExceeded LimitKind.ConstantSize (first + 1) flaw) }
+{
+    match literal(value) {
+        Some(value) => Ok(Operand {
+            first,
+            node: first,
+            worth: Worth::Constant(value),
+        }),
+        None => Err(Flaw::Exceeded(LimitKind::ConstantSize, first)),
+    }
+}
+
+/// Checks a name as an operand, whose node is `first` ("Operands").
+fn named<'a>(
+    table: &TypeTable<'a>,
+    visible: &Visible<'a>,
+    first: NodeId,
+    name: &Name,
+) -> Result<Operand<'a>, Flaw>
+    ensures worth { IfOk result (λ o. spec_worth (globals_in table.now) (scope_of table.now visible.now) (Named (name_of name.now)) ≡ Some (worth_of (types_of table.now) o.worth)) }
+    ensures small { IfOk result (λ o. IsSmall o.worth) }
+    ensures first { IfOk result (λ o. first ≡ o.first) }
+    ensures node { IfOk result (λ o. first ≡ o.node) }
+    ensures none { IfOk result (λ _. (flaw : OneFlaw) → ¬ (ExpressionHas (globals_in table.now) (scope_of table.now visible.now) first (Named (name_of name.now)) flaw)) }
+    ensures one { IfErr result (ExpressionHas (globals_in table.now) (scope_of table.now visible.now) first (Named (name_of name.now))) }
+{
+    match named_worth(table, visible, name.bytes.as_slice()) {
+        Some(worth) => Ok(Operand {
+            first,
+            node: first,
+            worth,
+        }),
+        None => Err(Flaw::Broken(Rule::Visible, first)),
+    }
+}
+
+/// Checks the selection of a field of an operand ("Selectors").
 fn selection<'a>(
     table: &TypeTable<'a>,
     whole: Operand<'_>,
@@ -160,7 +203,7 @@ fn values_size(values: &[ExpressionNode]) -> NodeId
 }
 
 /// What is wrong with a value in the place of a field, if there is one.
-fn misfit(
+fn misfit_in(
     table: &TypeTable<'_>,
     operand: Operand<'_>,
     field: Option<&FieldEntry<'_>>,
@@ -188,7 +231,7 @@ fn first_misfit(
 {
     match known {
         Some(flaw) => Some(flaw),
-        None => misfit(table, operand, field),
+        None => misfit_in(table, operand, field),
     }
 }
 
@@ -220,22 +263,14 @@ pub fn checked<'a>(
     ensures one { IfErr result (ExpressionHas (globals_in table.now) (scope_of table.now visible.now) first (expression_of expression.now)) }
 {
     match expression {
-        ExpressionNode::Integer(value) => match literal(*value) {
-            Some(value) => Ok(Operand {
-                first,
-                node: first,
-                worth: Worth::Constant(value),
-            }),
-            None => Err(Flaw::Exceeded(LimitKind::ConstantSize, first)),
-        },
-        ExpressionNode::Named(name) => match named_worth(table, visible, name.bytes.as_slice()) {
-            Some(worth) => Ok(Operand {
-                first,
-                node: first,
-                worth,
-            }),
-            None => Err(Flaw::Broken(Rule::Visible, first)),
-        },
+        ExpressionNode::Integer(value) => {
+            let made = integer(first, *value)?;
+            Ok(made)
+        }
+        ExpressionNode::Named(name) => {
+            let made = named(table, visible, first, name)?;
+            Ok(made)
+        }
         ExpressionNode::Parenthesized(inner) => {
             let inner = checked(table, visible, first, inner)?;
             Ok(Operand {
@@ -430,7 +465,11 @@ fn passes(
     let end = first + expression_size(passed);
     match worth(table, visible, passed) {
         Some(worth) => {
-            let operand = Operand { first, node: end - 1, worth };
+            let operand = Operand {
+                first,
+                node: end - 1,
+                worth,
+            };
             value(table, operand, kind)?;
             Ok(end)
         }

@@ -91,5 +91,5 @@ fit_fields-loop-number-preserved t c =
       found = rw (more, ← next) (found_next globals scope has c.loop-number.end value rest found);
       passed = rw (more, ← next) (passed_next globals scope has c.loop-number.end value rest passed c.in_ok-operand.ensures.none);
       fits = rw (more, ← next) (fits_next globals scope (ValuesFail globals scope c.args.first (map expression_of c.args.values.now) (field_kinds (map (field_in types) c.args.fields.now))) c.loop-number.end value rest kinds others (kind_in types (option_copied c.field_at.result)) c.loop-number.misfit c.first_misfit-misfit.result begins fits c.first_misfit-misfit.ensures.known
-      (λ none. c.first_misfit-misfit.ensures.new none (worth globals scope value) c.in_ok-operand.ensures.worth (nodes_of c.loop-number.end value) c.in_ok-operand.ensures.first next));
+          (λ none. c.first_misfit-misfit.ensures.new none (worth globals scope value) c.in_ok-operand.ensures.worth (nodes_of c.loop-number.end value) c.in_ok-operand.ensures.first next));
     }
