@@ -1,0 +1,4 @@
+pub mod Flaws
+pub mod Worths
+pub mod Expressions
+pub mod Views

@@ -1,0 +1,10 @@
+//! What expressions are worth to the typing rules, and what is wrong with them.
+#![tactic(auto)]
+
+pub mod constant;
+pub mod flaw;
+pub mod operand;
+pub(crate) mod operator;
+pub mod refusal;
+pub mod value;
+pub mod worth;
