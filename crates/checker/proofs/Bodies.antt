@@ -1,0 +1,133 @@
+-- Where nothing is wrong with the parts of a file, nothing is wrong with it.
+use Rattle.std.proofs.Common.{◌≡◌, ℕ, ◌+◌, ◌≤◌, ◌⊎◌, true, false, inl, inr, List, [], ◌∷◌, sum_by, subst, sym, ap, ◌∙◌, arith}
+use Rattle.std.proofs.lemmas.Bool.{false≢true}
+use Rattle.go_text.specs.declared.rule.Rule.{Rule}
+use Rattle.go_text.specs.declared.rule.LimitKind.{LimitKind}
+use Rattle.syntax.specs.Tree.{Statements, Struct, Function, Top, StructTop, FunctionTop, File}
+use Rattle.syntax.specs.Measures.{if_any, type_size, declared_size, statements_size, function_size, top_size}
+use Rattle.type_table.specs.declared.entry.StructEntry.{StructEntry}
+use Rattle.type_table.specs.Containment.{Structs}
+use Rattle.type_table.specs.Views.{names_of, structs_of}
+use Rattle.type_table.specs.Scopes.{Scope, Yield, Globals}
+use Rattle.checker_base.specs.declared.flaw.Flaw.{Flaw}
+use Rattle.checker_base.specs.declared.flaw.Flaw.TheVariants.{Broken, Exceeded}
+use Rattle.checker_base.specs.declared.refusal.Refusal.{Refusal}
+use Rattle.checker_base.specs.declared.refusal.Refusal.TheVariants.{Memory, Flawed}
+use Rattle.checker_base.specs.Views.{Refuses}
+use Rattle.checker_statement.specs.Statements.{Setting}
+use Rattle.checker.specs.Kinds.{type_names, function_names, structs_with, structs, yield_of, globals_of, parameters}
+use Rattle.checker.specs.Declarations.{is_type_taken, FieldsHave, StructHas, TopStructHas, StructsHave, ContentsHave, HeaderHas, TopHeaderHas, counting_function, HeadersHave, TypesHave, DeclarationsHave}
+use Rattle.checker.specs.Heads.{HeadsHave}
+use Rattle.checker.specs.Files.{BodyIn, BodyHas, BodiesHave, has_main, FileHas, IsTyped}
+
+pub refuses_more : (P Q : Flaw → Type 0) (e : Refusal) → ((flaw : Flaw) → P flaw → Q flaw) → Refuses P e → Refuses Q e
+refuses_more P Q Memory more r = tt
+refuses_more P Q (Flawed flaw) more r = more flaw r
+
+-- ---- single declarations
+
+pub struct_fine : (types : List (List ℕ)) (number first end : ℕ) (s : Struct) → is_type_taken types number s.name ≡ false → (4096 ≤ number → ⊥)
+    → ((flaw : Flaw) → FieldsHave types first end s.fields flaw → ⊥) → (flaw : Flaw) → StructHas types number first end s flaw → ⊥
+struct_fine types number first end s fine few none flaw (inl has) = false≢true (sym fine ∙ has.0)
+struct_fine types number first end s fine few none flaw (inr (inl has)) = few has.0
+struct_fine types number first end s fine few none flaw (inr (inr has)) = none flaw has
+
+pub at_struct : (types : List (List ℕ)) (number n first node : ℕ) (top : Top) (s : Struct) (flaw : Flaw) → top ≡ StructTop s → n ≡ number → node + 1 ≡ first + top_size top
+    → ((end : ℕ) → end ≡ node + 1 → (flaw : Flaw) → StructHas types n first end s flaw → ⊥) → TopStructHas types number first top flaw → ⊥
+at_struct types number n first node top s flaw is same at none has =
+    let behind : node + 1 ≡ first + top_size (StructTop s) = subst (λ (t : Top). node + 1 ≡ first + top_size t) is at in
+    let there : TopStructHas types number first (StructTop s) flaw = subst (λ (t : Top). TopStructHas types number first t flaw) is has in
+    none (first + top_size (StructTop s)) (sym behind) flaw (subst (λ (k : ℕ). TopStructHas types k first (StructTop s) flaw) (sym same) there)
+
+pub at_function : (types functions : List (List ℕ)) (number n first node : ℕ) (top : Top) (f : Function) (flaw : Flaw) → top ≡ FunctionTop f → n ≡ number → node + 1 ≡ first + top_size top
+    → ((end : ℕ) → end ≡ node + 1 → (flaw : Flaw) → HeaderHas types functions n first end f flaw → ⊥) → TopHeaderHas types functions number first top flaw → ⊥
+at_function types functions number n first node top f flaw is same at none has =
+    let behind : node + 1 ≡ first + top_size (FunctionTop f) = subst (λ (t : Top). node + 1 ≡ first + top_size t) is at in
+    let there : TopHeaderHas types functions number first (FunctionTop f) flaw = subst (λ (t : Top). TopHeaderHas types functions number first t flaw) is has in
+    none (first + top_size (FunctionTop f)) (sym behind) flaw (subst (λ (k : ℕ). TopHeaderHas types functions k first (FunctionTop f) flaw) (sym same) there)
+
+-- ---- all declarations
+
+pub contents_have : (tops : List Top) (all : Structs) → all ≡ structs tops → (flaw : Flaw) → ContentsHave all tops flaw → TypesHave tops flaw
+contents_have tops all same flaw has = inr (subst (λ (s : Structs). ContentsHave s tops flaw) same has)
+
+pub singles_have : (tops : List Top) (types : List (List ℕ)) → types ≡ type_names tops → (flaw : Flaw) → StructsHave types 0 0 tops flaw → TypesHave tops flaw
+singles_have tops types same flaw has = inl (subst (λ (t : List (List ℕ)). StructsHave t 0 0 tops flaw) same has)
+
+pub types_fine : (tops : List Top) (types : List (List ℕ)) (all : Structs) → types ≡ type_names tops → all ≡ structs tops
+    → ((flaw : Flaw) → StructsHave types 0 0 tops flaw → ⊥) → ((flaw : Flaw) → ContentsHave all tops flaw → ⊥) → (flaw : Flaw) → TypesHave tops flaw → ⊥
+types_fine tops types all p r singles contents flaw (inl has) = singles flaw (subst (λ (t : List (List ℕ)). StructsHave t 0 0 tops flaw) (sym p) has)
+types_fine tops types all p r singles contents flaw (inr has) = contents flaw (subst (λ (s : Structs). ContentsHave s tops flaw) (sym r) has)
+
+pub declared_fine : (tops : List Top) (types functions : List (List ℕ)) → types ≡ type_names tops → functions ≡ function_names tops
+    → ((flaw : Flaw) → TypesHave tops flaw → ⊥) → ((flaw : Flaw) → HeadersHave types functions 0 0 tops flaw → ⊥) → (flaw : Flaw) → DeclarationsHave tops flaw → ⊥
+declared_fine tops types functions p q none heads flaw (inl has) = none flaw has
+declared_fine tops types functions p q none heads flaw (inr has) =
+    heads flaw (subst (λ (t : List (List ℕ)). HeadersHave t functions 0 0 tops flaw) (sym p) (subst (λ (f : List (List ℕ)). HeadersHave (type_names tops) f 0 0 tops flaw) (sym q) has))
+
+pub same_structs : (tops : List Top) (items entries : List StructEntry) (types : List (List ℕ)) → entries ≡ items → names_of items ≡ type_names tops → types ≡ type_names tops
+    → structs_of types items ≡ structs_with types tops → structs_of (names_of entries) entries ≡ structs tops
+same_structs tops items entries types e n t f =
+    let known : structs_of (type_names tops) items ≡ structs tops = subst (λ (ts : List (List ℕ)). structs_of ts items ≡ structs_with ts tops) t f in
+    let named : structs_of (names_of items) items ≡ structs tops = subst (λ (ts : List (List ℕ)). structs_of ts items ≡ structs tops) (sym n) known in
+    subst (λ (xs : List StructEntry). structs_of (names_of xs) xs ≡ structs tops) (sym e) named
+
+-- ---- bodies
+
+abbrev pub inside : Globals → Yield → Setting
+inside globals result = record { globals = globals; result = result; breaks = false; continues = false }
+
+moved : (globals : Globals) (flaw : Flaw) (y y' : Yield) (scope scope' : Scope) (m m' e e' : ℕ) (ss ss' : Statements) → y ≡ y' → scope ≡ scope' → m ≡ m' → ss ≡ ss' → e ≡ e'
+    → BodyIn (inside globals y) scope m ss e flaw → BodyIn (inside globals y') scope' m' ss' e' flaw
+moved globals flaw y y' scope scope' m m' e e' ss ss' o p q r s b =
+    subst (λ (x : Yield). BodyIn (inside globals x) scope' m' ss' e' flaw) o
+    (subst (λ (x : Scope). BodyIn (inside globals y) x m' ss' e' flaw) p
+    (subst (λ (x : ℕ). BodyIn (inside globals y) scope x ss' e' flaw) q
+    (subst (λ (x : Statements). BodyIn (inside globals y) scope m x e' flaw) r
+    (subst (λ (x : ℕ). BodyIn (inside globals y) scope m ss x flaw) s b))))
+
+module _ (globals : Globals) (f : Function) (first middle : ℕ) (y : Yield) (scope : Scope) (ss : Statements)
+    (yields : y ≡ yield_of globals.types f.result) (visible : scope ≡ parameters globals f) (at : middle ≡ first + sum_by declared_size f.parameters + if_any type_size f.result) (body : ss ≡ f.body) where
+  end_is : middle + statements_size ss + 2 ≡ first + function_size f
+  end_is = omega (arith, at, ap statements_size body)
+
+  pub body_has : (flaw : Flaw) → BodyIn (inside globals y) scope middle ss (middle + statements_size ss + 2) flaw → BodyHas globals first f flaw
+  body_has flaw b =
+      moved globals flaw y (yield_of globals.types f.result) scope (parameters globals f) middle (first + sum_by declared_size f.parameters + if_any type_size f.result) (middle + statements_size ss + 2) (first + function_size f) ss f.body
+      yields visible at body end_is b
+
+  pub body_in : (flaw : Flaw) → BodyHas globals first f flaw → BodyIn (inside globals y) scope middle ss (middle + statements_size ss + 2) flaw
+  body_in flaw b =
+      moved globals flaw (yield_of globals.types f.result) y (parameters globals f) scope (first + sum_by declared_size f.parameters + if_any type_size f.result) middle (first + function_size f) (middle + statements_size ss + 2) f.body ss
+      (sym yields) (sym visible) (sym at) (sym body) (sym end_is) b
+
+-- ---- the file
+
+heads_have : (types functions : List (List ℕ)) (number first : ℕ) (tops : List Top) (flaw : Flaw) → HeadsHave types first tops flaw → HeadersHave types functions number first tops flaw
+heads_have types functions number first [] flaw b = absurd b
+heads_have types functions number first (StructTop s ∷ rest) flaw (inl b) = absurd b
+heads_have types functions number first (StructTop s ∷ rest) flaw (inr b) = inr (heads_have types functions number (first + top_size (StructTop s)) rest flaw b)
+heads_have types functions number first (FunctionTop f ∷ rest) flaw (inl b) = inl (inr (inr b))
+heads_have types functions number first (FunctionTop f ∷ rest) flaw (inr b) = inr (heads_have types functions (counting_function number (FunctionTop f)) (first + top_size (FunctionTop f)) rest flaw b)
+
+pub bodies_have : (file : File) (globals : Globals) (tops : List Top) → globals ≡ globals_of file.tops → tops ≡ file.tops
+    → (flaw : Flaw) → BodiesHave globals 0 tops flaw ⊎ HeadsHave globals.types 0 tops flaw → FileHas file flaw
+bodies_have file globals tops same list flaw (inl b) =
+    inr (inr (subst (λ (g : Globals). BodiesHave g 0 file.tops flaw) same (subst (λ (ts : List Top). BodiesHave globals 0 ts flaw) list b)))
+bodies_have file globals tops same list flaw (inr b) =
+    let there : HeadsHave (type_names file.tops) 0 file.tops flaw = subst (λ (g : Globals). HeadsHave g.types 0 file.tops flaw) same (subst (λ (ts : List Top). HeadsHave globals.types 0 ts flaw) list b) in
+    inl (inr (heads_have (type_names file.tops) (function_names file.tops) 0 0 file.tops flaw there))
+
+pub file_fine : (file : File) (globals : Globals) (tops others : List Top) → globals ≡ globals_of file.tops → tops ≡ file.tops → others ≡ file.tops → has_main globals.functions ≡ true
+    → ((flaw : Flaw) → DeclarationsHave tops flaw → ⊥) → ((flaw : Flaw) → BodiesHave globals 0 others flaw → ⊥) → (flaw : Flaw) → FileHas file flaw → ⊥
+file_fine file globals tops others same list list' main none bodies flaw (inl has) = none flaw (subst (λ (ts : List Top). DeclarationsHave ts flaw) (sym list) has)
+file_fine file globals tops others same list list' main none bodies flaw (inr (inl has)) =
+    false≢true (sym has.0 ∙ subst (λ (g : Globals). has_main g.functions ≡ true) same main)
+file_fine file globals tops others same list list' main none bodies flaw (inr (inr has)) =
+    bodies flaw (subst (λ (g : Globals). BodiesHave g 0 others flaw) (sym same) (subst (λ (ts : List Top). BodiesHave (globals_of file.tops) 0 ts flaw) (sym list') has))
+
+pub typed_of_none : (file : File) → ((flaw : Flaw) → FileHas file flaw → ⊥) → IsTyped file
+typed_of_none file none = record {
+  breaks = λ (rule : Rule) (node : ℕ) has. none (Broken rule node) has;
+  exceeds = λ (kind : LimitKind) (node : ℕ) has. none (Exceeded kind node) has;
+}

@@ -1,0 +1,9 @@
+pub mod Contents
+pub mod Within
+pub mod ExpressionNodes
+pub mod OperationNodes
+pub mod SimpleNodes
+pub mod StatementNodes
+pub mod Nodes
+pub mod Bodies
+pub mod Rows

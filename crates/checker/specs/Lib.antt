@@ -1,0 +1,7 @@
+pub mod Kinds
+pub mod Declarations
+pub mod Parts
+pub mod Heads
+pub mod Files
+pub mod Faults
+pub mod Trees
