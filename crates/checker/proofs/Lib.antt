@@ -7,3 +7,4 @@ pub mod StatementNodes
 pub mod Nodes
 pub mod Bodies
 pub mod Rows
+pub mod KnownWidths

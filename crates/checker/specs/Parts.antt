@@ -1,7 +1,9 @@
 -- The fields of struct types in memory, of which not each has a known type.
-use Rattle.std.specs.Prelude.{◌≡◌, ℕ, ◌⊎◌, List, map, option_map}
+use Rattle.std.specs.Prelude.{◌≡◌, ℕ, ◌<◌, ◌⊎◌, min, List, map, Option, Some, option_map, slice_get}
 use Rattle.syntax.specs.View.{name_of}
-use Rattle.type_table.specs.Containment.{Field, Structs, Holds}
+use Rattle.type_table.specs.Types.{ValueType, StructType}
+use Rattle.type_table.specs.Containment.{Field, Structs, Holds, kind_width, width_within, width}
+use Rattle.type_table.specs.Marks.{IsWide}
 use Rattle.type_table.specs.Views.{kind_of}
 use Rattle.checker.specs.declared.parts.Part.{Part}
 use Rattle.checker.specs.declared.parts.Parts.{Parts}
@@ -22,3 +24,17 @@ structs_in types all = map (parts_in types) all
 -- a struct is this one, or lies within it
 abbrev pub IsWithin : Structs → ℕ → ℕ → Type 0
 IsWithin structs number s = (s ≡ number) ⊎ Holds structs number s
+
+-- ---- widths
+
+-- a value of the type takes so many words, where all over 16 are one
+abbrev pub IsKindWide : Structs → ℕ → Option ValueType → ℕ → Type 0
+IsKindWide structs depth kind w = (v : ℕ) × (kind_width (width_within structs depth) kind ≡ Some v) × (w ≡ min v 17)
+
+-- these are the widths of structs, as far as they are known, which lie within one another at most so deep
+abbrev pub AreKnown : Structs → ℕ → List (Option ℕ) → Type 0
+AreKnown structs depth known = (s w : ℕ) → slice_get known s ≡ Some (Some w) → IsWide structs depth s w
+
+-- a value of the struct takes more than 16 words
+abbrev pub IsTooWide : Structs → ℕ → Type 0
+IsTooWide structs number = (v : ℕ) × (width structs (StructType number) ≡ Some v) × (16 < v)

@@ -44,7 +44,7 @@ fn declare_all<'a>(
     Ok(())
 }
 
-/// Whether a body ends as the function's result wants.
+/// Whether a body ends as the function's result wants ("Terminating statements" of the Go specification).
 fn is_ended(result_type: Option<ValueType<'_>>, body: &[StatementNode]) -> bool
     ensures { (types : List (List ℕ)) → result ≡ is_ended (yield_of types result_type.entry) (body_of body.now) }
 {

@@ -24,7 +24,8 @@ fn is_plain(function: &FunctionEntry<'_>) -> bool
     function.parameters.is_empty() && function.result.is_none()
 }
 
-/// Whether the first function of the name `main` is there, without parameters and result.
+/// Whether the first function of the name `main` is there, without parameters and result ("Program execution" of the Go
+/// specification).
 fn has_main(functions: &[FunctionEntry<'_>]) -> bool
     ensures { (types : List (List ℕ)) → result ≡ has_main (map (signature_of types) functions.now) }
 {

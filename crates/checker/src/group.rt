@@ -29,7 +29,8 @@ pub enum Role {
     Parameter,
 }
 
-/// The rule that a name breaks behind others of the same struct or function.
+/// The rule that a name breaks behind others of the same struct or function ("Declarations and scope" of the Go
+/// specification).
 fn broken_by(role: Role, before: &NameList<'_>, name: &[u8]) -> Option<Rule>
     ensures { result ≡ broken_by role before.now name.now }
 {
@@ -142,7 +143,7 @@ fn groups<'a>(
 
 /// What a struct or a function declares: its fields or parameters, and the number behind their nodes.
 #[derive(Drop)]
-pub struct Listed<'a> {
+pub(crate) struct Listed<'a> {
     pub entries: Vec<FieldEntry<'a>>,
     pub end: NodeId,
 }

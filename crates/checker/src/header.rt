@@ -58,7 +58,7 @@ fn optional_size(written: &Option<TypeNode>) -> NodeId
 /// What stands behind a function's name: its parameters, the type of its result if it has one, and the first node of its
 /// body.
 #[derive(Drop)]
-pub struct Head<'a> {
+pub(crate) struct Head<'a> {
     pub parameters: Vec<FieldEntry<'a>>,
     pub result: Option<ValueType<'a>>,
     pub end: NodeId,

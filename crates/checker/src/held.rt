@@ -1,23 +1,13 @@
 //! Which struct types contain themselves.
 
-ghost use Rattle.std.specs.Prelude.{◌≡◌, ℕ, ◌⊎◌, ◌++◌, [], ◌∷◌, ◌+◌, ◌^◌, ◌<◌, Some, true, List, map, sum_by, option_copied, option_map, slice_get, length, IfSome, OnOk, IfOk};
+ghost use Rattle.std.specs.Prelude.{◌≡◌, ℕ, ◌⊎◌, ◌++◌, [], ◌∷◌, Some, true, List, option_copied, option_map, slice_get, length, IfSome, OnOk, IfOk};
 ghost use Rattle.type_table.specs.Types.{StructType};
 ghost use Rattle.type_table.specs.Views.{kind_of};
 ghost use Rattle.type_table.specs.Containment.{HasStruct, Holds, fields_of};
-ghost use Rattle.syntax.specs.Measures.{top_size};
-ghost use Rattle.syntax.specs.View.{top_of};
-ghost use Rattle.checker.specs.Kinds.{type_names};
-ghost use Rattle.checker.specs.Declarations.{TypesHave};
-ghost use Rattle.checker.specs.Faults.{node_of};
 ghost use Rattle.checker.specs.Parts.{fields_in, structs_in};
 
-use checker_base::flaw::Flaw;
-use crate::parts::{Part, Parts, all_parts};
-use crate::sizes::struct_node;
-use go_text::Rule;
+use crate::parts::{Part, Parts};
 use std::alloc::{AllocError, Global};
-use syntax::{NodeId, TopNode};
-use type_table::name_list::NameList;
 use type_table::value_type::ValueType;
 
 /// Notes that a struct type was found, if that is new.
@@ -139,48 +129,4 @@ pub(crate) fn first_held(alloc: Global, all: &[Parts<'_>]) -> Result<Option<usiz
         }
     }
     Ok(None)
-}
-
-/// The own node of the first struct type that is found within itself. The struct types have these names.
-fn held_node(
-    alloc: Global,
-    types: &NameList<'_>,
-    tops: &[TopNode],
-) -> Result<Option<NodeId>, AllocError>
-    requires small { sum_by top_size (map top_of tops.now) < 2 ^ 32 }
-    requires names { types.now ≡ type_names (map top_of tops.now) }
-    ensures { IfOk result (λ held. IfSome held (λ node. TypesHave (map top_of tops.now) (Flaw.Broken Rule.Struct node))) }
-{
-    let all = all_parts(alloc, types, tops)?;
-    match first_held(alloc, all.as_slice())? {
-        None => Ok(None),
-        Some(number) => Ok(struct_node(tops, number)),
-    }
-}
-
-/// The node of a flaw.
-fn node_of(flaw: Flaw) -> NodeId
-    ensures { result ≡ node_of flaw }
-{
-    match flaw {
-        Flaw::Broken(_, node) | Flaw::Exceeded(_, node) => node,
-    }
-}
-
-/// What is told of the struct types, of which this is wrong: that one contains itself, if it stands before.
-pub(crate) fn earliest(
-    alloc: Global,
-    types: &NameList<'_>,
-    tops: &[TopNode],
-    flaw: Flaw,
-) -> Result<Flaw, AllocError>
-    requires small { sum_by top_size (map top_of tops.now) < 2 ^ 32 }
-    requires names { types.now ≡ type_names (map top_of tops.now) }
-    requires flaw { TypesHave (map top_of tops.now) flaw }
-    ensures { IfOk result (TypesHave (map top_of tops.now)) }
-{
-    match held_node(alloc, types, tops)? {
-        Some(node) if node < node_of(flaw) => Ok(Flaw::Broken(Rule::Struct, node)),
-        _ => Ok(flaw),
-    }
 }

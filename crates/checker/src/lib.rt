@@ -2,6 +2,7 @@
 #![tactic(auto)]
 
 mod body;
+mod earliest;
 mod file;
 mod group;
 mod header;
@@ -13,6 +14,7 @@ mod structs;
 mod table;
 mod tree;
 mod typed;
+mod wide;
 
 pub use tree::check;
 pub use typed::Typed;

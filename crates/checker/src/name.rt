@@ -12,7 +12,7 @@ use syntax::{NodeId, TopNode};
 use type_table::name_list::NameList;
 use type_table::scope::{is_blank, is_reserved};
 
-/// Whether this is a name that nothing of a file, and no field, has.
+/// Whether this is a name that nothing of a file, and no field, has ("Blank identifier" of the Go specification).
 pub(crate) fn is_unfit(name: &[u8]) -> bool
     ensures { result ≡ is_unfit name.now }
 {

@@ -22,7 +22,8 @@ use type_table::name_list::NameList;
 /// How many struct types a file may have.
 const MOST_STRUCTS: usize = 4096;
 
-/// Checks the fields of a struct type, whose nodes have numbers from `first` on.
+/// Checks the fields of a struct type ("Struct types" of the Go specification), whose nodes have numbers from `first` on to
+/// `node`.
 fn fields<'a>(
     alloc: Global,
     types: &NameList<'_>,

@@ -11,8 +11,8 @@ ghost use Rattle.checker_base.specs.Views.{Refuses};
 ghost use Rattle.checker.specs.Kinds.{type_names, structs as spec_structs, globals_of};
 ghost use Rattle.checker.specs.Declarations.{TypesHave, DeclarationsHave};
 
+use crate::earliest::earliest;
 use crate::header::headers;
-use crate::held::earliest;
 use crate::name::{function_names, type_names};
 use checker_base::refusal::Refusal;
 use crate::sizes::narrow_widths;
@@ -25,7 +25,7 @@ use type_table::table::TypeTable;
 
 /// The struct types of a file, and the widths of their values in words.
 #[derive(Drop)]
-pub struct SizedTypes<'a> {
+pub(crate) struct SizedTypes<'a> {
     pub structs: Vec<StructEntry<'a>>,
     pub widths: Vec<usize>,
 }
