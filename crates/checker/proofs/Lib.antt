@@ -1,5 +1,3 @@
-pub mod Contents
-pub mod Within
 pub mod ExpressionNodes
 pub mod OperationNodes
 pub mod SimpleNodes
@@ -7,4 +5,3 @@ pub mod StatementNodes
 pub mod Nodes
 pub mod Bodies
 pub mod Rows
-pub mod KnownWidths

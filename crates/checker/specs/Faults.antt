@@ -5,14 +5,7 @@ use Rattle.go_text.specs.declared.fault.Fault.TheVariants as faults
 use Rattle.go_text.specs.declared.place.Place.{Place}
 use Rattle.syntax.specs.declared.tree.Tree.{Tree}
 use Rattle.syntax.specs.Spans.{tree_of, spans_of}
-use Rattle.checker_base.specs.declared.flaw.Flaw.{Flaw}
-use Rattle.checker_base.specs.declared.flaw.Flaw.TheVariants.{Broken, Exceeded}
 use Rattle.checker.specs.Files.{Breaks, Exceeds}
-
--- the node at which something is wrong
-abbrev pub node_of : Flaw → ℕ
-node_of (Broken rule node) = node
-node_of (Exceeded kind node) = node
 
 -- the place is that of the node, still without line and column
 pub record IsPlaceOf (tree : Tree) (node : ℕ) (place : Place) : Type 0 where

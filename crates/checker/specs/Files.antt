@@ -12,8 +12,8 @@ use Rattle.checker_base.specs.declared.flaw.Flaw.TheVariants.{Broken, Exceeded}
 use Rattle.checker_base.specs.Flaws.{IsBroken, IsExceeded}
 use Rattle.checker_statement.specs.Statements.{Setting, StatementsHave, after_all}
 use Rattle.checker_statement.specs.Terminating.{last_terminates}
-use Rattle.checker.specs.Kinds.{yield_of, globals_of, parameters}
-use Rattle.checker.specs.Declarations.{is_nothing, DeclarationsHave}
+use Rattle.checker_declaration.specs.Kinds.{yield_of, globals_of, parameters}
+use Rattle.checker_declaration.specs.Declarations.{is_nothing, DeclarationsHave}
 
 -- ---- bodies of functions
 

@@ -1,7 +1,3 @@
-pub mod Kinds
-pub mod Declarations
-pub mod Parts
-pub mod Heads
 pub mod Files
 pub mod Faults
 pub mod Trees

@@ -8,13 +8,13 @@ ghost use Rattle.type_table.specs.Visible.{types_of, globals_in, scope_of};
 ghost use Rattle.checker_base.specs.declared.flaw.Flaw.{Flaw as OneFlaw};
 ghost use Rattle.checker_base.specs.Views.{Refuses};
 ghost use Rattle.checker_statement.specs.Settings.{setting_in};
-ghost use Rattle.checker.specs.Kinds.{with_fields};
-ghost use Rattle.checker.specs.Declarations.{HeadHas};
+ghost use Rattle.checker_declaration.specs.Kinds.{with_fields};
+ghost use Rattle.checker_declaration.specs.Declarations.{HeadHas};
 ghost use Rattle.checker.specs.Files.{is_ended, BodyIn, BodyHas, TopBodyHas, BodiesHave};
-ghost use Rattle.checker.specs.Heads.{TopHeadHas, HeadsHave};
+ghost use Rattle.checker_declaration.specs.Heads.{TopHeadHas, HeadsHave};
 
 use checker_base::flaw::Flaw;
-use crate::header::function_head;
+use checker_declaration::header::function_head;
 use checker_base::refusal::Refusal;
 use checker_statement::statement::{Inside, statements};
 use checker_statement::terminate::last_terminates;

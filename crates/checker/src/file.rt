@@ -11,7 +11,7 @@ ghost use Rattle.checker.specs.Files.{is_plain, has_main, FileHas};
 use crate::body::bodies;
 use checker_base::flaw::Flaw;
 use checker_base::refusal::Refusal;
-use crate::table::table_of;
+use checker_declaration::table::table_of;
 use go_text::Rule;
 use std::alloc::Global;
 use syntax::{FileNode, NodeId};

@@ -2,19 +2,9 @@
 #![tactic(auto)]
 
 mod body;
-mod earliest;
 mod file;
-mod group;
-mod header;
-mod held;
-mod name;
-mod parts;
-mod sizes;
-mod structs;
-mod table;
 mod tree;
 mod typed;
-mod wide;
 
 pub use tree::check;
 pub use typed::Typed;

@@ -6,7 +6,7 @@ ghost use Rattle.syntax.specs.Spans.{tree_of};
 ghost use Rattle.checker.specs.Files.{IsTyped};
 
 use checker_base::refusal::Refusal;
-use crate::table::table_of;
+use checker_declaration::table::table_of;
 use std::alloc::{AllocError, Global};
 use syntax::Tree;
 use type_table::table::TypeTable;
@@ -20,7 +20,7 @@ pub struct Typed {
 
 impl Typed {
     ghost use Rattle.type_table.specs.Visible.{globals_in};
-    ghost use Rattle.checker.specs.Kinds.{globals_of};
+    ghost use Rattle.checker_declaration.specs.Kinds.{globals_of};
     ghost use Rattle.checker.specs.Trees.{tree_in};
 
     /// A tree that breaks no typing rule and exceeds no limit.

@@ -3,9 +3,10 @@ use Rattle.std.proofs.lemmas.Result.{err_from_is_err_and}
 use Rattle.syntax.specs.View.{top_of, file_of}
 use Rattle.type_table.specs.Visible.{globals_in}
 use Rattle.checker.specs.Files.{BodiesHave, has_main, FileHas}
-use Rattle.checker.specs.Heads.{HeadsHave}
-use Rattle.checker.specs.Kinds.{globals_of}
-use Rattle.checker.proofs.Bodies.{refuses_more, bodies_have, file_fine}
+use Rattle.checker_declaration.specs.Heads.{HeadsHave}
+use Rattle.checker_declaration.specs.Kinds.{globals_of}
+use Rattle.checker_declaration.proofs.Declared.{refuses_more}
+use Rattle.checker.proofs.Bodies.{bodies_have, file_fine}
 use Rattle.checker.proofs.file.check_file.Goals as goal
 
 pub returns-in_err-bodies-clause-one : goal.returns-in_err-bodies-clause-one

@@ -1,5 +1,0 @@
-use Rattle.std.proofs.Common.{length}
-use Rattle.checker.proofs.group.+groups.Given as goal
-
-abbrev pub decreases-groups : goal.decreases-groups
-decreases-groups l = length l.all.now

@@ -1,5 +1,0 @@
-use Rattle.std.proofs.Common.{length}
-use Rattle.checker.proofs.wide.+fields_words.Given as goal
-
-abbrev pub decreases-fields_words : goal.decreases-fields_words
-decreases-fields_words l = length l.fields.now

@@ -1,4 +1,0 @@
-use Rattle.checker.proofs.wide.first_too_wide.Given as goal
-
-abbrev pub invariant-loop-number : goal.invariant-loop-number
-invariant-loop-number l = Unit {0}
