@@ -14,8 +14,8 @@ ghost use Rattle.checker.specs.Files.{is_ended, BodyIn, BodyHas, TopBodyHas, Bod
 ghost use Rattle.checker_declaration.specs.Heads.{TopHeadHas, HeadsHave};
 
 use checker_base::flaw::Flaw;
-use checker_declaration::header::function_head;
 use checker_base::refusal::Refusal;
+use checker_declaration::header::function_head;
 use checker_statement::statement::{Inside, statements};
 use checker_statement::terminate::last_terminates;
 use go_text::{LimitKind, Rule};

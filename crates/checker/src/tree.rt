@@ -9,9 +9,9 @@ ghost use Rattle.checker.specs.Faults.{Tells};
 ghost use Rattle.checker.specs.Trees.{tree_in};
 
 use crate::file::check_file;
+use crate::typed::Typed;
 use checker_base::flaw::Flaw;
 use checker_base::refusal::Refusal;
-use crate::typed::Typed;
 use go_text::{Fault, Place};
 use std::alloc::Global;
 use syntax::Tree;

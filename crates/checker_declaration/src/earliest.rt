@@ -7,11 +7,11 @@ ghost use Rattle.checker_declaration.specs.Kinds.{type_names};
 ghost use Rattle.checker_declaration.specs.Declarations.{TypesHave};
 ghost use Rattle.checker_declaration.specs.Nodes.{node_of};
 
-use checker_base::flaw::Flaw;
 use crate::held::first_held;
 use crate::parts::all_parts;
 use crate::sizes::struct_node;
 use crate::wide::first_too_wide;
+use checker_base::flaw::Flaw;
 use go_text::{LimitKind, Rule};
 use std::alloc::{AllocError, Global};
 use syntax::{NodeId, TopNode};

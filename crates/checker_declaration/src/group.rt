@@ -10,8 +10,8 @@ ghost use Rattle.checker_base.specs.Views.{Refuses};
 ghost use Rattle.checker_declaration.specs.Kinds.{all_fields, fields_declared};
 ghost use Rattle.checker_declaration.specs.Declarations.{broken_by, NamesHave, GroupHas, GroupsHave};
 
-use checker_base::flaw::Flaw;
 use crate::name::{is_among, is_unfit};
+use checker_base::flaw::Flaw;
 use checker_base::refusal::Refusal;
 use go_text::Rule;
 use std::alloc::{AllocError, Global};

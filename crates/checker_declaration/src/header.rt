@@ -10,9 +10,9 @@ ghost use Rattle.checker_base.specs.Views.{Refuses};
 ghost use Rattle.checker_declaration.specs.Kinds.{function_name, function_names, fields_declared, yield_of, kinds_in, signature, signature_in, signatures};
 ghost use Rattle.checker_declaration.specs.Declarations.{IfTypeHas, HeadHas, HeaderHas, TopHeaderHas, counting_function, HeadersHave};
 
-use checker_base::flaw::Flaw;
 use crate::group::{Listed, Role, all_groups};
 use crate::name::{is_function_taken, own_node};
+use checker_base::flaw::Flaw;
 use checker_base::refusal::Refusal;
 use go_text::{LimitKind, Rule};
 use std::alloc::{AllocError, Global};

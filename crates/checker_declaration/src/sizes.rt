@@ -10,8 +10,8 @@ ghost use Rattle.checker_base.specs.Views.{Refuses};
 ghost use Rattle.checker_declaration.specs.Kinds.{structs_with};
 ghost use Rattle.checker_declaration.specs.Declarations.{struct_node, ContentsHave};
 
-use checker_base::flaw::Flaw;
 use crate::name::own_node;
+use checker_base::flaw::Flaw;
 use checker_base::refusal::Refusal;
 use go_text::{LimitKind, Rule};
 use std::alloc::Global;

@@ -9,9 +9,9 @@ ghost use Rattle.checker_base.specs.Views.{Refuses};
 ghost use Rattle.checker_declaration.specs.Kinds.{type_name, type_names, fields_declared, struct_in, structs_with};
 ghost use Rattle.checker_declaration.specs.Declarations.{FieldsHave, StructHas, TopStructHas, counting_struct, StructsHave};
 
-use checker_base::flaw::Flaw;
 use crate::group::{Role, all_groups};
 use crate::name::{is_type_taken, own_node};
+use checker_base::flaw::Flaw;
 use checker_base::refusal::Refusal;
 use go_text::{LimitKind, Rule};
 use std::alloc::Global;

@@ -14,9 +14,9 @@ ghost use Rattle.checker_declaration.specs.Declarations.{TypesHave, Declarations
 use crate::earliest::earliest;
 use crate::header::headers;
 use crate::name::{function_names, type_names};
-use checker_base::refusal::Refusal;
 use crate::sizes::narrow_widths;
 use crate::structs::structs;
+use checker_base::refusal::Refusal;
 use std::alloc::Global;
 use syntax::TopNode;
 use type_table::entry::StructEntry;

@@ -13,9 +13,9 @@ ghost use Rattle.type_table.specs.Visible.{types_of, globals_in, scope_of};
 ghost use Rattle.checker_base.specs.Views.{Refuses, worth_of};
 ghost use Rattle.checker_operation.specs.Givens.{given_of, given_made, source_of};
 
+use crate::operation::{Made, operation, receive};
 use checker_base::flaw::Flaw;
 use checker_base::operand::{Operand, checked};
-use crate::operation::{Made, operation, receive};
 use checker_base::refusal::Refusal;
 use checker_base::value::{default_type, value};
 use checker_base::worth::Worth;

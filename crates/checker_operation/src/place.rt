@@ -11,8 +11,8 @@ ghost use Rattle.type_table.specs.Visible.{types_of, globals_in, scope_of};
 ghost use Rattle.checker_operation.specs.Givens.{given_of, places_at, places_in};
 ghost use Rattle.checker_operation.specs.Paths.{path_type};
 
-use checker_base::flaw::Flaw;
 use crate::given::{fits, fits_any};
+use checker_base::flaw::Flaw;
 use checker_base::operand::Operand;
 use go_text::Rule;
 use std::alloc::{AllocError, Global};
@@ -105,10 +105,7 @@ pub enum Targets<'a> {
 }
 
 /// These places in order, each where it lies.
-pub fn references<'a>(
-    alloc: Global,
-    places: Targets<'a>,
-) -> Result<Vec<&'a PlaceNode>, AllocError>
+pub fn references<'a>(alloc: Global, places: Targets<'a>) -> Result<Vec<&'a PlaceNode>, AllocError>
     ensures { IfOk result (λ all. places_at all.items ≡ places_in places.entry) }
 {
     let mut all = Vec::new(alloc);

@@ -11,9 +11,9 @@ ghost use Rattle.checker_operation.specs.Givens.{given_of, places_at, places_in,
 ghost use Rattle.checker_simple.specs.Simples.{AssignedHave, SimpleHas};
 
 use checker_base::flaw::Flaw;
+use checker_base::refusal::Refusal;
 use checker_operation::given::{Given, Source, given_by, numbers_agree};
 use checker_operation::place::{Targets, places, places_take, references};
-use checker_base::refusal::Refusal;
 use std::alloc::Global;
 use syntax::{NodeId, PlaceNode};
 use type_table::scope::Visible;

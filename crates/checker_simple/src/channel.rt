@@ -10,8 +10,8 @@ ghost use Rattle.type_table.specs.Visible.{globals_in, scope_of};
 
 use checker_base::flaw::Flaw;
 use checker_base::operand::checked;
-use checker_operation::operation::measured;
 use checker_base::value::{channel, sent, value};
+use checker_operation::operation::measured;
 use syntax::{ExpressionNode, NodeId};
 use type_table::scope::Visible;
 use type_table::table::TypeTable;

@@ -11,9 +11,9 @@ ghost use Rattle.checker_operation.specs.Givens.{given_of, source_of};
 ghost use Rattle.checker_simple.specs.Names.{names_at, names_in};
 ghost use Rattle.checker_simple.specs.Simples.{NamesHave, with_defined, SimpleHas, after_simple};
 
-use checker_operation::given::{Given, Source, given_by, numbers_agree};
 use crate::names::{Names, may_define, references, take_names};
 use checker_base::refusal::Refusal;
+use checker_operation::given::{Given, Source, given_by, numbers_agree};
 use std::alloc::Global;
 use syntax::{Name, NodeId};
 use type_table::scope::Visible;

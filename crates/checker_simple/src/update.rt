@@ -15,8 +15,8 @@ ghost use Rattle.checker_simple.specs.Simples.{UpdatedHas, StepHas, SimpleHas};
 
 use checker_base::flaw::{Flaw, Operator, misused};
 use checker_base::operand::{Operand, checked};
-use checker_operation::place::read_place;
 use checker_base::worth::{Worth, binary_worth};
+use checker_operation::place::read_place;
 use go_text::Rule;
 use syntax::{BinaryOperator, ExpressionNode, NodeId, PlaceNode};
 use type_table::scope::Visible;

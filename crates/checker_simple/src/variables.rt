@@ -13,11 +13,11 @@ ghost use Rattle.checker_base.specs.Views.{Refuses};
 ghost use Rattle.checker_operation.specs.Givens.{given_of};
 ghost use Rattle.checker_simple.specs.Names.{names_at};
 
-use checker_base::flaw::Flaw;
-use checker_operation::given::{Given, Source, fits, given_by, numbers_agree};
 use crate::names::{Names, may_declare, references, take_names};
+use checker_base::flaw::Flaw;
 use checker_base::operand::Operand;
 use checker_base::refusal::Refusal;
+use checker_operation::given::{Given, Source, fits, given_by, numbers_agree};
 use go_text::Rule;
 use std::alloc::{AllocError, Global};
 use syntax::size::type_size;

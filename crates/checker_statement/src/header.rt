@@ -18,11 +18,11 @@ ghost use Rattle.checker_statement.specs.Statements.{GuardHas, IfSimpleHas, IfTe
 
 use checker_base::flaw::Flaw;
 use checker_base::operand::{Operand, checked};
-use checker_operation::place::{place, place_takes};
 use checker_base::refusal::Refusal;
-use checker_simple::simple::simple;
 use checker_base::value::{channel, is_condition};
 use checker_base::worth::Worth;
+use checker_operation::place::{place, place_takes};
+use checker_simple::simple::simple;
 use go_text::Rule;
 use std::alloc::Global;
 use syntax::size::statement_size;

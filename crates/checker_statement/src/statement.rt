@@ -15,15 +15,15 @@ ghost use Rattle.checker_simple.specs.Simples.{comm_simple};
 ghost use Rattle.checker_statement.specs.Statements.{IfSimpleHas, after_any, ReturnHas, ReturnStatementHas, default_count, StatementHas, StatementsHave, OtherwiseHas, after, after_all, after_otherwise, after_clauses, PartsHave, after_parts, after_clause, ClauseHas};
 ghost use Rattle.checker_statement.specs.Settings.{setting_in};
 
-use checker_base::flaw::Flaw;
 use crate::header::{broken_at, for_header, guard};
+use checker_base::flaw::Flaw;
 use checker_base::operand::{Operand, checked};
-use checker_operation::operation::{call, operation};
 use checker_base::refusal::Refusal;
-use checker_simple::simple::{comm, simple};
 use checker_base::value::value;
-use checker_simple::variables::{typed_variables, untyped_variables};
 use checker_base::worth::Worth;
+use checker_operation::operation::{call, operation};
+use checker_simple::simple::{comm, simple};
+use checker_simple::variables::{typed_variables, untyped_variables};
 use go_text::Rule;
 use std::alloc::Global;
 use syntax::{

@@ -9,11 +9,11 @@ ghost use Rattle.codegen.specs.Generated.{int_of, load, operator, shape_of, shap
 ghost use Rattle.syntax.specs.View.{expression_of, part_of};
 
 use bytecode::{Instr, Part, Text};
+use std::alloc::{AllocError, Global};
 use straight_base::operand::worth;
 use straight_base::scope::{Entry, is_truth, position_of};
 use straight_base::types::{Scalar, ValueType};
 use straight_base::worth::{Worth, is_int};
-use std::alloc::{AllocError, Global};
 use syntax::{BinaryOperator, ExpressionNode, PartNode};
 use word::apply::Op;
 

@@ -12,9 +12,9 @@ ghost use Rattle.syntax.specs.View.{name_of, declared_of, statement_of, function
 use crate::expression::shape_of;
 use crate::statement::{declare, put_body};
 use bytecode::{Function, PrintTable, WordKind};
+use std::alloc::{AllocError, Global};
 use straight_base::scope::Entry;
 use straight_base::types::{Scalar, ValueType, type_in};
-use std::alloc::{AllocError, Global};
 use syntax::{DeclaredNode, FunctionNode, Name, StatementNode, TopNode};
 
 /// Declares variables of one type.

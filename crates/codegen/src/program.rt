@@ -16,9 +16,9 @@ ghost use Rattle.word.specs.Worlds.{Equal};
 
 use crate::function::function;
 use bytecode::{Code, Function, PrintTable, Shape, WordKind};
-use straight_checker::Typed;
 use go_text::Fault;
 use std::alloc::{AllocError, Global};
+use straight_checker::Typed;
 use syntax::{FileNode, TopNode};
 
 /// The shapes of the items of channels: an int, and a bool.

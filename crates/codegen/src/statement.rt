@@ -13,12 +13,12 @@ ghost use Rattle.syntax.specs.View.{name_of, type_of, expression_of, statement_o
 
 use crate::expression::{parts_in, push_all, push_parts, push_value, shape_in, shape_of};
 use bytecode::{Instr, PrintTable};
-use straight_checker::action::{Action, Origin, Target, action_in};
+use std::alloc::{AllocError, Global};
 use straight_base::operand::worth;
 use straight_base::scope::{Entry, is_blank, position_of};
 use straight_base::types::{INT, ValueType, type_in};
 use straight_base::worth::Worth;
-use std::alloc::{AllocError, Global};
+use straight_checker::action::{Action, Origin, Target, action_in};
 use syntax::{ExpressionNode, Name, StatementNode, TopNode, TypeNode};
 
 /// Appends the instructions that put the value on the stack into the local at a place.

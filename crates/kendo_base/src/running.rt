@@ -9,12 +9,12 @@ ghost use Rattle.syntax.specs.Measures.{most_entries};
 ghost use Rattle.kendo_base.specs.Runs.{BeginsOutput, HasEnded, IsInStep, IsLimit, IsSameRun, IsWhole, Written};
 
 use book::{Book, Settled};
-use straight_checker::Typed;
 use codegen::compile;
 use go_text::Fault;
 use output::{Kind, Progress, drain_next};
 use std::alloc::Global;
 use std::sync::{Arc, Wait};
+use straight_checker::Typed;
 use verifier::{Verified, verify};
 use word::Write;
 use word::end::End;

@@ -72,7 +72,12 @@ impl Table {
             Told::Cuts => check_cuts(rt, alloc, text.as_slice()),
             Told::Typed => {
                 let line = checked_line(alloc, text.as_slice())?;
-                same(alloc, "the line on standard error (check)", b"".as_slice(), &line)
+                same(
+                    alloc,
+                    "the line on standard error (check)",
+                    b"".as_slice(),
+                    &line,
+                )
             }
             Told::Prints(output) => {
                 let output = bytes_of(alloc, output)?;

@@ -10,11 +10,11 @@ ghost use Rattle.straight_checker.specs.Built.{are_all};
 ghost use Rattle.straight_checker.specs.Rules.{ArgumentsHave, ArgumentsBreak};
 
 use crate::value::value;
+use go_text::Rule;
 use straight_base::flaw::Flaw;
 use straight_base::operand::checked;
 use straight_base::scope::Entry;
 use straight_base::types::ValueType;
-use go_text::Rule;
 use syntax::{ExpressionNode, NodeId};
 
 /// Checks values, whose nodes have numbers from `first` on, and answers the number behind them.

@@ -13,10 +13,10 @@ use crate::header::{header, parameters};
 use crate::refusal::Refusal;
 use crate::signature::FunctionType;
 use crate::statement::statements;
-use straight_base::flaw::Flaw;
-use straight_base::scope::Entry;
 use go_text::{LimitKind, Rule};
 use std::alloc::Global;
+use straight_base::flaw::Flaw;
+use straight_base::scope::Entry;
 use syntax::{FileNode, FunctionNode, NodeId, StatementNode, TopNode};
 
 /// How many words the variables of a function may take.

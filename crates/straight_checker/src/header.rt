@@ -13,11 +13,11 @@ ghost use Rattle.straight_checker.specs.Rules.{is_taken, NamesHave, with_names, 
 use crate::refusal::Refusal;
 use crate::signature::{FunctionType, function_of_name};
 use crate::statement::declare;
+use go_text::{LimitKind, Rule};
+use std::alloc::{AllocError, Global};
 use straight_base::flaw::Flaw;
 use straight_base::scope::{Entry, is_blank, is_reserved, position_of};
 use straight_base::types::{ValueType, type_in};
-use go_text::{LimitKind, Rule};
-use std::alloc::{AllocError, Global};
 use syntax::size::{function_size, type_size};
 use syntax::{DeclaredNode, FunctionNode, Name, NodeId};
 

@@ -1,7 +1,7 @@
 //! Why a check stops.
 
-use straight_base::flaw::Flaw;
 use std::alloc::{AllocError, AllocFailed};
+use straight_base::flaw::Flaw;
 
 /// Why a check stops.
 #[derive(Drop)]

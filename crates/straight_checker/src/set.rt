@@ -14,12 +14,12 @@ ghost use Rattle.straight_checker.specs.Rules.{OriginHas, origin_worth, is_new, 
 
 use crate::action::Origin;
 use crate::value::{channel, default_type, value};
+use go_text::Rule;
 use straight_base::flaw::Flaw;
 use straight_base::operand::{Operand, checked};
 use straight_base::scope::{Entry, is_blank, is_reserved, position_of};
 use straight_base::types::{ValueType, type_in};
 use straight_base::worth::Worth;
-use go_text::Rule;
 use syntax::size::type_size;
 use syntax::{ExpressionNode, NodeId, TypeNode};
 

@@ -17,12 +17,12 @@ use crate::refusal::Refusal;
 use crate::set::{assigns, declares, given};
 use crate::signature::{FunctionType, callee};
 use crate::value::{channel, printed, value};
+use go_text::Rule;
+use std::alloc::Global;
 use straight_base::flaw::Flaw;
 use straight_base::operand::checked;
 use straight_base::scope::Entry;
 use straight_base::types::ValueType;
-use go_text::Rule;
-use std::alloc::Global;
 use syntax::{ExpressionNode, Name, NodeId, PartNode, StatementNode};
 
 /// Declares a variable.

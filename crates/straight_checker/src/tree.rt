@@ -13,9 +13,9 @@ use crate::built::built;
 use crate::file::check_file;
 use crate::refusal::Refusal;
 use crate::typed::Typed;
-use straight_base::flaw::Flaw;
 use go_text::{Fault, Place};
 use std::alloc::Global;
+use straight_base::flaw::Flaw;
 use syntax::Tree;
 
 /// The refusal of a tree with this flaw, with the place of the node.

@@ -6,11 +6,11 @@ ghost use Rattle.straight_base.specs.declared.types.ValueType.{ValueType as OneT
 ghost use Rattle.straight_base.specs.declared.worth.Worth.{Worth as OneWorth};
 ghost use Rattle.straight_checker.specs.Rules.{same_scalar, same_type, fits, is_large, ValueHas, default_type, element_of, ChannelHas, is_printable, PrintedHas};
 
+use go_text::Rule;
 use straight_base::flaw::Flaw;
 use straight_base::operand::Operand;
 use straight_base::types::{INT, Scalar, ValueType, is_int as is_int_type};
 use straight_base::worth::{Worth, is_int};
-use go_text::Rule;
 
 /// Whether two types of elements are identical.
 fn same_scalar(one: Scalar, other: Scalar) -> bool
