@@ -1,49 +1,81 @@
--- Bodies of functions in memory, and flaws of parts of a file.
-use Rattle.std.proofs.Common.{◌≡◌, ℕ, ◌+◌, ◌⊎◌, inl, inr, List, [], ◌∷◌, map, sum_by, IsTrue, subst, sym, ap, ◌∙◌, arith}
-use Rattle.syntax.specs.declared.node.FunctionNode.{FunctionNode}
-use Rattle.syntax.specs.declared.node.StatementNode.{StatementNode}
-use Rattle.syntax.specs.Tree.{Statement, statements_in, Top, StructTop, FunctionTop, File}
-use Rattle.syntax.specs.Measures.{statement_size, declared_size, function_size, top_size}
-use Rattle.syntax.specs.View.{declared_of, statement_of, function_of}
+-- Where nothing is wrong with the parts of a file, nothing is wrong with it.
+use Rattle.std.proofs.Common.{◌≡◌, ℕ, ◌+◌, ◌≤◌, ◌⊎◌, true, false, inl, inr, List, [], ◌∷◌, sum_by, subst, sym, ap, ◌∙◌, arith}
+use Rattle.std.proofs.lemmas.Bool.{false≢true}
+use Rattle.go_text.specs.declared.rule.Rule.{Rule}
+use Rattle.go_text.specs.declared.rule.LimitKind.{LimitKind}
+use Rattle.syntax.specs.Tree.{Statements, Struct, Function, Top, StructTop, FunctionTop, File}
+use Rattle.syntax.specs.Measures.{if_any, type_size, declared_size, statements_size, function_size, top_size}
+use Rattle.type_table.specs.declared.entry.StructEntry.{StructEntry}
+use Rattle.type_table.specs.Containment.{Structs}
+use Rattle.type_table.specs.Views.{names_of, structs_of}
+use Rattle.type_table.specs.Scopes.{Scope, Yield, Globals}
 use Rattle.checker_base.specs.declared.flaw.Flaw.{Flaw}
-use Rattle.checker_base.specs.Scopes.{Scope}
-use Rattle.checker.specs.declared.refusal.Refusal.{Refusal}
-use Rattle.checker.specs.declared.refusal.Refusal.TheVariants.{Memory, Flawed}
-use Rattle.checker.specs.Built.{is_built_function}
-use Rattle.checker.specs.Refusals.{Refuses}
-use Rattle.checker.specs.Rules.{Signature, BodyIn, BodyHas, parameters, with_top, HeadersHave, BodiesHave, ParametersBreak, signatures, FileHas}
-use Rattle.checker.proofs.Sizes.{built_in}
+use Rattle.checker_base.specs.declared.flaw.Flaw.TheVariants.{Broken, Exceeded}
+use Rattle.checker_base.specs.declared.refusal.Refusal.{Refusal}
+use Rattle.checker_base.specs.declared.refusal.Refusal.TheVariants.{Memory, Flawed}
+use Rattle.checker_base.specs.Views.{Refuses}
+use Rattle.checker_statement.specs.Statements.{Setting}
+use Rattle.checker_declaration.specs.Kinds.{type_names, function_names, structs_with, structs, yield_of, globals_of, parameters}
+use Rattle.checker_declaration.specs.Declarations.{is_type_taken, FieldsHave, StructHas, TopStructHas, StructsHave, ContentsHave, HeaderHas, TopHeaderHas, counting_function, HeadersHave, TypesHave, DeclarationsHave}
+use Rattle.checker_declaration.specs.Heads.{HeadsHave}
+use Rattle.checker.specs.Files.{BodyIn, BodyHas, BodiesHave, has_main, FileHas, IsTyped}
 
-pub refuses_more : (P Q : Flaw → Type 0) (e : Refusal) → ((flaw : Flaw) → P flaw → Q flaw) → Refuses P e → Refuses Q e
-refuses_more P Q Memory more r = tt
-refuses_more P Q (Flawed flaw) more r = more flaw r
+-- ---- bodies
 
-moved : (functions : List Signature) (flaw : Flaw) (scope scope' : Scope) (m m' e e' : ℕ) (ss ss' : List Statement) → scope ≡ scope' → m ≡ m' → ss ≡ ss' → e ≡ e'
-    → BodyIn functions scope m ss e flaw → BodyIn functions scope' m' ss' e' flaw
-moved functions flaw scope scope' m m' e e' ss ss' p q r s b =
-    subst (λ x. BodyIn functions x m' ss' e' flaw) p (subst (λ x. BodyIn functions scope x ss' e' flaw) q (subst (λ x. BodyIn functions scope m x e' flaw) r (subst (λ x. BodyIn functions scope m ss x flaw) s b)))
+abbrev pub inside : Globals → Yield → Setting
+inside globals result = record { globals = globals; result = result; breaks = false; continues = false }
 
-module _ (f : FunctionNode) (functions : List Signature) (first middle : ℕ) (scope : Scope) (list : List StatementNode)
-    (built : IsTrue (is_built_function (function_of f))) (at : middle ≡ first + sum_by declared_size (map declared_of f.parameters.items)) (visible : scope ≡ parameters (function_of f)) (body : list ≡ f.body.items) where
-  listed : map statement_of list ≡ statements_in (function_of f).body
-  listed = ap (map statement_of) body ∙ sym (built_in f built).listed
+moved : (globals : Globals) (flaw : Flaw) (y y' : Yield) (scope scope' : Scope) (m m' e e' : ℕ) (ss ss' : Statements) → y ≡ y' → scope ≡ scope' → m ≡ m' → ss ≡ ss' → e ≡ e'
+    → BodyIn (inside globals y) scope m ss e flaw → BodyIn (inside globals y') scope' m' ss' e' flaw
+moved globals flaw y y' scope scope' m m' e e' ss ss' o p q r s b =
+    subst (λ (x : Yield). BodyIn (inside globals x) scope' m' ss' e' flaw) o
+    (subst (λ (x : Scope). BodyIn (inside globals y) x m' ss' e' flaw) p
+    (subst (λ (x : ℕ). BodyIn (inside globals y) scope x ss' e' flaw) q
+    (subst (λ (x : Statements). BodyIn (inside globals y) scope m x e' flaw) r
+    (subst (λ (x : ℕ). BodyIn (inside globals y) scope m ss x flaw) s b))))
 
-  pub end_is : middle + sum_by statement_size (map statement_of list) + 2 ≡ first + function_size (function_of f)
-  end_is = omega (arith, (built_in f built).size, at, ap (λ (xs : List StatementNode). sum_by statement_size (map statement_of xs)) body)
+module _ (globals : Globals) (f : Function) (first middle : ℕ) (y : Yield) (scope : Scope) (ss : Statements)
+    (yields : y ≡ yield_of globals.types f.result) (visible : scope ≡ parameters globals f) (at : middle ≡ first + sum_by declared_size f.parameters + if_any type_size f.result) (body : ss ≡ f.body) where
+  end_is : middle + statements_size ss + 2 ≡ first + function_size f
+  end_is = omega (arith, at, ap statements_size body)
 
-  pub body_has : (flaw : Flaw) → BodyIn functions scope middle (map statement_of list) (middle + sum_by statement_size (map statement_of list) + 2) flaw → BodyHas functions first (function_of f) flaw
-  body_has flaw b = moved functions flaw scope (parameters (function_of f)) middle (first + sum_by declared_size (function_of f).parameters) (middle + sum_by statement_size (map statement_of list) + 2) (first + top_size (FunctionTop (function_of f))) (map statement_of list) (statements_in (function_of f).body) visible at listed end_is b
+  pub body_has : (flaw : Flaw) → BodyIn (inside globals y) scope middle ss (middle + statements_size ss + 2) flaw → BodyHas globals first f flaw
+  body_has flaw b =
+      moved globals flaw y (yield_of globals.types f.result) scope (parameters globals f) middle (first + sum_by declared_size f.parameters + if_any type_size f.result) (middle + statements_size ss + 2) (first + function_size f) ss f.body
+      yields visible at body end_is b
 
-  pub body_in : (flaw : Flaw) → BodyHas functions first (function_of f) flaw → BodyIn functions scope middle (map statement_of list) (middle + sum_by statement_size (map statement_of list) + 2) flaw
-  body_in flaw b = moved functions flaw (parameters (function_of f)) scope (first + sum_by declared_size (function_of f).parameters) middle (first + top_size (FunctionTop (function_of f))) (middle + sum_by statement_size (map statement_of list) + 2) (statements_in (function_of f).body) (map statement_of list) (sym visible) (sym at) (sym listed) (sym end_is) b
+  pub body_in : (flaw : Flaw) → BodyHas globals first f flaw → BodyIn (inside globals y) scope middle ss (middle + statements_size ss + 2) flaw
+  body_in flaw b =
+      moved globals flaw (yield_of globals.types f.result) y (parameters globals f) scope (first + sum_by declared_size f.parameters + if_any type_size f.result) middle (first + function_size f) (middle + statements_size ss + 2) f.body ss
+      (sym yields) (sym visible) (sym at) (sym body) (sym end_is) b
 
-pub parameters_break : (before : List Signature) (first : ℕ) (tops : List Top) (flaw : Flaw) → ParametersBreak first tops flaw → HeadersHave before first tops flaw
-parameters_break before first [] flaw b = absurd b
-parameters_break before first (StructTop struct ∷ rest) flaw (inl b) = absurd b
-parameters_break before first (StructTop struct ∷ rest) flaw (inr b) = inr (parameters_break before (first + top_size (StructTop struct)) rest flaw b)
-parameters_break before first (FunctionTop function ∷ rest) flaw (inl b) = inl (inl b)
-parameters_break before first (FunctionTop function ∷ rest) flaw (inr b) = inr (parameters_break (with_top before (FunctionTop function)) (first + top_size (FunctionTop function)) rest flaw b)
+-- ---- the file
 
-pub bodies_have : (file : File) (functions : List Signature) (tops : List Top) → functions ≡ signatures file.tops → tops ≡ file.tops → (flaw : Flaw) → BodiesHave functions 0 tops flaw ⊎ ParametersBreak 0 tops flaw → FileHas file flaw
-bodies_have file functions tops same list flaw (inl b) = inr (inr (subst (λ (fs : List Signature). BodiesHave fs 0 file.tops flaw) same (subst (λ (ts : List Top). BodiesHave functions 0 ts flaw) list b)))
-bodies_have file functions tops same list flaw (inr b) = inl (parameters_break [] 0 file.tops flaw (subst (λ (ts : List Top). ParametersBreak 0 ts flaw) list b))
+heads_have : (types functions : List (List ℕ)) (number first : ℕ) (tops : List Top) (flaw : Flaw) → HeadsHave types first tops flaw → HeadersHave types functions number first tops flaw
+heads_have types functions number first [] flaw b = absurd b
+heads_have types functions number first (StructTop s ∷ rest) flaw (inl b) = absurd b
+heads_have types functions number first (StructTop s ∷ rest) flaw (inr b) = inr (heads_have types functions number (first + top_size (StructTop s)) rest flaw b)
+heads_have types functions number first (FunctionTop f ∷ rest) flaw (inl b) = inl (inr (inr b))
+heads_have types functions number first (FunctionTop f ∷ rest) flaw (inr b) = inr (heads_have types functions (counting_function number (FunctionTop f)) (first + top_size (FunctionTop f)) rest flaw b)
+
+pub bodies_have : (file : File) (globals : Globals) (tops : List Top) → globals ≡ globals_of file.tops → tops ≡ file.tops
+    → (flaw : Flaw) → BodiesHave globals 0 tops flaw ⊎ HeadsHave globals.types 0 tops flaw → FileHas file flaw
+bodies_have file globals tops same list flaw (inl b) =
+    inr (inr (subst (λ (g : Globals). BodiesHave g 0 file.tops flaw) same (subst (λ (ts : List Top). BodiesHave globals 0 ts flaw) list b)))
+bodies_have file globals tops same list flaw (inr b) =
+    let there : HeadsHave (type_names file.tops) 0 file.tops flaw = subst (λ (g : Globals). HeadsHave g.types 0 file.tops flaw) same (subst (λ (ts : List Top). HeadsHave globals.types 0 ts flaw) list b) in
+    inl (inr (heads_have (type_names file.tops) (function_names file.tops) 0 0 file.tops flaw there))
+
+pub file_fine : (file : File) (globals : Globals) (tops others : List Top) → globals ≡ globals_of file.tops → tops ≡ file.tops → others ≡ file.tops → has_main globals.functions ≡ true
+    → ((flaw : Flaw) → DeclarationsHave tops flaw → ⊥) → ((flaw : Flaw) → BodiesHave globals 0 others flaw → ⊥) → (flaw : Flaw) → FileHas file flaw → ⊥
+file_fine file globals tops others same list list' main none bodies flaw (inl has) = none flaw (subst (λ (ts : List Top). DeclarationsHave ts flaw) (sym list) has)
+file_fine file globals tops others same list list' main none bodies flaw (inr (inl has)) =
+    false≢true (sym has.0 ∙ subst (λ (g : Globals). has_main g.functions ≡ true) same main)
+file_fine file globals tops others same list list' main none bodies flaw (inr (inr has)) =
+    bodies flaw (subst (λ (g : Globals). BodiesHave g 0 others flaw) (sym same) (subst (λ (ts : List Top). BodiesHave (globals_of file.tops) 0 ts flaw) (sym list') has))
+
+pub typed_of_none : (file : File) → ((flaw : Flaw) → FileHas file flaw → ⊥) → IsTyped file
+typed_of_none file none = record {
+  breaks = λ (rule : Rule) (node : ℕ) has. none (Broken rule node) has;
+  exceeds = λ (kind : LimitKind) (node : ℕ) has. none (Exceeded kind node) has;
+}

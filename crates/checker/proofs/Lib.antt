@@ -1,5 +1,7 @@
-pub mod Sizes
-pub mod Bodies
+pub mod ExpressionNodes
+pub mod OperationNodes
+pub mod SimpleNodes
+pub mod StatementNodes
 pub mod Nodes
-pub mod Fits
+pub mod Bodies
 pub mod Rows

@@ -1,7 +1,3 @@
-pub mod Actions
-pub mod Built
-pub mod Rules
-pub mod Program
-pub mod Typed
-pub mod Source
-pub mod Refusals
+pub mod Files
+pub mod Faults
+pub mod Trees

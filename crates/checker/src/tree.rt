@@ -2,18 +2,16 @@
 
 ghost use Rattle.std.specs.Prelude.{◌≡◌, ◌<◌, ◌⊎◌, IfOk, IfErr};
 ghost use Rattle.syntax.specs.Measures.{size};
-ghost use Rattle.checker.specs.Built.{IsBuilt};
 ghost use Rattle.syntax.specs.Spans.{tree_of};
-ghost use Rattle.checker_base.specs.Flaws.{node_of};
-ghost use Rattle.checker.specs.Rules.{FileHas, IsTyped};
-ghost use Rattle.checker.specs.Program.{Tells};
-ghost use Rattle.checker.specs.Typed.{tree_in};
+ghost use Rattle.checker.specs.Files.{FileHas, IsTyped};
+ghost use Rattle.checker_declaration.specs.Nodes.{node_of};
+ghost use Rattle.checker.specs.Faults.{Tells};
+ghost use Rattle.checker.specs.Trees.{tree_in};
 
-use crate::built::built;
 use crate::file::check_file;
-use crate::refusal::Refusal;
 use crate::typed::Typed;
 use checker_base::flaw::Flaw;
+use checker_base::refusal::Refusal;
 use go_text::{Fault, Place};
 use std::alloc::Global;
 use syntax::Tree;
@@ -38,22 +36,19 @@ fn fault_of(tree: &Tree, flaw: Flaw) -> Fault
     }
 }
 
-/// Checks a tree: first that each form in it is compiled today, then what its functions declare, then that it has a `main`,
+/// Checks a tree against the typing rules and the limits: first its struct types in order, of each the name, the fields, that it
+/// does not contain itself and that it is at most 16 words wide; then the heads of its functions, then that it has a `main`,
 /// then the bodies of the functions, where statements come in order, and operands before their operators.
 ///
-/// Errors: `NotYet` at the first form, by its first byte, that is not compiled yet; `Typing` with a rule that is broken, or
-/// `Limit` with a limit that is exceeded, each at the node named; of several the first one in this order; `Memory`.
+/// Errors: `Typing` with a rule that is broken, or `Limit` with a limit that is exceeded, each at the node named; of several
+/// the first one in this order; `Memory`.
 pub fn check(alloc: Global, tree: Tree) -> Result<Typed, Fault>
     ensures tree { IfOk result (λ typed. tree_in typed ≡ tree) }
-    ensures built { IfOk result (λ _. IsBuilt (tree_of tree)) }
     ensures typed { IfOk result (λ _. IsTyped (tree_of tree)) }
-    ensures wrong { IfErr result (λ fault. (fault ≡ Fault.Memory) ⊎ (IsBuilt (tree_of tree) → IsTyped (tree_of tree) → ⊥)) }
+    ensures wrong { IfErr result (λ fault. (fault ≡ Fault.Memory) ⊎ (IsTyped (tree_of tree) → ⊥)) }
     ensures fault { IfErr result (λ fault. (fault ≡ Fault.Memory) ⊎ Tells tree fault) }
 {
-    if let Err(node) = built(tree.file()) {
-        return Err(Fault::NotYet(Place::from(tree.span(node))));
-    }
-    match check_file(alloc, tree.file()) {
+    match check_file(alloc, tree.count() - 1, tree.file()) {
         Ok(()) => Ok(Typed::new(tree)),
         Err(Refusal::Flawed(flaw)) => Err(fault_of(&tree, flaw)),
         Err(Refusal::Memory) => Err(Fault::Memory),

@@ -1,5 +1,4 @@
-pub mod Types
-pub mod Scopes
-pub mod Worths
 pub mod Flaws
+pub mod Worths
 pub mod Expressions
+pub mod Views

@@ -1,8 +1,10 @@
 //! What expressions are worth to the typing rules, and what is wrong with them.
 #![tactic(auto)]
 
+pub mod constant;
 pub mod flaw;
 pub mod operand;
-pub mod scope;
-pub mod types;
+pub(crate) mod operator;
+pub mod refusal;
+pub mod value;
 pub mod worth;

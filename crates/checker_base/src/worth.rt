@@ -1,33 +1,33 @@
 //! What an expression is worth to the typing rules.
 
-ghost use Rattle.std.specs.Prelude.{◌≡◌, ◌^◌, ◌≤◌, nat_abs, IfSome, IfOk};
-ghost use Rattle.checker_base.specs.Worths.{bounded, literal, is_int, unary, binary, unary_worth, binary_worth, beside, sized, IsSmall};
+ghost use Rattle.std.specs.Prelude.{◌≡◌, ℕ, ◌^◌, ◌≤◌, nat_abs, List, option_map, IfSome, IfOk};
+ghost use Rattle.type_table.specs.Views.{kind_of};
+ghost use Rattle.type_table.specs.Visible.{types_of, globals_in, scope_of};
+ghost use Rattle.checker_base.specs.Worths.{is_int, literal, sized, constant_worth, if_good, left_constant, right_constant, are_comparable, fit_operator, beside_nil, unary_worth, binary_worth, named_worth, selected_worth, literal_struct};
+ghost use Rattle.checker_base.specs.Views.{worth_of, made_of, IsSmall};
 
-use crate::types::{INT, ValueType};
+use crate::constant::{binary, unary};
+use crate::flaw::Misuse;
+use crate::operator::{
+    is_bool_type, is_channel_type, is_comparison, is_equality, is_far, is_int_type, is_logical,
+    is_not, is_wrong_right, made_type,
+};
 use syntax::{BinaryOperator, UnaryOperator};
+use type_table::layout::{field_of, number_of};
+use type_table::scope::{Visible, is_nil, is_truth, variable_named};
+use type_table::table::TypeTable;
+use type_table::value_type::{ValueType, assignable};
 
 /// The greatest size of a constant, 2^100.
 const LARGEST: u128 = 1 << 100;
 
-/// What an expression is worth: a value of a type that is known when the program runs, or an untyped constant
-/// ("Constants" of the Go specification).
-#[derive(Clone, Copy, PartialEq, Eq)]
-pub enum Worth {
-    Typed(ValueType),
+/// What an expression is worth: a value of a type that is known when the program runs, an untyped constant ("Constants" of
+/// the Go specification), or the word `nil`.
+#[derive(Clone, Copy)]
+pub enum Worth<'a> {
+    Typed(ValueType<'a>),
     Constant(i128),
-}
-
-/// Why an operator does not go with its operands.
-#[derive(Clone, Copy, PartialEq, Eq)]
-pub enum Misuse {
-    /// Their types do not fit it.
-    Operands,
-    /// The constant that it makes is larger than 2^100.
-    Size,
-    /// The left one is a constant that no int can be.
-    LeftConstant,
-    /// The right one is.
-    RightConstant,
+    Nil,
 }
 
 /// Whether an int has this value.
@@ -35,18 +35,6 @@ pub fn is_int(value: i128) -> bool
     ensures { result ≡ is_int value }
 {
     i128::from(i64::MIN) <= value && value <= i128::from(i64::MAX)
-}
-
-/// The value, unless its size is over 2^100.
-fn bounded(value: i128) -> Option<i128>
-    ensures value { result ≡ bounded value }
-    ensures small { IfSome result (λ v. nat_abs v ≤ 2 ^ 100) }
-{
-    if value.unsigned_abs() <= LARGEST {
-        Some(value)
-    } else {
-        None
-    }
 }
 
 /// The value of a literal: `None` where its size is over 2^100.
@@ -60,10 +48,63 @@ pub fn literal(value: Option<u128>) -> Option<i128>
     }
 }
 
+/// What a name is worth as an operand.
+pub fn named_worth<'a>(
+    table: &TypeTable<'a>,
+    visible: &Visible<'a>,
+    name: &[u8],
+) -> Option<Worth<'a>>
+    ensures worth { option_map (worth_of (types_of table.now)) result ≡ named_worth (scope_of table.now visible.now) name.now }
+    ensures small { IfSome result IsSmall }
+{
+    if is_truth(name) {
+        return Some(Worth::Typed(ValueType::Bool));
+    }
+    if is_nil(name) {
+        return Some(Worth::Nil);
+    }
+    match variable_named(table, visible, name) {
+        Some(entry) => Some(Worth::Typed(entry.kind)),
+        None => None,
+    }
+}
+
+/// The number of the struct that a literal's name stands for; where a variable hides it, none.
+pub(crate) fn literal_struct(
+    table: &TypeTable<'_>,
+    visible: &Visible<'_>,
+    name: &[u8],
+) -> Option<usize>
+    ensures { result ≡ literal_struct (globals_in table.now) (scope_of table.now visible.now) name.now }
+{
+    match variable_named(table, visible, name) {
+        Some(_) => None,
+        None => number_of(table, name),
+    }
+}
+
+/// What a field of an operand is worth ("Selectors" of the Go specification).
+pub(crate) fn selected_worth<'a>(
+    table: &TypeTable<'a>,
+    whole: Worth<'_>,
+    field: &[u8],
+) -> Option<Worth<'a>>
+    ensures worth { option_map (worth_of (types_of table.now)) result ≡ selected_worth (globals_in table.now) field.now (worth_of (types_of table.now) whole.entry) }
+    ensures small { IfSome result IsSmall }
+{
+    match whole {
+        Worth::Typed(kind) => match field_of(table, kind, field) {
+            Some(selected) => Some(Worth::Typed(selected.kind)),
+            None => None,
+        },
+        _ => None,
+    }
+}
+
 /// A constant of this value, unless it is too large.
-fn sized(value: Option<i128>) -> Result<Worth, Misuse>
+fn sized<'a>(value: Option<i128>) -> Result<Worth<'a>, Misuse>
     requires { IfSome value (λ v. nat_abs v ≤ 2 ^ 100) }
-    ensures worth { result ≡ sized value }
+    ensures worth { (types : List (List ℕ)) → made_of types result ≡ sized value }
     ensures small { IfOk result IsSmall }
 {
     match value {
@@ -72,85 +113,168 @@ fn sized(value: Option<i128>) -> Result<Worth, Misuse>
     }
 }
 
-/// What an operator before an operand makes of it.
-pub(crate) fn unary_worth(operator: UnaryOperator, operand: Worth) -> Result<Worth, Misuse>
-    requires { IsSmall operand }
-    ensures worth { result ≡ unary_worth operator operand }
-    ensures small { IfOk result IsSmall }
-{
-    match operand {
-        Worth::Constant(value) => sized(unary(operator, value)),
-        Worth::Typed(kind) => {
-            if crate::types::is_int(kind) {
-                Ok(Worth::Typed(INT))
-            } else {
-                Err(Misuse::Operands)
-            }
-        }
-    }
-}
-
-/// The value of an operator before a constant.
-fn unary(operator: UnaryOperator, operand: i128) -> Option<i128>
-    requires { nat_abs operand ≤ 2 ^ 100 }
-    ensures value { result ≡ bounded (unary operator operand) }
-    ensures small { IfSome result (λ v. nat_abs v ≤ 2 ^ 100) }
-{
-    match operator {
-        UnaryOperator::Negate => bounded(-operand),
-        _ => bounded(operand),
-    }
-}
-
-/// The value of an operator between two constants.
-fn binary(operator: BinaryOperator, left: i128, right: i128) -> Option<i128>
+/// What an operator between two constants makes ("Constant expressions").
+fn constant_worth<'a>(
+    operator: BinaryOperator,
+    left: i128,
+    right: i128,
+) -> Result<Worth<'a>, Misuse>
     requires left { nat_abs left ≤ 2 ^ 100 }
     requires right { nat_abs right ≤ 2 ^ 100 }
-    ensures value { result ≡ bounded (binary operator left right) }
-    ensures small { IfSome result (λ v. nat_abs v ≤ 2 ^ 100) }
+    ensures worth { (types : List (List ℕ)) → made_of types result ≡ constant_worth operator left right }
+    ensures small { IfOk result IsSmall }
 {
-    match operator {
-        BinaryOperator::Add => bounded(left + right),
-        BinaryOperator::Subtract => bounded(left - right),
-        _ => bounded(left),
+    if is_comparison(operator) {
+        Ok(Worth::Typed(ValueType::Bool))
+    } else if is_logical(operator) {
+        Err(Misuse::Operands)
+    } else if is_wrong_right(operator, right) {
+        Err(Misuse::Right)
+    } else if is_far(operator, right) {
+        Err(Misuse::Size)
+    } else {
+        sized(binary(operator, left, right))
     }
 }
 
-/// What is made of a constant beside a value of this type; a constant that no int can be is this misuse.
-fn beside(misuse: Misuse, value: i128, kind: ValueType) -> Result<Worth, Misuse>
-    ensures worth { result ≡ beside misuse value kind }
+/// A value of this type, if the operands are good.
+fn if_good<'a>(good: bool, kind: ValueType<'a>) -> Result<Worth<'a>, Misuse>
+    ensures worth { (types : List (List ℕ)) → made_of types result ≡ if_good good (kind_of types kind.entry) }
     ensures small { IfOk result IsSmall }
 {
-    if !crate::types::is_int(kind) {
+    if good {
+        Ok(Worth::Typed(kind))
+    } else {
         Err(Misuse::Operands)
-    } else if is_int(value) {
-        Ok(Worth::Typed(INT))
+    }
+}
+
+/// What an operator makes of a constant to the left of a value of this type, which is used as an int.
+fn left_constant<'a>(
+    operator: BinaryOperator,
+    left: i128,
+    kind: ValueType<'_>,
+) -> Result<Worth<'a>, Misuse>
+    ensures worth { (types : List (List ℕ)) → made_of types result ≡ left_constant operator left (kind_of types kind.entry) }
+    ensures small { IfOk result IsSmall }
+{
+    if is_logical(operator) || !is_int_type(kind) {
+        Err(Misuse::Operands)
+    } else if is_int(left) {
+        Ok(Worth::Typed(made_type(operator)))
+    } else {
+        Err(Misuse::LeftConstant)
+    }
+}
+
+/// What an operator makes of a constant to the right of a value of this type, which is used as an int.
+fn right_constant<'a>(
+    operator: BinaryOperator,
+    kind: ValueType<'_>,
+    right: i128,
+) -> Result<Worth<'a>, Misuse>
+    ensures worth { (types : List (List ℕ)) → made_of types result ≡ right_constant operator (kind_of types kind.entry) right }
+    ensures small { IfOk result IsSmall }
+{
+    if is_logical(operator) || !is_int_type(kind) {
+        Err(Misuse::Operands)
+    } else if !is_int(right) {
+        Err(Misuse::RightConstant)
+    } else if is_wrong_right(operator, right) {
+        Err(Misuse::Right)
+    } else {
+        Ok(Worth::Typed(made_type(operator)))
+    }
+}
+
+/// Whether values of these types can be compared by == and != ("Comparison operators").
+fn are_comparable(table: &TypeTable<'_>, left: ValueType<'_>, right: ValueType<'_>) -> bool
+    ensures { result ≡ are_comparable (kind_of (types_of table.now) left.entry) (kind_of (types_of table.now) right.entry) }
+{
+    match (left, right) {
+        (ValueType::Int, ValueType::Int) | (ValueType::Bool, ValueType::Bool) => true,
+        (ValueType::Channel(_, _), ValueType::Channel(_, _)) => {
+            assignable(table, left, right) || assignable(table, right, left)
+        }
+        _ => false,
+    }
+}
+
+/// Whether an operator fits operands of these types ("Operators").
+fn fit_operator(
+    table: &TypeTable<'_>,
+    operator: BinaryOperator,
+    left: ValueType<'_>,
+    right: ValueType<'_>,
+) -> bool
+    ensures { result ≡ fit_operator operator (kind_of (types_of table.now) left.entry) (kind_of (types_of table.now) right.entry) }
+{
+    if is_equality(operator) {
+        are_comparable(table, left, right)
+    } else if is_logical(operator) {
+        is_bool_type(left) && is_bool_type(right)
+    } else {
+        is_int_type(left) && is_int_type(right)
+    }
+}
+
+/// What an operator makes of `nil` beside a value of this type.
+fn beside_nil<'a>(
+    operator: BinaryOperator,
+    kind: ValueType<'_>,
+    misuse: Misuse,
+) -> Result<Worth<'a>, Misuse>
+    ensures worth { (types : List (List ℕ)) → made_of types result ≡ beside_nil operator (kind_of types kind.entry) misuse }
+    ensures small { IfOk result IsSmall }
+{
+    if is_equality(operator) && is_channel_type(kind) {
+        Ok(Worth::Typed(ValueType::Bool))
     } else {
         Err(misuse)
     }
 }
 
+/// What an operator before an operand makes of it.
+///
+/// Errors: `Operands`, `Size`, and `LeftNil` where the operand is `nil`.
+pub fn unary_worth<'a>(operator: UnaryOperator, operand: Worth<'_>) -> Result<Worth<'a>, Misuse>
+    requires { IsSmall operand }
+    ensures worth { (types : List (List ℕ)) → made_of types result ≡ unary_worth operator (worth_of types operand.entry) }
+    ensures small { IfOk result IsSmall }
+{
+    match operand {
+        Worth::Constant(_) if is_not(operator) => Err(Misuse::Operands),
+        Worth::Constant(value) => sized(unary(operator, value)),
+        Worth::Typed(kind) if is_not(operator) => if_good(is_bool_type(kind), ValueType::Bool),
+        Worth::Typed(kind) => if_good(is_int_type(kind), ValueType::Int),
+        Worth::Nil => Err(Misuse::LeftNil),
+    }
+}
+
 /// What an operator between two operands makes of them.
-pub(crate) fn binary_worth(
+///
+/// Errors: why it does not go with them.
+pub fn binary_worth<'a>(
+    table: &TypeTable<'_>,
     operator: BinaryOperator,
-    left: Worth,
-    right: Worth,
-) -> Result<Worth, Misuse>
+    left: Worth<'_>,
+    right: Worth<'_>,
+) -> Result<Worth<'a>, Misuse>
     requires left { IsSmall left }
     requires right { IsSmall right }
-    ensures worth { result ≡ binary_worth operator left right }
+    ensures worth { made_of (types_of table.now) result ≡ binary_worth operator (worth_of (types_of table.now) left.entry) (worth_of (types_of table.now) right.entry) }
     ensures small { IfOk result IsSmall }
 {
     match (left, right) {
-        (Worth::Constant(a), Worth::Constant(b)) => sized(binary(operator, a, b)),
-        (Worth::Constant(a), Worth::Typed(kind)) => beside(Misuse::LeftConstant, a, kind),
-        (Worth::Typed(kind), Worth::Constant(b)) => beside(Misuse::RightConstant, b, kind),
-        (Worth::Typed(one), Worth::Typed(other)) => {
-            if crate::types::is_int(one) && crate::types::is_int(other) {
-                Ok(Worth::Typed(INT))
-            } else {
-                Err(Misuse::Operands)
-            }
+        (Worth::Constant(a), Worth::Constant(b)) => constant_worth(operator, a, b),
+        (Worth::Constant(a), Worth::Typed(kind)) => left_constant(operator, a, kind),
+        (Worth::Constant(_), Worth::Nil) => Err(Misuse::RightNil),
+        (Worth::Typed(kind), Worth::Constant(b)) => right_constant(operator, kind, b),
+        (Worth::Typed(s), Worth::Typed(t)) => {
+            if_good(fit_operator(table, operator, s, t), made_type(operator))
         }
+        (Worth::Typed(kind), Worth::Nil) => beside_nil(operator, kind, Misuse::RightNil),
+        (Worth::Nil, Worth::Typed(kind)) => beside_nil(operator, kind, Misuse::LeftNil),
+        (Worth::Nil, _) => Err(Misuse::LeftNil),
     }
 }

@@ -7,17 +7,17 @@ use Rattle.bytecode.specs.declared.instr.Instr.{Instr}
 use Rattle.bytecode.specs.declared.instr.Instr.TheVariants as instrs
 use Rattle.bytecode.specs.Code.{Function, Code}
 use Rattle.bytecode.specs.Machine.{code_next, pops}
-use Rattle.checker_base.specs.declared.types.ValueType.{ValueType}
-use Rattle.checker_base.specs.declared.worth.Worth.{Worth}
-use Rattle.checker_base.specs.declared.worth.Worth.TheVariants.{Typed, Constant}
-use Rattle.checker_base.specs.declared.worth.Misuse.{Misuse}
-use Rattle.checker_base.specs.declared.worth.Misuse.TheVariants as misuses
-use Rattle.checker_base.specs.Types.{int, bool, is_int as is_int_type}
-use Rattle.checker_base.specs.Scopes.{Scope, is_blank, is_truth, position_of, kind_of as kind_there, variable_worth}
-use Rattle.checker_base.specs.Worths.{literal, is_int, bounded, sized, int_if, beside, unary, binary, unary_worth, binary_worth, worth}
-use Rattle.checker.specs.Program.{IsUsable}
-use Rattle.checker.specs.Source.{Bindings, scope_in, word_at, outcome, exact, combined, value}
-use Rattle.checker.proofs.Fits.{int_is}
+use Rattle.straight_base.specs.declared.types.ValueType.{ValueType}
+use Rattle.straight_base.specs.declared.worth.Worth.{Worth}
+use Rattle.straight_base.specs.declared.worth.Worth.TheVariants.{Typed, Constant}
+use Rattle.straight_base.specs.declared.worth.Misuse.{Misuse}
+use Rattle.straight_base.specs.declared.worth.Misuse.TheVariants as misuses
+use Rattle.straight_base.specs.Types.{int, bool, is_int as is_int_type}
+use Rattle.straight_base.specs.Scopes.{Scope, is_blank, is_truth, position_of, kind_of as kind_there, variable_worth}
+use Rattle.straight_base.specs.Worths.{literal, is_int, bounded, sized, int_if, beside, unary, binary, unary_worth, binary_worth, worth}
+use Rattle.straight_checker.specs.Program.{IsUsable}
+use Rattle.straight_checker.specs.Source.{Bindings, scope_in, word_at, outcome, exact, combined, value}
+use Rattle.straight_checker.proofs.Fits.{int_is}
 use Rattle.codegen.specs.Generated.{folded, load, operator, pushes}
 use Rattle.codegen.proofs.Lists.{behind}
 use Rattle.codegen.proofs.Steps.{frames, slips_more, pushes_int, pushes_bool, loads, applies, applies_one}

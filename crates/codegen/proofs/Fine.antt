@@ -11,25 +11,25 @@ use Rattle.bytecode.specs.declared.table.Part.{Part as TablePart}
 use Rattle.bytecode.specs.Code.{Function as CodeFunction, PrintTable, Code}
 use Rattle.bytecode.specs.Effects.{below, top_of, part_kinds, print_kinds, kinds_in, shape_kinds, params_in, wants, gives as gives_kinds, leaves, count, Enough, Meets, Fits, afterwards}
 use Rattle.bytecode.specs.Rules.{ways, Path, Named, Inside, Directed, AreThere, IsThere, Holds, IsShaped, IsShort, HasMain, IsVerified}
-use Rattle.checker_base.specs.declared.types.Scalar.{Scalar}
-use Rattle.checker_base.specs.declared.types.Scalar.TheVariants as scalars
-use Rattle.checker_base.specs.declared.types.ValueType.{ValueType}
-use Rattle.checker_base.specs.declared.types.ValueType.TheVariants as types
-use Rattle.checker_base.specs.declared.worth.Worth.{Worth}
-use Rattle.checker_base.specs.declared.worth.Worth.TheVariants.{Typed, Constant}
-use Rattle.checker_base.specs.Types.{int, bool, type_in}
-use Rattle.checker_base.specs.Scopes.{Variable, Scope, is_blank, is_truth, position_of, kind_of as kind_there, variable_worth}
-use Rattle.checker_base.specs.Worths.{literal, worth}
-use Rattle.checker.specs.Actions.{Target, Declares, Assigns, Origin, FromValue, FromReceive, FromMake, Action, Idles, Prints, Sends, Receives, Sets, Starts, right_origin, place_target, sets, action}
-use Rattle.checker.specs.Program.{IsUsable, IsPrintable, AreGoodParts, IsChannel, IsGoodOrigin, target_type, AllFit, IsGoodAction, IsGood, AreGood, IsProgram}
-use Rattle.checker.specs.Rules.{Signature, default_type, element_of, channel_type, origin_worth, after, after_all, parameters, signatures, callee, kinds_at, kinds_in as signature_kinds, has_none}
+use Rattle.straight_base.specs.declared.types.Scalar.{Scalar}
+use Rattle.straight_base.specs.declared.types.Scalar.TheVariants as scalars
+use Rattle.straight_base.specs.declared.types.ValueType.{ValueType}
+use Rattle.straight_base.specs.declared.types.ValueType.TheVariants as types
+use Rattle.straight_base.specs.declared.worth.Worth.{Worth}
+use Rattle.straight_base.specs.declared.worth.Worth.TheVariants.{Typed, Constant}
+use Rattle.straight_base.specs.Types.{int, bool, type_in}
+use Rattle.straight_base.specs.Scopes.{Variable, Scope, is_blank, is_truth, position_of, kind_of as kind_there, variable_worth}
+use Rattle.straight_base.specs.Worths.{literal, worth}
+use Rattle.straight_checker.specs.Actions.{Target, Declares, Assigns, Origin, FromValue, FromReceive, FromMake, Action, Idles, Prints, Sends, Receives, Sets, Starts, right_origin, place_target, sets, action}
+use Rattle.straight_checker.specs.Program.{IsUsable, IsPrintable, AreGoodParts, IsChannel, IsGoodOrigin, target_type, AllFit, IsGoodAction, IsGood, AreGood, IsProgram}
+use Rattle.straight_checker.specs.Rules.{Signature, default_type, element_of, channel_type, origin_worth, after, after_all, parameters, signatures, callee, kinds_at, kinds_in as signature_kinds, has_none}
 use Rattle.codegen.specs.Generated.{int_of, kind_of, shape_of, shape_in, shapes, folded, load, operator, pushes, pushes_all, pushes_parts, printed_as, part_in, table_in, store, keeps, receive, gives, action_code, body_code, tables_of, local_kinds, function_code, function_tables, functions_code, all_tables, code_of}
 use Rattle.codegen.proofs.Evaluates.{unary_typed, binary_typed}
 use Rattle.codegen.proofs.Follows.{usable_default, usable_type, hidden_name}
 use Rattle.codegen.proofs.Lists.{first_left, behind}
 use Rattle.codegen.proofs.Stands.{grows, grows_one, longer, main_is, named_within, main_there, Located, locate}
 use Rattle.codegen.proofs.Values.{bound_scope, place_within}
-use Rattle.checker.specs.Source.{bound, declared}
+use Rattle.straight_checker.specs.Source.{bound, declared}
 use Rattle.codegen.proofs.Steps.{below_of, top_of_is}
 use Rattle.syntax.specs.declared.node.BinaryOperator.{BinaryOperator}
 use Rattle.syntax.specs.declared.node.BinaryOperator.TheVariants.{Subtract}

@@ -9,19 +9,19 @@ use Rattle.bytecode.specs.declared.table.Part.{Part as TablePart}
 use Rattle.bytecode.specs.Code.{Function as CodeFunction, PrintTable, Code}
 use Rattle.bytecode.specs.Effects.{part_kinds, print_kinds, shape_kinds, params_in}
 use Rattle.bytecode.specs.Machine.{Frames, NextFrames, if_there, printed as code_printed, printed_rest, part_text as code_text, part_rest, pops, code_next, code_answer, code_begin, fitted, zero_of, on_chan, on_int, if_within, reply_words as code_words, code_kind, main_of}
-use Rattle.checker_base.specs.declared.types.Scalar.{Scalar}
-use Rattle.checker_base.specs.declared.types.Scalar.TheVariants as scalars
-use Rattle.checker_base.specs.declared.types.ValueType.{ValueType}
-use Rattle.checker_base.specs.declared.types.ValueType.TheVariants as types
-use Rattle.checker_base.specs.declared.worth.Worth.{Worth}
-use Rattle.checker_base.specs.declared.worth.Worth.TheVariants.{Typed, Constant}
-use Rattle.checker_base.specs.Types.{int, type_in}
-use Rattle.checker_base.specs.Scopes.{Variable, Scope, is_blank, position_of, kind_of as kind_there}
-use Rattle.checker_base.specs.Worths.{worth}
-use Rattle.checker.specs.Actions.{Target, Declares, Assigns, Origin, FromValue, FromReceive, FromMake, Action, Idles, Prints, Sends, Receives, Sets, Starts, action}
-use Rattle.checker.specs.Program.{IsUsable, IsPrintable, AreGoodParts, IsChannel, target_type, AllFit, IsGoodAction, IsGood, AreGood, IsProgram}
-use Rattle.checker.specs.Rules.{Signature, default_type, element_of, channel_type, origin_worth, after, after_all, parameters, signatures, function_of_name, callee, kinds_at, kinds_in as signature_kinds}
-use Rattle.checker.specs.Source.{Binding, Bindings, declared, scope_in, first_as, put, value, more_text, printed, Task, Do, Write, Running, running, written, channel_in, item_zero, act, acts, next_of, source_next, reply_words, told, all_of, begun, source_kind}
+use Rattle.straight_base.specs.declared.types.Scalar.{Scalar}
+use Rattle.straight_base.specs.declared.types.Scalar.TheVariants as scalars
+use Rattle.straight_base.specs.declared.types.ValueType.{ValueType}
+use Rattle.straight_base.specs.declared.types.ValueType.TheVariants as types
+use Rattle.straight_base.specs.declared.worth.Worth.{Worth}
+use Rattle.straight_base.specs.declared.worth.Worth.TheVariants.{Typed, Constant}
+use Rattle.straight_base.specs.Types.{int, type_in}
+use Rattle.straight_base.specs.Scopes.{Variable, Scope, is_blank, position_of, kind_of as kind_there}
+use Rattle.straight_base.specs.Worths.{worth}
+use Rattle.straight_checker.specs.Actions.{Target, Declares, Assigns, Origin, FromValue, FromReceive, FromMake, Action, Idles, Prints, Sends, Receives, Sets, Starts, action}
+use Rattle.straight_checker.specs.Program.{IsUsable, IsPrintable, AreGoodParts, IsChannel, target_type, AllFit, IsGoodAction, IsGood, AreGood, IsProgram}
+use Rattle.straight_checker.specs.Rules.{Signature, default_type, element_of, channel_type, origin_worth, after, after_all, parameters, signatures, function_of_name, callee, kinds_at, kinds_in as signature_kinds}
+use Rattle.straight_checker.specs.Source.{Binding, Bindings, declared, scope_in, first_as, put, value, more_text, printed, Task, Do, Write, Running, running, written, channel_in, item_zero, act, acts, next_of, source_next, reply_words, told, all_of, begun, source_kind}
 use Rattle.codegen.specs.Generated.{kind_of, shape_of, shape_in, shapes, pushes, pushes_all, pushes_parts, printed_as, part_in, table_in, store, keeps, receive, action_code, body_code, tables_of, function_code, local_kinds, code_of}
 use Rattle.codegen.proofs.Evaluates.{Pushes, evaluates}
 use Rattle.codegen.proofs.Lists.{first_left, next_left, behind}

@@ -16,12 +16,12 @@ use Rattle.bytecode.specs.declared.instr.Instr.{Instr}
 use Rattle.bytecode.specs.Code.{Function as CodeFunction, PrintTable, Code}
 use Rattle.bytecode.specs.Effects.{locals_in}
 use Rattle.bytecode.specs.Machine.{Frames, begun as code_begun, code_next, code_begin, main_of}
-use Rattle.checker_base.specs.declared.types.ValueType.{ValueType}
-use Rattle.checker_base.specs.Scopes.{Variable, Scope, is_blank, position_of, kind_of as kind_there}
-use Rattle.checker.specs.Actions.{Target, Declares, Assigns, Origin, Action, Idles, Prints, Sends, Receives, Sets, Starts, action}
-use Rattle.checker.specs.Program.{AreGood, IsGoodFunction, AreGoodTops}
-use Rattle.checker.specs.Rules.{Signature, default_type, origin_worth, after, after_all, parameters, signature, signatures, function_of_name, kinds_at, has_none, has_main}
-use Rattle.checker.specs.Source.{Bindings, scope_in, bound, Task, Do, Write, Running, running, all_of, begun}
+use Rattle.straight_base.specs.declared.types.ValueType.{ValueType}
+use Rattle.straight_base.specs.Scopes.{Variable, Scope, is_blank, position_of, kind_of as kind_there}
+use Rattle.straight_checker.specs.Actions.{Target, Declares, Assigns, Origin, Action, Idles, Prints, Sends, Receives, Sets, Starts, action}
+use Rattle.straight_checker.specs.Program.{AreGood, IsGoodFunction, AreGoodTops}
+use Rattle.straight_checker.specs.Rules.{Signature, default_type, origin_worth, after, after_all, parameters, signature, signatures, function_of_name, kinds_at, has_none, has_main}
+use Rattle.straight_checker.specs.Source.{Bindings, scope_in, bound, Task, Do, Write, Running, running, all_of, begun}
 use Rattle.codegen.specs.Generated.{kind_of, keeps, body_code, tables_of, local_kinds, label, function_code, function_tables, functions_code, all_tables, code_of}
 use Rattle.codegen.proofs.Lists.{behind}
 use Rattle.codegen.proofs.Steps.{frames}

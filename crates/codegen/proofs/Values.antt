@@ -4,13 +4,13 @@ use Rattle.std.proofs.lemmas.Option.{same_Some}
 use Rattle.bytecode.proofs.Fitted.{fitted_length}
 use Rattle.bytecode.specs.declared.instr.WordKind.{WordKind}
 use Rattle.bytecode.specs.Machine.{zero_of, as_kind, fitted}
-use Rattle.checker_base.specs.declared.types.Scalar.{Scalar}
-use Rattle.checker_base.specs.declared.types.Scalar.TheVariants as scalars
-use Rattle.checker_base.specs.declared.types.ValueType.{ValueType}
-use Rattle.checker_base.specs.declared.types.ValueType.TheVariants as types
-use Rattle.checker_base.specs.Types.{int}
-use Rattle.checker_base.specs.Scopes.{Scope, position_of, kind_of as kind_there}
-use Rattle.checker.specs.Source.{Binding, Bindings, declared, scope_in, zero_word, as_word, first_as, bound, word_at, put, channel_in}
+use Rattle.straight_base.specs.declared.types.Scalar.{Scalar}
+use Rattle.straight_base.specs.declared.types.Scalar.TheVariants as scalars
+use Rattle.straight_base.specs.declared.types.ValueType.{ValueType}
+use Rattle.straight_base.specs.declared.types.ValueType.TheVariants as types
+use Rattle.straight_base.specs.Types.{int}
+use Rattle.straight_base.specs.Scopes.{Scope, position_of, kind_of as kind_there}
+use Rattle.straight_checker.specs.Source.{Binding, Bindings, declared, scope_in, zero_word, as_word, first_as, bound, word_at, put, channel_in}
 use Rattle.codegen.specs.Generated.{kind_of, local_kinds}
 use Rattle.word.specs.declared.value.Word.{Word}
 use Rattle.word.specs.declared.value.Word.TheVariants.{Int, Bool as Truth, Chan}

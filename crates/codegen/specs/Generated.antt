@@ -8,17 +8,17 @@ use Rattle.bytecode.specs.declared.instr.WordKind.TheVariants as kinds
 use Rattle.bytecode.specs.declared.table.Part.{Part as TablePart}
 use Rattle.bytecode.specs.declared.table.Part.TheVariants as parts
 use Rattle.bytecode.specs.Code.{Function as CodeFunction, PrintTable, Code}
-use Rattle.checker_base.specs.declared.types.Scalar.{Scalar}
-use Rattle.checker_base.specs.declared.types.Scalar.TheVariants as scalars
-use Rattle.checker_base.specs.declared.types.ValueType.{ValueType}
-use Rattle.checker_base.specs.declared.types.ValueType.TheVariants as types
-use Rattle.checker_base.specs.declared.worth.Worth.{Worth}
-use Rattle.checker_base.specs.declared.worth.Worth.TheVariants.{Typed, Constant}
-use Rattle.checker_base.specs.Types.{type_in}
-use Rattle.checker_base.specs.Scopes.{Variable, Scope, is_blank, is_truth, position_of}
-use Rattle.checker_base.specs.Worths.{is_int, worth}
-use Rattle.checker.specs.Actions.{Target, Declares, Assigns, Origin, FromValue, FromReceive, FromMake, Action, Idles, Prints, Sends, Receives, Sets, Starts, action}
-use Rattle.checker.specs.Rules.{element_of, channel_type, Signature, callee, after, after_all, parameters, signatures}
+use Rattle.straight_base.specs.declared.types.Scalar.{Scalar}
+use Rattle.straight_base.specs.declared.types.Scalar.TheVariants as scalars
+use Rattle.straight_base.specs.declared.types.ValueType.{ValueType}
+use Rattle.straight_base.specs.declared.types.ValueType.TheVariants as types
+use Rattle.straight_base.specs.declared.worth.Worth.{Worth}
+use Rattle.straight_base.specs.declared.worth.Worth.TheVariants.{Typed, Constant}
+use Rattle.straight_base.specs.Types.{type_in}
+use Rattle.straight_base.specs.Scopes.{Variable, Scope, is_blank, is_truth, position_of}
+use Rattle.straight_base.specs.Worths.{is_int, worth}
+use Rattle.straight_checker.specs.Actions.{Target, Declares, Assigns, Origin, FromValue, FromReceive, FromMake, Action, Idles, Prints, Sends, Receives, Sets, Starts, action}
+use Rattle.straight_checker.specs.Rules.{element_of, channel_type, Signature, callee, after, after_all, parameters, signatures}
 use Rattle.syntax.specs.declared.node.BinaryOperator.{BinaryOperator}
 use Rattle.syntax.specs.declared.node.BinaryOperator.TheVariants.{Subtract}
 use Rattle.syntax.specs.Tree.{Expression, Integer, Named, Parenthesized, Unary, Binary, Part, Value, Text, Statement, statements_in, Function, Top, StructTop, FunctionTop, File}

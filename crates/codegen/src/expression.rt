@@ -1,19 +1,19 @@
 //! The instructions that push values.
 
 ghost use Rattle.std.specs.Prelude.{◌≡◌, ◌^◌, ◌<◌, ◌++◌, IfOk, OnOk, length, map, Option};
-ghost use Rattle.checker_base.specs.Scopes.{scope_of, position_of as spec_place_of};
-ghost use Rattle.checker_base.specs.Worths.{worth as spec_worth};
+ghost use Rattle.straight_base.specs.Scopes.{scope_of, position_of as spec_place_of};
+ghost use Rattle.straight_base.specs.Worths.{worth as spec_worth};
 ghost use Rattle.syntax.specs.Tree.{Named};
-ghost use Rattle.checker.specs.Rules.{element_of};
+ghost use Rattle.straight_checker.specs.Rules.{element_of};
 ghost use Rattle.codegen.specs.Generated.{int_of, load, operator, shape_of, shape_in, pushes, pushes_all, pushes_parts, printed_as, part_in};
 ghost use Rattle.syntax.specs.View.{expression_of, part_of};
 
 use bytecode::{Instr, Part, Text};
-use checker_base::operand::worth;
-use checker_base::scope::{Entry, is_truth, position_of};
-use checker_base::types::{Scalar, ValueType};
-use checker_base::worth::{Worth, is_int};
 use std::alloc::{AllocError, Global};
+use straight_base::operand::worth;
+use straight_base::scope::{Entry, is_truth, position_of};
+use straight_base::types::{Scalar, ValueType};
+use straight_base::worth::{Worth, is_int};
 use syntax::{BinaryOperator, ExpressionNode, PartNode};
 use word::apply::Op;
 

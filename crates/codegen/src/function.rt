@@ -1,10 +1,10 @@
 //! The code of functions.
 
 ghost use Rattle.std.specs.Prelude.{[], ◌∷◌, ◌≡◌, ℕ, ◌+◌, ◌^◌, ◌<◌, ◌++◌, ◌≤◌, Some, IsTrue, IfOk, OnOk, length, map, sum_by, vec_len, string_bytes};
-ghost use Rattle.checker_base.specs.Scopes.{scope_of};
-ghost use Rattle.checker.specs.Built.{are_all};
-ghost use Rattle.checker.specs.Program.{is_typed_parameter, AreGood, IsGoodFunction};
-ghost use Rattle.checker.specs.Rules.{signatures, with_names, with_parameters, after_all};
+ghost use Rattle.straight_base.specs.Scopes.{scope_of};
+ghost use Rattle.straight_checker.specs.Built.{are_all};
+ghost use Rattle.straight_checker.specs.Program.{is_typed_parameter, AreGood, IsGoodFunction};
+ghost use Rattle.straight_checker.specs.Rules.{signatures, with_names, with_parameters, after_all};
 ghost use Rattle.codegen.specs.Generated.{kind_of, label, local_kinds, function_with, function_code, tables_of, function_tables};
 ghost use Rattle.syntax.specs.Measures.{statement_size, function_size};
 ghost use Rattle.syntax.specs.View.{name_of, declared_of, statement_of, function_of, top_of};
@@ -12,9 +12,9 @@ ghost use Rattle.syntax.specs.View.{name_of, declared_of, statement_of, function
 use crate::expression::shape_of;
 use crate::statement::{declare, put_body};
 use bytecode::{Function, PrintTable, WordKind};
-use checker_base::scope::Entry;
-use checker_base::types::{Scalar, ValueType, type_in};
 use std::alloc::{AllocError, Global};
+use straight_base::scope::Entry;
+use straight_base::types::{Scalar, ValueType, type_in};
 use syntax::{DeclaredNode, FunctionNode, Name, StatementNode, TopNode};
 
 /// Declares variables of one type.

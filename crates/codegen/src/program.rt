@@ -3,11 +3,11 @@
 ghost use Rattle.std.specs.Prelude.{[], ◌∷◌, ◌≡◌, ℕ, ◌+◌, ◌^◌, ◌<◌, ◌++◌, ◌≤◌, IfOk, IfErr, OnOk, List, length, map, sum_by, vec_len};
 ghost use Rattle.bytecode.specs.Machine.{code_kind};
 ghost use Rattle.bytecode.specs.Rules.{IsVerified};
-ghost use Rattle.checker.specs.Program.{IsProgram, IsGoodTop, AreGoodTops};
+ghost use Rattle.straight_checker.specs.Program.{IsProgram, IsGoodTop, AreGoodTops};
 ghost use Rattle.syntax.specs.Tree.{Top};
-ghost use Rattle.checker.specs.Rules.{signatures};
-ghost use Rattle.checker.specs.Source.{source_kind};
-ghost use Rattle.checker.specs.Typed.{tree_in};
+ghost use Rattle.straight_checker.specs.Rules.{signatures};
+ghost use Rattle.straight_checker.specs.Source.{source_kind};
+ghost use Rattle.straight_checker.specs.Typed.{tree_in};
 ghost use Rattle.codegen.specs.Generated.{shapes, functions_code, all_tables, code_of};
 ghost use Rattle.syntax.specs.Measures.{most_entries, top_size, size};
 ghost use Rattle.syntax.specs.Spans.{tree_of};
@@ -16,9 +16,9 @@ ghost use Rattle.word.specs.Worlds.{Equal};
 
 use crate::function::function;
 use bytecode::{Code, Function, PrintTable, Shape, WordKind};
-use checker::Typed;
 use go_text::Fault;
 use std::alloc::{AllocError, Global};
+use straight_checker::Typed;
 use syntax::{FileNode, TopNode};
 
 /// The shapes of the items of channels: an int, and a bool.

@@ -1,24 +1,24 @@
 //! The instructions and print tables of statements.
 
 ghost use Rattle.std.specs.Prelude.{[], ◌∷◌, ◌≡◌, ℕ, ◌+◌, ◌^◌, ◌<◌, ◌++◌, ◌≤◌, Option, Some, IfSome, OnOk, length, map, option_map, sum_by, vec_len, unwrap_or};
-ghost use Rattle.checker_base.specs.Scopes.{scope_of};
-ghost use Rattle.checker_base.specs.Worths.{worth as spec_worth};
-ghost use Rattle.checker_base.specs.declared.worth.Worth.{Worth as OneWorth};
-ghost use Rattle.checker.specs.Actions.{FromMake, Sends, target_of, origin_of, action_of, action};
-ghost use Rattle.checker.specs.Program.{IsGoodAction, IsGood, AreGood};
-ghost use Rattle.checker.specs.Rules.{signatures, function_of_name, callee, element_of, channel_type, default_type, origin_worth, after, after_all};
+ghost use Rattle.straight_base.specs.Scopes.{scope_of};
+ghost use Rattle.straight_base.specs.Worths.{worth as spec_worth};
+ghost use Rattle.straight_base.specs.declared.worth.Worth.{Worth as OneWorth};
+ghost use Rattle.straight_checker.specs.Actions.{FromMake, Sends, target_of, origin_of, action_of, action};
+ghost use Rattle.straight_checker.specs.Program.{IsGoodAction, IsGood, AreGood};
+ghost use Rattle.straight_checker.specs.Rules.{signatures, function_of_name, callee, element_of, channel_type, default_type, origin_worth, after, after_all};
 ghost use Rattle.codegen.specs.Generated.{store, keeps, receive, gives, table_in, action_code, body_code, tables_of};
 ghost use Rattle.syntax.specs.Measures.{statement_size};
 ghost use Rattle.syntax.specs.View.{name_of, type_of, expression_of, statement_of, top_of};
 
 use crate::expression::{parts_in, push_all, push_parts, push_value, shape_in, shape_of};
 use bytecode::{Instr, PrintTable};
-use checker::action::{Action, Origin, Target, action_in};
-use checker_base::operand::worth;
-use checker_base::scope::{Entry, is_blank, position_of};
-use checker_base::types::{INT, ValueType, type_in};
-use checker_base::worth::Worth;
 use std::alloc::{AllocError, Global};
+use straight_base::operand::worth;
+use straight_base::scope::{Entry, is_blank, position_of};
+use straight_base::types::{INT, ValueType, type_in};
+use straight_base::worth::Worth;
+use straight_checker::action::{Action, Origin, Target, action_in};
 use syntax::{ExpressionNode, Name, StatementNode, TopNode, TypeNode};
 
 /// Appends the instructions that put the value on the stack into the local at a place.

@@ -23,6 +23,10 @@ number name default = record (new_rule name) {
   defaults = default ∷ [];
 }
 
+-- kendo check FILE
+abbrev pub check : App
+check = with_rule (new_app (codes "check")) file
+
 -- kendo list FILE
 abbrev pub list : App
 list = with_rule (new_app (codes "list")) file
@@ -31,11 +35,11 @@ list = with_rule (new_app (codes "list")) file
 abbrev pub run : App
 run = with_rule (with_rule (with_rule (new_app (codes "run")) file) (number (codes "workers") (codes "4"))) (number (codes "limit") (codes "1099511627776"))
 
--- one of the two has to be there
+-- one of the three has to be there
 abbrev pub kendo : App
 kendo =
     let named = new_app (codes "kendo") in
-    with_subcommand (with_subcommand (record named { top = record named.top { subcommand_required = true } }) list.top) run.top
+    with_subcommand (with_subcommand (with_subcommand (record named { top = record named.top { subcommand_required = true } }) check.top) list.top) run.top
 
 -- ---- what the words ask for
 
@@ -46,6 +50,7 @@ IsNumber (Some text) n = IsNumeral 10 (without_leading_plus text) × (digits_val
 
 -- the command of this name, with these values, asks for this
 abbrev pub Does : (name : Text) → List Row → Subcommand → Type 0
+Does name rows subcommands.Check = name ≡ codes "check"
 Does name rows subcommands.List = name ≡ codes "list"
 Does name rows (subcommands.Run workers limit) =
     (name ≡ codes "run") × IsNumber (one_of (codes "workers") rows) workers × IsNumber (one_of (codes "limit") rows) limit

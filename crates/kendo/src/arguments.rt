@@ -19,6 +19,8 @@ pub struct Invocation<'a> {
 /// What is done with a text.
 #[derive(Clone, Copy, Debug, PartialEq, Eq)]
 pub enum Subcommand {
+    /// It is checked.
+    Check,
     /// Its code is listed.
     List,
     /// It is run.
@@ -64,6 +66,9 @@ fn number_argument<'a>(
 pub(crate) fn command<'a>(alloc: Global) -> Result<Command<'a>, AllocError>
     ensures { IfOk result (λ c. app_of c ≡ kendo) }
 {
+    let check = Command::new(alloc, "check")
+        .about("Checks whether a text is a program")
+        .arg(file_argument(alloc))?;
     let list = Command::new(alloc, "list")
         .about("Lists the code of a program")
         .arg(file_argument(alloc))?;
@@ -89,6 +94,7 @@ pub(crate) fn command<'a>(alloc: Global) -> Result<Command<'a>, AllocError>
     Command::new(alloc, "kendo")
         .about("Compiles and runs programs of a Go subset")
         .subcommand_required(true)
+        .subcommand(check)?
         .subcommand(list)?
         .subcommand(run)
 }
@@ -105,6 +111,7 @@ fn subcommand_named(name: &str, matches: &ArgMatches<'_>) -> Option<Subcommand>
     ensures { IsDone name.now (rows_of (found_of matches.now)) result }
 {
     match name {
+        "check" => Some(Subcommand::Check),
         "list" => Some(Subcommand::List),
         "run" => Some(Subcommand::Run {
             workers: option_number(matches, "workers")?,

@@ -3,8 +3,8 @@
 
 ghost use Rattle.std.specs.Prelude.{◌≡◌, ◌⊎◌, ◌↔◌, ◌≤◌, IsErr, IsErrOf, IfErr, IfOk, map, string_bytes};
 ghost use Rattle.clap.specs.Values.{kind_of};
-ghost use Rattle.kendo.specs.Answers.{EndsAs, Finds, HasReading, IsStatus, Obeys, ShowsAs, Tells};
-ghost use Rattle.kendo_base.specs.Reading.{HasNoReading, IsRefusal, IsWhy, fault_number};
+ghost use Rattle.kendo.specs.Answers.{EndsAs, Finds, HasCode, HasReading, IsStatus, Obeys, ShowsAs, Tells};
+ghost use Rattle.kendo_base.specs.Reading.{HasNoReading, IsNotYet, IsOfText, IsRefusal, IsUncompiled, IsWhy, fault_number};
 ghost use Rattle.kendo_base.specs.Runs.{IsLimit, IsWorkers};
 
 mod arguments;
@@ -15,7 +15,7 @@ use arguments::{Invocation, Subcommand, command, invocation_of};
 use clap::error::ErrorKind;
 use go_text::source::MAX_LENGTH;
 use go_text::{Fault, Memory};
-use kendo_base::{Gate, list_bytes, report, run_bytes};
+use kendo_base::{Gate, check_bytes, list_bytes, report, run_bytes};
 use std::alloc::Global;
 use std::fs::File;
 use std::io::{BufWriter, Read as _, Write as _};
@@ -128,7 +128,7 @@ fn show(rt: &HostRuntime, error: &clap::Error) -> Result<u8, Memory>
     }
 }
 
-/// Lists or runs the file, and tells how it ended.
+/// Checks, lists or runs the file, and tells how it ended.
 #[tactic(auto, using(crate::proofs::Findings::told))]
 fn perform(
     rt: &HostRuntime,
@@ -154,8 +154,8 @@ fn perform(
     Ok(status)
 }
 
-/// What the command finds in the text, which it lists or runs.
-#[tactic(auto, using(crate::proofs::Findings::list_finds))]
+/// What the command finds in the text, which it checks, lists or runs.
+#[tactic(auto, using(crate::proofs::Findings::check_finds, crate::proofs::Findings::list_finds))]
 fn find(
     rt: &HostRuntime,
     leave: &impl Wait,
@@ -166,6 +166,7 @@ fn find(
     ensures { Finds subcommand bytes.items result }
 {
     match subcommand {
+        Subcommand::Check => check(alloc, bytes),
         Subcommand::List => list(rt, alloc, bytes),
         Subcommand::Run { workers, limit } => run(rt, leave, alloc, bytes, workers, limit),
     }
@@ -180,13 +181,25 @@ fn read(rt: &HostRuntime, alloc: Global, path: &str) -> io::Result<Vec<u8>> {
     Ok(bytes)
 }
 
-/// Lists the code of the text on standard output, behind a buffer.
-fn list(rt: &HostRuntime, alloc: Global, bytes: Vec<u8>) -> Result<End, Fault>
-    ensures listed { IfOk result (λ end. (end ≡ End.Finished) × HasReading bytes.items) }
+/// Checks the text.
+fn check(alloc: Global, bytes: Vec<u8>) -> Result<End, Fault>
+    ensures checked { IfOk result (λ end. (end ≡ End.Finished) × HasReading bytes.items) }
     ensures refused { IfErr result (λ fault. IsRefusal fault → HasNoReading bytes.items) }
     ensures why { IfErr result (λ fault. IsRefusal fault → IsWhy bytes.items fault) }
-    ensures write { IsErrOf result Fault.Write → HasReading bytes.items }
-    ensures only { IfErr result (λ fault. IsRefusal fault ⊎ ((fault ≡ Fault.Memory) ⊎ (fault ≡ Fault.Write))) }
+    ensures only { IfErr result IsOfText }
+{
+    check_bytes(alloc, bytes)?;
+    Ok(End::Finished)
+}
+
+/// Lists the code of the text on standard output, behind a buffer.
+fn list(rt: &HostRuntime, alloc: Global, bytes: Vec<u8>) -> Result<End, Fault>
+    ensures listed { IfOk result (λ end. (end ≡ End.Finished) × HasCode bytes.items) }
+    ensures refused { IfErr result (λ fault. IsRefusal fault → HasNoReading bytes.items) }
+    ensures why { IfErr result (λ fault. IsRefusal fault → IsWhy bytes.items fault) }
+    ensures not_yet { IfErr result (λ fault. IsNotYet fault → IsUncompiled bytes.items) }
+    ensures write { IsErrOf result Fault.Write → HasCode bytes.items }
+    ensures only { IfErr result (λ fault. IsRefusal fault ⊎ (IsNotYet fault ⊎ ((fault ≡ Fault.Memory) ⊎ (fault ≡ Fault.Write)))) }
 {
     let stdout = BufWriter::new(alloc, rt.stdout()).map_err(|_| Fault::Memory)?;
     let mut out = Flagged::new(stdout);
@@ -209,7 +222,8 @@ fn run(
     ensures why { IfErr result (λ fault. IsRefusal fault → IsWhy bytes.items fault) }
     ensures workers { IsErrOf result Fault.BadWorkers → IsWorkers workers → ⊥ }
     ensures limit { IsErrOf result Fault.BadLimit → IsWorkers workers × (IsLimit limit → ⊥) }
-    ensures write { IsErrOf result Fault.Write → HasReading bytes.items }
+    ensures not_yet { IfErr result (λ fault. IsNotYet fault → IsUncompiled bytes.items) }
+    ensures write { IsErrOf result Fault.Write → HasCode bytes.items }
     ensures only { IfErr result (λ fault. IsRefusal fault ⊎ (13 ≤ fault_number fault)) }
 {
     let stdout = BufWriter::new(alloc, rt.stdout()).map_err(|_| Fault::Memory)?;

@@ -29,19 +29,18 @@ fn accepted_words(rt: HostRuntime) -> Result<(), Fail> {
 }
 
 #[test]
-fn accepted_listing(rt: HostRuntime) -> Result<(), Fail> {
-    let words = ["kendo", "list", "a.go"];
-    let Ok(matches) = command(rt.alloc())?.try_get_matches_from(words.as_slice()) else {
-        panic!(rt; "refused");
-    };
-    let Some(invocation) = invocation_of(&matches) else {
-        panic!(rt; "no invocation");
-    };
-    let wanted = Invocation {
-        file: "a.go",
-        subcommand: Subcommand::List,
-    };
-    assert_eq!(rt; invocation, wanted);
+fn accepted_commands_of_a_file(rt: HostRuntime) -> Result<(), Fail> {
+    let file = "a.go";
+    for (name, subcommand) in [("check", Subcommand::Check), ("list", Subcommand::List)] {
+        let words = ["kendo", name, file];
+        let Ok(matches) = command(rt.alloc())?.try_get_matches_from(words.as_slice()) else {
+            panic!(rt; "refused: {name}");
+        };
+        let Some(invocation) = invocation_of(&matches) else {
+            panic!(rt; "no invocation: {name}");
+        };
+        assert_eq!(rt; invocation, Invocation { file, subcommand });
+    }
     Ok(())
 }
 

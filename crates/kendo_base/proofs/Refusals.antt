@@ -2,8 +2,8 @@
 use Rattle.std.proofs.Common.{◌≡◌, ℕ, ◌≤◌, ◌⊎◌, inl, inr, List, Result, Ok, Err, subst, length}
 use Rattle.std.specs.Prelude.{IsUtf8}
 use Rattle.parser.proofs.FileLaws.{one_file}
-use Rattle.checker.specs.Program.{Tells}
-use Rattle.checker.specs.Rules.{IsTyped}
+use Rattle.checker.specs.Faults.{Tells}
+use Rattle.checker.specs.Files.{IsTyped}
 use Rattle.go_text.specs.declared.fault.Fault.{Fault}
 use Rattle.go_text.specs.declared.fault.Fault.TheVariants as faults
 use Rattle.go_text.specs.declared.source.TheConstants.{MAX_LENGTH}
@@ -15,8 +15,7 @@ use Rattle.syntax.specs.declared.tree.Tree.{Tree}
 use Rattle.syntax.specs.Spans.{tree_of}
 use Rattle.syntax.specs.Tree.{File}
 use Rattle.syntax.specs.Measures.{height, most_entries, most_clauses}
-use Rattle.checker.specs.Built.{IsBuilt}
-use Rattle.kendo_base.specs.Reading.{Reads, HasNoReading, HasNoTree, IsUnspelt, IsUnread, IsWrong, IsWhy, located_in}
+use Rattle.kendo_base.specs.Reading.{Reads, IsCompiled, IsUncompiled, HasNoReading, HasNoTree, IsUnspelt, IsUnread, IsWrong, IsWhy, located_in}
 
 same_tokens : {E : Type 0} (r : Result (List Token) E) (ts us : List Token) → r ≡ Ok ts → r ≡ Ok us → ts ≡ us
 same_tokens (Ok vs) ts us a b = cc
@@ -28,13 +27,13 @@ spelt_by text ts file scanned r = subst (λ us. Spells (lexemes text us) file) (
 pub treeless : (text : List ℕ) (ts : List Token) → tokens_of text ≡ Ok ts → HasNoTree (lexemes text ts) → HasNoReading text
 treeless text ts scanned none file r = none file (spelt_by text ts file scanned r) r.low r.few r.clauses
 
-pub untyped : (text : List ℕ) (ts : List Token) (file : File) → tokens_of text ≡ Ok ts → Spells (lexemes text ts) file → (IsBuilt file → IsTyped file → ⊥) → HasNoReading text
+pub untyped : (text : List ℕ) (ts : List Token) (file : File) → tokens_of text ≡ Ok ts → Spells (lexemes text ts) file → (IsTyped file → ⊥) → HasNoReading text
 untyped text ts file scanned spelt wrong other r =
     let same = one_file (lexemes text ts) other file (spelt_by text ts other scanned r) spelt in
-    wrong (subst IsBuilt same r.built) (subst IsTyped same r.typed)
+    wrong (subst IsTyped same r.typed)
 
-pub reads : (text : List ℕ) (ts : List Token) (file : File) → IsUtf8 text → length text ≤ MAX_LENGTH → tokens_of text ≡ Ok ts → Spells (lexemes text ts) file → height file ≤ 200 → most_entries file ≤ 64 → most_clauses file ≤ 64 → IsBuilt file → IsTyped file → Reads text file
-reads text ts file utf8 short scanned spelt low few clauses built typed = record { utf8 = utf8; short = short; tokens = ts; scanned = scanned; spelt = spelt; low = low; few = few; clauses = clauses; built = built; typed = typed }
+pub reads : (text : List ℕ) (ts : List Token) (file : File) → IsUtf8 text → length text ≤ MAX_LENGTH → tokens_of text ≡ Ok ts → Spells (lexemes text ts) file → height file ≤ 200 → most_entries file ≤ 64 → most_clauses file ≤ 64 → IsTyped file → Reads text file
+reads text ts file utf8 short scanned spelt low few clauses typed = record { utf8 = utf8; short = short; tokens = ts; scanned = scanned; spelt = spelt; low = low; few = few; clauses = clauses; typed = typed }
 
 abbrev pub Unread : List ℕ → List Token → Fault → Type 0
 Unread text ts told = (told ≡ faults.Memory) ⊎ ((fault : Fault) × IsUnspelt (lexemes text ts) fault × (told ≡ located_in text fault))
@@ -55,3 +54,6 @@ Wrong text tree told = (told ≡ faults.Memory) ⊎ ((fault : Fault) × Tells tr
 pub wrong : (bytes text : List ℕ) (ts : List Token) (tree : Tree) {told : Fault} → text ≡ bytes → length text ≤ MAX_LENGTH → IsUtf8 text → tokens_of text ≡ Ok ts → Spells (lexemes text ts) (tree_of tree) → height (tree_of tree) ≤ 200 → most_entries (tree_of tree) ≤ 64 → most_clauses (tree_of tree) ≤ 64 → Wrong text tree told → Explained bytes told
 wrong bytes text ts tree same short utf8 scanned spelt low few clauses (inl memory) = inl memory
 wrong bytes text ts tree same short utf8 scanned spelt low few clauses (inr w) = explains bytes text same (inr (w.0, IsWrong short utf8 tree (record { tokens = ts; scanned = scanned; spelt = spelt; low = low; few = few; clauses = clauses }) w.1, w.2))
+
+pub uncompiled : (text : List ℕ) (file : File) → Reads text file → ¬ (IsCompiled file) → IsUncompiled text
+uncompiled text file reads beyond = record { file = file; reads = reads; beyond = beyond }

@@ -1,6 +1,7 @@
 //! The whole product over bytes: a run of a text, and the report of how it ended.
 #![tactic(auto)]
 
+mod checking;
 pub mod gate;
 mod listing;
 pub mod outcome;
@@ -8,6 +9,7 @@ mod reading;
 pub mod run;
 mod running;
 
+pub use checking::check_bytes;
 pub use gate::Gate;
 pub use listing::list_bytes;
 pub use outcome::report;

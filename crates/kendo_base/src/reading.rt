@@ -1,18 +1,20 @@
 //! From bytes to a checked program.
 
 ghost use Rattle.std.specs.Prelude.{◌≡◌, ◌<◌, ◌≤◌, ◌^◌, ◌⊎◌, Ok, Err, IfErr, IfOk, IsUtf8, length};
-ghost use Rattle.checker.specs.Program.{Tells};
-ghost use Rattle.checker.specs.Rules.{IsTyped};
-ghost use Rattle.checker.specs.Typed.{tree_in};
+ghost use Rattle.checker.specs.Faults.{Tells};
+ghost use Rattle.checker.specs.Files.{IsTyped};
+ghost use Rattle.checker.specs.Trees.{tree_in};
 ghost use Rattle.go_text.specs.Source.{bytes_of};
 ghost use Rattle.go_text.specs.declared.fault.Fault.{Fault as OneFault};
 ghost use Rattle.parser_base.specs.Lexemes.{lexemes};
 ghost use Rattle.parser.specs.Spelling.{Spells};
 ghost use Rattle.scanner.specs.Tokens.{tokens_of as spec_tokens_of};
+ghost use Rattle.syntax.specs.declared.tree.Tree.{Tree as OneTree};
 ghost use Rattle.syntax.specs.Spans.{tree_of};
 ghost use Rattle.syntax.specs.Measures.{height, most_entries, most_clauses};
-ghost use Rattle.checker.specs.Built.{IsBuilt};
-ghost use Rattle.kendo_base.specs.Reading.{HasNoReading, HasNoTokens, HasNoTree, IsOfText, IsRefusal, IsUnspelt, IsWhy, Reads, located_in};
+ghost use Rattle.straight_checker.specs.Program.{Tells as TellsStraight};
+ghost use Rattle.straight_checker.specs.Typed.{tree_in as straight_tree};
+ghost use Rattle.kendo_base.specs.Reading.{HasNoReading, HasNoTokens, HasNoTree, IsCompiled, IsNotYet, IsOfText, IsRefusal, IsUncompiled, IsUnspelt, IsWhy, Reads, ReadsCompiled, located_in};
 
 use checker::{Typed, check};
 use go_text::source::MAX_LENGTH;
@@ -20,12 +22,14 @@ use go_text::{Fault, Place, Source};
 use parser::parse;
 use scanner::{Token, scan};
 use std::alloc::Global;
+use straight_checker as straight;
 use syntax::Tree;
 
-/// The checked program that a text is, or why it is none, with line and column.
+/// The text, and the checked program that it is, or why it is none, with line and column.
 #[tactic(auto, using(crate::proofs::Refusals::treeless, crate::proofs::Refusals::untyped, crate::proofs::Refusals::reads))]
-pub(crate) fn read(alloc: Global, bytes: Vec<u8>) -> Result<Typed, Fault>
-    ensures reads { IfOk result (λ typed. Reads bytes.items (tree_of (tree_in typed))) }
+pub(crate) fn read(alloc: Global, bytes: Vec<u8>) -> Result<(Source, Typed), Fault>
+    ensures text { IfOk result (λ read. bytes_of read.0 ≡ bytes.items) }
+    ensures reads { IfOk result (λ read. Reads bytes.items (tree_of (tree_in read.1))) }
     ensures refused { IfErr result (λ fault. IsRefusal fault → HasNoReading bytes.items) }
     ensures why { IfErr result (λ fault. (fault ≡ Fault.Memory) ⊎ IsWhy bytes.items fault) }
     ensures only { IfErr result IsOfText }
@@ -35,7 +39,51 @@ pub(crate) fn read(alloc: Global, bytes: Vec<u8>) -> Result<Typed, Fault>
     prove!(text.len() <= MAX_LENGTH);
     let tokens = tokens(alloc, &source)?;
     let tree = tree(alloc, &source, tokens.as_slice())?;
-    Ok(checked(alloc, &source, tree)?)
+    let typed = checked(alloc, &source, tree)?;
+    Ok((source, typed))
+}
+
+/// The program that a text is, all of which is compiled today, or why it is none, with line and column.
+///
+/// Errors: those of a text without a reading; `NotYet` where a part of the program is not compiled yet; `Memory`.
+#[tactic(auto, using(crate::proofs::Refusals::uncompiled))]
+pub(crate) fn read_compiled(alloc: Global, bytes: Vec<u8>) -> Result<straight::Typed, Fault>
+    ensures reads { IfOk result (λ typed. ReadsCompiled bytes.items (tree_of (straight_tree typed))) }
+    ensures refused { IfErr result (λ fault. IsRefusal fault → HasNoReading bytes.items) }
+    ensures why { IfErr result (λ fault. IsRefusal fault → IsWhy bytes.items fault) }
+    ensures not_yet { IfErr result (λ fault. IsNotYet fault → IsUncompiled bytes.items) }
+    ensures only { IfErr result (λ fault. IsOfText fault ⊎ IsNotYet fault) }
+{
+    let (source, typed) = read(alloc, bytes)?;
+    let straight = compiled(alloc, &source, typed.into_tree())?;
+    Ok(straight)
+}
+
+/// The tree, if all of it is compiled today.
+fn compiled(alloc: Global, source: &Source, tree: Tree) -> Result<straight::Typed, Fault>
+    ensures tree { IfOk result (λ typed. straight_tree typed ≡ tree) }
+    ensures compiled { IfOk result (λ _. IsCompiled (tree_of tree)) }
+    ensures beyond { IfErr result (λ fault. (fault ≡ Fault.Memory) ⊎ (IsNotYet fault × ¬ (IsCompiled (tree_of tree)))) }
+{
+    match straight::check(alloc, tree) {
+        Ok(typed) => Ok(typed),
+        Err(fault) => Err(not_yet(source, fault)),
+    }
+}
+
+/// The refusal of a program for what is not compiled yet, at the same place, with line and column.
+fn not_yet(source: &Source, fault: Fault) -> Fault
+    requires told { (fault ≡ Fault.Memory) ⊎ ((tree : OneTree) × TellsStraight tree fault) }
+    ensures memory { fault ≡ Fault.Memory → result ≡ Fault.Memory }
+    ensures other { (fault ≡ Fault.Memory → ⊥) → IsNotYet result }
+{
+    match fault {
+        Fault::Memory => Fault::Memory,
+        Fault::NotYet(place) | Fault::Typing { place, .. } | Fault::Limit { place, .. } => {
+            located(source, Fault::NotYet(place))
+        }
+        _ => unreachable!(),
+    }
 }
 
 /// The tokens of a text.
@@ -76,9 +124,8 @@ fn tree(alloc: Global, source: &Source, tokens: &[Token]) -> Result<Tree, Fault>
 /// The tree, if it is a program.
 fn checked(alloc: Global, source: &Source, tree: Tree) -> Result<Typed, Fault>
     ensures tree { IfOk result (λ typed. tree_in typed ≡ tree) }
-    ensures built { IfOk result (λ _. IsBuilt (tree_of tree)) }
     ensures typed { IfOk result (λ _. IsTyped (tree_of tree)) }
-    ensures refused { IfErr result (λ fault. IsRefusal fault → IsBuilt (tree_of tree) → IsTyped (tree_of tree) → ⊥) }
+    ensures refused { IfErr result (λ fault. IsRefusal fault → IsTyped (tree_of tree) → ⊥) }
     ensures why { IfErr result (λ told. (told ≡ Fault.Memory) ⊎ ((fault : OneFault) × Tells tree fault × (told ≡ located_in (bytes_of source.now) fault))) }
     ensures only { IfErr result IsOfText }
 {

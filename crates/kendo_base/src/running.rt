@@ -2,19 +2,19 @@
 
 ghost use Rattle.std.specs.Prelude.{◌≡◌, ◌+◌, ◌≤◌, ◌⊎◌, [], ℕ, IfErr, IfOk, IfSome, IsErrOf, List, OnOk, Option, length, true};
 ghost use Rattle.bytecode.specs.Machine.{code_kind};
-ghost use Rattle.checker.specs.Source.{source_kind};
-ghost use Rattle.checker.specs.Typed.{tree_in};
+ghost use Rattle.straight_checker.specs.Source.{source_kind};
+ghost use Rattle.straight_checker.specs.Typed.{tree_in};
 ghost use Rattle.syntax.specs.Spans.{tree_of};
 ghost use Rattle.syntax.specs.Measures.{most_entries};
 ghost use Rattle.kendo_base.specs.Runs.{BeginsOutput, HasEnded, IsInStep, IsLimit, IsSameRun, IsWhole, Written};
 
 use book::{Book, Settled};
-use checker::Typed;
 use codegen::compile;
 use go_text::Fault;
 use output::{Kind, Progress, drain_next};
 use std::alloc::Global;
 use std::sync::{Arc, Wait};
+use straight_checker::Typed;
 use verifier::{Verified, verify};
 use word::Write;
 use word::end::End;

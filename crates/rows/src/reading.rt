@@ -5,13 +5,13 @@ ghost use Rattle.syntax.specs.Measures.{most_entries};
 ghost use Rattle.syntax.specs.Spans.{tree_of};
 
 use crate::flaw::{Flaw, shown};
-use checker::check;
 use codegen::compile;
 use go_text::{Fault, Source, Span};
 use kendo_base::list_bytes;
 use parser::parse;
 use scanner::{Token, scan};
 use std::alloc::Global;
+use straight_checker::check;
 use syntax::Tree;
 use verifier::{Verified, verify};
 use word::Flagged;

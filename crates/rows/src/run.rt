@@ -3,7 +3,7 @@
 use crate::flaw::{Flaw, same};
 use crate::row::Row;
 use go_text::Fault;
-use kendo_base::{Gate, report, run_bytes};
+use kendo_base::{Gate, check_bytes, report, run_bytes};
 use std::alloc::Global;
 use std::sync::Wait;
 use word::Flagged;
@@ -67,6 +67,17 @@ impl Ran {
         same(alloc, &what, wanted.as_bytes(), came.as_bytes())
     }
 
+    /// Checks the text of the run, and compares what the check finds with what the run found: the same refusal, or a program.
+    fn check_found(&self, alloc: Global, text: &[u8]) -> Result<(), Flaw> {
+        let wanted = match &self.outcome {
+            Err(Fault::BadWorkers | Fault::BadLimit) => return Ok(()),
+            Ok(_) | Err(Fault::NotYet(_)) => b"".as_slice(),
+            Err(_) => self.line.as_slice(),
+        };
+        let line = checked_line(alloc, text)?;
+        same(alloc, "the line on standard error (check)", wanted, &line)
+    }
+
     /// Compares the line on standard error, where the wanted one ends in `..` no more than its beginning.
     fn check_line(&self, alloc: Global, what: &str, wanted: &str) -> Result<(), Flaw> {
         let line = self.line.as_slice();
@@ -92,6 +103,15 @@ pub(crate) fn check_runs<R: Wait>(
     for workers in row.workers.iter() {
         let ran = Ran::of(rt, alloc, text, row.limit, *workers)?;
         ran.check(alloc, row, output, *workers)?;
+        ran.check_found(alloc, text)?;
     }
     Ok(())
+}
+
+/// The line on standard error, with its newline, where a text is checked; nothing where it is a program.
+pub(crate) fn checked_line(alloc: Global, text: &[u8]) -> Result<Vec<u8>, Flaw> {
+    let checked = check_bytes(alloc, Vec::from_slice(alloc, text)?);
+    let outcome = checked.map(|()| End::Finished);
+    let (line, _) = report(alloc, &outcome).map_err(Fault::from)?;
+    Ok(line)
 }

@@ -1,8 +1,8 @@
 //! Tables of texts, each on a line behind what is told of it.
 
-use crate::flaw::{Flaw, shown};
+use crate::flaw::{Flaw, same, shown};
 use crate::row::{LIMIT, Row};
-use crate::run::{Ran, check_runs};
+use crate::run::{Ran, check_runs, checked_line};
 use crate::written::bytes_of;
 use go_text::{Fault, LimitKind};
 use std::alloc::{AllocError, Global};
@@ -15,6 +15,8 @@ enum Told<'a> {
     Read,
     /// Each of its beginnings is refused: as 7, 9 or 17.
     Cuts,
+    /// The checker takes it, whether or not all of it is compiled.
+    Typed,
     /// It finishes, and writes this.
     Prints(&'a str),
     /// It is refused with this line, behind `kendo: `.
@@ -68,6 +70,15 @@ impl Table {
         match told_of(told) {
             Told::Read => check_read(rt, alloc, text.as_slice()),
             Told::Cuts => check_cuts(rt, alloc, text.as_slice()),
+            Told::Typed => {
+                let line = checked_line(alloc, text.as_slice())?;
+                same(
+                    alloc,
+                    "the line on standard error (check)",
+                    b"".as_slice(),
+                    &line,
+                )
+            }
             Told::Prints(output) => {
                 let output = bytes_of(alloc, output)?;
                 check_runs(
@@ -91,6 +102,7 @@ fn told_of(words: &str) -> Told<'_> {
     match words.split_once(' ').unwrap_or((words, "")) {
         ("read", _) => Told::Read,
         ("cuts", _) => Told::Cuts,
+        ("typed", _) => Told::Typed,
         ("prints", output) => Told::Prints(output),
         _ => Told::Refused(words),
     }

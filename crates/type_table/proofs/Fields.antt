@@ -1,8 +1,10 @@
 -- Fields of structs, one behind the other.
-use Rattle.std.proofs.Common.{◌≡◌, ℕ, zero, suc, ◌+◌, ◌≤◌, List, [], ◌∷◌, Option, Some, None, false, option_map, bytes_eq, length, slice_get, refl, ap, arith}
+use Rattle.std.proofs.Common.{◌≡◌, ℕ, zero, suc, ◌+◌, ◌<◌, ◌≤◌, ◌-◌, List, [], ◌∷◌, Option, Some, None, false, option_map, bytes_eq, length, slice_get, refl, sym, ap, arith}
+use Rattle.std.proofs.lemmas.Option.{same_Some}
+use Rattle.std.proofs.lemmas.List.{length-append}
 use Rattle.type_table.specs.declared.entry.StructEntry.{StructEntry}
-use Rattle.type_table.specs.Types.{ValueType, StructType}
-use Rattle.type_table.specs.Containment.{Field, Structs, Selected, words_of, kind_width, fields_width, width_within, width, variable_words, behind, field_among, fields_of}
+use Rattle.type_table.specs.Types.{ValueType, IntType, BoolType, StructType, ChannelType}
+use Rattle.type_table.specs.Containment.{Field, Structs, Selected, words_of, kind_width, fields_width, width_within, width, variable_words, behind, field_among, fields_of, kind_parts, fields_parts, parts_within, parts}
 use Rattle.type_table.specs.Views.{Fits, structs_of}
 use Rattle.type_table.proofs.Widths.{together-parts, fields-more, width-suc}
 
@@ -32,3 +34,41 @@ pub no_fields : (types : List (List ℕ)) (entries : List StructEntry) (s : ℕ)
 no_fields types [] s h = refl
 no_fields types (first ∷ rest) zero h = cc
 no_fields types (first ∷ rest) (suc s) h = no_fields types rest s h
+
+-- ---- parts: as many as a value takes words
+
+pub kind-parts-count : (f : ℕ → Option ℕ) (p : ℕ → List ValueType) → ((n v : ℕ) → f n ≡ Some v → length (p n) ≡ v)
+    → (kind : Option ValueType) (v : ℕ) → kind_width f kind ≡ Some v → length (kind_parts p kind) ≡ v
+kind-parts-count f p count None v h = cc
+kind-parts-count f p count (Some IntType) v h = same_Some _ _ h
+kind-parts-count f p count (Some BoolType) v h = same_Some _ _ h
+kind-parts-count f p count (Some (StructType t)) v h = count t v h
+kind-parts-count f p count (Some (ChannelType d e)) v h = same_Some _ _ h
+
+pub fields-parts-count : (f : ℕ → Option ℕ) (p : ℕ → List ValueType) → ((n v : ℕ) → f n ≡ Some v → length (p n) ≡ v)
+    → (fields : List Field) (v : ℕ) → fields_width f fields ≡ Some v → length (fields_parts p fields) ≡ v
+fields-parts-count f p count [] v h = same_Some _ _ h
+fields-parts-count f p count (field ∷ rest) v h =
+    let (m, n, a, b, e) = together-parts (kind_width f field.kind) (fields_width f rest) v h in
+    let first = kind-parts-count f p count field.kind m a in
+    let others = fields-parts-count f p count rest n b in
+    rw (length-append, first, others) (sym e)
+
+pub parts-within-count : (structs : Structs) (depth s v : ℕ) → width_within structs depth s ≡ Some v → length (parts_within structs depth s) ≡ v
+parts-within-count structs zero s v h = cc
+parts-within-count structs (suc depth) s v h =
+    fields-parts-count (width_within structs depth) (parts_within structs depth) (parts-within-count structs depth) (fields_of structs s) v h
+
+pub parts-count : (structs : Structs) (kind : ValueType) (v : ℕ) → width structs kind ≡ Some v → length (parts structs kind) ≡ v
+parts-count structs kind v h =
+    kind-parts-count (width_within structs (suc (length structs))) (parts_within structs (suc (length structs))) (parts-within-count structs (suc (length structs))) (Some kind) v h
+
+pub parts-there : (structs : Structs) (depth number : ℕ) → 0 < depth → parts_within structs depth number ≡ fields_parts (parts_within structs (depth - 1)) (fields_of structs number)
+parts-there structs zero number h = absurd (omega arith)
+parts-there structs (suc depth) number h =
+    let one : depth ≡ suc depth - 1 = omega arith in
+    ap (λ (n : ℕ). fields_parts (parts_within structs n) (fields_of structs number)) one
+
+pub parts-none : (structs : Structs) (depth number : ℕ) → fields_of structs number ≡ [] → parts_within structs depth number ≡ []
+parts-none structs zero number h = refl
+parts-none structs (suc depth) number h = rw h refl

@@ -4,10 +4,12 @@ use Rattle.std.specs.List.{All}
 use Rattle.std.proofs.lemmas.List.Elements.{All-get_or}
 use Rattle.std.proofs.lemmas.Option.{same_Some, slice_get_within}
 use Rattle.type_table.specs.declared.entry.FunctionEntry.{FunctionEntry}
-use Rattle.type_table.specs.Containment.{Structs}
+use Rattle.type_table.specs.Types.{ValueType, IntType, BoolType, StructType, ChannelType}
+use Rattle.type_table.specs.Containment.{Structs, parts}
 use Rattle.type_table.specs.Scopes.{number_of, function_number}
 use Rattle.type_table.specs.Views.{signature_of, function_names, AreWidths}
 use Rattle.type_table.specs.Marks.{IsWide}
+use Rattle.type_table.proofs.Fields.{parts-count}
 use Rattle.type_table.proofs.Widths.{there, beyond, wide-more}
 
 pub read_there : (ws : List ℕ) (s w : ℕ) → slice_get ws s ≡ Some w → get_or ws s 0 ≡ w
@@ -46,3 +48,10 @@ narrow_at ws all s = elim (there ws s) [
   | inl has ↦ rw (read_there ws s has.0 has.1) (all_there ws all s has.0 has.1)
   | inr past_end ↦ rw (read_beyond ws s past_end) (omega arith)
 ]
+
+-- a value takes at most 16 words
+pub few-parts : (structs : Structs) (widths : List ℕ) → AreWidths structs widths → All (λ w. w ≤ 16) widths → (kind : ValueType) → length (parts structs kind) ≤ 16
+few-parts structs widths sized narrow IntType = omega arith
+few-parts structs widths sized narrow BoolType = omega arith
+few-parts structs widths sized narrow (StructType s) = rw (parts-count structs (StructType s) (get_or widths s 0) (sized s)) (narrow_at widths narrow s)
+few-parts structs widths sized narrow (ChannelType d e) = omega arith

@@ -6,3 +6,4 @@ pub mod Marks
 pub mod Trouble
 pub mod Indexes
 pub mod Visible
+pub mod Zeros

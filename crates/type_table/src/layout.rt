@@ -67,7 +67,10 @@ fn field_among<'a>(
 }
 
 /// The struct with this number.
-fn entry_at<'t, 'a>(table: &'t TypeTable<'a>, number: usize) -> Option<&'t StructEntry<'a>>
+pub(crate) fn entry_at<'t, 'a>(
+    table: &'t TypeTable<'a>,
+    number: usize,
+) -> Option<&'t StructEntry<'a>>
     ensures { option_copied result ≡ slice_get table.now.structs.items number }
 {
     table.structs.get(number)

@@ -10,3 +10,4 @@ pub mod table;
 pub mod value_type;
 pub mod visible;
 pub mod width;
+pub mod zero;

@@ -1,14 +1,30 @@
-use Rattle.std.proofs.Common.{◌⊎◌, List, map, ap, ◌∙◌}
+use Rattle.std.proofs.Common.{rules, ◌≡◌, ◌⊎◌, true, map, ap}
 use Rattle.std.proofs.lemmas.Result.{err_from_is_err_and}
-use Rattle.syntax.specs.declared.node.TopNode.{TopNode}
 use Rattle.syntax.specs.View.{top_of, file_of}
-use Rattle.checker.specs.Rules.{signatures_of, signatures, BodiesHave, ParametersBreak, FileHas}
-use Rattle.checker.proofs.Bodies.{refuses_more, bodies_have}
+use Rattle.type_table.specs.Visible.{globals_in}
+use Rattle.checker.specs.Files.{BodiesHave, has_main, FileHas}
+use Rattle.checker_declaration.specs.Heads.{HeadsHave}
+use Rattle.checker_declaration.specs.Kinds.{globals_of}
+use Rattle.checker_declaration.proofs.Declared.{refuses_more}
+use Rattle.checker.proofs.Bodies.{bodies_have, file_fine}
 use Rattle.checker.proofs.file.check_file.Goals as goal
 
 pub returns-in_err-bodies-clause-one : goal.returns-in_err-bodies-clause-one
 returns-in_err-bodies-clause-one c =
     let p = err_from_is_err_and c.from_residual-in_err-bodies.result c.from_residual-in_err-bodies.ensures.1 in
-    let functions = ap signatures_of c.as_slice-3.ensures.value ∙ c.in_ok-end.ensures.after ∙ ap (λ (xs : List TopNode). signatures (map top_of xs)) c.as_slice.ensures.value in
-    rw (p.1, p.2) (refuses_more (λ flaw. BodiesHave (signatures_of c.as_slice-3.result.now) 0 (map top_of c.as_slice-4.result.now) flaw ⊎ ParametersBreak 0 (map top_of c.as_slice-4.result.now) flaw) (FileHas (file_of c.args.file.now)) c.in_err-bodies.field-0.0
-    (bodies_have (file_of c.args.file.now) (signatures_of c.as_slice-3.result.now) (map top_of c.as_slice-4.result.now) functions (ap (map top_of) c.as_slice-4.ensures.value)) c.in_err-bodies.ensures.one)
+    let globals = globals_in c.in_ok-table.table in
+    let file = file_of c.args.file.now in
+    let same : globals ≡ globals_of file.tops = rw c.as_slice.ensures.value at c.in_ok-table.ensures.globals in
+    let tops = map top_of c.as_slice-3.result.now in
+    rw (p.1, p.2) (refuses_more (λ flaw. BodiesHave globals 0 tops flaw ⊎ HeadsHave globals.types 0 tops flaw) (FileHas file) c.in_err-bodies.field-0.0
+    (bodies_have file globals tops same (ap (map top_of) c.as_slice-3.ensures.value)) c.in_err-bodies.ensures.one)
+
+pub returns-clause-none : goal.returns-clause-none
+returns-clause-none c =
+    let globals = globals_in c.in_ok-table.table in
+    let file = file_of c.args.file.now in
+    let same : globals ≡ globals_of file.tops = rw c.as_slice.ensures.value at c.in_ok-table.ensures.globals in
+    let main : has_main globals.functions ≡ true = search rules in
+    let declared = ap (map top_of) c.as_slice.ensures.value in
+    let bodies = ap (map top_of) c.as_slice-3.ensures.value in
+    file_fine file globals (map top_of c.as_slice.result.now) (map top_of c.as_slice-3.result.now) same declared bodies main c.in_ok-table.ensures.none c.in_ok-bodies.ensures.none

@@ -1,6 +1,7 @@
-use Rattle.std.proofs.Common.{◌≡◌, drop}
-use Rattle.checker.specs.Rules.{signatures_of, has_main}
+use Rattle.std.proofs.Common.{◌≡◌, ℕ, List, drop, map}
+use Rattle.type_table.specs.Views.{signature_of}
+use Rattle.checker.specs.Files.{has_main}
 use Rattle.checker.proofs.file.has_main.Given as goal
 
 abbrev pub invariant-loop-function : goal.invariant-loop-function
-invariant-loop-function l = has_main (signatures_of (drop l.function-index l.functions)) ≡ has_main (signatures_of l.functions)
+invariant-loop-function l = (types : List (List ℕ)) → has_main (map (signature_of types) (drop l.function-index l.functions)) ≡ has_main (map (signature_of types) l.functions)

@@ -1,5 +1,5 @@
 use Rattle.std.proofs.Common.{◌≡◌, map, take}
-use Rattle.checker_base.specs.Scopes.{scope_of}
+use Rattle.straight_base.specs.Scopes.{scope_of}
 use Rattle.codegen.specs.Generated.{part_in}
 use Rattle.syntax.specs.View.{part_of}
 use Rattle.codegen.proofs.expression.parts_in.Given as goal

@@ -1,7 +1,7 @@
 use Rattle.std.proofs.Common.{◌≡◌, ◌++◌, ◌≤◌, [], List, ℕ, length, map, sum_by, vec_len, subst, sym, ap, ◌∙◌, arith}
-use Rattle.checker.specs.Program.{AreGood}
-use Rattle.checker.specs.Rules.{signatures, with_parameters, parameters, after_all}
-use Rattle.checker.proofs.Sizes.{function_size_of}
+use Rattle.straight_checker.specs.Program.{AreGood}
+use Rattle.straight_checker.specs.Rules.{signatures, with_parameters, parameters, after_all}
+use Rattle.straight_checker.proofs.Sizes.{function_size_of}
 use Rattle.codegen.specs.Generated.{function_with, tables_of}
 use Rattle.codegen.proofs.Functions.{listed}
 use Rattle.syntax.specs.declared.node.StatementNode.{StatementNode}

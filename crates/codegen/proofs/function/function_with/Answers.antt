@@ -1,7 +1,7 @@
 use Rattle.std.proofs.Common.{◌≡◌, [], length, map, ap, arith}
 use Rattle.std.proofs.lemmas.List.{length-map}
-use Rattle.checker_base.specs.Scopes.{scope_of, variable_of}
-use Rattle.checker.specs.Rules.{with_parameters}
+use Rattle.straight_base.specs.Scopes.{scope_of, variable_of}
+use Rattle.straight_checker.specs.Rules.{with_parameters}
 use Rattle.codegen.proofs.Stands.{longer}
 use Rattle.syntax.specs.View.{declared_of, statement_of}
 use Rattle.codegen.proofs.function.function_with.Goals as goal

@@ -1,5 +1,5 @@
 use Rattle.std.proofs.Common.{◌≡◌, take}
-use Rattle.checker_base.specs.Scopes.{scope_of}
+use Rattle.straight_base.specs.Scopes.{scope_of}
 use Rattle.codegen.specs.Generated.{local_kinds}
 use Rattle.codegen.proofs.function.kinds_of.Given as goal
 

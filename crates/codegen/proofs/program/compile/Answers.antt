@@ -3,9 +3,9 @@ use Rattle.std.proofs.Common.{◌≡◌, ap, sym, ◌∙◌, subst}
 use Rattle.bytecode.specs.Code.{Code}
 use Rattle.bytecode.specs.Machine.{code_kind}
 use Rattle.bytecode.specs.Rules.{IsVerified}
-use Rattle.checker.specs.Program.{IsProgram}
-use Rattle.checker.specs.Source.{source_kind}
-use Rattle.checker.specs.Typed.{tree_in}
+use Rattle.straight_checker.specs.Program.{IsProgram}
+use Rattle.straight_checker.specs.Source.{source_kind}
+use Rattle.straight_checker.specs.Typed.{tree_in}
 use Rattle.codegen.specs.Generated.{code_of}
 use Rattle.codegen.proofs.Fine.{is_verified}
 use Rattle.codegen.proofs.Follows.{is_equal}

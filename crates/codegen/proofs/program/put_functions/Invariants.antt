@@ -1,6 +1,6 @@
 use Rattle.std.proofs.Common.{◌≡◌, ◌+◌, ◌++◌, ◌≤◌, drop, map, sum_by, vec_len}
-use Rattle.checker.specs.Program.{AreGoodTops}
-use Rattle.checker.specs.Rules.{signatures}
+use Rattle.straight_checker.specs.Program.{AreGoodTops}
+use Rattle.straight_checker.specs.Rules.{signatures}
 use Rattle.codegen.specs.Generated.{functions_code, all_tables}
 use Rattle.syntax.specs.Measures.{top_size}
 use Rattle.syntax.specs.View.{top_of}

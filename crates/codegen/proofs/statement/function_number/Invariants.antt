@@ -1,5 +1,5 @@
 use Rattle.std.proofs.Common.{◌≡◌, ◌+◌, ◌≤◌, drop, map, option_map}
-use Rattle.checker.specs.Rules.{signatures, function_of_name}
+use Rattle.straight_checker.specs.Rules.{signatures, function_of_name}
 use Rattle.syntax.specs.View.{top_of}
 use Rattle.codegen.proofs.statement.function_number.Given as goal
 

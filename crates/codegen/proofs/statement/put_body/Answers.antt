@@ -1,6 +1,6 @@
 use Rattle.std.proofs.Common.{drop, length, map, ap, arith}
 use Rattle.std.proofs.lemmas.List.{length-map}
-use Rattle.checker_base.specs.Scopes.{scope_of, variable_of}
+use Rattle.straight_base.specs.Scopes.{scope_of, variable_of}
 use Rattle.codegen.proofs.Stands.{longer}
 use Rattle.syntax.specs.View.{statement_of}
 use Rattle.codegen.proofs.statement.put_body.Goals as goal

@@ -1,7 +1,7 @@
 use Rattle.std.proofs.Common.{◌≡◌, ◌+◌, ◌++◌, ◌≤◌, drop, map, sum_by, vec_len}
-use Rattle.checker_base.specs.Scopes.{scope_of}
-use Rattle.checker.specs.Program.{AreGood}
-use Rattle.checker.specs.Rules.{signatures, after_all}
+use Rattle.straight_base.specs.Scopes.{scope_of}
+use Rattle.straight_checker.specs.Program.{AreGood}
+use Rattle.straight_checker.specs.Rules.{signatures, after_all}
 use Rattle.codegen.specs.Generated.{body_code, tables_of}
 use Rattle.syntax.specs.Measures.{statement_size}
 use Rattle.syntax.specs.View.{statement_of, top_of}

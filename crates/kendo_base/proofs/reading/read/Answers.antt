@@ -1,7 +1,7 @@
 use Rattle.std.proofs.Common.{◌≤◌, ℕ, List, length, sym, subst}
 use Rattle.std.specs.Prelude.{IsUtf8}
 use Rattle.std.proofs.lemmas.Result.{err_from_is_err_and}
-use Rattle.checker.specs.Typed.{tree_in}
+use Rattle.checker.specs.Trees.{tree_in}
 use Rattle.go_text.specs.Source.{bytes_of}
 use Rattle.go_text.specs.declared.source.TheConstants.{MAX_LENGTH}
 use Rattle.parser_base.specs.Lexemes.{lexemes}
@@ -21,15 +21,15 @@ returns-in_err-tree-clause-refused c =
     rw (p.1, p.2) (λ refusal. subst HasNoReading c.in_ok-source.ensures.text
     (treeless text ts c.in_ok-tokens.ensures.tokens (subst (λ (us : List Token). HasNoTree (lexemes text us)) c.as_slice.ensures.value (c.in_err-tree.ensures.refused refusal))))
 
-pub returns-in_err-checked-clause-refused : goal.returns-in_err-checked-clause-refused
-returns-in_err-checked-clause-refused c =
-    let p = err_from_is_err_and c.from_residual-in_err-checked.result c.from_residual-in_err-checked.ensures.1 in
+pub returns-in_err-typed-clause-refused : goal.returns-in_err-typed-clause-refused
+returns-in_err-typed-clause-refused c =
+    let p = err_from_is_err_and c.from_residual-in_err-typed.result c.from_residual-in_err-typed.ensures.1 in
     let text = bytes_of c.in_ok-source.source in
     let ts = c.in_ok-tokens.tokens.items in
     let file = tree_of c.in_ok-tree.tree in
     let spelt : Spells (lexemes text ts) file = subst (λ (us : List Token). Spells (lexemes text us) file) c.as_slice.ensures.value c.in_ok-tree.ensures.spelt in
     rw (p.1, p.2) (λ refusal. subst HasNoReading c.in_ok-source.ensures.text
-    (untyped text ts file c.in_ok-tokens.ensures.tokens spelt (c.in_err-checked.ensures.refused refusal)))
+    (untyped text ts file c.in_ok-tokens.ensures.tokens spelt (c.in_err-typed.ensures.refused refusal)))
 
 pub returns-in_err-tree-clause-why : goal.returns-in_err-tree-clause-why
 returns-in_err-tree-clause-why c =
@@ -38,16 +38,16 @@ returns-in_err-tree-clause-why c =
     let short : length (bytes_of c.in_ok-source.source) ≤ MAX_LENGTH = subst (λ (bs : List ℕ). length bs ≤ MAX_LENGTH) c.as_str-text.ensures.bytes c.as_str-text.ensures.short in
     rw (p.1, p.2) (unread _ _ _ _ c.in_ok-source.ensures.text c.as_slice.ensures.value short utf8 c.in_ok-tokens.ensures.tokens c.in_err-tree.ensures.why)
 
-pub returns-in_err-checked-clause-why : goal.returns-in_err-checked-clause-why
-returns-in_err-checked-clause-why c =
-    let p = err_from_is_err_and c.from_residual-in_err-checked.result c.from_residual-in_err-checked.ensures.1 in
+pub returns-in_err-typed-clause-why : goal.returns-in_err-typed-clause-why
+returns-in_err-typed-clause-why c =
+    let p = err_from_is_err_and c.from_residual-in_err-typed.result c.from_residual-in_err-typed.ensures.1 in
     let text = bytes_of c.in_ok-source.source in
     let ts = c.in_ok-tokens.tokens.items in
     let tree = c.in_ok-tree.tree in
     let utf8 : IsUtf8 text = subst IsUtf8 c.as_str-text.ensures.bytes c.as_str-text.ensures.utf8 in
     let spelt : Spells (lexemes text ts) (tree_of tree) = subst (λ (us : List Token). Spells (lexemes text us) (tree_of tree)) c.as_slice.ensures.value c.in_ok-tree.ensures.spelt in
     let short : length text ≤ MAX_LENGTH = subst (λ (bs : List ℕ). length bs ≤ MAX_LENGTH) c.as_str-text.ensures.bytes c.as_str-text.ensures.short in
-    rw (p.1, p.2) (wrong _ text ts tree c.in_ok-source.ensures.text short utf8 c.in_ok-tokens.ensures.tokens spelt c.in_ok-tree.ensures.low c.in_ok-tree.ensures.few c.in_ok-tree.ensures.clauses c.in_err-checked.ensures.why)
+    rw (p.1, p.2) (wrong _ text ts tree c.in_ok-source.ensures.text short utf8 c.in_ok-tokens.ensures.tokens spelt c.in_ok-tree.ensures.low c.in_ok-tree.ensures.few c.in_ok-tree.ensures.clauses c.in_err-typed.ensures.why)
 
 pub returns-clause-reads : goal.returns-clause-reads
 returns-clause-reads c =
@@ -57,5 +57,5 @@ returns-clause-reads c =
     let spelt : Spells (lexemes text ts) file = subst (λ (us : List Token). Spells (lexemes text us) file) c.as_slice.ensures.value c.in_ok-tree.ensures.spelt in
     let utf8 : IsUtf8 text = subst IsUtf8 c.as_str-text.ensures.bytes c.as_str-text.ensures.utf8 in
     let short : length text ≤ MAX_LENGTH = subst (λ (bs : List ℕ). length bs ≤ MAX_LENGTH) c.as_str-text.ensures.bytes c.as_str-text.ensures.short in
-    let whole = reads text ts file utf8 short c.in_ok-tokens.ensures.tokens spelt c.in_ok-tree.ensures.low c.in_ok-tree.ensures.few c.in_ok-tree.ensures.clauses c.in_ok-checked.ensures.built c.in_ok-checked.ensures.typed in
-    subst (λ bs. Reads bs (tree_of (tree_in c.in_ok-checked.field-0))) c.in_ok-source.ensures.text (subst (λ (t : Tree). Reads text (tree_of t)) (sym c.in_ok-checked.ensures.tree) whole)
+    let whole = reads text ts file utf8 short c.in_ok-tokens.ensures.tokens spelt c.in_ok-tree.ensures.low c.in_ok-tree.ensures.few c.in_ok-tree.ensures.clauses c.in_ok-typed.ensures.typed in
+    subst (λ bs. Reads bs (tree_of (tree_in c.in_ok-typed.typed))) c.in_ok-source.ensures.text (subst (λ (t : Tree). Reads text (tree_of t)) (sym c.in_ok-typed.ensures.tree) whole)

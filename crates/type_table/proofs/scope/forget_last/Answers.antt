@@ -1,4 +1,4 @@
-use Rattle.std.proofs.Common.{◌≡◌, ◌∷◌, ◌++◌, ℕ, [], length}
+use Rattle.std.proofs.Common.{◌≡◌, ◌∷◌, ◌++◌, [], length}
 use Rattle.type_table.specs.Indexes.{number_in, entry_names}
 use Rattle.type_table.proofs.Names.{finds_last, finds_less, hides_less}
 use Rattle.type_table.proofs.scope.forget_last.Goals as goal

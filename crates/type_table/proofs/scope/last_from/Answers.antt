@@ -1,4 +1,4 @@
-use Rattle.std.proofs.Common.{◌≡◌, ◌≤◌, ℕ, Some, option_map, ap, sym, ◌∙◌, arith}
+use Rattle.std.proofs.Common.{option_map, ap, sym, ◌∙◌}
 use Rattle.std.proofs.lemmas.Option.{slice_get-map}
 use Rattle.type_table.specs.Visible.{types_of, variable_of}
 use Rattle.type_table.proofs.Names.{last_behind, last_before, last_nowhere}

@@ -1,0 +1,19 @@
+-- What a refusal says of a tree.
+use Rattle.std.specs.Prelude.{◌≡◌, ℕ, Some, None, slice_get}
+use Rattle.go_text.specs.declared.fault.Fault.{Fault}
+use Rattle.go_text.specs.declared.fault.Fault.TheVariants as faults
+use Rattle.go_text.specs.declared.place.Place.{Place}
+use Rattle.syntax.specs.declared.tree.Tree.{Tree}
+use Rattle.syntax.specs.Spans.{tree_of, spans_of}
+use Rattle.checker.specs.Files.{Breaks, Exceeds}
+
+-- the place is that of the node, still without line and column
+pub record IsPlaceOf (tree : Tree) (node : ℕ) (place : Place) : Type 0 where
+  pub span : slice_get (spans_of tree) node ≡ Some place.span
+  pub position : place.position ≡ None
+
+-- what a refusal of the tree says is so
+abbrev pub Tells : Tree → Fault → Type 0
+Tells tree (faults.Typing rule node place) = Breaks (tree_of tree) rule node × IsPlaceOf tree node place
+Tells tree (faults.Limit kind (Some node) place) = Exceeds (tree_of tree) kind node × IsPlaceOf tree node place
+Tells tree fault = ⊥

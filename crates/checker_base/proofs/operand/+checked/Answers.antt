@@ -1,0 +1,95 @@
+use Rattle.std.proofs.Common.{rules, arith, ◌≡◌, ◌∷◌, ◌+◌, suc, inl, inr, Some, drop, map, slice_get, length, option_copied, drop-cons}
+use Rattle.std.proofs.lemmas.List.{length-map}
+use Rattle.std.proofs.lemmas.Result.{err_from_is_err_and}
+use Rattle.syntax.specs.declared.node.ExpressionNode.TheFolds.{the_lemmas}
+use Rattle.syntax.specs.Measures.{expression_size, expressions_size}
+use Rattle.syntax.specs.Tree.{Composite, expressions}
+use Rattle.syntax.specs.View.{name_of, expression_of}
+use Rattle.type_table.specs.Views.{field_in}
+use Rattle.type_table.specs.Visible.{types_of, globals_in, scope_of}
+use Rattle.checker_base.specs.Worths.{literal_struct, worth}
+use Rattle.checker_base.specs.Views.{kind_in}
+use Rattle.checker_base.specs.Expressions.{ExpressionsHave, ValuesFail, field_kinds, nodes_of}
+use Rattle.checker_base.proofs.Literals.{next_field, found_next, passed_next, fits_next, fields_agree, composite_has, composite_in}
+use Rattle.checker_base.proofs.operand.+checked.Goals as goal
+
+pub checked-returns-in_err-made-in-Composite-clause-one : goal.checked-returns-in_err-made-in-Composite-clause-one
+checked-returns-in_err-made-in-Composite-clause-one t c =
+    let p = err_from_is_err_and c.from_residual-in_err-made-in-Composite.result c.from_residual-in_err-made-in-Composite.ensures.1 in
+    let is : expression_of c.args.expression.now ≡ Composite (name_of c.in-Composite.name) (expressions (map expression_of c.in-Composite.values.items)) c.in-Composite.field-2 = search (rules, the_lemmas) in
+    let h = rw c.as_slice-in-Composite.ensures.value at (c.in_err-made-in-Composite.ensures.one c.in-Composite.field-2) in
+    rw (p.1, p.2, is) h
+
+pub checked-returns-in_ok-made-in-Composite-clause-worth : goal.checked-returns-in_ok-made-in-Composite-clause-worth
+checked-returns-in_ok-made-in-Composite-clause-worth t c =
+    let h = c.in_ok-made-in-Composite.ensures.worth c.in-Composite.field-2 in
+    search (rules, the_lemmas, h)
+
+pub checked-returns-in_ok-made-in-Composite-clause-none : goal.checked-returns-in_ok-made-in-Composite-clause-none
+checked-returns-in_ok-made-in-Composite-clause-none t c =
+    let is : expression_of c.args.expression.now ≡ Composite (name_of c.in-Composite.name) (expressions (map expression_of c.in-Composite.values.items)) c.in-Composite.field-2 = search (rules, the_lemmas) in
+    let h = rw c.as_slice-in-Composite.ensures.value at (c.in_ok-made-in-Composite.ensures.none c.in-Composite.field-2) in
+    rw is h
+
+pub composite-returns-in_err-node-clause-one : goal.composite-returns-in_err-node-clause-one
+composite-returns-in_err-node-clause-one t c =
+    let p = err_from_is_err_and c.from_residual.result c.from_residual.ensures.1 in
+    let globals = globals_in c.args.table.now in
+    let scope = scope_of c.args.table.now c.args.visible.now in
+    let a = c.as_slice.ensures.value in
+    let b = c.literal_struct.ensures in
+    let d = c.in-Some.is in
+    let is : literal_struct globals scope (name_of c.args.name.now) ≡ Some c.in-Some.number = cc in
+    let values = map expression_of c.args.values.now in
+    rw (p.1, p.2) (λ trailing. composite_has globals scope c.args.first c.in-Some.number (name_of c.args.name.now) values (map (field_in (types_of c.args.table.now)) c.fields_at.result.now) trailing c.in_err-node.field-0.0 is c.fields_at.ensures
+    (c.in_err-node.ensures.one (c.args.first + (expressions_size (expressions values) + 1)) (omega arith)))
+
+pub composite-returns-clause-none : goal.composite-returns-clause-none
+composite-returns-clause-none t c =
+    let globals = globals_in c.args.table.now in
+    let scope = scope_of c.args.table.now c.args.visible.now in
+    let a = c.as_slice.ensures.value in
+    let b = c.literal_struct.ensures in
+    let d = c.in-Some.is in
+    let is : literal_struct globals scope (name_of c.args.name.now) ≡ Some c.in-Some.number = cc in
+    let values = map expression_of c.args.values.now in
+    λ trailing flaw has. elim (composite_in globals scope c.args.first c.in-Some.number (name_of c.args.name.now) values (map (field_in (types_of c.args.table.now)) c.fields_at.result.now) trailing flaw is c.fields_at.ensures has) [
+      | inl bad ↦ c.in_ok-node.ensures.none flaw bad
+      | inr bad ↦ c.in_ok-node.ensures.fits (c.args.first + (expressions_size (expressions values) + 1)) flaw bad
+    ]
+
+pub filled-returns-in-None-clause-fits : goal.filled-returns-in-None-clause-fits
+filled-returns-in-None-clause-fits t c =
+    let fit = rw c.in-None.is at c.in_ok-filling.ensures.misfit in
+    let values = map expression_of c.args.values.now in
+    let kinds = field_kinds (map (field_in (types_of c.args.table.now)) c.args.fields.now) in
+    let same : length values ≡ length kinds = simp length-map c.if-values-fields.false in
+    λ end flaw has. fields_agree (globals_in c.args.table.now) (scope_of c.args.table.now c.args.visible.now) c.args.first values kinds end flaw same (fit flaw) has
+
+pub fit_fields-loop-number-preserved : goal.fit_fields-loop-number-preserved
+fit_fields-loop-number-preserved t c =
+    let globals = globals_in c.args.table.now in
+    let scope = scope_of c.args.table.now c.args.visible.now in
+    let types = types_of c.args.table.now in
+    let value = expression_of c.index-values-number.result in
+    let left = drop (suc c.loop-number.number) c.args.values.now in
+    let rest = map expression_of left in
+    let kinds = field_kinds (map (field_in types) (drop c.loop-number.number c.args.fields.now)) in
+    let others = field_kinds (map (field_in types) (drop (suc c.loop-number.number) c.args.fields.now)) in
+    let more : c.loop-number.number + 1 ≡ suc c.loop-number.number = omega arith in
+    let cut : drop c.loop-number.number c.args.values.now ≡ c.index-values-number.result ∷ left = rw c.index-values-number.is (drop-cons c.args.values.now c.loop-number.number _ c.loop-number-test.true) in
+    let next : c.loop-number.end + expression_size value ≡ c.in_ok-operand.operand.node + 1 = c.in_ok-operand.ensures.end in
+    let has = ExpressionsHave globals scope c.args.first (expressions (map expression_of c.args.values.now)) in
+    let found = rw cut at c.loop-number.invariant.found in
+    let passed = rw cut at c.loop-number.invariant.passed in
+    let fits = rw cut at c.loop-number.invariant.fits in
+    let end = rw cut at c.loop-number.invariant.end in
+    let lookup : option_copied c.field_at.result ≡ slice_get c.args.fields.now c.loop-number.number = c.field_at.ensures in
+    let begins = rw (← lookup) at (next_field types c.args.fields.now c.loop-number.number) in
+    record {
+      end = rw more (omega arith);
+      found = rw (more, ← next) (found_next globals scope has c.loop-number.end value rest found);
+      passed = rw (more, ← next) (passed_next globals scope has c.loop-number.end value rest passed c.in_ok-operand.ensures.none);
+      fits = rw (more, ← next) (fits_next globals scope (ValuesFail globals scope c.args.first (map expression_of c.args.values.now) (field_kinds (map (field_in types) c.args.fields.now))) c.loop-number.end value rest kinds others (kind_in types (option_copied c.field_at.result)) c.loop-number.misfit c.first_misfit-misfit.result begins fits c.first_misfit-misfit.ensures.known
+          (λ none. c.first_misfit-misfit.ensures.new none (worth globals scope value) c.in_ok-operand.ensures.worth (nodes_of c.loop-number.end value) c.in_ok-operand.ensures.first next));
+    }

@@ -1,0 +1,142 @@
+//! Values in places of types, and operands of operations.
+
+ghost use Rattle.std.specs.Prelude.{◌≡◌, ℕ, ◌+◌, List, Option, Some, IfOk, IfErr};
+ghost use Rattle.type_table.specs.Types.{ChannelType};
+ghost use Rattle.type_table.specs.Views.{kind_of};
+ghost use Rattle.type_table.specs.Visible.{types_of};
+ghost use Rattle.checker_base.specs.declared.flaw.Flaw.{Flaw as OneFlaw};
+ghost use Rattle.checker_base.specs.Flaws.{Nodes};
+ghost use Rattle.checker_base.specs.Worths.{Worth as OneWorth, Typed};
+ghost use Rattle.checker_base.specs.Views.{worth_of};
+ghost use Rattle.checker_base.specs.Expressions.{ValueHas, DefaultHas, ConditionHas, ChannelHas, SentHas, ReceivedHas, PrintedHas, default_type};
+
+use crate::flaw::Flaw;
+use crate::operand::Operand;
+use crate::worth::{Worth, is_int};
+use go_text::Rule;
+use syntax::{Direction, NodeId};
+use type_table::table::TypeTable;
+use type_table::value_type::{ValueType, assignable, element_in};
+
+/// Checks a value that is put into a place of this type.
+pub fn value(table: &TypeTable<'_>, operand: Operand<'_>, kind: ValueType<'_>) -> Result<(), Flaw>
+    ensures none { IfOk result (λ _. (w : Option OneWorth) → w ≡ Some (worth_of (types_of table.now) operand.entry.worth) → (nodes : Nodes) → nodes.first ≡ operand.entry.first → nodes.end ≡ operand.entry.node + 1 → (flaw : OneFlaw) → ¬ (ValueHas w (Some (kind_of (types_of table.now) kind.entry)) nodes flaw)) }
+    ensures one { IfErr result (λ flaw. (w : Option OneWorth) → w ≡ Some (worth_of (types_of table.now) operand.entry.worth) → (nodes : Nodes) → nodes.first ≡ operand.entry.first → nodes.end ≡ operand.entry.node + 1 → ValueHas w (Some (kind_of (types_of table.now) kind.entry)) nodes flaw) }
+{
+    match operand.worth {
+        Worth::Typed(own) => {
+            if assignable(table, own, kind) {
+                Ok(())
+            } else {
+                Err(Flaw::Broken(Rule::Assignable, operand.node))
+            }
+        }
+        Worth::Constant(value) => match kind {
+            ValueType::Int => {
+                if is_int(value) {
+                    Ok(())
+                } else {
+                    Err(Flaw::Broken(Rule::Constant, operand.node))
+                }
+            }
+            _ => Err(Flaw::Broken(Rule::Assignable, operand.node)),
+        },
+        Worth::Nil => match kind {
+            ValueType::Channel(_, _) => Ok(()),
+            _ => Err(Flaw::Broken(Rule::Nil, operand.first)),
+        },
+    }
+}
+
+/// Checks a value that goes to a variable without a type, and answers the type that the variable takes.
+pub fn default_type<'a>(operand: Operand<'a>) -> Result<ValueType<'a>, Flaw>
+    ensures kind { IfOk result (λ kind. (types : List (List ℕ)) → default_type (Some (worth_of types operand.entry.worth)) ≡ Some (kind_of types kind)) }
+    ensures none { IfOk result (λ _. (types : List (List ℕ)) → (w : Option OneWorth) → w ≡ Some (worth_of types operand.entry.worth) → (nodes : Nodes) → nodes.first ≡ operand.entry.first → nodes.end ≡ operand.entry.node + 1 → (flaw : OneFlaw) → ¬ (DefaultHas w nodes flaw)) }
+    ensures one { IfErr result (λ flaw. (types : List (List ℕ)) → (w : Option OneWorth) → w ≡ Some (worth_of types operand.entry.worth) → (nodes : Nodes) → nodes.first ≡ operand.entry.first → nodes.end ≡ operand.entry.node + 1 → DefaultHas w nodes flaw) }
+{
+    match operand.worth {
+        Worth::Typed(kind) => Ok(kind),
+        Worth::Constant(value) => {
+            if is_int(value) {
+                Ok(ValueType::Int)
+            } else {
+                Err(Flaw::Broken(Rule::Constant, operand.node))
+            }
+        }
+        Worth::Nil => Err(Flaw::Broken(Rule::Nil, operand.first)),
+    }
+}
+
+/// Checks that a condition is a bool.
+pub fn is_condition(operand: Operand<'_>) -> Result<(), Flaw>
+    ensures none { IfOk result (λ _. (types : List (List ℕ)) → (w : Option OneWorth) → w ≡ Some (worth_of types operand.entry.worth) → (nodes : Nodes) → nodes.first ≡ operand.entry.first → nodes.end ≡ operand.entry.node + 1 → (flaw : OneFlaw) → ¬ (ConditionHas w nodes flaw)) }
+    ensures one { IfErr result (λ flaw. (types : List (List ℕ)) → (w : Option OneWorth) → w ≡ Some (worth_of types operand.entry.worth) → (nodes : Nodes) → nodes.first ≡ operand.entry.first → nodes.end ≡ operand.entry.node + 1 → ConditionHas w nodes flaw) }
+{
+    match operand.worth {
+        Worth::Typed(ValueType::Bool) => Ok(()),
+        Worth::Nil => Err(Flaw::Broken(Rule::Nil, operand.first)),
+        _ => Err(Flaw::Broken(Rule::Condition, operand.node)),
+    }
+}
+
+/// Checks that the operand of an operation on channels is a channel, and answers its direction and the type of its elements.
+pub fn channel<'a>(
+    table: &TypeTable<'a>,
+    operand: Operand<'a>,
+) -> Result<(Direction, ValueType<'a>), Flaw>
+    ensures kind { IfOk result (λ channel. worth_of (types_of table.now) operand.entry.worth ≡ Typed (ChannelType channel.0 (kind_of (types_of table.now) channel.1))) }
+    ensures none { IfOk result (λ _. (types : List (List ℕ)) → (w : Option OneWorth) → w ≡ Some (worth_of types operand.entry.worth) → (nodes : Nodes) → nodes.first ≡ operand.entry.first → nodes.end ≡ operand.entry.node + 1 → (flaw : OneFlaw) → ¬ (ChannelHas w nodes flaw)) }
+    ensures one { IfErr result (λ flaw. (types : List (List ℕ)) → (w : Option OneWorth) → w ≡ Some (worth_of types operand.entry.worth) → (nodes : Nodes) → nodes.first ≡ operand.entry.first → nodes.end ≡ operand.entry.node + 1 → ChannelHas w nodes flaw) }
+{
+    match operand.worth {
+        Worth::Typed(ValueType::Channel(direction, element)) => {
+            Ok((direction, element_in(table, element)))
+        }
+        _ => Err(Flaw::Broken(Rule::Channel, operand.node)),
+    }
+}
+
+/// Checks that one may send on a channel, or close it, where the operation's own node is `node`.
+pub fn sent(worth: Worth<'_>, node: NodeId) -> Result<(), Flaw>
+    ensures none { IfOk result (λ _. (types : List (List ℕ)) → (w : Option OneWorth) → w ≡ Some (worth_of types worth.entry) → (end : ℕ) → end ≡ node + 1 → (flaw : OneFlaw) → ¬ (SentHas w end flaw)) }
+    ensures one { IfErr result (λ flaw. (types : List (List ℕ)) → (w : Option OneWorth) → w ≡ Some (worth_of types worth.entry) → (end : ℕ) → end ≡ node + 1 → SentHas w end flaw) }
+{
+    match worth {
+        Worth::Typed(ValueType::Channel(Direction::Receive, _)) => {
+            Err(Flaw::Broken(Rule::Direction, node))
+        }
+        _ => Ok(()),
+    }
+}
+
+/// Checks that one may receive from a channel, where the operation's own node is `node`.
+pub fn received(worth: Worth<'_>, node: NodeId) -> Result<(), Flaw>
+    ensures none { IfOk result (λ _. (types : List (List ℕ)) → (w : Option OneWorth) → w ≡ Some (worth_of types worth.entry) → (end : ℕ) → end ≡ node + 1 → (flaw : OneFlaw) → ¬ (ReceivedHas w end flaw)) }
+    ensures one { IfErr result (λ flaw. (types : List (List ℕ)) → (w : Option OneWorth) → w ≡ Some (worth_of types worth.entry) → (end : ℕ) → end ≡ node + 1 → ReceivedHas w end flaw) }
+{
+    match worth {
+        Worth::Typed(ValueType::Channel(Direction::Send, _)) => {
+            Err(Flaw::Broken(Rule::Direction, node))
+        }
+        _ => Ok(()),
+    }
+}
+
+/// Checks that a value can be printed.
+pub fn printed(operand: Operand<'_>) -> Result<(), Flaw>
+    ensures none { IfOk result (λ _. (types : List (List ℕ)) → (w : Option OneWorth) → w ≡ Some (worth_of types operand.entry.worth) → (nodes : Nodes) → nodes.first ≡ operand.entry.first → nodes.end ≡ operand.entry.node + 1 → (flaw : OneFlaw) → ¬ (PrintedHas w nodes flaw)) }
+    ensures one { IfErr result (λ flaw. (types : List (List ℕ)) → (w : Option OneWorth) → w ≡ Some (worth_of types operand.entry.worth) → (nodes : Nodes) → nodes.first ≡ operand.entry.first → nodes.end ≡ operand.entry.node + 1 → PrintedHas w nodes flaw) }
+{
+    match operand.worth {
+        Worth::Typed(ValueType::Int) | Worth::Typed(ValueType::Bool) => Ok(()),
+        Worth::Typed(_) => Err(Flaw::Broken(Rule::Called, operand.node)),
+        Worth::Constant(value) => {
+            if is_int(value) {
+                Ok(())
+            } else {
+                Err(Flaw::Broken(Rule::Constant, operand.node))
+            }
+        }
+        Worth::Nil => Err(Flaw::Broken(Rule::Nil, operand.first)),
+    }
+}

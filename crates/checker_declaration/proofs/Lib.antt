@@ -1,0 +1,4 @@
+pub mod Contents
+pub mod Within
+pub mod KnownWidths
+pub mod Declared

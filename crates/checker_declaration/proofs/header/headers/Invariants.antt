@@ -1,0 +1,18 @@
+use Rattle.std.proofs.Common.{◌≡◌, ◌+◌, ◌++◌, length, drop, map, sum_by}
+use Rattle.syntax.specs.Measures.{top_size}
+use Rattle.syntax.specs.View.{top_of}
+use Rattle.type_table.specs.Views.{signature_of, function_names as names_in}
+use Rattle.checker_base.specs.declared.flaw.Flaw.{Flaw}
+use Rattle.checker_declaration.specs.Kinds.{function_names, signatures}
+use Rattle.checker_declaration.specs.Declarations.{HeadersHave}
+use Rattle.checker_declaration.proofs.header.headers.Given as goal
+
+-- what is left shows what all show
+abbrev pub invariant-loop-top : goal.invariant-loop-top
+invariant-loop-top l = record {
+  end : l.end + sum_by top_size (map top_of (drop l.top-index l.tops)) ≡ sum_by top_size (map top_of l.tops);
+  names : names_in l.all.items ++ function_names (map top_of (drop l.top-index l.tops)) ≡ function_names (map top_of l.tops);
+  signatures : map (signature_of l.types) l.all.items ++ signatures l.types (map top_of (drop l.top-index l.tops)) ≡ signatures l.types (map top_of l.tops);
+  found : (flaw : Flaw) → HeadersHave l.types l.functions (length l.all.items) l.end (map top_of (drop l.top-index l.tops)) flaw → HeadersHave l.types l.functions 0 0 (map top_of l.tops) flaw;
+  passed : (flaw : Flaw) → HeadersHave l.types l.functions 0 0 (map top_of l.tops) flaw → HeadersHave l.types l.functions (length l.all.items) l.end (map top_of (drop l.top-index l.tops)) flaw;
+}

@@ -1,0 +1,5 @@
+pub mod Kinds
+pub mod Declarations
+pub mod Parts
+pub mod Heads
+pub mod Nodes

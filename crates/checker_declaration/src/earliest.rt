@@ -1,0 +1,117 @@
+//! Which of several flaws of struct types is told.
+
+ghost use Rattle.std.specs.Prelude.{◌≡◌, ◌+◌, ◌^◌, ◌<◌, map, sum_by, IfSome, IfOk};
+ghost use Rattle.syntax.specs.Measures.{top_size};
+ghost use Rattle.syntax.specs.View.{top_of};
+ghost use Rattle.checker_declaration.specs.Kinds.{type_names};
+ghost use Rattle.checker_declaration.specs.Declarations.{TypesHave};
+ghost use Rattle.checker_declaration.specs.Nodes.{node_of};
+
+use crate::held::first_held;
+use crate::parts::all_parts;
+use crate::sizes::struct_node;
+use crate::wide::first_too_wide;
+use checker_base::flaw::Flaw;
+use go_text::{LimitKind, Rule};
+use std::alloc::{AllocError, Global};
+use syntax::{NodeId, TopNode};
+use type_table::name_list::NameList;
+
+/// The node of a flaw.
+fn node_of(flaw: Flaw) -> NodeId
+    ensures { result ≡ node_of flaw }
+{
+    match flaw {
+        Flaw::Broken(_, node) | Flaw::Exceeded(_, node) => node,
+    }
+}
+
+/// The own node of the first struct type that is found within itself. The struct types have these names.
+fn held_node(
+    alloc: Global,
+    types: &NameList<'_>,
+    tops: &[TopNode],
+) -> Result<Option<NodeId>, AllocError>
+    requires small { sum_by top_size (map top_of tops.now) < 2 ^ 32 }
+    requires names { types.now ≡ type_names (map top_of tops.now) }
+    ensures { IfOk result (λ found. IfSome found (λ node. TypesHave (map top_of tops.now) (Flaw.Broken Rule.Struct node))) }
+{
+    let all = all_parts(alloc, types, tops)?;
+    match first_held(alloc, all.as_slice())? {
+        None => Ok(None),
+        Some(number) => Ok(struct_node(tops, number)),
+    }
+}
+
+/// The own node of the first struct type that is known to be too wide. The struct types have these names.
+fn wide_node(
+    alloc: Global,
+    types: &NameList<'_>,
+    tops: &[TopNode],
+) -> Result<Option<NodeId>, AllocError>
+    requires small { sum_by top_size (map top_of tops.now) < 2 ^ 32 }
+    requires names { types.now ≡ type_names (map top_of tops.now) }
+    ensures { IfOk result (λ found. IfSome found (λ node. TypesHave (map top_of tops.now) (Flaw.Exceeded LimitKind.StructWidth node))) }
+{
+    let all = all_parts(alloc, types, tops)?;
+    match first_too_wide(alloc, all.as_slice())? {
+        None => Ok(None),
+        Some(number) => Ok(struct_node(tops, number)),
+    }
+}
+
+/// This flaw of the struct types, or that one contains itself, if its declaration stands before.
+fn held_before(
+    alloc: Global,
+    types: &NameList<'_>,
+    tops: &[TopNode],
+    flaw: Flaw,
+) -> Result<Flaw, AllocError>
+    requires small { sum_by top_size (map top_of tops.now) < 2 ^ 32 }
+    requires names { types.now ≡ type_names (map top_of tops.now) }
+    requires flaw { TypesHave (map top_of tops.now) flaw }
+    ensures { IfOk result (TypesHave (map top_of tops.now)) }
+{
+    match held_node(alloc, types, tops)? {
+        Some(node) if node < node_of(flaw) => Ok(Flaw::Broken(Rule::Struct, node)),
+        _ => Ok(flaw),
+    }
+}
+
+/// This flaw of the struct types, or that one is too wide, if its declaration stands before.
+fn wide_before(
+    alloc: Global,
+    types: &NameList<'_>,
+    tops: &[TopNode],
+    flaw: Flaw,
+) -> Result<Flaw, AllocError>
+    requires small { sum_by top_size (map top_of tops.now) < 2 ^ 32 }
+    requires names { types.now ≡ type_names (map top_of tops.now) }
+    requires flaw { TypesHave (map top_of tops.now) flaw }
+    ensures { IfOk result (TypesHave (map top_of tops.now)) }
+{
+    match wide_node(alloc, types, tops)? {
+        Some(node) if node < node_of(flaw) => Ok(Flaw::Exceeded(LimitKind::StructWidth, node)),
+        _ => Ok(flaw),
+    }
+}
+
+/// What is told of the struct types, of which this is wrong: that one contains itself or is too wide, if its declaration stands
+/// before.
+///
+/// Errors: want of memory.
+pub(crate) fn earliest(
+    alloc: Global,
+    types: &NameList<'_>,
+    tops: &[TopNode],
+    flaw: Flaw,
+) -> Result<Flaw, AllocError>
+    requires small { sum_by top_size (map top_of tops.now) < 2 ^ 32 }
+    requires names { types.now ≡ type_names (map top_of tops.now) }
+    requires flaw { TypesHave (map top_of tops.now) flaw }
+    ensures { IfOk result (TypesHave (map top_of tops.now)) }
+{
+    let first = held_before(alloc, types, tops, flaw)?;
+    let first = wide_before(alloc, types, tops, first)?;
+    Ok(first)
+}

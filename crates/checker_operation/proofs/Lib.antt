@@ -1,0 +1,4 @@
+pub mod Paths
+pub mod Calls
+pub mod Goes
+pub mod Givens

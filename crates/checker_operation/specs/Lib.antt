@@ -1,0 +1,3 @@
+pub mod Operations
+pub mod Givens
+pub mod Paths

@@ -1,0 +1,29 @@
+-- A value goes to a variable of a type, or to one that takes its type.
+use Rattle.std.proofs.Common.{◌≡◌, Bool, true, false, inl, inr, List, ◌∷◌, Option, Some, None}
+use Rattle.std.specs.Option.{is_none}
+use Rattle.checker_base.specs.declared.flaw.Flaw.{Flaw}
+use Rattle.type_table.specs.Types.{ValueType}
+use Rattle.type_table.specs.Scopes.{Variable}
+use Rattle.checker_base.specs.Worths.{kind_of}
+use Rattle.checker_operation.specs.Operations.{Given, GoesHas}
+use Rattle.checker_simple.specs.Simples.{AllFail}
+
+-- a value goes to a variable that there is, or to one that takes its type
+pub own-known : (o : Option Variable) (v : Variable) → o ≡ Some v → (k : Option ValueType) → v.kind ≡ k → (g : Given) (f : Flaw) → GoesHas false g k f → GoesHas (is_none o) g (kind_of o) f
+own-known o v e k d g f h = rw (e, d) h
+
+pub known-own : (o : Option Variable) (v : Variable) → o ≡ Some v → (k : Option ValueType) → v.kind ≡ k → (g : Given) (f : Flaw) → GoesHas (is_none o) g (kind_of o) f → GoesHas false g k f
+known-own o v e k d g f h = rw (e, d) at h
+
+pub own-free : (o : Option Variable) → o ≡ None → (k : Option ValueType) (g : Given) (f : Flaw) → GoesHas true g k f → GoesHas (is_none o) g (kind_of o) f
+own-free o e k g f h = rw e h
+
+pub free-own : (o : Option Variable) → o ≡ None → (k : Option ValueType) (g : Given) (f : Flaw) → GoesHas (is_none o) g (kind_of o) f → GoesHas true g k f
+free-own o e k g f h = rw e at h
+
+-- what is wrong with values for variables of one type
+pub all-fail : (k : Option ValueType) (g : Given) (gs all : List Given) (f : Flaw) → all ≡ g ∷ gs → (GoesHas false g k f → ⊥) → (AllFail k gs f → ⊥) → AllFail k all f → ⊥
+all-fail k g gs all f e first rest h = elim (rw e at h) [ inl x ↦ first x | inr x ↦ rest x ]
+
+pub fail-one : (k : Option ValueType) (g : Given) (gs all : List Given) (f : Flaw) → all ≡ g ∷ gs → GoesHas false g k f → AllFail k all f
+fail-one k g gs all f e h = rw e (inl h)

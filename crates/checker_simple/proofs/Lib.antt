@@ -1,0 +1,4 @@
+pub mod Goes
+pub mod Declaring
+pub mod Anywhere
+pub mod Wholes

@@ -1,0 +1,87 @@
+-- What is wrong with a statement is what is wrong with its parts.
+use Rattle.std.proofs.Common.{◌≡◌, ℕ, ◌+◌, inl, inr, refl, List, length, Option, Some}
+use Rattle.std.proofs.lemmas.List.{length-map}
+use denote.Ref.{Bor}
+use Rattle.syntax.specs.declared.node.Name.{Name}
+use Rattle.syntax.specs.declared.node.PlaceNode.{PlaceNode}
+use Rattle.syntax.specs.Tree.{TypeExpression, Right, Place, Assign, Define}
+use Rattle.syntax.specs.Measures.{if_any, type_size, right_size, simple_size}
+use Rattle.type_table.specs.Types.{ValueType}
+use Rattle.type_table.specs.Scopes.{Globals, Scope, type_in}
+use Rattle.checker_base.specs.declared.flaw.Flaw.{Flaw}
+use Rattle.checker_base.specs.declared.refusal.Refusal.{Refusal}
+use Rattle.checker_base.specs.declared.refusal.Refusal.TheVariants.{Memory, Flawed}
+use Rattle.checker_base.specs.Views.{Refuses}
+use Rattle.checker_operation.specs.Operations.{Given, given, RightHas, PlacesHave}
+use Rattle.checker_simple.specs.Simples.{AssignedHave, NamesHave, UntypedHave, TypedHave, VariablesHave, IfRightHas, with_defined, SimpleHas, TypedVariablesHave, UntypedVariablesHave}
+use Rattle.checker_operation.specs.Givens.{places_at}
+use Rattle.checker_simple.specs.Names.{names_at}
+use Rattle.checker_simple.proofs.Anywhere.{defined-anywhere}
+
+-- ---- assignments
+
+pub assign-none : (g : Globals) (s : Scope) (first middle count end : ℕ) (places these : List Place) (right : Right) (f : Flaw)
+    → these ≡ places → middle ≡ first + length places → count ≡ length places → end ≡ first + simple_size (Assign places right)
+    → (PlacesHave g s first these f → ⊥) → (RightHas g s middle right f → ⊥) → (AssignedHave g s places (given g s count middle right) end f → ⊥)
+    → SimpleHas g s first (Assign places right) f → ⊥
+assign-none g s first middle count end places these right f e m n d a b c (inl x) = a (rw e x)
+assign-none g s first middle count end places these right f e m n d a b c (inr (inl x)) = b (rw m x)
+assign-none g s first middle count end places these right f e m n d a b c (inr (inr x)) = c (rw (n, m, d) x)
+
+-- ---- declarations of names
+
+pub define-none : (g : Globals) (s : Scope) (first count end : ℕ) (names : List (List ℕ)) (right : Right) (f : Flaw)
+    → count ≡ length names → end ≡ first + right_size right + 1
+    → (RightHas g s first right f → ⊥) → (NamesHave s names (given g s count first right) end f → ⊥)
+    → SimpleHas g s first (Define names right) f → ⊥
+define-none g s first count end names right f n d a b (inl x) = a x
+define-none g s first count end names right f n d a b (inr x) = b (rw (n, d) x)
+
+pub define-one : (g : Globals) (s : Scope) (first count end : ℕ) (names : List (List ℕ)) (right : Right) (r : Refusal)
+    → count ≡ length names → end ≡ first + right_size right + 1
+    → Refuses (NamesHave s names (given g s count first right) end) r → Refuses (SimpleHas g s first (Define names right)) r
+define-one g s first count end names right Memory n d h = tt
+define-one g s first count end names right (Flawed f) n d h = inr (rw (n, d) at h)
+
+pub defined-after : (g : Globals) (s new : Scope) (first count : ℕ) (names these : List (List ℕ)) (right : Right) (values : List Given)
+    → these ≡ names → count ≡ length names → values ≡ given g s count first right → new ≡ with_defined g s these values
+    → new ≡ with_defined g s names (given g s (length names) 0 right)
+defined-after g s new first count names these right values e n v h = rw (h, e, v, n) (defined-anywhere g s names (length names) first 0 right)
+
+-- ---- variables
+
+pub untyped-none : (g : Globals) (s : Scope) (first count end : ℕ) (names : List (List ℕ)) (right : Right) (f : Flaw)
+    → count ≡ length names → end ≡ first + right_size right + 1
+    → (RightHas g s first right f → ⊥) → (UntypedHave s names (given g s count first right) end f → ⊥)
+    → UntypedVariablesHave g s first names right f → ⊥
+untyped-none g s first count end names right f n d a b (inl x) = a x
+untyped-none g s first count end names right f n d a b (inr x) = b (rw (n, d) x)
+
+pub untyped-one : (g : Globals) (s : Scope) (first count end : ℕ) (names : List (List ℕ)) (right : Right) (r : Refusal)
+    → count ≡ length names → end ≡ first + right_size right + 1
+    → Refuses (UntypedHave s names (given g s count first right) end) r → Refuses (UntypedVariablesHave g s first names right) r
+untyped-one g s first count end names right Memory n d h = tt
+untyped-one g s first count end names right (Flawed f) n d h = inr (rw (n, d) at h)
+
+pub right-none : (g : Globals) (s : Scope) (names first end : ℕ) (kind : Option ValueType) (o : Option Right) (r : Right) (f : Flaw)
+    → o ≡ Some r → end ≡ first + right_size r + 1
+    → (RightHas g s first r f → ⊥) → (TypedHave kind names (given g s names first r) end f → ⊥)
+    → IfRightHas g s names kind first o f → ⊥
+right-none g s names first end kind o r f e d a b h = elim (rw e at h) [ inl x ↦ a x | inr x ↦ b (rw d x) ]
+
+pub typed-none : (g : Globals) (s : Scope) (first middle count end : ℕ) (names these : List (List ℕ)) (kind : TypeExpression) (right : Option Right) (k : ValueType) (f : Flaw)
+    → type_in g.types s kind ≡ Some k → these ≡ names → count ≡ length names → middle ≡ first + type_size kind
+    → end ≡ first + type_size kind + if_any right_size right + 1
+    → (IfRightHas g s count (Some k) middle right f → ⊥) → (VariablesHave s these end f → ⊥)
+    → TypedVariablesHave g s first names kind right f → ⊥
+typed-none g s first middle count end names these kind right k f t e n m d a b (inl x) = rw t at x
+typed-none g s first middle count end names these kind right k f t e n m d a b (inr (inl x)) = a (rw (n, m, ← t) x)
+typed-none g s first middle count end names these kind right k f t e n m d a b (inr (inr x)) = b (rw (e, d) x)
+
+-- ---- names and places that lie apart are as many as they are
+
+pub names-count : (refs : List (Bor Name)) (names : List (List ℕ)) (n : ℕ) → names_at refs ≡ names → n ≡ length refs → n ≡ length names
+names-count refs names n e d = rw (← e, length-map) d
+
+pub places-count : (refs : List (Bor PlaceNode)) (places : List Place) (n : ℕ) → places_at refs ≡ places → n ≡ length refs → n ≡ length places
+places-count refs places n e d = rw (← e, length-map) d

@@ -1,0 +1,2 @@
+pub mod Simples
+pub mod Names

@@ -1,0 +1,56 @@
+//! Assignments ("Assignment statements" of the Go specification).
+
+ghost use Rattle.std.specs.Prelude.{◌≡◌, ℕ, ◌+◌, ◌^◌, ◌<◌, List, map, IfOk, IfErr};
+ghost use Rattle.syntax.specs.Tree.{Place, Assign};
+ghost use Rattle.syntax.specs.Measures.{simple_size};
+ghost use Rattle.type_table.specs.Visible.{types_of, globals_in, scope_of};
+ghost use Rattle.checker_base.specs.declared.flaw.Flaw.{Flaw as OneFlaw};
+ghost use Rattle.checker_operation.specs.Operations.{Given as OneGiven};
+ghost use Rattle.checker_base.specs.Views.{Refuses};
+ghost use Rattle.checker_operation.specs.Givens.{given_of, places_at, places_in, source_of};
+ghost use Rattle.checker_simple.specs.Simples.{AssignedHave, SimpleHas};
+
+use checker_base::flaw::Flaw;
+use checker_base::refusal::Refusal;
+use checker_operation::given::{Given, Source, given_by, numbers_agree};
+use checker_operation::place::{Targets, places, places_take, references};
+use std::alloc::Global;
+use syntax::{NodeId, PlaceNode};
+use type_table::scope::Visible;
+use type_table::table::TypeTable;
+
+/// Checks what places are given by a statement whose own node is the one behind that.
+fn assign_given<'a>(
+    table: &TypeTable<'a>,
+    visible: &Visible<'a>,
+    all: &[&PlaceNode],
+    given: &Given<'a>,
+) -> Result<(), Flaw>
+    ensures none { IfOk result (λ _. (end : ℕ) → end ≡ given.now.end + 1 → (these : List Place) → these ≡ places_at all.now → (values : List OneGiven) → values ≡ map (given_of (types_of table.now)) given.now.values.items → (flaw : OneFlaw) → ¬ (AssignedHave (globals_in table.now) (scope_of table.now visible.now) these values end flaw)) }
+    ensures one { IfErr result (λ flaw. (end : ℕ) → end ≡ given.now.end + 1 → (these : List Place) → these ≡ places_at all.now → (values : List OneGiven) → values ≡ map (given_of (types_of table.now)) given.now.values.items → AssignedHave (globals_in table.now) (scope_of table.now visible.now) these values end flaw) }
+{
+    numbers_agree(given.values.len(), all.len(), given.end)?;
+    places_take(table, visible, all, given.values.as_slice())?;
+    Ok(())
+}
+
+/// Checks an assignment, whose nodes have numbers from `first` on, and answers the number behind them.
+pub(crate) fn assign<'a>(
+    alloc: Global,
+    table: &TypeTable<'a>,
+    visible: &Visible<'a>,
+    first: NodeId,
+    targets: Targets<'a>,
+    source: Source<'a>,
+) -> Result<NodeId, Refusal>
+    requires small { first + simple_size (Assign (places_in targets) (source_of source)) < 2 ^ 32 }
+    ensures end { IfOk result (λ end. end ≡ first + simple_size (Assign (places_in targets.entry) (source_of source.entry))) }
+    ensures none { IfOk result (λ _. (flaw : OneFlaw) → ¬ (SimpleHas (globals_in table.now) (scope_of table.now visible.now) first (Assign (places_in targets.entry) (source_of source.entry)) flaw)) }
+    ensures one { IfErr result (Refuses (SimpleHas (globals_in table.now) (scope_of table.now visible.now) first (Assign (places_in targets.entry) (source_of source.entry)))) }
+{
+    let all = references(alloc, targets)?;
+    let middle = places(table, visible, first, all.as_slice())?;
+    let given = given_by(alloc, table, visible, all.len(), middle, source)?;
+    assign_given(table, visible, all.as_slice(), &given)?;
+    Ok(given.end + 1)
+}

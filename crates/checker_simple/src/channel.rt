@@ -1,0 +1,55 @@
+//! Statements on channels ("Send statements", "Close" of the Go specification).
+
+ghost use Rattle.std.specs.Prelude.{◌≡◌, ◌+◌, ◌^◌, ◌<◌, IfOk, IfErr};
+ghost use Rattle.syntax.specs.Tree.{Close, Send};
+ghost use Rattle.syntax.specs.Measures.{simple_size};
+ghost use Rattle.syntax.specs.View.{expression_of};
+ghost use Rattle.checker_base.specs.declared.flaw.Flaw.{Flaw as OneFlaw};
+ghost use Rattle.checker_simple.specs.Simples.{SimpleHas};
+ghost use Rattle.type_table.specs.Visible.{globals_in, scope_of};
+
+use checker_base::flaw::Flaw;
+use checker_base::operand::checked;
+use checker_base::value::{channel, sent, value};
+use checker_operation::operation::measured;
+use syntax::{ExpressionNode, NodeId};
+use type_table::scope::Visible;
+use type_table::table::TypeTable;
+
+/// Checks a `close`, whose nodes have numbers from `first` on, and answers the number behind them.
+pub(crate) fn close(
+    table: &TypeTable<'_>,
+    visible: &Visible<'_>,
+    first: NodeId,
+    of: &ExpressionNode,
+) -> Result<NodeId, Flaw>
+    requires small { first + simple_size (Close (expression_of of.now)) < 2 ^ 32 }
+    ensures end { IfOk result (λ end. end ≡ first + simple_size (Close (expression_of of.now))) }
+    ensures none { IfOk result (λ _. (flaw : OneFlaw) → ¬ (SimpleHas (globals_in table.now) (scope_of table.now visible.now) first (Close (expression_of of.now)) flaw)) }
+    ensures one { IfErr result (SimpleHas (globals_in table.now) (scope_of table.now visible.now) first (Close (expression_of of.now))) }
+{
+    let operand = measured(table, visible, first, of)?;
+    sent(operand.worth, operand.node + 1)?;
+    Ok(operand.node + 2)
+}
+
+/// Checks a send, whose nodes have numbers from `first` on, and answers the number behind them.
+pub(crate) fn send(
+    table: &TypeTable<'_>,
+    visible: &Visible<'_>,
+    first: NodeId,
+    to: &ExpressionNode,
+    item: &ExpressionNode,
+) -> Result<NodeId, Flaw>
+    requires small { first + simple_size (Send (expression_of to.now) (expression_of item.now)) < 2 ^ 32 }
+    ensures end { IfOk result (λ end. end ≡ first + simple_size (Send (expression_of to.now) (expression_of item.now))) }
+    ensures none { IfOk result (λ _. (flaw : OneFlaw) → ¬ (SimpleHas (globals_in table.now) (scope_of table.now visible.now) first (Send (expression_of to.now) (expression_of item.now)) flaw)) }
+    ensures one { IfErr result (SimpleHas (globals_in table.now) (scope_of table.now visible.now) first (Send (expression_of to.now) (expression_of item.now))) }
+{
+    let to = checked(table, visible, first, to)?;
+    let item = checked(table, visible, to.node + 1, item)?;
+    let (_, element) = channel(table, to)?;
+    sent(to.worth, item.node + 1)?;
+    value(table, item, element)?;
+    Ok(item.node + 2)
+}

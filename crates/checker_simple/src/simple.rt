@@ -1,0 +1,134 @@
+//! Simple statements, and what a clause of a `select` waits for ("Statements" of the Go specification).
+
+ghost use Rattle.std.specs.Prelude.{◌≡◌, ◌+◌, ◌^◌, ◌<◌, IfOk, IfErr};
+ghost use Rattle.syntax.specs.Measures.{simple_size, comm_size};
+ghost use Rattle.syntax.specs.View.{simple_of, comm_of};
+ghost use Rattle.checker_base.specs.declared.flaw.Flaw.{Flaw as OneFlaw};
+ghost use Rattle.checker_simple.specs.Simples.{SimpleHas, after_simple, comm_simple};
+ghost use Rattle.type_table.specs.Visible.{globals_in, scope_of, Keeps};
+ghost use Rattle.checker_base.specs.Views.{Refuses};
+
+use crate::assign::assign;
+use crate::channel::{close, send};
+use crate::define::define;
+use crate::names::Names;
+use crate::print::parts;
+use crate::update::{step, update};
+use checker_base::refusal::Refusal;
+use checker_operation::given::Source;
+use checker_operation::operation::{call, receive};
+use checker_operation::place::Targets;
+use std::alloc::Global;
+use syntax::{CommNode, NodeId, SimpleNode};
+use type_table::scope::Visible;
+use type_table::table::TypeTable;
+
+/// Checks a simple statement, whose nodes have numbers from `first` on, and answers the number behind them. What it
+/// declares is then visible.
+pub fn simple<'a>(
+    alloc: Global,
+    table: &TypeTable<'a>,
+    visible: &mut Visible<'a>,
+    first: NodeId,
+    simple: &'a SimpleNode,
+) -> Result<NodeId, Refusal>
+    requires small { first + simple_size (simple_of simple.now) < 2 ^ 32 }
+    ensures end { IfOk result (λ end. end ≡ first + simple_size (simple_of simple.now)) }
+    ensures after { IfOk result (λ _. scope_of table.now visible.new ≡ after_simple (globals_in table.now) (scope_of table.now visible.old) (simple_of simple.now)) }
+    ensures kept { IfOk result (λ _. Keeps visible.old visible.new) }
+    ensures none { IfOk result (λ _. (flaw : OneFlaw) → ¬ (SimpleHas (globals_in table.now) (scope_of table.now visible.old) first (simple_of simple.now) flaw)) }
+    ensures one { IfErr result (Refuses (SimpleHas (globals_in table.now) (scope_of table.now visible.old) first (simple_of simple.now))) }
+{
+    match simple {
+        SimpleNode::Define(names, right) => {
+            let names = Names::All(names.as_slice());
+            let end = define(alloc, table, visible, first, names, Source::Right(right))?;
+            Ok(end)
+        }
+        SimpleNode::Assign(places, right) => {
+            let places = Targets::All(places.as_slice());
+            let end = assign(alloc, table, visible, first, places, Source::Right(right))?;
+            Ok(end)
+        }
+        SimpleNode::Call(function, arguments) => {
+            let called = call(table, visible, first, function, arguments)?;
+            Ok(called.node + 1)
+        }
+        SimpleNode::Close(channel) => {
+            let end = close(table, visible, first, channel)?;
+            Ok(end)
+        }
+        SimpleNode::Print(_, all, _) => {
+            let end = parts(table, visible, first, all.as_slice())?;
+            Ok(end + 1)
+        }
+        SimpleNode::Receive(channel) => {
+            let made = receive(table, visible, first, channel)?;
+            Ok(made.node + 1)
+        }
+        SimpleNode::Send(channel, value) => {
+            let end = send(table, visible, first, channel, value)?;
+            Ok(end)
+        }
+        SimpleNode::Increment(place) | SimpleNode::Decrement(place) => {
+            let end = step(table, visible, first, place)?;
+            Ok(end)
+        }
+        SimpleNode::Update(place, operator, value) => {
+            let end = update(table, visible, first, place, *operator, value)?;
+            Ok(end)
+        }
+    }
+}
+
+/// Checks what a clause of a `select` waits for, whose nodes have numbers from `first` on, and answers the number behind
+/// them. What it declares is then visible.
+pub fn comm<'a>(
+    alloc: Global,
+    table: &TypeTable<'a>,
+    visible: &mut Visible<'a>,
+    first: NodeId,
+    comm: &'a CommNode,
+) -> Result<NodeId, Refusal>
+    requires small { first + comm_size (comm_of comm.now) < 2 ^ 32 }
+    ensures end { IfOk result (λ end. end ≡ first + comm_size (comm_of comm.now)) }
+    ensures after { IfOk result (λ _. scope_of table.now visible.new ≡ after_simple (globals_in table.now) (scope_of table.now visible.old) (comm_simple (comm_of comm.now))) }
+    ensures kept { IfOk result (λ _. Keeps visible.old visible.new) }
+    ensures none { IfOk result (λ _. (flaw : OneFlaw) → ¬ (SimpleHas (globals_in table.now) (scope_of table.now visible.old) first (comm_simple (comm_of comm.now)) flaw)) }
+    ensures one { IfErr result (Refuses (SimpleHas (globals_in table.now) (scope_of table.now visible.old) first (comm_simple (comm_of comm.now)))) }
+{
+    match comm {
+        CommNode::Send(channel, value) => {
+            let end = send(table, visible, first, channel, value)?;
+            Ok(end)
+        }
+        CommNode::Receive(channel) => {
+            let made = receive(table, visible, first, channel)?;
+            Ok(made.node + 1)
+        }
+        CommNode::Define(item, ok, channel) => {
+            let names = Names::OneOrTwo(item, ok);
+            let end = define(
+                alloc,
+                table,
+                visible,
+                first,
+                names,
+                Source::Receive(channel),
+            )?;
+            Ok(end)
+        }
+        CommNode::Assign(item, ok, channel) => {
+            let places = Targets::OneOrTwo(item, ok);
+            let end = assign(
+                alloc,
+                table,
+                visible,
+                first,
+                places,
+                Source::Receive(channel),
+            )?;
+            Ok(end)
+        }
+    }
+}

@@ -1,0 +1,89 @@
+//! Assignments with an operator ("Assignment statements", "IncDec statements" of the Go specification).
+
+ghost use Rattle.std.specs.Prelude.{◌≡◌, ℕ, ◌+◌, ◌^◌, ◌<◌, Option, Some, IfOk, IfErr};
+ghost use Rattle.syntax.specs.Tree.{Update};
+ghost use Rattle.syntax.specs.Measures.{simple_size};
+ghost use Rattle.syntax.specs.View.{expression_of, place_of};
+ghost use Rattle.type_table.specs.Types.{ValueType as OneType};
+ghost use Rattle.type_table.specs.Views.{kind_of};
+ghost use Rattle.type_table.specs.Visible.{types_of, globals_in, scope_of};
+ghost use Rattle.checker_base.specs.declared.flaw.Flaw.{Flaw as OneFlaw};
+ghost use Rattle.checker_base.specs.Flaws.{Nodes};
+ghost use Rattle.checker_base.specs.Worths.{Worth as OneWorth};
+ghost use Rattle.checker_base.specs.Views.{worth_of, IsSmall};
+ghost use Rattle.checker_simple.specs.Simples.{UpdatedHas, StepHas, SimpleHas};
+
+use checker_base::flaw::{Flaw, Operator, misused};
+use checker_base::operand::{Operand, checked};
+use checker_base::worth::{Worth, binary_worth};
+use checker_operation::place::read_place;
+use go_text::Rule;
+use syntax::{BinaryOperator, ExpressionNode, NodeId, PlaceNode};
+use type_table::scope::Visible;
+use type_table::table::TypeTable;
+use type_table::value_type::ValueType;
+
+/// Checks `++` or `--`, whose nodes have numbers from `first` on, and answers the number behind them.
+pub(crate) fn step(
+    table: &TypeTable<'_>,
+    visible: &Visible<'_>,
+    first: NodeId,
+    node: &PlaceNode,
+) -> Result<NodeId, Flaw>
+    requires small { first + 2 < 2 ^ 32 }
+    ensures end { IfOk result (λ end. end ≡ first + 2) }
+    ensures none { IfOk result (λ _. (flaw : OneFlaw) → ¬ (StepHas (globals_in table.now) (scope_of table.now visible.now) first (place_of node.now) flaw)) }
+    ensures one { IfErr result (StepHas (globals_in table.now) (scope_of table.now visible.now) first (place_of node.now)) }
+{
+    match read_place(table, visible, first, node)? {
+        ValueType::Int => Ok(first + 2),
+        _ => Err(Flaw::Broken(Rule::Operands, first + 1)),
+    }
+}
+
+/// Checks that an operator goes with a place of a type and a value, whose statement's node is the next one.
+fn updates<'a>(
+    table: &TypeTable<'a>,
+    operator: BinaryOperator,
+    kind: ValueType<'a>,
+    operand: Operand<'a>,
+) -> Result<(), Flaw>
+    requires small { IsSmall operand.worth }
+    requires next { operand.node + 1 < 2 ^ 32 }
+    ensures none { IfOk result (λ _. (k : Option OneType) → k ≡ Some (kind_of (types_of table.now) kind.entry) → (w : Option OneWorth) → w ≡ Some (worth_of (types_of table.now) operand.entry.worth) → (nodes : Nodes) → nodes.first ≡ operand.entry.first → nodes.end ≡ operand.entry.node + 1 → (end : ℕ) → end ≡ operand.entry.node + 2 → (flaw : OneFlaw) → ¬ (UpdatedHas operator k w nodes end flaw)) }
+    ensures one { IfErr result (λ flaw. (k : Option OneType) → k ≡ Some (kind_of (types_of table.now) kind.entry) → (w : Option OneWorth) → w ≡ Some (worth_of (types_of table.now) operand.entry.worth) → (nodes : Nodes) → nodes.first ≡ operand.entry.first → nodes.end ≡ operand.entry.node + 1 → (end : ℕ) → end ≡ operand.entry.node + 2 → UpdatedHas operator k w nodes end flaw) }
+{
+    match binary_worth(table, operator, Worth::Typed(kind), operand.worth) {
+        Ok(_) => Ok(()),
+        Err(misuse) => Err(misused(
+            misuse,
+            Operator {
+                left_first: operand.first,
+                left: operand.node,
+                right_first: operand.first,
+                right: operand.node,
+                own: operand.node + 1,
+            },
+        )),
+    }
+}
+
+/// Checks an assignment with an operator, whose nodes have numbers from `first` on, and answers the number behind them.
+pub(crate) fn update(
+    table: &TypeTable<'_>,
+    visible: &Visible<'_>,
+    first: NodeId,
+    node: &PlaceNode,
+    operator: BinaryOperator,
+    value: &ExpressionNode,
+) -> Result<NodeId, Flaw>
+    requires small { first + simple_size (Update (place_of node.now) operator (expression_of value.now)) < 2 ^ 32 }
+    ensures end { IfOk result (λ end. end ≡ first + simple_size (Update (place_of node.now) operator (expression_of value.now))) }
+    ensures none { IfOk result (λ _. (flaw : OneFlaw) → ¬ (SimpleHas (globals_in table.now) (scope_of table.now visible.now) first (Update (place_of node.now) operator (expression_of value.now)) flaw)) }
+    ensures one { IfErr result (SimpleHas (globals_in table.now) (scope_of table.now visible.now) first (Update (place_of node.now) operator (expression_of value.now))) }
+{
+    let kind = read_place(table, visible, first, node)?;
+    let operand = checked(table, visible, first + 1, value)?;
+    updates(table, operator, kind, operand)?;
+    Ok(operand.node + 2)
+}

@@ -1,0 +1,3 @@
+pub mod Terminating
+pub mod Statements
+pub mod Settings

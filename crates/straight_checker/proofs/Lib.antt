@@ -1,0 +1,5 @@
+pub mod Sizes
+pub mod Bodies
+pub mod Nodes
+pub mod Fits
+pub mod Rows

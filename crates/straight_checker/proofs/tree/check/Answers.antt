@@ -1,0 +1,16 @@
+use Rattle.std.proofs.Common.{subst}
+use Rattle.syntax.specs.Spans.{tree_of}
+use Rattle.syntax.specs.Tree.{File}
+use Rattle.straight_base.specs.declared.flaw.Flaw.{Flaw}
+use Rattle.straight_checker.specs.Rules.{FileHas}
+use Rattle.straight_checker.proofs.Fits.{typed_of_none}
+use Rattle.straight_checker.proofs.Nodes.{file_within}
+use Rattle.straight_checker.proofs.tree.check.Goals as goal
+
+pub new-requires-clause-typed : goal.new-requires-clause-typed
+new-requires-clause-typed c = typed_of_none (tree_of c.args.tree) (subst (λ (file : File). (flaw : Flaw) → FileHas file flaw → ⊥) c.file-2.ensures.file c.in-Ok.ensures.none)
+
+pub fault_of-requires-clause-node : goal.fault_of-requires-clause-node
+fault_of-requires-clause-node c =
+    let has = rw c.in-Err-Flawed.field-0-is at c.in-Err-Flawed.ensures.one in
+    file_within (tree_of c.args.tree) c.in-Err-Flawed.flaw (subst (λ (file : File). FileHas file c.in-Err-Flawed.flaw) c.file-2.ensures.file has)

@@ -1,0 +1,46 @@
+//! Why a check stops.
+
+use std::alloc::{AllocError, AllocFailed};
+use straight_base::flaw::Flaw;
+
+/// Why a check stops.
+#[derive(Drop)]
+pub enum Refusal {
+    /// A request for memory was refused.
+    Memory,
+    /// Something is wrong with the tree.
+    Flawed(Flaw),
+}
+
+impl From<AllocError> for Refusal {
+    ghost use Rattle.straight_checker.specs.declared.refusal.Refusal.TheVariants as refusals;
+    ghost use Rattle.std.specs.Prelude.{◌≡◌};
+
+    ghost from_gives = { λ _ e. e ≡ refusals.Memory };
+
+    fn from(_error: AllocError) -> Refusal {
+        Refusal::Memory
+    }
+}
+
+impl<T: Drop> From<AllocFailed<T>> for Refusal {
+    ghost use Rattle.straight_checker.specs.declared.refusal.Refusal.TheVariants as refusals;
+    ghost use Rattle.std.specs.Prelude.{◌≡◌};
+
+    ghost from_gives = { λ _ e. e ≡ refusals.Memory };
+
+    fn from(_error: AllocFailed<T>) -> Refusal {
+        Refusal::Memory
+    }
+}
+
+impl From<Flaw> for Refusal {
+    ghost use Rattle.straight_checker.specs.declared.refusal.Refusal.TheVariants as refusals;
+    ghost use Rattle.std.specs.Prelude.{◌≡◌};
+
+    ghost from_gives = { λ flaw e. e ≡ refusals.Flawed flaw };
+
+    fn from(flaw: Flaw) -> Refusal {
+        Refusal::Flawed(flaw)
+    }
+}
