@@ -1,0 +1,50 @@
+//! The bytes of tokens.
+
+ghost use Rattle.std.specs.Prelude.{◌≡◌, ◌<◌, ◌+◌, ◌^◌, ◌∷◌, ◌++◌, [], IfOk, IfErr, slice_get};
+ghost use Rattle.go_text.specs.declared.fault.Fault.TheVariants as faults;
+ghost use Rattle.spans.specs.Places.{from_of, end_of, over};
+
+use go_text::{Fault, Span};
+use scanner::Token;
+
+/// The first byte of a token.
+fn from_of(tokens: &[Token], at: usize) -> u32
+    ensures { result ≡ from_of (slice_get tokens.now at) }
+{
+    match tokens.get(at) {
+        Some(token) => token.span.from,
+        None => 0,
+    }
+}
+
+/// The bytes of so many tokens from this one on.
+fn over(tokens: &[Token], at: usize, count: usize) -> Span
+    requires { at + count < 2 ^ 40 }
+    ensures { result ≡ over tokens.now at count }
+{
+    let from = from_of(tokens, at);
+    if count == 0 {
+        return Span { from, to: from };
+    }
+    let others = count - 1;
+    let to = match tokens.get(at + others) {
+        Some(token) => token.span.to,
+        None => 0,
+    };
+    Span { from, to }
+}
+
+/// Puts the span of so many tokens from this one on behind others.
+pub(crate) fn push(
+    tokens: &[Token],
+    at: usize,
+    count: usize,
+    spans: &mut Vec<Span>,
+) -> Result<(), Fault>
+    requires { at + count < 2 ^ 40 }
+    ensures ok { IfOk result (λ _. spans.new.items ≡ spans.old.items ++ (over tokens.now at count ∷ [])) }
+    ensures err { IfErr result (λ e. e ≡ faults.Memory) }
+{
+    spans.push(over(tokens, at, count))?;
+    Ok(())
+}
