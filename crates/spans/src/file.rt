@@ -1,15 +1,15 @@
 //! Where the nodes of a file stand.
 
-ghost use Rattle.std.specs.Prelude.{◌≡◌, ◌<◌, ◌+◌, ◌^◌, ◌++◌, IfOk, IfErr, map, option_map, sum_by};
+ghost use Rattle.std.specs.Prelude.{◌≡◌, ◌++◌, IfOk, IfErr, map, option_map, sum_by};
 ghost use Rattle.go_text.specs.declared.fault.Fault.TheVariants as faults;
 ghost use Rattle.syntax.specs.Measures.{if_any};
 ghost use Rattle.syntax.specs.View.{type_of, declared_of, struct_of, function_of, top_of, file_of};
 ghost use Rattle.syntax.specs.Tree.{StructTop, FunctionTop};
-ghost use Rattle.spans.specs.Words.{type_count, group_count, group_step, groups_count, top_count, top_step, file_count};
+ghost use Rattle.spans.specs.Words.{EndsInReach, joined, type_count, group_count, group_step, groups_count, top_count, top_step, file_count};
 ghost use Rattle.spans.specs.Places.{any_spans, type_spans, group_spans, groups_spans, top_spans, tops_spans, file_spans};
 
 use crate::expression::trailing_count;
-use crate::over::push;
+use crate::over::add_node;
 use crate::statement::block_spans;
 use crate::types::type_spans;
 use go_text::{Fault, Span};
@@ -17,33 +17,31 @@ use scanner::Token;
 use std::alloc::Global;
 use syntax::{DeclaredNode, FileNode, FunctionNode, StructNode, TopNode, TypeNode};
 
-/// Adds the spans of names' type, and of the names with it.
+/// Adds the spans of names that are declared together with one type.
 fn group_spans(
     group: &DeclaredNode,
     tokens: &[Token],
     at: usize,
     spans: &mut Vec<Span>,
 ) -> Result<usize, Fault>
-    requires { at + group_count (declared_of group.now) < 2 ^ 40 }
+    requires { EndsInReach at (group_count (declared_of group.now)) }
     ensures count { IfOk result (λ count. count ≡ group_count (declared_of group.now)) }
     ensures spans { IfOk result (λ _. spans.new.items ≡ spans.old.items ++ group_spans tokens.now at (declared_of group.now)) }
     ensures err { IfErr result (λ e. e ≡ faults.Memory) }
 {
     let names = (group.names.len() * 2).saturating_sub(1);
     let count = names + type_spans(&group.type_node, tokens, at + names, spans)?;
-    push(tokens, at, count, spans)?;
-    Ok(count)
+    add_node(tokens, at, count, spans)
 }
 
-/// Adds the spans of fields or parameters, behind each of which a mark stands. How many tokens spell them, with those
-/// marks.
+/// Adds the spans of fields or parameters, with a mark behind each. How many tokens spell them with those marks.
 fn all_spans(
     groups: &[DeclaredNode],
     tokens: &[Token],
     at: usize,
     spans: &mut Vec<Span>,
 ) -> Result<usize, Fault>
-    requires { at + sum_by group_step (map declared_of groups.now) < 2 ^ 40 }
+    requires { EndsInReach at (joined (sum_by group_step (map declared_of groups.now))) }
     ensures count { IfOk result (λ count. count ≡ sum_by group_step (map declared_of groups.now)) }
     ensures spans { IfOk result (λ _. spans.new.items ≡ spans.old.items ++ groups_spans tokens.now at (map declared_of groups.now)) }
     ensures err { IfErr result (λ e. e ≡ faults.Memory) }
@@ -55,7 +53,7 @@ fn all_spans(
     Ok(count)
 }
 
-/// Adds the spans of fields or parameters, behind the last of which a mark may stand.
+/// Adds the spans of fields or parameters. How many tokens spell them with the mark that may follow the last.
 fn groups_spans(
     groups: &[DeclaredNode],
     trailing: bool,
@@ -63,7 +61,7 @@ fn groups_spans(
     at: usize,
     spans: &mut Vec<Span>,
 ) -> Result<usize, Fault>
-    requires { at + groups_count (map declared_of groups.now) trailing + 1 < 2 ^ 40 }
+    requires { EndsInReach at (groups_count (map declared_of groups.now) trailing) }
     ensures count { IfOk result (λ count. count ≡ groups_count (map declared_of groups.now) trailing) }
     ensures spans { IfOk result (λ _. spans.new.items ≡ spans.old.items ++ groups_spans tokens.now at (map declared_of groups.now)) }
     ensures err { IfErr result (λ e. e ≡ faults.Memory) }
@@ -79,7 +77,7 @@ fn any_type_spans(
     at: usize,
     spans: &mut Vec<Span>,
 ) -> Result<usize, Fault>
-    requires { at + if_any type_count (option_map type_of kind.now) < 2 ^ 40 }
+    requires { EndsInReach at (if_any type_count (option_map type_of kind.now)) }
     ensures count { IfOk result (λ count. count ≡ if_any type_count (option_map type_of kind.now)) }
     ensures spans { IfOk result (λ _. spans.new.items ≡ spans.old.items ++ any_spans type_spans tokens.now at (option_map type_of kind.now)) }
     ensures err { IfErr result (λ e. e ≡ faults.Memory) }
@@ -97,14 +95,13 @@ fn struct_spans(
     at: usize,
     spans: &mut Vec<Span>,
 ) -> Result<usize, Fault>
-    requires { at + top_count (StructTop (struct_of node.now)) < 2 ^ 40 }
+    requires { EndsInReach at (top_count (StructTop (struct_of node.now))) }
     ensures count { IfOk result (λ count. count ≡ top_count (StructTop (struct_of node.now))) }
     ensures spans { IfOk result (λ _. spans.new.items ≡ spans.old.items ++ top_spans tokens.now at (StructTop (struct_of node.now))) }
     ensures err { IfErr result (λ e. e ≡ faults.Memory) }
 {
     let count = 5 + groups_spans(node.fields.as_slice(), node.trailing, tokens, at + 4, spans)?;
-    push(tokens, at, count, spans)?;
-    Ok(count)
+    add_node(tokens, at, count, spans)
 }
 
 /// Adds the spans of a declaration of a function.
@@ -114,7 +111,7 @@ fn function_spans(
     at: usize,
     spans: &mut Vec<Span>,
 ) -> Result<usize, Fault>
-    requires { at + top_count (FunctionTop (function_of node.now)) + 1 < 2 ^ 40 }
+    requires { EndsInReach at (top_count (FunctionTop (function_of node.now))) }
     ensures count { IfOk result (λ count. count ≡ top_count (FunctionTop (function_of node.now))) }
     ensures spans { IfOk result (λ _. spans.new.items ≡ spans.old.items ++ top_spans tokens.now at (FunctionTop (function_of node.now))) }
     ensures err { IfErr result (λ e. e ≡ faults.Memory) }
@@ -130,8 +127,7 @@ fn function_spans(
     let kind = any_type_spans(&node.result, tokens, at + head, spans)?;
     let body = block_spans(node.body.as_slice(), tokens, at + head + kind, spans)?;
     let count = head + kind + body;
-    push(tokens, at, count, spans)?;
-    Ok(count)
+    add_node(tokens, at, count, spans)
 }
 
 /// Adds the spans of a declaration.
@@ -141,7 +137,7 @@ fn top_spans(
     at: usize,
     spans: &mut Vec<Span>,
 ) -> Result<usize, Fault>
-    requires { at + top_count (top_of top.now) + 1 < 2 ^ 40 }
+    requires { EndsInReach at (top_count (top_of top.now)) }
     ensures count { IfOk result (λ count. count ≡ top_count (top_of top.now)) }
     ensures spans { IfOk result (λ _. spans.new.items ≡ spans.old.items ++ top_spans tokens.now at (top_of top.now)) }
     ensures err { IfErr result (λ e. e ≡ faults.Memory) }
@@ -152,14 +148,14 @@ fn top_spans(
     }
 }
 
-/// Adds the spans of declarations, behind each of which a semicolon stands.
+/// Adds the spans of declarations. How many tokens spell them with a semicolon behind each.
 fn tops_spans(
     tops: &[TopNode],
     tokens: &[Token],
     at: usize,
     spans: &mut Vec<Span>,
 ) -> Result<usize, Fault>
-    requires { at + sum_by top_step (map top_of tops.now) < 2 ^ 40 }
+    requires { EndsInReach at (sum_by top_step (map top_of tops.now)) }
     ensures count { IfOk result (λ count. count ≡ sum_by top_step (map top_of tops.now)) }
     ensures spans { IfOk result (λ _. spans.new.items ≡ spans.old.items ++ tops_spans tokens.now at (map top_of tops.now)) }
     ensures err { IfErr result (λ e. e ≡ faults.Memory) }
@@ -173,12 +169,12 @@ fn tops_spans(
 
 /// Where the nodes of a file stand, in the order of their numbers, where these tokens spell it.
 pub fn file_spans(alloc: Global, file: &FileNode, tokens: &[Token]) -> Result<Vec<Span>, Fault>
-    requires { file_count (file_of file.now) < 2 ^ 32 }
+    requires { EndsInReach 0 (file_count (file_of file.now)) }
     ensures spans { IfOk result (λ spans. spans.items ≡ file_spans tokens.now (file_of file.now)) }
     ensures err { IfErr result (λ e. e ≡ faults.Memory) }
 {
     let mut spans = Vec::new(alloc);
     let count = 3 + tops_spans(file.tops.as_slice(), tokens, 3, &mut spans)?;
-    push(tokens, 0, count, &mut spans)?;
+    add_node(tokens, 0, count, &mut spans)?;
     Ok(spans)
 }

@@ -1,15 +1,15 @@
 //! Where the nodes of headers stand, and those of what a clause of a select waits for.
 
-ghost use Rattle.std.specs.Prelude.{◌≡◌, ◌<◌, ◌+◌, ◌^◌, ◌++◌, ◌∷◌, [], IfOk, IfErr, map, option_map, sum_by};
+ghost use Rattle.std.specs.Prelude.{◌≡◌, ◌+◌, ◌++◌, IfOk, IfErr, option_map};
 ghost use Rattle.go_text.specs.declared.fault.Fault.TheVariants as faults;
 ghost use Rattle.syntax.specs.Measures.{if_any};
 ghost use Rattle.syntax.specs.Tree.{CommAssign};
 ghost use Rattle.syntax.specs.View.{name_of, expression_of, place_of, right_of, simple_of, if_head_of, target_of, for_head_of, comm_of, returned_of};
-ghost use Rattle.spans.specs.Words.{expression_count, simple_count, if_head_count, target_count, for_head_count, second_count, second_name_count, comm_count, start_count, initial_count, returned_count};
+ghost use Rattle.spans.specs.Words.{EndsInReach, expression_count, simple_count, if_head_count, target_count, for_head_count, second_count, second_name_count, comm_count, start_count, initial_count, returned_count};
 ghost use Rattle.spans.specs.Places.{any_spans, expression_spans, simple_spans, if_head_spans, target_spans, for_head_spans, second_spans, receive_spans, below_comm, comm_spans, start_spans, initial_spans, returned_spans};
 
 use crate::expression::expression_spans;
-use crate::over::push;
+use crate::over::add_node;
 use crate::simple::{operation_spans, place_span, right_spans, simple_spans};
 use go_text::{Fault, Span};
 use scanner::Token;
@@ -25,7 +25,7 @@ pub(crate) fn if_head_spans(
     at: usize,
     spans: &mut Vec<Span>,
 ) -> Result<usize, Fault>
-    requires { at + if_head_count (if_head_of header.now) + 1 < 2 ^ 40 }
+    requires { EndsInReach at (if_head_count (if_head_of header.now)) }
     ensures count { IfOk result (λ count. count ≡ if_head_count (if_head_of header.now)) }
     ensures spans { IfOk result (λ _. spans.new.items ≡ spans.old.items ++ if_head_spans tokens.now at (if_head_of header.now)) }
     ensures err { IfErr result (λ e. e ≡ faults.Memory) }
@@ -37,14 +37,14 @@ pub(crate) fn if_head_spans(
     }
 }
 
-/// Adds the span of what a range assigns to.
+/// Adds the span of what a range assigns to. How many tokens spell it with its mark.
 fn target_spans(
     target: &RangeTarget,
     tokens: &[Token],
     at: usize,
     spans: &mut Vec<Span>,
 ) -> Result<usize, Fault>
-    requires { at + target_count (target_of target.now) + 1 < 2 ^ 40 }
+    requires { EndsInReach at (target_count (target_of target.now)) }
     ensures count { IfOk result (λ count. count ≡ target_count (target_of target.now)) }
     ensures spans { IfOk result (λ _. spans.new.items ≡ spans.old.items ++ target_spans tokens.now at (target_of target.now)) }
     ensures err { IfErr result (λ e. e ≡ faults.Memory) }
@@ -63,7 +63,7 @@ fn any_simple_spans(
     at: usize,
     spans: &mut Vec<Span>,
 ) -> Result<usize, Fault>
-    requires { at + if_any simple_count (option_map simple_of simple.now) + 1 < 2 ^ 40 }
+    requires { EndsInReach at (if_any simple_count (option_map simple_of simple.now)) }
     ensures count { IfOk result (λ count. count ≡ if_any simple_count (option_map simple_of simple.now)) }
     ensures spans { IfOk result (λ _. spans.new.items ≡ spans.old.items ++ any_spans simple_spans tokens.now at (option_map simple_of simple.now)) }
     ensures err { IfErr result (λ e. e ≡ faults.Memory) }
@@ -81,7 +81,7 @@ fn any_expression_spans(
     at: usize,
     spans: &mut Vec<Span>,
 ) -> Result<usize, Fault>
-    requires { at + if_any expression_count (option_map expression_of expression.now) + 1 < 2 ^ 40 }
+    requires { EndsInReach at (if_any expression_count (option_map expression_of expression.now)) }
     ensures count { IfOk result (λ count. count ≡ if_any expression_count (option_map expression_of expression.now)) }
     ensures spans { IfOk result (λ _. spans.new.items ≡ spans.old.items ++ any_spans expression_spans tokens.now at (option_map expression_of expression.now)) }
     ensures err { IfErr result (λ e. e ≡ faults.Memory) }
@@ -99,7 +99,7 @@ pub(crate) fn for_head_spans(
     at: usize,
     spans: &mut Vec<Span>,
 ) -> Result<usize, Fault>
-    requires { at + for_head_count (for_head_of header.now) + 1 < 2 ^ 40 }
+    requires { EndsInReach at (for_head_count (for_head_of header.now)) }
     ensures count { IfOk result (λ count. count ≡ for_head_count (for_head_of header.now)) }
     ensures spans { IfOk result (λ _. spans.new.items ≡ spans.old.items ++ for_head_spans tokens.now at (for_head_of header.now)) }
     ensures err { IfErr result (λ e. e ≡ faults.Memory) }
@@ -120,14 +120,14 @@ pub(crate) fn for_head_spans(
     }
 }
 
-/// Adds the spans of a second place behind a comma.
+/// Adds the span of a second place. How many tokens spell it with the comma before it.
 fn second_spans(
     place: &Option<PlaceNode>,
     tokens: &[Token],
     at: usize,
     spans: &mut Vec<Span>,
 ) -> Result<usize, Fault>
-    requires { at + second_count (option_map place_of place.now) + 1 < 2 ^ 40 }
+    requires { EndsInReach at (second_count (option_map place_of place.now)) }
     ensures count { IfOk result (λ count. count ≡ second_count (option_map place_of place.now)) }
     ensures spans { IfOk result (λ _. spans.new.items ≡ spans.old.items ++ second_spans tokens.now at (option_map place_of place.now)) }
     ensures err { IfErr result (λ e. e ≡ faults.Memory) }
@@ -145,17 +145,16 @@ fn receive_spans(
     at: usize,
     spans: &mut Vec<Span>,
 ) -> Result<usize, Fault>
-    requires { at + (expression_count (expression_of channel.now) + 1) + 1 < 2 ^ 40 }
-    ensures count { IfOk result (λ count. count ≡ (expression_count (expression_of channel.now) + 1)) }
+    requires { EndsInReach at (expression_count (expression_of channel.now) + 1) }
+    ensures count { IfOk result (λ count. count ≡ expression_count (expression_of channel.now) + 1) }
     ensures spans { IfOk result (λ _. spans.new.items ≡ spans.old.items ++ receive_spans tokens.now at (expression_of channel.now)) }
     ensures err { IfErr result (λ e. e ≡ faults.Memory) }
 {
     let count = expression_spans(channel, tokens, at + 1, spans)? + 1;
-    push(tokens, at, count, spans)?;
-    Ok(count)
+    add_node(tokens, at, count, spans)
 }
 
-/// How many tokens a second name has, with the comma before it.
+/// How many tokens spell a second name with the comma before it.
 fn second_name_count(name: &Option<Name>) -> usize
     ensures { result ≡ second_name_count (option_map name_of name.now) }
 {
@@ -165,7 +164,7 @@ fn second_name_count(name: &Option<Name>) -> usize
     }
 }
 
-/// Adds the spans of places, and of the receive that is assigned to them.
+/// Adds the spans of a receive that is assigned, behind those of the places that it is assigned to.
 fn assign_spans(
     item: &PlaceNode,
     ok: &Option<PlaceNode>,
@@ -174,7 +173,7 @@ fn assign_spans(
     at: usize,
     spans: &mut Vec<Span>,
 ) -> Result<usize, Fault>
-    requires { at + comm_count (CommAssign (place_of item.now) (option_map place_of ok.now) (expression_of channel.now)) + 1 < 2 ^ 40 }
+    requires { EndsInReach at (comm_count (CommAssign (place_of item.now) (option_map place_of ok.now) (expression_of channel.now))) }
     ensures count { IfOk result (λ count. count ≡ comm_count (CommAssign (place_of item.now) (option_map place_of ok.now) (expression_of channel.now))) }
     ensures spans { IfOk result (λ _. spans.new.items ≡ spans.old.items ++ below_comm tokens.now at (CommAssign (place_of item.now) (option_map place_of ok.now) (expression_of channel.now))) }
     ensures err { IfErr result (λ e. e ≡ faults.Memory) }
@@ -191,7 +190,7 @@ fn comm_spans(
     at: usize,
     spans: &mut Vec<Span>,
 ) -> Result<usize, Fault>
-    requires { at + comm_count (comm_of comm.now) + 1 < 2 ^ 40 }
+    requires { EndsInReach at (comm_count (comm_of comm.now)) }
     ensures count { IfOk result (λ count. count ≡ comm_count (comm_of comm.now)) }
     ensures spans { IfOk result (λ _. spans.new.items ≡ spans.old.items ++ comm_spans tokens.now at (comm_of comm.now)) }
     ensures err { IfErr result (λ e. e ≡ faults.Memory) }
@@ -208,18 +207,17 @@ fn comm_spans(
         }
         CommNode::Assign(item, ok, channel) => assign_spans(item, ok, channel, tokens, at, spans)?,
     };
-    push(tokens, at, count, spans)?;
-    Ok(count)
+    add_node(tokens, at, count, spans)
 }
 
-/// Adds the spans of a clause of a select to its colon.
+/// Adds the spans of a clause of a select up to its colon.
 pub(crate) fn start_spans(
     comm: &Option<CommNode>,
     tokens: &[Token],
     at: usize,
     spans: &mut Vec<Span>,
 ) -> Result<usize, Fault>
-    requires { at + start_count (option_map comm_of comm.now) + 1 < 2 ^ 40 }
+    requires { EndsInReach at (start_count (option_map comm_of comm.now)) }
     ensures count { IfOk result (λ count. count ≡ start_count (option_map comm_of comm.now)) }
     ensures spans { IfOk result (λ _. spans.new.items ≡ spans.old.items ++ start_spans tokens.now at (option_map comm_of comm.now)) }
     ensures err { IfErr result (λ e. e ≡ faults.Memory) }
@@ -230,14 +228,14 @@ pub(crate) fn start_spans(
     }
 }
 
-/// Adds the spans of values behind a `=`, if there are any.
+/// Adds the spans of the values of a `var` with a type. How many tokens spell them with the `=` before them.
 pub(crate) fn initial_spans(
     right: &Option<RightNode>,
     tokens: &[Token],
     at: usize,
     spans: &mut Vec<Span>,
 ) -> Result<usize, Fault>
-    requires { at + initial_count (option_map right_of right.now) + 1 < 2 ^ 40 }
+    requires { EndsInReach at (initial_count (option_map right_of right.now)) }
     ensures count { IfOk result (λ count. count ≡ initial_count (option_map right_of right.now)) }
     ensures spans { IfOk result (λ _. spans.new.items ≡ spans.old.items ++ initial_spans tokens.now at (option_map right_of right.now)) }
     ensures err { IfErr result (λ e. e ≡ faults.Memory) }
@@ -255,7 +253,7 @@ pub(crate) fn returned_spans(
     at: usize,
     spans: &mut Vec<Span>,
 ) -> Result<usize, Fault>
-    requires { at + returned_count (returned_of returned.now) + 1 < 2 ^ 40 }
+    requires { EndsInReach at (returned_count (returned_of returned.now)) }
     ensures count { IfOk result (λ count. count ≡ returned_count (returned_of returned.now)) }
     ensures spans { IfOk result (λ _. spans.new.items ≡ spans.old.items ++ returned_spans tokens.now at (returned_of returned.now)) }
     ensures err { IfErr result (λ e. e ≡ faults.Memory) }

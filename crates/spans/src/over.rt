@@ -1,13 +1,14 @@
 //! The bytes of tokens.
 
-ghost use Rattle.std.specs.Prelude.{◌≡◌, ◌<◌, ◌+◌, ◌^◌, ◌∷◌, ◌++◌, [], IfOk, IfErr, slice_get};
+ghost use Rattle.std.specs.Prelude.{◌≡◌, IfOk, IfErr, slice_get};
 ghost use Rattle.go_text.specs.declared.fault.Fault.TheVariants as faults;
-ghost use Rattle.spans.specs.Places.{from_of, end_of, over};
+ghost use Rattle.spans.specs.Words.{EndsInReach};
+ghost use Rattle.spans.specs.Places.{from_of, over, under};
 
 use go_text::{Fault, Span};
 use scanner::Token;
 
-/// The first byte of a token.
+/// The first byte of a token, or 0 where there is none.
 fn from_of(tokens: &[Token], at: usize) -> u32
     ensures { result ≡ from_of (slice_get tokens.now at) }
 {
@@ -19,7 +20,7 @@ fn from_of(tokens: &[Token], at: usize) -> u32
 
 /// The bytes of so many tokens from this one on.
 fn over(tokens: &[Token], at: usize, count: usize) -> Span
-    requires { at + count < 2 ^ 40 }
+    requires { EndsInReach at count }
     ensures { result ≡ over tokens.now at count }
 {
     let from = from_of(tokens, at);
@@ -34,17 +35,18 @@ fn over(tokens: &[Token], at: usize, count: usize) -> Span
     Span { from, to }
 }
 
-/// Puts the span of so many tokens from this one on behind others.
-pub(crate) fn push(
+/// Puts the span of a node of so many tokens behind those below it, and gives that count.
+pub(crate) fn add_node(
     tokens: &[Token],
     at: usize,
     count: usize,
     spans: &mut Vec<Span>,
-) -> Result<(), Fault>
-    requires { at + count < 2 ^ 40 }
-    ensures ok { IfOk result (λ _. spans.new.items ≡ spans.old.items ++ (over tokens.now at count ∷ [])) }
+) -> Result<usize, Fault>
+    requires { EndsInReach at count }
+    ensures count { IfOk result (λ n. n ≡ count) }
+    ensures spans { IfOk result (λ _. spans.new.items ≡ under spans.old.items (over tokens.now at count)) }
     ensures err { IfErr result (λ e. e ≡ faults.Memory) }
 {
     spans.push(over(tokens, at, count))?;
-    Ok(())
+    Ok(count)
 }

@@ -1,98 +1,74 @@
 //! Where the nodes of statements stand.
 
-ghost use Rattle.std.specs.Prelude.{◌≡◌, ◌<◌, ◌+◌, ◌-◌, ◌^◌, ◌++◌, ◌∷◌, [], IfOk, IfErr, map};
+ghost use Rattle.std.specs.Prelude.{◌≡◌, ◌++◌, IfOk, IfErr, map};
 ghost use Rattle.go_text.specs.declared.fault.Fault.TheVariants as faults;
 ghost use Rattle.syntax.specs.View.{statement_of, body_of, branch_of, otherwise_of, clause_of, clauses};
-ghost use Rattle.spans.specs.Words.{statement_count, body_count, branch_count, otherwise_count, clauses_count, clause_count};
-ghost use Rattle.spans.specs.Places.{statement_spans, body_spans, block_spans, branch_spans, otherwise_spans, clauses_spans, clause_spans, over};
+ghost use Rattle.spans.specs.Words.{EndsInReach, joined, statement_count, body_count, block_count, branch_count, otherwise_count, clauses_count, clause_count};
+ghost use Rattle.spans.specs.Places.{statement_spans, body_spans, block_spans, branch_spans, otherwise_spans, clauses_spans, clause_spans};
 
 use crate::expression::expression_spans;
 use crate::header::{for_head_spans, if_head_spans, initial_spans, returned_spans, start_spans};
-use crate::over::push;
+use crate::over::add_node;
 use crate::simple::{arguments_spans, right_spans, simple_spans};
 use crate::types::type_spans;
 use go_text::{Fault, Span};
 use scanner::Token;
 use syntax::{ClauseNode, ElseNode, IfNode, StatementNode};
 
-/// Puts the span of a node of so many tokens behind those below it, and gives that count.
-fn whole(tokens: &[Token], at: usize, count: usize, spans: &mut Vec<Span>) -> Result<usize, Fault>
-    requires { at + count < 2 ^ 40 }
-    ensures count { IfOk result (λ n. n ≡ count) }
-    ensures spans { IfOk result (λ _. spans.new.items ≡ spans.old.items ++ (over tokens.now at count ∷ [])) }
-    ensures err { IfErr result (λ e. e ≡ faults.Memory) }
-{
-    push(tokens, at, count, spans)?;
-    Ok(count)
-}
-
-/// Adds the spans of a statement's nodes; its first token has the number `at`. How many tokens spell it.
+/// Adds the spans of a statement, whose first token has the number `at`. How many tokens spell it.
 #[cycle(statement_spans)]
-pub fn statement_spans(
+fn statement_spans(
     statement: &StatementNode,
     tokens: &[Token],
     at: usize,
     spans: &mut Vec<Span>,
 ) -> Result<usize, Fault>
-    requires { at + statement_count (statement_of statement.now) + 1 < 2 ^ 40 }
+    requires { EndsInReach at (statement_count (statement_of statement.now)) }
     ensures count { IfOk result (λ count. count ≡ statement_count (statement_of statement.now)) }
     ensures spans { IfOk result (λ _. spans.new.items ≡ spans.old.items ++ statement_spans tokens.now at (statement_of statement.now)) }
     ensures err { IfErr result (λ e. e ≡ faults.Memory) }
 {
     match statement {
-        StatementNode::Simple(simple) => return simple_spans(simple, tokens, at, spans),
-        StatementNode::If(branch) => return branch_spans(branch, tokens, at, spans),
-        StatementNode::Empty => {
-            whole(tokens, at, 0, spans)?;
-            return Ok(0);
-        }
-        StatementNode::Break | StatementNode::Continue => {
-            whole(tokens, at, 1, spans)?;
-            return Ok(1);
-        }
+        StatementNode::Empty => add_node(tokens, at, 0, spans),
+        StatementNode::Break | StatementNode::Continue => add_node(tokens, at, 1, spans),
+        StatementNode::Simple(simple) => simple_spans(simple, tokens, at, spans),
+        StatementNode::If(branch) => branch_spans(branch, tokens, at, spans),
         StatementNode::Typed(names, kind, right) => {
             let names = (names.len() * 2).saturating_sub(1);
-            let count = type_spans(kind, tokens, at + 1 + names, spans)?;
-            let values = initial_spans(right, tokens, at + 1 + names + count, spans)?;
-            whole(tokens, at, names + count + values + 1, spans)?;
-            return Ok(names + count + values + 1);
+            let kind = type_spans(kind, tokens, at + 1 + names, spans)?;
+            let values = initial_spans(right, tokens, at + 1 + names + kind, spans)?;
+            add_node(tokens, at, names + kind + values + 1, spans)
         }
         StatementNode::Untyped(names, right) => {
             let names = names.len() * 2;
-            let count = right_spans(right, tokens, at + 1 + names, spans)?;
-            whole(tokens, at, names + count + 1, spans)?;
-            return Ok(names + count + 1);
+            let values = right_spans(right, tokens, at + 1 + names, spans)?;
+            add_node(tokens, at, names + values + 1, spans)
         }
         StatementNode::Block(body) => {
             let count = block_spans(body.as_slice(), tokens, at, spans)?;
-            whole(tokens, at, count, spans)?;
-            return Ok(count);
+            add_node(tokens, at, count, spans)
         }
         StatementNode::For(header, body) => {
             let head = for_head_spans(header, tokens, at + 1, spans)?;
-            let count = block_spans(body.as_slice(), tokens, at + 1 + head, spans)?;
-            whole(tokens, at, head + count + 1, spans)?;
-            return Ok(head + count + 1);
+            let body = block_spans(body.as_slice(), tokens, at + 1 + head, spans)?;
+            add_node(tokens, at, head + body + 1, spans)
         }
         StatementNode::Select(clauses) => {
             let count = clauses_spans(clauses.as_slice(), tokens, at + 2, spans)?;
-            whole(tokens, at, count + 3, spans)?;
-            return Ok(count + 3);
+            add_node(tokens, at, count + 3, spans)
         }
         StatementNode::Go(_, arguments) => {
-            let count = arguments_spans(arguments, tokens, at + 1, spans)?;
-            whole(tokens, at, count + 2, spans)?;
-            return Ok(count + 2);
+            let count = arguments_spans(arguments, tokens, at + 2, spans)?;
+            add_node(tokens, at, count + 2, spans)
         }
         StatementNode::Return(returned) => {
             let count = returned_spans(returned, tokens, at + 1, spans)?;
-            whole(tokens, at, count + 1, spans)?;
-            return Ok(count + 1);
+            add_node(tokens, at, count + 1, spans)
         }
     }
 }
 
-/// Adds the spans of statements, behind each of which a mark stands. How many tokens spell them, with those marks.
+/// Adds the spans of statements, with a mark behind each. How many tokens spell them with those marks.
 #[cycle(statement_spans)]
 fn body_spans(
     body: &[StatementNode],
@@ -100,7 +76,7 @@ fn body_spans(
     at: usize,
     spans: &mut Vec<Span>,
 ) -> Result<usize, Fault>
-    requires { at + body_count (body_of body.now) < 2 ^ 40 }
+    requires { EndsInReach at (joined (body_count (body_of body.now))) }
     ensures count { IfOk result (λ count. count ≡ body_count (body_of body.now)) }
     ensures spans { IfOk result (λ _. spans.new.items ≡ spans.old.items ++ body_spans tokens.now at (body_of body.now)) }
     ensures err { IfErr result (λ e. e ≡ faults.Memory) }
@@ -112,22 +88,21 @@ fn body_spans(
     Ok(count)
 }
 
-/// Adds the spans of a block, whose first brace has the number `at`.
+/// Adds the spans of a block.
 #[cycle(statement_spans)]
-pub fn block_spans(
+pub(crate) fn block_spans(
     body: &[StatementNode],
     tokens: &[Token],
     at: usize,
     spans: &mut Vec<Span>,
 ) -> Result<usize, Fault>
-    requires { at + ((body_count (body_of body.now) - 1) + 2) + 1 < 2 ^ 40 }
-    ensures count { IfOk result (λ count. count ≡ ((body_count (body_of body.now) - 1) + 2)) }
+    requires { EndsInReach at (block_count (body_of body.now)) }
+    ensures count { IfOk result (λ count. count ≡ block_count (body_of body.now)) }
     ensures spans { IfOk result (λ _. spans.new.items ≡ spans.old.items ++ block_spans tokens.now at (body_of body.now)) }
     ensures err { IfErr result (λ e. e ≡ faults.Memory) }
 {
     let count = body_spans(body, tokens, at + 1, spans)?.saturating_sub(1) + 2;
-    push(tokens, at, count, spans)?;
-    Ok(count)
+    add_node(tokens, at, count, spans)
 }
 
 /// Adds the spans of an `if`.
@@ -138,7 +113,7 @@ fn branch_spans(
     at: usize,
     spans: &mut Vec<Span>,
 ) -> Result<usize, Fault>
-    requires { at + branch_count (branch_of branch.now) + 1 < 2 ^ 40 }
+    requires { EndsInReach at (branch_count (branch_of branch.now)) }
     ensures count { IfOk result (λ count. count ≡ branch_count (branch_of branch.now)) }
     ensures spans { IfOk result (λ _. spans.new.items ≡ spans.old.items ++ branch_spans tokens.now at (branch_of branch.now)) }
     ensures err { IfErr result (λ e. e ≡ faults.Memory) }
@@ -158,8 +133,7 @@ fn branch_spans(
         spans,
     )?;
     let count = head + condition + body + otherwise + 1;
-    push(tokens, at, count, spans)?;
-    Ok(count)
+    add_node(tokens, at, count, spans)
 }
 
 /// Adds the spans of what stands behind the block of an `if`.
@@ -170,7 +144,7 @@ fn otherwise_spans(
     at: usize,
     spans: &mut Vec<Span>,
 ) -> Result<usize, Fault>
-    requires { at + otherwise_count (otherwise_of otherwise.now) + 1 < 2 ^ 40 }
+    requires { EndsInReach at (otherwise_count (otherwise_of otherwise.now)) }
     ensures count { IfOk result (λ count. count ≡ otherwise_count (otherwise_of otherwise.now)) }
     ensures spans { IfOk result (λ _. spans.new.items ≡ spans.old.items ++ otherwise_spans tokens.now at (otherwise_of otherwise.now)) }
     ensures err { IfErr result (λ e. e ≡ faults.Memory) }
@@ -190,7 +164,7 @@ fn clauses_spans(
     at: usize,
     spans: &mut Vec<Span>,
 ) -> Result<usize, Fault>
-    requires { at + clauses_count (clauses (map clause_of all.now)) + 1 < 2 ^ 40 }
+    requires { EndsInReach at (clauses_count (clauses (map clause_of all.now))) }
     ensures count { IfOk result (λ count. count ≡ clauses_count (clauses (map clause_of all.now))) }
     ensures spans { IfOk result (λ _. spans.new.items ≡ spans.old.items ++ clauses_spans tokens.now at (clauses (map clause_of all.now))) }
     ensures err { IfErr result (λ e. e ≡ faults.Memory) }
@@ -210,7 +184,7 @@ fn clause_spans(
     at: usize,
     spans: &mut Vec<Span>,
 ) -> Result<usize, Fault>
-    requires { at + clause_count (clause_of clause.now).comm (clause_of clause.now).body + 1 < 2 ^ 40 }
+    requires { EndsInReach at (clause_count (clause_of clause.now).comm (clause_of clause.now).body) }
     ensures count { IfOk result (λ count. count ≡ clause_count (clause_of clause.now).comm (clause_of clause.now).body) }
     ensures spans { IfOk result (λ _. spans.new.items ≡ spans.old.items ++ clause_spans tokens.now at (clause_of clause.now).comm (clause_of clause.now).body) }
     ensures err { IfErr result (λ e. e ≡ faults.Memory) }
@@ -218,6 +192,5 @@ fn clause_spans(
     let start = start_spans(&clause.comm, tokens, at, spans)?;
     let body = body_spans(clause.body.as_slice(), tokens, at + start, spans)?;
     let count = start + body.saturating_sub(1);
-    push(tokens, at, count, spans)?;
-    Ok(count)
+    add_node(tokens, at, count, spans)
 }

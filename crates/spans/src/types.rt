@@ -1,12 +1,12 @@
 //! Where the nodes of types stand.
 
-ghost use Rattle.std.specs.Prelude.{◌≡◌, ◌<◌, ◌+◌, ◌^◌, ◌++◌, IfOk, IfErr};
+ghost use Rattle.std.specs.Prelude.{◌≡◌, ◌++◌, IfOk, IfErr};
 ghost use Rattle.go_text.specs.declared.fault.Fault.TheVariants as faults;
 ghost use Rattle.syntax.specs.View.{type_of};
-ghost use Rattle.spans.specs.Words.{direction_count, type_count};
+ghost use Rattle.spans.specs.Words.{EndsInReach, direction_count, type_count};
 ghost use Rattle.spans.specs.Places.{type_spans};
 
-use crate::over::push;
+use crate::over::add_node;
 use go_text::{Fault, Span};
 use scanner::Token;
 use syntax::{Direction, TypeNode};
@@ -21,14 +21,14 @@ fn direction_count(direction: Direction) -> usize
     }
 }
 
-/// Adds the spans of a type's nodes; its first token has the number `at`. How many tokens spell it.
-pub fn type_spans(
+/// Adds the spans of a type, whose first token has the number `at`. How many tokens spell it.
+pub(crate) fn type_spans(
     kind: &TypeNode,
     tokens: &[Token],
     at: usize,
     spans: &mut Vec<Span>,
 ) -> Result<usize, Fault>
-    requires { at + type_count (type_of kind.now) < 2 ^ 40 }
+    requires { EndsInReach at (type_count (type_of kind.now)) }
     ensures count { IfOk result (λ count. count ≡ type_count (type_of kind.now)) }
     ensures spans { IfOk result (λ _. spans.new.items ≡ spans.old.items ++ type_spans tokens.now at (type_of kind.now)) }
     ensures err { IfErr result (λ e. e ≡ faults.Memory) }
@@ -41,6 +41,5 @@ pub fn type_spans(
             first + type_spans(element, tokens, at + first, spans)?
         }
     };
-    push(tokens, at, count, spans)?;
-    Ok(count)
+    add_node(tokens, at, count, spans)
 }
