@@ -180,7 +180,9 @@ fn below_simple(
     ensures err { IfErr result (λ e. e ≡ faults.Memory) }
 {
     match simple {
-        SimpleNode::Call(_, arguments) => Ok(arguments_spans(arguments, tokens, at + 1, spans)? + 1),
+        SimpleNode::Call(_, arguments) => Ok(
+            arguments_spans(arguments, tokens, at + 1, spans)? + 1,
+        ),
         SimpleNode::Close(channel) => Ok(expression_spans(channel, tokens, at + 2, spans)? + 3),
         SimpleNode::Print(_, parts, trailing) => {
             let count = parts_spans(parts.as_slice(), tokens, at + 2, spans)?;
