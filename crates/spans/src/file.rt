@@ -1,8 +1,8 @@
 //! Where the nodes of a file stand.
 
-ghost use Rattle.std.specs.Prelude.{◌≡◌, ◌++◌, IfOk, IfErr, map, option_map, sum_by};
+ghost use Rattle.std.specs.Prelude.{◌≡◌, ◌++◌, IfOk, IfErr, map, option_map, sum_by, vec_len};
 ghost use Rattle.go_text.specs.declared.fault.Fault.TheVariants as faults;
-ghost use Rattle.syntax.specs.Measures.{if_any};
+ghost use Rattle.syntax.specs.Measures.{if_any, size};
 ghost use Rattle.syntax.specs.View.{type_of, declared_of, struct_of, function_of, top_of, file_of};
 ghost use Rattle.syntax.specs.Tree.{StructTop, FunctionTop};
 ghost use Rattle.spans.specs.Words.{EndsInReach, joined, type_count, group_count, group_step, groups_count, top_count, top_step, file_count};
@@ -171,6 +171,8 @@ fn tops_spans(
 pub fn file_spans(alloc: Global, file: &FileNode, tokens: &[Token]) -> Result<Vec<Span>, Fault>
     requires { EndsInReach 0 (file_count (file_of file.now)) }
     ensures spans { IfOk result (λ spans. spans.items ≡ file_spans tokens.now (file_of file.now)) }
+    // Each node has one.
+    ensures numbered { IfOk result (λ spans. vec_len spans ≡ size (file_of file.now)) }
     ensures err { IfErr result (λ e. e ≡ faults.Memory) }
 {
     let mut spans = Vec::new(alloc);
