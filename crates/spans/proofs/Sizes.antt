@@ -1,17 +1,13 @@
 -- A part of a tree has as many spans as nodes.
-use Rattle.std.proofs.Common.{◌≡◌, ℕ, ◌+◌, ◌*◌, Option, Some, None, List, [], ◌∷◌, ◌++◌, length, sum_by, refl, ap, arith, length-append}
+use Rattle.std.proofs.Common.{◌≡◌, ℕ, ◌+◌, ◌*◌, Option, Some, None, List, [], ◌∷◌, length, sum_by, refl, ap, arith, length-append}
 use Rattle.std.proofs.lemmas.List.Sums.{sum_by-cons}
 use Rattle.go_text.specs.declared.place.Span.{Span}
 use Rattle.scanner.specs.declared.token.Token.{Token}
-use Rattle.syntax.specs.Tree.{TypeExpression, NamedType, ParenthesizedType, Channel, Expression, Integer, Named, Parenthesized, Selection, Composite, Unary, Binary, Expressions, NoMore, Behind, expressions, Arguments, Operation, Call, Receive, Make, Length, Capacity, Right, RightOperation, Values, Place, Part, Value, Text, Simple, CallAlone, Close, Print, ReceiveAlone, Send, Increment, Decrement, Assign, Define, Update, IfHead, Bare, Semicolon, First, Target, NoTarget, DefineTarget, AssignTarget, ForHead, Forever, While, ForClauses, Range, Comm, CommSend, CommReceive, CommDefine, CommAssign, Returned, NoValue, ReturnedOperation, ReturnedValue, Statement, Empty, Alone, VarTyped, VarUntyped, Block, If, For, Select, Go, Return, Break, Continue, Statements, NoStatement, Then, Otherwise, Branch, Conditional, NoElse, ElseBlock, ElseIf, Clauses, NoClause, Clause, Declared, Function, Top, StructTop, FunctionTop, File}
-use Rattle.syntax.specs.Measures.{type_size, expression_size, expressions_size, arguments_size, operation_size, right_size, part_size, simple_size, if_head_size, target_size, for_head_size, comm_size, if_any, returned_size, statement_size, statements_size, branch_size, otherwise_size, clauses_size, block_size, declared_size, function_size, top_size, size}
+use Rattle.syntax.specs.Tree.{TypeExpression, NamedType, ParenthesizedType, Channel, Expression, Integer, Named, Parenthesized, Selection, Composite, Unary, Binary, Expressions, NoMore, Behind, expressions, Arguments, Operation, Call, Receive, Make, Length, Capacity, Right, RightOperation, Values, Place, Part, Value, Text, Simple, CallAlone, Close, Print, ReceiveAlone, Send, Increment, Decrement, Assign, Define, Update, IfHead, Bare, Semicolon, First, Target, NoTarget, DefineTarget, AssignTarget, ForHead, Forever, While, ForClauses, Range, Comm, CommSend, CommReceive, CommDefine, CommAssign, Returned, NoValue, ReturnedOperation, ReturnedValue, Statement, Empty, Alone, VarTyped, VarUntyped, Block, If, For, Select, Go, Return, Break, Continue, Statements, NoStatement, Then, Otherwise, Branch, Conditional, NoElse, ElseBlock, ElseIf, Clauses, NoClause, Clause, Declared, Top, StructTop, FunctionTop, File}
+use Rattle.syntax.specs.Measures.{type_size, expression_size, expressions_size, arguments_size, operation_size, right_size, part_size, simple_size, if_head_size, target_size, for_head_size, comm_size, if_any, returned_size, statement_size, statements_size, branch_size, otherwise_size, clauses_size, declared_size, top_size, size}
 use Rattle.syntax.proofs.Lists.{expressions_size-of}
-use Rattle.spans.specs.Words.{joined, braced, direction_count, type_count, expression_count, place_count, place_step, part_step, simple_count, if_head_count, target_count, for_head_count, second_count, second_name_count, start_count, statement_count, body_count, clause_count, group_step, groups_count, top_step}
-use Rattle.spans.specs.Places.{under, type_spans, expression_spans, values_spans, arguments_spans, size_spans, below_operation, operation_spans, right_spans, part_spans, parts_spans, place_span, places_spans, below_simple, simple_spans, any_spans, if_head_spans, target_spans, for_head_spans, receive_spans, second_spans, below_comm, comm_spans, start_spans, with_clause, initial_spans, returned_spans, with_block, statement_spans, body_spans, branch_spans, otherwise_spans, clauses_spans, block_spans, group_spans, groups_spans, below_function, below_top, top_spans, tops_spans, file_spans}
-
--- the nodes below one, and that one
-length-under : (below : List Span) (above : Span) → length (under below above) ≡ length below + 1
-length-under below above = length-append below (above ∷ [])
+use Rattle.spans.specs.Words.{joined, braced, direction_count, type_count, expression_count, place_count, place_step, part_step, simple_count, if_head_count, target_count, for_head_count, second_name_count, start_count, statement_count, body_count, clause_count, group_step, groups_count, top_step}
+use Rattle.spans.specs.Places.{type_spans, expression_spans, values_spans, arguments_spans, size_spans, below_operation, operation_spans, right_spans, part_spans, parts_spans, places_spans, below_simple, simple_spans, optional_spans, if_head_spans, target_spans, for_head_spans, receive_spans, below_comm, start_spans, initial_spans, returned_spans, statement_spans, body_spans, branch_spans, otherwise_spans, clauses_spans, group_spans, groups_spans, top_spans, tops_spans, file_spans}
 
 -- ---- types and expressions
 
@@ -102,10 +98,10 @@ length-simple_spans tokens at s = omega (arith, length-append {A = Span}, length
 
 -- ---- headers
 
-length-any_spans : {A : Type 0} (spans : List Token → ℕ → A → List Span) (nodes : A → ℕ) (tokens : List Token) (at : ℕ) (x : Option A)
-    → ((y : A) → length (spans tokens at y) ≡ nodes y) → length (any_spans spans tokens at x) ≡ if_any nodes x
-length-any_spans spans nodes tokens at None each = refl
-length-any_spans spans nodes tokens at (Some x) each = each x
+length-optional_spans : {A : Type 0} (spans : List Token → ℕ → A → List Span) (nodes : A → ℕ) (tokens : List Token) (at : ℕ) (x : Option A)
+    → ((y : A) → length (spans tokens at y) ≡ nodes y) → length (optional_spans spans tokens at x) ≡ if_any nodes x
+length-optional_spans spans nodes tokens at None each = refl
+length-optional_spans spans nodes tokens at (Some x) each = each x
 
 length-if_head_spans : (tokens : List Token) (at : ℕ) (head : IfHead) → length (if_head_spans tokens at head) ≡ if_head_size head
 length-if_head_spans tokens at Bare = refl
@@ -123,10 +119,13 @@ length-for_head_spans tokens at (While condition) = length-expression_spans toke
 length-for_head_spans tokens at (ForClauses first condition post) =
     let second = at + if_any simple_count first + 1 in
     let third = second + if_any expression_count condition + 1 in
-    omega (arith, length-append {A = Span},
-    length-any_spans simple_spans simple_size tokens at first (length-simple_spans tokens at),
-    length-any_spans expression_spans expression_size tokens second condition (length-expression_spans tokens second),
-    length-any_spans simple_spans simple_size tokens third post (length-simple_spans tokens third))
+    omega (
+      arith,
+      length-append {A = Span},
+      length-optional_spans simple_spans simple_size tokens at first (length-simple_spans tokens at),
+      length-optional_spans expression_spans expression_size tokens second condition (length-expression_spans tokens second),
+      length-optional_spans simple_spans simple_size tokens third post (length-simple_spans tokens third),
+    )
 length-for_head_spans tokens at (Range target channel) =
     omega (arith, length-append {A = Span}, length-target_spans tokens at target, length-expression_spans tokens (at + target_count target + 1) channel)
 
@@ -192,11 +191,14 @@ mutual
   length-branch_spans tokens at (Conditional head condition body otherwise) =
       let behind_head = at + 1 + if_head_count head in
       let opening = behind_head + expression_count condition in
-      omega (arith, length-append {A = Span},
-      length-if_head_spans tokens (at + 1) head,
-      length-expression_spans tokens behind_head condition,
-      length-body_spans tokens (opening + 1) body,
-      length-otherwise_spans tokens (opening + braced (body_count body)) otherwise)
+      omega (
+        arith,
+        length-append {A = Span},
+        length-if_head_spans tokens (at + 1) head,
+        length-expression_spans tokens behind_head condition,
+        length-body_spans tokens (opening + 1) body,
+        length-otherwise_spans tokens (opening + braced (body_count body)) otherwise,
+      )
 
   length-otherwise_spans : (tokens : List Token) (at : ℕ) (otherwise : Otherwise) → length (otherwise_spans tokens at otherwise) ≡ otherwise_size otherwise
   length-otherwise_spans tokens at NoElse = refl
@@ -206,10 +208,13 @@ mutual
   length-clauses_spans : (tokens : List Token) (at : ℕ) (all : Clauses) → length (clauses_spans tokens at all) ≡ clauses_size all
   length-clauses_spans tokens at NoClause = refl
   length-clauses_spans tokens at (Clause comm body rest) =
-      omega (arith, length-append {A = Span},
-      length-start_spans tokens at comm,
-      length-body_spans tokens (at + start_count comm) body,
-      length-clauses_spans tokens (at + clause_count comm body) rest)
+      omega (
+        arith,
+        length-append {A = Span},
+        length-start_spans tokens at comm,
+        length-body_spans tokens (at + start_count comm) body,
+        length-clauses_spans tokens (at + clause_count comm body) rest,
+      )
 
 -- ---- declarations
 
@@ -228,10 +233,13 @@ length-top_spans tokens at (StructTop struct) =
 length-top_spans tokens at (FunctionTop function) =
     let behind_parameters = at + (groups_count function.parameters function.trailing + 4) in
     let opening = behind_parameters + if_any type_count function.result in
-    omega (arith, length-append {A = Span},
-    length-groups_spans tokens (at + 3) function.parameters,
-    length-any_spans type_spans type_size tokens behind_parameters function.result (length-type_spans tokens behind_parameters),
-    length-body_spans tokens (opening + 1) function.body)
+    omega (
+      arith,
+      length-append {A = Span},
+      length-groups_spans tokens (at + 3) function.parameters,
+      length-optional_spans type_spans type_size tokens behind_parameters function.result (length-type_spans tokens behind_parameters),
+      length-body_spans tokens (opening + 1) function.body,
+    )
 
 length-tops_spans : (tokens : List Token) (at : ℕ) (tops : List Top) → length (tops_spans tokens at tops) ≡ sum_by top_size tops
 length-tops_spans tokens at [] = refl

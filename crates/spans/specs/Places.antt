@@ -6,7 +6,7 @@
 use Rattle.std.specs.Prelude.{ℕ, zero, suc, ◌+◌, ◌*◌, length, sum_by, Option, Some, None, List, [], ◌∷◌, ◌++◌, slice_get}
 use Rattle.go_text.specs.declared.place.Span.{Span}
 use Rattle.scanner.specs.declared.token.Token.{Token}
-use Rattle.syntax.specs.Tree.{TypeExpression, NamedType, ParenthesizedType, Channel, Expression, Integer, Named, Parenthesized, Selection, Composite, Unary, Binary, Expressions, NoMore, Behind, expressions, Arguments, Operation, Call, Receive, Make, Length, Capacity, Right, RightOperation, Values, Place, Part, Value, Text, Simple, CallAlone, Close, Print, ReceiveAlone, Send, Increment, Decrement, Assign, Define, Update, IfHead, Bare, Semicolon, First, Target, NoTarget, DefineTarget, AssignTarget, ForHead, Forever, While, ForClauses, Range, Comm, CommSend, CommReceive, CommDefine, CommAssign, Returned, NoValue, ReturnedOperation, ReturnedValue, Statement, Empty, Alone, VarTyped, VarUntyped, Block, If, For, Select, Go, Return, Break, Continue, Statements, NoStatement, Then, Otherwise, Branch, Conditional, NoElse, ElseBlock, ElseIf, Clauses, NoClause, Clause, Declared, Struct, Function, Top, StructTop, FunctionTop, File}
+use Rattle.syntax.specs.Tree.{TypeExpression, NamedType, ParenthesizedType, Channel, Expression, Integer, Named, Parenthesized, Selection, Composite, Unary, Binary, Expressions, NoMore, Behind, expressions, Arguments, Operation, Call, Receive, Make, Length, Capacity, Right, RightOperation, Values, Place, Part, Value, Text, Simple, CallAlone, Close, Print, ReceiveAlone, Send, Increment, Decrement, Assign, Define, Update, IfHead, Bare, Semicolon, First, Target, NoTarget, DefineTarget, AssignTarget, ForHead, Forever, While, ForClauses, Range, Comm, CommSend, CommReceive, CommDefine, CommAssign, Returned, NoValue, ReturnedOperation, ReturnedValue, Statement, Empty, Alone, VarTyped, VarUntyped, Block, If, For, Select, Go, Return, Break, Continue, Statements, NoStatement, Then, Otherwise, Branch, Conditional, NoElse, ElseBlock, ElseIf, Clauses, NoClause, Clause, Declared, Function, Top, StructTop, FunctionTop, File}
 use Rattle.spans.specs.Words.{joined, braced, direction_count, type_count, expression_count, operation_count, place_count, place_step, part_step, simple_count, if_head_count, target_count, for_head_count, second_count, second_name_count, comm_count, start_count, statement_count, body_count, branch_count, clause_count, group_count, group_step, groups_count, top_count, top_step, file_count}
 use Rattle.syntax.specs.Measures.{if_any}
 
@@ -40,7 +40,8 @@ type_spans tokens at (ParenthesizedType inner) =
     under (type_spans tokens (at + 1) inner) (over tokens at (type_count (ParenthesizedType inner)))
 -- chan element
 type_spans tokens at (Channel direction element) =
-    under (type_spans tokens (at + direction_count direction) element) (over tokens at (type_count (Channel direction element)))
+    under (type_spans tokens (at + direction_count direction) element)
+    (over tokens at (type_count (Channel direction element)))
 
 -- ---- expressions
 
@@ -62,7 +63,8 @@ abbrev mutual
       under (expression_spans tokens (at + 1) operand) (over tokens at (expression_count (Unary operator operand)))
   -- left operator right
   expression_spans tokens at (Binary operator left right) =
-      under (expression_spans tokens at left ++ expression_spans tokens (at + expression_count left + 1) right) (over tokens at (expression_count (Binary operator left right)))
+      under (expression_spans tokens at left ++ expression_spans tokens (at + expression_count left + 1) right)
+      (over tokens at (expression_count (Binary operator left right)))
 
   -- expressions with a mark behind each
   pub values_spans : List Token → ℕ → Expressions → List Span
@@ -87,14 +89,18 @@ below_operation tokens at (Call function arguments) = arguments_spans tokens (at
 -- <- channel
 below_operation tokens at (Receive channel) = expression_spans tokens (at + 1) channel
 -- make ( channel , size )
-below_operation tokens at (Make channel size) = type_spans tokens (at + 2) channel ++ size_spans tokens (at + 2 + type_count channel) size
+below_operation tokens at (Make channel size) =
+    type_spans tokens (at + 2) channel
+    ++ size_spans tokens (at + 2 + type_count channel) size
 -- len ( channel )
 below_operation tokens at (Length channel) = expression_spans tokens (at + 2) channel
 -- cap ( channel )
 below_operation tokens at (Capacity channel) = expression_spans tokens (at + 2) channel
 
 abbrev pub operation_spans : List Token → ℕ → Operation → List Span
-operation_spans tokens at operation = under (below_operation tokens at operation) (over tokens at (operation_count operation))
+operation_spans tokens at operation =
+    under (below_operation tokens at operation)
+    (over tokens at (operation_count operation))
 
 -- an operation, or values with commas between them
 abbrev pub right_spans : List Token → ℕ → Right → List Span
@@ -131,17 +137,23 @@ below_simple tokens at (Print line parts trailing) = parts_spans tokens (at + 2)
 -- <- channel
 below_simple tokens at (ReceiveAlone channel) = expression_spans tokens (at + 1) channel
 -- channel <- value
-below_simple tokens at (Send channel value) = expression_spans tokens at channel ++ expression_spans tokens (at + expression_count channel + 1) value
+below_simple tokens at (Send channel value) =
+    expression_spans tokens at channel
+    ++ expression_spans tokens (at + expression_count channel + 1) value
 -- place ++
 below_simple tokens at (Increment place) = place_span tokens at place ∷ []
 -- place --
 below_simple tokens at (Decrement place) = place_span tokens at place ∷ []
 -- places = right
-below_simple tokens at (Assign places right) = places_spans tokens at places ++ right_spans tokens (at + sum_by place_step places) right
+below_simple tokens at (Assign places right) =
+    places_spans tokens at places
+    ++ right_spans tokens (at + sum_by place_step places) right
 -- names := right
 below_simple tokens at (Define names right) = right_spans tokens (at + length names * 2) right
 -- place += value
-below_simple tokens at (Update place operator value) = place_span tokens at place ∷ expression_spans tokens (at + place_count place + 1) value
+below_simple tokens at (Update place operator value) =
+    place_span tokens at place
+    ∷ expression_spans tokens (at + place_count place + 1) value
 
 abbrev pub simple_spans : List Token → ℕ → Simple → List Span
 simple_spans tokens at simple = under (below_simple tokens at simple) (over tokens at (simple_count simple))
@@ -149,9 +161,9 @@ simple_spans tokens at simple = under (below_simple tokens at simple) (over toke
 -- ---- headers
 
 -- the nodes of what may be left out
-abbrev pub any_spans : {A : Type 0} → (List Token → ℕ → A → List Span) → List Token → ℕ → Option A → List Span
-any_spans spans tokens at None = []
-any_spans spans tokens at (Some x) = spans tokens at x
+abbrev pub optional_spans : {A : Type 0} → (List Token → ℕ → A → List Span) → List Token → ℕ → Option A → List Span
+optional_spans spans tokens at None = []
+optional_spans spans tokens at (Some x) = spans tokens at x
 
 -- what stands between an `if` and its condition
 abbrev pub if_head_spans : List Token → ℕ → IfHead → List Span
@@ -174,17 +186,23 @@ for_head_spans tokens at Forever = []
 for_head_spans tokens at (While condition) = expression_spans tokens at condition
 -- first ; condition ; post
 for_head_spans tokens at (ForClauses first condition post) =
-    any_spans simple_spans tokens at first
-    ++ any_spans expression_spans tokens (at + if_any simple_count first + 1) condition
-    ++ any_spans simple_spans tokens (at + if_any simple_count first + 1 + if_any expression_count condition + 1) post
+    let second = at + if_any simple_count first + 1 in
+    let third = second + if_any expression_count condition + 1 in
+    optional_spans simple_spans tokens at first
+    ++ optional_spans expression_spans tokens second condition
+    ++ optional_spans simple_spans tokens third post
 -- target range channel
-for_head_spans tokens at (Range target channel) = target_spans tokens at target ++ expression_spans tokens (at + target_count target + 1) channel
+for_head_spans tokens at (Range target channel) =
+    target_spans tokens at target
+    ++ expression_spans tokens (at + target_count target + 1) channel
 
 -- ---- clauses of a select
 
 -- <- channel
 abbrev pub receive_spans : List Token → ℕ → Expression → List Span
-receive_spans tokens at channel = under (expression_spans tokens (at + 1) channel) (over tokens at (expression_count channel + 1))
+receive_spans tokens at channel =
+    under (expression_spans tokens (at + 1) channel)
+    (over tokens at (expression_count channel + 1))
 
 -- , place
 abbrev pub second_spans : List Token → ℕ → Option Place → List Span
@@ -193,7 +211,9 @@ second_spans tokens at (Some place) = place_span tokens (at + 1) place ∷ []
 
 abbrev pub below_comm : List Token → ℕ → Comm → List Span
 -- channel <- value
-below_comm tokens at (CommSend channel value) = expression_spans tokens at channel ++ expression_spans tokens (at + expression_count channel + 1) value
+below_comm tokens at (CommSend channel value) =
+    expression_spans tokens at channel
+    ++ expression_spans tokens (at + expression_count channel + 1) value
 -- <- channel
 below_comm tokens at (CommReceive channel) = expression_spans tokens (at + 1) channel
 -- item , ok := <- channel
@@ -211,9 +231,11 @@ abbrev pub start_spans : List Token → ℕ → Option Comm → List Span
 start_spans tokens at None = []
 start_spans tokens at (Some comm) = comm_spans tokens (at + 1) comm
 
--- a clause: its beginning, and statements whose nodes these are
+-- a clause whose statements have these nodes: what it waits for, these, and the clause
 abbrev pub with_clause : List Token → ℕ → Option Comm → Statements → List Span → List Span
-with_clause tokens at comm body below = under (start_spans tokens at comm ++ below) (over tokens at (clause_count comm body))
+with_clause tokens at comm body below =
+    under (start_spans tokens at comm ++ below)
+    (over tokens at (clause_count comm body))
 
 -- ---- statements
 
@@ -228,7 +250,7 @@ returned_spans tokens at NoValue = []
 returned_spans tokens at (ReturnedOperation operation) = operation_spans tokens at operation
 returned_spans tokens at (ReturnedValue value) = expression_spans tokens at value
 
--- a block: statements whose nodes these are, in braces
+-- a block whose statements have these nodes: these, and the block; its `{` has the number `at`
 abbrev pub with_block : List Token → ℕ → Statements → List Span → List Span
 with_block tokens at body below = under below (over tokens at (braced (body_count body)))
 
@@ -240,18 +262,22 @@ abbrev mutual
   -- var names kind = right
   statement_spans tokens at (VarTyped names kind right) =
       let behind_names = at + 1 + joined (length names * 2) in
-      under (type_spans tokens behind_names kind ++ initial_spans tokens (behind_names + type_count kind) right) (over tokens at (statement_count (VarTyped names kind right)))
+      under (type_spans tokens behind_names kind ++ initial_spans tokens (behind_names + type_count kind) right)
+      (over tokens at (statement_count (VarTyped names kind right)))
   -- var names = right
   statement_spans tokens at (VarUntyped names right) =
-      under (right_spans tokens (at + 1 + length names * 2) right) (over tokens at (statement_count (VarUntyped names right)))
+      under (right_spans tokens (at + 1 + length names * 2) right)
+      (over tokens at (statement_count (VarUntyped names right)))
   -- { body }
   statement_spans tokens at (Block body) =
-      under (with_block tokens at body (body_spans tokens (at + 1) body)) (over tokens at (statement_count (Block body)))
+      under (with_block tokens at body (body_spans tokens (at + 1) body))
+      (over tokens at (statement_count (Block body)))
   statement_spans tokens at (If branch) = branch_spans tokens at branch
   -- for head { body }
   statement_spans tokens at (For head body) =
       let opening = at + 1 + for_head_count head in
-      under (for_head_spans tokens (at + 1) head ++ with_block tokens opening body (body_spans tokens (opening + 1) body)) (over tokens at (statement_count (For head body)))
+      under (for_head_spans tokens (at + 1) head ++ with_block tokens opening body (body_spans tokens (opening + 1) body))
+      (over tokens at (statement_count (For head body)))
   -- select { clauses }
   statement_spans tokens at (Select clauses) =
       under (clauses_spans tokens (at + 2) clauses) (over tokens at (statement_count (Select clauses)))
@@ -279,7 +305,8 @@ abbrev mutual
       under (if_head_spans tokens (at + 1) head
       ++ expression_spans tokens behind_head condition
       ++ with_block tokens opening body (body_spans tokens (opening + 1) body)
-      ++ otherwise_spans tokens behind_body otherwise) (over tokens at (branch_count (Conditional head condition body otherwise)))
+      ++ otherwise_spans tokens behind_body otherwise)
+      (over tokens at (branch_count (Conditional head condition body otherwise)))
 
   -- what stands behind the block of an `if`
   pub otherwise_spans : List Token → ℕ → Otherwise → List Span
@@ -309,7 +336,8 @@ clause_spans tokens at comm body = with_clause tokens at comm body (body_spans t
 -- names kind
 abbrev pub group_spans : List Token → ℕ → Declared → List Span
 group_spans tokens at declared =
-    under (type_spans tokens (at + joined (length declared.names * 2)) declared.type_expression) (over tokens at (group_count declared))
+    under (type_spans tokens (at + joined (length declared.names * 2)) declared.type_expression)
+    (over tokens at (group_count declared))
 
 -- fields or parameters with a mark behind each
 abbrev pub groups_spans : List Token → ℕ → List Declared → List Span
@@ -322,7 +350,7 @@ below_function tokens at function =
     let behind_parameters = at + (groups_count function.parameters function.trailing + 4) in
     let opening = behind_parameters + if_any type_count function.result in
     groups_spans tokens (at + 3) function.parameters
-    ++ any_spans type_spans tokens behind_parameters function.result
+    ++ optional_spans type_spans tokens behind_parameters function.result
     ++ block_spans tokens opening function.body
 
 abbrev pub below_top : List Token → ℕ → Top → List Span

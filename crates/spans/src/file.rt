@@ -5,8 +5,8 @@ ghost use Rattle.go_text.specs.declared.fault.Fault.TheVariants as faults;
 ghost use Rattle.syntax.specs.Measures.{if_any, size};
 ghost use Rattle.syntax.specs.View.{type_of, declared_of, struct_of, function_of, top_of, file_of};
 ghost use Rattle.syntax.specs.Tree.{StructTop, FunctionTop};
-ghost use Rattle.spans.specs.Words.{EndsInReach, joined, type_count, group_count, group_step, groups_count, top_count, top_step, file_count};
-ghost use Rattle.spans.specs.Places.{any_spans, type_spans, group_spans, groups_spans, top_spans, tops_spans, file_spans};
+ghost use Rattle.spans.specs.Words.{EndsInReach, type_count, group_count, groups_count, top_count, top_step, file_count};
+ghost use Rattle.spans.specs.Places.{optional_spans, type_spans, group_spans, groups_spans, top_spans, tops_spans, file_spans};
 
 use crate::expression::trailing_count;
 use crate::over::add_node;
@@ -34,26 +34,7 @@ fn group_spans(
     add_node(tokens, at, count, spans)
 }
 
-/// Adds the spans of fields or parameters, with a mark behind each. How many tokens spell them with those marks.
-fn all_spans(
-    groups: &[DeclaredNode],
-    tokens: &[Token],
-    at: usize,
-    spans: &mut Vec<Span>,
-) -> Result<usize, Fault>
-    requires { EndsInReach at (joined (sum_by group_step (map declared_of groups.now))) }
-    ensures count { IfOk result (λ count. count ≡ sum_by group_step (map declared_of groups.now)) }
-    ensures spans { IfOk result (λ _. spans.new.items ≡ spans.old.items ++ groups_spans tokens.now at (map declared_of groups.now)) }
-    ensures err { IfErr result (λ e. e ≡ faults.Memory) }
-{
-    let mut count = 0;
-    for group in groups {
-        count += group_spans(group, tokens, at + count, spans)? + 1;
-    }
-    Ok(count)
-}
-
-/// Adds the spans of fields or parameters. How many tokens spell them with the mark that may follow the last.
+/// Adds the spans of fields or parameters, and counts the mark that may follow the last.
 fn groups_spans(
     groups: &[DeclaredNode],
     trailing: bool,
@@ -66,12 +47,15 @@ fn groups_spans(
     ensures spans { IfOk result (λ _. spans.new.items ≡ spans.old.items ++ groups_spans tokens.now at (map declared_of groups.now)) }
     ensures err { IfErr result (λ e. e ≡ faults.Memory) }
 {
-    let count = all_spans(groups, tokens, at, spans)?;
+    let mut count = 0;
+    for group in groups {
+        count += group_spans(group, tokens, at + count, spans)? + 1;
+    }
     Ok(count.saturating_sub(1) + trailing_count(trailing))
 }
 
 /// Adds the spans of a type that may be left out.
-fn any_type_spans(
+fn optional_type_spans(
     kind: &Option<TypeNode>,
     tokens: &[Token],
     at: usize,
@@ -79,7 +63,7 @@ fn any_type_spans(
 ) -> Result<usize, Fault>
     requires { EndsInReach at (if_any type_count (option_map type_of kind.now)) }
     ensures count { IfOk result (λ count. count ≡ if_any type_count (option_map type_of kind.now)) }
-    ensures spans { IfOk result (λ _. spans.new.items ≡ spans.old.items ++ any_spans type_spans tokens.now at (option_map type_of kind.now)) }
+    ensures spans { IfOk result (λ _. spans.new.items ≡ spans.old.items ++ optional_spans type_spans tokens.now at (option_map type_of kind.now)) }
     ensures err { IfErr result (λ e. e ≡ faults.Memory) }
 {
     match kind {
@@ -124,7 +108,7 @@ fn function_spans(
         spans,
     )?;
     let head = parameters + 4;
-    let kind = any_type_spans(&node.result, tokens, at + head, spans)?;
+    let kind = optional_type_spans(&node.result, tokens, at + head, spans)?;
     let body = block_spans(node.body.as_slice(), tokens, at + head + kind, spans)?;
     let count = head + kind + body;
     add_node(tokens, at, count, spans)
@@ -148,7 +132,7 @@ fn top_spans(
     }
 }
 
-/// Adds the spans of declarations. How many tokens spell them with a semicolon behind each.
+/// Adds the spans of declarations. They are counted with a semicolon behind each.
 fn tops_spans(
     tops: &[TopNode],
     tokens: &[Token],
@@ -167,7 +151,8 @@ fn tops_spans(
     Ok(count)
 }
 
-/// Where the nodes of a file stand, in the order of their numbers, where these tokens spell it.
+/// Where the nodes of a file stand, in the order of their numbers, if these tokens spell it. It fails only where memory
+/// is refused.
 pub fn file_spans(alloc: Global, file: &FileNode, tokens: &[Token]) -> Result<Vec<Span>, Fault>
     requires { EndsInReach 0 (file_count (file_of file.now)) }
     ensures spans { IfOk result (λ spans. spans.items ≡ file_spans tokens.now (file_of file.now)) }

@@ -6,7 +6,7 @@ ghost use Rattle.syntax.specs.Measures.{if_any};
 ghost use Rattle.syntax.specs.Tree.{CommAssign};
 ghost use Rattle.syntax.specs.View.{name_of, expression_of, place_of, right_of, simple_of, if_head_of, target_of, for_head_of, comm_of, returned_of};
 ghost use Rattle.spans.specs.Words.{EndsInReach, expression_count, simple_count, if_head_count, target_count, for_head_count, second_count, second_name_count, comm_count, start_count, initial_count, returned_count};
-ghost use Rattle.spans.specs.Places.{any_spans, expression_spans, simple_spans, if_head_spans, target_spans, for_head_spans, second_spans, receive_spans, below_comm, comm_spans, start_spans, initial_spans, returned_spans};
+ghost use Rattle.spans.specs.Places.{optional_spans, expression_spans, simple_spans, if_head_spans, target_spans, for_head_spans, second_spans, receive_spans, below_comm, comm_spans, start_spans, initial_spans, returned_spans};
 
 use crate::expression::expression_spans;
 use crate::over::add_node;
@@ -37,7 +37,7 @@ pub(crate) fn if_head_spans(
     }
 }
 
-/// Adds the span of what a range assigns to. How many tokens spell it with its mark.
+/// Adds the span of what a range assigns to, before its mark.
 fn target_spans(
     target: &RangeTarget,
     tokens: &[Token],
@@ -57,7 +57,7 @@ fn target_spans(
 }
 
 /// Adds the spans of a simple statement that may be left out.
-fn any_simple_spans(
+fn optional_simple_spans(
     simple: &Option<SimpleNode>,
     tokens: &[Token],
     at: usize,
@@ -65,7 +65,7 @@ fn any_simple_spans(
 ) -> Result<usize, Fault>
     requires { EndsInReach at (if_any simple_count (option_map simple_of simple.now)) }
     ensures count { IfOk result (λ count. count ≡ if_any simple_count (option_map simple_of simple.now)) }
-    ensures spans { IfOk result (λ _. spans.new.items ≡ spans.old.items ++ any_spans simple_spans tokens.now at (option_map simple_of simple.now)) }
+    ensures spans { IfOk result (λ _. spans.new.items ≡ spans.old.items ++ optional_spans simple_spans tokens.now at (option_map simple_of simple.now)) }
     ensures err { IfErr result (λ e. e ≡ faults.Memory) }
 {
     match simple {
@@ -75,7 +75,7 @@ fn any_simple_spans(
 }
 
 /// Adds the spans of an expression that may be left out.
-fn any_expression_spans(
+fn optional_expression_spans(
     expression: &Option<ExpressionNode>,
     tokens: &[Token],
     at: usize,
@@ -83,7 +83,7 @@ fn any_expression_spans(
 ) -> Result<usize, Fault>
     requires { EndsInReach at (if_any expression_count (option_map expression_of expression.now)) }
     ensures count { IfOk result (λ count. count ≡ if_any expression_count (option_map expression_of expression.now)) }
-    ensures spans { IfOk result (λ _. spans.new.items ≡ spans.old.items ++ any_spans expression_spans tokens.now at (option_map expression_of expression.now)) }
+    ensures spans { IfOk result (λ _. spans.new.items ≡ spans.old.items ++ optional_spans expression_spans tokens.now at (option_map expression_of expression.now)) }
     ensures err { IfErr result (λ e. e ≡ faults.Memory) }
 {
     match expression {
@@ -108,9 +108,9 @@ pub(crate) fn for_head_spans(
         ForHeader::Forever => Ok(0),
         ForHeader::While(condition) => expression_spans(condition, tokens, at, spans),
         ForHeader::Clauses(first, condition, post) => {
-            let first = any_simple_spans(first, tokens, at, spans)?;
-            let second = any_expression_spans(condition, tokens, at + first + 1, spans)?;
-            let third = any_simple_spans(post, tokens, at + first + 1 + second + 1, spans)?;
+            let first = optional_simple_spans(first, tokens, at, spans)?;
+            let second = optional_expression_spans(condition, tokens, at + first + 1, spans)?;
+            let third = optional_simple_spans(post, tokens, at + first + 1 + second + 1, spans)?;
             Ok(first + second + third + 2)
         }
         ForHeader::Range(target, channel) => {
@@ -120,7 +120,7 @@ pub(crate) fn for_head_spans(
     }
 }
 
-/// Adds the span of a second place. How many tokens spell it with the comma before it.
+/// Adds the span of a second place, if there is one, behind a comma.
 fn second_spans(
     place: &Option<PlaceNode>,
     tokens: &[Token],
@@ -138,7 +138,7 @@ fn second_spans(
     }
 }
 
-/// Adds the spans of a receive, whose `<-` has the number `at`.
+/// Adds the spans of a receive.
 fn receive_spans(
     channel: &ExpressionNode,
     tokens: &[Token],
@@ -154,7 +154,7 @@ fn receive_spans(
     add_node(tokens, at, count, spans)
 }
 
-/// How many tokens spell a second name with the comma before it.
+/// How many tokens spell a second name, if there is one, behind a comma.
 fn second_name_count(name: &Option<Name>) -> usize
     ensures { result ≡ second_name_count (option_map name_of name.now) }
 {
@@ -164,7 +164,7 @@ fn second_name_count(name: &Option<Name>) -> usize
     }
 }
 
-/// Adds the spans of a receive that is assigned, behind those of the places that it is assigned to.
+/// Adds the spans of one place or two, and of the receive that is assigned to them.
 fn assign_spans(
     item: &PlaceNode,
     ok: &Option<PlaceNode>,
@@ -228,7 +228,7 @@ pub(crate) fn start_spans(
     }
 }
 
-/// Adds the spans of the values of a `var` with a type. How many tokens spell them with the `=` before them.
+/// Adds the spans of the values of a `var` with a type, if there are any, behind a `=`.
 pub(crate) fn initial_spans(
     right: &Option<RightNode>,
     tokens: &[Token],

@@ -1,4 +1,4 @@
-//! The bytes of tokens.
+//! The bytes of a run of tokens.
 
 ghost use Rattle.std.specs.Prelude.{◌≡◌, IfOk, IfErr, slice_get};
 ghost use Rattle.go_text.specs.declared.fault.Fault.TheVariants as faults;
@@ -18,7 +18,7 @@ fn from_of(tokens: &[Token], at: usize) -> u32
     }
 }
 
-/// The bytes of so many tokens from this one on.
+/// The bytes of so many tokens from this one on; none, where there is no token.
 fn over(tokens: &[Token], at: usize, count: usize) -> Span
     requires { EndsInReach at count }
     ensures { result ≡ over tokens.now at count }
@@ -35,7 +35,7 @@ fn over(tokens: &[Token], at: usize, count: usize) -> Span
     Span { from, to }
 }
 
-/// Puts the span of a node of so many tokens behind those below it, and gives that count.
+/// Adds the span of a node of so many tokens, behind those of the nodes below it, and gives that count.
 pub(crate) fn add_node(
     tokens: &[Token],
     at: usize,

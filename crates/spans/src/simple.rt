@@ -15,7 +15,7 @@ use syntax::{
     ArgumentsNode, ExpressionNode, OperationNode, PartNode, PlaceNode, RightNode, SimpleNode,
 };
 
-/// Adds the spans of arguments. How many tokens spell them with their parentheses.
+/// Adds the spans of arguments in parentheses.
 pub(crate) fn arguments_spans(
     arguments: &ArgumentsNode,
     tokens: &[Token],
@@ -31,7 +31,7 @@ pub(crate) fn arguments_spans(
     Ok(count.saturating_sub(1) + trailing_count(arguments.trailing) + 2)
 }
 
-/// Adds the spans of a buffer's size. How many tokens spell it with the comma before it.
+/// Adds the spans of a buffer's size, if there is one, behind a comma.
 fn size_spans(
     size: &Option<ExpressionNode>,
     tokens: &[Token],
@@ -114,7 +114,7 @@ fn part_spans(
     }
 }
 
-/// Adds the spans of the arguments of a print, with a mark behind each. How many tokens spell them with those marks.
+/// Adds the spans of the arguments of a print. They are counted with a mark behind each.
 fn parts_spans(
     parts: &[PartNode],
     tokens: &[Token],
@@ -148,7 +148,7 @@ pub(crate) fn place_span(
     add_node(tokens, at, place.fields.len() * 2 + 1, spans)
 }
 
-/// Adds the spans of places, with a mark behind each. How many tokens spell them with those marks.
+/// Adds the spans of places. They are counted with a mark behind each.
 fn places_spans(
     places: &[PlaceNode],
     tokens: &[Token],
@@ -167,7 +167,7 @@ fn places_spans(
     Ok(count)
 }
 
-/// Adds the spans of the nodes below a simple statement. How many tokens spell the statement.
+/// Adds the spans of the nodes below a simple statement. All its tokens are counted.
 fn below_simple(
     simple: &SimpleNode,
     tokens: &[Token],

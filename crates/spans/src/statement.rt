@@ -15,7 +15,7 @@ use go_text::{Fault, Span};
 use scanner::Token;
 use syntax::{ClauseNode, ElseNode, IfNode, StatementNode};
 
-/// Adds the spans of a statement, whose first token has the number `at`. How many tokens spell it.
+/// Adds the spans of a statement.
 #[cycle(statement_spans)]
 fn statement_spans(
     statement: &StatementNode,
@@ -68,7 +68,7 @@ fn statement_spans(
     }
 }
 
-/// Adds the spans of statements, with a mark behind each. How many tokens spell them with those marks.
+/// Adds the spans of statements. They are counted with a mark behind each.
 #[cycle(statement_spans)]
 fn body_spans(
     body: &[StatementNode],
@@ -136,7 +136,7 @@ fn branch_spans(
     add_node(tokens, at, count, spans)
 }
 
-/// Adds the spans of what stands behind the block of an `if`.
+/// Adds the spans of an `else` and what follows it, if there is one.
 #[cycle(statement_spans)]
 fn otherwise_spans(
     otherwise: &ElseNode,

@@ -21,7 +21,7 @@ fn direction_count(direction: Direction) -> usize
     }
 }
 
-/// Adds the spans of a type, whose first token has the number `at`. How many tokens spell it.
+/// Adds the spans of a type.
 pub(crate) fn type_spans(
     kind: &TypeNode,
     tokens: &[Token],

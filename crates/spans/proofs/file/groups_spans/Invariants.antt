@@ -2,7 +2,7 @@ use Rattle.std.proofs.Common.{◌≡◌, ◌+◌, ◌++◌, drop, map, sum_by}
 use Rattle.syntax.specs.View.{declared_of}
 use Rattle.spans.specs.Words.{group_step}
 use Rattle.spans.specs.Places.{groups_spans}
-use Rattle.spans.proofs.file.all_spans.Given as goal
+use Rattle.spans.proofs.file.groups_spans.Given as goal
 
 abbrev pub invariant-loop-group : goal.invariant-loop-group
 invariant-loop-group l =
