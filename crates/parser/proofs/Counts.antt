@@ -168,10 +168,12 @@ for_head_counts Forever rest is = refl
 for_head_counts (While e) rest is = value_counts e rest
 for_head_counts (ForClauses first condition post) rest is =
     let behind_condition = Mark kinds.Semicolon ∷ optional simple_words post rest in
-    omega (arith,
+    omega (
+      arith,
       optional_counts _ simple_count simple_words first (Mark kinds.Semicolon ∷ optional before condition behind_condition) is.0 (simple_counts false true),
       optional_counts _ expression_count before condition behind_condition is.1.0 (λ e ws _. value_counts e ws),
-      optional_counts _ simple_count simple_words post rest is.1.1 (simple_counts false false))
+      optional_counts _ simple_count simple_words post rest is.1.1 (simple_counts false false),
+    )
 for_head_counts (Range t c) rest is = omega (arith, target_counts t (Mark kinds.Range ∷ before c rest), value_counts c rest)
 
 second_name_counts : (ok : Option (List ℕ)) (rest : List Lexeme) → length (second_name_words ok rest) ≡ second_name_count ok + length rest

@@ -44,12 +44,12 @@ fn declared_next(
 
 /// At most so many names and their type, of at most so many levels.
 #[tactic(auto, unfolding(crate::specs::Reading::declared))]
-fn declared<'a>(
+fn declared(
     alloc: Global,
     most: usize,
     room: u32,
-    cursor: Cursor<'a>,
-) -> Result<(DeclaredNode, Cursor<'a>), Fault>
+    cursor: Cursor<'_>,
+) -> Result<(DeclaredNode, Cursor<'_>), Fault>
     ensures declared { Gives (λ x. (declared_of x.0, ahead x.1)) result (declared most room (ahead cursor.entry)) }
 {
     let all = names(alloc, TokenKind::Comma, most, cursor)?;
@@ -62,13 +62,13 @@ fn declared<'a>(
 }
 
 /// At least one field or parameter, to the closing mark.
-fn some_declared<'a>(
+fn some_declared(
     alloc: Global,
     separator: TokenKind,
     close: TokenKind,
     room: u32,
-    cursor: Cursor<'a>,
-) -> Result<List<'a, DeclaredNode>, Fault>
+    cursor: Cursor<'_>,
+) -> Result<List<'_, DeclaredNode>, Fault>
     ensures declared { Gives (λ x. ((map declared_of x.entries.items, x.trailing), ahead x.rest)) result (some_declared separator close room MAX_ENTRIES MAX_ENTRIES (ahead cursor.entry)) }
 {
     let mut entries = Vec::new(alloc);
@@ -97,13 +97,13 @@ fn some_declared<'a>(
 
 /// Fields or parameters to the closing mark, behind the opening one; their types have at most so many levels.
 #[tactic(auto, unfolding(crate::specs::Reading::all_declared))]
-pub(crate) fn all_declared<'a>(
+pub(crate) fn all_declared(
     alloc: Global,
     separator: TokenKind,
     close: TokenKind,
     room: u32,
-    cursor: Cursor<'a>,
-) -> Result<List<'a, DeclaredNode>, Fault>
+    cursor: Cursor<'_>,
+) -> Result<List<'_, DeclaredNode>, Fault>
     ensures declared { Gives (λ x. ((map declared_of x.entries.items, x.trailing), ahead x.rest)) result (all_declared separator close MAX_ENTRIES room (ahead cursor.entry)) }
 {
     if begins_name(cursor) {

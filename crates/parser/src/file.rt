@@ -29,7 +29,7 @@ fn declaration_next(cursor: Cursor<'_>) -> Result<(Next, Cursor<'_>), Fault>
 }
 
 /// At least one declaration, to the file's end.
-fn declaration_list<'a>(alloc: Global, cursor: Cursor<'a>) -> Result<List<'a, TopNode>, Fault>
+fn declaration_list(alloc: Global, cursor: Cursor<'_>) -> Result<List<'_, TopNode>, Fault>
     ensures tops { Gives (λ x. ((map top_of x.entries.items, x.trailing), ahead x.rest)) result (listed (top MAX_ENTRIES STATEMENT_ROOM) top_next Syntax (length (ahead cursor.entry)) (ahead cursor.entry)) }
 {
     let mut entries = Vec::new(alloc);
@@ -52,7 +52,7 @@ fn declaration_list<'a>(alloc: Global, cursor: Cursor<'a>) -> Result<List<'a, To
 
 /// The declarations of a file behind the semicolon of its first line.
 #[tactic(auto, unfolding(crate::specs::Reading::tops))]
-fn declarations<'a>(alloc: Global, cursor: Cursor<'a>) -> Result<List<'a, TopNode>, Fault>
+fn declarations(alloc: Global, cursor: Cursor<'_>) -> Result<List<'_, TopNode>, Fault>
     ensures tops { Gives (λ x. ((map top_of x.entries.items, x.trailing), ahead x.rest)) result (tops MAX_ENTRIES STATEMENT_ROOM (ahead cursor.entry)) }
 {
     if cursor.next().is_some() {

@@ -36,10 +36,7 @@ fn second_name(alloc: Global, cursor: Cursor<'_>) -> Result<(Option<Name>, Curso
 
 /// A second place behind a comma, if there is one.
 #[tactic(auto, unfolding(crate::specs::Reading::second))]
-fn second_place<'a>(
-    alloc: Global,
-    cursor: Cursor<'a>,
-) -> Result<(Option<PlaceNode>, Cursor<'a>), Fault>
+fn second_place(alloc: Global, cursor: Cursor<'_>) -> Result<(Option<PlaceNode>, Cursor<'_>), Fault>
     ensures place { Gives (λ x. (option_map place_of x.0, ahead x.1)) result (second place (ahead cursor.entry)) }
 {
     if !begins_with(TokenKind::Comma, cursor) {
@@ -52,11 +49,11 @@ fn second_place<'a>(
 
 /// A receive with a `:=` of one name or two.
 #[tactic(auto, unfolding(crate::specs::Reading::comm_defined))]
-fn defining_receive<'a>(
+fn defining_receive(
     alloc: Global,
     room: u32,
-    cursor: Cursor<'a>,
-) -> Result<(CommNode, Cursor<'a>), Fault>
+    cursor: Cursor<'_>,
+) -> Result<(CommNode, Cursor<'_>), Fault>
     ensures comm { Gives (λ x. (comm_of x.0, ahead x.1)) result (comm_defined MAX_ENTRIES room (ahead cursor.entry)) }
 {
     let (item, rest) = name_at(alloc, cursor)?;
@@ -69,11 +66,11 @@ fn defining_receive<'a>(
 
 /// A receive with an assignment to one place or two.
 #[tactic(auto, unfolding(crate::specs::Reading::comm_assigned))]
-fn assigning_receive<'a>(
+fn assigning_receive(
     alloc: Global,
     room: u32,
-    cursor: Cursor<'a>,
-) -> Result<(CommNode, Cursor<'a>), Fault>
+    cursor: Cursor<'_>,
+) -> Result<(CommNode, Cursor<'_>), Fault>
     ensures comm { Gives (λ x. (comm_of x.0, ahead x.1)) result (comm_assigned MAX_ENTRIES room (ahead cursor.entry)) }
 {
     let item = place(alloc, cursor)?;
@@ -86,11 +83,11 @@ fn assigning_receive<'a>(
 
 /// A send.
 #[tactic(auto, unfolding(parser_simple::specs::Reading::sent))]
-fn send_statement<'a>(
+fn send_statement(
     alloc: Global,
     room: u32,
-    cursor: Cursor<'a>,
-) -> Result<(CommNode, Cursor<'a>), Fault>
+    cursor: Cursor<'_>,
+) -> Result<(CommNode, Cursor<'_>), Fault>
     ensures comm { Gives (λ x. (comm_of x.0, ahead x.1)) result (sent CommSend true MAX_ENTRIES room (ahead cursor.entry)) }
 {
     let channel = send_operand(alloc, true, room, cursor)?;
@@ -100,11 +97,11 @@ fn send_statement<'a>(
 }
 
 /// A receive alone, behind its arrow.
-fn lone_receive<'a>(
+fn lone_receive(
     alloc: Global,
     room: u32,
-    cursor: Cursor<'a>,
-) -> Result<(CommNode, Cursor<'a>), Fault>
+    cursor: Cursor<'_>,
+) -> Result<(CommNode, Cursor<'_>), Fault>
     ensures comm { Gives (λ x. (comm_of x.0, ahead x.1)) result (as_one CommReceive (primary true MAX_ENTRIES room (ahead cursor.entry))) }
 {
     let channel = primary_expression(alloc, true, room, cursor)?;
@@ -113,12 +110,12 @@ fn lone_receive<'a>(
 
 /// What begins with a place in this form, or with the operand of a send.
 #[tactic(auto, unfolding(crate::specs::Reading::comm_formed))]
-fn form_statement<'a>(
+fn form_statement(
     alloc: Global,
     room: u32,
     form: Form,
-    cursor: Cursor<'a>,
-) -> Result<(CommNode, Cursor<'a>), Fault>
+    cursor: Cursor<'_>,
+) -> Result<(CommNode, Cursor<'_>), Fault>
     ensures comm { Gives (λ x. (comm_of x.0, ahead x.1)) result (comm_formed MAX_ENTRIES room form (ahead cursor.entry)) }
 {
     match form {
@@ -132,11 +129,11 @@ fn form_statement<'a>(
 /// What a clause of a `select` waits for, below which there are at most so many levels ("Select statements" of the Go
 /// specification).
 #[tactic(auto, unfolding(crate::specs::Reading::comm))]
-pub fn comm_statement<'a>(
+pub fn comm_statement(
     alloc: Global,
     room: u32,
-    cursor: Cursor<'a>,
-) -> Result<(CommNode, Cursor<'a>), Fault>
+    cursor: Cursor<'_>,
+) -> Result<(CommNode, Cursor<'_>), Fault>
     ensures comm { Gives (λ x. (comm_of x.0, ahead x.1)) result (comm MAX_ENTRIES room (ahead cursor.entry)) }
 {
     if let Some((Word::Mark(TokenKind::Arrow), rest)) = cursor.next() {

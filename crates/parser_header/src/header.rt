@@ -39,11 +39,11 @@ fn is_primary(expression: &ExpressionNode) -> bool
 }
 
 /// A condition that was read, or a send on it.
-fn condition_or_send<'a>(
+fn condition_or_send(
     alloc: Global,
     room: u32,
-    found: Found<'a, ExpressionNode>,
-) -> Result<(HeadNode, Cursor<'a>), Fault>
+    found: Found<'_, ExpressionNode>,
+) -> Result<(HeadNode, Cursor<'_>), Fault>
     ensures head { Gives (λ x. (head_of x.0, ahead x.1)) result (condition_or_sent MAX_ENTRIES room (expression_of found.entry.node, ahead found.entry.rest)) }
 {
     if !begins_with(TokenKind::Arrow, found.rest) || !is_primary(&found.node) {
@@ -57,11 +57,11 @@ fn condition_or_send<'a>(
 
 /// A simple statement or a condition, without composite literals, below which there are at most so many levels.
 #[tactic(auto, unfolding(crate::specs::Reading::head))]
-pub fn simple_or_condition<'a>(
+pub fn simple_or_condition(
     alloc: Global,
     room: u32,
-    cursor: Cursor<'a>,
-) -> Result<(HeadNode, Cursor<'a>), Fault>
+    cursor: Cursor<'_>,
+) -> Result<(HeadNode, Cursor<'_>), Fault>
     ensures head { Gives (λ x. (head_of x.0, ahead x.1)) result (head MAX_ENTRIES room (ahead cursor.entry)) }
 {
     let found = statement_unless_value(alloc, false, true, room, cursor)?;
@@ -77,11 +77,11 @@ pub fn simple_or_condition<'a>(
 }
 
 /// A condition behind a semicolon.
-fn condition_behind_semicolon<'a>(
+fn condition_behind_semicolon(
     alloc: Global,
     room: u32,
-    cursor: Cursor<'a>,
-) -> Result<Found<'a, ExpressionNode>, Fault>
+    cursor: Cursor<'_>,
+) -> Result<Found<'_, ExpressionNode>, Fault>
     ensures condition { Gives (λ x. (expression_of x.node, ahead x.rest)) result (behind_semicolon MAX_ENTRIES room (ahead cursor.entry)) }
 {
     let rest = cursor.expect(TokenKind::Semicolon)?;
@@ -91,11 +91,11 @@ fn condition_behind_semicolon<'a>(
 /// What stands between an `if` and its block ("If statements" of the Go specification), below which there are at most
 /// so many levels.
 #[tactic(auto, unfolding(crate::specs::Reading::if_header))]
-pub fn if_header<'a>(
+pub fn if_header(
     alloc: Global,
     room: u32,
-    cursor: Cursor<'a>,
-) -> Result<((IfHeader, ExpressionNode), Cursor<'a>), Fault>
+    cursor: Cursor<'_>,
+) -> Result<((IfHeader, ExpressionNode), Cursor<'_>), Fault>
     ensures header { Gives (λ x. ((if_head_of x.0.0, expression_of x.0.1), ahead x.1)) result (if_header MAX_ENTRIES room (ahead cursor.entry)) }
 {
     if begins_with(TokenKind::Semicolon, cursor) {
@@ -113,11 +113,11 @@ pub fn if_header<'a>(
 }
 
 /// A condition, unless a semicolon comes next.
-fn optional_condition<'a>(
+fn optional_condition(
     alloc: Global,
     room: u32,
-    cursor: Cursor<'a>,
-) -> Result<(Option<ExpressionNode>, Cursor<'a>), Fault>
+    cursor: Cursor<'_>,
+) -> Result<(Option<ExpressionNode>, Cursor<'_>), Fault>
     ensures test { Gives (λ x. (option_map expression_of x.0, ahead x.1)) result (unless_next TokenKind.Semicolon (condition MAX_ENTRIES room) (ahead cursor.entry)) }
 {
     if begins_with(TokenKind::Semicolon, cursor) {
@@ -128,11 +128,11 @@ fn optional_condition<'a>(
 }
 
 /// What is done behind each turn, unless a brace comes next.
-fn optional_post<'a>(
+fn optional_post(
     alloc: Global,
     room: u32,
-    cursor: Cursor<'a>,
-) -> Result<(Option<SimpleNode>, Cursor<'a>), Fault>
+    cursor: Cursor<'_>,
+) -> Result<(Option<SimpleNode>, Cursor<'_>), Fault>
     ensures post { Gives (λ x. (option_map simple_of x.0, ahead x.1)) result (unless_next TokenKind.LeftBrace (simple false false MAX_ENTRIES room) (ahead cursor.entry)) }
 {
     if begins_with(TokenKind::LeftBrace, cursor) {
@@ -143,11 +143,11 @@ fn optional_post<'a>(
 }
 
 /// What is done behind each turn, behind the second semicolon of a `for`.
-fn post_behind_semicolon<'a>(
+fn post_behind_semicolon(
     alloc: Global,
     room: u32,
-    cursor: Cursor<'a>,
-) -> Result<(Option<SimpleNode>, Cursor<'a>), Fault>
+    cursor: Cursor<'_>,
+) -> Result<(Option<SimpleNode>, Cursor<'_>), Fault>
     ensures post { Gives (λ x. (option_map simple_of x.0, ahead x.1)) result (post_behind MAX_ENTRIES room (ahead cursor.entry)) }
 {
     let rest = cursor.expect(TokenKind::Semicolon)?;
@@ -156,12 +156,12 @@ fn post_behind_semicolon<'a>(
 
 /// The clauses of a `for` behind the first semicolon, before which `first` stands.
 #[tactic(auto, unfolding(crate::specs::Reading::for_clauses))]
-fn for_clauses<'a>(
+fn for_clauses(
     alloc: Global,
     room: u32,
     first: Option<SimpleNode>,
-    cursor: Cursor<'a>,
-) -> Result<(ForHeader, Cursor<'a>), Fault>
+    cursor: Cursor<'_>,
+) -> Result<(ForHeader, Cursor<'_>), Fault>
     ensures header { Gives (λ x. (for_head_of x.0, ahead x.1)) result (for_clauses (option_map simple_of first) MAX_ENTRIES room (ahead cursor.entry)) }
 {
     let (first, (condition, rest)) = beside(first, optional_condition(alloc, room, cursor))?;
@@ -174,12 +174,12 @@ fn for_clauses<'a>(
 
 /// The `range` of a `for` from its word on, which stands behind `target`.
 #[tactic(auto, unfolding(crate::specs::Reading::ranged))]
-fn range_clause<'a>(
+fn range_clause(
     alloc: Global,
     room: u32,
     target: RangeTarget,
-    cursor: Cursor<'a>,
-) -> Result<(ForHeader, Cursor<'a>), Fault>
+    cursor: Cursor<'_>,
+) -> Result<(ForHeader, Cursor<'_>), Fault>
     ensures header { Gives (λ x. (for_head_of x.0, ahead x.1)) result (ranged (target_of target) MAX_ENTRIES room (ahead cursor.entry)) }
 {
     let (target, rest) = beside(target, cursor.expect(TokenKind::Range))?;
@@ -189,11 +189,11 @@ fn range_clause<'a>(
 
 /// A `range` that defines a name.
 #[tactic(auto, unfolding(crate::specs::Reading::range_defined))]
-fn defining_range<'a>(
+fn defining_range(
     alloc: Global,
     room: u32,
-    cursor: Cursor<'a>,
-) -> Result<(ForHeader, Cursor<'a>), Fault>
+    cursor: Cursor<'_>,
+) -> Result<(ForHeader, Cursor<'_>), Fault>
     ensures header { Gives (λ x. (for_head_of x.0, ahead x.1)) result (range_defined MAX_ENTRIES room (ahead cursor.entry)) }
 {
     let (name, rest) = name_at(alloc, cursor)?;
@@ -203,11 +203,11 @@ fn defining_range<'a>(
 
 /// A `range` that assigns to a place.
 #[tactic(auto, unfolding(crate::specs::Reading::range_assigned))]
-fn assigning_range<'a>(
+fn assigning_range(
     alloc: Global,
     room: u32,
-    cursor: Cursor<'a>,
-) -> Result<(ForHeader, Cursor<'a>), Fault>
+    cursor: Cursor<'_>,
+) -> Result<(ForHeader, Cursor<'_>), Fault>
     ensures header { Gives (λ x. (for_head_of x.0, ahead x.1)) result (range_assigned MAX_ENTRIES room (ahead cursor.entry)) }
 {
     let target = place(alloc, cursor)?;
@@ -224,11 +224,11 @@ fn ranges(form: Form) -> bool
 
 /// What stands between a `for` and its block, where that begins with no mark of its own.
 #[tactic(auto, unfolding(crate::specs::Reading::for_begun))]
-fn unmarked_for_header<'a>(
+fn unmarked_for_header(
     alloc: Global,
     room: u32,
-    cursor: Cursor<'a>,
-) -> Result<(ForHeader, Cursor<'a>), Fault>
+    cursor: Cursor<'_>,
+) -> Result<(ForHeader, Cursor<'_>), Fault>
     ensures header { Gives (λ x. (for_head_of x.0, ahead x.1)) result (for_begun MAX_ENTRIES room (ahead cursor.entry)) }
 {
     if ranges(form_of(cursor)) {
@@ -250,11 +250,11 @@ fn unmarked_for_header<'a>(
 /// What stands between a `for` and its block ("For statements" of the Go specification), below which there are at most
 /// so many levels.
 #[tactic(auto, unfolding(crate::specs::Reading::for_header))]
-pub fn for_header<'a>(
+pub fn for_header(
     alloc: Global,
     room: u32,
-    cursor: Cursor<'a>,
-) -> Result<(ForHeader, Cursor<'a>), Fault>
+    cursor: Cursor<'_>,
+) -> Result<(ForHeader, Cursor<'_>), Fault>
     ensures header { Gives (λ x. (for_head_of x.0, ahead x.1)) result (for_header MAX_ENTRIES room (ahead cursor.entry)) }
 {
     if begins_with(TokenKind::LeftBrace, cursor) {

@@ -47,11 +47,11 @@ pub(crate) fn ends_statement(cursor: Cursor<'_>) -> bool
 }
 
 /// A simple statement, below which there are at most so many levels.
-pub(crate) fn simple_statement<'a>(
+pub(crate) fn simple_statement(
     alloc: Global,
     room: u32,
-    cursor: Cursor<'a>,
-) -> Result<(StatementNode, Cursor<'a>), Fault>
+    cursor: Cursor<'_>,
+) -> Result<(StatementNode, Cursor<'_>), Fault>
     ensures statement { Gives (λ x. (statement_of x.0, ahead x.1)) result (as_one Alone (simple true true MAX_ENTRIES room (ahead cursor.entry))) }
 {
     let found = simple::simple_statement(alloc, true, true, room, cursor)?;
@@ -60,11 +60,11 @@ pub(crate) fn simple_statement<'a>(
 
 /// A `go` ("Go statements" of the Go specification), behind its word, below which there are at most so many levels.
 #[tactic(auto, unfolding(crate::specs::Reading::started))]
-pub(crate) fn go_statement<'a>(
+pub(crate) fn go_statement(
     alloc: Global,
     room: u32,
-    cursor: Cursor<'a>,
-) -> Result<(StatementNode, Cursor<'a>), Fault>
+    cursor: Cursor<'_>,
+) -> Result<(StatementNode, Cursor<'_>), Fault>
     ensures statement { Gives (λ x. (statement_of x.0, ahead x.1)) result (started MAX_ENTRIES room (ahead cursor.entry)) }
 {
     let (function, rest) = name_at(alloc, cursor)?;
@@ -89,11 +89,11 @@ fn begins_return_value(cursor: Cursor<'_>) -> bool
 
 /// A value behind `return`, of at most so many levels.
 #[tactic(auto, unfolding(crate::specs::Reading::returned_value))]
-fn return_value<'a>(
+fn return_value(
     alloc: Global,
     room: u32,
-    cursor: Cursor<'a>,
-) -> Result<(ReturnNode, Cursor<'a>), Fault>
+    cursor: Cursor<'_>,
+) -> Result<(ReturnNode, Cursor<'_>), Fault>
     ensures returned { Gives (λ x. (returned_of x.0, ahead x.1)) result (returned_value MAX_ENTRIES room (ahead cursor.entry)) }
 {
     if room == 0 {
@@ -112,11 +112,11 @@ fn return_value<'a>(
 
 /// What stands behind a `return`.
 #[tactic(auto, unfolding(crate::specs::Reading::returned))]
-fn return_operand<'a>(
+fn return_operand(
     alloc: Global,
     room: u32,
-    cursor: Cursor<'a>,
-) -> Result<(ReturnNode, Cursor<'a>), Fault>
+    cursor: Cursor<'_>,
+) -> Result<(ReturnNode, Cursor<'_>), Fault>
     ensures returned { Gives (λ x. (returned_of x.0, ahead x.1)) result (returned MAX_ENTRIES room (ahead cursor.entry)) }
 {
     if ends_statement(cursor) {
@@ -127,11 +127,11 @@ fn return_operand<'a>(
 
 /// A `return` ("Return statements" of the Go specification), behind its word, below which there are at most so
 /// many levels.
-pub(crate) fn return_statement<'a>(
+pub(crate) fn return_statement(
     alloc: Global,
     room: u32,
-    cursor: Cursor<'a>,
-) -> Result<(StatementNode, Cursor<'a>), Fault>
+    cursor: Cursor<'_>,
+) -> Result<(StatementNode, Cursor<'_>), Fault>
     ensures statement { Gives (λ x. (statement_of x.0, ahead x.1)) result (as_one Return (returned MAX_ENTRIES room (ahead cursor.entry))) }
 {
     let (returned, rest) = return_operand(alloc, room, cursor)?;
@@ -139,11 +139,11 @@ pub(crate) fn return_statement<'a>(
 }
 
 /// Values behind `=`, if it comes next.
-fn initial_values<'a>(
+fn initial_values(
     alloc: Global,
     room: u32,
-    cursor: Cursor<'a>,
-) -> Result<(Option<RightNode>, Cursor<'a>), Fault>
+    cursor: Cursor<'_>,
+) -> Result<(Option<RightNode>, Cursor<'_>), Fault>
     ensures right { Gives (λ x. (option_map right_of x.0, ahead x.1)) result (behind_next kinds.Assign (right true MAX_ENTRIES room) (ahead cursor.entry)) }
 {
     if !begins_with(TokenKind::Assign, cursor) {
@@ -156,12 +156,12 @@ fn initial_values<'a>(
 
 /// The type of these names, which a `var` declares, and their values, if there are any.
 #[tactic(auto, unfolding(crate::specs::Reading::typed))]
-fn typed_var<'a>(
+fn typed_var(
     alloc: Global,
     room: u32,
     names: Vec<Name>,
-    cursor: Cursor<'a>,
-) -> Result<(StatementNode, Cursor<'a>), Fault>
+    cursor: Cursor<'_>,
+) -> Result<(StatementNode, Cursor<'_>), Fault>
     ensures statement { Gives (λ x. (statement_of x.0, ahead x.1)) result (typed (map name_of names.items) MAX_ENTRIES room (ahead cursor.entry)) }
 {
     let (names, found) = beside(names, type_at(alloc, room, cursor))?;
@@ -174,12 +174,12 @@ fn typed_var<'a>(
 
 /// The values of these names, which a `var` declares without a type.
 #[tactic(auto, unfolding(crate::specs::Reading::untyped))]
-fn untyped_var<'a>(
+fn untyped_var(
     alloc: Global,
     room: u32,
     names: Vec<Name>,
-    cursor: Cursor<'a>,
-) -> Result<(StatementNode, Cursor<'a>), Fault>
+    cursor: Cursor<'_>,
+) -> Result<(StatementNode, Cursor<'_>), Fault>
     ensures statement { Gives (λ x. (statement_of x.0, ahead x.1)) result (untyped (map name_of names.items) MAX_ENTRIES room (ahead cursor.entry)) }
 {
     let (names, rest) = beside(names, cursor.expect(TokenKind::Assign))?;
@@ -189,11 +189,11 @@ fn untyped_var<'a>(
 
 /// The names behind a `var`, and their type or values.
 #[tactic(auto, unfolding(crate::specs::Reading::variables))]
-fn var_spec<'a>(
+fn var_spec(
     alloc: Global,
     room: u32,
-    cursor: Cursor<'a>,
-) -> Result<(StatementNode, Cursor<'a>), Fault>
+    cursor: Cursor<'_>,
+) -> Result<(StatementNode, Cursor<'_>), Fault>
     ensures statement { Gives (λ x. (statement_of x.0, ahead x.1)) result (variables MAX_ENTRIES room (ahead cursor.entry)) }
 {
     let names = names(alloc, TokenKind::Comma, MAX_ENTRIES as usize, cursor)?;
@@ -205,12 +205,12 @@ fn var_spec<'a>(
 
 /// A `var` ("Variable declarations" of the Go specification), behind its word, which stands at `first`, below which there
 /// are at most so many levels.
-pub(crate) fn var_declaration<'a>(
+pub(crate) fn var_declaration(
     alloc: Global,
     room: u32,
     first: Place,
-    cursor: Cursor<'a>,
-) -> Result<(StatementNode, Cursor<'a>), Fault>
+    cursor: Cursor<'_>,
+) -> Result<(StatementNode, Cursor<'_>), Fault>
     ensures statement { Gives (λ x. (statement_of x.0, ahead x.1)) result (variable MAX_ENTRIES room (ahead cursor.entry)) }
     ensures deep { room < 1 → IfErr result (λ fault. fault ≡ faults.TooDeep first) }
 {

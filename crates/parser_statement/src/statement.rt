@@ -102,11 +102,11 @@ fn clause_node(comm: Option<CommNode>, body: Vec<StatementNode>) -> ClauseNode
 
 /// The statements of a block, each of at most so many levels, behind its first brace.
 #[cycle(statement)]
-pub fn statement_list<'a>(
+pub fn statement_list(
     alloc: Global,
     room: u32,
-    cursor: Cursor<'a>,
-) -> Result<List<'a, StatementNode>, Fault>
+    cursor: Cursor<'_>,
+) -> Result<List<'_, StatementNode>, Fault>
     ensures statements { Gives (λ x. ((map statement_of x.entries.items, x.trailing), ahead x.rest)) result (listed (statement MAX_ENTRIES room) statement_next Syntax (length (ahead cursor.entry)) (ahead cursor.entry)) }
 {
     let mut entries = Vec::new(alloc);
@@ -130,11 +130,11 @@ pub fn statement_list<'a>(
 /// A block of at most so many levels ("Blocks" of the Go specification).
 #[cycle(statement)]
 #[tactic(auto, unfolding(crate::specs::Reading::statement, crate::specs::Reading::braced))]
-fn block<'a>(
+fn block(
     alloc: Global,
     room: u32,
-    cursor: Cursor<'a>,
-) -> Result<(Vec<StatementNode>, Cursor<'a>), Fault>
+    cursor: Cursor<'_>,
+) -> Result<(Vec<StatementNode>, Cursor<'_>), Fault>
     ensures block { Gives (λ x. (body_of x.0.items, ahead x.1)) result (block MAX_ENTRIES room (ahead cursor.entry)) }
 {
     if room == 0 {
@@ -150,11 +150,11 @@ fn block<'a>(
 /// What stands behind `else`: an `if` or a block, of at most so many levels.
 #[cycle(statement)]
 #[tactic(auto, unfolding(crate::specs::Reading::statement, crate::specs::Reading::other))]
-fn else_branch<'a>(
+fn else_branch(
     alloc: Global,
     room: u32,
-    cursor: Cursor<'a>,
-) -> Result<(ElseNode, Cursor<'a>), Fault>
+    cursor: Cursor<'_>,
+) -> Result<(ElseNode, Cursor<'_>), Fault>
     ensures otherwise { Gives (λ x. (otherwise_of x.0, ahead x.1)) result (other (block MAX_ENTRIES room) (branch MAX_ENTRIES room) (ahead cursor.entry)) }
 {
     if begins_with(TokenKind::If, cursor) {
@@ -172,11 +172,11 @@ fn else_branch<'a>(
 /// An `else` of at most so many levels, if there is one.
 #[cycle(statement)]
 #[tactic(auto, unfolding(crate::specs::Reading::otherwise))]
-fn optional_else<'a>(
+fn optional_else(
     alloc: Global,
     room: u32,
-    cursor: Cursor<'a>,
-) -> Result<(ElseNode, Cursor<'a>), Fault>
+    cursor: Cursor<'_>,
+) -> Result<(ElseNode, Cursor<'_>), Fault>
     ensures otherwise { Gives (λ x. (otherwise_of x.0, ahead x.1)) result (otherwise (block MAX_ENTRIES room) (branch MAX_ENTRIES room) (ahead cursor.entry)) }
 {
     if !begins_with(TokenKind::Else, cursor) {
@@ -190,12 +190,12 @@ fn optional_else<'a>(
 /// levels.
 #[cycle(statement)]
 #[tactic(auto, unfolding(crate::specs::Reading::branched))]
-fn if_statement<'a>(
+fn if_statement(
     alloc: Global,
     room: u32,
     first: Place,
-    cursor: Cursor<'a>,
-) -> Result<(IfNode, Cursor<'a>), Fault>
+    cursor: Cursor<'_>,
+) -> Result<(IfNode, Cursor<'_>), Fault>
     ensures branch { Gives (λ x. (branch_of x.0, ahead x.1)) result (branched MAX_ENTRIES room (block MAX_ENTRIES room) (branch MAX_ENTRIES room) (ahead cursor.entry)) }
 {
     if room < 2 {
@@ -218,12 +218,12 @@ fn if_statement<'a>(
 /// many levels.
 #[cycle(statement)]
 #[tactic(auto, unfolding(crate::specs::Reading::repeated))]
-fn for_statement<'a>(
+fn for_statement(
     alloc: Global,
     room: u32,
     first: Place,
-    cursor: Cursor<'a>,
-) -> Result<(StatementNode, Cursor<'a>), Fault>
+    cursor: Cursor<'_>,
+) -> Result<(StatementNode, Cursor<'_>), Fault>
     ensures statement { Gives (λ x. (statement_of x.0, ahead x.1)) result (repeated MAX_ENTRIES room (block MAX_ENTRIES room) (ahead cursor.entry)) }
 {
     if room < 2 {
@@ -238,11 +238,7 @@ fn for_statement<'a>(
 
 /// What a clause waits for, of at most so many levels.
 #[tactic(auto, unfolding(crate::specs::Reading::waited))]
-fn comm_case<'a>(
-    alloc: Global,
-    room: u32,
-    cursor: Cursor<'a>,
-) -> Result<(CommNode, Cursor<'a>), Fault>
+fn comm_case(alloc: Global, room: u32, cursor: Cursor<'_>) -> Result<(CommNode, Cursor<'_>), Fault>
     ensures comm { Gives (λ x. (comm_of x.0, ahead x.1)) result (waited MAX_ENTRIES room (ahead cursor.entry)) }
 {
     if room == 0 {
@@ -253,11 +249,11 @@ fn comm_case<'a>(
 
 /// The statements of a clause, each of at most so many levels, behind its colon.
 #[cycle(statement)]
-fn clause_statement_list<'a>(
+fn clause_statement_list(
     alloc: Global,
     room: u32,
-    cursor: Cursor<'a>,
-) -> Result<List<'a, StatementNode>, Fault>
+    cursor: Cursor<'_>,
+) -> Result<List<'_, StatementNode>, Fault>
     ensures statements { Gives (λ x. ((map statement_of x.entries.items, x.trailing), ahead x.rest)) result (listed (statement MAX_ENTRIES room) clause_next Syntax (length (ahead cursor.entry)) (ahead cursor.entry)) }
 {
     let mut entries = Vec::new(alloc);
@@ -281,12 +277,12 @@ fn clause_statement_list<'a>(
 /// A clause from its colon on, with statements of at most so many levels.
 #[cycle(statement)]
 #[tactic(auto, unfolding(crate::specs::Reading::clause_body))]
-fn clause_body<'a>(
+fn clause_body(
     alloc: Global,
     room: u32,
     waits: Option<CommNode>,
-    cursor: Cursor<'a>,
-) -> Result<(ClauseNode, Cursor<'a>), Fault>
+    cursor: Cursor<'_>,
+) -> Result<(ClauseNode, Cursor<'_>), Fault>
     ensures clause { Gives (λ x. (clause_of x.0, ahead x.1)) result (clause_body (statement MAX_ENTRIES room) (option_map comm_of waits) (ahead cursor.entry)) }
 {
     let (waits, rest) = beside(waits, cursor.expect(TokenKind::Colon))?;
@@ -297,11 +293,11 @@ fn clause_body<'a>(
 /// A clause, below which there are at most so many levels.
 #[cycle(statement)]
 #[tactic(auto, unfolding(crate::specs::Reading::one_clause))]
-fn comm_clause_below<'a>(
+fn comm_clause_below(
     alloc: Global,
     room: u32,
-    cursor: Cursor<'a>,
-) -> Result<(ClauseNode, Cursor<'a>), Fault>
+    cursor: Cursor<'_>,
+) -> Result<(ClauseNode, Cursor<'_>), Fault>
     ensures clause { Gives (λ x. (clause_of x.0, ahead x.1)) result (one_clause MAX_ENTRIES room (statement MAX_ENTRIES room) (ahead cursor.entry)) }
 {
     match cursor.next() {
@@ -338,11 +334,11 @@ fn no_clause(cursor: Cursor<'_>) -> Fault
 /// A clause of at most so many levels.
 #[cycle(statement)]
 #[tactic(auto, unfolding(crate::specs::Reading::statement))]
-fn comm_clause<'a>(
+fn comm_clause(
     alloc: Global,
     room: u32,
-    cursor: Cursor<'a>,
-) -> Result<(ClauseNode, Cursor<'a>), Fault>
+    cursor: Cursor<'_>,
+) -> Result<(ClauseNode, Cursor<'_>), Fault>
     ensures clause { Gives (λ x. (clause_of x.0, ahead x.1)) result (clause MAX_ENTRIES room (ahead cursor.entry)) }
 {
     if room == 0 {
@@ -353,11 +349,7 @@ fn comm_clause<'a>(
 
 /// The clauses of a `select`, each of at most so many levels.
 #[cycle(statement)]
-fn comm_clauses<'a>(
-    alloc: Global,
-    room: u32,
-    cursor: Cursor<'a>,
-) -> Result<List<'a, ClauseNode>, Fault>
+fn comm_clauses(alloc: Global, room: u32, cursor: Cursor<'_>) -> Result<List<'_, ClauseNode>, Fault>
     ensures clauses { Gives (λ x. ((map clause_of x.entries.items, x.trailing), ahead x.rest)) result (listed (clause MAX_ENTRIES room) clauses_next (TooMany SelectClauses) MAX_CLAUSES (ahead cursor.entry)) }
 {
     let mut entries = Vec::new(alloc);
@@ -386,11 +378,11 @@ fn comm_clauses<'a>(
 /// levels.
 #[cycle(statement)]
 #[tactic(auto, unfolding(crate::specs::Reading::selected))]
-fn select_statement<'a>(
+fn select_statement(
     alloc: Global,
     room: u32,
-    cursor: Cursor<'a>,
-) -> Result<(StatementNode, Cursor<'a>), Fault>
+    cursor: Cursor<'_>,
+) -> Result<(StatementNode, Cursor<'_>), Fault>
     ensures statement { Gives (λ x. (statement_of x.0, ahead x.1)) result (as_one Select (selected MAX_CLAUSES (clause MAX_ENTRIES room) (ahead cursor.entry))) }
 {
     let inside = cursor.expect(TokenKind::LeftBrace)?;
@@ -437,11 +429,11 @@ fn keyword_statement<'a>(
 /// A statement, below which there are at most so many levels.
 #[cycle(statement)]
 #[tactic(auto, unfolding(crate::specs::Reading::stated))]
-fn statement_below<'a>(
+fn statement_below(
     alloc: Global,
     room: u32,
-    cursor: Cursor<'a>,
-) -> Result<(StatementNode, Cursor<'a>), Fault>
+    cursor: Cursor<'_>,
+) -> Result<(StatementNode, Cursor<'_>), Fault>
     ensures statement { Gives (λ x. (statement_of x.0, ahead x.1)) result (stated MAX_ENTRIES room (block MAX_ENTRIES room) (branch MAX_ENTRIES room) (clause MAX_ENTRIES room) (ahead cursor.entry)) }
 {
     match cursor.next() {
@@ -453,11 +445,11 @@ fn statement_below<'a>(
 /// A statement of at most so many levels ("Statements" of the Go specification).
 #[cycle(statement)]
 #[tactic(auto, unfolding(crate::specs::Reading::statement))]
-pub fn statement<'a>(
+pub fn statement(
     alloc: Global,
     room: u32,
-    cursor: Cursor<'a>,
-) -> Result<(StatementNode, Cursor<'a>), Fault>
+    cursor: Cursor<'_>,
+) -> Result<(StatementNode, Cursor<'_>), Fault>
     ensures statement { Gives (λ x. (statement_of x.0, ahead x.1)) result (statement MAX_ENTRIES room (ahead cursor.entry)) }
 {
     if room == 0 {
