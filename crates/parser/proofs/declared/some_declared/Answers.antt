@@ -2,11 +2,9 @@ use Rattle.std.proofs.Common.{◌≡◌, ◌-◌, length, is_ok, ap, arith}
 use Rattle.std.proofs.ResultArms.{chosen}
 use Rattle.std.proofs.lemmas.Result.{err_from_is_err_and}
 use Rattle.std.proofs.lemmas.List.{length-map}
-use Rattle.syntax.specs.Measures.{declared_size}
 use Rattle.syntax.specs.View.{name_of, declared_of}
 use Rattle.syntax.specs.declared.limits.TheConstants.{MAX_ENTRIES}
 use Rattle.parser_base.specs.Cursor.{ahead}
-use Rattle.parser_base.proofs.Lists.{sum_by-pushed}
 use Rattle.parser.proofs.DeclaredLists.{more, ends, one_fails, next_fails, is_full}
 use Rattle.parser.proofs.declared.some_declared.Goals as goal
 
@@ -31,7 +29,6 @@ loop-preserved c =
     let fewer : c.saturating_sub-left.result ≡ c.loop.left - length (declared_of c.in_ok-one.one).names = omega (arith, c.saturating_sub-left.ensures, c.len.ensures, length-map c.in_ok-one.one.names.items name_of) in
     record {
       total = rw pushed (more c.args.separator c.args.close c.args.room MAX_ENTRIES c.loop.counter c.loop.left c.saturating_sub-left.result c.loop.entries.items (ahead c.loop.rest) c.in_ok-one.one (ahead c.in_ok-one.behind) (ahead c.in_ok-next.after) _ c.loop-test.true fewer c.in_ok-one.ensures.declared (rw c.in-More.is at c.in_ok-next.ensures) c.loop.invariant.total);
-      nodes = rw pushed (omega (arith, sum_by-pushed declared_of declared_size c.loop.entries.items c.in_ok-one.one, c.loop.invariant.nodes, c.in_ok-one.ensures.nodes));
     }
 
 pub returns-clause-declared : goal.returns-clause-declared

@@ -1,14 +1,13 @@
 use Rattle.std.proofs.Common.{◌≤◌, ◌<◌, length, is_ok, ap, arith}
 use Rattle.std.proofs.ResultArms.{chosen}
 use Rattle.std.proofs.lemmas.Result.{err_from_is_err_and}
-use Rattle.syntax.specs.Measures.{top_size}
 use Rattle.syntax.specs.View.{top_of}
 use Rattle.syntax.specs.declared.limits.TheConstants.{MAX_ENTRIES}
 use Rattle.parser.specs.declared.top.TheConstants.{STATEMENT_ROOM}
 use Rattle.parser_base.specs.Cursor.{ahead}
 use Rattle.parser_base.specs.Reading.{Syntax}
 use Rattle.parser.specs.Reading.{top, top_next}
-use Rattle.parser_base.proofs.Lists.{more, ends, one_fails, next_fails, is_full, sum_by-pushed}
+use Rattle.parser_base.proofs.Lists.{more, ends, one_fails, next_fails, is_full}
 use Rattle.parser.proofs.file.declaration_list.Goals as goal
 
 pub returns-in_err-one-clause-tops : goal.returns-in_err-one-clause-tops
@@ -39,7 +38,6 @@ loop-preserved c =
     let lt : c.loop.counter < turns = omega (arith, c.len-end.ensures) in
     record {
       total = rw pushed (more top_of (top MAX_ENTRIES STATEMENT_ROOM) top_next Syntax turns c.loop.counter c.loop.entries.items (ahead c.loop.rest) c.in_ok-one.one (ahead c.in_ok-one.behind) (ahead c.in_ok-next.after) _ lt c.in_ok-one.ensures.top (rw c.in-More.is at c.in_ok-next.ensures) c.loop.invariant.total);
-      nodes = rw pushed (omega (arith, sum_by-pushed top_of top_size c.loop.entries.items c.in_ok-one.one, c.loop.invariant.nodes, c.in_ok-one.ensures.nodes));
     }
 
 pub returns-clause-tops : goal.returns-clause-tops

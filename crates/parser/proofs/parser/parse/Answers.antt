@@ -10,7 +10,7 @@ use Rattle.parser.specs.declared.top.TheConstants.{STATEMENT_ROOM}
 use Rattle.parser_base.specs.Cursor.{ahead}
 use Rattle.parser_base.specs.Lexemes.{lexeme, lexemes}
 use Rattle.parser.proofs.FileLaws.{file_sound}
-use Rattle.parser.proofs.Parsing.{fault_syntax, fault_deep, fault_many, size_read}
+use Rattle.parser.proofs.Parsing.{fault_syntax, fault_deep, fault_many, size_read, count_read}
 use Rattle.parser.proofs.parser.parse.Goals as goal
 
 pub returns-in_err-file-clause-syntax : goal.returns-in_err-file-clause-syntax
@@ -32,6 +32,12 @@ pub returns-in_err-file-clause-wide : goal.returns-in_err-file-clause-wide
 returns-in_err-file-clause-wide c =
     let p = err_from_is_err_and c.from_residual.result c.from_residual.ensures.1 in
     rw (p.1, p.2) (fault_many STATEMENT_ROOM MAX_ENTRIES (ahead c.new.result) (lexemes (bytes_of c.args.source.now) c.args.tokens.now) c.in_err-file.field-0.0 SelectClauses c.new.ensures c.in_err-file.ensures.file)
+
+pub file_spans-requires : goal.file_spans-requires
+file_spans-requires c =
+    let all = count_read STATEMENT_ROOM MAX_ENTRIES (ahead c.new.result) (file_of c.in_ok-file.file) c.in_ok-file.ensures.file in
+    let same = ap length c.new.ensures in
+    omega (arith, length-map c.args.tokens.now (lexeme (bytes_of c.args.source.now)))
 
 pub new-requires-2-clause-small : goal.new-requires-2-clause-small
 new-requires-2-clause-small c =

@@ -1,21 +1,14 @@
-use Rattle.std.proofs.Common.{◌≤◌, ◌<◌, ◌∙◌, length, is_ok, map, ap, arith, Option, option_map}
+use Rattle.std.proofs.Common.{◌≤◌, ◌<◌, length, is_ok, map, ap, arith}
 use Rattle.std.proofs.ResultArms.{chosen}
 use Rattle.std.proofs.lemmas.Result.{err_from_is_err_and}
-use Rattle.syntax.specs.Tree.{statements}
-use Rattle.syntax.specs.Measures.{SelectClauses, if_any, comm_size, statement_size, statements_size}
-use Rattle.syntax.specs.View.{comm_of, statement_of}
-use Rattle.syntax.specs.declared.node.ClauseNode.{ClauseNode}
-use Rattle.syntax.specs.declared.node.CommNode.{CommNode}
-use Rattle.syntax.specs.declared.node.StatementNode.{StatementNode}
-use Rattle.syntax.proofs.Lists.{statements_size-of}
-use Rattle.parser_base.specs.declared.list.List.{List}
+use Rattle.syntax.specs.Measures.{SelectClauses}
+use Rattle.syntax.specs.View.{statement_of}
 use Rattle.syntax.specs.declared.limits.TheConstants.{MAX_CLAUSES, MAX_ENTRIES}
 use Rattle.parser_base.specs.Cursor.{ahead}
 use Rattle.parser_base.specs.Reading.{Syntax, TooMany}
-use Rattle.parser_base.proofs.Lists.{more, ends, one_fails, next_fails, is_full, sum_by-pushed}
+use Rattle.parser_base.proofs.Lists.{more, ends, one_fails, next_fails, is_full}
 use Rattle.parser_statement.specs.Reading.{statement, statement_next, clause, clause_next, clauses_next}
-use Rattle.parser_statement.specs.Views.{clause_of, one_clause_size}
-use Rattle.parser_statement.proofs.StatementLists.{clauses_size-of}
+use Rattle.parser_statement.specs.Views.{clause_of}
 use Rattle.parser_statement.proofs.Rooms.{statement_begins, clause_begins, block_done, block_fails}
 use Rattle.parser_statement.proofs.statement.+statement.Goals as goal
 
@@ -28,32 +21,11 @@ comm_clause-returns-clause-clause t c = rw (clause_begins MAX_ENTRIES c.args.roo
 pub block-returns-in_err-all-clause-block : goal.block-returns-in_err-all-clause-block
 block-returns-in_err-all-clause-block t c =
     let p = err_from_is_err_and c.from_residual-in_err-all.result c.from_residual-in_err-all.ensures.1 in
-    rw (p.1, p.2) (block_fails c.in_err-all.field-0.0 MAX_ENTRIES c.args.room (ahead c.args.cursor) (ahead c.in_ok-first.rest) (omega arith) c.in_ok-first.ensures c.in_err-all.ensures.statements)
+    rw (p.1, p.2) (block_fails c.in_err-all.field-0.0 MAX_ENTRIES c.args.room (ahead c.args.cursor) (ahead c.in_ok-rest.rest) (omega arith) c.in_ok-rest.ensures c.in_err-all.ensures.statements)
 
 pub block-returns-clause-block : goal.block-returns-clause-block
 block-returns-clause-block t c =
-    rw c.in_ok-with_span.ensures.node (block_done MAX_ENTRIES c.args.room (ahead c.args.cursor) (ahead c.in_ok-first.rest) (map statement_of c.in_ok-all.all.entries.items) c.in_ok-all.all.trailing (ahead c.in_ok-all.all.rest) (omega arith) c.in_ok-first.ensures c.in_ok-all.ensures.statements)
-
-pub block-returns-clause-nodes : goal.block-returns-clause-nodes
-block-returns-clause-nodes t c = omega (arith, ap (λ (all : List StatementNode). statements_size (statements (map statement_of all.entries.items))) c.in_ok-with_span.ensures.node, statements_size-of (map statement_of c.in_ok-all.all.entries.items), c.in_ok-all.ensures.nodes, c.in_ok-with_span.ensures.nodes)
-
-pub clause_body-returns-clause-nodes : goal.clause_body-returns-clause-nodes
-clause_body-returns-clause-nodes t c =
-    let waits = c.in_ok-waits-2.ensures.ok.0 ∙ c.in_ok-waits.ensures.ok.0 in
-    omega (
-      arith,
-      ap (λ (one : ClauseNode). one_clause_size (clause_of one)) c.in_ok-with_span.ensures.node,
-      ap (if_any comm_size) c.clause_node.ensures.comm,
-      ap statements_size c.clause_node.ensures.body,
-      statements_size-of (map statement_of c.in_ok-waits-2.body.items),
-      ap (λ (x : Option CommNode). if_any comm_size (option_map comm_of x)) waits,
-      rw c.in_ok-waits-2.ensures.ok.1 at c.clause_statement_list.ensures.nodes,
-      c.in_ok-with_span.ensures.nodes,
-    )
-
-pub select_statement-returns-clause-nodes : goal.select_statement-returns-clause-nodes
-select_statement-returns-clause-nodes t c =
-    omega (arith, ap (λ (node : StatementNode). statement_size (statement_of node)) c.in_ok-node-2.ensures.node, ap statement_size c.select_node-2.ensures, clauses_size-of (map clause_of c.in_ok-all.all.entries.items), c.in_ok-all.ensures.nodes, c.in_ok-node-2.ensures.nodes)
+    block_done MAX_ENTRIES c.args.room (ahead c.args.cursor) (ahead c.in_ok-rest.rest) (map statement_of c.in_ok-all.all.entries.items) c.in_ok-all.all.trailing (ahead c.in_ok-all.all.rest) (omega arith) c.in_ok-rest.ensures c.in_ok-all.ensures.statements
 
 pub statement_list-returns-in_err-one-clause-statements : goal.statement_list-returns-in_err-one-clause-statements
 statement_list-returns-in_err-one-clause-statements t c =
@@ -83,7 +55,6 @@ statement_list-loop-preserved t c =
     let lt : c.loop.counter < turns = omega (arith, c.len-end.ensures) in
     record {
       total = rw pushed (more statement_of (statement MAX_ENTRIES c.args.room) statement_next Syntax turns c.loop.counter c.loop.entries.items (ahead c.loop.rest) c.in_ok-one.one (ahead c.in_ok-one.behind) (ahead c.in_ok-next.after) _ lt c.in_ok-one.ensures.statement (rw c.in-More.is at c.in_ok-next.ensures) c.loop.invariant.total);
-      nodes = rw pushed (omega (arith, sum_by-pushed statement_of statement_size c.loop.entries.items c.in_ok-one.one, c.loop.invariant.nodes, c.in_ok-one.ensures.nodes));
     }
 
 pub statement_list-returns-clause-statements : goal.statement_list-returns-clause-statements
@@ -120,7 +91,6 @@ clause_statement_list-loop-preserved t c =
     let lt : c.loop.counter < turns = omega (arith, c.len-end.ensures) in
     record {
       total = rw pushed (more statement_of (statement MAX_ENTRIES c.args.room) clause_next Syntax turns c.loop.counter c.loop.entries.items (ahead c.loop.rest) c.in_ok-one.one (ahead c.in_ok-one.behind) (ahead c.in_ok-next.after) _ lt c.in_ok-one.ensures.statement (rw c.in-More.is at c.in_ok-next.ensures) c.loop.invariant.total);
-      nodes = rw pushed (omega (arith, sum_by-pushed statement_of statement_size c.loop.entries.items c.in_ok-one.one, c.loop.invariant.nodes, c.in_ok-one.ensures.nodes));
     }
 
 pub clause_statement_list-returns-clause-statements : goal.clause_statement_list-returns-clause-statements
@@ -149,7 +119,6 @@ comm_clauses-loop-preserved t c =
     let pushed = chosen _ _ _ _ c.push.ensures.items (ap is_ok c.in_ok-push.was) in
     record {
       total = rw pushed (more clause_of (clause MAX_ENTRIES c.args.room) clauses_next (TooMany SelectClauses) MAX_CLAUSES c.loop.counter c.loop.entries.items (ahead c.loop.rest) c.in_ok-one.one (ahead c.in_ok-one.behind) (ahead c.in_ok-next.after) _ c.loop-test.true c.in_ok-one.ensures.clause (rw c.in-More.is at c.in_ok-next.ensures) c.loop.invariant.total);
-      nodes = rw pushed (omega (arith, sum_by-pushed clause_of one_clause_size c.loop.entries.items c.in_ok-one.one, c.loop.invariant.nodes, c.in_ok-one.ensures.nodes));
     }
 
 pub comm_clauses-returns-clause-clauses : goal.comm_clauses-returns-clause-clauses
