@@ -14,7 +14,7 @@ use crate::found::Found;
 use crate::list::{List, Next};
 use crate::literal::literal;
 use crate::operator::{Infix, infix_of, precedence, strength, unary_of};
-use go_text::{Fault, LimitKind, Place};
+use go_text::{Fault, LimitKind};
 use scanner::TokenKind;
 use std::alloc::Global;
 use syntax::limits::MAX_ENTRIES;
@@ -293,13 +293,13 @@ fn operand_name<'a>(
 /// An expression in parentheses, behind the first of them, which stands at `first`.
 #[cycle(expression)]
 #[tactic(auto, unfolding(crate::specs::Reading::parenthesized, crate::specs::Reading::expression))]
-fn parenthesized(
+fn parenthesized<'a>(
     alloc: Global,
     literals: bool,
     room: u32,
-    first: Place,
-    cursor: Cursor<'_>,
-) -> Result<Measured<'_>, Fault>
+    first: Cursor<'a>,
+    cursor: Cursor<'a>,
+) -> Result<Measured<'a>, Fault>
     requires { 1 ≤ room }
     ensures tree { Gives (λ x. (expression_of x.node, ahead x.rest)) result (parenthesized (expression literals MAX_ENTRIES (room - 1)) (ahead cursor.entry)) }
     ensures height { IfOk result (λ x. x.height ≡ expression_height (expression_of x.node)) }
@@ -307,7 +307,7 @@ fn parenthesized(
     ensures within { IfOk result (λ x. x.height ≤ room) }
 {
     if room < 2 {
-        return Err(Fault::TooDeep(first));
+        return Err(Fault::TooDeep(first.place()));
     }
     let inner = measured_expression(alloc, literals, room - 1, 0, cursor)?;
     let rest = inner.rest.expect(TokenKind::RightParenthesis)?;
@@ -322,14 +322,14 @@ fn parenthesized(
 /// The operand of a unary operator, which stands at `first`.
 #[cycle(expression)]
 #[tactic(auto, unfolding(crate::specs::Reading::expression))]
-fn unary_expression(
+fn unary_expression<'a>(
     alloc: Global,
     literals: bool,
     room: u32,
     operator: UnaryOperator,
-    first: Place,
-    cursor: Cursor<'_>,
-) -> Result<Measured<'_>, Fault>
+    first: Cursor<'a>,
+    cursor: Cursor<'a>,
+) -> Result<Measured<'a>, Fault>
     requires { 1 ≤ room }
     ensures tree { Gives (λ x. (expression_of x.node, ahead x.rest)) result (negated (expression literals MAX_ENTRIES (room - 1)) (ahead cursor.entry) (Some operator)) }
     ensures height { IfOk result (λ x. x.height ≡ expression_height (expression_of x.node)) }
@@ -337,7 +337,7 @@ fn unary_expression(
     ensures within { IfOk result (λ x. x.height ≤ room) }
 {
     if room < 2 {
-        return Err(Fault::TooDeep(first));
+        return Err(Fault::TooDeep(first.place()));
     }
     let operand = measured_expression(alloc, literals, room - 1, 6, cursor)?;
     let node = unary_node(alloc, operator, operand.node)?;
@@ -363,9 +363,8 @@ fn operand(
     ensures leaf { IfOk result (λ x. 1 ≤ x.height) }
     ensures within { IfOk result (λ x. x.height ≤ room) }
 {
-    let first = cursor.place();
     let Some((word, rest)) = cursor.next() else {
-        return Err(Fault::Syntax(first));
+        return Err(Fault::Syntax(cursor.place()));
     };
     match word {
         Word::Literal(digits) => Ok(Measured {
@@ -375,19 +374,19 @@ fn operand(
         }),
         Word::Name(name) => {
             if is_builtin(name) {
-                return Err(Fault::Syntax(first));
+                return Err(Fault::Syntax(cursor.place()));
             }
             operand_name(alloc, literals, room, name, rest)
         }
-        Word::Text(_) => Err(Fault::Syntax(first)),
+        Word::Text(_) => Err(Fault::Syntax(cursor.place())),
         Word::Mark(kind) => {
             if kind == TokenKind::LeftParenthesis {
-                return parenthesized(alloc, literals, room, first, rest);
+                return parenthesized(alloc, literals, room, cursor, rest);
             }
             let Some(operator) = unary_of(kind) else {
-                return Err(Fault::Syntax(first));
+                return Err(Fault::Syntax(cursor.place()));
             };
-            unary_expression(alloc, literals, room, operator, first, rest)
+            unary_expression(alloc, literals, room, operator, cursor, rest)
         }
     }
 }

@@ -11,7 +11,7 @@ ghost use Rattle.parser_base.specs.TypeReading.{parenthesized_type, channel, beh
 use crate::cursor::{Cursor, Word, is_builtin};
 use crate::expression::name_node;
 use crate::found::Found;
-use go_text::{Fault, Place};
+use go_text::Fault;
 use scanner::TokenKind;
 use std::alloc::Global;
 use syntax::{Direction, TypeNode};
@@ -43,17 +43,17 @@ fn channel_node(alloc: Global, direction: Direction, element: TypeNode) -> Resul
 /// A type in parentheses, behind the first of them, which stands at `first`.
 #[cycle(type_at)]
 #[tactic(auto, unfolding(crate::specs::TypeReading::parenthesized_type, crate::specs::TypeReading::type_at))]
-fn parenthesized_type(
+fn parenthesized_type<'a>(
     alloc: Global,
     room: u32,
-    first: Place,
-    cursor: Cursor<'_>,
-) -> Result<Found<'_, TypeNode>, Fault>
+    first: Cursor<'a>,
+    cursor: Cursor<'a>,
+) -> Result<Found<'a, TypeNode>, Fault>
     requires { 1 ≤ room }
     ensures { Gives (λ x. (type_of x.node, ahead x.rest)) result (parenthesized_type (type_at (room - 1)) (ahead cursor.entry)) }
 {
     if room < 2 {
-        return Err(Fault::TooDeep(first));
+        return Err(Fault::TooDeep(first.place()));
     }
     let inner = type_at(alloc, room - 1, cursor)?;
     let rest = inner.rest.expect(TokenKind::RightParenthesis)?;
@@ -64,18 +64,18 @@ fn parenthesized_type(
 /// A channel type of this direction, from the type of its elements on; its first token stands at `first`.
 #[cycle(type_at)]
 #[tactic(auto, unfolding(crate::specs::TypeReading::type_at))]
-fn channel_type(
+fn channel_type<'a>(
     alloc: Global,
     room: u32,
     direction: Direction,
-    first: Place,
-    cursor: Cursor<'_>,
-) -> Result<Found<'_, TypeNode>, Fault>
+    first: Cursor<'a>,
+    cursor: Cursor<'a>,
+) -> Result<Found<'a, TypeNode>, Fault>
     requires { 1 ≤ room }
     ensures { Gives (λ x. (type_of x.node, ahead x.rest)) result (channel direction (type_at (room - 1)) (ahead cursor.entry)) }
 {
     if room < 2 {
-        return Err(Fault::TooDeep(first));
+        return Err(Fault::TooDeep(first.place()));
     }
     let element = type_at(alloc, room - 1, cursor)?;
     let node = channel_node(alloc, direction, element.node)?;
@@ -88,12 +88,12 @@ fn channel_type(
 /// A channel type behind `chan`, which stands at `first`: one to send alone where `<-` follows.
 #[cycle(type_at)]
 #[tactic(auto, unfolding(crate::specs::TypeReading::behind_chan))]
-fn behind_chan(
+fn behind_chan<'a>(
     alloc: Global,
     room: u32,
-    first: Place,
-    cursor: Cursor<'_>,
-) -> Result<Found<'_, TypeNode>, Fault>
+    first: Cursor<'a>,
+    cursor: Cursor<'a>,
+) -> Result<Found<'a, TypeNode>, Fault>
     requires { 1 ≤ room }
     ensures { Gives (λ x. (type_of x.node, ahead x.rest)) result (behind_chan (type_at (room - 1)) (ahead cursor.entry)) }
 {
@@ -108,12 +108,12 @@ fn behind_chan(
 /// A channel type to receive from alone, behind `<-`, which stands at `first`.
 #[cycle(type_at)]
 #[tactic(auto, unfolding(crate::specs::TypeReading::behind_arrow))]
-fn behind_arrow(
+fn behind_arrow<'a>(
     alloc: Global,
     room: u32,
-    first: Place,
-    cursor: Cursor<'_>,
-) -> Result<Found<'_, TypeNode>, Fault>
+    first: Cursor<'a>,
+    cursor: Cursor<'a>,
+) -> Result<Found<'a, TypeNode>, Fault>
     requires { 1 ≤ room }
     ensures { Gives (λ x. (type_of x.node, ahead x.rest)) result (behind_arrow (type_at (room - 1)) (ahead cursor.entry)) }
 {
@@ -127,30 +127,29 @@ fn behind_arrow(
 pub fn type_at(alloc: Global, room: u32, cursor: Cursor<'_>) -> Result<Found<'_, TypeNode>, Fault>
     ensures { Gives (λ x. (type_of x.node, ahead x.rest)) result (type_at room (ahead cursor.entry)) }
 {
-    let first = cursor.place();
     if room == 0 {
-        return Err(Fault::TooDeep(first));
+        return Err(Fault::TooDeep(cursor.place()));
     }
     match cursor.next() {
         Some((Word::Name(name), rest)) => {
             if is_builtin(name) {
-                return Err(Fault::Syntax(first));
+                return Err(Fault::Syntax(cursor.place()));
             }
             let node = named_node(alloc, name)?;
             Ok(Found { node, rest })
         }
         Some((Word::Mark(kind), rest)) => {
             if kind == TokenKind::LeftParenthesis {
-                return parenthesized_type(alloc, room, first, rest);
+                return parenthesized_type(alloc, room, cursor, rest);
             }
             if kind == TokenKind::Chan {
-                return behind_chan(alloc, room, first, rest);
+                return behind_chan(alloc, room, cursor, rest);
             }
             if kind == TokenKind::Arrow {
-                return behind_arrow(alloc, room, first, rest);
+                return behind_arrow(alloc, room, cursor, rest);
             }
-            Err(Fault::Syntax(first))
+            Err(Fault::Syntax(cursor.place()))
         }
-        _ => Err(Fault::Syntax(first)),
+        _ => Err(Fault::Syntax(cursor.place())),
     }
 }

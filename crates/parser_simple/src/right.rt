@@ -183,14 +183,14 @@ fn builtin_operation<'a>(
     literals: bool,
     room: u32,
     name: &[u8],
-    first: Place,
+    first: Cursor<'a>,
     cursor: Cursor<'a>,
 ) -> Result<Found<'a, OperationNode>, Fault>
     ensures { Gives (λ x. (operation_of x.node, ahead x.rest)) result (builtin_operation literals MAX_ENTRIES room name.now (ahead cursor.entry)) }
 {
     let measures = name == b"len".as_slice() || name == b"cap".as_slice();
     if (name == b"make".as_slice() || measures) && room < 1 {
-        return Err(Fault::TooDeep(first));
+        return Err(Fault::TooDeep(first.place()));
     }
     if name == b"make".as_slice() {
         return make_call(alloc, literals, room, cursor);
@@ -201,7 +201,7 @@ fn builtin_operation<'a>(
     if name == b"cap".as_slice() {
         return cap_call(alloc, literals, room, cursor);
     }
-    Err(Fault::Syntax(first))
+    Err(Fault::Syntax(first.place()))
 }
 
 /// A call of a function behind its name.
@@ -223,16 +223,16 @@ fn call<'a>(
 }
 
 /// A receive behind its arrow, which stands at `first`.
-fn receive_operation(
+fn receive_operation<'a>(
     alloc: Global,
     literals: bool,
     room: u32,
-    first: Place,
-    cursor: Cursor<'_>,
-) -> Result<Found<'_, OperationNode>, Fault>
+    first: Cursor<'a>,
+    cursor: Cursor<'a>,
+) -> Result<Found<'a, OperationNode>, Fault>
     ensures { Gives (λ x. (operation_of x.node, ahead x.rest)) result (as_one Receive (received literals MAX_ENTRIES room (ahead cursor.entry))) }
 {
-    let channel = receive_operand(alloc, literals, room, first, cursor)?;
+    let channel = receive_operand(alloc, literals, room, first.place(), cursor)?;
     Ok(Found {
         node: OperationNode::Receive(channel.node),
         rest: channel.rest,
@@ -262,21 +262,20 @@ pub fn operation(
 ) -> Result<Found<'_, OperationNode>, Fault>
     ensures { Gives (λ x. (operation_of x.node, ahead x.rest)) result (operation literals MAX_ENTRIES room (ahead cursor.entry)) }
 {
-    let first = cursor.place();
     match cursor.next() {
         Some((Word::Mark(kind), rest)) => {
             if kind != TokenKind::Arrow {
-                return Err(Fault::Syntax(first));
+                return Err(Fault::Syntax(cursor.place()));
             }
-            receive_operation(alloc, literals, room, first, rest)
+            receive_operation(alloc, literals, room, cursor, rest)
         }
         Some((Word::Name(name), rest)) => {
             if is_builtin(name) {
-                return builtin_operation(alloc, literals, room, name, first, rest);
+                return builtin_operation(alloc, literals, room, name, cursor, rest);
             }
             call(alloc, literals, room, name, rest)
         }
-        _ => Err(Fault::Syntax(first)),
+        _ => Err(Fault::Syntax(cursor.place())),
     }
 }
 

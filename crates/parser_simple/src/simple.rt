@@ -11,7 +11,7 @@ ghost use Rattle.parser_simple.specs.Reading.{as_one, begins_part, part, parts, 
 use crate::form::{Form, begins_with, defines, fits, form_of, update_kind};
 use crate::place::{names, place, places};
 use crate::right::{argument, arguments, primary_expression, receive_operand, right_side};
-use go_text::{Fault, LimitKind, Place};
+use go_text::{Fault, LimitKind};
 use parser_base::beside::beside;
 use parser_base::cursor::{Cursor, Word, is_builtin};
 use parser_base::expression::{begins, closed, expression, name_node};
@@ -167,7 +167,7 @@ fn builtin_call<'a>(
     literals: bool,
     room: u32,
     name: &[u8],
-    first: Place,
+    first: Cursor<'a>,
     cursor: Cursor<'a>,
 ) -> Result<Found<'a, SimpleNode>, Fault>
     ensures { Gives (λ x. (simple_of x.node, ahead x.rest)) result (builtin_call literals MAX_ENTRIES room name.now (ahead cursor.entry)) }
@@ -180,11 +180,11 @@ fn builtin_call<'a>(
     }
     if name == b"close".as_slice() {
         if room < 1 {
-            return Err(Fault::TooDeep(first));
+            return Err(Fault::TooDeep(first.place()));
         }
         return close_call(alloc, literals, room, cursor);
     }
-    Err(Fault::Syntax(first))
+    Err(Fault::Syntax(first.place()))
 }
 
 /// A call of a function alone, behind its name.
@@ -206,16 +206,16 @@ fn call_statement<'a>(
 }
 
 /// A receive alone, behind its arrow, which stands at `first`.
-fn receive_statement(
+fn receive_statement<'a>(
     alloc: Global,
     literals: bool,
     room: u32,
-    first: Place,
-    cursor: Cursor<'_>,
-) -> Result<Found<'_, SimpleNode>, Fault>
+    first: Cursor<'a>,
+    cursor: Cursor<'a>,
+) -> Result<Found<'a, SimpleNode>, Fault>
     ensures { Gives (λ x. (simple_of x.node, ahead x.rest)) result (as_one ReceiveAlone (received literals MAX_ENTRIES room (ahead cursor.entry))) }
 {
-    let channel = receive_operand(alloc, literals, room, first, cursor)?;
+    let channel = receive_operand(alloc, literals, room, first.place(), cursor)?;
     Ok(Found {
         node: SimpleNode::Receive(channel.node),
         rest: channel.rest,
@@ -376,14 +376,12 @@ pub fn statement_unless_value(
 {
     match cursor.next() {
         Some((Word::Mark(TokenKind::Arrow), rest)) => {
-            let first = cursor.place();
-            let found = receive_statement(alloc, literals, room, first, rest)?;
+            let found = receive_statement(alloc, literals, room, cursor, rest)?;
             Ok(as_some(found))
         }
         Some((Word::Name(name), rest)) => {
             if is_builtin(name) {
-                let first = cursor.place();
-                let found = builtin_call(alloc, literals, room, name, first, rest)?;
+                let found = builtin_call(alloc, literals, room, name, cursor, rest)?;
                 return Ok(as_some(found));
             }
             if begins_with(TokenKind::LeftParenthesis, rest) {
