@@ -50,7 +50,7 @@ fn declared(
     room: u32,
     cursor: Cursor<'_>,
 ) -> Result<(DeclaredNode, Cursor<'_>), Fault>
-    ensures declared { Gives (λ x. (declared_of x.0, ahead x.1)) result (declared most room (ahead cursor.entry)) }
+    ensures { Gives (λ x. (declared_of x.0, ahead x.1)) result (declared most room (ahead cursor.entry)) }
 {
     let all = names(alloc, TokenKind::Comma, most, cursor)?;
     let (names, found) = beside(all.entries, type_at(alloc, room, all.rest))?;
@@ -69,7 +69,7 @@ fn some_declared(
     room: u32,
     cursor: Cursor<'_>,
 ) -> Result<List<'_, DeclaredNode>, Fault>
-    ensures declared { Gives (λ x. ((map declared_of x.entries.items, x.trailing), ahead x.rest)) result (some_declared separator close room MAX_ENTRIES MAX_ENTRIES (ahead cursor.entry)) }
+    ensures { Gives (λ x. ((map declared_of x.entries.items, x.trailing), ahead x.rest)) result (some_declared separator close room MAX_ENTRIES MAX_ENTRIES (ahead cursor.entry)) }
 {
     let mut entries = Vec::new(alloc);
     let mut rest = cursor;
@@ -104,7 +104,7 @@ pub(crate) fn all_declared(
     room: u32,
     cursor: Cursor<'_>,
 ) -> Result<List<'_, DeclaredNode>, Fault>
-    ensures declared { Gives (λ x. ((map declared_of x.entries.items, x.trailing), ahead x.rest)) result (all_declared separator close MAX_ENTRIES room (ahead cursor.entry)) }
+    ensures { Gives (λ x. ((map declared_of x.entries.items, x.trailing), ahead x.rest)) result (all_declared separator close MAX_ENTRIES room (ahead cursor.entry)) }
 {
     if begins_name(cursor) {
         return some_declared(alloc, separator, close, room, cursor);

@@ -30,7 +30,7 @@ fn declaration_next(cursor: Cursor<'_>) -> Result<(Next, Cursor<'_>), Fault>
 
 /// At least one declaration, to the file's end.
 fn declaration_list(alloc: Global, cursor: Cursor<'_>) -> Result<List<'_, TopNode>, Fault>
-    ensures tops { Gives (λ x. ((map top_of x.entries.items, x.trailing), ahead x.rest)) result (listed (top MAX_ENTRIES STATEMENT_ROOM) top_next Syntax (length (ahead cursor.entry)) (ahead cursor.entry)) }
+    ensures { Gives (λ x. ((map top_of x.entries.items, x.trailing), ahead x.rest)) result (listed (top MAX_ENTRIES STATEMENT_ROOM) top_next Syntax (length (ahead cursor.entry)) (ahead cursor.entry)) }
 {
     let mut entries = Vec::new(alloc);
     let mut rest = cursor;
@@ -53,7 +53,7 @@ fn declaration_list(alloc: Global, cursor: Cursor<'_>) -> Result<List<'_, TopNod
 /// The declarations of a file behind the semicolon of its first line.
 #[tactic(auto, unfolding(crate::specs::Reading::tops))]
 fn declarations(alloc: Global, cursor: Cursor<'_>) -> Result<List<'_, TopNode>, Fault>
-    ensures tops { Gives (λ x. ((map top_of x.entries.items, x.trailing), ahead x.rest)) result (tops MAX_ENTRIES STATEMENT_ROOM (ahead cursor.entry)) }
+    ensures { Gives (λ x. ((map top_of x.entries.items, x.trailing), ahead x.rest)) result (tops MAX_ENTRIES STATEMENT_ROOM (ahead cursor.entry)) }
 {
     if cursor.next().is_some() {
         return declaration_list(alloc, cursor);
@@ -68,7 +68,7 @@ fn declarations(alloc: Global, cursor: Cursor<'_>) -> Result<List<'_, TopNode>, 
 /// A whole file.
 #[tactic(auto, unfolding(crate::specs::Reading::file))]
 pub(crate) fn file(alloc: Global, cursor: Cursor<'_>) -> Result<FileNode, Fault>
-    ensures file { Gives file_of result (file MAX_ENTRIES STATEMENT_ROOM (ahead cursor.entry)) }
+    ensures { Gives file_of result (file MAX_ENTRIES STATEMENT_ROOM (ahead cursor.entry)) }
 {
     let rest = cursor.expect(TokenKind::Package)?;
     let rest = rest.expect_name(b"main")?;

@@ -25,7 +25,7 @@ pub const STATEMENT_ROOM: u32 = MAX_HEIGHT - 3;
 /// A declaration of a struct type.
 #[tactic(auto, unfolding(crate::specs::Reading::structure))]
 fn type_declaration(alloc: Global, cursor: Cursor<'_>) -> Result<(TopNode, Cursor<'_>), Fault>
-    ensures top { Gives (λ x. (top_of x.0, ahead x.1)) result (structure MAX_ENTRIES STATEMENT_ROOM (ahead cursor.entry)) }
+    ensures { Gives (λ x. (top_of x.0, ahead x.1)) result (structure MAX_ENTRIES STATEMENT_ROOM (ahead cursor.entry)) }
 {
     let rest = cursor.expect(TokenKind::TypeKeyword)?;
     let (name, rest) = name_at(alloc, rest)?;
@@ -49,7 +49,7 @@ fn type_declaration(alloc: Global, cursor: Cursor<'_>) -> Result<(TopNode, Curso
 /// The type of a function's result, if there is one before its block.
 #[tactic(auto, unfolding(crate::specs::Reading::result_type))]
 fn result_type(alloc: Global, cursor: Cursor<'_>) -> Result<(Option<TypeNode>, Cursor<'_>), Fault>
-    ensures kind { Gives (λ x. (option_map type_of x.0, ahead x.1)) result (result_type (STATEMENT_ROOM + 1) (ahead cursor.entry)) }
+    ensures { Gives (λ x. (option_map type_of x.0, ahead x.1)) result (result_type (STATEMENT_ROOM + 1) (ahead cursor.entry)) }
 {
     if begins_with(TokenKind::LeftBrace, cursor) {
         return Ok((None, cursor));
@@ -61,7 +61,7 @@ fn result_type(alloc: Global, cursor: Cursor<'_>) -> Result<(Option<TypeNode>, C
 /// The statements of a function's block.
 #[tactic(auto, unfolding(crate::specs::Reading::block))]
 fn function_body(alloc: Global, cursor: Cursor<'_>) -> Result<List<'_, StatementNode>, Fault>
-    ensures block { Gives (λ x. ((map statement_of x.entries.items, x.trailing), ahead x.rest)) result (block MAX_ENTRIES STATEMENT_ROOM (ahead cursor.entry)) }
+    ensures { Gives (λ x. ((map statement_of x.entries.items, x.trailing), ahead x.rest)) result (block MAX_ENTRIES STATEMENT_ROOM (ahead cursor.entry)) }
 {
     let rest = cursor.expect(TokenKind::LeftBrace)?;
     statement_list(alloc, STATEMENT_ROOM, rest)
@@ -70,7 +70,7 @@ fn function_body(alloc: Global, cursor: Cursor<'_>) -> Result<List<'_, Statement
 /// A declaration of a function.
 #[tactic(auto, unfolding(crate::specs::Reading::function))]
 fn function_declaration(alloc: Global, cursor: Cursor<'_>) -> Result<(TopNode, Cursor<'_>), Fault>
-    ensures top { Gives (λ x. (top_of x.0, ahead x.1)) result (function MAX_ENTRIES STATEMENT_ROOM (ahead cursor.entry)) }
+    ensures { Gives (λ x. (top_of x.0, ahead x.1)) result (function MAX_ENTRIES STATEMENT_ROOM (ahead cursor.entry)) }
 {
     let rest = cursor.expect(TokenKind::Func)?;
     let (name, rest) = name_at(alloc, rest)?;
@@ -97,7 +97,7 @@ fn function_declaration(alloc: Global, cursor: Cursor<'_>) -> Result<(TopNode, C
 /// A declaration of a struct type or a function.
 #[tactic(auto, unfolding(crate::specs::Reading::top))]
 pub(crate) fn declaration(alloc: Global, cursor: Cursor<'_>) -> Result<(TopNode, Cursor<'_>), Fault>
-    ensures top { Gives (λ x. (top_of x.0, ahead x.1)) result (top MAX_ENTRIES STATEMENT_ROOM (ahead cursor.entry)) }
+    ensures { Gives (λ x. (top_of x.0, ahead x.1)) result (top MAX_ENTRIES STATEMENT_ROOM (ahead cursor.entry)) }
 {
     if begins_with(TokenKind::TypeKeyword, cursor) {
         type_declaration(alloc, cursor)

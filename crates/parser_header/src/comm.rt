@@ -37,7 +37,7 @@ fn second_name(alloc: Global, cursor: Cursor<'_>) -> Result<(Option<Name>, Curso
 /// A second place behind a comma, if there is one.
 #[tactic(auto, unfolding(crate::specs::Reading::second))]
 fn second_place(alloc: Global, cursor: Cursor<'_>) -> Result<(Option<PlaceNode>, Cursor<'_>), Fault>
-    ensures place { Gives (λ x. (option_map place_of x.0, ahead x.1)) result (second place (ahead cursor.entry)) }
+    ensures { Gives (λ x. (option_map place_of x.0, ahead x.1)) result (second place (ahead cursor.entry)) }
 {
     if !begins_with(TokenKind::Comma, cursor) {
         return Ok((None, cursor));
@@ -54,7 +54,7 @@ fn defining_receive(
     room: u32,
     cursor: Cursor<'_>,
 ) -> Result<(CommNode, Cursor<'_>), Fault>
-    ensures comm { Gives (λ x. (comm_of x.0, ahead x.1)) result (comm_defined MAX_ENTRIES room (ahead cursor.entry)) }
+    ensures { Gives (λ x. (comm_of x.0, ahead x.1)) result (comm_defined MAX_ENTRIES room (ahead cursor.entry)) }
 {
     let (item, rest) = name_at(alloc, cursor)?;
     let (item, (ok, rest)) = beside(item, second_name(alloc, rest))?;
@@ -71,7 +71,7 @@ fn assigning_receive(
     room: u32,
     cursor: Cursor<'_>,
 ) -> Result<(CommNode, Cursor<'_>), Fault>
-    ensures comm { Gives (λ x. (comm_of x.0, ahead x.1)) result (comm_assigned MAX_ENTRIES room (ahead cursor.entry)) }
+    ensures { Gives (λ x. (comm_of x.0, ahead x.1)) result (comm_assigned MAX_ENTRIES room (ahead cursor.entry)) }
 {
     let item = place(alloc, cursor)?;
     let (item, (ok, rest)) = beside(item.node, second_place(alloc, item.rest))?;
@@ -88,7 +88,7 @@ fn send_statement(
     room: u32,
     cursor: Cursor<'_>,
 ) -> Result<(CommNode, Cursor<'_>), Fault>
-    ensures comm { Gives (λ x. (comm_of x.0, ahead x.1)) result (sent CommSend true MAX_ENTRIES room (ahead cursor.entry)) }
+    ensures { Gives (λ x. (comm_of x.0, ahead x.1)) result (sent CommSend true MAX_ENTRIES room (ahead cursor.entry)) }
 {
     let channel = send_operand(alloc, true, room, cursor)?;
     let (channel, rest) = beside(channel.node, channel.rest.expect(TokenKind::Arrow))?;
@@ -102,7 +102,7 @@ fn lone_receive(
     room: u32,
     cursor: Cursor<'_>,
 ) -> Result<(CommNode, Cursor<'_>), Fault>
-    ensures comm { Gives (λ x. (comm_of x.0, ahead x.1)) result (as_one CommReceive (primary true MAX_ENTRIES room (ahead cursor.entry))) }
+    ensures { Gives (λ x. (comm_of x.0, ahead x.1)) result (as_one CommReceive (primary true MAX_ENTRIES room (ahead cursor.entry))) }
 {
     let channel = primary_expression(alloc, true, room, cursor)?;
     Ok((CommNode::Receive(channel.node), channel.rest))
@@ -116,7 +116,7 @@ fn form_statement(
     form: Form,
     cursor: Cursor<'_>,
 ) -> Result<(CommNode, Cursor<'_>), Fault>
-    ensures comm { Gives (λ x. (comm_of x.0, ahead x.1)) result (comm_formed MAX_ENTRIES room form (ahead cursor.entry)) }
+    ensures { Gives (λ x. (comm_of x.0, ahead x.1)) result (comm_formed MAX_ENTRIES room form (ahead cursor.entry)) }
 {
     match form {
         Form::Define(_) if defines(cursor) => defining_receive(alloc, room, cursor),
@@ -134,7 +134,7 @@ pub fn comm_statement(
     room: u32,
     cursor: Cursor<'_>,
 ) -> Result<(CommNode, Cursor<'_>), Fault>
-    ensures comm { Gives (λ x. (comm_of x.0, ahead x.1)) result (comm MAX_ENTRIES room (ahead cursor.entry)) }
+    ensures { Gives (λ x. (comm_of x.0, ahead x.1)) result (comm MAX_ENTRIES room (ahead cursor.entry)) }
 {
     if let Some((Word::Mark(TokenKind::Arrow), rest)) = cursor.next() {
         return lone_receive(alloc, room, rest);

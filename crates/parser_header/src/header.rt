@@ -44,7 +44,7 @@ fn condition_or_send(
     room: u32,
     found: Found<'_, ExpressionNode>,
 ) -> Result<(HeadNode, Cursor<'_>), Fault>
-    ensures head { Gives (λ x. (head_of x.0, ahead x.1)) result (condition_or_sent MAX_ENTRIES room (expression_of found.entry.node, ahead found.entry.rest)) }
+    ensures { Gives (λ x. (head_of x.0, ahead x.1)) result (condition_or_sent MAX_ENTRIES room (expression_of found.entry.node, ahead found.entry.rest)) }
 {
     if !begins_with(TokenKind::Arrow, found.rest) || !is_primary(&found.node) {
         return Ok((HeadNode::Condition(found.node), found.rest));
@@ -62,7 +62,7 @@ pub fn simple_or_condition(
     room: u32,
     cursor: Cursor<'_>,
 ) -> Result<(HeadNode, Cursor<'_>), Fault>
-    ensures head { Gives (λ x. (head_of x.0, ahead x.1)) result (head MAX_ENTRIES room (ahead cursor.entry)) }
+    ensures { Gives (λ x. (head_of x.0, ahead x.1)) result (head MAX_ENTRIES room (ahead cursor.entry)) }
 {
     let found = statement_unless_value(alloc, false, true, room, cursor)?;
     let rest = found.rest;
@@ -82,7 +82,7 @@ fn condition_behind_semicolon(
     room: u32,
     cursor: Cursor<'_>,
 ) -> Result<Found<'_, ExpressionNode>, Fault>
-    ensures condition { Gives (λ x. (expression_of x.node, ahead x.rest)) result (behind_semicolon MAX_ENTRIES room (ahead cursor.entry)) }
+    ensures { Gives (λ x. (expression_of x.node, ahead x.rest)) result (behind_semicolon MAX_ENTRIES room (ahead cursor.entry)) }
 {
     let rest = cursor.expect(TokenKind::Semicolon)?;
     expression(alloc, false, room, 0, rest)
@@ -96,7 +96,7 @@ pub fn if_header(
     room: u32,
     cursor: Cursor<'_>,
 ) -> Result<((IfHeader, ExpressionNode), Cursor<'_>), Fault>
-    ensures header { Gives (λ x. ((if_head_of x.0.0, expression_of x.0.1), ahead x.1)) result (if_header MAX_ENTRIES room (ahead cursor.entry)) }
+    ensures { Gives (λ x. ((if_head_of x.0.0, expression_of x.0.1), ahead x.1)) result (if_header MAX_ENTRIES room (ahead cursor.entry)) }
 {
     if begins_with(TokenKind::Semicolon, cursor) {
         let found = condition_behind_semicolon(alloc, room, cursor)?;
@@ -118,7 +118,7 @@ fn optional_condition(
     room: u32,
     cursor: Cursor<'_>,
 ) -> Result<(Option<ExpressionNode>, Cursor<'_>), Fault>
-    ensures test { Gives (λ x. (option_map expression_of x.0, ahead x.1)) result (unless_next TokenKind.Semicolon (condition MAX_ENTRIES room) (ahead cursor.entry)) }
+    ensures { Gives (λ x. (option_map expression_of x.0, ahead x.1)) result (unless_next TokenKind.Semicolon (condition MAX_ENTRIES room) (ahead cursor.entry)) }
 {
     if begins_with(TokenKind::Semicolon, cursor) {
         return Ok((None, cursor));
@@ -133,7 +133,7 @@ fn optional_post(
     room: u32,
     cursor: Cursor<'_>,
 ) -> Result<(Option<SimpleNode>, Cursor<'_>), Fault>
-    ensures post { Gives (λ x. (option_map simple_of x.0, ahead x.1)) result (unless_next TokenKind.LeftBrace (simple false false MAX_ENTRIES room) (ahead cursor.entry)) }
+    ensures { Gives (λ x. (option_map simple_of x.0, ahead x.1)) result (unless_next TokenKind.LeftBrace (simple false false MAX_ENTRIES room) (ahead cursor.entry)) }
 {
     if begins_with(TokenKind::LeftBrace, cursor) {
         return Ok((None, cursor));
@@ -148,7 +148,7 @@ fn post_behind_semicolon(
     room: u32,
     cursor: Cursor<'_>,
 ) -> Result<(Option<SimpleNode>, Cursor<'_>), Fault>
-    ensures post { Gives (λ x. (option_map simple_of x.0, ahead x.1)) result (post_behind MAX_ENTRIES room (ahead cursor.entry)) }
+    ensures { Gives (λ x. (option_map simple_of x.0, ahead x.1)) result (post_behind MAX_ENTRIES room (ahead cursor.entry)) }
 {
     let rest = cursor.expect(TokenKind::Semicolon)?;
     optional_post(alloc, room, rest)
@@ -162,7 +162,7 @@ fn for_clauses(
     first: Option<SimpleNode>,
     cursor: Cursor<'_>,
 ) -> Result<(ForHeader, Cursor<'_>), Fault>
-    ensures header { Gives (λ x. (for_head_of x.0, ahead x.1)) result (for_clauses (option_map simple_of first) MAX_ENTRIES room (ahead cursor.entry)) }
+    ensures { Gives (λ x. (for_head_of x.0, ahead x.1)) result (for_clauses (option_map simple_of first) MAX_ENTRIES room (ahead cursor.entry)) }
 {
     let (first, (condition, rest)) = beside(first, optional_condition(alloc, room, cursor))?;
     let ((first, condition), (post, rest)) = beside(
@@ -180,7 +180,7 @@ fn range_clause(
     target: RangeTarget,
     cursor: Cursor<'_>,
 ) -> Result<(ForHeader, Cursor<'_>), Fault>
-    ensures header { Gives (λ x. (for_head_of x.0, ahead x.1)) result (ranged (target_of target) MAX_ENTRIES room (ahead cursor.entry)) }
+    ensures { Gives (λ x. (for_head_of x.0, ahead x.1)) result (ranged (target_of target) MAX_ENTRIES room (ahead cursor.entry)) }
 {
     let (target, rest) = beside(target, cursor.expect(TokenKind::Range))?;
     let (target, found) = beside(target, expression(alloc, false, room, 0, rest))?;
@@ -194,7 +194,7 @@ fn defining_range(
     room: u32,
     cursor: Cursor<'_>,
 ) -> Result<(ForHeader, Cursor<'_>), Fault>
-    ensures header { Gives (λ x. (for_head_of x.0, ahead x.1)) result (range_defined MAX_ENTRIES room (ahead cursor.entry)) }
+    ensures { Gives (λ x. (for_head_of x.0, ahead x.1)) result (range_defined MAX_ENTRIES room (ahead cursor.entry)) }
 {
     let (name, rest) = name_at(alloc, cursor)?;
     let (name, rest) = beside(name, rest.expect(TokenKind::Define))?;
@@ -208,7 +208,7 @@ fn assigning_range(
     room: u32,
     cursor: Cursor<'_>,
 ) -> Result<(ForHeader, Cursor<'_>), Fault>
-    ensures header { Gives (λ x. (for_head_of x.0, ahead x.1)) result (range_assigned MAX_ENTRIES room (ahead cursor.entry)) }
+    ensures { Gives (λ x. (for_head_of x.0, ahead x.1)) result (range_assigned MAX_ENTRIES room (ahead cursor.entry)) }
 {
     let target = place(alloc, cursor)?;
     let (place, rest) = beside(target.node, target.rest.expect(TokenKind::Assign))?;
@@ -229,7 +229,7 @@ fn unmarked_for_header(
     room: u32,
     cursor: Cursor<'_>,
 ) -> Result<(ForHeader, Cursor<'_>), Fault>
-    ensures header { Gives (λ x. (for_head_of x.0, ahead x.1)) result (for_begun MAX_ENTRIES room (ahead cursor.entry)) }
+    ensures { Gives (λ x. (for_head_of x.0, ahead x.1)) result (for_begun MAX_ENTRIES room (ahead cursor.entry)) }
 {
     if ranges(form_of(cursor)) {
         if defines(cursor) {
@@ -255,7 +255,7 @@ pub fn for_header(
     room: u32,
     cursor: Cursor<'_>,
 ) -> Result<(ForHeader, Cursor<'_>), Fault>
-    ensures header { Gives (λ x. (for_head_of x.0, ahead x.1)) result (for_header MAX_ENTRIES room (ahead cursor.entry)) }
+    ensures { Gives (λ x. (for_head_of x.0, ahead x.1)) result (for_header MAX_ENTRIES room (ahead cursor.entry)) }
 {
     if begins_with(TokenKind::LeftBrace, cursor) {
         return Ok((ForHeader::Forever, cursor));

@@ -3,7 +3,7 @@ use Rattle.std.proofs.Common.{◌≡◌, ℕ, suc, ◌≤◌, max, List, [], ◌
 use Rattle.scanner.specs.declared.kind.TokenKind.TheVariants as kinds
 use Rattle.syntax.specs.Tree.{Statements, NoStatement, Then, statements_in, Clauses, NoClause, Clause}
 use Rattle.syntax.specs.Measures.{Listing, Entries, SelectClauses, highest, if_any, comm_height, comm_longest, statement_height, statements_height, statement_longest, statements_longest, clauses_height, clauses_longest, clauses_count, clauses as clause_entries}
-use Rattle.syntax.specs.View.{OneClause}
+use Rattle.syntax.specs.View.{OneClause, clauses}
 use Rattle.parser_base.specs.Lexemes.{Lexeme}
 use Rattle.parser_base.specs.Spelling.{behind, separated, joined, AreAll, AreSome}
 use Rattle.parser_base.proofs.ListLaws.{AreFew}

@@ -52,7 +52,7 @@ pub(crate) fn simple_statement(
     room: u32,
     cursor: Cursor<'_>,
 ) -> Result<(StatementNode, Cursor<'_>), Fault>
-    ensures statement { Gives (λ x. (statement_of x.0, ahead x.1)) result (as_one Alone (simple true true MAX_ENTRIES room (ahead cursor.entry))) }
+    ensures { Gives (λ x. (statement_of x.0, ahead x.1)) result (as_one Alone (simple true true MAX_ENTRIES room (ahead cursor.entry))) }
 {
     let found = simple::simple_statement(alloc, true, true, room, cursor)?;
     Ok((StatementNode::Simple(found.node), found.rest))
@@ -65,7 +65,7 @@ pub(crate) fn go_statement(
     room: u32,
     cursor: Cursor<'_>,
 ) -> Result<(StatementNode, Cursor<'_>), Fault>
-    ensures statement { Gives (λ x. (statement_of x.0, ahead x.1)) result (started MAX_ENTRIES room (ahead cursor.entry)) }
+    ensures { Gives (λ x. (statement_of x.0, ahead x.1)) result (started MAX_ENTRIES room (ahead cursor.entry)) }
 {
     let (function, rest) = name_at(alloc, cursor)?;
     let (function, passed) = beside(function, arguments(alloc, true, room, rest))?;
@@ -94,7 +94,7 @@ fn return_value(
     room: u32,
     cursor: Cursor<'_>,
 ) -> Result<(ReturnNode, Cursor<'_>), Fault>
-    ensures returned { Gives (λ x. (returned_of x.0, ahead x.1)) result (returned_value MAX_ENTRIES room (ahead cursor.entry)) }
+    ensures { Gives (λ x. (returned_of x.0, ahead x.1)) result (returned_value MAX_ENTRIES room (ahead cursor.entry)) }
 {
     if room == 0 {
         if begins_return_value(cursor) {
@@ -117,7 +117,7 @@ fn return_operand(
     room: u32,
     cursor: Cursor<'_>,
 ) -> Result<(ReturnNode, Cursor<'_>), Fault>
-    ensures returned { Gives (λ x. (returned_of x.0, ahead x.1)) result (returned MAX_ENTRIES room (ahead cursor.entry)) }
+    ensures { Gives (λ x. (returned_of x.0, ahead x.1)) result (returned MAX_ENTRIES room (ahead cursor.entry)) }
 {
     if ends_statement(cursor) {
         return Ok((ReturnNode::Nothing, cursor));
@@ -132,7 +132,7 @@ pub(crate) fn return_statement(
     room: u32,
     cursor: Cursor<'_>,
 ) -> Result<(StatementNode, Cursor<'_>), Fault>
-    ensures statement { Gives (λ x. (statement_of x.0, ahead x.1)) result (as_one Return (returned MAX_ENTRIES room (ahead cursor.entry))) }
+    ensures { Gives (λ x. (statement_of x.0, ahead x.1)) result (as_one Return (returned MAX_ENTRIES room (ahead cursor.entry))) }
 {
     let (returned, rest) = return_operand(alloc, room, cursor)?;
     Ok((StatementNode::Return(returned), rest))
@@ -144,7 +144,7 @@ fn initial_values(
     room: u32,
     cursor: Cursor<'_>,
 ) -> Result<(Option<RightNode>, Cursor<'_>), Fault>
-    ensures right { Gives (λ x. (option_map right_of x.0, ahead x.1)) result (behind_next kinds.Assign (right true MAX_ENTRIES room) (ahead cursor.entry)) }
+    ensures { Gives (λ x. (option_map right_of x.0, ahead x.1)) result (behind_next kinds.Assign (right true MAX_ENTRIES room) (ahead cursor.entry)) }
 {
     if !begins_with(TokenKind::Assign, cursor) {
         return Ok((None, cursor));
@@ -162,7 +162,7 @@ fn typed_var(
     names: Vec<Name>,
     cursor: Cursor<'_>,
 ) -> Result<(StatementNode, Cursor<'_>), Fault>
-    ensures statement { Gives (λ x. (statement_of x.0, ahead x.1)) result (typed (map name_of names.items) MAX_ENTRIES room (ahead cursor.entry)) }
+    ensures { Gives (λ x. (statement_of x.0, ahead x.1)) result (typed (map name_of names.items) MAX_ENTRIES room (ahead cursor.entry)) }
 {
     let (names, found) = beside(names, type_at(alloc, room, cursor))?;
     let ((names, kind), (right, rest)) = beside(
@@ -180,7 +180,7 @@ fn untyped_var(
     names: Vec<Name>,
     cursor: Cursor<'_>,
 ) -> Result<(StatementNode, Cursor<'_>), Fault>
-    ensures statement { Gives (λ x. (statement_of x.0, ahead x.1)) result (untyped (map name_of names.items) MAX_ENTRIES room (ahead cursor.entry)) }
+    ensures { Gives (λ x. (statement_of x.0, ahead x.1)) result (untyped (map name_of names.items) MAX_ENTRIES room (ahead cursor.entry)) }
 {
     let (names, rest) = beside(names, cursor.expect(TokenKind::Assign))?;
     let (names, found) = beside(names, right_side(alloc, true, room, rest))?;
@@ -194,7 +194,7 @@ fn var_spec(
     room: u32,
     cursor: Cursor<'_>,
 ) -> Result<(StatementNode, Cursor<'_>), Fault>
-    ensures statement { Gives (λ x. (statement_of x.0, ahead x.1)) result (variables MAX_ENTRIES room (ahead cursor.entry)) }
+    ensures { Gives (λ x. (statement_of x.0, ahead x.1)) result (variables MAX_ENTRIES room (ahead cursor.entry)) }
 {
     let names = names(alloc, TokenKind::Comma, MAX_ENTRIES as usize, cursor)?;
     if begins_with(TokenKind::Assign, names.rest) {
@@ -230,7 +230,7 @@ pub(crate) fn leaf<'a>(
     cursor: Cursor<'a>,
 ) -> Result<(StatementNode, Cursor<'a>), Fault>
     requires { ahead cursor ≡ Mark kind ∷ ahead rest }
-    ensures statement { Gives (λ x. (statement_of x.0, ahead x.1)) result (leaf MAX_ENTRIES room kind (ahead rest.entry)) }
+    ensures { Gives (λ x. (statement_of x.0, ahead x.1)) result (leaf MAX_ENTRIES room kind (ahead rest.entry)) }
 {
     match kind {
         TokenKind::Go => go_statement(alloc, room, rest),

@@ -107,7 +107,7 @@ pub fn statement_list(
     room: u32,
     cursor: Cursor<'_>,
 ) -> Result<List<'_, StatementNode>, Fault>
-    ensures statements { Gives (λ x. ((map statement_of x.entries.items, x.trailing), ahead x.rest)) result (listed (statement MAX_ENTRIES room) statement_next Syntax (length (ahead cursor.entry)) (ahead cursor.entry)) }
+    ensures { Gives (λ x. ((map statement_of x.entries.items, x.trailing), ahead x.rest)) result (listed (statement MAX_ENTRIES room) statement_next Syntax (length (ahead cursor.entry)) (ahead cursor.entry)) }
 {
     let mut entries = Vec::new(alloc);
     let mut rest = cursor;
@@ -135,7 +135,7 @@ fn block(
     room: u32,
     cursor: Cursor<'_>,
 ) -> Result<(Vec<StatementNode>, Cursor<'_>), Fault>
-    ensures block { Gives (λ x. (body_of x.0.items, ahead x.1)) result (block MAX_ENTRIES room (ahead cursor.entry)) }
+    ensures { Gives (λ x. (body_of x.0.items, ahead x.1)) result (block MAX_ENTRIES room (ahead cursor.entry)) }
 {
     if room == 0 {
         return Err(Fault::TooDeep(cursor.place()));
@@ -155,7 +155,7 @@ fn else_branch(
     room: u32,
     cursor: Cursor<'_>,
 ) -> Result<(ElseNode, Cursor<'_>), Fault>
-    ensures otherwise { Gives (λ x. (otherwise_of x.0, ahead x.1)) result (other (block MAX_ENTRIES room) (branch MAX_ENTRIES room) (ahead cursor.entry)) }
+    ensures { Gives (λ x. (otherwise_of x.0, ahead x.1)) result (other (block MAX_ENTRIES room) (branch MAX_ENTRIES room) (ahead cursor.entry)) }
 {
     if begins_with(TokenKind::If, cursor) {
         let rest = cursor.expect(TokenKind::If)?;
@@ -177,7 +177,7 @@ fn optional_else(
     room: u32,
     cursor: Cursor<'_>,
 ) -> Result<(ElseNode, Cursor<'_>), Fault>
-    ensures otherwise { Gives (λ x. (otherwise_of x.0, ahead x.1)) result (otherwise (block MAX_ENTRIES room) (branch MAX_ENTRIES room) (ahead cursor.entry)) }
+    ensures { Gives (λ x. (otherwise_of x.0, ahead x.1)) result (otherwise (block MAX_ENTRIES room) (branch MAX_ENTRIES room) (ahead cursor.entry)) }
 {
     if !begins_with(TokenKind::Else, cursor) {
         return Ok((ElseNode::Nothing, cursor));
@@ -196,7 +196,7 @@ fn if_statement(
     first: Place,
     cursor: Cursor<'_>,
 ) -> Result<(IfNode, Cursor<'_>), Fault>
-    ensures branch { Gives (λ x. (branch_of x.0, ahead x.1)) result (branched MAX_ENTRIES room (block MAX_ENTRIES room) (branch MAX_ENTRIES room) (ahead cursor.entry)) }
+    ensures { Gives (λ x. (branch_of x.0, ahead x.1)) result (branched MAX_ENTRIES room (block MAX_ENTRIES room) (branch MAX_ENTRIES room) (ahead cursor.entry)) }
 {
     if room < 2 {
         return Err(Fault::TooDeep(first));
@@ -224,7 +224,7 @@ fn for_statement(
     first: Place,
     cursor: Cursor<'_>,
 ) -> Result<(StatementNode, Cursor<'_>), Fault>
-    ensures statement { Gives (λ x. (statement_of x.0, ahead x.1)) result (repeated MAX_ENTRIES room (block MAX_ENTRIES room) (ahead cursor.entry)) }
+    ensures { Gives (λ x. (statement_of x.0, ahead x.1)) result (repeated MAX_ENTRIES room (block MAX_ENTRIES room) (ahead cursor.entry)) }
 {
     if room < 2 {
         return Err(Fault::TooDeep(first));
@@ -239,7 +239,7 @@ fn for_statement(
 /// What a clause waits for, of at most so many levels.
 #[tactic(auto, unfolding(crate::specs::Reading::waited))]
 fn comm_case(alloc: Global, room: u32, cursor: Cursor<'_>) -> Result<(CommNode, Cursor<'_>), Fault>
-    ensures comm { Gives (λ x. (comm_of x.0, ahead x.1)) result (waited MAX_ENTRIES room (ahead cursor.entry)) }
+    ensures { Gives (λ x. (comm_of x.0, ahead x.1)) result (waited MAX_ENTRIES room (ahead cursor.entry)) }
 {
     if room == 0 {
         return Err(Fault::TooDeep(cursor.place()));
@@ -254,7 +254,7 @@ fn clause_statement_list(
     room: u32,
     cursor: Cursor<'_>,
 ) -> Result<List<'_, StatementNode>, Fault>
-    ensures statements { Gives (λ x. ((map statement_of x.entries.items, x.trailing), ahead x.rest)) result (listed (statement MAX_ENTRIES room) clause_next Syntax (length (ahead cursor.entry)) (ahead cursor.entry)) }
+    ensures { Gives (λ x. ((map statement_of x.entries.items, x.trailing), ahead x.rest)) result (listed (statement MAX_ENTRIES room) clause_next Syntax (length (ahead cursor.entry)) (ahead cursor.entry)) }
 {
     let mut entries = Vec::new(alloc);
     let mut rest = cursor;
@@ -283,7 +283,7 @@ fn clause_body(
     waits: Option<CommNode>,
     cursor: Cursor<'_>,
 ) -> Result<(ClauseNode, Cursor<'_>), Fault>
-    ensures clause { Gives (λ x. (clause_of x.0, ahead x.1)) result (clause_body (statement MAX_ENTRIES room) (option_map comm_of waits) (ahead cursor.entry)) }
+    ensures { Gives (λ x. (clause_of x.0, ahead x.1)) result (clause_body (statement MAX_ENTRIES room) (option_map comm_of waits) (ahead cursor.entry)) }
 {
     let (waits, rest) = beside(waits, cursor.expect(TokenKind::Colon))?;
     let (waits, body) = beside(waits, clause_statement_list(alloc, room, rest))?;
@@ -298,7 +298,7 @@ fn comm_clause_below(
     room: u32,
     cursor: Cursor<'_>,
 ) -> Result<(ClauseNode, Cursor<'_>), Fault>
-    ensures clause { Gives (λ x. (clause_of x.0, ahead x.1)) result (one_clause MAX_ENTRIES room (statement MAX_ENTRIES room) (ahead cursor.entry)) }
+    ensures { Gives (λ x. (clause_of x.0, ahead x.1)) result (one_clause MAX_ENTRIES room (statement MAX_ENTRIES room) (ahead cursor.entry)) }
 {
     match cursor.next() {
         Some((Word::Mark(TokenKind::Case), rest)) => {
@@ -339,7 +339,7 @@ fn comm_clause(
     room: u32,
     cursor: Cursor<'_>,
 ) -> Result<(ClauseNode, Cursor<'_>), Fault>
-    ensures clause { Gives (λ x. (clause_of x.0, ahead x.1)) result (clause MAX_ENTRIES room (ahead cursor.entry)) }
+    ensures { Gives (λ x. (clause_of x.0, ahead x.1)) result (clause MAX_ENTRIES room (ahead cursor.entry)) }
 {
     if room == 0 {
         return Err(no_clause(cursor));
@@ -350,7 +350,7 @@ fn comm_clause(
 /// The clauses of a `select`, each of at most so many levels.
 #[cycle(statement)]
 fn comm_clauses(alloc: Global, room: u32, cursor: Cursor<'_>) -> Result<List<'_, ClauseNode>, Fault>
-    ensures clauses { Gives (λ x. ((map clause_of x.entries.items, x.trailing), ahead x.rest)) result (listed (clause MAX_ENTRIES room) clauses_next (TooMany SelectClauses) MAX_CLAUSES (ahead cursor.entry)) }
+    ensures { Gives (λ x. ((map clause_of x.entries.items, x.trailing), ahead x.rest)) result (listed (clause MAX_ENTRIES room) clauses_next (TooMany SelectClauses) MAX_CLAUSES (ahead cursor.entry)) }
 {
     let mut entries = Vec::new(alloc);
     let mut rest = cursor;
@@ -383,7 +383,7 @@ fn select_statement(
     room: u32,
     cursor: Cursor<'_>,
 ) -> Result<(StatementNode, Cursor<'_>), Fault>
-    ensures statement { Gives (λ x. (statement_of x.0, ahead x.1)) result (as_one Select (selected MAX_CLAUSES (clause MAX_ENTRIES room) (ahead cursor.entry))) }
+    ensures { Gives (λ x. (statement_of x.0, ahead x.1)) result (as_one Select (selected MAX_CLAUSES (clause MAX_ENTRIES room) (ahead cursor.entry))) }
 {
     let inside = cursor.expect(TokenKind::LeftBrace)?;
     if begins_with(TokenKind::RightBrace, inside) {
@@ -406,7 +406,7 @@ fn keyword_statement<'a>(
     cursor: Cursor<'a>,
 ) -> Result<(StatementNode, Cursor<'a>), Fault>
     requires { ahead cursor ≡ Mark kind ∷ ahead rest }
-    ensures statement { Gives (λ x. (statement_of x.0, ahead x.1)) result (marked MAX_ENTRIES room (block MAX_ENTRIES room) (branch MAX_ENTRIES room) (clause MAX_ENTRIES room) kind (ahead rest.entry)) }
+    ensures { Gives (λ x. (statement_of x.0, ahead x.1)) result (marked MAX_ENTRIES room (block MAX_ENTRIES room) (branch MAX_ENTRIES room) (clause MAX_ENTRIES room) kind (ahead rest.entry)) }
 {
     match kind {
         TokenKind::LeftBrace => {
@@ -434,7 +434,7 @@ fn statement_below(
     room: u32,
     cursor: Cursor<'_>,
 ) -> Result<(StatementNode, Cursor<'_>), Fault>
-    ensures statement { Gives (λ x. (statement_of x.0, ahead x.1)) result (stated MAX_ENTRIES room (block MAX_ENTRIES room) (branch MAX_ENTRIES room) (clause MAX_ENTRIES room) (ahead cursor.entry)) }
+    ensures { Gives (λ x. (statement_of x.0, ahead x.1)) result (stated MAX_ENTRIES room (block MAX_ENTRIES room) (branch MAX_ENTRIES room) (clause MAX_ENTRIES room) (ahead cursor.entry)) }
 {
     match cursor.next() {
         Some((Word::Mark(kind), rest)) => keyword_statement(alloc, room, kind, rest, cursor),
@@ -450,7 +450,7 @@ pub fn statement(
     room: u32,
     cursor: Cursor<'_>,
 ) -> Result<(StatementNode, Cursor<'_>), Fault>
-    ensures statement { Gives (λ x. (statement_of x.0, ahead x.1)) result (statement MAX_ENTRIES room (ahead cursor.entry)) }
+    ensures { Gives (λ x. (statement_of x.0, ahead x.1)) result (statement MAX_ENTRIES room (ahead cursor.entry)) }
 {
     if room == 0 {
         return Err(Fault::TooDeep(cursor.place()));
