@@ -1,5 +1,6 @@
 -- Widths of structs as far as they are known.
-use Rattle.std.proofs.Common.{◌≡◌, ℕ, suc, ◌+◌, ◌<◌, ◌≤◌, min, inl, inr, List, [], ◌∷◌, ◌++◌, Option, Some, None, refl, sym, subst, length, slice_get, arith, IfSome}
+use Rattle.std.proofs.Common.{◌≡◌, ℕ, zero, suc, ◌+◌, ◌<◌, ◌≤◌, ◌⊎◌, min, inl, inr, List, [], ◌∷◌, ◌++◌, Option, Some, None, refl, sym, subst, ap, length, slice_get, slice_set, arith, IfSome}
+use Rattle.std.proofs.lemmas.Option.{same_Some, none-some}
 use Rattle.std.proofs.lemmas.List.{length-map}
 use Rattle.go_text.specs.declared.rule.LimitKind.TheVariants as limits
 use Rattle.syntax.specs.Tree.{Top}
@@ -48,3 +49,30 @@ too_wide_has tops all number node same wide at =
 pub if_too_wide : (tops : List Top) (all : Structs) (number : ℕ) (o : Option ℕ) → all ≡ structs tops → IsTooWide all number → o ≡ struct_node 0 tops number → IfSome o (λ node. TypesHave tops (Exceeded limits.StructWidth node))
 if_too_wide tops all number None same wide e = tt
 if_too_wide tops all number (Some node) same wide e = too_wide_has tops all number node same wide (sym e)
+
+pub one_unknown : (known more : List (Option ℕ)) → more ≡ known ++ None ∷ [] → ((s w : ℕ) → slice_get known s ≡ Some (Some w) → ⊥) → (s w : ℕ) → slice_get more s ≡ Some (Some w) → ⊥
+one_unknown known more is none s w h =
+    elim (got-append known None (Some w) s (rw is at h)) [
+      | inl e ↦ none s w e
+      | inr e ↦ none-some w e.1
+    ]
+
+-- what is read after a write was there before, or was written
+got_set : (known : List (Option ℕ)) (number s : ℕ) (o : Option ℕ) (w : ℕ) → slice_get (slice_set known number o) s ≡ Some (Some w) → (slice_get known s ≡ Some (Some w)) ⊎ ((s ≡ number) × (o ≡ Some w))
+got_set [] number s o w h = inl h
+got_set (k ∷ known) zero zero o w h = inr (refl, same_Some _ _ h)
+got_set (k ∷ known) zero (suc s) o w h = inl h
+got_set (k ∷ known) (suc number) zero o w h = inl h
+got_set (k ∷ known) (suc number) (suc s) o w h =
+    elim (got_set known number s o w h) [ inl e ↦ inl e | inr e ↦ inr (ap suc e.0, e.1) ]
+
+-- what is known of others stays known when they may lie deeper, and one more is known
+pub known_set : (structs : Structs) (depth number : ℕ) (known : List (Option ℕ)) (o : Option ℕ) → AreKnown structs depth known → ((w : ℕ) → o ≡ Some w → IsWide structs (suc depth) number w) → AreKnown structs (suc depth) (slice_set known number o)
+known_set structs depth number known o all new s w h =
+    elim (got_set known number s o w h) [
+      | inl e ↦ wide-more structs depth (suc depth) (omega arith) s w (all s w e)
+      | inr e ↦ subst (λ (k : ℕ). IsWide structs (suc depth) k w) (sym e.0) (new w e.1)
+    ]
+
+pub known_deeper : (structs : Structs) (depth : ℕ) (known : List (Option ℕ)) → AreKnown structs depth known → AreKnown structs (suc depth) known
+known_deeper structs depth known all s w h = wide-more structs depth (suc depth) (omega arith) s w (all s w h)

@@ -6,7 +6,8 @@ ghost use Rattle.type_table.specs.Views.{kind_of};
 ghost use Rattle.type_table.specs.Containment.{HasStruct, Holds, fields_of};
 ghost use Rattle.checker_declaration.specs.Parts.{fields_in, structs_in};
 
-use crate::parts::{Part, Parts};
+use crate::parts::{Part, Parts, parts_at};
+use crate::search::search_all;
 use std::alloc::{AllocError, Global};
 use type_table::value_type::ValueType;
 
@@ -52,15 +53,8 @@ fn note_fields(
     Ok(())
 }
 
-/// The struct type with this number.
-fn parts_at<'p, 'a>(all: &'p [Parts<'a>], number: usize) -> Option<&'p Parts<'a>>
-    ensures { option_copied result ≡ slice_get all.now number }
-{
-    all.get(number)
-}
-
 /// The struct type that was found at this place.
-fn found_at(found: &[usize], place: usize) -> Option<usize>
+pub(crate) fn found_at(found: &[usize], place: usize) -> Option<usize>
     ensures { result ≡ slice_get found.now place }
 {
     match found.get(place) {
@@ -119,14 +113,13 @@ fn contains_itself(alloc: Global, all: &[Parts<'_>], number: usize) -> Result<bo
     Ok(false)
 }
 
-/// The first of the struct types that is found within itself.
+/// The first of the struct types that lies within itself.
 pub(crate) fn first_held(alloc: Global, all: &[Parts<'_>]) -> Result<Option<usize>, AllocError>
     ensures { IfOk result (λ first. IfSome first (λ number. (types : List (List ℕ)) → Holds (structs_in types all.now) number number)) }
 {
-    for number in 0..all.len() {
-        if contains_itself(alloc, all, number)? {
-            return Ok(Some(number));
-        }
+    let found = search_all(alloc, all)?;
+    match found.held {
+        Some(number) if contains_itself(alloc, all, number)? => Ok(Some(number)),
+        _ => Ok(None),
     }
-    Ok(None)
 }

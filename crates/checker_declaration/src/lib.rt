@@ -7,6 +7,7 @@ pub mod header;
 mod held;
 mod name;
 mod parts;
+mod search;
 mod sizes;
 mod structs;
 pub mod table;

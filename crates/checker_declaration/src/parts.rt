@@ -1,6 +1,6 @@
 //! The fields of all struct types, also where something is wrong with them.
 
-ghost use Rattle.std.specs.Prelude.{◌≡◌, ◌++◌, map, OnOk, IfOk};
+ghost use Rattle.std.specs.Prelude.{◌≡◌, ◌++◌, map, option_copied, slice_get, OnOk, IfOk};
 ghost use Rattle.syntax.specs.View.{declared_of, struct_of, top_of};
 ghost use Rattle.type_table.specs.Scopes.{nothing_declared, type_in};
 ghost use Rattle.checker_declaration.specs.Kinds.{all_fields, fields_declared, struct_in, structs_with};
@@ -86,4 +86,11 @@ pub(crate) fn all_parts<'a>(
         push_struct(alloc, types, &mut all, top)?;
     }
     Ok(all)
+}
+
+/// The struct type with this number.
+pub(crate) fn parts_at<'p, 'a>(all: &'p [Parts<'a>], number: usize) -> Option<&'p Parts<'a>>
+    ensures { option_copied result ≡ slice_get all.now number }
+{
+    all.get(number)
 }

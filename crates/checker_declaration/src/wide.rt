@@ -6,7 +6,9 @@ ghost use Rattle.type_table.specs.Views.{kind_of};
 ghost use Rattle.type_table.specs.Marks.{AreWide};
 ghost use Rattle.checker_declaration.specs.Parts.{fields_in, structs_in, IsKindWide, AreKnown, IsTooWide};
 
-use crate::parts::{Part, Parts};
+use crate::held::found_at;
+use crate::parts::{Part, Parts, parts_at};
+use crate::search::search_all;
 use std::alloc::{AllocError, Global};
 use type_table::value_type::ValueType;
 
@@ -58,40 +60,42 @@ fn fields_words(known: &[Option<usize>], fields: &[Part<'_>]) -> Option<usize>
     }
 }
 
-/// The widths that are known where these are known.
-fn next_words(
-    alloc: Global,
-    all: &[Parts<'_>],
-    known: &[Option<usize>],
-) -> Result<Vec<Option<usize>>, AllocError>
-    ensures { IfOk result (λ next. (types : List (List ℕ)) (depth : ℕ) → AreKnown (structs_in types all.now) depth known.now → AreKnown (structs_in types all.now) (suc depth) next.items) }
+/// So many widths, of which none is known.
+fn unknown(alloc: Global, count: usize) -> Result<Vec<Option<usize>>, AllocError>
+    ensures { IfOk result (λ known. (s w : ℕ) → slice_get known.items s ≡ Some (Some w) → ⊥) }
 {
-    let mut next = Vec::new(alloc);
-    for parts in all {
-        let words = fields_words(known, parts.fields.as_slice());
-        next.push(words)?;
+    let mut known = Vec::new(alloc);
+    for number in 0..count {
+        let _number = number;
+        known.push(None)?;
     }
-    Ok(next)
+    Ok(known)
 }
 
-/// How many widths are known.
-fn count(known: &[Option<usize>]) -> usize {
-    known.iter().filter(|words| words.is_some()).count()
+/// Writes the words of the struct type with this number, if they are known where these are.
+fn note_words(all: &[Parts<'_>], known: &mut Vec<Option<usize>>, number: usize)
+    ensures { (types : List (List ℕ)) (depth : ℕ) → AreKnown (structs_in types all.now) depth known.old.items → AreKnown (structs_in types all.now) (suc depth) known.new.items }
+{
+    if let Some(parts) = parts_at(all, number) {
+        let words = fields_words(known.as_slice(), parts.fields.as_slice());
+        if number < known.len() {
+            known[number] = words;
+        }
+    }
 }
 
-/// The widths of struct types, as far as they are known.
+/// The widths of struct types, as far as they are known: all but those of types that contain themselves, or have a field
+/// whose type is not known.
 fn known_words(alloc: Global, all: &[Parts<'_>]) -> Result<Vec<Option<usize>>, AllocError>
     ensures { IfOk result (λ known. (types : List (List ℕ)) → AreKnown (structs_in types all.now) (suc (length all.now)) known.items) }
 {
-    let mut known = Vec::new(alloc);
-    for number in 0..all.len() {
-        let _number = number;
-        let next = next_words(alloc, all, known.as_slice())?;
-        let is_same = count(next.as_slice()) == count(known.as_slice());
-        known = next;
-        if is_same {
+    let found = search_all(alloc, all)?;
+    let mut known = unknown(alloc, all.len())?;
+    for place in 0..all.len() {
+        let Some(number) = found_at(found.order.as_slice(), place) else {
             return Ok(known);
-        }
+        };
+        note_words(all, &mut known, number);
     }
     Ok(known)
 }

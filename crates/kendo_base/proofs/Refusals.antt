@@ -12,7 +12,8 @@ use Rattle.parser.specs.Spelling.{Spells}
 use Rattle.scanner.specs.declared.token.Token.{Token}
 use Rattle.scanner.specs.Tokens.{tokens_of}
 use Rattle.syntax.specs.declared.tree.Tree.{Tree}
-use Rattle.syntax.specs.Spans.{tree_of}
+use Rattle.spans.specs.Places.{file_spans}
+use Rattle.syntax.specs.Spans.{tree_of, spans_of}
 use Rattle.syntax.specs.Tree.{File}
 use Rattle.syntax.specs.Measures.{height, most_entries, most_clauses}
 use Rattle.kendo_base.specs.Reading.{Reads, IsCompiled, IsUncompiled, HasNoReading, HasNoTree, IsUnspelt, IsUnread, IsWrong, IsWhy, located_in}
@@ -51,9 +52,9 @@ unread bytes text ts us {told} same list short utf8 scanned (inr w) = explains b
 abbrev pub Wrong : List ℕ → Tree → Fault → Type 0
 Wrong text tree told = (told ≡ faults.Memory) ⊎ ((fault : Fault) × Tells tree fault × (told ≡ located_in text fault))
 
-pub wrong : (bytes text : List ℕ) (ts : List Token) (tree : Tree) {told : Fault} → text ≡ bytes → length text ≤ MAX_LENGTH → IsUtf8 text → tokens_of text ≡ Ok ts → Spells (lexemes text ts) (tree_of tree) → height (tree_of tree) ≤ 200 → most_entries (tree_of tree) ≤ 64 → most_clauses (tree_of tree) ≤ 64 → Wrong text tree told → Explained bytes told
-wrong bytes text ts tree same short utf8 scanned spelt low few clauses (inl memory) = inl memory
-wrong bytes text ts tree same short utf8 scanned spelt low few clauses (inr w) = explains bytes text same (inr (w.0, IsWrong short utf8 tree (record { tokens = ts; scanned = scanned; spelt = spelt; low = low; few = few; clauses = clauses }) w.1, w.2))
+pub wrong : (bytes text : List ℕ) (ts : List Token) (tree : Tree) {told : Fault} → text ≡ bytes → length text ≤ MAX_LENGTH → IsUtf8 text → tokens_of text ≡ Ok ts → Spells (lexemes text ts) (tree_of tree) → spans_of tree ≡ file_spans ts (tree_of tree) → height (tree_of tree) ≤ 200 → most_entries (tree_of tree) ≤ 64 → most_clauses (tree_of tree) ≤ 64 → Wrong text tree told → Explained bytes told
+wrong bytes text ts tree same short utf8 scanned spelt placed low few clauses (inl memory) = inl memory
+wrong bytes text ts tree same short utf8 scanned spelt placed low few clauses (inr w) = explains bytes text same (inr (w.0, IsWrong short utf8 tree (record { tokens = ts; scanned = scanned; spelt = spelt; placed = placed; low = low; few = few; clauses = clauses }) w.1, w.2))
 
 pub uncompiled : (text : List ℕ) (file : File) → Reads text file → ¬ (IsCompiled file) → IsUncompiled text
 uncompiled text file reads beyond = record { file = file; reads = reads; beyond = beyond }

@@ -13,7 +13,8 @@ use Rattle.parser.specs.Spelling.{Spells}
 use Rattle.scanner.specs.declared.token.Token.{Token}
 use Rattle.scanner.specs.Tokens.{tokens_of}
 use Rattle.syntax.specs.declared.tree.Tree.{Tree}
-use Rattle.syntax.specs.Spans.{tree_of}
+use Rattle.spans.specs.Places.{file_spans}
+use Rattle.syntax.specs.Spans.{tree_of, spans_of}
 use Rattle.syntax.specs.Tree.{File}
 use Rattle.syntax.specs.Measures.{height, most_entries, most_clauses}
 use Rattle.straight_checker.specs.Built.{IsBuilt}
@@ -118,11 +119,12 @@ IsUnspelt words (faults.Limit limits.ListEntries at place) = (file : File) → S
 IsUnspelt words (faults.Limit limits.SelectClauses at place) = (file : File) → Spells words file → most_clauses file ≤ 64 → ⊥
 IsUnspelt words fault = ⊥
 
--- the tree is what the text spells, within the limits
+-- the tree is what the text spells, within the limits, and each of its nodes stands where its tokens do
 pub record IsTreeOf (text : List ℕ) (tree : Tree) : Type 0 where
   pub tokens : List Token
   pub scanned : tokens_of text ≡ Ok tokens
   pub spelt : Spells (lexemes text tokens) (tree_of tree)
+  pub placed : spans_of tree ≡ file_spans tokens (tree_of tree)
   pub low : height (tree_of tree) ≤ 200
   pub few : most_entries (tree_of tree) ≤ 64
   pub clauses : most_clauses (tree_of tree) ≤ 64

@@ -10,7 +10,8 @@ ghost use Rattle.parser_base.specs.Lexemes.{lexemes};
 ghost use Rattle.parser.specs.Spelling.{Spells};
 ghost use Rattle.scanner.specs.Tokens.{tokens_of as spec_tokens_of};
 ghost use Rattle.syntax.specs.declared.tree.Tree.{Tree as OneTree};
-ghost use Rattle.syntax.specs.Spans.{tree_of};
+ghost use Rattle.spans.specs.Places.{file_spans};
+ghost use Rattle.syntax.specs.Spans.{tree_of, spans_of};
 ghost use Rattle.syntax.specs.Measures.{height, most_entries, most_clauses};
 ghost use Rattle.straight_checker.specs.Program.{Tells as TellsStraight};
 ghost use Rattle.straight_checker.specs.Typed.{tree_in as straight_tree};
@@ -111,6 +112,7 @@ fn tree(alloc: Global, source: &Source, tokens: &[Token]) -> Result<Tree, Fault>
     ensures low { IfOk result (λ tree. height (tree_of tree) ≤ 200) }
     ensures few { IfOk result (λ tree. most_entries (tree_of tree) ≤ 64) }
     ensures clauses { IfOk result (λ tree. most_clauses (tree_of tree) ≤ 64) }
+    ensures placed { IfOk result (λ tree. spans_of tree ≡ file_spans tokens.now (tree_of tree)) }
     ensures refused { IfErr result (λ fault. IsRefusal fault → HasNoTree (lexemes (bytes_of source.now) tokens.now)) }
     ensures why { IfErr result (λ told. (told ≡ Fault.Memory) ⊎ ((fault : OneFault) × IsUnspelt (lexemes (bytes_of source.now) tokens.now) fault × (told ≡ located_in (bytes_of source.now) fault))) }
     ensures only { IfErr result IsOfText }

@@ -3,5 +3,6 @@ pub mod DeclaredLaws
 pub mod TopLaws
 pub mod FileLaws
 pub mod Sizes
+pub mod Counts
 pub mod Parsing
 pub mod Counting

@@ -9,6 +9,8 @@ use Rattle.parser.specs.Spelling.{Spells}
 use Rattle.parser.specs.Reading.{file}
 use Rattle.parser.proofs.FileLaws.{file_sound, no_syntax, no_low, no_few}
 use Rattle.parser.proofs.Sizes.{size-le}
+use Rattle.parser.proofs.Counts.{file_counts}
+use Rattle.spans.specs.Words.{file_count}
 
 fails_as : {A : Type 0} (fault : Fault) (refusal : Refusal) (read : Result A Refusal) → Fails fault read → refusal_of fault ≡ Some refusal → read ≡ Err refusal
 fails_as fault refusal read fails is = subst (λ (o : Option Refusal). FailsWith fault o read) is fails
@@ -31,3 +33,9 @@ size_read room most ws f e =
     let found = file_sound room most ws f e in
     let same = ap length found.spelt.words in
     omega (arith, size-le f found.spelt.well_formed)
+
+-- a file that was read is spelt by as many lexemes as there are
+pub count_read : (room most : ℕ) (ws : List Lexeme) (f : File) → file most room ws ≡ Ok f → file_count f ≡ length ws
+count_read room most ws f e =
+    let found = file_sound room most ws f e in
+    omega (arith, ap length found.spelt.words, file_counts f found.spelt.well_formed)

@@ -1,16 +1,15 @@
 //! Fields of struct types, and parameters of functions.
 
-ghost use Rattle.std.specs.Prelude.{◌≡◌, ◌+◌, IfOk, map, sum_by, vec_len};
+ghost use Rattle.std.specs.Prelude.{map};
 ghost use Rattle.scanner.specs.declared.kind.TokenKind.{TokenKind};
-ghost use Rattle.syntax.specs.Measures.{declared_size};
 ghost use Rattle.syntax.specs.View.{declared_of};
 ghost use Rattle.parser_base.specs.Cursor.{ahead};
 ghost use Rattle.parser_base.specs.Reading.{Gives, entry_next};
 ghost use Rattle.parser_simple.specs.Reading.{begins_name};
 ghost use Rattle.parser.specs.Reading.{declared, some_declared, all_declared};
 
-use go_text::{Fault, LimitKind, Span};
-use parser_base::beside::{beside, with_span};
+use go_text::{Fault, LimitKind};
+use parser_base::beside::beside;
 use parser_base::cursor::{Cursor, Word};
 use parser_base::expression::closed;
 use parser_base::list::{List, Next};
@@ -22,21 +21,21 @@ use std::alloc::Global;
 use syntax::DeclaredNode;
 use syntax::limits::MAX_ENTRIES;
 
-/// What follows the type of fields or parameters, with the span of its last token.
+/// What follows the type of fields or parameters.
 #[tactic(auto, unfolding(parser_base::specs::Reading::entry_next))]
 fn declared_next(
     separator: TokenKind,
     close: TokenKind,
     cursor: Cursor<'_>,
-) -> Result<(Next, Span, Cursor<'_>), Fault>
-    ensures { Gives (λ x. (x.0, ahead x.2)) result (entry_next separator begins_name close (ahead cursor.entry)) }
+) -> Result<(Next, Cursor<'_>), Fault>
+    ensures { Gives (λ x. (x.0, ahead x.1)) result (entry_next separator begins_name close (ahead cursor.entry)) }
 {
-    let Some((Word::Mark(kind), span, rest)) = cursor.next() else {
+    let Some((Word::Mark(kind), rest)) = cursor.next() else {
         return Err(Fault::Syntax(cursor.place()));
     };
     if kind == separator {
         return match begins_name(rest) {
-            true => Ok((Next::More, span, rest)),
+            true => Ok((Next::More, rest)),
             false => closed(close, true, rest),
         };
     }
@@ -45,56 +44,46 @@ fn declared_next(
 
 /// At most so many names and their type, of at most so many levels.
 #[tactic(auto, unfolding(crate::specs::Reading::declared))]
-fn declared<'a>(
+fn declared(
     alloc: Global,
     most: usize,
     room: u32,
-    cursor: Cursor<'a>,
-    spans: &mut Vec<Span>,
-) -> Result<(DeclaredNode, Cursor<'a>), Fault>
-    ensures declared { Gives (λ x. (declared_of x.0, ahead x.1)) result (declared most room (ahead cursor.entry)) }
-    ensures nodes { IfOk result (λ x. vec_len spans.new ≡ vec_len spans.old + declared_size (declared_of x.0)) }
+    cursor: Cursor<'_>,
+) -> Result<(DeclaredNode, Cursor<'_>), Fault>
+    ensures { Gives (λ x. (declared_of x.0, ahead x.1)) result (declared most room (ahead cursor.entry)) }
 {
-    let from = cursor.place().span.from;
     let all = names(alloc, TokenKind::Comma, most, cursor)?;
-    let (names, found) = beside(all.entries, type_at(alloc, room, all.rest, spans))?;
-    let span = Span {
-        from,
-        to: found.span.to,
-    };
+    let (names, found) = beside(all.entries, type_at(alloc, room, all.rest))?;
     let node = DeclaredNode {
         names,
         type_node: found.node,
     };
-    Ok((with_span(node, span, spans)?, found.rest))
+    Ok((node, found.rest))
 }
 
 /// At least one field or parameter, to the closing mark.
-fn some_declared<'a>(
+fn some_declared(
     alloc: Global,
     separator: TokenKind,
     close: TokenKind,
     room: u32,
-    cursor: Cursor<'a>,
-    spans: &mut Vec<Span>,
-) -> Result<List<'a, DeclaredNode>, Fault>
-    ensures declared { Gives (λ x. ((map declared_of x.entries.items, x.trailing), ahead x.rest)) result (some_declared separator close room MAX_ENTRIES MAX_ENTRIES (ahead cursor.entry)) }
-    ensures nodes { IfOk result (λ x. vec_len spans.new ≡ vec_len spans.old + sum_by declared_size (map declared_of x.entries.items)) }
+    cursor: Cursor<'_>,
+) -> Result<List<'_, DeclaredNode>, Fault>
+    ensures { Gives (λ x. ((map declared_of x.entries.items, x.trailing), ahead x.rest)) result (some_declared separator close room MAX_ENTRIES MAX_ENTRIES (ahead cursor.entry)) }
 {
     let mut entries = Vec::new(alloc);
     let mut rest = cursor;
     let mut left = MAX_ENTRIES as usize;
     for _ in 0..MAX_ENTRIES {
-        let (one, behind) = declared(alloc, left, room, rest, spans)?;
+        let (one, behind) = declared(alloc, left, room, rest)?;
         left = left.saturating_sub(one.names.len());
         entries.push(one)?;
-        let (next, last, after) = declared_next(separator, close, behind)?;
+        let (next, after) = declared_next(separator, close, behind)?;
         match next {
             Next::More => rest = after,
             Next::End(trailing) => return Ok(List {
                 entries,
                 trailing,
-                last,
                 rest: after,
             }),
         }
@@ -108,25 +97,22 @@ fn some_declared<'a>(
 
 /// Fields or parameters to the closing mark, behind the opening one; their types have at most so many levels.
 #[tactic(auto, unfolding(crate::specs::Reading::all_declared))]
-pub(crate) fn all_declared<'a>(
+pub(crate) fn all_declared(
     alloc: Global,
     separator: TokenKind,
     close: TokenKind,
     room: u32,
-    cursor: Cursor<'a>,
-    spans: &mut Vec<Span>,
-) -> Result<List<'a, DeclaredNode>, Fault>
-    ensures declared { Gives (λ x. ((map declared_of x.entries.items, x.trailing), ahead x.rest)) result (all_declared separator close MAX_ENTRIES room (ahead cursor.entry)) }
-    ensures nodes { IfOk result (λ x. vec_len spans.new ≡ vec_len spans.old + sum_by declared_size (map declared_of x.entries.items)) }
+    cursor: Cursor<'_>,
+) -> Result<List<'_, DeclaredNode>, Fault>
+    ensures { Gives (λ x. ((map declared_of x.entries.items, x.trailing), ahead x.rest)) result (all_declared separator close MAX_ENTRIES room (ahead cursor.entry)) }
 {
     if begins_name(cursor) {
-        return some_declared(alloc, separator, close, room, cursor, spans);
+        return some_declared(alloc, separator, close, room, cursor);
     }
-    let (last, rest) = cursor.expect(close)?;
+    let rest = cursor.expect(close)?;
     Ok(List {
         entries: Vec::new(alloc),
         trailing: false,
-        last,
         rest,
     })
 }

@@ -1,15 +1,13 @@
 //! Files.
 
-ghost use Rattle.std.specs.Prelude.{◌≡◌, ◌+◌, IfOk, map, sum_by, length, vec_len};
-ghost use Rattle.syntax.specs.Measures.{size, top_size};
+ghost use Rattle.std.specs.Prelude.{map, length};
 ghost use Rattle.syntax.specs.View.{file_of, top_of};
 ghost use Rattle.parser_base.specs.Cursor.{ahead};
 ghost use Rattle.parser_base.specs.Reading.{Gives, Syntax, listed};
 ghost use Rattle.parser.specs.Reading.{top, top_next, tops, file};
 
 use crate::top::{STATEMENT_ROOM, declaration};
-use go_text::{Fault, Span};
-use parser_base::beside::with_span;
+use go_text::Fault;
 use parser_base::cursor::Cursor;
 use parser_base::list::{List, Next};
 use scanner::TokenKind;
@@ -17,40 +15,34 @@ use std::alloc::Global;
 use syntax::limits::MAX_ENTRIES;
 use syntax::{FileNode, TopNode};
 
-/// What follows a declaration, with the span of its semicolon.
+/// What follows a declaration.
 #[tactic(auto, unfolding(crate::specs::Reading::top_next))]
-fn declaration_next(cursor: Cursor<'_>) -> Result<(Next, Span, Cursor<'_>), Fault>
-    ensures { Gives (λ x. (x.0, ahead x.2)) result (top_next (ahead cursor.entry)) }
+fn declaration_next(cursor: Cursor<'_>) -> Result<(Next, Cursor<'_>), Fault>
+    ensures { Gives (λ x. (x.0, ahead x.1)) result (top_next (ahead cursor.entry)) }
 {
-    let (last, rest) = cursor.expect(TokenKind::Semicolon)?;
+    let rest = cursor.expect(TokenKind::Semicolon)?;
     let next = match rest.next() {
         Some(_) => Next::More,
         None => Next::End(false),
     };
-    Ok((next, last, rest))
+    Ok((next, rest))
 }
 
 /// At least one declaration, to the file's end.
-fn declaration_list<'a>(
-    alloc: Global,
-    cursor: Cursor<'a>,
-    spans: &mut Vec<Span>,
-) -> Result<List<'a, TopNode>, Fault>
-    ensures tops { Gives (λ x. ((map top_of x.entries.items, x.trailing), ahead x.rest)) result (listed (top MAX_ENTRIES STATEMENT_ROOM) top_next Syntax (length (ahead cursor.entry)) (ahead cursor.entry)) }
-    ensures nodes { IfOk result (λ x. vec_len spans.new ≡ vec_len spans.old + sum_by top_size (map top_of x.entries.items)) }
+fn declaration_list(alloc: Global, cursor: Cursor<'_>) -> Result<List<'_, TopNode>, Fault>
+    ensures { Gives (λ x. ((map top_of x.entries.items, x.trailing), ahead x.rest)) result (listed (top MAX_ENTRIES STATEMENT_ROOM) top_next Syntax (length (ahead cursor.entry)) (ahead cursor.entry)) }
 {
     let mut entries = Vec::new(alloc);
     let mut rest = cursor;
     for _ in 0..cursor.len() {
-        let (one, behind) = declaration(alloc, rest, spans)?;
+        let (one, behind) = declaration(alloc, rest)?;
         entries.push(one)?;
-        let (next, last, after) = declaration_next(behind)?;
+        let (next, after) = declaration_next(behind)?;
         match next {
             Next::More => rest = after,
             Next::End(trailing) => return Ok(List {
                 entries,
                 trailing,
-                last,
                 rest: after,
             }),
         }
@@ -58,45 +50,29 @@ fn declaration_list<'a>(
     Err(Fault::Syntax(rest.place()))
 }
 
-/// The declarations of a file behind the semicolon of its first line, which is `first`.
+/// The declarations of a file behind the semicolon of its first line.
 #[tactic(auto, unfolding(crate::specs::Reading::tops))]
-fn declarations<'a>(
-    alloc: Global,
-    first: Span,
-    cursor: Cursor<'a>,
-    spans: &mut Vec<Span>,
-) -> Result<List<'a, TopNode>, Fault>
-    ensures tops { Gives (λ x. ((map top_of x.entries.items, x.trailing), ahead x.rest)) result (tops MAX_ENTRIES STATEMENT_ROOM (ahead cursor.entry)) }
-    ensures nodes { IfOk result (λ x. vec_len spans.new ≡ vec_len spans.old + sum_by top_size (map top_of x.entries.items)) }
+fn declarations(alloc: Global, cursor: Cursor<'_>) -> Result<List<'_, TopNode>, Fault>
+    ensures { Gives (λ x. ((map top_of x.entries.items, x.trailing), ahead x.rest)) result (tops MAX_ENTRIES STATEMENT_ROOM (ahead cursor.entry)) }
 {
     if cursor.next().is_some() {
-        return declaration_list(alloc, cursor, spans);
+        return declaration_list(alloc, cursor);
     }
     Ok(List {
         entries: Vec::new(alloc),
         trailing: false,
-        last: first,
         rest: cursor,
     })
 }
 
 /// A whole file.
 #[tactic(auto, unfolding(crate::specs::Reading::file))]
-pub(crate) fn file(
-    alloc: Global,
-    cursor: Cursor<'_>,
-    spans: &mut Vec<Span>,
-) -> Result<FileNode, Fault>
-    ensures file { Gives file_of result (file MAX_ENTRIES STATEMENT_ROOM (ahead cursor.entry)) }
-    ensures nodes { IfOk result (λ f. vec_len spans.new ≡ vec_len spans.old + size (file_of f)) }
+pub(crate) fn file(alloc: Global, cursor: Cursor<'_>) -> Result<FileNode, Fault>
+    ensures { Gives file_of result (file MAX_ENTRIES STATEMENT_ROOM (ahead cursor.entry)) }
 {
-    let (package, rest) = cursor.expect(TokenKind::Package)?;
+    let rest = cursor.expect(TokenKind::Package)?;
     let rest = rest.expect_name(b"main")?;
-    let (first, rest) = rest.expect(TokenKind::Semicolon)?;
-    let all = declarations(alloc, first, rest, spans)?;
-    let span = Span {
-        from: package.from,
-        to: all.last.to,
-    };
-    Ok(with_span(FileNode { tops: all.entries }, span, spans)?)
+    let rest = rest.expect(TokenKind::Semicolon)?;
+    let all = declarations(alloc, rest)?;
+    Ok(FileNode { tops: all.entries })
 }

@@ -5,7 +5,8 @@ ghost use Rattle.go_text.specs.Source.{bytes_of};
 ghost use Rattle.go_text.specs.declared.fault.Fault.TheVariants as faults;
 ghost use Rattle.syntax.specs.Tree.{File};
 ghost use Rattle.syntax.specs.Measures.{Entries, SelectClauses, height, most_entries, most_clauses};
-ghost use Rattle.syntax.specs.Spans.{tree_of};
+ghost use Rattle.syntax.specs.Spans.{tree_of, spans_of};
+ghost use Rattle.spans.specs.Places.{file_spans};
 ghost use Rattle.parser_base.specs.Lexemes.{Lexeme, lexemes};
 ghost use Rattle.parser.specs.Spelling.{Spells};
 ghost use Rattle.parser_base.specs.Reading.{Syntax, TooDeep, TooMany, refusal_of};
@@ -14,6 +15,7 @@ use crate::file::file;
 use go_text::{Fault, Source};
 use parser_base::cursor::Cursor;
 use scanner::Token;
+use spans::file_spans;
 use std::alloc::Global;
 use syntax::Tree;
 use syntax::limits::{MAX_CLAUSES, MAX_ENTRIES, MAX_HEIGHT};
@@ -31,6 +33,8 @@ pub fn parse(alloc: Global, source: &Source, tokens: &[Token]) -> Result<Tree, F
     ensures low { IfOk result (λ tree. height (tree_of tree) ≤ MAX_HEIGHT) }
     ensures few { IfOk result (λ tree. most_entries (tree_of tree) ≤ MAX_ENTRIES) }
     ensures clauses { IfOk result (λ tree. most_clauses (tree_of tree) ≤ MAX_CLAUSES) }
+    // Each node stands where its own tokens do.
+    ensures spans { IfOk result (λ tree. spans_of tree ≡ file_spans tokens.now (tree_of tree)) }
     // No tree at all has them.
     ensures syntax { IfErr result (λ fault. refusal_of fault ≡ Some Syntax → (file : File) → Spells (lexemes (bytes_of source.now) tokens.now) file → ⊥) }
     // No tree of at most so many levels has them.
@@ -41,8 +45,8 @@ pub fn parse(alloc: Global, source: &Source, tokens: &[Token]) -> Result<Tree, F
     ensures wide { IfErr result (λ fault. refusal_of fault ≡ Some (TooMany SelectClauses) → (file : File) → Spells (lexemes (bytes_of source.now) tokens.now) file → most_clauses file ≤ MAX_CLAUSES → ⊥) }
     ensures only { IfErr result (λ fault. (fault ≡ faults.Memory) ⊎ IsSome (refusal_of fault)) }
 {
-    let mut spans = Vec::new(alloc);
-    let file = file(alloc, Cursor::new(source, tokens), &mut spans)?;
+    let file = file(alloc, Cursor::new(source, tokens))?;
+    let spans = file_spans(alloc, &file, tokens)?;
     Ok(Tree::new(file, spans))
 }
 

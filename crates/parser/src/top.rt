@@ -1,16 +1,13 @@
 //! Declarations.
 
-ghost use Rattle.std.specs.Prelude.{◌≡◌, ◌+◌, ◌^◌, ◌<◌, IfOk, option_map, map, vec_len};
-ghost use Rattle.syntax.specs.Measures.{type_size, if_any, block_size, top_size};
-ghost use Rattle.syntax.specs.Tree.{statements};
+ghost use Rattle.std.specs.Prelude.{◌+◌, option_map, map};
 ghost use Rattle.syntax.specs.View.{statement_of, type_of, top_of};
 ghost use Rattle.parser_base.specs.Cursor.{ahead};
 ghost use Rattle.parser_base.specs.Reading.{Gives};
 ghost use Rattle.parser.specs.Reading.{structure, result_type, block, function, top};
 
 use crate::declared::all_declared;
-use go_text::{Fault, Span};
-use parser_base::beside::with_span;
+use go_text::Fault;
 use parser_base::cursor::Cursor;
 use parser_base::list::List;
 use parser_base::types::type_at;
@@ -27,102 +24,66 @@ pub const STATEMENT_ROOM: u32 = MAX_HEIGHT - 3;
 
 /// A declaration of a struct type.
 #[tactic(auto, unfolding(crate::specs::Reading::structure))]
-fn type_declaration<'a>(
-    alloc: Global,
-    cursor: Cursor<'a>,
-    spans: &mut Vec<Span>,
-) -> Result<(TopNode, Cursor<'a>), Fault>
-    ensures top { Gives (λ x. (top_of x.0, ahead x.1)) result (structure MAX_ENTRIES STATEMENT_ROOM (ahead cursor.entry)) }
-    ensures nodes { IfOk result (λ x. vec_len spans.new ≡ vec_len spans.old + top_size (top_of x.0)) }
+fn type_declaration(alloc: Global, cursor: Cursor<'_>) -> Result<(TopNode, Cursor<'_>), Fault>
+    ensures { Gives (λ x. (top_of x.0, ahead x.1)) result (structure MAX_ENTRIES STATEMENT_ROOM (ahead cursor.entry)) }
 {
-    let (first, rest) = cursor.expect(TokenKind::TypeKeyword)?;
-    let (name, _, rest) = name_at(alloc, rest)?;
-    let (_, rest) = rest.expect(TokenKind::Struct)?;
-    let (_, rest) = rest.expect(TokenKind::LeftBrace)?;
+    let rest = cursor.expect(TokenKind::TypeKeyword)?;
+    let (name, rest) = name_at(alloc, rest)?;
+    let rest = rest.expect(TokenKind::Struct)?;
+    let rest = rest.expect(TokenKind::LeftBrace)?;
     let fields = all_declared(
         alloc,
         TokenKind::Semicolon,
         TokenKind::RightBrace,
         STATEMENT_ROOM,
         rest,
-        spans,
     )?;
-    let span = Span {
-        from: first.from,
-        to: fields.last.to,
-    };
     let node = StructNode {
         name,
         fields: fields.entries,
         trailing: fields.trailing,
     };
-    let node = with_span(TopNode::Struct(node), span, spans)?;
-    Ok((node, fields.rest))
+    Ok((TopNode::Struct(node), fields.rest))
 }
 
 /// The type of a function's result, if there is one before its block.
 #[tactic(auto, unfolding(crate::specs::Reading::result_type))]
-fn result_type<'a>(
-    alloc: Global,
-    cursor: Cursor<'a>,
-    spans: &mut Vec<Span>,
-) -> Result<(Option<TypeNode>, Cursor<'a>), Fault>
-    ensures kind { Gives (λ x. (option_map type_of x.0, ahead x.1)) result (result_type (STATEMENT_ROOM + 1) (ahead cursor.entry)) }
-    ensures nodes { IfOk result (λ x. vec_len spans.new ≡ vec_len spans.old + if_any type_size (option_map type_of x.0)) }
+fn result_type(alloc: Global, cursor: Cursor<'_>) -> Result<(Option<TypeNode>, Cursor<'_>), Fault>
+    ensures { Gives (λ x. (option_map type_of x.0, ahead x.1)) result (result_type (STATEMENT_ROOM + 1) (ahead cursor.entry)) }
 {
     if begins_with(TokenKind::LeftBrace, cursor) {
         return Ok((None, cursor));
     }
-    let found = type_at(alloc, STATEMENT_ROOM + 1, cursor, spans)?;
+    let found = type_at(alloc, STATEMENT_ROOM + 1, cursor)?;
     Ok((Some(found.node), found.rest))
 }
 
 /// The statements of a function's block.
 #[tactic(auto, unfolding(crate::specs::Reading::block))]
-fn function_body<'a>(
-    alloc: Global,
-    cursor: Cursor<'a>,
-    spans: &mut Vec<Span>,
-) -> Result<List<'a, StatementNode>, Fault>
-    ensures block { Gives (λ x. ((map statement_of x.entries.items, x.trailing), ahead x.rest)) result (block MAX_ENTRIES STATEMENT_ROOM (ahead cursor.entry)) }
-    ensures nodes { IfOk result (λ x. vec_len spans.new ≡ vec_len spans.old + block_size (statements (map statement_of x.entries.items))) }
+fn function_body(alloc: Global, cursor: Cursor<'_>) -> Result<List<'_, StatementNode>, Fault>
+    ensures { Gives (λ x. ((map statement_of x.entries.items, x.trailing), ahead x.rest)) result (block MAX_ENTRIES STATEMENT_ROOM (ahead cursor.entry)) }
 {
-    let (brace, rest) = cursor.expect(TokenKind::LeftBrace)?;
-    let body = statement_list(alloc, STATEMENT_ROOM, rest, spans)?;
-    let span = Span {
-        from: brace.from,
-        to: body.last.to,
-    };
-    Ok(with_span(body, span, spans)?)
+    let rest = cursor.expect(TokenKind::LeftBrace)?;
+    statement_list(alloc, STATEMENT_ROOM, rest)
 }
 
 /// A declaration of a function.
 #[tactic(auto, unfolding(crate::specs::Reading::function))]
-fn function_declaration<'a>(
-    alloc: Global,
-    cursor: Cursor<'a>,
-    spans: &mut Vec<Span>,
-) -> Result<(TopNode, Cursor<'a>), Fault>
-    ensures top { Gives (λ x. (top_of x.0, ahead x.1)) result (function MAX_ENTRIES STATEMENT_ROOM (ahead cursor.entry)) }
-    ensures nodes { IfOk result (λ x. vec_len spans.new ≡ vec_len spans.old + top_size (top_of x.0)) }
+fn function_declaration(alloc: Global, cursor: Cursor<'_>) -> Result<(TopNode, Cursor<'_>), Fault>
+    ensures { Gives (λ x. (top_of x.0, ahead x.1)) result (function MAX_ENTRIES STATEMENT_ROOM (ahead cursor.entry)) }
 {
-    let (first, rest) = cursor.expect(TokenKind::Func)?;
-    let (name, _, rest) = name_at(alloc, rest)?;
-    let (_, rest) = rest.expect(TokenKind::LeftParenthesis)?;
+    let rest = cursor.expect(TokenKind::Func)?;
+    let (name, rest) = name_at(alloc, rest)?;
+    let rest = rest.expect(TokenKind::LeftParenthesis)?;
     let parameters = all_declared(
         alloc,
         TokenKind::Comma,
         TokenKind::RightParenthesis,
         STATEMENT_ROOM,
         rest,
-        spans,
     )?;
-    let (kind, rest) = result_type(alloc, parameters.rest, spans)?;
-    let body = function_body(alloc, rest, spans)?;
-    let span = Span {
-        from: first.from,
-        to: body.last.to,
-    };
+    let (kind, rest) = result_type(alloc, parameters.rest)?;
+    let body = function_body(alloc, rest)?;
     let node = FunctionNode {
         name,
         parameters: parameters.entries,
@@ -130,23 +91,17 @@ fn function_declaration<'a>(
         result: kind,
         body: body.entries,
     };
-    let node = with_span(TopNode::Function(node), span, spans)?;
-    Ok((node, body.rest))
+    Ok((TopNode::Function(node), body.rest))
 }
 
 /// A declaration of a struct type or a function.
 #[tactic(auto, unfolding(crate::specs::Reading::top))]
-pub(crate) fn declaration<'a>(
-    alloc: Global,
-    cursor: Cursor<'a>,
-    spans: &mut Vec<Span>,
-) -> Result<(TopNode, Cursor<'a>), Fault>
-    ensures top { Gives (λ x. (top_of x.0, ahead x.1)) result (top MAX_ENTRIES STATEMENT_ROOM (ahead cursor.entry)) }
-    ensures nodes { IfOk result (λ x. vec_len spans.new ≡ vec_len spans.old + top_size (top_of x.0)) }
+pub(crate) fn declaration(alloc: Global, cursor: Cursor<'_>) -> Result<(TopNode, Cursor<'_>), Fault>
+    ensures { Gives (λ x. (top_of x.0, ahead x.1)) result (top MAX_ENTRIES STATEMENT_ROOM (ahead cursor.entry)) }
 {
     if begins_with(TokenKind::TypeKeyword, cursor) {
-        type_declaration(alloc, cursor, spans)
+        type_declaration(alloc, cursor)
     } else {
-        function_declaration(alloc, cursor, spans)
+        function_declaration(alloc, cursor)
     }
 }

@@ -9,4 +9,3 @@ pub mod ExpressionSound
 pub mod Sizes
 pub mod TypeLaws
 pub mod Steps
-pub mod Spans

@@ -1,7 +1,6 @@
 -- The entries of a list one after the other, as a loop reads them.
-use Rattle.std.proofs.Common.{◌≡◌, ℕ, suc, ◌-◌, ◌+◌, ◌<◌, ◌≤◌, Bool, List, [], ◌∷◌, ◌++◌, Ok, Err, map, max, sum_by, refl, sym, ap, ◌∙◌, arith, append_assoc, length, length-append}
+use Rattle.std.proofs.Common.{◌≡◌, ℕ, suc, ◌-◌, ◌+◌, ◌<◌, ◌≤◌, Bool, List, [], ◌∷◌, ◌++◌, Ok, Err, map, max, refl, sym, ap, ◌∙◌, arith, append_assoc}
 use Rattle.std.proofs.lemmas.List.{map-append}
-use Rattle.std.proofs.lemmas.List.Sums.{sum_by-append}
 use Rattle.go_text.specs.declared.fault.Fault.{Fault}
 use Rattle.syntax.specs.Measures.{highest}
 use Rattle.parser_base.specs.declared.list.Next.{Next}
@@ -75,12 +74,6 @@ is_full one next full turns i front ws total le so_far =
     let k : turns - i ≡ 0 = omega arith in
     sym so_far ∙ ap (λ (n : ℕ). with_front front (listed one next full n ws)) k
 
--- the sum of what was pushed
-pub sum_by-pushed : {A X : Type 0} (view : A → X) (size : X → ℕ) (front : List A) (x : A) → sum_by size (map view (front ++ x ∷ [])) ≡ sum_by size (map view front) + size (view x)
-sum_by-pushed view size front x =
-    let e = ap (sum_by size) (one_more view front x) ∙ sum_by-append size (map view front) (view x ∷ []) in
-    omega (arith, e)
-
 highest-append : {X : Type 0} (height : X → ℕ) (front : List X) (x : X) → highest height (front ++ x ∷ []) ≡ max (highest height front) (height x)
 highest-append height [] x = omega arith
 highest-append height (y ∷ front) x = omega (arith, highest-append height front x)
@@ -88,7 +81,3 @@ highest-append height (y ∷ front) x = omega (arith, highest-append height fron
 -- the highest of what was pushed
 pub highest-pushed : {A X : Type 0} (view : A → X) (height : X → ℕ) (front : List A) (x : A) → highest height (map view (front ++ x ∷ [])) ≡ max (highest height (map view front)) (height (view x))
 highest-pushed view height front x = ap (highest height) (one_more view front x) ∙ highest-append height (map view front) (view x)
-
--- the number of those that were pushed
-pub length-pushed : {A X : Type 0} (view : A → X) (front : List A) (x : A) → length (map view (front ++ x ∷ [])) ≡ length (map view front) + 1
-length-pushed view front x = ap length (one_more view front x) ∙ length-append (map view front) (view x ∷ [])

@@ -3,4 +3,3 @@ pub mod Cursor
 pub mod Spelling
 pub mod Reading
 pub mod TypeReading
-pub mod Spans

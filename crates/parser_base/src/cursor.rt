@@ -80,9 +80,9 @@ impl<'a> Cursor<'a> {
         }
     }
 
-    /// The first word, the span of its token, and the place behind it; `None` at the end.
-    pub fn next(self) -> Option<(Word<'a>, Span, Cursor<'a>)>
-        ensures { MatchOption result (ahead self.entry ≡ []) (λ x. ahead self.entry ≡ lexeme_of x.0 ∷ ahead x.2) }
+    /// The first word, and the place behind it; `None` at the end.
+    pub fn next(self) -> Option<(Word<'a>, Cursor<'a>)>
+        ensures { MatchOption result (ahead self.entry ≡ []) (λ x. ahead self.entry ≡ lexeme_of x.0 ∷ ahead x.1) }
     {
         let (token, rest) = self.tokens.split_first()?;
         let word = match token.kind {
@@ -93,7 +93,6 @@ impl<'a> Cursor<'a> {
         };
         Some((
             word,
-            token.span,
             Cursor {
                 source: self.source,
                 tokens: rest,
@@ -101,13 +100,13 @@ impl<'a> Cursor<'a> {
         ))
     }
 
-    /// The span of a mark that is wanted here, and the place behind it.
+    /// The place behind a mark that is wanted here.
     #[tactic(auto, unfolding(crate::specs::Reading::expect))]
-    pub fn expect(self, kind: TokenKind) -> Result<(Span, Cursor<'a>), Fault>
-        ensures { Gives (λ x. ahead x.1) result (expect kind (ahead self.entry)) }
+    pub fn expect(self, kind: TokenKind) -> Result<Cursor<'a>, Fault>
+        ensures { Gives (λ x. ahead x) result (expect kind (ahead self.entry)) }
     {
         match self.next() {
-            Some((Word::Mark(first), span, rest)) if first == kind => Ok((span, rest)),
+            Some((Word::Mark(first), rest)) if first == kind => Ok(rest),
             _ => Err(Fault::Syntax(self.place())),
         }
     }
@@ -118,18 +117,18 @@ impl<'a> Cursor<'a> {
         ensures { Gives (λ x. ahead x) result (expect_name name.now (ahead self.entry)) }
     {
         match self.next() {
-            Some((Word::Name(first), _, rest)) if first == name => Ok(rest),
+            Some((Word::Name(first), rest)) if first == name => Ok(rest),
             _ => Err(Fault::Syntax(self.place())),
         }
     }
 
-    /// A name that may be declared, its span, and the place behind it.
+    /// A name that may be declared, and the place behind it.
     #[tactic(auto, unfolding(crate::specs::Reading::plain_name))]
-    pub fn plain_name(self) -> Result<(&'a [u8], Span, Cursor<'a>), Fault>
-        ensures { Gives (λ x. (x.0.now, ahead x.2)) result (plain_name (ahead self.entry)) }
+    pub fn plain_name(self) -> Result<(&'a [u8], Cursor<'a>), Fault>
+        ensures { Gives (λ x. (x.0.now, ahead x.1)) result (plain_name (ahead self.entry)) }
     {
         match self.next() {
-            Some((Word::Name(name), span, rest)) if !is_builtin(name) => Ok((name, span, rest)),
+            Some((Word::Name(name), rest)) if !is_builtin(name) => Ok((name, rest)),
             _ => Err(Fault::Syntax(self.place())),
         }
     }

@@ -1,21 +1,20 @@
 //! Expressions, by the strength of their operators.
 
-ghost use Rattle.std.specs.Prelude.{◌≡◌, ℕ, ◌<◌, ◌≤◌, ◌+◌, ◌-◌, true, List as Lists, IfOk, IfErr, option_map, map, sum_by, vec_len};
+ghost use Rattle.std.specs.Prelude.{◌≡◌, ℕ, ◌<◌, ◌≤◌, ◌+◌, ◌-◌, true, List as Lists, IfOk, IfErr, option_map, map};
 ghost use Rattle.go_text.specs.declared.fault.Fault.TheVariants as faults;
 ghost use Rattle.syntax.specs.Tree.{Expression, Named, Parenthesized, Selection, Composite, Unary, Binary, expressions};
-ghost use Rattle.syntax.specs.Measures.{Entries, highest, expression_height, expression_size};
+ghost use Rattle.syntax.specs.Measures.{Entries, highest, expression_height};
 ghost use Rattle.syntax.specs.View.{expression_of};
 ghost use Rattle.parser_base.specs.Cursor.{ahead};
 ghost use Rattle.parser_base.specs.Lexemes.{Lexeme};
 ghost use Rattle.parser_base.specs.Reading.{Gives, Reading, TooMany, begins, closed, value_next, listed, values, composite, named, step_at, parenthesized, negated, operand, applied, expression};
 
-use crate::beside::with_span;
 use crate::cursor::{Cursor, Word, is_builtin};
 use crate::found::Found;
 use crate::list::{List, Next};
 use crate::literal::literal;
 use crate::operator::{Infix, infix_of, precedence, strength, unary_of};
-use go_text::{Fault, LimitKind, Place, Span};
+use go_text::{Fault, LimitKind};
 use scanner::TokenKind;
 use std::alloc::Global;
 use syntax::limits::MAX_ENTRIES;
@@ -27,8 +26,6 @@ struct Measured<'a> {
     node: ExpressionNode,
     /// Its height, which is 1 at a leaf.
     height: u32,
-    /// Its bytes, from its first token to its last.
-    span: Span,
     rest: Cursor<'a>,
 }
 
@@ -37,7 +34,7 @@ struct Measured<'a> {
 fn step_at(least: u32, cursor: Cursor<'_>) -> Option<(Infix, Cursor<'_>)>
     ensures { option_map (λ x. (x.0, ahead x.1)) result ≡ step_at least (ahead cursor.entry) }
 {
-    let (Word::Mark(kind), _, rest) = cursor.next()? else {
+    let (Word::Mark(kind), rest) = cursor.next()? else {
         return None;
     };
     let step = infix_of(kind)?;
@@ -54,9 +51,9 @@ pub fn begins(cursor: Cursor<'_>) -> bool
     ensures { result ≡ begins (ahead cursor.entry) }
 {
     match cursor.next() {
-        Some((Word::Literal(_), _, _)) => true,
-        Some((Word::Name(name), _, _)) => !is_builtin(name),
-        Some((Word::Mark(kind), _, _)) => {
+        Some((Word::Literal(_), _)) => true,
+        Some((Word::Name(name), _)) => !is_builtin(name),
+        Some((Word::Mark(kind), _)) => {
             kind == TokenKind::LeftParenthesis
                 || kind == TokenKind::Plus
                 || kind == TokenKind::Minus
@@ -67,31 +64,31 @@ pub fn begins(cursor: Cursor<'_>) -> bool
     }
 }
 
-/// The end of a list, with the span of its token.
+/// The end of a list, and the place behind it.
 pub fn closed(
     close: TokenKind,
     trailing: bool,
     cursor: Cursor<'_>,
-) -> Result<(Next, Span, Cursor<'_>), Fault>
-    ensures { Gives (λ x. (x.0, ahead x.2)) result (closed close trailing (ahead cursor.entry)) }
+) -> Result<(Next, Cursor<'_>), Fault>
+    ensures { Gives (λ x. (x.0, ahead x.1)) result (closed close trailing (ahead cursor.entry)) }
 {
-    let (last, rest) = cursor.expect(close)?;
-    Ok((Next::End(trailing), last, rest))
+    let rest = cursor.expect(close)?;
+    Ok((Next::End(trailing), rest))
 }
 
-/// What follows a value of a list, with the span of its last token.
+/// What follows a value of a list, and the place of the next one or behind the list.
 #[tactic(auto, unfolding(crate::specs::Reading::entry_next))]
-pub fn value_next(close: TokenKind, cursor: Cursor<'_>) -> Result<(Next, Span, Cursor<'_>), Fault>
-    ensures { Gives (λ x. (x.0, ahead x.2)) result (value_next close (ahead cursor.entry)) }
+pub fn value_next(close: TokenKind, cursor: Cursor<'_>) -> Result<(Next, Cursor<'_>), Fault>
+    ensures { Gives (λ x. (x.0, ahead x.1)) result (value_next close (ahead cursor.entry)) }
 {
-    let Some((Word::Mark(kind), span, rest)) = cursor.next() else {
+    let Some((Word::Mark(kind), rest)) = cursor.next() else {
         return Err(Fault::Syntax(cursor.place()));
     };
     if kind != TokenKind::Comma {
         return closed(close, false, cursor);
     }
     if begins(rest) {
-        Ok((Next::More, span, rest))
+        Ok((Next::More, rest))
     } else {
         closed(close, true, rest)
     }
@@ -178,27 +175,24 @@ fn composite_node(
 /// The values of a list to its closing mark, behind the opening one, and the height of the highest of them, or 0.
 #[cycle(expression)]
 #[tactic(auto, unfolding(crate::specs::Reading::values))]
-pub fn values<'a>(
+pub fn values(
     alloc: Global,
     literals: bool,
     room: u32,
     close: TokenKind,
-    cursor: Cursor<'a>,
-    spans: &mut Vec<Span>,
-) -> Result<(List<'a, ExpressionNode>, u32), Fault>
+    cursor: Cursor<'_>,
+) -> Result<(List<'_, ExpressionNode>, u32), Fault>
     ensures values { Gives (λ x. ((map expression_of x.0.entries.items, x.0.trailing), ahead x.0.rest)) result (values (expression literals MAX_ENTRIES room) close MAX_ENTRIES (ahead cursor.entry)) }
     ensures height { IfOk result (λ x. x.1 ≡ highest expression_height (map expression_of x.0.entries.items)) }
     ensures within { IfOk result (λ x. x.1 ≤ room) }
-    ensures nodes { IfOk result (λ x. vec_len spans.new ≡ vec_len spans.old + sum_by expression_size (map expression_of x.0.entries.items)) }
 {
     if begins(cursor) {
-        return expression_list(alloc, literals, room, close, cursor, spans);
+        return expression_list(alloc, literals, room, close, cursor);
     }
-    let (last, rest) = cursor.expect(close)?;
+    let rest = cursor.expect(close)?;
     let none = List {
         entries: Vec::new(alloc),
         trailing: false,
-        last,
         rest,
     };
     Ok((none, 0))
@@ -206,34 +200,31 @@ pub fn values<'a>(
 
 /// At least one value, to the closing mark of a list, and the height of the highest.
 #[cycle(expression)]
-fn expression_list<'a>(
+fn expression_list(
     alloc: Global,
     literals: bool,
     room: u32,
     close: TokenKind,
-    cursor: Cursor<'a>,
-    spans: &mut Vec<Span>,
-) -> Result<(List<'a, ExpressionNode>, u32), Fault>
+    cursor: Cursor<'_>,
+) -> Result<(List<'_, ExpressionNode>, u32), Fault>
     ensures values { Gives (λ x. ((map expression_of x.0.entries.items, x.0.trailing), ahead x.0.rest)) result (listed (expression literals MAX_ENTRIES room 0) (value_next close) (TooMany Entries) MAX_ENTRIES (ahead cursor.entry)) }
     ensures height { IfOk result (λ x. x.1 ≡ highest expression_height (map expression_of x.0.entries.items)) }
     ensures within { IfOk result (λ x. x.1 ≤ room) }
-    ensures nodes { IfOk result (λ x. vec_len spans.new ≡ vec_len spans.old + sum_by expression_size (map expression_of x.0.entries.items)) }
 {
     let mut entries = Vec::new(alloc);
     let mut height = 0;
     let mut rest = cursor;
     for _ in 0..MAX_ENTRIES {
-        let found = measured_expression(alloc, literals, room, 0, rest, spans)?;
+        let found = measured_expression(alloc, literals, room, 0, rest)?;
         entries.push(found.node)?;
         height = found.height.max(height);
-        let (next, last, after) = value_next(close, found.rest)?;
+        let (next, after) = value_next(close, found.rest)?;
         match next {
             Next::More => rest = after,
             Next::End(trailing) => {
                 let list = List {
                     entries,
                     trailing,
-                    last,
                     rest: after,
                 };
                 return Ok((list, height));
@@ -247,39 +238,31 @@ fn expression_list<'a>(
     })
 }
 
-/// A composite literal of a type of this name, which stands at `first`, behind its first brace.
+/// A composite literal of a type of this name, behind its first brace.
 #[cycle(expression)]
 #[tactic(auto, unfolding(crate::specs::Reading::composite))]
 fn composite_literal<'a>(
     alloc: Global,
     room: u32,
     name: &[u8],
-    first: Span,
     cursor: Cursor<'a>,
-    spans: &mut Vec<Span>,
 ) -> Result<Measured<'a>, Fault>
     requires { 1 ≤ room }
     ensures tree { Gives (λ x. (expression_of x.node, ahead x.rest)) result (composite (expression true MAX_ENTRIES (room - 1)) MAX_ENTRIES name.now (ahead cursor.entry)) }
     ensures height { IfOk result (λ x. x.height ≡ expression_height (expression_of x.node)) }
     ensures leaf { IfOk result (λ x. 1 ≤ x.height) }
     ensures within { IfOk result (λ x. x.height ≤ room) }
-    ensures nodes { IfOk result (λ x. vec_len spans.new ≡ vec_len spans.old + expression_size (expression_of x.node)) }
 {
-    let (values, highest) = values(alloc, true, room - 1, TokenKind::RightBrace, cursor, spans)?;
-    let span = Span {
-        from: first.from,
-        to: values.last.to,
-    };
+    let (values, highest) = values(alloc, true, room - 1, TokenKind::RightBrace, cursor)?;
     let node = composite_node(alloc, name, values.entries, values.trailing)?;
     Ok(Measured {
-        node: with_span(node, span, spans)?,
+        node,
         height: highest + 1,
-        span,
         rest: values.rest,
     })
 }
 
-/// An operand name, which stands at `first`, or a composite literal of a type of this name.
+/// An operand name, or a composite literal of a type of this name.
 #[cycle(expression)]
 #[tactic(auto, unfolding(crate::specs::Reading::named))]
 fn operand_name<'a>(
@@ -287,26 +270,22 @@ fn operand_name<'a>(
     literals: bool,
     room: u32,
     name: &[u8],
-    first: Span,
     cursor: Cursor<'a>,
-    spans: &mut Vec<Span>,
 ) -> Result<Measured<'a>, Fault>
     requires { 1 ≤ room }
     ensures tree { Gives (λ x. (expression_of x.node, ahead x.rest)) result (named literals (expression literals MAX_ENTRIES (room - 1)) MAX_ENTRIES name.now (ahead cursor.entry)) }
     ensures height { IfOk result (λ x. x.height ≡ expression_height (expression_of x.node)) }
     ensures leaf { IfOk result (λ x. 1 ≤ x.height) }
     ensures within { IfOk result (λ x. x.height ≤ room) }
-    ensures nodes { IfOk result (λ x. vec_len spans.new ≡ vec_len spans.old + expression_size (expression_of x.node)) }
 {
     if literals {
-        if let Some((Word::Mark(TokenKind::LeftBrace), _, rest)) = cursor.next() {
-            return composite_literal(alloc, room, name, first, rest, spans);
+        if let Some((Word::Mark(TokenKind::LeftBrace), rest)) = cursor.next() {
+            return composite_literal(alloc, room, name, rest);
         }
     }
     Ok(Measured {
-        node: with_span(named_node(alloc, name)?, first, spans)?,
+        node: named_node(alloc, name)?,
         height: 1,
-        span: first,
         rest: cursor,
     })
 }
@@ -318,31 +297,24 @@ fn parenthesized<'a>(
     alloc: Global,
     literals: bool,
     room: u32,
-    first: Span,
+    first: Cursor<'a>,
     cursor: Cursor<'a>,
-    spans: &mut Vec<Span>,
 ) -> Result<Measured<'a>, Fault>
     requires { 1 ≤ room }
     ensures tree { Gives (λ x. (expression_of x.node, ahead x.rest)) result (parenthesized (expression literals MAX_ENTRIES (room - 1)) (ahead cursor.entry)) }
     ensures height { IfOk result (λ x. x.height ≡ expression_height (expression_of x.node)) }
     ensures leaf { IfOk result (λ x. 1 ≤ x.height) }
     ensures within { IfOk result (λ x. x.height ≤ room) }
-    ensures nodes { IfOk result (λ x. vec_len spans.new ≡ vec_len spans.old + expression_size (expression_of x.node)) }
 {
     if room < 2 {
-        return Err(Fault::TooDeep(Place::from(first)));
+        return Err(Fault::TooDeep(first.place()));
     }
-    let inner = measured_expression(alloc, literals, room - 1, 0, cursor, spans)?;
-    let (last, rest) = inner.rest.expect(TokenKind::RightParenthesis)?;
-    let span = Span {
-        from: first.from,
-        to: last.to,
-    };
+    let inner = measured_expression(alloc, literals, room - 1, 0, cursor)?;
+    let rest = inner.rest.expect(TokenKind::RightParenthesis)?;
     let node = parenthesized_node(alloc, inner.node)?;
     Ok(Measured {
-        node: with_span(node, span, spans)?,
+        node,
         height: inner.height + 1,
-        span,
         rest,
     })
 }
@@ -355,30 +327,23 @@ fn unary_expression<'a>(
     literals: bool,
     room: u32,
     operator: UnaryOperator,
-    first: Span,
+    first: Cursor<'a>,
     cursor: Cursor<'a>,
-    spans: &mut Vec<Span>,
 ) -> Result<Measured<'a>, Fault>
     requires { 1 ≤ room }
     ensures tree { Gives (λ x. (expression_of x.node, ahead x.rest)) result (negated (expression literals MAX_ENTRIES (room - 1)) (ahead cursor.entry) (Some operator)) }
     ensures height { IfOk result (λ x. x.height ≡ expression_height (expression_of x.node)) }
     ensures leaf { IfOk result (λ x. 1 ≤ x.height) }
     ensures within { IfOk result (λ x. x.height ≤ room) }
-    ensures nodes { IfOk result (λ x. vec_len spans.new ≡ vec_len spans.old + expression_size (expression_of x.node)) }
 {
     if room < 2 {
-        return Err(Fault::TooDeep(Place::from(first)));
+        return Err(Fault::TooDeep(first.place()));
     }
-    let operand = measured_expression(alloc, literals, room - 1, 6, cursor, spans)?;
-    let span = Span {
-        from: first.from,
-        to: operand.span.to,
-    };
+    let operand = measured_expression(alloc, literals, room - 1, 6, cursor)?;
     let node = unary_node(alloc, operator, operand.node)?;
     Ok(Measured {
-        node: with_span(node, span, spans)?,
+        node,
         height: operand.height + 1,
-        span,
         rest: operand.rest,
     })
 }
@@ -386,48 +351,42 @@ fn unary_expression<'a>(
 /// What is no operation and no selection, of at most so many levels.
 #[cycle(expression)]
 #[tactic(auto, unfolding(crate::specs::Reading::operand))]
-fn operand<'a>(
+fn operand(
     alloc: Global,
     literals: bool,
     room: u32,
-    cursor: Cursor<'a>,
-    spans: &mut Vec<Span>,
-) -> Result<Measured<'a>, Fault>
+    cursor: Cursor<'_>,
+) -> Result<Measured<'_>, Fault>
     requires { 1 ≤ room }
     ensures tree { Gives (λ x. (expression_of x.node, ahead x.rest)) result (operand literals (expression literals MAX_ENTRIES (room - 1)) MAX_ENTRIES (ahead cursor.entry)) }
     ensures height { IfOk result (λ x. x.height ≡ expression_height (expression_of x.node)) }
     ensures leaf { IfOk result (λ x. 1 ≤ x.height) }
     ensures within { IfOk result (λ x. x.height ≤ room) }
-    ensures nodes { IfOk result (λ x. vec_len spans.new ≡ vec_len spans.old + expression_size (expression_of x.node)) }
 {
-    let Some((word, span, rest)) = cursor.next() else {
+    let Some((word, rest)) = cursor.next() else {
         return Err(Fault::Syntax(cursor.place()));
     };
     match word {
-        Word::Literal(digits) => {
-            let node = ExpressionNode::Integer(literal(digits));
-            Ok(Measured {
-                node: with_span(node, span, spans)?,
-                height: 1,
-                span,
-                rest,
-            })
-        }
+        Word::Literal(digits) => Ok(Measured {
+            node: ExpressionNode::Integer(literal(digits)),
+            height: 1,
+            rest,
+        }),
         Word::Name(name) => {
             if is_builtin(name) {
-                return Err(Fault::Syntax(Place::from(span)));
+                return Err(Fault::Syntax(cursor.place()));
             }
-            operand_name(alloc, literals, room, name, span, rest, spans)
+            operand_name(alloc, literals, room, name, rest)
         }
-        Word::Text(_) => Err(Fault::Syntax(Place::from(span))),
+        Word::Text(_) => Err(Fault::Syntax(cursor.place())),
         Word::Mark(kind) => {
             if kind == TokenKind::LeftParenthesis {
-                return parenthesized(alloc, literals, room, span, rest, spans);
+                return parenthesized(alloc, literals, room, cursor, rest);
             }
             let Some(operator) = unary_of(kind) else {
-                return Err(Fault::Syntax(Place::from(span)));
+                return Err(Fault::Syntax(cursor.place()));
             };
-            unary_expression(alloc, literals, room, operator, span, rest, spans)
+            unary_expression(alloc, literals, room, operator, cursor, rest)
         }
     }
 }
@@ -441,7 +400,6 @@ fn applied<'a>(
     left: Measured<'a>,
     step: Infix,
     cursor: Cursor<'a>,
-    spans: &mut Vec<Span>,
 ) -> Result<Measured<'a>, Fault>
     requires room { 1 ≤ room }
     requires low { left.height < room }
@@ -450,13 +408,12 @@ fn applied<'a>(
     ensures height { IfOk result (λ x. x.height ≡ expression_height (expression_of x.node)) }
     ensures leaf { IfOk result (λ x. 1 ≤ x.height) }
     ensures within { IfOk result (λ x. x.height ≤ room) }
-    ensures nodes { IfOk result (λ x. vec_len spans.new + expression_size (expression_of left.entry.node) ≡ vec_len spans.old + expression_size (expression_of x.node)) }
 {
     match step {
         Infix::Operator(operator) => binary_expression(
-            alloc, literals, room, left, operator, cursor, spans,
+            alloc, literals, room, left, operator, cursor,
         ),
-        Infix::Period => selection(alloc, room, left, cursor, spans),
+        Infix::Period => selection(alloc, room, left, cursor),
     }
 }
 
@@ -469,7 +426,6 @@ fn binary_expression<'a>(
     left: Measured<'a>,
     operator: BinaryOperator,
     cursor: Cursor<'a>,
-    spans: &mut Vec<Span>,
 ) -> Result<Measured<'a>, Fault>
     requires room { 1 ≤ room }
     requires low { left.height < room }
@@ -478,26 +434,13 @@ fn binary_expression<'a>(
     ensures height { IfOk result (λ x. x.height ≡ expression_height (expression_of x.node)) }
     ensures leaf { IfOk result (λ x. 1 ≤ x.height) }
     ensures within { IfOk result (λ x. x.height ≤ room) }
-    ensures nodes { IfOk result (λ x. vec_len spans.new + expression_size (expression_of left.entry.node) ≡ vec_len spans.old + expression_size (expression_of x.node)) }
 {
-    let right = measured_expression(
-        alloc,
-        literals,
-        room - 1,
-        precedence(operator) + 1,
-        cursor,
-        spans,
-    )?;
-    let span = Span {
-        from: left.span.from,
-        to: right.span.to,
-    };
+    let right = measured_expression(alloc, literals, room - 1, precedence(operator) + 1, cursor)?;
     let height = left.height.max(right.height) + 1;
     let node = binary_node(alloc, operator, left.node, right.node)?;
     Ok(Measured {
-        node: with_span(node, span, spans)?,
+        node,
         height,
-        span,
         rest: right.rest,
     })
 }
@@ -508,7 +451,6 @@ fn selection<'a>(
     room: u32,
     left: Measured<'a>,
     cursor: Cursor<'a>,
-    spans: &mut Vec<Span>,
 ) -> Result<Measured<'a>, Fault>
     requires low { left.height < room }
     requires height { left.height ≡ expression_height (expression_of left.node) }
@@ -516,44 +458,32 @@ fn selection<'a>(
     ensures height { IfOk result (λ x. x.height ≡ expression_height (expression_of x.node)) }
     ensures leaf { IfOk result (λ x. 1 ≤ x.height) }
     ensures within { IfOk result (λ x. x.height ≤ room) }
-    ensures nodes { IfOk result (λ x. vec_len spans.new + expression_size (expression_of left.entry.node) ≡ vec_len spans.old + expression_size (expression_of x.node)) }
 {
-    let (field, last, rest) = cursor.plain_name()?;
-    let span = Span {
-        from: left.span.from,
-        to: last.to,
-    };
+    let (field, rest) = cursor.plain_name()?;
     let height = left.height + 1;
     let node = selection_node(alloc, left.node, field)?;
-    Ok(Measured {
-        node: with_span(node, span, spans)?,
-        height,
-        span,
-        rest,
-    })
+    Ok(Measured { node, height, rest })
 }
 
 /// An expression of at most so many levels, as `expression` reads it.
 #[cycle(expression)]
 #[tactic(auto, unfolding(crate::specs::Reading::expression, crate::specs::Reading::operation, crate::specs::Reading::operations))]
-fn measured_expression<'a>(
+fn measured_expression(
     alloc: Global,
     literals: bool,
     room: u32,
     least: u32,
-    cursor: Cursor<'a>,
-    spans: &mut Vec<Span>,
-) -> Result<Measured<'a>, Fault>
+    cursor: Cursor<'_>,
+) -> Result<Measured<'_>, Fault>
     ensures tree { Gives (λ x. (expression_of x.node, ahead x.rest)) result (expression literals MAX_ENTRIES room least (ahead cursor.entry)) }
     ensures height { IfOk result (λ x. x.height ≡ expression_height (expression_of x.node)) }
     ensures leaf { IfOk result (λ x. 1 ≤ x.height) }
     ensures within { IfOk result (λ x. x.height ≤ room) }
-    ensures nodes { IfOk result (λ x. vec_len spans.new ≡ vec_len spans.old + expression_size (expression_of x.node)) }
 {
     if room == 0 {
         return Err(Fault::TooDeep(cursor.place()));
     }
-    let mut left = operand(alloc, literals, room, cursor, spans)?;
+    let mut left = operand(alloc, literals, room, cursor)?;
     for _ in 0..room {
         let Some((step, after)) = step_at(least, left.rest) else {
             return Ok(left);
@@ -561,28 +491,25 @@ fn measured_expression<'a>(
         if left.height >= room {
             return Err(Fault::TooDeep(left.rest.place()));
         }
-        left = applied(alloc, literals, room, left, step, after, spans)?;
+        left = applied(alloc, literals, room, left, step, after)?;
     }
     Err(Fault::TooDeep(left.rest.place()))
 }
 
 /// An expression of at most so many levels, whose outermost operator binds at least so strongly. Composite literals stand
 /// in it only where `literals` holds.
-pub fn expression<'a>(
+pub fn expression(
     alloc: Global,
     literals: bool,
     room: u32,
     least: u32,
-    cursor: Cursor<'a>,
-    spans: &mut Vec<Span>,
-) -> Result<Found<'a, ExpressionNode>, Fault>
-    ensures tree { Gives (λ x. (expression_of x.node, ahead x.rest)) result (expression literals MAX_ENTRIES room least (ahead cursor.entry)) }
-    ensures nodes { IfOk result (λ x. vec_len spans.new ≡ vec_len spans.old + expression_size (expression_of x.node)) }
+    cursor: Cursor<'_>,
+) -> Result<Found<'_, ExpressionNode>, Fault>
+    ensures { Gives (λ x. (expression_of x.node, ahead x.rest)) result (expression literals MAX_ENTRIES room least (ahead cursor.entry)) }
 {
-    let found = measured_expression(alloc, literals, room, least, cursor, spans)?;
+    let found = measured_expression(alloc, literals, room, least, cursor)?;
     Ok(Found {
         node: found.node,
-        span: found.span,
         rest: found.rest,
     })
 }

@@ -1,7 +1,6 @@
 //! Lists with separators.
 
 use crate::cursor::Cursor;
-use go_text::Span;
 
 /// What follows an entry of a list.
 #[derive(Clone, Copy)]
@@ -18,7 +17,5 @@ pub struct List<'a, T: Drop> {
     pub entries: Vec<T>,
     /// Whether a separator stands behind the last entry.
     pub trailing: bool,
-    /// The span of the token that closes the list.
-    pub last: Span,
     pub rest: Cursor<'a>,
 }

@@ -1,19 +1,17 @@
 //! Types.
 
-ghost use Rattle.std.specs.Prelude.{◌≡◌, ◌≤◌, ◌+◌, ◌-◌, IfOk, IfErr, vec_len};
+ghost use Rattle.std.specs.Prelude.{◌≡◌, ◌≤◌, ◌-◌, IfOk, IfErr};
 ghost use Rattle.go_text.specs.declared.fault.Fault.TheVariants as faults;
 ghost use Rattle.syntax.specs.Tree.{NamedType, ParenthesizedType, Channel};
-ghost use Rattle.syntax.specs.Measures.{type_size};
 ghost use Rattle.syntax.specs.View.{type_of};
 ghost use Rattle.parser_base.specs.Cursor.{ahead};
 ghost use Rattle.parser_base.specs.Reading.{Gives};
 ghost use Rattle.parser_base.specs.TypeReading.{parenthesized_type, channel, behind_chan, behind_arrow, type_at};
 
-use crate::beside::with_span;
 use crate::cursor::{Cursor, Word, is_builtin};
 use crate::expression::name_node;
 use crate::found::Found;
-use go_text::{Fault, Place, Span};
+use go_text::Fault;
 use scanner::TokenKind;
 use std::alloc::Global;
 use syntax::{Direction, TypeNode};
@@ -48,25 +46,19 @@ fn channel_node(alloc: Global, direction: Direction, element: TypeNode) -> Resul
 fn parenthesized_type<'a>(
     alloc: Global,
     room: u32,
-    first: Span,
+    first: Cursor<'a>,
     cursor: Cursor<'a>,
-    spans: &mut Vec<Span>,
 ) -> Result<Found<'a, TypeNode>, Fault>
     requires { 1 ≤ room }
-    ensures tree { Gives (λ x. (type_of x.node, ahead x.rest)) result (parenthesized_type (type_at (room - 1)) (ahead cursor.entry)) }
-    ensures nodes { IfOk result (λ x. vec_len spans.new ≡ vec_len spans.old + type_size (type_of x.node)) }
+    ensures { Gives (λ x. (type_of x.node, ahead x.rest)) result (parenthesized_type (type_at (room - 1)) (ahead cursor.entry)) }
 {
     if room < 2 {
-        return Err(Fault::TooDeep(Place::from(first)));
+        return Err(Fault::TooDeep(first.place()));
     }
-    let inner = type_at(alloc, room - 1, cursor, spans)?;
-    let (last, rest) = inner.rest.expect(TokenKind::RightParenthesis)?;
-    let span = Span {
-        from: first.from,
-        to: last.to,
-    };
-    let node = with_span(parenthesized_node(alloc, inner.node)?, span, spans)?;
-    Ok(Found { node, span, rest })
+    let inner = type_at(alloc, room - 1, cursor)?;
+    let rest = inner.rest.expect(TokenKind::RightParenthesis)?;
+    let node = parenthesized_node(alloc, inner.node)?;
+    Ok(Found { node, rest })
 }
 
 /// A channel type of this direction, from the type of its elements on; its first token stands at `first`.
@@ -76,26 +68,19 @@ fn channel_type<'a>(
     alloc: Global,
     room: u32,
     direction: Direction,
-    first: Span,
+    first: Cursor<'a>,
     cursor: Cursor<'a>,
-    spans: &mut Vec<Span>,
 ) -> Result<Found<'a, TypeNode>, Fault>
     requires { 1 ≤ room }
-    ensures tree { Gives (λ x. (type_of x.node, ahead x.rest)) result (channel direction (type_at (room - 1)) (ahead cursor.entry)) }
-    ensures nodes { IfOk result (λ x. vec_len spans.new ≡ vec_len spans.old + type_size (type_of x.node)) }
+    ensures { Gives (λ x. (type_of x.node, ahead x.rest)) result (channel direction (type_at (room - 1)) (ahead cursor.entry)) }
 {
     if room < 2 {
-        return Err(Fault::TooDeep(Place::from(first)));
+        return Err(Fault::TooDeep(first.place()));
     }
-    let element = type_at(alloc, room - 1, cursor, spans)?;
-    let span = Span {
-        from: first.from,
-        to: element.span.to,
-    };
-    let node = with_span(channel_node(alloc, direction, element.node)?, span, spans)?;
+    let element = type_at(alloc, room - 1, cursor)?;
+    let node = channel_node(alloc, direction, element.node)?;
     Ok(Found {
         node,
-        span,
         rest: element.rest,
     })
 }
@@ -106,20 +91,18 @@ fn channel_type<'a>(
 fn behind_chan<'a>(
     alloc: Global,
     room: u32,
-    first: Span,
+    first: Cursor<'a>,
     cursor: Cursor<'a>,
-    spans: &mut Vec<Span>,
 ) -> Result<Found<'a, TypeNode>, Fault>
     requires { 1 ≤ room }
-    ensures tree { Gives (λ x. (type_of x.node, ahead x.rest)) result (behind_chan (type_at (room - 1)) (ahead cursor.entry)) }
-    ensures nodes { IfOk result (λ x. vec_len spans.new ≡ vec_len spans.old + type_size (type_of x.node)) }
+    ensures { Gives (λ x. (type_of x.node, ahead x.rest)) result (behind_chan (type_at (room - 1)) (ahead cursor.entry)) }
 {
-    if let Some((Word::Mark(kind), _, rest)) = cursor.next() {
+    if let Some((Word::Mark(kind), rest)) = cursor.next() {
         if kind == TokenKind::Arrow {
-            return channel_type(alloc, room, Direction::Send, first, rest, spans);
+            return channel_type(alloc, room, Direction::Send, first, rest);
         }
     }
-    channel_type(alloc, room, Direction::Both, first, cursor, spans)
+    channel_type(alloc, room, Direction::Both, first, cursor)
 }
 
 /// A channel type to receive from alone, behind `<-`, which stands at `first`.
@@ -128,53 +111,44 @@ fn behind_chan<'a>(
 fn behind_arrow<'a>(
     alloc: Global,
     room: u32,
-    first: Span,
+    first: Cursor<'a>,
     cursor: Cursor<'a>,
-    spans: &mut Vec<Span>,
 ) -> Result<Found<'a, TypeNode>, Fault>
     requires { 1 ≤ room }
-    ensures tree { Gives (λ x. (type_of x.node, ahead x.rest)) result (behind_arrow (type_at (room - 1)) (ahead cursor.entry)) }
-    ensures nodes { IfOk result (λ x. vec_len spans.new ≡ vec_len spans.old + type_size (type_of x.node)) }
+    ensures { Gives (λ x. (type_of x.node, ahead x.rest)) result (behind_arrow (type_at (room - 1)) (ahead cursor.entry)) }
 {
-    let (_, rest) = cursor.expect(TokenKind::Chan)?;
-    let found = channel_type(alloc, room, Direction::Receive, first, rest, spans)?;
-    Ok(found)
+    let rest = cursor.expect(TokenKind::Chan)?;
+    channel_type(alloc, room, Direction::Receive, first, rest)
 }
 
 /// A type of at most so many levels ("Types" of the Go specification: a name, a channel type, or one in parentheses).
 #[cycle(type_at)]
 #[tactic(auto, unfolding(crate::specs::TypeReading::type_at))]
-pub fn type_at<'a>(
-    alloc: Global,
-    room: u32,
-    cursor: Cursor<'a>,
-    spans: &mut Vec<Span>,
-) -> Result<Found<'a, TypeNode>, Fault>
-    ensures tree { Gives (λ x. (type_of x.node, ahead x.rest)) result (type_at room (ahead cursor.entry)) }
-    ensures nodes { IfOk result (λ x. vec_len spans.new ≡ vec_len spans.old + type_size (type_of x.node)) }
+pub fn type_at(alloc: Global, room: u32, cursor: Cursor<'_>) -> Result<Found<'_, TypeNode>, Fault>
+    ensures { Gives (λ x. (type_of x.node, ahead x.rest)) result (type_at room (ahead cursor.entry)) }
 {
     if room == 0 {
         return Err(Fault::TooDeep(cursor.place()));
     }
     match cursor.next() {
-        Some((Word::Name(name), span, rest)) => {
+        Some((Word::Name(name), rest)) => {
             if is_builtin(name) {
-                return Err(Fault::Syntax(Place::from(span)));
+                return Err(Fault::Syntax(cursor.place()));
             }
-            let node = with_span(named_node(alloc, name)?, span, spans)?;
-            Ok(Found { node, span, rest })
+            let node = named_node(alloc, name)?;
+            Ok(Found { node, rest })
         }
-        Some((Word::Mark(kind), span, rest)) => {
+        Some((Word::Mark(kind), rest)) => {
             if kind == TokenKind::LeftParenthesis {
-                return parenthesized_type(alloc, room, span, rest, spans);
+                return parenthesized_type(alloc, room, cursor, rest);
             }
             if kind == TokenKind::Chan {
-                return behind_chan(alloc, room, span, rest, spans);
+                return behind_chan(alloc, room, cursor, rest);
             }
             if kind == TokenKind::Arrow {
-                return behind_arrow(alloc, room, span, rest, spans);
+                return behind_arrow(alloc, room, cursor, rest);
             }
-            Err(Fault::Syntax(Place::from(span)))
+            Err(Fault::Syntax(cursor.place()))
         }
         _ => Err(Fault::Syntax(cursor.place())),
     }

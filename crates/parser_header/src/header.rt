@@ -1,16 +1,15 @@
 //! What stands behind `if` or `for`.
 
-ghost use Rattle.std.specs.Prelude.{◌≡◌, ◌+◌, true, false, IfOk, option_map, vec_len};
-ghost use Rattle.syntax.specs.Measures.{if_any, expression_size, simple_size, if_head_size, target_size, for_head_size};
+ghost use Rattle.std.specs.Prelude.{◌≡◌, true, false, option_map};
 ghost use Rattle.syntax.specs.View.{expression_of, simple_of, if_head_of, target_of, for_head_of};
 ghost use Rattle.parser_base.specs.Cursor.{ahead};
 ghost use Rattle.parser_base.specs.Reading.{Gives};
 ghost use Rattle.parser_simple.specs.Reading.{as_one, simple};
 ghost use Rattle.parser_header.specs.Reading.{is_primary, condition_or_sent, head, condition, behind_semicolon, if_header, unless_next, for_clauses, post_behind, ranged, range_defined, range_assigned, ranges, for_begun, for_header};
-ghost use Rattle.parser_header.specs.Heads.{head_of, head_size};
+ghost use Rattle.parser_header.specs.Heads.{head_of};
 
-use go_text::{Fault, Span};
-use parser_base::beside::{beside, with_span};
+use go_text::Fault;
+use parser_base::beside::beside;
 use parser_base::cursor::Cursor;
 use parser_base::expression::expression;
 use parser_base::found::Found;
@@ -40,89 +39,73 @@ fn is_primary(expression: &ExpressionNode) -> bool
 }
 
 /// A condition that was read, or a send on it.
-fn condition_or_send<'a>(
+fn condition_or_send(
     alloc: Global,
     room: u32,
-    found: Found<'a, ExpressionNode>,
-    spans: &mut Vec<Span>,
-) -> Result<(HeadNode, Cursor<'a>), Fault>
-    ensures head { Gives (λ x. (head_of x.0, ahead x.1)) result (condition_or_sent MAX_ENTRIES room (expression_of found.entry.node, ahead found.entry.rest)) }
-    ensures nodes { IfOk result (λ x. vec_len spans.new + expression_size (expression_of found.entry.node) ≡ vec_len spans.old + head_size (head_of x.0)) }
+    found: Found<'_, ExpressionNode>,
+) -> Result<(HeadNode, Cursor<'_>), Fault>
+    ensures { Gives (λ x. (head_of x.0, ahead x.1)) result (condition_or_sent MAX_ENTRIES room (expression_of found.entry.node, ahead found.entry.rest)) }
 {
     if !begins_with(TokenKind::Arrow, found.rest) || !is_primary(&found.node) {
         return Ok((HeadNode::Condition(found.node), found.rest));
     }
-    let from = found.span.from;
-    let (channel, (_, rest)) = beside(found.node, found.rest.expect(TokenKind::Arrow))?;
-    let (channel, value) = beside(channel, expression(alloc, false, room, 0, rest, spans))?;
-    let span = Span {
-        from,
-        to: value.span.to,
-    };
-    let sent = with_span(SimpleNode::Send(channel, value.node), span, spans)?;
+    let (channel, rest) = beside(found.node, found.rest.expect(TokenKind::Arrow))?;
+    let (channel, value) = beside(channel, expression(alloc, false, room, 0, rest))?;
+    let sent = SimpleNode::Send(channel, value.node);
     Ok((HeadNode::Simple(sent), value.rest))
 }
 
 /// A simple statement or a condition, without composite literals, below which there are at most so many levels.
 #[tactic(auto, unfolding(crate::specs::Reading::head))]
-pub fn simple_or_condition<'a>(
+pub fn simple_or_condition(
     alloc: Global,
     room: u32,
-    cursor: Cursor<'a>,
-    spans: &mut Vec<Span>,
-) -> Result<(HeadNode, Cursor<'a>), Fault>
-    ensures head { Gives (λ x. (head_of x.0, ahead x.1)) result (head MAX_ENTRIES room (ahead cursor.entry)) }
-    ensures nodes { IfOk result (λ x. vec_len spans.new ≡ vec_len spans.old + head_size (head_of x.0)) }
+    cursor: Cursor<'_>,
+) -> Result<(HeadNode, Cursor<'_>), Fault>
+    ensures { Gives (λ x. (head_of x.0, ahead x.1)) result (head MAX_ENTRIES room (ahead cursor.entry)) }
 {
-    let found = statement_unless_value(alloc, false, true, room, cursor, spans)?;
+    let found = statement_unless_value(alloc, false, true, room, cursor)?;
     let rest = found.rest;
     match found.node {
         Some(simple) => Ok((HeadNode::Simple(simple), rest)),
         None => {
             fits(true, false, room, rest)?;
-            let found = expression(alloc, false, room, 0, rest, spans)?;
-            condition_or_send(alloc, room, found, spans)
+            let found = expression(alloc, false, room, 0, rest)?;
+            condition_or_send(alloc, room, found)
         }
     }
 }
 
 /// A condition behind a semicolon.
-fn condition_behind_semicolon<'a>(
+fn condition_behind_semicolon(
     alloc: Global,
     room: u32,
-    cursor: Cursor<'a>,
-    spans: &mut Vec<Span>,
-) -> Result<Found<'a, ExpressionNode>, Fault>
-    ensures condition { Gives (λ x. (expression_of x.node, ahead x.rest)) result (behind_semicolon MAX_ENTRIES room (ahead cursor.entry)) }
-    ensures nodes { IfOk result (λ x. vec_len spans.new ≡ vec_len spans.old + expression_size (expression_of x.node)) }
+    cursor: Cursor<'_>,
+) -> Result<Found<'_, ExpressionNode>, Fault>
+    ensures { Gives (λ x. (expression_of x.node, ahead x.rest)) result (behind_semicolon MAX_ENTRIES room (ahead cursor.entry)) }
 {
-    let (_, rest) = cursor.expect(TokenKind::Semicolon)?;
-    expression(alloc, false, room, 0, rest, spans)
+    let rest = cursor.expect(TokenKind::Semicolon)?;
+    expression(alloc, false, room, 0, rest)
 }
 
 /// What stands between an `if` and its block ("If statements" of the Go specification), below which there are at most
 /// so many levels.
 #[tactic(auto, unfolding(crate::specs::Reading::if_header))]
-pub fn if_header<'a>(
+pub fn if_header(
     alloc: Global,
     room: u32,
-    cursor: Cursor<'a>,
-    spans: &mut Vec<Span>,
-) -> Result<((IfHeader, ExpressionNode), Cursor<'a>), Fault>
-    ensures header { Gives (λ x. ((if_head_of x.0.0, expression_of x.0.1), ahead x.1)) result (if_header MAX_ENTRIES room (ahead cursor.entry)) }
-    ensures nodes { IfOk result (λ x. vec_len spans.new ≡ vec_len spans.old + if_head_size (if_head_of x.0.0) + expression_size (expression_of x.0.1)) }
+    cursor: Cursor<'_>,
+) -> Result<((IfHeader, ExpressionNode), Cursor<'_>), Fault>
+    ensures { Gives (λ x. ((if_head_of x.0.0, expression_of x.0.1), ahead x.1)) result (if_header MAX_ENTRIES room (ahead cursor.entry)) }
 {
     if begins_with(TokenKind::Semicolon, cursor) {
-        let found = condition_behind_semicolon(alloc, room, cursor, spans)?;
+        let found = condition_behind_semicolon(alloc, room, cursor)?;
         return Ok(((IfHeader::Semicolon, found.node), found.rest));
     }
-    let (head, rest) = simple_or_condition(alloc, room, cursor, spans)?;
+    let (head, rest) = simple_or_condition(alloc, room, cursor)?;
     match head {
         HeadNode::Simple(simple) => {
-            let (simple, found) = beside(
-                simple,
-                condition_behind_semicolon(alloc, room, rest, spans),
-            )?;
+            let (simple, found) = beside(simple, condition_behind_semicolon(alloc, room, rest))?;
             Ok(((IfHeader::Simple(simple), found.node), found.rest))
         }
         HeadNode::Condition(condition) => Ok(((IfHeader::Bare, condition), rest)),
@@ -130,120 +113,106 @@ pub fn if_header<'a>(
 }
 
 /// A condition, unless a semicolon comes next.
-fn optional_condition<'a>(
+fn optional_condition(
     alloc: Global,
     room: u32,
-    cursor: Cursor<'a>,
-    spans: &mut Vec<Span>,
-) -> Result<(Option<ExpressionNode>, Cursor<'a>), Fault>
-    ensures test { Gives (λ x. (option_map expression_of x.0, ahead x.1)) result (unless_next TokenKind.Semicolon (condition MAX_ENTRIES room) (ahead cursor.entry)) }
-    ensures nodes { IfOk result (λ x. vec_len spans.new ≡ vec_len spans.old + if_any expression_size (option_map expression_of x.0)) }
+    cursor: Cursor<'_>,
+) -> Result<(Option<ExpressionNode>, Cursor<'_>), Fault>
+    ensures { Gives (λ x. (option_map expression_of x.0, ahead x.1)) result (unless_next TokenKind.Semicolon (condition MAX_ENTRIES room) (ahead cursor.entry)) }
 {
     if begins_with(TokenKind::Semicolon, cursor) {
         return Ok((None, cursor));
     }
-    let found = expression(alloc, false, room, 0, cursor, spans)?;
+    let found = expression(alloc, false, room, 0, cursor)?;
     Ok((Some(found.node), found.rest))
 }
 
 /// What is done behind each turn, unless a brace comes next.
-fn optional_post<'a>(
+fn optional_post(
     alloc: Global,
     room: u32,
-    cursor: Cursor<'a>,
-    spans: &mut Vec<Span>,
-) -> Result<(Option<SimpleNode>, Cursor<'a>), Fault>
-    ensures post { Gives (λ x. (option_map simple_of x.0, ahead x.1)) result (unless_next TokenKind.LeftBrace (simple false false MAX_ENTRIES room) (ahead cursor.entry)) }
-    ensures nodes { IfOk result (λ x. vec_len spans.new ≡ vec_len spans.old + if_any simple_size (option_map simple_of x.0)) }
+    cursor: Cursor<'_>,
+) -> Result<(Option<SimpleNode>, Cursor<'_>), Fault>
+    ensures { Gives (λ x. (option_map simple_of x.0, ahead x.1)) result (unless_next TokenKind.LeftBrace (simple false false MAX_ENTRIES room) (ahead cursor.entry)) }
 {
     if begins_with(TokenKind::LeftBrace, cursor) {
         return Ok((None, cursor));
     }
-    let found = simple_statement(alloc, false, false, room, cursor, spans)?;
+    let found = simple_statement(alloc, false, false, room, cursor)?;
     Ok((Some(found.node), found.rest))
 }
 
 /// What is done behind each turn, behind the second semicolon of a `for`.
-fn post_behind_semicolon<'a>(
+fn post_behind_semicolon(
     alloc: Global,
     room: u32,
-    cursor: Cursor<'a>,
-    spans: &mut Vec<Span>,
-) -> Result<(Option<SimpleNode>, Cursor<'a>), Fault>
-    ensures post { Gives (λ x. (option_map simple_of x.0, ahead x.1)) result (post_behind MAX_ENTRIES room (ahead cursor.entry)) }
-    ensures nodes { IfOk result (λ x. vec_len spans.new ≡ vec_len spans.old + if_any simple_size (option_map simple_of x.0)) }
+    cursor: Cursor<'_>,
+) -> Result<(Option<SimpleNode>, Cursor<'_>), Fault>
+    ensures { Gives (λ x. (option_map simple_of x.0, ahead x.1)) result (post_behind MAX_ENTRIES room (ahead cursor.entry)) }
 {
-    let (_, rest) = cursor.expect(TokenKind::Semicolon)?;
-    optional_post(alloc, room, rest, spans)
+    let rest = cursor.expect(TokenKind::Semicolon)?;
+    optional_post(alloc, room, rest)
 }
 
 /// The clauses of a `for` behind the first semicolon, before which `first` stands.
 #[tactic(auto, unfolding(crate::specs::Reading::for_clauses))]
-fn for_clauses<'a>(
+fn for_clauses(
     alloc: Global,
     room: u32,
     first: Option<SimpleNode>,
-    cursor: Cursor<'a>,
-    spans: &mut Vec<Span>,
-) -> Result<(ForHeader, Cursor<'a>), Fault>
-    ensures header { Gives (λ x. (for_head_of x.0, ahead x.1)) result (for_clauses (option_map simple_of first) MAX_ENTRIES room (ahead cursor.entry)) }
-    ensures nodes { IfOk result (λ x. vec_len spans.new + if_any simple_size (option_map simple_of first) ≡ vec_len spans.old + for_head_size (for_head_of x.0)) }
+    cursor: Cursor<'_>,
+) -> Result<(ForHeader, Cursor<'_>), Fault>
+    ensures { Gives (λ x. (for_head_of x.0, ahead x.1)) result (for_clauses (option_map simple_of first) MAX_ENTRIES room (ahead cursor.entry)) }
 {
-    let (first, (condition, rest)) = beside(first, optional_condition(alloc, room, cursor, spans))?;
+    let (first, (condition, rest)) = beside(first, optional_condition(alloc, room, cursor))?;
     let ((first, condition), (post, rest)) = beside(
         (first, condition),
-        post_behind_semicolon(alloc, room, rest, spans),
+        post_behind_semicolon(alloc, room, rest),
     )?;
     Ok((ForHeader::Clauses(first, condition, post), rest))
 }
 
 /// The `range` of a `for` from its word on, which stands behind `target`.
 #[tactic(auto, unfolding(crate::specs::Reading::ranged))]
-fn range_clause<'a>(
+fn range_clause(
     alloc: Global,
     room: u32,
     target: RangeTarget,
-    cursor: Cursor<'a>,
-    spans: &mut Vec<Span>,
-) -> Result<(ForHeader, Cursor<'a>), Fault>
-    ensures header { Gives (λ x. (for_head_of x.0, ahead x.1)) result (ranged (target_of target) MAX_ENTRIES room (ahead cursor.entry)) }
-    ensures nodes { IfOk result (λ x. vec_len spans.new + target_size (target_of target) ≡ vec_len spans.old + for_head_size (for_head_of x.0)) }
+    cursor: Cursor<'_>,
+) -> Result<(ForHeader, Cursor<'_>), Fault>
+    ensures { Gives (λ x. (for_head_of x.0, ahead x.1)) result (ranged (target_of target) MAX_ENTRIES room (ahead cursor.entry)) }
 {
-    let (target, (_, rest)) = beside(target, cursor.expect(TokenKind::Range))?;
-    let (target, found) = beside(target, expression(alloc, false, room, 0, rest, spans))?;
+    let (target, rest) = beside(target, cursor.expect(TokenKind::Range))?;
+    let (target, found) = beside(target, expression(alloc, false, room, 0, rest))?;
     Ok((ForHeader::Range(target, found.node), found.rest))
 }
 
 /// A `range` that defines a name.
 #[tactic(auto, unfolding(crate::specs::Reading::range_defined))]
-fn defining_range<'a>(
+fn defining_range(
     alloc: Global,
     room: u32,
-    cursor: Cursor<'a>,
-    spans: &mut Vec<Span>,
-) -> Result<(ForHeader, Cursor<'a>), Fault>
-    ensures header { Gives (λ x. (for_head_of x.0, ahead x.1)) result (range_defined MAX_ENTRIES room (ahead cursor.entry)) }
-    ensures nodes { IfOk result (λ x. vec_len spans.new ≡ vec_len spans.old + for_head_size (for_head_of x.0)) }
+    cursor: Cursor<'_>,
+) -> Result<(ForHeader, Cursor<'_>), Fault>
+    ensures { Gives (λ x. (for_head_of x.0, ahead x.1)) result (range_defined MAX_ENTRIES room (ahead cursor.entry)) }
 {
-    let (name, _, rest) = name_at(alloc, cursor)?;
-    let (name, (_, rest)) = beside(name, rest.expect(TokenKind::Define))?;
-    range_clause(alloc, room, RangeTarget::Define(name), rest, spans)
+    let (name, rest) = name_at(alloc, cursor)?;
+    let (name, rest) = beside(name, rest.expect(TokenKind::Define))?;
+    range_clause(alloc, room, RangeTarget::Define(name), rest)
 }
 
 /// A `range` that assigns to a place.
 #[tactic(auto, unfolding(crate::specs::Reading::range_assigned))]
-fn assigning_range<'a>(
+fn assigning_range(
     alloc: Global,
     room: u32,
-    cursor: Cursor<'a>,
-    spans: &mut Vec<Span>,
-) -> Result<(ForHeader, Cursor<'a>), Fault>
-    ensures header { Gives (λ x. (for_head_of x.0, ahead x.1)) result (range_assigned MAX_ENTRIES room (ahead cursor.entry)) }
-    ensures nodes { IfOk result (λ x. vec_len spans.new ≡ vec_len spans.old + for_head_size (for_head_of x.0)) }
+    cursor: Cursor<'_>,
+) -> Result<(ForHeader, Cursor<'_>), Fault>
+    ensures { Gives (λ x. (for_head_of x.0, ahead x.1)) result (range_assigned MAX_ENTRIES room (ahead cursor.entry)) }
 {
-    let target = place(alloc, cursor, spans)?;
-    let (place, (_, rest)) = beside(target.node, target.rest.expect(TokenKind::Assign))?;
-    range_clause(alloc, room, RangeTarget::Assign(place), rest, spans)
+    let target = place(alloc, cursor)?;
+    let (place, rest) = beside(target.node, target.rest.expect(TokenKind::Assign))?;
+    range_clause(alloc, room, RangeTarget::Assign(place), rest)
 }
 
 /// Whether `range` follows an assignment's mark.
@@ -255,26 +224,24 @@ fn ranges(form: Form) -> bool
 
 /// What stands between a `for` and its block, where that begins with no mark of its own.
 #[tactic(auto, unfolding(crate::specs::Reading::for_begun))]
-fn unmarked_for_header<'a>(
+fn unmarked_for_header(
     alloc: Global,
     room: u32,
-    cursor: Cursor<'a>,
-    spans: &mut Vec<Span>,
-) -> Result<(ForHeader, Cursor<'a>), Fault>
-    ensures header { Gives (λ x. (for_head_of x.0, ahead x.1)) result (for_begun MAX_ENTRIES room (ahead cursor.entry)) }
-    ensures nodes { IfOk result (λ x. vec_len spans.new ≡ vec_len spans.old + for_head_size (for_head_of x.0)) }
+    cursor: Cursor<'_>,
+) -> Result<(ForHeader, Cursor<'_>), Fault>
+    ensures { Gives (λ x. (for_head_of x.0, ahead x.1)) result (for_begun MAX_ENTRIES room (ahead cursor.entry)) }
 {
     if ranges(form_of(cursor)) {
         if defines(cursor) {
-            return defining_range(alloc, room, cursor, spans);
+            return defining_range(alloc, room, cursor);
         }
-        return assigning_range(alloc, room, cursor, spans);
+        return assigning_range(alloc, room, cursor);
     }
-    let (head, rest) = simple_or_condition(alloc, room, cursor, spans)?;
+    let (head, rest) = simple_or_condition(alloc, room, cursor)?;
     match head {
         HeadNode::Simple(simple) => {
-            let (simple, (_, rest)) = beside(simple, rest.expect(TokenKind::Semicolon))?;
-            for_clauses(alloc, room, Some(simple), rest, spans)
+            let (simple, rest) = beside(simple, rest.expect(TokenKind::Semicolon))?;
+            for_clauses(alloc, room, Some(simple), rest)
         }
         HeadNode::Condition(condition) => Ok((ForHeader::While(condition), rest)),
     }
@@ -283,24 +250,22 @@ fn unmarked_for_header<'a>(
 /// What stands between a `for` and its block ("For statements" of the Go specification), below which there are at most
 /// so many levels.
 #[tactic(auto, unfolding(crate::specs::Reading::for_header))]
-pub fn for_header<'a>(
+pub fn for_header(
     alloc: Global,
     room: u32,
-    cursor: Cursor<'a>,
-    spans: &mut Vec<Span>,
-) -> Result<(ForHeader, Cursor<'a>), Fault>
-    ensures header { Gives (λ x. (for_head_of x.0, ahead x.1)) result (for_header MAX_ENTRIES room (ahead cursor.entry)) }
-    ensures nodes { IfOk result (λ x. vec_len spans.new ≡ vec_len spans.old + for_head_size (for_head_of x.0)) }
+    cursor: Cursor<'_>,
+) -> Result<(ForHeader, Cursor<'_>), Fault>
+    ensures { Gives (λ x. (for_head_of x.0, ahead x.1)) result (for_header MAX_ENTRIES room (ahead cursor.entry)) }
 {
     if begins_with(TokenKind::LeftBrace, cursor) {
         return Ok((ForHeader::Forever, cursor));
     }
     if begins_with(TokenKind::Semicolon, cursor) {
-        let (_, rest) = cursor.expect(TokenKind::Semicolon)?;
-        return for_clauses(alloc, room, None, rest, spans);
+        let rest = cursor.expect(TokenKind::Semicolon)?;
+        return for_clauses(alloc, room, None, rest);
     }
     if begins_with(TokenKind::Range, cursor) {
-        return range_clause(alloc, room, RangeTarget::Nothing, cursor, spans);
+        return range_clause(alloc, room, RangeTarget::Nothing, cursor);
     }
-    unmarked_for_header(alloc, room, cursor, spans)
+    unmarked_for_header(alloc, room, cursor)
 }

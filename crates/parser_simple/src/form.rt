@@ -39,7 +39,7 @@ pub fn begins_with(kind: TokenKind, cursor: Cursor<'_>) -> bool
     ensures { result ≡ begins_with kind (ahead cursor.entry) }
 {
     match cursor.next() {
-        Some((Word::Mark(first), _, _)) => first == kind,
+        Some((Word::Mark(first), _)) => first == kind,
         _ => false,
     }
 }
@@ -50,7 +50,7 @@ pub fn begins_name(cursor: Cursor<'_>) -> bool
     ensures { result ≡ begins_name (ahead cursor.entry) }
 {
     match cursor.next() {
-        Some((Word::Name(name), _, _)) => !is_builtin(name),
+        Some((Word::Name(name), _)) => !is_builtin(name),
         _ => false,
     }
 }
@@ -61,7 +61,7 @@ pub fn name_next(separator: TokenKind, cursor: Cursor<'_>) -> Result<(Next, Curs
     ensures { Gives (λ x. (x.0, ahead x.1)) result (separator_next begins_name separator (ahead cursor.entry)) }
 {
     match cursor.next() {
-        Some((Word::Mark(kind), _, rest)) if kind == separator => {
+        Some((Word::Mark(kind), rest)) if kind == separator => {
             if !begins_name(rest) {
                 return Err(Fault::Syntax(rest.place()));
             }
@@ -77,7 +77,7 @@ pub fn value_next(cursor: Cursor<'_>) -> Result<(Next, Cursor<'_>), Fault>
     ensures { Gives (λ x. (x.0, ahead x.1)) result (separator_next begins TokenKind.Comma (ahead cursor.entry)) }
 {
     match cursor.next() {
-        Some((Word::Mark(TokenKind::Comma), _, rest)) => {
+        Some((Word::Mark(TokenKind::Comma), rest)) => {
             if !begins(rest) {
                 return Err(Fault::Syntax(rest.place()));
             }
@@ -153,11 +153,11 @@ pub fn form_of(cursor: Cursor<'_>) -> Form
     let mut rest = cursor;
     for _ in 0..cursor.len() {
         match (named, rest.next()) {
-            (true, Some((Word::Name(_), _, after))) => {
+            (true, Some((Word::Name(_), after))) => {
                 named = false;
                 rest = after;
             }
-            (false, Some((Word::Mark(kind), _, after))) => {
+            (false, Some((Word::Mark(kind), after))) => {
                 if kind != TokenKind::Period {
                     return form_at(kind, after);
                 }
@@ -179,11 +179,11 @@ pub fn defines(cursor: Cursor<'_>) -> bool
     let mut rest = cursor;
     for _ in 0..cursor.len() {
         match (named, rest.next()) {
-            (true, Some((Word::Name(_), _, after))) => {
+            (true, Some((Word::Name(_), after))) => {
                 named = false;
                 rest = after;
             }
-            (false, Some((Word::Mark(kind), _, after))) => {
+            (false, Some((Word::Mark(kind), after))) => {
                 if kind == TokenKind::Define {
                     return true;
                 }
@@ -242,12 +242,12 @@ pub fn fits(header: bool, literals: bool, room: u32, cursor: Cursor<'_>) -> Resu
     let mut rest = cursor;
     for _ in 0..cursor.len() {
         match (named, rest.next()) {
-            (true, Some((Word::Name(name), _, after))) if !is_builtin(name) => {
+            (true, Some((Word::Name(name), after))) if !is_builtin(name) => {
                 named = false;
                 height += 1;
                 rest = after;
             }
-            (false, Some((Word::Mark(kind), _, after))) => {
+            (false, Some((Word::Mark(kind), after))) => {
                 if kind != TokenKind::Period {
                     return within(height, room, goes_on(header, literals, kind), rest);
                 }

@@ -1,8 +1,8 @@
 //! Simple statements.
 
-ghost use Rattle.std.specs.Prelude.{◌≡◌, ◌+◌, true, false, List as Lists, Some, IfOk, map, option_map, sum_by, vec_len};
+ghost use Rattle.std.specs.Prelude.{◌≡◌, true, false, Some, map, option_map};
 ghost use Rattle.syntax.specs.Tree.{Value, CallAlone, Close, ReceiveAlone, Send, Increment, Decrement};
-ghost use Rattle.syntax.specs.Measures.{Entries, if_any, part_size, expression_size, simple_size};
+ghost use Rattle.syntax.specs.Measures.{Entries};
 ghost use Rattle.syntax.specs.View.{expression_of, part_of, simple_of};
 ghost use Rattle.parser_base.specs.Cursor.{ahead};
 ghost use Rattle.parser_base.specs.Reading.{Gives, TooMany, entry_next, listed, closed};
@@ -11,8 +11,8 @@ ghost use Rattle.parser_simple.specs.Reading.{as_one, begins_part, part, parts, 
 use crate::form::{Form, begins_with, defines, fits, form_of, update_kind};
 use crate::place::{names, place, places};
 use crate::right::{argument, arguments, primary_expression, receive_operand, right_side};
-use go_text::{Fault, LimitKind, Place, Span};
-use parser_base::beside::{beside, with_span};
+use go_text::{Fault, LimitKind};
+use parser_base::beside::beside;
 use parser_base::cursor::{Cursor, Word, is_builtin};
 use parser_base::expression::{begins, closed, expression, name_node};
 use parser_base::found::Found;
@@ -29,75 +29,70 @@ fn begins_print_argument(cursor: Cursor<'_>) -> bool
     ensures { result ≡ begins_part (ahead cursor.entry) }
 {
     match cursor.next() {
-        Some((Word::Text(_), _, _)) => true,
+        Some((Word::Text(_), _)) => true,
         _ => begins(cursor),
     }
 }
 
 /// An argument of `print` or `println`, of at most so many levels.
 #[tactic(auto, unfolding(crate::specs::Reading::part))]
-fn print_argument<'a>(
+fn print_argument(
     alloc: Global,
     room: u32,
     literals: bool,
-    cursor: Cursor<'a>,
-    spans: &mut Vec<Span>,
-) -> Result<(PartNode, Cursor<'a>), Fault>
-    ensures part { Gives (λ x. (part_of x.0, ahead x.1)) result (part literals MAX_ENTRIES room (ahead cursor.entry)) }
-    ensures nodes { IfOk result (λ x. vec_len spans.new ≡ vec_len spans.old + part_size (part_of x.0)) }
+    cursor: Cursor<'_>,
+) -> Result<(PartNode, Cursor<'_>), Fault>
+    ensures { Gives (λ x. (part_of x.0, ahead x.1)) result (part literals MAX_ENTRIES room (ahead cursor.entry)) }
 {
     if room == 0 {
         return Err(Fault::TooDeep(cursor.place()));
     }
-    if let Some((Word::Text(quoted), span, rest)) = cursor.next() {
-        let node = with_span(PartNode::Text(text(alloc, quoted)?), span, spans)?;
+    if let Some((Word::Text(quoted), rest)) = cursor.next() {
+        let node = PartNode::Text(text(alloc, quoted)?);
         return Ok((node, rest));
     }
-    let value = expression(alloc, literals, room, 0, cursor, spans)?;
+    let value = expression(alloc, literals, room, 0, cursor)?;
     Ok((PartNode::Value(value.node), value.rest))
 }
 
-/// What follows an argument of `print` or `println`, with the span of its last token.
+/// What follows an argument of `print` or `println`, and the place of the next one or behind the arguments.
 #[tactic(auto, unfolding(parser_base::specs::Reading::entry_next))]
-fn print_argument_next(cursor: Cursor<'_>) -> Result<(Next, Span, Cursor<'_>), Fault>
-    ensures { Gives (λ x. (x.0, ahead x.2)) result (entry_next TokenKind.Comma begins_part TokenKind.RightParenthesis (ahead cursor.entry)) }
+fn print_argument_next(cursor: Cursor<'_>) -> Result<(Next, Cursor<'_>), Fault>
+    ensures { Gives (λ x. (x.0, ahead x.1)) result (entry_next TokenKind.Comma begins_part TokenKind.RightParenthesis (ahead cursor.entry)) }
 {
-    let Some((Word::Mark(kind), span, rest)) = cursor.next() else {
+    let Some((Word::Mark(kind), rest)) = cursor.next() else {
         return Err(Fault::Syntax(cursor.place()));
     };
     if kind != TokenKind::Comma {
         return closed(TokenKind::RightParenthesis, false, cursor);
     }
     if begins_print_argument(rest) {
-        Ok((Next::More, span, rest))
+        Ok((Next::More, rest))
     } else {
         closed(TokenKind::RightParenthesis, true, rest)
     }
 }
 
 /// At least one argument of `print` or `println`, to the closing parenthesis.
-fn print_argument_list<'a>(
+fn print_argument_list(
     alloc: Global,
     room: u32,
     literals: bool,
-    cursor: Cursor<'a>,
-    spans: &mut Vec<Span>,
-) -> Result<List<'a, PartNode>, Fault>
-    ensures parts { Gives (λ x. ((map part_of x.entries.items, x.trailing), ahead x.rest)) result (listed (part literals MAX_ENTRIES room) (entry_next TokenKind.Comma begins_part TokenKind.RightParenthesis) (TooMany Entries) MAX_ENTRIES (ahead cursor.entry)) }
-    ensures nodes { IfOk result (λ x. vec_len spans.new ≡ vec_len spans.old + sum_by part_size (map part_of x.entries.items)) }
+    cursor: Cursor<'_>,
+) -> Result<List<'_, PartNode>, Fault>
+    ensures { Gives (λ x. ((map part_of x.entries.items, x.trailing), ahead x.rest)) result (listed (part literals MAX_ENTRIES room) (entry_next TokenKind.Comma begins_part TokenKind.RightParenthesis) (TooMany Entries) MAX_ENTRIES (ahead cursor.entry)) }
 {
     let mut entries = Vec::new(alloc);
     let mut rest = cursor;
     for _ in 0..MAX_ENTRIES {
-        let (one, behind) = print_argument(alloc, room, literals, rest, spans)?;
+        let (one, behind) = print_argument(alloc, room, literals, rest)?;
         entries.push(one)?;
-        let (next, last, after) = print_argument_next(behind)?;
+        let (next, after) = print_argument_next(behind)?;
         match next {
             Next::More => rest = after,
             Next::End(trailing) => return Ok(List {
                 entries,
                 trailing,
-                last,
                 rest: after,
             }),
         }
@@ -111,81 +106,56 @@ fn print_argument_list<'a>(
 
 /// The arguments of `print` or `println`, behind the first parenthesis.
 #[tactic(auto, unfolding(crate::specs::Reading::parts))]
-fn print_arguments<'a>(
+fn print_arguments(
     alloc: Global,
     room: u32,
     literals: bool,
-    cursor: Cursor<'a>,
-    spans: &mut Vec<Span>,
-) -> Result<List<'a, PartNode>, Fault>
-    ensures parts { Gives (λ x. ((map part_of x.entries.items, x.trailing), ahead x.rest)) result (parts literals MAX_ENTRIES room (ahead cursor.entry)) }
-    ensures nodes { IfOk result (λ x. vec_len spans.new ≡ vec_len spans.old + sum_by part_size (map part_of x.entries.items)) }
+    cursor: Cursor<'_>,
+) -> Result<List<'_, PartNode>, Fault>
+    ensures { Gives (λ x. ((map part_of x.entries.items, x.trailing), ahead x.rest)) result (parts literals MAX_ENTRIES room (ahead cursor.entry)) }
 {
     if begins_print_argument(cursor) {
-        return print_argument_list(alloc, room, literals, cursor, spans);
+        return print_argument_list(alloc, room, literals, cursor);
     }
-    let (last, rest) = cursor.expect(TokenKind::RightParenthesis)?;
+    let rest = cursor.expect(TokenKind::RightParenthesis)?;
     Ok(List {
         entries: Vec::new(alloc),
         trailing: false,
-        last,
         rest,
     })
 }
 
-/// A `print` or, where `line` holds, a `println`, behind its name, which stands at `first`.
+/// A `print` or, where `line` holds, a `println`, behind its name.
 #[tactic(auto, unfolding(crate::specs::Reading::print))]
-fn print_call<'a>(
+fn print_call(
     alloc: Global,
     line: bool,
     literals: bool,
     room: u32,
-    first: Span,
-    cursor: Cursor<'a>,
-    spans: &mut Vec<Span>,
-) -> Result<Found<'a, SimpleNode>, Fault>
-    ensures simple { Gives (λ x. (simple_of x.node, ahead x.rest)) result (print line literals MAX_ENTRIES room (ahead cursor.entry)) }
-    ensures nodes { IfOk result (λ x. vec_len spans.new ≡ vec_len spans.old + simple_size (simple_of x.node)) }
+    cursor: Cursor<'_>,
+) -> Result<Found<'_, SimpleNode>, Fault>
+    ensures { Gives (λ x. (simple_of x.node, ahead x.rest)) result (print line literals MAX_ENTRIES room (ahead cursor.entry)) }
 {
-    let (_, inside) = cursor.expect(TokenKind::LeftParenthesis)?;
-    let all = print_arguments(alloc, room, literals, inside, spans)?;
-    let span = Span {
-        from: first.from,
-        to: all.last.to,
-    };
-    let node = with_span(
-        SimpleNode::Print(line, all.entries, all.trailing),
-        span,
-        spans,
-    )?;
+    let inside = cursor.expect(TokenKind::LeftParenthesis)?;
+    let all = print_arguments(alloc, room, literals, inside)?;
     Ok(Found {
-        node,
-        span,
+        node: SimpleNode::Print(line, all.entries, all.trailing),
         rest: all.rest,
     })
 }
 
-/// A `close` behind its name, which stands at `first`.
-fn close_call<'a>(
+/// A `close` behind its name.
+fn close_call(
     alloc: Global,
     literals: bool,
     room: u32,
-    first: Span,
-    cursor: Cursor<'a>,
-    spans: &mut Vec<Span>,
-) -> Result<Found<'a, SimpleNode>, Fault>
-    ensures simple { Gives (λ x. (simple_of x.node, ahead x.rest)) result (as_one Close (argument literals MAX_ENTRIES room (ahead cursor.entry))) }
-    ensures nodes { IfOk result (λ x. vec_len spans.new ≡ vec_len spans.old + simple_size (simple_of x.node)) }
+    cursor: Cursor<'_>,
+) -> Result<Found<'_, SimpleNode>, Fault>
+    ensures { Gives (λ x. (simple_of x.node, ahead x.rest)) result (as_one Close (argument literals MAX_ENTRIES room (ahead cursor.entry))) }
 {
-    let channel = argument(alloc, literals, room, cursor, spans)?;
-    let span = Span {
-        from: first.from,
-        to: channel.span.to,
-    };
-    let node = with_span(SimpleNode::Close(channel.node), span, spans)?;
+    let channel = argument(alloc, literals, room, cursor)?;
     Ok(Found {
-        node,
-        span,
+        node: SimpleNode::Close(channel.node),
         rest: channel.rest,
     })
 }
@@ -197,51 +167,40 @@ fn builtin_call<'a>(
     literals: bool,
     room: u32,
     name: &[u8],
-    first: Span,
+    first: Cursor<'a>,
     cursor: Cursor<'a>,
-    spans: &mut Vec<Span>,
 ) -> Result<Found<'a, SimpleNode>, Fault>
-    ensures simple { Gives (λ x. (simple_of x.node, ahead x.rest)) result (builtin_call literals MAX_ENTRIES room name.now (ahead cursor.entry)) }
-    ensures nodes { IfOk result (λ x. vec_len spans.new ≡ vec_len spans.old + simple_size (simple_of x.node)) }
+    ensures { Gives (λ x. (simple_of x.node, ahead x.rest)) result (builtin_call literals MAX_ENTRIES room name.now (ahead cursor.entry)) }
 {
     if name == b"println".as_slice() {
-        return print_call(alloc, true, literals, room, first, cursor, spans);
+        return print_call(alloc, true, literals, room, cursor);
     }
     if name == b"print".as_slice() {
-        return print_call(alloc, false, literals, room, first, cursor, spans);
+        return print_call(alloc, false, literals, room, cursor);
     }
     if name == b"close".as_slice() {
         if room < 1 {
-            return Err(Fault::TooDeep(Place::from(first)));
+            return Err(Fault::TooDeep(first.place()));
         }
-        return close_call(alloc, literals, room, first, cursor, spans);
+        return close_call(alloc, literals, room, cursor);
     }
-    Err(Fault::Syntax(Place::from(first)))
+    Err(Fault::Syntax(first.place()))
 }
 
-/// A call of a function alone, behind its name, which stands at `first`.
+/// A call of a function alone, behind its name.
 fn call_statement<'a>(
     alloc: Global,
     literals: bool,
     room: u32,
     name: &[u8],
-    first: Span,
     cursor: Cursor<'a>,
-    spans: &mut Vec<Span>,
 ) -> Result<Found<'a, SimpleNode>, Fault>
-    ensures simple { Gives (λ x. (simple_of x.node, ahead x.rest)) result (as_one (CallAlone name.now) (arguments literals MAX_ENTRIES room (ahead cursor.entry))) }
-    ensures nodes { IfOk result (λ x. vec_len spans.new ≡ vec_len spans.old + simple_size (simple_of x.node)) }
+    ensures { Gives (λ x. (simple_of x.node, ahead x.rest)) result (as_one (CallAlone name.now) (arguments literals MAX_ENTRIES room (ahead cursor.entry))) }
 {
-    let found = arguments(alloc, literals, room, cursor, spans)?;
-    let span = Span {
-        from: first.from,
-        to: found.span.to,
-    };
+    let found = arguments(alloc, literals, room, cursor)?;
     let (passed, name) = beside(found.node, name_node(alloc, name))?;
-    let node = with_span(SimpleNode::Call(name, passed), span, spans)?;
     Ok(Found {
-        node,
-        span,
+        node: SimpleNode::Call(name, passed),
         rest: found.rest,
     })
 }
@@ -251,156 +210,107 @@ fn receive_statement<'a>(
     alloc: Global,
     literals: bool,
     room: u32,
-    first: Span,
+    first: Cursor<'a>,
     cursor: Cursor<'a>,
-    spans: &mut Vec<Span>,
 ) -> Result<Found<'a, SimpleNode>, Fault>
-    ensures simple { Gives (λ x. (simple_of x.node, ahead x.rest)) result (as_one ReceiveAlone (received literals MAX_ENTRIES room (ahead cursor.entry))) }
-    ensures nodes { IfOk result (λ x. vec_len spans.new ≡ vec_len spans.old + simple_size (simple_of x.node)) }
+    ensures { Gives (λ x. (simple_of x.node, ahead x.rest)) result (as_one ReceiveAlone (received literals MAX_ENTRIES room (ahead cursor.entry))) }
 {
-    let channel = receive_operand(alloc, literals, room, first, cursor, spans)?;
-    let span = Span {
-        from: first.from,
-        to: channel.span.to,
-    };
-    let node = with_span(SimpleNode::Receive(channel.node), span, spans)?;
+    let channel = receive_operand(alloc, literals, room, first.place(), cursor)?;
     Ok(Found {
-        node,
-        span,
+        node: SimpleNode::Receive(channel.node),
         rest: channel.rest,
     })
 }
 
 /// An assignment to places.
 #[tactic(auto, unfolding(crate::specs::Reading::assigned, crate::specs::Reading::right))]
-fn assignment<'a>(
+fn assignment(
     alloc: Global,
     literals: bool,
     room: u32,
-    cursor: Cursor<'a>,
-    spans: &mut Vec<Span>,
-) -> Result<Found<'a, SimpleNode>, Fault>
-    ensures simple { Gives (λ x. (simple_of x.node, ahead x.rest)) result (assigned literals MAX_ENTRIES room (ahead cursor.entry)) }
-    ensures nodes { IfOk result (λ x. vec_len spans.new ≡ vec_len spans.old + simple_size (simple_of x.node)) }
+    cursor: Cursor<'_>,
+) -> Result<Found<'_, SimpleNode>, Fault>
+    ensures { Gives (λ x. (simple_of x.node, ahead x.rest)) result (assigned literals MAX_ENTRIES room (ahead cursor.entry)) }
 {
-    let first = cursor.place().span;
-    let all = places(alloc, cursor, spans)?;
-    let (entries, (mark, rest)) = beside(all.entries, all.rest.expect(TokenKind::Assign))?;
+    let all = places(alloc, cursor)?;
+    let (entries, rest) = beside(all.entries, all.rest.expect(TokenKind::Assign))?;
     if room == 0 {
-        return Err(Fault::TooDeep(Place::from(mark)));
+        return Err(Fault::TooDeep(all.rest.place()));
     }
-    let (entries, value) = beside(entries, right_side(alloc, literals, room, rest, spans))?;
-    let span = Span {
-        from: first.from,
-        to: value.span.to,
-    };
-    let node = with_span(SimpleNode::Assign(entries, value.node), span, spans)?;
+    let (entries, value) = beside(entries, right_side(alloc, literals, room, rest))?;
     Ok(Found {
-        node,
-        span,
+        node: SimpleNode::Assign(entries, value.node),
         rest: value.rest,
     })
 }
 
 /// A `:=`.
 #[tactic(auto, unfolding(crate::specs::Reading::defined, crate::specs::Reading::right))]
-fn short_var_declaration<'a>(
+fn short_var_declaration(
     alloc: Global,
     literals: bool,
     room: u32,
-    cursor: Cursor<'a>,
-    spans: &mut Vec<Span>,
-) -> Result<Found<'a, SimpleNode>, Fault>
-    ensures simple { Gives (λ x. (simple_of x.node, ahead x.rest)) result (defined literals MAX_ENTRIES room (ahead cursor.entry)) }
-    ensures nodes { IfOk result (λ x. vec_len spans.new ≡ vec_len spans.old + simple_size (simple_of x.node)) }
+    cursor: Cursor<'_>,
+) -> Result<Found<'_, SimpleNode>, Fault>
+    ensures { Gives (λ x. (simple_of x.node, ahead x.rest)) result (defined literals MAX_ENTRIES room (ahead cursor.entry)) }
 {
-    let first = cursor.place().span;
     let all = names(alloc, TokenKind::Comma, MAX_ENTRIES as usize, cursor)?;
-    let (entries, (mark, rest)) = beside(all.entries, all.rest.expect(TokenKind::Define))?;
+    let (entries, rest) = beside(all.entries, all.rest.expect(TokenKind::Define))?;
     if room == 0 {
-        return Err(Fault::TooDeep(Place::from(mark)));
+        return Err(Fault::TooDeep(all.rest.place()));
     }
-    let (entries, value) = beside(entries, right_side(alloc, literals, room, rest, spans))?;
-    let span = Span {
-        from: first.from,
-        to: value.span.to,
-    };
-    let node = with_span(SimpleNode::Define(entries, value.node), span, spans)?;
+    let (entries, value) = beside(entries, right_side(alloc, literals, room, rest))?;
     Ok(Found {
-        node,
-        span,
+        node: SimpleNode::Define(entries, value.node),
         rest: value.rest,
     })
 }
 
 /// A `++` behind a place.
 #[tactic(auto, unfolding(crate::specs::Reading::stepped))]
-fn increment_statement<'a>(
-    alloc: Global,
-    cursor: Cursor<'a>,
-    spans: &mut Vec<Span>,
-) -> Result<Found<'a, SimpleNode>, Fault>
-    ensures simple { Gives (λ x. (simple_of x.node, ahead x.rest)) result (stepped Increment TokenKind.Increment (ahead cursor.entry)) }
-    ensures nodes { IfOk result (λ x. vec_len spans.new ≡ vec_len spans.old + simple_size (simple_of x.node)) }
+fn increment_statement(alloc: Global, cursor: Cursor<'_>) -> Result<Found<'_, SimpleNode>, Fault>
+    ensures { Gives (λ x. (simple_of x.node, ahead x.rest)) result (stepped Increment TokenKind.Increment (ahead cursor.entry)) }
 {
-    let target = place(alloc, cursor, spans)?;
-    let (place, (mark, rest)) = beside(target.node, target.rest.expect(TokenKind::Increment))?;
-    let span = Span {
-        from: target.span.from,
-        to: mark.to,
-    };
-    let node = with_span(SimpleNode::Increment(place), span, spans)?;
-    Ok(Found { node, span, rest })
+    let target = place(alloc, cursor)?;
+    let (place, rest) = beside(target.node, target.rest.expect(TokenKind::Increment))?;
+    Ok(Found {
+        node: SimpleNode::Increment(place),
+        rest,
+    })
 }
 
 /// A `--` behind a place.
 #[tactic(auto, unfolding(crate::specs::Reading::stepped))]
-fn decrement_statement<'a>(
-    alloc: Global,
-    cursor: Cursor<'a>,
-    spans: &mut Vec<Span>,
-) -> Result<Found<'a, SimpleNode>, Fault>
-    ensures simple { Gives (λ x. (simple_of x.node, ahead x.rest)) result (stepped Decrement TokenKind.Decrement (ahead cursor.entry)) }
-    ensures nodes { IfOk result (λ x. vec_len spans.new ≡ vec_len spans.old + simple_size (simple_of x.node)) }
+fn decrement_statement(alloc: Global, cursor: Cursor<'_>) -> Result<Found<'_, SimpleNode>, Fault>
+    ensures { Gives (λ x. (simple_of x.node, ahead x.rest)) result (stepped Decrement TokenKind.Decrement (ahead cursor.entry)) }
 {
-    let target = place(alloc, cursor, spans)?;
-    let (place, (mark, rest)) = beside(target.node, target.rest.expect(TokenKind::Decrement))?;
-    let span = Span {
-        from: target.span.from,
-        to: mark.to,
-    };
-    let node = with_span(SimpleNode::Decrement(place), span, spans)?;
-    Ok(Found { node, span, rest })
+    let target = place(alloc, cursor)?;
+    let (place, rest) = beside(target.node, target.rest.expect(TokenKind::Decrement))?;
+    Ok(Found {
+        node: SimpleNode::Decrement(place),
+        rest,
+    })
 }
 
 /// An assignment with an operator.
 #[tactic(auto, unfolding(crate::specs::Reading::updated, parser_base::specs::Reading::expression))]
-fn operator_assignment<'a>(
+fn operator_assignment(
     alloc: Global,
     literals: bool,
     room: u32,
     operator: BinaryOperator,
-    cursor: Cursor<'a>,
-    spans: &mut Vec<Span>,
-) -> Result<Found<'a, SimpleNode>, Fault>
-    ensures simple { Gives (λ x. (simple_of x.node, ahead x.rest)) result (updated literals MAX_ENTRIES room operator (ahead cursor.entry)) }
-    ensures nodes { IfOk result (λ x. vec_len spans.new ≡ vec_len spans.old + simple_size (simple_of x.node)) }
+    cursor: Cursor<'_>,
+) -> Result<Found<'_, SimpleNode>, Fault>
+    ensures { Gives (λ x. (simple_of x.node, ahead x.rest)) result (updated literals MAX_ENTRIES room operator (ahead cursor.entry)) }
 {
-    let target = place(alloc, cursor, spans)?;
-    let (place, (mark, rest)) = beside(target.node, target.rest.expect(update_kind(operator)))?;
+    let target = place(alloc, cursor)?;
+    let (place, rest) = beside(target.node, target.rest.expect(update_kind(operator)))?;
     if room == 0 {
-        return Err(Fault::TooDeep(Place::from(mark)));
+        return Err(Fault::TooDeep(target.rest.place()));
     }
-    let (place, value) = beside(place, expression(alloc, literals, room, 0, rest, spans))?;
-    let span = Span {
-        from: target.span.from,
-        to: value.span.to,
-    };
-    let updated = SimpleNode::Update(place, operator, value.node);
-    let node = with_span(updated, span, spans)?;
+    let (place, value) = beside(place, expression(alloc, literals, room, 0, rest))?;
     Ok(Found {
-        node,
-        span,
+        node: SimpleNode::Update(place, operator, value.node),
         rest: value.rest,
     })
 }
@@ -412,47 +322,41 @@ fn as_some(found: Found<'_, SimpleNode>) -> Found<'_, Option<SimpleNode>>
 {
     Found {
         node: Some(found.node),
-        span: found.span,
         rest: found.rest,
     }
 }
 
 /// A statement that begins with a place and has this form, if it has any.
 #[tactic(auto, unfolding(crate::specs::Reading::formed))]
-fn place_statement<'a>(
+fn place_statement(
     alloc: Global,
     literals: bool,
     defining: bool,
     room: u32,
     form: Form,
-    cursor: Cursor<'a>,
-    spans: &mut Vec<Span>,
-) -> Result<Found<'a, Option<SimpleNode>>, Fault>
-    ensures simple { Gives (λ x. (option_map simple_of x.node, ahead x.rest)) result (formed literals defining MAX_ENTRIES room form (ahead cursor.entry)) }
-    ensures nodes { IfOk result (λ x. vec_len spans.new ≡ vec_len spans.old + if_any simple_size (option_map simple_of x.node)) }
+    cursor: Cursor<'_>,
+) -> Result<Found<'_, Option<SimpleNode>>, Fault>
+    ensures { Gives (λ x. (option_map simple_of x.node, ahead x.rest)) result (formed literals defining MAX_ENTRIES room form (ahead cursor.entry)) }
 {
     let read = match form {
-        Form::Increment => increment_statement(alloc, cursor, spans),
-        Form::Decrement => decrement_statement(alloc, cursor, spans),
-        Form::Update(operator) => operator_assignment(
-            alloc, literals, room, operator, cursor, spans,
-        ),
-        Form::Assign(_) => assignment(alloc, literals, room, cursor, spans),
+        Form::Increment => increment_statement(alloc, cursor),
+        Form::Decrement => decrement_statement(alloc, cursor),
+        Form::Update(operator) => operator_assignment(alloc, literals, room, operator, cursor),
+        Form::Assign(_) => assignment(alloc, literals, room, cursor),
         Form::Define(_) if defining && defines(cursor) => short_var_declaration(
-            alloc, literals, room, cursor, spans,
+            alloc, literals, room, cursor,
         ),
-        Form::Define(_) => assignment(alloc, literals, room, cursor, spans),
+        Form::Define(_) => assignment(alloc, literals, room, cursor),
         Form::List if room < 1 => {
-            let first = place(alloc, cursor, spans)?;
+            let first = place(alloc, cursor)?;
             return Err(Fault::TooDeep(first.rest.place()));
         }
         Form::List if defining && defines(cursor) => short_var_declaration(
-            alloc, literals, room, cursor, spans,
+            alloc, literals, room, cursor,
         ),
-        Form::List => assignment(alloc, literals, room, cursor, spans),
+        Form::List => assignment(alloc, literals, room, cursor),
         Form::Other => return Ok(Found {
             node: None,
-            span: cursor.place().span,
             rest: cursor,
         }),
     };
@@ -461,37 +365,34 @@ fn place_statement<'a>(
 
 /// A simple statement, if anything else comes next than a value or a send.
 #[tactic(auto, unfolding(crate::specs::Reading::led))]
-pub fn statement_unless_value<'a>(
+pub fn statement_unless_value(
     alloc: Global,
     literals: bool,
     defining: bool,
     room: u32,
-    cursor: Cursor<'a>,
-    spans: &mut Vec<Span>,
-) -> Result<Found<'a, Option<SimpleNode>>, Fault>
-    ensures simple { Gives (λ x. (option_map simple_of x.node, ahead x.rest)) result (led literals defining MAX_ENTRIES room (ahead cursor.entry)) }
-    ensures nodes { IfOk result (λ x. vec_len spans.new ≡ vec_len spans.old + if_any simple_size (option_map simple_of x.node)) }
+    cursor: Cursor<'_>,
+) -> Result<Found<'_, Option<SimpleNode>>, Fault>
+    ensures { Gives (λ x. (option_map simple_of x.node, ahead x.rest)) result (led literals defining MAX_ENTRIES room (ahead cursor.entry)) }
 {
     match cursor.next() {
-        Some((Word::Mark(TokenKind::Arrow), first, rest)) => {
-            let found = receive_statement(alloc, literals, room, first, rest, spans)?;
+        Some((Word::Mark(TokenKind::Arrow), rest)) => {
+            let found = receive_statement(alloc, literals, room, cursor, rest)?;
             Ok(as_some(found))
         }
-        Some((Word::Name(name), first, rest)) => {
+        Some((Word::Name(name), rest)) => {
             if is_builtin(name) {
-                let found = builtin_call(alloc, literals, room, name, first, rest, spans)?;
+                let found = builtin_call(alloc, literals, room, name, cursor, rest)?;
                 return Ok(as_some(found));
             }
             if begins_with(TokenKind::LeftParenthesis, rest) {
-                let found = call_statement(alloc, literals, room, name, first, rest, spans)?;
+                let found = call_statement(alloc, literals, room, name, rest)?;
                 return Ok(as_some(found));
             }
             let form = form_of(cursor);
-            place_statement(alloc, literals, defining, room, form, cursor, spans)
+            place_statement(alloc, literals, defining, room, form, cursor)
         }
         _ => Ok(Found {
             node: None,
-            span: cursor.place().span,
             rest: cursor,
         }),
     }
@@ -499,45 +400,33 @@ pub fn statement_unless_value<'a>(
 
 /// The operand of a send, which may begin as a place does.
 #[tactic(auto, unfolding(crate::specs::Reading::send_operand))]
-pub fn send_operand<'a>(
+pub fn send_operand(
     alloc: Global,
     literals: bool,
     room: u32,
-    cursor: Cursor<'a>,
-    spans: &mut Vec<Span>,
-) -> Result<Found<'a, ExpressionNode>, Fault>
-    ensures value { Gives (λ x. (expression_of x.node, ahead x.rest)) result (send_operand literals MAX_ENTRIES room (ahead cursor.entry)) }
-    ensures nodes { IfOk result (λ x. vec_len spans.new ≡ vec_len spans.old + expression_size (expression_of x.node)) }
+    cursor: Cursor<'_>,
+) -> Result<Found<'_, ExpressionNode>, Fault>
+    ensures { Gives (λ x. (expression_of x.node, ahead x.rest)) result (send_operand literals MAX_ENTRIES room (ahead cursor.entry)) }
 {
     fits(false, literals, room, cursor)?;
-    primary_expression(alloc, literals, room, cursor, spans)
+    primary_expression(alloc, literals, room, cursor)
 }
 
 /// A send.
 #[tactic(auto, unfolding(crate::specs::Reading::sent))]
-fn send_statement<'a>(
+fn send_statement(
     alloc: Global,
     literals: bool,
     room: u32,
-    cursor: Cursor<'a>,
-    spans: &mut Vec<Span>,
-) -> Result<Found<'a, SimpleNode>, Fault>
-    ensures simple { Gives (λ x. (simple_of x.node, ahead x.rest)) result (sent Send literals MAX_ENTRIES room (ahead cursor.entry)) }
-    ensures nodes { IfOk result (λ x. vec_len spans.new ≡ vec_len spans.old + simple_size (simple_of x.node)) }
+    cursor: Cursor<'_>,
+) -> Result<Found<'_, SimpleNode>, Fault>
+    ensures { Gives (λ x. (simple_of x.node, ahead x.rest)) result (sent Send literals MAX_ENTRIES room (ahead cursor.entry)) }
 {
-    let channel = send_operand(alloc, literals, room, cursor, spans)?;
-    let from = channel.span.from;
-    let (channel, (_, rest)) = beside(channel.node, channel.rest.expect(TokenKind::Arrow))?;
-    let (channel, value) = beside(channel, expression(alloc, literals, room, 0, rest, spans))?;
-    let span = Span {
-        from,
-        to: value.span.to,
-    };
-    let sent = SimpleNode::Send(channel, value.node);
-    let node = with_span(sent, span, spans)?;
+    let channel = send_operand(alloc, literals, room, cursor)?;
+    let (channel, rest) = beside(channel.node, channel.rest.expect(TokenKind::Arrow))?;
+    let (channel, value) = beside(channel, expression(alloc, literals, room, 0, rest))?;
     Ok(Found {
-        node,
-        span,
+        node: SimpleNode::Send(channel, value.node),
         rest: value.rest,
     })
 }
@@ -545,22 +434,18 @@ fn send_statement<'a>(
 /// A simple statement, below which there are at most so many levels ("Simple statements" of the Go specification).
 /// Composite literals stand in it only where `literals` holds, and it is a `:=` only where `defining` does.
 #[tactic(auto, unfolding(crate::specs::Reading::simple))]
-pub fn simple_statement<'a>(
+pub fn simple_statement(
     alloc: Global,
     literals: bool,
     defining: bool,
     room: u32,
-    cursor: Cursor<'a>,
-    spans: &mut Vec<Span>,
-) -> Result<Found<'a, SimpleNode>, Fault>
-    ensures simple { Gives (λ x. (simple_of x.node, ahead x.rest)) result (simple literals defining MAX_ENTRIES room (ahead cursor.entry)) }
-    ensures nodes { IfOk result (λ x. vec_len spans.new ≡ vec_len spans.old + simple_size (simple_of x.node)) }
+    cursor: Cursor<'_>,
+) -> Result<Found<'_, SimpleNode>, Fault>
+    ensures { Gives (λ x. (simple_of x.node, ahead x.rest)) result (simple literals defining MAX_ENTRIES room (ahead cursor.entry)) }
 {
-    let Found { node, span, rest } = statement_unless_value(
-        alloc, literals, defining, room, cursor, spans,
-    )?;
+    let Found { node, rest } = statement_unless_value(alloc, literals, defining, room, cursor)?;
     match node {
-        Some(node) => Ok(Found { node, span, rest }),
-        None => send_statement(alloc, literals, room, rest, spans),
+        Some(node) => Ok(Found { node, rest }),
+        None => send_statement(alloc, literals, room, rest),
     }
 }

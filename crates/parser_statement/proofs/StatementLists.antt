@@ -1,16 +1,14 @@
 -- The statements of a block and the clauses of a select, as lists.
-use Rattle.std.proofs.Common.{◌≡◌, ℕ, suc, ◌≤◌, max, List, [], ◌∷◌, length, refl, ap, arith, sum_by}
-use Rattle.std.proofs.lemmas.List.Sums.{sum_by-cons}
+use Rattle.std.proofs.Common.{◌≡◌, ℕ, suc, ◌≤◌, max, List, [], ◌∷◌, length, refl, ap, arith}
 use Rattle.scanner.specs.declared.kind.TokenKind.TheVariants as kinds
 use Rattle.syntax.specs.Tree.{Statements, NoStatement, Then, statements_in, Clauses, NoClause, Clause}
-use Rattle.syntax.specs.Measures.{Listing, Entries, SelectClauses, highest, if_any, comm_height, comm_longest, statement_height, statements_height, statement_longest, statements_longest, clauses_height, clauses_longest, clauses_count, clauses_size, clauses as clause_entries}
+use Rattle.syntax.specs.Measures.{Listing, Entries, SelectClauses, highest, if_any, comm_height, comm_longest, statement_height, statements_height, statement_longest, statements_longest, clauses_height, clauses_longest, clauses_count, clauses as clause_entries}
 use Rattle.syntax.specs.View.{OneClause, clauses}
 use Rattle.parser_base.specs.Lexemes.{Lexeme}
 use Rattle.parser_base.specs.Spelling.{behind, separated, joined, AreAll, AreSome}
 use Rattle.parser_base.proofs.ListLaws.{AreFew}
 use Rattle.parser_header.specs.Spelling.{IsAny, IsComm}
 use Rattle.parser_statement.specs.Spelling.{clause_start, statement_words, body_words, more_words, clauses_words, IsStatement, IsBody, AreStatements, AreClauses}
-use Rattle.parser_statement.specs.Views.{one_clause_size}
 
 -- ---- statements
 
@@ -108,7 +106,3 @@ clause_entries-le SelectClauses n = omega arith
 -- where a select has no more clauses than so many, and no list in it is longer
 pub clause_entries_few : (most : ℕ) (all : Clauses) → clauses_count all ≤ most → AreFew (λ listing. clauses_longest listing all) most → AreFew (λ listing. max (clause_entries listing (clauses_count all)) (clauses_longest listing all)) most
 clause_entries_few most all count few listing = omega (arith, few listing, clause_entries-le listing (clauses_count all))
-
-pub clauses_size-of : (all : List OneClause) → clauses_size (clauses all) ≡ sum_by one_clause_size all
-clauses_size-of [] = refl
-clauses_size-of (c ∷ cs) = omega (arith, clauses_size-of cs, sum_by-cons one_clause_size c cs)

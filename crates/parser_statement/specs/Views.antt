@@ -1,7 +1,5 @@
 -- What the parts of a statement in memory are.
-use Rattle.std.specs.Prelude.{ℕ, ◌+◌, Bool, true, false}
-use Rattle.syntax.specs.Tree.{Statement, Alone, Branch, Otherwise}
-use Rattle.syntax.specs.Measures.{if_any, comm_size, statements_size}
+use Rattle.syntax.specs.Tree.{Statement, Branch, Otherwise}
 use Rattle.syntax.specs.View.{OneClause, else_layer, statement_layer, clause_layer, branch_layer}
 use Rattle.syntax.specs.declared.node.IfNode.{IfNode}
 use Rattle.syntax.specs.declared.node.ElseNode.{ElseNode}
@@ -16,12 +14,3 @@ otherwise_of = fold-ElseNode Otherwise Statement OneClause Branch else_layer sta
 
 abbrev pub clause_of : ClauseNode → OneClause
 clause_of = fold-ClauseNode Otherwise Statement OneClause Branch else_layer statement_layer clause_layer branch_layer
-
--- how many nodes of a clause have numbers
-abbrev pub one_clause_size : OneClause → ℕ
-one_clause_size clause = if_any comm_size clause.comm + statements_size clause.body + 1
-
--- the statement is a simple one
-abbrev pub is_alone : Statement → Bool
-is_alone (Alone simple) = true
-is_alone statement = false

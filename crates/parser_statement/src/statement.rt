@@ -1,22 +1,21 @@
 //! Statements.
 
-ghost use Rattle.std.specs.Prelude.{◌≡◌, ◌+◌, ◌∷◌, IfOk, IfErr, map, option_map, sum_by, length, vec_len};
+ghost use Rattle.std.specs.Prelude.{◌≡◌, ◌∷◌, IfOk, IfErr, map, option_map, length};
 ghost use Rattle.go_text.specs.declared.fault.Fault.TheVariants as faults;
 ghost use Rattle.syntax.specs.Tree.{If, ElseIf, Select};
-ghost use Rattle.syntax.specs.Measures.{SelectClauses, if_any, comm_size, statement_size, block_size, branch_size, otherwise_size};
+ghost use Rattle.syntax.specs.Measures.{SelectClauses};
 ghost use Rattle.syntax.specs.View.{comm_of, statement_of, body_of, clauses};
 ghost use Rattle.parser_base.specs.Lexemes.{Mark};
 ghost use Rattle.parser_base.specs.Cursor.{ahead};
 ghost use Rattle.parser_base.specs.Reading.{Gives, Fails, Syntax, TooMany, listed};
 ghost use Rattle.parser_simple.specs.Reading.{as_one};
 ghost use Rattle.parser_statement.specs.Reading.{statement_next, clause_next, clauses_next, waited, clause_body, other, otherwise, branched, repeated, one_clause, no_clause, selected, marked, stated, statement, block, branch, clause};
-ghost use Rattle.parser_statement.specs.Views.{branch_of, otherwise_of, clause_of, one_clause_size};
+ghost use Rattle.parser_statement.specs.Views.{branch_of, otherwise_of, clause_of};
 
 use crate::leaf::{ends_statement, leaf, simple_statement};
-use go_text::{Fault, LimitKind, Place, Span};
-use parser_base::beside::{beside, with_span};
+use go_text::{Fault, LimitKind, Place};
+use parser_base::beside::beside;
 use parser_base::cursor::{Cursor, Word};
-use parser_base::found::Found;
 use parser_base::list::{List, Next};
 use parser_header::comm::comm_statement;
 use parser_header::header::{for_header, if_header};
@@ -28,42 +27,42 @@ use syntax::{ClauseNode, CommNode, ElseNode, IfNode, StatementNode};
 
 // ---- what follows a statement or a clause
 
-/// What follows a statement of a block, with the span of its token.
+/// What follows a statement of a block.
 #[tactic(auto, unfolding(crate::specs::Reading::statement_next))]
-pub fn statement_next(cursor: Cursor<'_>) -> Result<(Next, Span, Cursor<'_>), Fault>
-    ensures { Gives (λ x. (x.0, ahead x.2)) result (statement_next (ahead cursor.entry)) }
+pub fn statement_next(cursor: Cursor<'_>) -> Result<(Next, Cursor<'_>), Fault>
+    ensures { Gives (λ x. (x.0, ahead x.1)) result (statement_next (ahead cursor.entry)) }
 {
     match cursor.next() {
-        Some((Word::Mark(TokenKind::Semicolon), span, rest)) => Ok((Next::More, span, rest)),
-        Some((Word::Mark(TokenKind::RightBrace), span, rest)) => Ok((Next::End(false), span, rest)),
+        Some((Word::Mark(TokenKind::Semicolon), rest)) => Ok((Next::More, rest)),
+        Some((Word::Mark(TokenKind::RightBrace), rest)) => Ok((Next::End(false), rest)),
         _ => Err(Fault::Syntax(cursor.place())),
     }
 }
 
-/// What follows a statement of a clause, with the span of the semicolon, if that comes next.
+/// What follows a statement of a clause.
 #[tactic(auto, unfolding(crate::specs::Reading::clause_next))]
-fn clause_next(cursor: Cursor<'_>) -> Result<(Next, Span, Cursor<'_>), Fault>
-    ensures { Gives (λ x. (x.0, ahead x.2)) result (clause_next (ahead cursor.entry)) }
+fn clause_next(cursor: Cursor<'_>) -> Result<(Next, Cursor<'_>), Fault>
+    ensures { Gives (λ x. (x.0, ahead x.1)) result (clause_next (ahead cursor.entry)) }
 {
-    if let Some((Word::Mark(TokenKind::Semicolon), last, rest)) = cursor.next() {
-        return Ok((Next::More, last, rest));
+    if let Some((Word::Mark(TokenKind::Semicolon), rest)) = cursor.next() {
+        return Ok((Next::More, rest));
     }
     if ends_statement(cursor) {
-        return Ok((Next::End(false), cursor.place().span, cursor));
+        return Ok((Next::End(false), cursor));
     }
     Err(Fault::Syntax(cursor.place()))
 }
 
-/// What follows a clause, with the span of the brace, if that comes next.
+/// What follows a clause.
 #[tactic(auto, unfolding(crate::specs::Reading::clauses_next))]
-fn clauses_next(cursor: Cursor<'_>) -> Result<(Next, Span, Cursor<'_>), Fault>
-    ensures { Gives (λ x. (x.0, ahead x.2)) result (clauses_next (ahead cursor.entry)) }
+fn clauses_next(cursor: Cursor<'_>) -> Result<(Next, Cursor<'_>), Fault>
+    ensures { Gives (λ x. (x.0, ahead x.1)) result (clauses_next (ahead cursor.entry)) }
 {
     if begins_with(TokenKind::RightBrace, cursor) {
-        let (brace, rest) = cursor.expect(TokenKind::RightBrace)?;
-        return Ok((Next::End(false), brace, rest));
+        let rest = cursor.expect(TokenKind::RightBrace)?;
+        return Ok((Next::End(false), rest));
     }
-    Ok((Next::More, cursor.place().span, cursor))
+    Ok((Next::More, cursor))
 }
 
 // ---- nodes
@@ -99,39 +98,28 @@ fn clause_node(comm: Option<CommNode>, body: Vec<StatementNode>) -> ClauseNode
     ClauseNode { comm, body }
 }
 
-/// Where the last token ends behind this statement, whose span was pushed last: where it ended before, if it has none.
-fn end_behind(statement: &StatementNode, spans: &[Span], end: u32) -> u32 {
-    match (statement, spans.last()) {
-        (StatementNode::Empty, _) | (_, None) => end,
-        (_, Some(span)) => span.to,
-    }
-}
-
 // ---- blocks
 
 /// The statements of a block, each of at most so many levels, behind its first brace.
 #[cycle(statement)]
-pub fn statement_list<'a>(
+pub fn statement_list(
     alloc: Global,
     room: u32,
-    cursor: Cursor<'a>,
-    spans: &mut Vec<Span>,
-) -> Result<List<'a, StatementNode>, Fault>
-    ensures statements { Gives (λ x. ((map statement_of x.entries.items, x.trailing), ahead x.rest)) result (listed (statement MAX_ENTRIES room) statement_next Syntax (length (ahead cursor.entry)) (ahead cursor.entry)) }
-    ensures nodes { IfOk result (λ x. vec_len spans.new ≡ vec_len spans.old + sum_by statement_size (map statement_of x.entries.items)) }
+    cursor: Cursor<'_>,
+) -> Result<List<'_, StatementNode>, Fault>
+    ensures { Gives (λ x. ((map statement_of x.entries.items, x.trailing), ahead x.rest)) result (listed (statement MAX_ENTRIES room) statement_next Syntax (length (ahead cursor.entry)) (ahead cursor.entry)) }
 {
     let mut entries = Vec::new(alloc);
     let mut rest = cursor;
     for _ in 0..cursor.len() {
-        let (one, behind) = statement(alloc, room, rest, spans)?;
+        let (one, behind) = statement(alloc, room, rest)?;
         entries.push(one)?;
-        let (next, last, after) = statement_next(behind)?;
+        let (next, after) = statement_next(behind)?;
         match next {
             Next::More => rest = after,
             Next::End(trailing) => return Ok(List {
                 entries,
                 trailing,
-                last,
                 rest: after,
             }),
         }
@@ -142,25 +130,19 @@ pub fn statement_list<'a>(
 /// A block of at most so many levels ("Blocks" of the Go specification).
 #[cycle(statement)]
 #[tactic(auto, unfolding(crate::specs::Reading::statement, crate::specs::Reading::braced))]
-fn block<'a>(
+fn block(
     alloc: Global,
     room: u32,
-    cursor: Cursor<'a>,
-    spans: &mut Vec<Span>,
-) -> Result<List<'a, StatementNode>, Fault>
-    ensures block { Gives (λ x. (body_of x.entries.items, ahead x.rest)) result (block MAX_ENTRIES room (ahead cursor.entry)) }
-    ensures nodes { IfOk result (λ x. vec_len spans.new ≡ vec_len spans.old + block_size (body_of x.entries.items)) }
+    cursor: Cursor<'_>,
+) -> Result<(Vec<StatementNode>, Cursor<'_>), Fault>
+    ensures { Gives (λ x. (body_of x.0.items, ahead x.1)) result (block MAX_ENTRIES room (ahead cursor.entry)) }
 {
     if room == 0 {
         return Err(Fault::TooDeep(cursor.place()));
     }
-    let (first, rest) = cursor.expect(TokenKind::LeftBrace)?;
-    let all = statement_list(alloc, room - 1, rest, spans)?;
-    let span = Span {
-        from: first.from,
-        to: all.last.to,
-    };
-    Ok(with_span(all, span, spans)?)
+    let rest = cursor.expect(TokenKind::LeftBrace)?;
+    let all = statement_list(alloc, room - 1, rest)?;
+    Ok((all.entries, all.rest))
 }
 
 // ---- if and for
@@ -168,234 +150,169 @@ fn block<'a>(
 /// What stands behind `else`: an `if` or a block, of at most so many levels.
 #[cycle(statement)]
 #[tactic(auto, unfolding(crate::specs::Reading::statement, crate::specs::Reading::other))]
-fn else_branch<'a>(
+fn else_branch(
     alloc: Global,
     room: u32,
-    cursor: Cursor<'a>,
-    spans: &mut Vec<Span>,
-) -> Result<Found<'a, ElseNode>, Fault>
-    ensures otherwise { Gives (λ x. (otherwise_of x.node, ahead x.rest)) result (other (block MAX_ENTRIES room) (branch MAX_ENTRIES room) (ahead cursor.entry)) }
-    ensures nodes { IfOk result (λ x. vec_len spans.new ≡ vec_len spans.old + otherwise_size (otherwise_of x.node)) }
+    cursor: Cursor<'_>,
+) -> Result<(ElseNode, Cursor<'_>), Fault>
+    ensures { Gives (λ x. (otherwise_of x.0, ahead x.1)) result (other (block MAX_ENTRIES room) (branch MAX_ENTRIES room) (ahead cursor.entry)) }
 {
     if begins_with(TokenKind::If, cursor) {
-        let (first, rest) = cursor.expect(TokenKind::If)?;
+        let rest = cursor.expect(TokenKind::If)?;
         if room == 0 {
-            return Err(Fault::TooDeep(Place::from(first)));
+            return Err(Fault::TooDeep(cursor.place()));
         }
-        let found = if_statement(alloc, room - 1, first, rest, spans)?;
-        return Ok(Found {
-            node: else_node(alloc, found.node)?,
-            span: found.span,
-            rest: found.rest,
-        });
+        let (branch, rest) = if_statement(alloc, room - 1, cursor.place(), rest)?;
+        return Ok((else_node(alloc, branch)?, rest));
     }
-    let from = cursor.place().span.from;
-    let body = block(alloc, room, cursor, spans)?;
-    Ok(Found {
-        node: ElseNode::Block(body.entries),
-        span: Span {
-            from,
-            to: body.last.to,
-        },
-        rest: body.rest,
-    })
+    let (body, rest) = block(alloc, room, cursor)?;
+    Ok((ElseNode::Block(body), rest))
 }
 
-/// An `else` of at most so many levels, if there is one, behind a block that ends at `end`; the span of none is empty,
-/// there.
+/// An `else` of at most so many levels, if there is one.
 #[cycle(statement)]
 #[tactic(auto, unfolding(crate::specs::Reading::otherwise))]
-fn optional_else<'a>(
+fn optional_else(
     alloc: Global,
     room: u32,
-    end: u32,
-    cursor: Cursor<'a>,
-    spans: &mut Vec<Span>,
-) -> Result<Found<'a, ElseNode>, Fault>
-    ensures otherwise { Gives (λ x. (otherwise_of x.node, ahead x.rest)) result (otherwise (block MAX_ENTRIES room) (branch MAX_ENTRIES room) (ahead cursor.entry)) }
-    ensures nodes { IfOk result (λ x. vec_len spans.new ≡ vec_len spans.old + otherwise_size (otherwise_of x.node)) }
+    cursor: Cursor<'_>,
+) -> Result<(ElseNode, Cursor<'_>), Fault>
+    ensures { Gives (λ x. (otherwise_of x.0, ahead x.1)) result (otherwise (block MAX_ENTRIES room) (branch MAX_ENTRIES room) (ahead cursor.entry)) }
 {
     if !begins_with(TokenKind::Else, cursor) {
-        return Ok(Found {
-            node: ElseNode::Nothing,
-            span: Span { from: end, to: end },
-            rest: cursor,
-        });
+        return Ok((ElseNode::Nothing, cursor));
     }
-    let (_, rest) = cursor.expect(TokenKind::Else)?;
-    else_branch(alloc, room, rest, spans)
+    let rest = cursor.expect(TokenKind::Else)?;
+    else_branch(alloc, room, rest)
 }
 
 /// What stands behind an `if` at `first` ("If statements" of the Go specification), below which there are at most so many
 /// levels.
 #[cycle(statement)]
 #[tactic(auto, unfolding(crate::specs::Reading::branched))]
-fn if_statement<'a>(
+fn if_statement(
     alloc: Global,
     room: u32,
-    first: Span,
-    cursor: Cursor<'a>,
-    spans: &mut Vec<Span>,
-) -> Result<Found<'a, IfNode>, Fault>
-    ensures branch { Gives (λ x. (branch_of x.node, ahead x.rest)) result (branched MAX_ENTRIES room (block MAX_ENTRIES room) (branch MAX_ENTRIES room) (ahead cursor.entry)) }
-    ensures nodes { IfOk result (λ x. vec_len spans.new ≡ vec_len spans.old + branch_size (branch_of x.node)) }
+    first: Place,
+    cursor: Cursor<'_>,
+) -> Result<(IfNode, Cursor<'_>), Fault>
+    ensures { Gives (λ x. (branch_of x.0, ahead x.1)) result (branched MAX_ENTRIES room (block MAX_ENTRIES room) (branch MAX_ENTRIES room) (ahead cursor.entry)) }
 {
     if room < 2 {
-        return Err(Fault::TooDeep(Place::from(first)));
+        return Err(Fault::TooDeep(first));
     }
-    let (head, rest) = if_header(alloc, room, cursor, spans)?;
-    let (head, body) = beside(head, block(alloc, room, rest, spans))?;
-    let (begun, last) = beside(
-        (head, body.entries),
-        optional_else(alloc, room, body.last.to, body.rest, spans),
-    )?;
-    let span = Span {
-        from: first.from,
-        to: last.span.to,
-    };
+    let (head, rest) = if_header(alloc, room, cursor)?;
+    let (head, (body, rest)) = beside(head, block(alloc, room, rest))?;
+    let (begun, (otherwise, rest)) = beside((head, body), optional_else(alloc, room, rest))?;
     let ((header, condition), body) = begun;
     let branch = IfNode {
         header,
         condition,
         body,
-        otherwise: last.node,
+        otherwise,
     };
-    Ok(Found {
-        node: with_span(branch, span, spans)?,
-        span,
-        rest: last.rest,
-    })
+    Ok((branch, rest))
 }
 
 /// What stands behind a `for` at `first` ("For statements" of the Go specification), below which there are at most so
 /// many levels.
 #[cycle(statement)]
 #[tactic(auto, unfolding(crate::specs::Reading::repeated))]
-fn for_statement<'a>(
+fn for_statement(
     alloc: Global,
     room: u32,
-    first: Span,
-    cursor: Cursor<'a>,
-    spans: &mut Vec<Span>,
-) -> Result<(StatementNode, Cursor<'a>), Fault>
-    ensures statement { Gives (λ x. (statement_of x.0, ahead x.1)) result (repeated MAX_ENTRIES room (block MAX_ENTRIES room) (ahead cursor.entry)) }
-    ensures nodes { IfOk result (λ x. vec_len spans.new ≡ vec_len spans.old + statement_size (statement_of x.0)) }
+    first: Place,
+    cursor: Cursor<'_>,
+) -> Result<(StatementNode, Cursor<'_>), Fault>
+    ensures { Gives (λ x. (statement_of x.0, ahead x.1)) result (repeated MAX_ENTRIES room (block MAX_ENTRIES room) (ahead cursor.entry)) }
 {
     if room < 2 {
-        return Err(Fault::TooDeep(Place::from(first)));
+        return Err(Fault::TooDeep(first));
     }
-    let (header, rest) = for_header(alloc, room, cursor, spans)?;
-    let (header, body) = beside(header, block(alloc, room, rest, spans))?;
-    let span = Span {
-        from: first.from,
-        to: body.last.to,
-    };
-    let node = with_span(StatementNode::For(header, body.entries), span, spans)?;
-    Ok((node, body.rest))
+    let (header, rest) = for_header(alloc, room, cursor)?;
+    let (header, (body, rest)) = beside(header, block(alloc, room, rest))?;
+    Ok((StatementNode::For(header, body), rest))
 }
 
 // ---- select
 
 /// What a clause waits for, of at most so many levels.
 #[tactic(auto, unfolding(crate::specs::Reading::waited))]
-fn comm_case<'a>(
-    alloc: Global,
-    room: u32,
-    cursor: Cursor<'a>,
-    spans: &mut Vec<Span>,
-) -> Result<(CommNode, Cursor<'a>), Fault>
-    ensures comm { Gives (λ x. (comm_of x.0, ahead x.1)) result (waited MAX_ENTRIES room (ahead cursor.entry)) }
-    ensures nodes { IfOk result (λ x. vec_len spans.new ≡ vec_len spans.old + comm_size (comm_of x.0)) }
+fn comm_case(alloc: Global, room: u32, cursor: Cursor<'_>) -> Result<(CommNode, Cursor<'_>), Fault>
+    ensures { Gives (λ x. (comm_of x.0, ahead x.1)) result (waited MAX_ENTRIES room (ahead cursor.entry)) }
 {
     if room == 0 {
         return Err(Fault::TooDeep(cursor.place()));
     }
-    comm_statement(alloc, room - 1, cursor, spans)
+    comm_statement(alloc, room - 1, cursor)
 }
 
-/// The statements of a clause, each of at most so many levels, behind its colon, which ends at `colon`; whether a
-/// separator ends them, which none does; and where their last token ends.
+/// The statements of a clause, each of at most so many levels, behind its colon.
 #[cycle(statement)]
-fn clause_statement_list<'a>(
+fn clause_statement_list(
     alloc: Global,
     room: u32,
-    colon: u32,
-    cursor: Cursor<'a>,
-    spans: &mut Vec<Span>,
-) -> Result<(Vec<StatementNode>, bool, u32, Cursor<'a>), Fault>
-    ensures statements { Gives (λ x. ((map statement_of x.0.items, x.1), ahead x.3)) result (listed (statement MAX_ENTRIES room) clause_next Syntax (length (ahead cursor.entry)) (ahead cursor.entry)) }
-    ensures nodes { IfOk result (λ x. vec_len spans.new ≡ vec_len spans.old + sum_by statement_size (map statement_of x.0.items)) }
+    cursor: Cursor<'_>,
+) -> Result<List<'_, StatementNode>, Fault>
+    ensures { Gives (λ x. ((map statement_of x.entries.items, x.trailing), ahead x.rest)) result (listed (statement MAX_ENTRIES room) clause_next Syntax (length (ahead cursor.entry)) (ahead cursor.entry)) }
 {
     let mut entries = Vec::new(alloc);
     let mut rest = cursor;
-    let mut end = colon;
     for _ in 0..cursor.len() {
-        let (one, behind) = statement(alloc, room, rest, spans)?;
-        end = end_behind(&one, spans.as_slice(), end);
+        let (one, behind) = statement(alloc, room, rest)?;
         entries.push(one)?;
-        let (next, last, after) = clause_next(behind)?;
+        let (next, after) = clause_next(behind)?;
         match next {
-            Next::More => {
-                rest = after;
-                end = last.to;
-            }
-            Next::End(trailing) => return Ok((entries, trailing, end, after)),
+            Next::More => rest = after,
+            Next::End(trailing) => return Ok(List {
+                entries,
+                trailing,
+                rest: after,
+            }),
         }
     }
     Err(Fault::Syntax(rest.place()))
 }
 
-/// A clause from its colon on, whose word stands at `first`, with statements of at most so many levels.
+/// A clause from its colon on, with statements of at most so many levels.
 #[cycle(statement)]
 #[tactic(auto, unfolding(crate::specs::Reading::clause_body))]
-fn clause_body<'a>(
+fn clause_body(
     alloc: Global,
     room: u32,
-    first: Span,
     waits: Option<CommNode>,
-    cursor: Cursor<'a>,
-    spans: &mut Vec<Span>,
-) -> Result<(ClauseNode, Cursor<'a>), Fault>
-    ensures clause { Gives (λ x. (clause_of x.0, ahead x.1)) result (clause_body (statement MAX_ENTRIES room) (option_map comm_of waits) (ahead cursor.entry)) }
-    ensures nodes { IfOk result (λ x. vec_len spans.new + if_any comm_size (option_map comm_of waits) ≡ vec_len spans.old + one_clause_size (clause_of x.0)) }
+    cursor: Cursor<'_>,
+) -> Result<(ClauseNode, Cursor<'_>), Fault>
+    ensures { Gives (λ x. (clause_of x.0, ahead x.1)) result (clause_body (statement MAX_ENTRIES room) (option_map comm_of waits) (ahead cursor.entry)) }
 {
-    let (waits, (colon, rest)) = beside(waits, cursor.expect(TokenKind::Colon))?;
-    let (waits, (body, _, end, rest)) = beside(
-        waits,
-        clause_statement_list(alloc, room, colon.to, rest, spans),
-    )?;
-    let span = Span {
-        from: first.from,
-        to: end,
-    };
-    Ok((with_span(clause_node(waits, body), span, spans)?, rest))
+    let (waits, rest) = beside(waits, cursor.expect(TokenKind::Colon))?;
+    let (waits, body) = beside(waits, clause_statement_list(alloc, room, rest))?;
+    Ok((clause_node(waits, body.entries), body.rest))
 }
 
 /// A clause, below which there are at most so many levels.
 #[cycle(statement)]
 #[tactic(auto, unfolding(crate::specs::Reading::one_clause))]
-fn comm_clause_below<'a>(
+fn comm_clause_below(
     alloc: Global,
     room: u32,
-    cursor: Cursor<'a>,
-    spans: &mut Vec<Span>,
-) -> Result<(ClauseNode, Cursor<'a>), Fault>
-    ensures clause { Gives (λ x. (clause_of x.0, ahead x.1)) result (one_clause MAX_ENTRIES room (statement MAX_ENTRIES room) (ahead cursor.entry)) }
-    ensures nodes { IfOk result (λ x. vec_len spans.new ≡ vec_len spans.old + one_clause_size (clause_of x.0)) }
+    cursor: Cursor<'_>,
+) -> Result<(ClauseNode, Cursor<'_>), Fault>
+    ensures { Gives (λ x. (clause_of x.0, ahead x.1)) result (one_clause MAX_ENTRIES room (statement MAX_ENTRIES room) (ahead cursor.entry)) }
 {
     match cursor.next() {
-        Some((Word::Mark(TokenKind::Case), first, rest)) => {
+        Some((Word::Mark(TokenKind::Case), rest)) => {
             if room < 2 {
-                return Err(Fault::TooDeep(Place::from(first)));
+                return Err(Fault::TooDeep(cursor.place()));
             }
-            let (waits, rest) = comm_case(alloc, room, rest, spans)?;
-            clause_body(alloc, room, first, Some(waits), rest, spans)
+            let (waits, rest) = comm_case(alloc, room, rest)?;
+            clause_body(alloc, room, Some(waits), rest)
         }
-        Some((Word::Mark(TokenKind::Default), first, rest)) => {
+        Some((Word::Mark(TokenKind::Default), rest)) => {
             if room < 1 {
-                return Err(Fault::TooDeep(Place::from(first)));
+                return Err(Fault::TooDeep(cursor.place()));
             }
-            clause_body(alloc, room, first, None, rest, spans)
+            clause_body(alloc, room, None, rest)
         }
         _ => Err(Fault::Syntax(cursor.place())),
     }
@@ -407,8 +324,8 @@ fn no_clause(cursor: Cursor<'_>) -> Fault
     ensures { Fails result (no_clause (ahead cursor.entry)) }
 {
     match cursor.next() {
-        Some((Word::Mark(TokenKind::Case | TokenKind::Default), first, _)) => {
-            Fault::TooDeep(Place::from(first))
+        Some((Word::Mark(TokenKind::Case | TokenKind::Default), _)) => {
+            Fault::TooDeep(cursor.place())
         }
         _ => Fault::Syntax(cursor.place()),
     }
@@ -417,44 +334,35 @@ fn no_clause(cursor: Cursor<'_>) -> Fault
 /// A clause of at most so many levels.
 #[cycle(statement)]
 #[tactic(auto, unfolding(crate::specs::Reading::statement))]
-fn comm_clause<'a>(
+fn comm_clause(
     alloc: Global,
     room: u32,
-    cursor: Cursor<'a>,
-    spans: &mut Vec<Span>,
-) -> Result<(ClauseNode, Cursor<'a>), Fault>
-    ensures clause { Gives (λ x. (clause_of x.0, ahead x.1)) result (clause MAX_ENTRIES room (ahead cursor.entry)) }
-    ensures nodes { IfOk result (λ x. vec_len spans.new ≡ vec_len spans.old + one_clause_size (clause_of x.0)) }
+    cursor: Cursor<'_>,
+) -> Result<(ClauseNode, Cursor<'_>), Fault>
+    ensures { Gives (λ x. (clause_of x.0, ahead x.1)) result (clause MAX_ENTRIES room (ahead cursor.entry)) }
 {
     if room == 0 {
         return Err(no_clause(cursor));
     }
-    comm_clause_below(alloc, room - 1, cursor, spans)
+    comm_clause_below(alloc, room - 1, cursor)
 }
 
 /// The clauses of a `select`, each of at most so many levels.
 #[cycle(statement)]
-fn comm_clauses<'a>(
-    alloc: Global,
-    room: u32,
-    cursor: Cursor<'a>,
-    spans: &mut Vec<Span>,
-) -> Result<List<'a, ClauseNode>, Fault>
-    ensures clauses { Gives (λ x. ((map clause_of x.entries.items, x.trailing), ahead x.rest)) result (listed (clause MAX_ENTRIES room) clauses_next (TooMany SelectClauses) MAX_CLAUSES (ahead cursor.entry)) }
-    ensures nodes { IfOk result (λ x. vec_len spans.new ≡ vec_len spans.old + sum_by one_clause_size (map clause_of x.entries.items)) }
+fn comm_clauses(alloc: Global, room: u32, cursor: Cursor<'_>) -> Result<List<'_, ClauseNode>, Fault>
+    ensures { Gives (λ x. ((map clause_of x.entries.items, x.trailing), ahead x.rest)) result (listed (clause MAX_ENTRIES room) clauses_next (TooMany SelectClauses) MAX_CLAUSES (ahead cursor.entry)) }
 {
     let mut entries = Vec::new(alloc);
     let mut rest = cursor;
     for _ in 0..MAX_CLAUSES {
-        let (one, behind) = comm_clause(alloc, room, rest, spans)?;
+        let (one, behind) = comm_clause(alloc, room, rest)?;
         entries.push(one)?;
-        let (next, last, after) = clauses_next(behind)?;
+        let (next, after) = clauses_next(behind)?;
         match next {
             Next::More => rest = after,
             Next::End(trailing) => return Ok(List {
                 entries,
                 trailing,
-                last,
                 rest: after,
             }),
         }
@@ -466,113 +374,86 @@ fn comm_clauses<'a>(
     })
 }
 
-/// What stands behind a `select` at `first` ("Select statements" of the Go specification), below which there are at most
-/// so many levels.
+/// What stands behind a `select` ("Select statements" of the Go specification), below which there are at most so many
+/// levels.
 #[cycle(statement)]
 #[tactic(auto, unfolding(crate::specs::Reading::selected))]
-fn select_statement<'a>(
+fn select_statement(
     alloc: Global,
     room: u32,
-    first: Span,
-    cursor: Cursor<'a>,
-    spans: &mut Vec<Span>,
-) -> Result<(StatementNode, Cursor<'a>), Fault>
-    ensures statement { Gives (λ x. (statement_of x.0, ahead x.1)) result (as_one Select (selected MAX_CLAUSES (clause MAX_ENTRIES room) (ahead cursor.entry))) }
-    ensures nodes { IfOk result (λ x. vec_len spans.new ≡ vec_len spans.old + statement_size (statement_of x.0)) }
+    cursor: Cursor<'_>,
+) -> Result<(StatementNode, Cursor<'_>), Fault>
+    ensures { Gives (λ x. (statement_of x.0, ahead x.1)) result (as_one Select (selected MAX_CLAUSES (clause MAX_ENTRIES room) (ahead cursor.entry))) }
 {
-    let (_, inside) = cursor.expect(TokenKind::LeftBrace)?;
+    let inside = cursor.expect(TokenKind::LeftBrace)?;
     if begins_with(TokenKind::RightBrace, inside) {
-        let (last, rest) = inside.expect(TokenKind::RightBrace)?;
-        let span = Span {
-            from: first.from,
-            to: last.to,
-        };
-        let node = with_span(select_node(Vec::new(alloc)), span, spans)?;
-        return Ok((node, rest));
+        let rest = inside.expect(TokenKind::RightBrace)?;
+        return Ok((select_node(Vec::new(alloc)), rest));
     }
-    let all = comm_clauses(alloc, room, inside, spans)?;
-    let span = Span {
-        from: first.from,
-        to: all.last.to,
-    };
-    let node = with_span(select_node(all.entries), span, spans)?;
-    Ok((node, all.rest))
+    let all = comm_clauses(alloc, room, inside)?;
+    Ok((select_node(all.entries), all.rest))
 }
 
 // ---- statements
 
-/// A statement that begins with this mark at `first`, below which there are at most so many levels.
+/// A statement that begins with this mark, below which there are at most so many levels.
 #[cycle(statement)]
 fn keyword_statement<'a>(
     alloc: Global,
     room: u32,
     kind: TokenKind,
-    first: Span,
     rest: Cursor<'a>,
     cursor: Cursor<'a>,
-    spans: &mut Vec<Span>,
 ) -> Result<(StatementNode, Cursor<'a>), Fault>
     requires { ahead cursor ≡ Mark kind ∷ ahead rest }
-    ensures statement { Gives (λ x. (statement_of x.0, ahead x.1)) result (marked MAX_ENTRIES room (block MAX_ENTRIES room) (branch MAX_ENTRIES room) (clause MAX_ENTRIES room) kind (ahead rest.entry)) }
-    ensures nodes { IfOk result (λ x. vec_len spans.new ≡ vec_len spans.old + statement_size (statement_of x.0)) }
+    ensures { Gives (λ x. (statement_of x.0, ahead x.1)) result (marked MAX_ENTRIES room (block MAX_ENTRIES room) (branch MAX_ENTRIES room) (clause MAX_ENTRIES room) kind (ahead rest.entry)) }
 {
     match kind {
         TokenKind::LeftBrace => {
             if room < 2 {
-                return Err(Fault::TooDeep(Place::from(first)));
+                return Err(Fault::TooDeep(cursor.place()));
             }
-            let body = block(alloc, room, cursor, spans)?;
-            let span = Span {
-                from: first.from,
-                to: body.last.to,
-            };
-            let node = with_span(StatementNode::Block(body.entries), span, spans)?;
-            Ok((node, body.rest))
+            let (body, rest) = block(alloc, room, cursor)?;
+            Ok((StatementNode::Block(body), rest))
         }
         TokenKind::If => {
-            let found = if_statement(alloc, room, first, rest, spans)?;
-            Ok((if_node(alloc, found.node)?, found.rest))
+            let (branch, rest) = if_statement(alloc, room, cursor.place(), rest)?;
+            Ok((if_node(alloc, branch)?, rest))
         }
-        TokenKind::For => for_statement(alloc, room, first, rest, spans),
-        TokenKind::Select => select_statement(alloc, room, first, rest, spans),
-        kind => leaf(alloc, room, kind, first, rest, cursor, spans),
+        TokenKind::For => for_statement(alloc, room, cursor.place(), rest),
+        TokenKind::Select => select_statement(alloc, room, rest),
+        kind => leaf(alloc, room, kind, rest, cursor),
     }
 }
 
 /// A statement, below which there are at most so many levels.
 #[cycle(statement)]
 #[tactic(auto, unfolding(crate::specs::Reading::stated))]
-fn statement_below<'a>(
+fn statement_below(
     alloc: Global,
     room: u32,
-    cursor: Cursor<'a>,
-    spans: &mut Vec<Span>,
-) -> Result<(StatementNode, Cursor<'a>), Fault>
-    ensures statement { Gives (λ x. (statement_of x.0, ahead x.1)) result (stated MAX_ENTRIES room (block MAX_ENTRIES room) (branch MAX_ENTRIES room) (clause MAX_ENTRIES room) (ahead cursor.entry)) }
-    ensures nodes { IfOk result (λ x. vec_len spans.new ≡ vec_len spans.old + statement_size (statement_of x.0)) }
+    cursor: Cursor<'_>,
+) -> Result<(StatementNode, Cursor<'_>), Fault>
+    ensures { Gives (λ x. (statement_of x.0, ahead x.1)) result (stated MAX_ENTRIES room (block MAX_ENTRIES room) (branch MAX_ENTRIES room) (clause MAX_ENTRIES room) (ahead cursor.entry)) }
 {
     match cursor.next() {
-        Some((Word::Mark(kind), first, rest)) => keyword_statement(
-            alloc, room, kind, first, rest, cursor, spans,
-        ),
-        _ => simple_statement(alloc, room, cursor, spans),
+        Some((Word::Mark(kind), rest)) => keyword_statement(alloc, room, kind, rest, cursor),
+        _ => simple_statement(alloc, room, cursor),
     }
 }
 
 /// A statement of at most so many levels ("Statements" of the Go specification).
 #[cycle(statement)]
 #[tactic(auto, unfolding(crate::specs::Reading::statement))]
-pub fn statement<'a>(
+pub fn statement(
     alloc: Global,
     room: u32,
-    cursor: Cursor<'a>,
-    spans: &mut Vec<Span>,
-) -> Result<(StatementNode, Cursor<'a>), Fault>
-    ensures statement { Gives (λ x. (statement_of x.0, ahead x.1)) result (statement MAX_ENTRIES room (ahead cursor.entry)) }
-    ensures nodes { IfOk result (λ x. vec_len spans.new ≡ vec_len spans.old + statement_size (statement_of x.0)) }
+    cursor: Cursor<'_>,
+) -> Result<(StatementNode, Cursor<'_>), Fault>
+    ensures { Gives (λ x. (statement_of x.0, ahead x.1)) result (statement MAX_ENTRIES room (ahead cursor.entry)) }
 {
     if room == 0 {
         return Err(Fault::TooDeep(cursor.place()));
     }
-    statement_below(alloc, room - 1, cursor, spans)
+    statement_below(alloc, room - 1, cursor)
 }

@@ -1,4 +1,4 @@
-use Rattle.std.proofs.Common.{◌≤◌, ℕ, List, length, sym, subst}
+use Rattle.std.proofs.Common.{◌≡◌, ◌≤◌, ℕ, List, length, sym, subst}
 use Rattle.std.specs.Prelude.{IsUtf8}
 use Rattle.std.proofs.lemmas.Result.{err_from_is_err_and}
 use Rattle.checker.specs.Trees.{tree_in}
@@ -8,7 +8,8 @@ use Rattle.parser_base.specs.Lexemes.{lexemes}
 use Rattle.parser.specs.Spelling.{Spells}
 use Rattle.scanner.specs.declared.token.Token.{Token}
 use Rattle.syntax.specs.declared.tree.Tree.{Tree}
-use Rattle.syntax.specs.Spans.{tree_of}
+use Rattle.spans.specs.Places.{file_spans}
+use Rattle.syntax.specs.Spans.{tree_of, spans_of}
 use Rattle.kendo_base.specs.Reading.{HasNoReading, HasNoTree, Reads}
 use Rattle.kendo_base.proofs.Refusals.{treeless, untyped, reads, unread, wrong}
 use Rattle.kendo_base.proofs.reading.read.Goals as goal
@@ -46,8 +47,9 @@ returns-in_err-typed-clause-why c =
     let tree = c.in_ok-tree.tree in
     let utf8 : IsUtf8 text = subst IsUtf8 c.as_str-text.ensures.bytes c.as_str-text.ensures.utf8 in
     let spelt : Spells (lexemes text ts) (tree_of tree) = subst (λ (us : List Token). Spells (lexemes text us) (tree_of tree)) c.as_slice.ensures.value c.in_ok-tree.ensures.spelt in
+    let placed : spans_of tree ≡ file_spans ts (tree_of tree) = subst (λ (us : List Token). spans_of tree ≡ file_spans us (tree_of tree)) c.as_slice.ensures.value c.in_ok-tree.ensures.placed in
     let short : length text ≤ MAX_LENGTH = subst (λ (bs : List ℕ). length bs ≤ MAX_LENGTH) c.as_str-text.ensures.bytes c.as_str-text.ensures.short in
-    rw (p.1, p.2) (wrong _ text ts tree c.in_ok-source.ensures.text short utf8 c.in_ok-tokens.ensures.tokens spelt c.in_ok-tree.ensures.low c.in_ok-tree.ensures.few c.in_ok-tree.ensures.clauses c.in_err-typed.ensures.why)
+    rw (p.1, p.2) (wrong _ text ts tree c.in_ok-source.ensures.text short utf8 c.in_ok-tokens.ensures.tokens spelt placed c.in_ok-tree.ensures.low c.in_ok-tree.ensures.few c.in_ok-tree.ensures.clauses c.in_err-typed.ensures.why)
 
 pub returns-clause-reads : goal.returns-clause-reads
 returns-clause-reads c =

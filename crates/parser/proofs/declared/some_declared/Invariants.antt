@@ -1,5 +1,4 @@
-use Rattle.std.proofs.Common.{◌≡◌, ◌-◌, ◌+◌, map, sum_by, vec_len}
-use Rattle.syntax.specs.Measures.{declared_size}
+use Rattle.std.proofs.Common.{◌≡◌, ◌-◌, map}
 use Rattle.syntax.specs.View.{declared_of}
 use Rattle.syntax.specs.declared.limits.TheConstants.{MAX_ENTRIES}
 use Rattle.parser_base.specs.Cursor.{ahead}
@@ -10,5 +9,4 @@ use Rattle.parser.proofs.declared.some_declared.Given as goal
 abbrev pub invariant-loop : goal.invariant-loop
 invariant-loop l = record {
   total : with_front (map declared_of l.entries.items) (some_declared l.separator l.close l.room (MAX_ENTRIES - l.counter) l.left (ahead l.rest)) ≡ some_declared l.separator l.close l.room MAX_ENTRIES MAX_ENTRIES (ahead l.fn.cursor);
-  nodes : vec_len l.spans ≡ vec_len l.fn.spans + sum_by declared_size (map declared_of l.entries.items);
 }

@@ -1,36 +1,35 @@
 use Rattle.std.proofs.Common.{◌≤◌, ◌<◌, length, is_ok, ap, arith}
 use Rattle.std.proofs.ResultArms.{chosen}
 use Rattle.std.proofs.lemmas.Result.{err_from_is_err_and}
-use Rattle.syntax.specs.Measures.{top_size}
 use Rattle.syntax.specs.View.{top_of}
 use Rattle.syntax.specs.declared.limits.TheConstants.{MAX_ENTRIES}
 use Rattle.parser.specs.declared.top.TheConstants.{STATEMENT_ROOM}
 use Rattle.parser_base.specs.Cursor.{ahead}
 use Rattle.parser_base.specs.Reading.{Syntax}
 use Rattle.parser.specs.Reading.{top, top_next}
-use Rattle.parser_base.proofs.Lists.{more, ends, one_fails, next_fails, is_full, sum_by-pushed}
+use Rattle.parser_base.proofs.Lists.{more, ends, one_fails, next_fails, is_full}
 use Rattle.parser.proofs.file.declaration_list.Goals as goal
 
-pub returns-in_err-one-clause-tops : goal.returns-in_err-one-clause-tops
-returns-in_err-one-clause-tops c =
+pub returns-in_err-one : goal.returns-in_err-one
+returns-in_err-one c =
     let p = err_from_is_err_and c.from_residual.result c.from_residual.ensures.1 in
     let turns = length (ahead c.args.cursor) in
     let lt : c.loop.counter < turns = omega (arith, c.len-end.ensures) in
-    rw (p.1, p.2) (one_fails c.in_err-one.field-0.0 (top MAX_ENTRIES STATEMENT_ROOM) top_next Syntax turns c.loop.counter _ (ahead c.loop.rest) _ lt c.in_err-one.ensures.top c.loop.invariant.total)
+    rw (p.1, p.2) (one_fails c.in_err-one.field-0.0 (top MAX_ENTRIES STATEMENT_ROOM) top_next Syntax turns c.loop.counter _ (ahead c.loop.rest) _ lt c.in_err-one.ensures c.loop.invariant.total)
 
-pub returns-in_err-next-clause-tops : goal.returns-in_err-next-clause-tops
-returns-in_err-next-clause-tops c =
+pub returns-in_err-next : goal.returns-in_err-next
+returns-in_err-next c =
     let p = err_from_is_err_and c.from_residual-in_err-next.result c.from_residual-in_err-next.ensures.1 in
     let turns = length (ahead c.args.cursor) in
     let lt : c.loop.counter < turns = omega (arith, c.len-end.ensures) in
-    rw (p.1, p.2) (next_fails c.in_err-next.field-0.0 (top MAX_ENTRIES STATEMENT_ROOM) top_next Syntax turns c.loop.counter _ (ahead c.loop.rest) (top_of c.in_ok-one.one) (ahead c.in_ok-one.behind) _ lt c.in_ok-one.ensures.top c.in_err-next.ensures c.loop.invariant.total)
+    rw (p.1, p.2) (next_fails c.in_err-next.field-0.0 (top MAX_ENTRIES STATEMENT_ROOM) top_next Syntax turns c.loop.counter _ (ahead c.loop.rest) (top_of c.in_ok-one.one) (ahead c.in_ok-one.behind) _ lt c.in_ok-one.ensures c.in_err-next.ensures c.loop.invariant.total)
 
-pub returns-in-End-clause-tops : goal.returns-in-End-clause-tops
-returns-in-End-clause-tops c =
+pub returns-in-End : goal.returns-in-End
+returns-in-End c =
     let pushed = chosen _ _ _ _ c.push.ensures.items (ap is_ok c.in_ok-push.was) in
     let turns = length (ahead c.args.cursor) in
     let lt : c.loop.counter < turns = omega (arith, c.len-end.ensures) in
-    rw pushed (ends top_of (top MAX_ENTRIES STATEMENT_ROOM) top_next Syntax turns c.loop.counter c.loop.entries.items (ahead c.loop.rest) c.in_ok-one.one c.in-End.trailing (ahead c.in_ok-one.behind) (ahead c.in_ok-next.after) _ lt c.in_ok-one.ensures.top (rw c.in-End.is at c.in_ok-next.ensures) c.loop.invariant.total)
+    rw pushed (ends top_of (top MAX_ENTRIES STATEMENT_ROOM) top_next Syntax turns c.loop.counter c.loop.entries.items (ahead c.loop.rest) c.in_ok-one.one c.in-End.trailing (ahead c.in_ok-one.behind) (ahead c.in_ok-next.after) _ lt c.in_ok-one.ensures (rw c.in-End.is at c.in_ok-next.ensures) c.loop.invariant.total)
 
 pub loop-preserved : goal.loop-preserved
 loop-preserved c =
@@ -38,12 +37,11 @@ loop-preserved c =
     let turns = length (ahead c.args.cursor) in
     let lt : c.loop.counter < turns = omega (arith, c.len-end.ensures) in
     record {
-      total = rw pushed (more top_of (top MAX_ENTRIES STATEMENT_ROOM) top_next Syntax turns c.loop.counter c.loop.entries.items (ahead c.loop.rest) c.in_ok-one.one (ahead c.in_ok-one.behind) (ahead c.in_ok-next.after) _ lt c.in_ok-one.ensures.top (rw c.in-More.is at c.in_ok-next.ensures) c.loop.invariant.total);
-      nodes = rw pushed (omega (arith, sum_by-pushed top_of top_size c.loop.entries.items c.in_ok-one.one, c.loop.invariant.nodes, c.in_ok-one.ensures.nodes));
+      total = rw pushed (more top_of (top MAX_ENTRIES STATEMENT_ROOM) top_next Syntax turns c.loop.counter c.loop.entries.items (ahead c.loop.rest) c.in_ok-one.one (ahead c.in_ok-one.behind) (ahead c.in_ok-next.after) _ lt c.in_ok-one.ensures (rw c.in-More.is at c.in_ok-next.ensures) c.loop.invariant.total);
     }
 
-pub returns-clause-tops : goal.returns-clause-tops
-returns-clause-tops c =
+pub returns : goal.returns
+returns c =
     let turns = length (ahead c.args.cursor) in
     let le : turns ≤ c.loop.counter = omega (arith, c.len-end.ensures) in
     is_full (top MAX_ENTRIES STATEMENT_ROOM) top_next Syntax turns c.loop.counter _ (ahead c.loop.rest) _ le c.loop.invariant.total

@@ -1,5 +1,4 @@
-use Rattle.std.proofs.Common.{◌≡◌, ◌-◌, ◌+◌, map, length, sum_by, vec_len}
-use Rattle.syntax.specs.Measures.{top_size}
+use Rattle.std.proofs.Common.{◌≡◌, ◌-◌, map, length}
 use Rattle.syntax.specs.View.{top_of}
 use Rattle.syntax.specs.declared.limits.TheConstants.{MAX_ENTRIES}
 use Rattle.parser.specs.declared.top.TheConstants.{STATEMENT_ROOM}
@@ -12,5 +11,4 @@ use Rattle.parser.proofs.file.declaration_list.Given as goal
 abbrev pub invariant-loop : goal.invariant-loop
 invariant-loop l = record {
   total : with_front (map top_of l.entries.items) (listed (top MAX_ENTRIES STATEMENT_ROOM) top_next Syntax (length (ahead l.fn.cursor) - l.counter) (ahead l.rest)) ≡ listed (top MAX_ENTRIES STATEMENT_ROOM) top_next Syntax (length (ahead l.fn.cursor)) (ahead l.fn.cursor);
-  nodes : vec_len l.spans ≡ vec_len l.fn.spans + sum_by top_size (map top_of l.entries.items);
 }

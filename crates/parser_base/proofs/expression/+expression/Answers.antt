@@ -1,13 +1,12 @@
 use Rattle.std.proofs.Common.{◌-◌, ◌<◌, ◌≤◌, is_ok, map, ap, sym, arith}
 use Rattle.std.proofs.ResultArms.{chosen}
 use Rattle.std.proofs.lemmas.Result.{err_from_is_err_and}
-use Rattle.syntax.specs.Measures.{Entries, expression_height, expression_size}
+use Rattle.syntax.specs.Measures.{Entries, expression_height}
 use Rattle.syntax.specs.View.{expression_of}
-use Rattle.syntax.specs.declared.node.ExpressionNode.{ExpressionNode}
-use Rattle.syntax.proofs.Lists.{expressions_height-of, expressions_size-of}
+use Rattle.syntax.proofs.Lists.{expressions_height-of}
 use Rattle.parser_base.specs.Cursor.{ahead}
 use Rattle.parser_base.specs.Reading.{TooMany, value_next, expression}
-use Rattle.parser_base.proofs.Lists.{more, ends, one_fails, next_fails, is_full, sum_by-pushed, highest-pushed}
+use Rattle.parser_base.proofs.Lists.{more, ends, one_fails, next_fails, is_full, highest-pushed}
 use Rattle.parser_base.proofs.Operations.{opens, turn_stops, turn_too_high, turn_done, turn_fails}
 use Rattle.parser_base.proofs.expression.+expression.Goals as goal
 
@@ -16,11 +15,7 @@ applied-returns-in-Period-clause-tree t c = rw c.in-Period.is (c.selection.ensur
 
 pub composite_literal-returns-clause-height : goal.composite_literal-returns-clause-height
 composite_literal-returns-clause-height t c =
-    omega (arith, ap (λ (node : ExpressionNode). expression_height (expression_of node)) c.in_ok-with_span.ensures.node, ap expression_height c.in_ok-node.ensures.ok, expressions_height-of (map expression_of c.in_ok-values.values.entries.items), c.in_ok-values.ensures.height)
-
-pub composite_literal-returns-clause-nodes : goal.composite_literal-returns-clause-nodes
-composite_literal-returns-clause-nodes t c =
-    omega (arith, ap (λ (node : ExpressionNode). expression_size (expression_of node)) c.in_ok-with_span.ensures.node, ap expression_size c.in_ok-node.ensures.ok, expressions_size-of (map expression_of c.in_ok-values.values.entries.items), c.in_ok-values.ensures.nodes, c.in_ok-with_span.ensures.nodes)
+    omega (arith, ap expression_height c.in_ok-node.ensures.ok, expressions_height-of (map expression_of c.in_ok-values.values.entries.items), c.in_ok-values.ensures.height)
 
 pub measured_expression-loop-init : goal.measured_expression-loop-init
 measured_expression-loop-init t c = record {
@@ -28,7 +23,6 @@ measured_expression-loop-init t c = record {
   height = c.in_ok-left.ensures.height;
   leaf = c.in_ok-left.ensures.leaf;
   within = c.in_ok-left.ensures.within;
-  nodes = c.in_ok-left.ensures.nodes;
 }
 
 pub measured_expression-returns-in_default-clause-tree : goal.measured_expression-returns-in_default-clause-tree
@@ -54,7 +48,6 @@ measured_expression-loop-preserved t c =
       height = c.in_ok-left-2.ensures.height;
       leaf = c.in_ok-left-2.ensures.leaf;
       within = c.in_ok-left-2.ensures.within;
-      nodes = omega (arith, c.loop.invariant.nodes, c.in_ok-left-2.ensures.nodes);
     }
 
 pub expression_list-returns-in_err-found-clause-values : goal.expression_list-returns-in_err-found-clause-values
@@ -84,7 +77,6 @@ expression_list-loop-preserved t c =
       total = rw pushed (more expression_of (expression c.args.literals 64 c.args.room 0) (value_next c.args.close) (TooMany Entries) 64 c.loop.counter c.loop.entries.items (ahead c.loop.rest) c.in_ok-found.found.node (ahead c.in_ok-found.found.rest) (ahead c.in_ok-next.after) _ c.loop-test.true c.in_ok-found.ensures.tree (rw c.in-More.is at c.in_ok-next.ensures) c.loop.invariant.total);
       height = rw pushed (omega (arith, highest-pushed expression_of expression_height c.loop.entries.items c.in_ok-found.found.node, c.loop.invariant.height, c.in_ok-found.ensures.height, c.max-height.ensures));
       within = omega (arith, c.loop.invariant.within, c.in_ok-found.ensures.within, c.max-height.ensures);
-      nodes = rw pushed (omega (arith, sum_by-pushed expression_of expression_size c.loop.entries.items c.in_ok-found.found.node, c.loop.invariant.nodes, c.in_ok-found.ensures.nodes));
     }
 
 pub expression_list-returns-clause-values : goal.expression_list-returns-clause-values

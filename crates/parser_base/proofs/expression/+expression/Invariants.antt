@@ -1,5 +1,5 @@
-use Rattle.std.proofs.Common.{◌≡◌, ◌≤◌, ◌-◌, ◌+◌, ◌*◌, map, sum_by, vec_len}
-use Rattle.syntax.specs.Measures.{Entries, highest, expression_height, expression_size}
+use Rattle.std.proofs.Common.{◌≡◌, ◌≤◌, ◌-◌, ◌+◌, ◌*◌, map}
+use Rattle.syntax.specs.Measures.{Entries, highest, expression_height}
 use Rattle.syntax.specs.View.{expression_of}
 use Rattle.parser_base.specs.Cursor.{ahead}
 use Rattle.parser_base.specs.Reading.{TooMany, value_next, listed, expression, operations}
@@ -42,7 +42,6 @@ invariant-measured_expression-loop l = record {
   height : l.left.height ≡ expression_height (expression_of l.left.node);
   leaf : 1 ≤ l.left.height;
   within : l.left.height ≤ l.room;
-  nodes : vec_len l.spans ≡ vec_len l.fn.spans + expression_size (expression_of l.left.node);
 }
 
 abbrev pub invariant-expression_list-loop : goal.invariant-expression_list-loop
@@ -50,5 +49,4 @@ invariant-expression_list-loop l = record {
   total : with_front (map expression_of l.entries.items) (listed (expression l.literals 64 l.room 0) (value_next l.close) (TooMany Entries) (64 - l.counter) (ahead l.rest)) ≡ listed (expression l.literals 64 l.room 0) (value_next l.close) (TooMany Entries) 64 (ahead l.fn.cursor);
   height : l.height ≡ highest expression_height (map expression_of l.entries.items);
   within : l.height ≤ l.room;
-  nodes : vec_len l.spans ≡ vec_len l.fn.spans + sum_by expression_size (map expression_of l.entries.items);
 }

@@ -1,4 +1,4 @@
-use Rattle.std.proofs.Common.{◌≡◌, ◌-◌, ◌+◌, map, length, vec_len}
+use Rattle.std.proofs.Common.{◌≡◌, ◌-◌, map}
 use Rattle.syntax.specs.View.{place_of}
 use Rattle.parser_base.specs.Cursor.{ahead}
 use Rattle.parser_base.specs.Reading.{listed}
@@ -12,5 +12,4 @@ use Rattle.parser_simple.proofs.place.places.Given as goal
 abbrev pub invariant-loop : goal.invariant-loop
 invariant-loop l = record {
   total : with_front (map place_of l.entries.items) (listed (place) (separator_next begins_name kinds.Comma) (TooMany Entries) (64 - l.counter) (ahead l.rest)) ≡ listed (place) (separator_next begins_name kinds.Comma) (TooMany Entries) (64) (ahead l.fn.cursor);
-  nodes : vec_len l.spans ≡ vec_len l.fn.spans + length (map place_of l.entries.items);
 }

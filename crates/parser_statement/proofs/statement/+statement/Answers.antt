@@ -1,80 +1,52 @@
-use Rattle.std.proofs.Common.{◌≤◌, ◌<◌, ◌∙◌, length, is_ok, map, ap, arith, Option, option_map}
+use Rattle.std.proofs.Common.{◌≤◌, ◌<◌, length, is_ok, map, ap, arith}
 use Rattle.std.proofs.ResultArms.{chosen}
 use Rattle.std.proofs.lemmas.Result.{err_from_is_err_and}
-use Rattle.syntax.specs.Tree.{statements}
-use Rattle.syntax.specs.Measures.{SelectClauses, if_any, comm_size, statement_size, statements_size}
-use Rattle.syntax.specs.View.{comm_of, statement_of}
-use Rattle.syntax.specs.declared.node.ClauseNode.{ClauseNode}
-use Rattle.syntax.specs.declared.node.CommNode.{CommNode}
-use Rattle.syntax.specs.declared.node.StatementNode.{StatementNode}
-use Rattle.syntax.proofs.Lists.{statements_size-of}
-use Rattle.parser_base.specs.declared.list.List.{List}
+use Rattle.syntax.specs.Measures.{SelectClauses}
+use Rattle.syntax.specs.View.{statement_of}
 use Rattle.syntax.specs.declared.limits.TheConstants.{MAX_CLAUSES, MAX_ENTRIES}
 use Rattle.parser_base.specs.Cursor.{ahead}
 use Rattle.parser_base.specs.Reading.{Syntax, TooMany}
-use Rattle.parser_base.proofs.Lists.{more, ends, one_fails, next_fails, is_full, sum_by-pushed}
+use Rattle.parser_base.proofs.Lists.{more, ends, one_fails, next_fails, is_full}
 use Rattle.parser_statement.specs.Reading.{statement, statement_next, clause, clause_next, clauses_next}
-use Rattle.parser_statement.specs.Views.{clause_of, one_clause_size}
-use Rattle.parser_statement.proofs.StatementLists.{clauses_size-of}
+use Rattle.parser_statement.specs.Views.{clause_of}
 use Rattle.parser_statement.proofs.Rooms.{statement_begins, clause_begins, block_done, block_fails}
 use Rattle.parser_statement.proofs.statement.+statement.Goals as goal
 
-pub statement-returns-clause-statement : goal.statement-returns-clause-statement
-statement-returns-clause-statement t c = rw (statement_begins MAX_ENTRIES c.args.room (ahead c.args.cursor) (omega arith)) c.statement_below.ensures.statement
+pub statement-returns : goal.statement-returns
+statement-returns t c = rw (statement_begins MAX_ENTRIES c.args.room (ahead c.args.cursor) (omega arith)) c.statement_below.ensures
 
-pub comm_clause-returns-clause-clause : goal.comm_clause-returns-clause-clause
-comm_clause-returns-clause-clause t c = rw (clause_begins MAX_ENTRIES c.args.room (ahead c.args.cursor) (omega arith)) c.comm_clause_below.ensures.clause
+pub comm_clause-returns : goal.comm_clause-returns
+comm_clause-returns t c = rw (clause_begins MAX_ENTRIES c.args.room (ahead c.args.cursor) (omega arith)) c.comm_clause_below.ensures
 
-pub block-returns-in_err-all-clause-block : goal.block-returns-in_err-all-clause-block
-block-returns-in_err-all-clause-block t c =
+pub block-returns-in_err-all : goal.block-returns-in_err-all
+block-returns-in_err-all t c =
     let p = err_from_is_err_and c.from_residual-in_err-all.result c.from_residual-in_err-all.ensures.1 in
-    rw (p.1, p.2) (block_fails c.in_err-all.field-0.0 MAX_ENTRIES c.args.room (ahead c.args.cursor) (ahead c.in_ok-first.rest) (omega arith) c.in_ok-first.ensures c.in_err-all.ensures.statements)
+    rw (p.1, p.2) (block_fails c.in_err-all.field-0.0 MAX_ENTRIES c.args.room (ahead c.args.cursor) (ahead c.in_ok-rest.rest) (omega arith) c.in_ok-rest.ensures c.in_err-all.ensures)
 
-pub block-returns-clause-block : goal.block-returns-clause-block
-block-returns-clause-block t c =
-    rw c.in_ok-with_span.ensures.node (block_done MAX_ENTRIES c.args.room (ahead c.args.cursor) (ahead c.in_ok-first.rest) (map statement_of c.in_ok-all.all.entries.items) c.in_ok-all.all.trailing (ahead c.in_ok-all.all.rest) (omega arith) c.in_ok-first.ensures c.in_ok-all.ensures.statements)
+pub block-returns : goal.block-returns
+block-returns t c =
+    block_done MAX_ENTRIES c.args.room (ahead c.args.cursor) (ahead c.in_ok-rest.rest) (map statement_of c.in_ok-all.all.entries.items) c.in_ok-all.all.trailing (ahead c.in_ok-all.all.rest) (omega arith) c.in_ok-rest.ensures c.in_ok-all.ensures
 
-pub block-returns-clause-nodes : goal.block-returns-clause-nodes
-block-returns-clause-nodes t c = omega (arith, ap (λ (all : List StatementNode). statements_size (statements (map statement_of all.entries.items))) c.in_ok-with_span.ensures.node, statements_size-of (map statement_of c.in_ok-all.all.entries.items), c.in_ok-all.ensures.nodes, c.in_ok-with_span.ensures.nodes)
-
-pub clause_body-returns-clause-nodes : goal.clause_body-returns-clause-nodes
-clause_body-returns-clause-nodes t c =
-    let waits = c.in_ok-waits-2.ensures.ok.0 ∙ c.in_ok-waits.ensures.ok.0 in
-    omega (
-      arith,
-      ap (λ (one : ClauseNode). one_clause_size (clause_of one)) c.in_ok-with_span.ensures.node,
-      ap (if_any comm_size) c.clause_node.ensures.comm,
-      ap statements_size c.clause_node.ensures.body,
-      statements_size-of (map statement_of c.in_ok-waits-2.body.items),
-      ap (λ (x : Option CommNode). if_any comm_size (option_map comm_of x)) waits,
-      rw c.in_ok-waits-2.ensures.ok.1 at c.clause_statement_list.ensures.nodes,
-      c.in_ok-with_span.ensures.nodes,
-    )
-
-pub select_statement-returns-clause-nodes : goal.select_statement-returns-clause-nodes
-select_statement-returns-clause-nodes t c =
-    omega (arith, ap (λ (node : StatementNode). statement_size (statement_of node)) c.in_ok-node-2.ensures.node, ap statement_size c.select_node-2.ensures, clauses_size-of (map clause_of c.in_ok-all.all.entries.items), c.in_ok-all.ensures.nodes, c.in_ok-node-2.ensures.nodes)
-
-pub statement_list-returns-in_err-one-clause-statements : goal.statement_list-returns-in_err-one-clause-statements
-statement_list-returns-in_err-one-clause-statements t c =
+pub statement_list-returns-in_err-one : goal.statement_list-returns-in_err-one
+statement_list-returns-in_err-one t c =
     let p = err_from_is_err_and c.from_residual.result c.from_residual.ensures.1 in
     let turns = length (ahead c.args.cursor) in
     let lt : c.loop.counter < turns = omega (arith, c.len-end.ensures) in
-    rw (p.1, p.2) (one_fails c.in_err-one.field-0.0 (statement MAX_ENTRIES c.args.room) statement_next Syntax turns c.loop.counter _ (ahead c.loop.rest) _ lt c.in_err-one.ensures.statement c.loop.invariant.total)
+    rw (p.1, p.2) (one_fails c.in_err-one.field-0.0 (statement MAX_ENTRIES c.args.room) statement_next Syntax turns c.loop.counter _ (ahead c.loop.rest) _ lt c.in_err-one.ensures c.loop.invariant.total)
 
-pub statement_list-returns-in_err-next-clause-statements : goal.statement_list-returns-in_err-next-clause-statements
-statement_list-returns-in_err-next-clause-statements t c =
+pub statement_list-returns-in_err-next : goal.statement_list-returns-in_err-next
+statement_list-returns-in_err-next t c =
     let p = err_from_is_err_and c.from_residual-in_err-next.result c.from_residual-in_err-next.ensures.1 in
     let turns = length (ahead c.args.cursor) in
     let lt : c.loop.counter < turns = omega (arith, c.len-end.ensures) in
-    rw (p.1, p.2) (next_fails c.in_err-next.field-0.0 (statement MAX_ENTRIES c.args.room) statement_next Syntax turns c.loop.counter _ (ahead c.loop.rest) (statement_of c.in_ok-one.one) (ahead c.in_ok-one.behind) _ lt c.in_ok-one.ensures.statement c.in_err-next.ensures c.loop.invariant.total)
+    rw (p.1, p.2) (next_fails c.in_err-next.field-0.0 (statement MAX_ENTRIES c.args.room) statement_next Syntax turns c.loop.counter _ (ahead c.loop.rest) (statement_of c.in_ok-one.one) (ahead c.in_ok-one.behind) _ lt c.in_ok-one.ensures c.in_err-next.ensures c.loop.invariant.total)
 
-pub statement_list-returns-in-End-clause-statements : goal.statement_list-returns-in-End-clause-statements
-statement_list-returns-in-End-clause-statements t c =
+pub statement_list-returns-in-End : goal.statement_list-returns-in-End
+statement_list-returns-in-End t c =
     let pushed = chosen _ _ _ _ c.push.ensures.items (ap is_ok c.in_ok-push.was) in
     let turns = length (ahead c.args.cursor) in
     let lt : c.loop.counter < turns = omega (arith, c.len-end.ensures) in
-    rw pushed (ends statement_of (statement MAX_ENTRIES c.args.room) statement_next Syntax turns c.loop.counter c.loop.entries.items (ahead c.loop.rest) c.in_ok-one.one c.in-End.trailing (ahead c.in_ok-one.behind) (ahead c.in_ok-next.after) _ lt c.in_ok-one.ensures.statement (rw c.in-End.is at c.in_ok-next.ensures) c.loop.invariant.total)
+    rw pushed (ends statement_of (statement MAX_ENTRIES c.args.room) statement_next Syntax turns c.loop.counter c.loop.entries.items (ahead c.loop.rest) c.in_ok-one.one c.in-End.trailing (ahead c.in_ok-one.behind) (ahead c.in_ok-next.after) _ lt c.in_ok-one.ensures (rw c.in-End.is at c.in_ok-next.ensures) c.loop.invariant.total)
 
 pub statement_list-loop-preserved : goal.statement_list-loop-preserved
 statement_list-loop-preserved t c =
@@ -82,36 +54,35 @@ statement_list-loop-preserved t c =
     let turns = length (ahead c.args.cursor) in
     let lt : c.loop.counter < turns = omega (arith, c.len-end.ensures) in
     record {
-      total = rw pushed (more statement_of (statement MAX_ENTRIES c.args.room) statement_next Syntax turns c.loop.counter c.loop.entries.items (ahead c.loop.rest) c.in_ok-one.one (ahead c.in_ok-one.behind) (ahead c.in_ok-next.after) _ lt c.in_ok-one.ensures.statement (rw c.in-More.is at c.in_ok-next.ensures) c.loop.invariant.total);
-      nodes = rw pushed (omega (arith, sum_by-pushed statement_of statement_size c.loop.entries.items c.in_ok-one.one, c.loop.invariant.nodes, c.in_ok-one.ensures.nodes));
+      total = rw pushed (more statement_of (statement MAX_ENTRIES c.args.room) statement_next Syntax turns c.loop.counter c.loop.entries.items (ahead c.loop.rest) c.in_ok-one.one (ahead c.in_ok-one.behind) (ahead c.in_ok-next.after) _ lt c.in_ok-one.ensures (rw c.in-More.is at c.in_ok-next.ensures) c.loop.invariant.total);
     }
 
-pub statement_list-returns-clause-statements : goal.statement_list-returns-clause-statements
-statement_list-returns-clause-statements t c =
+pub statement_list-returns : goal.statement_list-returns
+statement_list-returns t c =
     let turns = length (ahead c.args.cursor) in
     let le : turns ≤ c.loop.counter = omega (arith, c.len-end.ensures) in
     is_full (statement MAX_ENTRIES c.args.room) statement_next Syntax turns c.loop.counter _ (ahead c.loop.rest) _ le c.loop.invariant.total
 
-pub clause_statement_list-returns-in_err-one-clause-statements : goal.clause_statement_list-returns-in_err-one-clause-statements
-clause_statement_list-returns-in_err-one-clause-statements t c =
+pub clause_statement_list-returns-in_err-one : goal.clause_statement_list-returns-in_err-one
+clause_statement_list-returns-in_err-one t c =
     let p = err_from_is_err_and c.from_residual.result c.from_residual.ensures.1 in
     let turns = length (ahead c.args.cursor) in
     let lt : c.loop.counter < turns = omega (arith, c.len-end.ensures) in
-    rw (p.1, p.2) (one_fails c.in_err-one.field-0.0 (statement MAX_ENTRIES c.args.room) clause_next Syntax turns c.loop.counter _ (ahead c.loop.rest) _ lt c.in_err-one.ensures.statement c.loop.invariant.total)
+    rw (p.1, p.2) (one_fails c.in_err-one.field-0.0 (statement MAX_ENTRIES c.args.room) clause_next Syntax turns c.loop.counter _ (ahead c.loop.rest) _ lt c.in_err-one.ensures c.loop.invariant.total)
 
-pub clause_statement_list-returns-in_err-next-clause-statements : goal.clause_statement_list-returns-in_err-next-clause-statements
-clause_statement_list-returns-in_err-next-clause-statements t c =
+pub clause_statement_list-returns-in_err-next : goal.clause_statement_list-returns-in_err-next
+clause_statement_list-returns-in_err-next t c =
     let p = err_from_is_err_and c.from_residual-in_err-next.result c.from_residual-in_err-next.ensures.1 in
     let turns = length (ahead c.args.cursor) in
     let lt : c.loop.counter < turns = omega (arith, c.len-end.ensures) in
-    rw (p.1, p.2) (next_fails c.in_err-next.field-0.0 (statement MAX_ENTRIES c.args.room) clause_next Syntax turns c.loop.counter _ (ahead c.loop.rest) (statement_of c.in_ok-one.one) (ahead c.in_ok-one.behind) _ lt c.in_ok-one.ensures.statement c.in_err-next.ensures c.loop.invariant.total)
+    rw (p.1, p.2) (next_fails c.in_err-next.field-0.0 (statement MAX_ENTRIES c.args.room) clause_next Syntax turns c.loop.counter _ (ahead c.loop.rest) (statement_of c.in_ok-one.one) (ahead c.in_ok-one.behind) _ lt c.in_ok-one.ensures c.in_err-next.ensures c.loop.invariant.total)
 
-pub clause_statement_list-returns-in-End-clause-statements : goal.clause_statement_list-returns-in-End-clause-statements
-clause_statement_list-returns-in-End-clause-statements t c =
+pub clause_statement_list-returns-in-End : goal.clause_statement_list-returns-in-End
+clause_statement_list-returns-in-End t c =
     let pushed = chosen _ _ _ _ c.push.ensures.items (ap is_ok c.in_ok-push.was) in
     let turns = length (ahead c.args.cursor) in
     let lt : c.loop.counter < turns = omega (arith, c.len-end.ensures) in
-    rw pushed (ends statement_of (statement MAX_ENTRIES c.args.room) clause_next Syntax turns c.loop.counter c.loop.entries.items (ahead c.loop.rest) c.in_ok-one.one c.in-End.trailing (ahead c.in_ok-one.behind) (ahead c.in_ok-next.after) _ lt c.in_ok-one.ensures.statement (rw c.in-End.is at c.in_ok-next.ensures) c.loop.invariant.total)
+    rw pushed (ends statement_of (statement MAX_ENTRIES c.args.room) clause_next Syntax turns c.loop.counter c.loop.entries.items (ahead c.loop.rest) c.in_ok-one.one c.in-End.trailing (ahead c.in_ok-one.behind) (ahead c.in_ok-next.after) _ lt c.in_ok-one.ensures (rw c.in-End.is at c.in_ok-next.ensures) c.loop.invariant.total)
 
 pub clause_statement_list-loop-preserved : goal.clause_statement_list-loop-preserved
 clause_statement_list-loop-preserved t c =
@@ -119,38 +90,36 @@ clause_statement_list-loop-preserved t c =
     let turns = length (ahead c.args.cursor) in
     let lt : c.loop.counter < turns = omega (arith, c.len-end.ensures) in
     record {
-      total = rw pushed (more statement_of (statement MAX_ENTRIES c.args.room) clause_next Syntax turns c.loop.counter c.loop.entries.items (ahead c.loop.rest) c.in_ok-one.one (ahead c.in_ok-one.behind) (ahead c.in_ok-next.after) _ lt c.in_ok-one.ensures.statement (rw c.in-More.is at c.in_ok-next.ensures) c.loop.invariant.total);
-      nodes = rw pushed (omega (arith, sum_by-pushed statement_of statement_size c.loop.entries.items c.in_ok-one.one, c.loop.invariant.nodes, c.in_ok-one.ensures.nodes));
+      total = rw pushed (more statement_of (statement MAX_ENTRIES c.args.room) clause_next Syntax turns c.loop.counter c.loop.entries.items (ahead c.loop.rest) c.in_ok-one.one (ahead c.in_ok-one.behind) (ahead c.in_ok-next.after) _ lt c.in_ok-one.ensures (rw c.in-More.is at c.in_ok-next.ensures) c.loop.invariant.total);
     }
 
-pub clause_statement_list-returns-clause-statements : goal.clause_statement_list-returns-clause-statements
-clause_statement_list-returns-clause-statements t c =
+pub clause_statement_list-returns : goal.clause_statement_list-returns
+clause_statement_list-returns t c =
     let turns = length (ahead c.args.cursor) in
     let le : turns ≤ c.loop.counter = omega (arith, c.len-end.ensures) in
     is_full (statement MAX_ENTRIES c.args.room) clause_next Syntax turns c.loop.counter _ (ahead c.loop.rest) _ le c.loop.invariant.total
 
-pub comm_clauses-returns-in_err-one-clause-clauses : goal.comm_clauses-returns-in_err-one-clause-clauses
-comm_clauses-returns-in_err-one-clause-clauses t c =
+pub comm_clauses-returns-in_err-one : goal.comm_clauses-returns-in_err-one
+comm_clauses-returns-in_err-one t c =
     let p = err_from_is_err_and c.from_residual.result c.from_residual.ensures.1 in
-    rw (p.1, p.2) (one_fails c.in_err-one.field-0.0 (clause MAX_ENTRIES c.args.room) clauses_next (TooMany SelectClauses) MAX_CLAUSES c.loop.counter _ (ahead c.loop.rest) _ c.loop-test.true c.in_err-one.ensures.clause c.loop.invariant.total)
+    rw (p.1, p.2) (one_fails c.in_err-one.field-0.0 (clause MAX_ENTRIES c.args.room) clauses_next (TooMany SelectClauses) MAX_CLAUSES c.loop.counter _ (ahead c.loop.rest) _ c.loop-test.true c.in_err-one.ensures c.loop.invariant.total)
 
-pub comm_clauses-returns-in_err-next-clause-clauses : goal.comm_clauses-returns-in_err-next-clause-clauses
-comm_clauses-returns-in_err-next-clause-clauses t c =
+pub comm_clauses-returns-in_err-next : goal.comm_clauses-returns-in_err-next
+comm_clauses-returns-in_err-next t c =
     let p = err_from_is_err_and c.from_residual-in_err-next.result c.from_residual-in_err-next.ensures.1 in
-    rw (p.1, p.2) (next_fails c.in_err-next.field-0.0 (clause MAX_ENTRIES c.args.room) clauses_next (TooMany SelectClauses) MAX_CLAUSES c.loop.counter _ (ahead c.loop.rest) (clause_of c.in_ok-one.one) (ahead c.in_ok-one.behind) _ c.loop-test.true c.in_ok-one.ensures.clause c.in_err-next.ensures c.loop.invariant.total)
+    rw (p.1, p.2) (next_fails c.in_err-next.field-0.0 (clause MAX_ENTRIES c.args.room) clauses_next (TooMany SelectClauses) MAX_CLAUSES c.loop.counter _ (ahead c.loop.rest) (clause_of c.in_ok-one.one) (ahead c.in_ok-one.behind) _ c.loop-test.true c.in_ok-one.ensures c.in_err-next.ensures c.loop.invariant.total)
 
-pub comm_clauses-returns-in-End-clause-clauses : goal.comm_clauses-returns-in-End-clause-clauses
-comm_clauses-returns-in-End-clause-clauses t c =
+pub comm_clauses-returns-in-End : goal.comm_clauses-returns-in-End
+comm_clauses-returns-in-End t c =
     let pushed = chosen _ _ _ _ c.push.ensures.items (ap is_ok c.in_ok-push.was) in
-    rw pushed (ends clause_of (clause MAX_ENTRIES c.args.room) clauses_next (TooMany SelectClauses) MAX_CLAUSES c.loop.counter c.loop.entries.items (ahead c.loop.rest) c.in_ok-one.one c.in-End.trailing (ahead c.in_ok-one.behind) (ahead c.in_ok-next.after) _ c.loop-test.true c.in_ok-one.ensures.clause (rw c.in-End.is at c.in_ok-next.ensures) c.loop.invariant.total)
+    rw pushed (ends clause_of (clause MAX_ENTRIES c.args.room) clauses_next (TooMany SelectClauses) MAX_CLAUSES c.loop.counter c.loop.entries.items (ahead c.loop.rest) c.in_ok-one.one c.in-End.trailing (ahead c.in_ok-one.behind) (ahead c.in_ok-next.after) _ c.loop-test.true c.in_ok-one.ensures (rw c.in-End.is at c.in_ok-next.ensures) c.loop.invariant.total)
 
 pub comm_clauses-loop-preserved : goal.comm_clauses-loop-preserved
 comm_clauses-loop-preserved t c =
     let pushed = chosen _ _ _ _ c.push.ensures.items (ap is_ok c.in_ok-push.was) in
     record {
-      total = rw pushed (more clause_of (clause MAX_ENTRIES c.args.room) clauses_next (TooMany SelectClauses) MAX_CLAUSES c.loop.counter c.loop.entries.items (ahead c.loop.rest) c.in_ok-one.one (ahead c.in_ok-one.behind) (ahead c.in_ok-next.after) _ c.loop-test.true c.in_ok-one.ensures.clause (rw c.in-More.is at c.in_ok-next.ensures) c.loop.invariant.total);
-      nodes = rw pushed (omega (arith, sum_by-pushed clause_of one_clause_size c.loop.entries.items c.in_ok-one.one, c.loop.invariant.nodes, c.in_ok-one.ensures.nodes));
+      total = rw pushed (more clause_of (clause MAX_ENTRIES c.args.room) clauses_next (TooMany SelectClauses) MAX_CLAUSES c.loop.counter c.loop.entries.items (ahead c.loop.rest) c.in_ok-one.one (ahead c.in_ok-one.behind) (ahead c.in_ok-next.after) _ c.loop-test.true c.in_ok-one.ensures (rw c.in-More.is at c.in_ok-next.ensures) c.loop.invariant.total);
     }
 
-pub comm_clauses-returns-clause-clauses : goal.comm_clauses-returns-clause-clauses
-comm_clauses-returns-clause-clauses t c = is_full (clause MAX_ENTRIES c.args.room) clauses_next (TooMany SelectClauses) MAX_CLAUSES c.loop.counter _ (ahead c.loop.rest) _ c.loop-test.false c.loop.invariant.total
+pub comm_clauses-returns : goal.comm_clauses-returns
+comm_clauses-returns t c = is_full (clause MAX_ENTRIES c.args.room) clauses_next (TooMany SelectClauses) MAX_CLAUSES c.loop.counter _ (ahead c.loop.rest) _ c.loop-test.false c.loop.invariant.total

@@ -1,12 +1,12 @@
-use Rattle.std.proofs.Common.{◌≡◌, ◌-◌, ◌+◌, ◌*◌, map, length, sum_by, vec_len}
-use Rattle.syntax.specs.Measures.{SelectClauses, statement_size}
+use Rattle.std.proofs.Common.{◌≡◌, ◌-◌, ◌+◌, ◌*◌, map, length}
+use Rattle.syntax.specs.Measures.{SelectClauses}
 use Rattle.syntax.specs.View.{statement_of}
 use Rattle.syntax.specs.declared.limits.TheConstants.{MAX_CLAUSES, MAX_ENTRIES}
 use Rattle.parser_base.specs.Cursor.{ahead}
 use Rattle.parser_base.specs.Reading.{Syntax, TooMany, listed}
 use Rattle.parser_base.proofs.Lists.{with_front}
 use Rattle.parser_statement.specs.Reading.{statement, statement_next, clause, clause_next, clauses_next}
-use Rattle.parser_statement.specs.Views.{clause_of, one_clause_size}
+use Rattle.parser_statement.specs.Views.{clause_of}
 use Rattle.parser_statement.proofs.statement.+statement.Given as goal
 
 abbrev pub decreases-statement : goal.decreases-statement
@@ -57,17 +57,14 @@ decreases-select_statement l = 8 * l.room + 2
 abbrev pub invariant-statement_list-loop : goal.invariant-statement_list-loop
 invariant-statement_list-loop l = record {
   total : with_front (map statement_of l.entries.items) (listed (statement MAX_ENTRIES l.room) statement_next Syntax (length (ahead l.fn.cursor) - l.counter) (ahead l.rest)) ≡ listed (statement MAX_ENTRIES l.room) statement_next Syntax (length (ahead l.fn.cursor)) (ahead l.fn.cursor);
-  nodes : vec_len l.spans ≡ vec_len l.fn.spans + sum_by statement_size (map statement_of l.entries.items);
 }
 
 abbrev pub invariant-clause_statement_list-loop : goal.invariant-clause_statement_list-loop
 invariant-clause_statement_list-loop l = record {
   total : with_front (map statement_of l.entries.items) (listed (statement MAX_ENTRIES l.room) clause_next Syntax (length (ahead l.fn.cursor) - l.counter) (ahead l.rest)) ≡ listed (statement MAX_ENTRIES l.room) clause_next Syntax (length (ahead l.fn.cursor)) (ahead l.fn.cursor);
-  nodes : vec_len l.spans ≡ vec_len l.fn.spans + sum_by statement_size (map statement_of l.entries.items);
 }
 
 abbrev pub invariant-comm_clauses-loop : goal.invariant-comm_clauses-loop
 invariant-comm_clauses-loop l = record {
   total : with_front (map clause_of l.entries.items) (listed (clause MAX_ENTRIES l.room) clauses_next (TooMany SelectClauses) (MAX_CLAUSES - l.counter) (ahead l.rest)) ≡ listed (clause MAX_ENTRIES l.room) clauses_next (TooMany SelectClauses) MAX_CLAUSES (ahead l.fn.cursor);
-  nodes : vec_len l.spans ≡ vec_len l.fn.spans + sum_by one_clause_size (map clause_of l.entries.items);
 }

@@ -1,0 +1,228 @@
+//! Where the nodes of simple statements stand.
+
+ghost use Rattle.std.specs.Prelude.{◌≡◌, ◌++◌, IfOk, IfErr, map, option_map, sum_by};
+ghost use Rattle.go_text.specs.declared.fault.Fault.TheVariants as faults;
+ghost use Rattle.syntax.specs.View.{arguments_of, expression_of, operation_of, right_of, part_of, place_of, simple_of};
+ghost use Rattle.spans.specs.Words.{EndsInReach, joined, arguments_count, size_count, operation_count, right_count, place_count, place_step, part_count, part_step, simple_count};
+ghost use Rattle.spans.specs.Places.{under, arguments_spans, size_spans, operation_spans, right_spans, place_span, places_spans, part_spans, parts_spans, below_simple, simple_spans};
+
+use crate::expression::{expression_spans, trailing_count, values_spans};
+use crate::over::add_node;
+use crate::types::type_spans;
+use go_text::{Fault, Span};
+use scanner::Token;
+use syntax::{
+    ArgumentsNode, ExpressionNode, OperationNode, PartNode, PlaceNode, RightNode, SimpleNode,
+};
+
+/// Adds the spans of arguments in parentheses.
+pub(crate) fn arguments_spans(
+    arguments: &ArgumentsNode,
+    tokens: &[Token],
+    at: usize,
+    spans: &mut Vec<Span>,
+) -> Result<usize, Fault>
+    requires { EndsInReach at (arguments_count (arguments_of arguments.now)) }
+    ensures count { IfOk result (λ count. count ≡ arguments_count (arguments_of arguments.now)) }
+    ensures spans { IfOk result (λ _. spans.new.items ≡ spans.old.items ++ arguments_spans tokens.now at (arguments_of arguments.now)) }
+    ensures err { IfErr result (λ e. e ≡ faults.Memory) }
+{
+    let count = values_spans(arguments.values.as_slice(), tokens, at + 1, spans)?;
+    Ok(count.saturating_sub(1) + trailing_count(arguments.trailing) + 2)
+}
+
+/// Adds the spans of a buffer's size, if there is one, behind a comma.
+fn size_spans(
+    size: &Option<ExpressionNode>,
+    tokens: &[Token],
+    at: usize,
+    spans: &mut Vec<Span>,
+) -> Result<usize, Fault>
+    requires { EndsInReach at (size_count (option_map expression_of size.now)) }
+    ensures count { IfOk result (λ count. count ≡ size_count (option_map expression_of size.now)) }
+    ensures spans { IfOk result (λ _. spans.new.items ≡ spans.old.items ++ size_spans tokens.now at (option_map expression_of size.now)) }
+    ensures err { IfErr result (λ e. e ≡ faults.Memory) }
+{
+    match size {
+        None => Ok(0),
+        Some(size) => Ok(expression_spans(size, tokens, at + 1, spans)? + 1),
+    }
+}
+
+/// Adds the spans of an operation.
+pub(crate) fn operation_spans(
+    operation: &OperationNode,
+    tokens: &[Token],
+    at: usize,
+    spans: &mut Vec<Span>,
+) -> Result<usize, Fault>
+    requires { EndsInReach at (operation_count (operation_of operation.now)) }
+    ensures count { IfOk result (λ count. count ≡ operation_count (operation_of operation.now)) }
+    ensures spans { IfOk result (λ _. spans.new.items ≡ spans.old.items ++ operation_spans tokens.now at (operation_of operation.now)) }
+    ensures err { IfErr result (λ e. e ≡ faults.Memory) }
+{
+    let count = match operation {
+        OperationNode::Call(_, arguments) => arguments_spans(arguments, tokens, at + 1, spans)? + 1,
+        OperationNode::Receive(channel) => expression_spans(channel, tokens, at + 1, spans)? + 1,
+        OperationNode::Make(channel, size) => {
+            let count = type_spans(channel, tokens, at + 2, spans)?;
+            count + size_spans(size, tokens, at + 2 + count, spans)? + 3
+        }
+        OperationNode::Length(channel) | OperationNode::Capacity(channel) => {
+            expression_spans(channel, tokens, at + 2, spans)? + 3
+        }
+    };
+    add_node(tokens, at, count, spans)
+}
+
+/// Adds the spans of an assignment's right side.
+pub(crate) fn right_spans(
+    right: &RightNode,
+    tokens: &[Token],
+    at: usize,
+    spans: &mut Vec<Span>,
+) -> Result<usize, Fault>
+    requires { EndsInReach at (right_count (right_of right.now)) }
+    ensures count { IfOk result (λ count. count ≡ right_count (right_of right.now)) }
+    ensures spans { IfOk result (λ _. spans.new.items ≡ spans.old.items ++ right_spans tokens.now at (right_of right.now)) }
+    ensures err { IfErr result (λ e. e ≡ faults.Memory) }
+{
+    match right {
+        RightNode::Operation(operation) => operation_spans(operation, tokens, at, spans),
+        RightNode::Values(values) => {
+            let count = values_spans(values.as_slice(), tokens, at, spans)?;
+            Ok(count.saturating_sub(1))
+        }
+    }
+}
+
+/// Adds the spans of an argument of a print.
+fn part_spans(
+    part: &PartNode,
+    tokens: &[Token],
+    at: usize,
+    spans: &mut Vec<Span>,
+) -> Result<usize, Fault>
+    requires { EndsInReach at (part_count (part_of part.now)) }
+    ensures count { IfOk result (λ count. count ≡ part_count (part_of part.now)) }
+    ensures spans { IfOk result (λ _. spans.new.items ≡ spans.old.items ++ part_spans tokens.now at (part_of part.now)) }
+    ensures err { IfErr result (λ e. e ≡ faults.Memory) }
+{
+    match part {
+        PartNode::Value(value) => expression_spans(value, tokens, at, spans),
+        PartNode::Text(_) => add_node(tokens, at, 1, spans),
+    }
+}
+
+/// Adds the spans of the arguments of a print. They are counted with a mark behind each.
+fn parts_spans(
+    parts: &[PartNode],
+    tokens: &[Token],
+    at: usize,
+    spans: &mut Vec<Span>,
+) -> Result<usize, Fault>
+    requires { EndsInReach at (joined (sum_by part_step (map part_of parts.now))) }
+    ensures count { IfOk result (λ count. count ≡ sum_by part_step (map part_of parts.now)) }
+    ensures spans { IfOk result (λ _. spans.new.items ≡ spans.old.items ++ parts_spans tokens.now at (map part_of parts.now)) }
+    ensures err { IfErr result (λ e. e ≡ faults.Memory) }
+{
+    let mut count = 0;
+    for part in parts {
+        count += part_spans(part, tokens, at + count, spans)? + 1;
+    }
+    Ok(count)
+}
+
+/// Adds the span of a place.
+pub(crate) fn place_span(
+    place: &PlaceNode,
+    tokens: &[Token],
+    at: usize,
+    spans: &mut Vec<Span>,
+) -> Result<usize, Fault>
+    requires { EndsInReach at (place_count (place_of place.now)) }
+    ensures count { IfOk result (λ count. count ≡ place_count (place_of place.now)) }
+    ensures spans { IfOk result (λ _. spans.new.items ≡ under spans.old.items (place_span tokens.now at (place_of place.now))) }
+    ensures err { IfErr result (λ e. e ≡ faults.Memory) }
+{
+    add_node(tokens, at, place.fields.len() * 2 + 1, spans)
+}
+
+/// Adds the spans of places. They are counted with a mark behind each.
+fn places_spans(
+    places: &[PlaceNode],
+    tokens: &[Token],
+    at: usize,
+    spans: &mut Vec<Span>,
+) -> Result<usize, Fault>
+    requires { EndsInReach at (sum_by place_step (map place_of places.now)) }
+    ensures count { IfOk result (λ count. count ≡ sum_by place_step (map place_of places.now)) }
+    ensures spans { IfOk result (λ _. spans.new.items ≡ spans.old.items ++ places_spans tokens.now at (map place_of places.now)) }
+    ensures err { IfErr result (λ e. e ≡ faults.Memory) }
+{
+    let mut count = 0;
+    for place in places {
+        count += place_span(place, tokens, at + count, spans)? + 1;
+    }
+    Ok(count)
+}
+
+/// Adds the spans of the nodes below a simple statement. All its tokens are counted.
+fn below_simple(
+    simple: &SimpleNode,
+    tokens: &[Token],
+    at: usize,
+    spans: &mut Vec<Span>,
+) -> Result<usize, Fault>
+    requires { EndsInReach at (simple_count (simple_of simple.now)) }
+    ensures count { IfOk result (λ count. count ≡ simple_count (simple_of simple.now)) }
+    ensures spans { IfOk result (λ _. spans.new.items ≡ spans.old.items ++ below_simple tokens.now at (simple_of simple.now)) }
+    ensures err { IfErr result (λ e. e ≡ faults.Memory) }
+{
+    match simple {
+        SimpleNode::Call(_, arguments) => Ok(
+            arguments_spans(arguments, tokens, at + 1, spans)? + 1,
+        ),
+        SimpleNode::Close(channel) => Ok(expression_spans(channel, tokens, at + 2, spans)? + 3),
+        SimpleNode::Print(_, parts, trailing) => {
+            let count = parts_spans(parts.as_slice(), tokens, at + 2, spans)?;
+            Ok(count.saturating_sub(1) + trailing_count(*trailing) + 3)
+        }
+        SimpleNode::Receive(channel) => Ok(expression_spans(channel, tokens, at + 1, spans)? + 1),
+        SimpleNode::Send(channel, value) => {
+            let count = expression_spans(channel, tokens, at, spans)?;
+            Ok(count + expression_spans(value, tokens, at + count + 1, spans)? + 1)
+        }
+        SimpleNode::Increment(place) | SimpleNode::Decrement(place) => {
+            Ok(place_span(place, tokens, at, spans)? + 1)
+        }
+        SimpleNode::Assign(places, right) => {
+            let count = places_spans(places.as_slice(), tokens, at, spans)?;
+            Ok(count + right_spans(right, tokens, at + count, spans)?)
+        }
+        SimpleNode::Define(names, right) => {
+            let count = names.len() * 2;
+            Ok(count + right_spans(right, tokens, at + count, spans)?)
+        }
+        SimpleNode::Update(place, _, value) => {
+            let count = place_span(place, tokens, at, spans)?;
+            Ok(count + expression_spans(value, tokens, at + count + 1, spans)? + 1)
+        }
+    }
+}
+
+/// Adds the spans of a simple statement.
+pub(crate) fn simple_spans(
+    simple: &SimpleNode,
+    tokens: &[Token],
+    at: usize,
+    spans: &mut Vec<Span>,
+) -> Result<usize, Fault>
+    requires { EndsInReach at (simple_count (simple_of simple.now)) }
+    ensures count { IfOk result (λ count. count ≡ simple_count (simple_of simple.now)) }
+    ensures spans { IfOk result (λ _. spans.new.items ≡ spans.old.items ++ simple_spans tokens.now at (simple_of simple.now)) }
+    ensures err { IfErr result (λ e. e ≡ faults.Memory) }
+{
+    let count = below_simple(simple, tokens, at, spans)?;
+    add_node(tokens, at, count, spans)
+}
