@@ -1,0 +1,161 @@
+-- What is so of expressions in which nothing is wrong.
+use Rattle.std.proofs.Common.{◌≡◌, ℕ, ℤ, ◌+◌, ◌-◌, ◌≤◌, inl, inr, Bool, true, false, not, ◌&&◌, List, Option, Some, None, option_map, Result, Ok, Err, refl, sym, ap, ◌∙◌, subst, arith}
+use Rattle.std.specs.Prelude.{option_and_then}
+use Rattle.std.specs.Result.{result_ok}
+use Rattle.go_text.specs.declared.rule.Rule.{Rule}
+use Rattle.go_text.specs.declared.rule.Rule.TheVariants as rules
+use Rattle.go_text.specs.declared.rule.LimitKind.{LimitKind}
+use Rattle.go_text.specs.declared.rule.LimitKind.TheVariants as limits
+use Rattle.syntax.specs.declared.node.UnaryOperator.{UnaryOperator}
+use Rattle.syntax.specs.declared.node.BinaryOperator.{BinaryOperator}
+use Rattle.syntax.specs.Tree.{Expression, Integer, Named, Parenthesized, Selection, Composite, Unary, Binary, Expressions, expressions_in}
+use Rattle.syntax.specs.Measures.{expression_size}
+use Rattle.type_table.specs.Types.{ValueType, IntType, BoolType, StructType, ChannelType, is_int_type, is_channel_type, assignable}
+use Rattle.type_table.specs.Containment.{Selected, field_of}
+use Rattle.type_table.specs.Scopes.{Globals, Scope}
+use Rattle.checker_base.specs.declared.flaw.Flaw.{Flaw}
+use Rattle.checker_base.specs.declared.flaw.Flaw.TheVariants.{Broken, Exceeded}
+use Rattle.checker_base.specs.declared.flaw.Misuse.{Misuse}
+use Rattle.checker_base.specs.declared.flaw.Misuse.TheVariants as misuses
+use Rattle.checker_base.specs.Flaws.{Nodes, IsBroken, IsExceeded, IsMisuse}
+use Rattle.checker_base.specs.Worths.{Worth, Typed, Constant, Nil, is_int, literal, unary_worth, binary_worth, named_worth, selected_worth, type_of_field, literal_struct, worth}
+use Rattle.checker_base.specs.Expressions.{nodes_of, FitHas, Fails, UnaryHas, BinaryHas, SelectionHas, LiteralHas, ExpressionHas}
+use Rattle.checker.proofs.ExpressionNodes.{expression_positive}
+
+-- nothing of this kind is wrong
+abbrev pub Free : (Flaw → Type 0) → Type 0
+Free P = (flaw : Flaw) → P flaw → ⊥
+
+pub broken : (rule : Rule) (end : ℕ) → 1 ≤ end → (flaw : Flaw) × IsBroken rule end flaw
+broken rule end le = (Broken rule (end - 1), (refl, omega (arith, le)))
+
+pub exceeded : (kind : LimitKind) (end : ℕ) → 1 ≤ end → (flaw : Flaw) × IsExceeded kind end flaw
+exceeded kind end le = (Exceeded kind (end - 1), (refl, omega (arith, le)))
+
+misused : (misuse : Misuse) (left right : Nodes) (end : ℕ) → 1 ≤ left.end → 1 ≤ right.end → 1 ≤ end → (flaw : Flaw) × IsMisuse misuse left right end flaw
+misused misuses.Operands left right end a b c = broken rules.Operands end c
+misused misuses.Size left right end a b c = exceeded limits.ConstantSize end c
+misused misuses.Right left right end a b c = broken rules.Constant end c
+misused misuses.LeftConstant left right end a b c = broken rules.Constant left.end a
+misused misuses.RightConstant left right end a b c = broken rules.Constant right.end b
+misused misuses.LeftNil left right end a b c = broken rules.Nil (left.first + 1) (omega arith)
+misused misuses.RightNil left right end a b c = broken rules.Nil (right.first + 1) (omega arith)
+
+-- what operators make of operands that they fit
+pub made : (result : Result Worth Misuse) (left right : Nodes) (end : ℕ) → 1 ≤ left.end → 1 ≤ right.end → 1 ≤ end → Free (Fails result left right end) → (w : Worth) × (result ≡ Ok w)
+made (Ok w) left right end a b c free = (w, refl)
+made (Err misuse) left right end a b c free = let m = misused misuse left right end a b c in absurd (free m.0 m.1)
+
+pub nodes_end : (first : ℕ) (e : Expression) → 1 ≤ (nodes_of first e).end
+nodes_end first e = omega (arith, expression_positive e)
+
+not_false : (b : Bool) → (b ≡ false → ⊥) → b ≡ true
+not_false true never = refl
+not_false false never = absurd (never refl)
+
+not_true : (b : Bool) → (b ≡ true → ⊥) → b ≡ false
+not_true true never = absurd (never refl)
+not_true false never = refl
+
+is_there : {A : Type 0} (o : Option A) → (o ≡ None → ⊥) → (a : A) × (o ≡ Some a)
+is_there None never = absurd (never refl)
+is_there (Some a) never = (a, refl)
+
+int_type : (t : ValueType) → is_int_type t ≡ true → t ≡ IntType
+int_type IntType e = refl
+int_type BoolType e = absurd cc
+int_type (StructType n) e = absurd cc
+int_type (ChannelType d t) e = absurd cc
+
+-- a value of this worth may stand where this type is wanted
+abbrev pub Fits : Worth → ValueType → Type 0
+Fits (Typed s) t = assignable s t ≡ true
+Fits (Constant z) t = (t ≡ IntType) × (is_int z ≡ true)
+Fits Nil t = is_channel_type t ≡ true
+
+pub fits : (w : Worth) (t : ValueType) (nodes : Nodes) → 1 ≤ nodes.end → Free (FitHas w t nodes) → Fits w t
+fits (Typed s) t nodes le free = let b = broken rules.Assignable nodes.end le in not_false (assignable s t) (λ e. free b.0 (e, b.1))
+fits (Constant z) t nodes le free =
+    let b = broken rules.Assignable nodes.end le in
+    let c = broken rules.Constant nodes.end le in
+    let i = not_false (is_int_type t) (λ e. free b.0 (inl (e, b.1))) in
+    (int_type t i, not_false (is_int z) (λ e. free c.0 (inr (ap (λ x. x && not (is_int z)) i ∙ ap not e, c.1))))
+fits Nil t nodes le free = let b = broken rules.Nil (nodes.first + 1) (omega arith) in not_false (is_channel_type t) (λ e. free b.0 (e, b.1))
+
+module _ (globals : Globals) (s : Scope) where
+  -- ---- one level of each form
+
+  pub integer_there : (first : ℕ) (v : Option ℕ) → Free (ExpressionHas globals s first (Integer v)) → (z : ℤ) × (literal v ≡ Some z)
+  integer_there first v free = let b = exceeded limits.ConstantSize (first + 1) (omega arith) in is_there (literal v) (λ e. free b.0 (e, b.1))
+
+  pub named_there : (first : ℕ) (name : List ℕ) → Free (ExpressionHas globals s first (Named name)) → (w : Worth) × (named_worth s name ≡ Some w)
+  named_there first name free = let b = broken rules.Visible (first + 1) (omega arith) in is_there (named_worth s name) (λ e. free b.0 (e, b.1))
+
+  -- a selection is of a value with such a field
+  pub record Selects (whole : Expression) (field : List ℕ) : Type 0 where
+    pub kind : ValueType
+    pub at : Selected
+    pub of : worth globals s whole ≡ Some (Typed kind)
+    pub found : field_of globals.structs kind field ≡ Some at
+
+  pub selects : (first : ℕ) (whole : Expression) (field : List ℕ) (w : Worth) → worth globals s whole ≡ Some w → Free (ExpressionHas globals s first (Selection whole field)) → Selects whole field
+  selects first whole field w is free = go w is (λ flaw h. free flaw (inr (subst (λ o. SelectionHas globals o field (nodes_of first whole) (first + expression_size (Selection whole field)) flaw) (sym is) h))) where
+    end : 1 ≤ first + expression_size (Selection whole field)
+    end = omega arith
+
+    go : (w : Worth) → worth globals s whole ≡ Some w → Free (SelectionHas globals (Some w) field (nodes_of first whole) (first + expression_size (Selection whole field))) → Selects whole field
+    go (Typed kind) is free =
+        let b = broken rules.Visible (first + expression_size (Selection whole field)) end in
+        let f = is_there (field_of globals.structs kind field) (λ e. free b.0 (e, b.1)) in
+        record { kind = kind; at = f.0; of = is; found = f.1 }
+    go (Constant z) is free = let b = broken rules.Visible (first + expression_size (Selection whole field)) end in absurd (free b.0 b.1)
+    go Nil is free = let b = broken rules.Nil ((nodes_of first whole).first + 1) (omega arith) in absurd (free b.0 b.1)
+
+  pub unary_made : (first : ℕ) (operator : UnaryOperator) (e : Expression) (a : Worth) → worth globals s e ≡ Some a → Free (ExpressionHas globals s first (Unary operator e)) → (w : Worth) × (unary_worth operator a ≡ Ok w)
+  unary_made first operator e a is free =
+      let end = first + expression_size (Unary operator e) in
+      made (unary_worth operator a) (nodes_of first e) (nodes_of first e) end (nodes_end first e) (nodes_end first e) (omega arith)
+      (λ flaw h. free flaw (inr (subst (λ o. UnaryHas operator o (nodes_of first e) end flaw) (sym is) h)))
+
+  pub binary_made : (first : ℕ) (operator : BinaryOperator) (l r : Expression) (a b : Worth) → worth globals s l ≡ Some a → worth globals s r ≡ Some b → Free (ExpressionHas globals s first (Binary operator l r)) → (w : Worth) × (binary_worth operator a b ≡ Ok w)
+  binary_made first operator l r a b is ir free =
+      let end = first + expression_size (Binary operator l r) in
+      let right = nodes_of (first + expression_size l) r in
+      made (binary_worth operator a b) (nodes_of first l) right end (nodes_end first l) (nodes_end (first + expression_size l) r) (omega arith)
+      (λ flaw h. free flaw (inr (inr (subst (λ o. BinaryHas operator o (worth globals s r) (nodes_of first l) right end flaw) (sym is) (subst (λ o. BinaryHas operator (Some a) o (nodes_of first l) right end flaw) (sym ir) h)))))
+
+  pub literal_there : (first : ℕ) (name : List ℕ) (values : Expressions) (trailing : Bool) → Free (ExpressionHas globals s first (Composite name values trailing)) → (n : ℕ) × (literal_struct globals s name ≡ Some n)
+  literal_there first name values trailing free =
+      let end = first + expression_size (Composite name values trailing) in
+      let b = broken rules.Visible end (omega arith) in
+      is_there (literal_struct globals s name) (λ e. free b.0 (inr (subst (λ o. LiteralHas globals s o first (expressions_in values) end b.0) (sym e) b.1)))
+
+  -- ---- every expression has a worth
+
+  -- fields have types
+  abbrev pub FieldsKnown : Type 0
+  FieldsKnown = (kind : ValueType) (name : List ℕ) (at : Selected) → field_of globals.structs kind name ≡ Some at → (t : ValueType) × (at.kind ≡ Some t)
+
+  pub worth_there : FieldsKnown → (e : Expression) (first : ℕ) → Free (ExpressionHas globals s first e) → (w : Worth) × (worth globals s e ≡ Some w)
+  worth_there known (Integer v) first free = let z = integer_there first v free in (Constant z.0, ap (option_map Constant) z.1)
+  worth_there known (Named name) first free = named_there first name free
+  worth_there known (Parenthesized inner) first free = worth_there known inner first free
+  worth_there known (Selection whole field) first free =
+      let w = worth_there known whole first (λ flaw h. free flaw (inl h)) in
+      let x = selects first whole field w.0 w.1 free in
+      let t = known x.kind field x.at x.found in
+      (Typed t.0, ap (option_and_then (selected_worth globals field)) x.of ∙ ap (λ o. option_map Typed (type_of_field o)) x.found ∙ ap (option_map Typed) t.1)
+  worth_there known (Composite name values trailing) first free =
+      let n = literal_there first name values trailing free in (Typed (StructType n.0), ap (option_map (λ n. Typed (StructType n))) n.1)
+  worth_there known (Unary operator e) first free =
+      let a = worth_there known e first (λ flaw h. free flaw (inl h)) in
+      let w = unary_made first operator e a.0 a.1 free in
+      (w.0, ap (option_and_then (λ x. result_ok (unary_worth operator x))) a.1 ∙ ap result_ok w.1)
+  worth_there known (Binary operator l r) first free =
+      let a = worth_there known l first (λ flaw h. free flaw (inl h)) in
+      let b = worth_there known r (first + expression_size l) (λ flaw h. free flaw (inr (inl h))) in
+      let w = binary_made first operator l r a.0 b.0 a.1 b.1 free in (
+        w.0,
+        ap (option_and_then (λ x. option_and_then (λ y. result_ok (binary_worth operator x y)) (worth globals s r))) a.1
+            ∙ ap (option_and_then (λ y. result_ok (binary_worth operator a.0 y))) b.1 ∙ ap result_ok w.1,
+      )

@@ -1,0 +1,6 @@
+pub mod Elements
+pub mod Layouts
+pub mod Pushes
+pub mod Statements
+pub mod Generated
+pub mod Program

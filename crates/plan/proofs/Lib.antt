@@ -1,0 +1,10 @@
+pub mod Lists
+pub mod Tables
+pub mod Places
+pub mod Steps
+pub mod Typed
+pub mod Stacks
+pub mod Functions
+pub mod Selects
+pub mod Words
+pub mod Appends

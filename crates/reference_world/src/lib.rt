@@ -1,0 +1,12 @@
+//! What the goroutines of the reference interpreter share, and what each request does to it.
+#![tactic(auto)]
+
+mod channel;
+mod deed;
+mod meeting;
+mod reply;
+mod shared;
+mod sleeper;
+
+pub use deed::{Deed, Woken};
+pub use shared::Shared;
