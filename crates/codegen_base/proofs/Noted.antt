@@ -11,7 +11,7 @@ use Rattle.codegen_base.specs.declared.element.Element.{Element}
 use Rattle.codegen_base.specs.declared.element.Element.TheVariants as elements
 use Rattle.codegen_base.specs.Elements.{same_element, found_at, place_of, element_of, shape_of, with_element, with_type, kinds_of, element_kinds, shapes_of}
 
-element_same : (a b : Element) → same_element a b ≡ true → a ≡ b
+pub element_same : (a b : Element) → same_element a b ≡ true → a ≡ b
 element_same elements.Int elements.Int e = refl
 element_same elements.Int elements.Bool e = absurd cc
 element_same elements.Int (elements.Struct n) e = absurd cc
@@ -29,7 +29,7 @@ element_same (elements.Channel m) elements.Bool e = absurd cc
 element_same (elements.Channel m) (elements.Struct n) e = absurd cc
 element_same (elements.Channel m) (elements.Channel n) e = let s : m ≡ n = grind (arith, nat_tests, e) in ap elements.Channel s
 
-element_itself : (a : Element) → same_element a a ≡ true
+pub element_itself : (a : Element) → same_element a a ≡ true
 element_itself elements.Int = refl
 element_itself elements.Bool = refl
 element_itself (elements.Struct n) = grind (arith, nat_tests)

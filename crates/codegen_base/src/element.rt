@@ -1,7 +1,7 @@
 //! What channels carry, as the machine tells it apart.
 
 /// What a channel carries. Directions are not told apart: the machine knows none.
-#[derive(Clone, Copy, PartialEq, Eq)]
+#[derive(Clone, Copy, PartialEq, Eq, Hash)]
 pub enum Element {
     /// An int.
     Int,

@@ -1,0 +1,53 @@
+-- Where elements are found in a list.
+use Rattle.std.proofs.Common.{◌≡◌, ℕ, suc, Bool, true, false, List, [], ◌∷◌, ◌++◌, length, Option, Some, None, option_map, refl, sym, ap, ◌∙◌, subst}
+use Rattle.std.specs.Map.{update}
+use Rattle.std.specs.Prelude.{if◌then◌else◌, cond}
+use Rattle.std.specs.Option.{is_some}
+use Rattle.codegen_base.specs.declared.element.Element.{Element}
+use Rattle.codegen_base.specs.Elements.{same_element, found_at}
+use Rattle.codegen_base.proofs.Noted.{element_same, element_itself}
+
+-- an element is the same as another one where that one is the same as it
+same_turned : (a b : Element) → same_element a b ≡ same_element b a
+same_turned a b = go (same_element a b) (same_element b a) refl refl where
+  go : (s t : Bool) → same_element a b ≡ s → same_element b a ≡ t → s ≡ t
+  go true true one other = refl
+  go false false one other = refl
+  go true false one other = sym (element_itself a) ∙ ap (λ c. same_element c a) (element_same a b one) ∙ other
+  go false true one other = sym one ∙ ap (λ c. same_element c b) (sym (element_same b a other)) ∙ element_itself b
+
+none_inside : (o : Option ℕ) → option_map suc o ≡ None → o ≡ None
+none_inside None e = refl
+none_inside (Some n) e = absurd cc
+
+-- an element at the end is found there, and each other one where it was
+pub found_last : (all : List Element) (e x : Element) → found_at all e ≡ None → found_at (all ++ e ∷ []) x ≡ (if same_element e x then Some (length all) else found_at all x)
+found_last [] e x none = ap (λ t. if t then Some 0 else None) (same_turned x e)
+found_last (y ∷ all) e x none = apart (same_element e y) refl none (λ inside. found_last all e x inside) where
+  go : (s t : Bool) → same_element x y ≡ s → same_element e x ≡ t → same_element e y ≡ false → found_at (all ++ e ∷ []) x ≡ (if t then Some (length all) else found_at all x)
+      → (if s then Some 0 else option_map suc (found_at (all ++ e ∷ []) x)) ≡ (if t then Some (suc (length all)) else (if s then Some 0 else option_map suc (found_at all x)))
+  go true true one other apart more = absurd (true-false (sym (ap (λ c. same_element c y) (element_same e x other) ∙ one) ∙ apart)) where
+    true-false : true ≡ false → ⊥
+    true-false e = absurd cc
+  go true false one other apart more = refl
+  go false true one other apart more = ap (option_map suc) more
+  go false false one other apart more = ap (option_map suc) more
+
+  apart : (t : Bool) → same_element e y ≡ t → (if t then Some 0 else option_map suc (found_at all e)) ≡ None → (found_at all e ≡ None → found_at (all ++ e ∷ []) x ≡ (if same_element e x then Some (length all) else found_at all x))
+      → found_at ((y ∷ all) ++ e ∷ []) x ≡ (if same_element e x then Some (length (y ∷ all)) else found_at (y ∷ all) x)
+  apart true is h more = absurd cc
+  apart false is h more = go (same_element x y) (same_element e x) refl refl is (more (none_inside (found_at all e) h))
+
+-- an element that was not there is noted at the end
+pub list_noted : (all now : List Element) (e : Element) (place : ℕ) (before after : Element → Option ℕ) → now ≡ all ++ e ∷ [] → place ≡ length all → is_some (found_at all e) ≡ false → ((x : Element) → before x ≡ found_at all x)
+    → ((x : Element) → after x ≡ update same_element before e (Some place) x) → (x : Element) → after x ≡ found_at now x
+list_noted all now e place before after is at new there added x =
+    added x ∙ ap (λ n. cond (same_element e x) (Some n) (before x)) at ∙ ap (λ o. cond (same_element e x) (Some (length all)) o) (there x)
+    ∙ turned (same_element e x) ∙ sym (found_last all e x (absent (found_at all e) new)) ∙ ap (λ l. found_at l x) (sym is) where
+      absent : (o : Option ℕ) → is_some o ≡ false → o ≡ None
+      absent None h = refl
+      absent (Some n) h = absurd cc
+
+      turned : (t : Bool) → cond t (Some (length all)) (found_at all x) ≡ (if t then Some (length all) else found_at all x)
+      turned true = refl
+      turned false = refl

@@ -1,0 +1,66 @@
+//! Lists of what channels carry, each element once. The place of one is the number of its shape.
+
+ghost use Rattle.std.specs.Prelude.{◌≡◌, ℕ, List, [], ◌∷◌, ◌++◌, OnOk, OnErr};
+ghost use Rattle.codegen_base.specs.declared.element.Element.{Element as OneElement};
+ghost use Rattle.codegen_base.specs.Elements.{found_at, with_element};
+ghost use Rattle.codegen_expression.specs.Indexes.{place_in};
+
+use codegen_base::element::Element;
+use std::alloc::{AllocError, Global};
+use std::collections::HashMap;
+use std::marker::Model;
+
+/// Elements in the order in which they were noted.
+#[derive(Drop)]
+pub struct ElementList {
+    elements: Vec<Element>,
+    places: HashMap<Element, usize>,
+    ghost found: { (element : OneElement) → place_in places element ≡ found_at elements.items element },
+}
+
+impl Model for ElementList {
+    ghost use Rattle.std.specs.Prelude.{List};
+    ghost use Rattle.codegen_base.specs.declared.element.Element.{Element};
+
+    ghost Value = { List Element };
+
+    ghost view = { λ list. list.elements.items };
+}
+
+impl ElementList {
+    /// No elements.
+    pub fn new(alloc: Global) -> ElementList
+        ensures { result ≡ [] }
+    {
+        ElementList {
+            elements: Vec::new(alloc),
+            places: HashMap::new(alloc),
+        }
+    }
+
+    /// Where an element stands.
+    pub fn found_at(&self, element: Element) -> Option<usize>
+        ensures { result ≡ found_at self.now element }
+    {
+        self.places.get(&element).copied()
+    }
+
+    /// Notes an element, if it is new.
+    pub fn note(&mut self, element: Element) -> Result<(), AllocError>
+        ensures noted { OnOk result (self.new ≡ with_element self.old element) }
+        ensures err { OnErr result (self.new ≡ self.old) }
+    {
+        if self.found_at(element).is_some() {
+            return Ok(());
+        }
+        let place = self.elements.len();
+        self.elements.push(element)?;
+        match self.places.insert(element, place) {
+            Ok(_) => Ok(()),
+            Err(error) => {
+                self.elements.pop();
+                Err(error.into())
+            }
+        }
+    }
+}

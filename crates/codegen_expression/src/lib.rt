@@ -1,0 +1,4 @@
+//! The instructions of expressions: what channels carry, where variables lie, and the values that are pushed.
+#![tactic(auto)]
+
+pub mod element_list;
