@@ -1,9 +1,11 @@
 -- Where elements are found in a list.
-use Rattle.std.proofs.Common.{◌≡◌, ℕ, suc, Bool, true, false, List, [], ◌∷◌, ◌++◌, length, Option, Some, None, option_map, refl, sym, ap, ◌∙◌, subst}
+use Rattle.std.proofs.Common.{rules, ◌≡◌, ℕ, suc, Bool, true, false, List, [], ◌∷◌, ◌++◌, length, Option, Some, None, option_map, refl, sym, ap, ◌∙◌}
 use Rattle.std.specs.Map.{update}
 use Rattle.std.specs.Prelude.{if◌then◌else◌, cond}
 use Rattle.std.specs.Option.{is_some}
+use Rattle.codegen_base.specs.contracts.element.ElementPartialEq.TheImpl.{ghosts}
 use Rattle.codegen_base.specs.declared.element.Element.{Element}
+use Rattle.codegen_base.specs.declared.element.Element.TheVariants as elements
 use Rattle.codegen_base.specs.Elements.{same_element, found_at}
 use Rattle.codegen_base.proofs.Noted.{element_same, element_itself}
 
@@ -38,11 +40,30 @@ found_last (y ∷ all) e x none = apart (same_element e y) refl none (λ inside.
   apart true is h more = absurd cc
   apart false is h more = go (same_element x y) (same_element e x) refl refl is (more (none_inside (found_at all e) h))
 
+-- elements are compared as they are told apart
+compared : (a b : Element) → ghosts.eq a b ≡ same_element a b
+compared elements.Int elements.Int = refl
+compared elements.Int elements.Bool = refl
+compared elements.Int (elements.Struct n) = refl
+compared elements.Int (elements.Channel n) = refl
+compared elements.Bool elements.Int = refl
+compared elements.Bool elements.Bool = refl
+compared elements.Bool (elements.Struct n) = refl
+compared elements.Bool (elements.Channel n) = refl
+compared (elements.Struct m) elements.Int = refl
+compared (elements.Struct m) elements.Bool = refl
+compared (elements.Struct m) (elements.Struct n) = search rules
+compared (elements.Struct m) (elements.Channel n) = refl
+compared (elements.Channel m) elements.Int = refl
+compared (elements.Channel m) elements.Bool = refl
+compared (elements.Channel m) (elements.Struct n) = refl
+compared (elements.Channel m) (elements.Channel n) = search rules
+
 -- an element that was not there is noted at the end
 pub list_noted : (all now : List Element) (e : Element) (place : ℕ) (before after : Element → Option ℕ) → now ≡ all ++ e ∷ [] → place ≡ length all → is_some (found_at all e) ≡ false → ((x : Element) → before x ≡ found_at all x)
-    → ((x : Element) → after x ≡ update same_element before e (Some place) x) → (x : Element) → after x ≡ found_at now x
+    → ((x : Element) → after x ≡ update ghosts.eq before e (Some place) x) → (x : Element) → after x ≡ found_at now x
 list_noted all now e place before after is at new there added x =
-    added x ∙ ap (λ n. cond (same_element e x) (Some n) (before x)) at ∙ ap (λ o. cond (same_element e x) (Some (length all)) o) (there x)
+    added x ∙ ap (λ t. cond t (Some place) (before x)) (compared e x) ∙ ap (λ n. cond (same_element e x) (Some n) (before x)) at ∙ ap (λ o. cond (same_element e x) (Some (length all)) o) (there x)
     ∙ turned (same_element e x) ∙ sym (found_last all e x (absent (found_at all e) new)) ∙ ap (λ l. found_at l x) (sym is) where
       absent : (o : Option ℕ) → is_some o ≡ false → o ≡ None
       absent None h = refl

@@ -1,12 +1,12 @@
 -- What a table of types shows of the struct types in it.
-use Rattle.std.proofs.Common.{◌≡◌, ℕ, zero, suc, ◌+◌, Bool, true, false, List, [], ◌∷◌, map, Option, Some, None, option_map, refl, sym, ap, ◌∙◌, subst}
-use Rattle.std.specs.Prelude.{if◌then◌else◌, bytes_eq, get_or, slice_get}
+use Rattle.std.proofs.Common.{◌≡◌, ℕ, zero, suc, Bool, true, false, List, [], ◌∷◌, map, Option, Some, None, option_map, refl, subst}
+use Rattle.std.specs.Prelude.{if◌then◌else◌, bytes_eq, get_or}
 use Rattle.std.proofs.lemmas.Option.{same_Some}
 use Rattle.type_table.specs.Types.{ValueType, IntType, BoolType, StructType, ChannelType}
-use Rattle.type_table.specs.Containment.{Field, Structs, Selected, behind, fields_in, fields_of, field_among, field_of, variable_words}
+use Rattle.type_table.specs.Containment.{Field, Structs, Selected, behind, fields_of, field_among, field_of, variable_words}
 use Rattle.type_table.specs.declared.entry.FieldEntry.{FieldEntry}
 use Rattle.type_table.specs.declared.entry.StructEntry.{StructEntry}
-use Rattle.type_table.specs.Views.{AreWidths, field_in, fields_of_entry, structs_of}
+use Rattle.type_table.specs.Views.{AreWidths, field_in, structs_of}
 use Rattle.meaning.specs.Values.{known}
 use Rattle.codegen_base.proofs.Fields.{AllWide, AllTyped}
 

@@ -1,4 +1,4 @@
-use Rattle.std.proofs.Common.{rules, ◌≡◌, length, ap, sym, ◌∙◌}
+use Rattle.std.proofs.Common.{rules, ap, sym, ◌∙◌}
 use Rattle.std.specs.Option.{is_some}
 use Rattle.codegen_expression.specs.Indexes.{place_in}
 use Rattle.codegen_expression.proofs.Finding.{list_noted}
