@@ -1,7 +1,7 @@
 -- Where elements are found in a list.
-use Rattle.std.proofs.Common.{rules, ◌≡◌, ℕ, suc, Bool, true, false, List, [], ◌∷◌, ◌++◌, length, Option, Some, None, option_map, refl, sym, ap, ◌∙◌}
+use Rattle.std.proofs.Common.{rules, ◌≡◌, ◌≤◌, arith, ℕ, suc, Bool, true, false, List, [], ◌∷◌, ◌++◌, length, Option, Some, None, option_map, refl, sym, ap, ◌∙◌}
 use Rattle.std.specs.Map.{update}
-use Rattle.std.specs.Prelude.{if◌then◌else◌, cond}
+use Rattle.std.specs.Prelude.{unwrap_or, if◌then◌else◌, cond}
 use Rattle.std.specs.Option.{is_some}
 use Rattle.codegen_base.specs.contracts.element.ElementPartialEq.TheImpl.{ghosts}
 use Rattle.codegen_base.specs.declared.element.Element.{Element}
@@ -72,3 +72,12 @@ list_noted all now e place before after is at new there added x =
       turned : (t : Bool) → cond t (Some (length all)) (found_at all x) ≡ (if t then Some (length all) else found_at all x)
       turned true = refl
       turned false = refl
+
+-- a place that is found is one of the list's
+pub place_below : (all : List Element) (e : Element) → unwrap_or (found_at all e) 0 ≤ length all
+place_below [] e = omega arith
+place_below (x ∷ all) e = go (same_element e x) (found_at all e) (place_below all e) where
+  go : (t : Bool) (o : Option ℕ) → unwrap_or o 0 ≤ length all → unwrap_or (if t then Some 0 else option_map suc o) 0 ≤ suc (length all)
+  go true o le = omega arith
+  go false None le = omega arith
+  go false (Some n) le = omega (arith, le)

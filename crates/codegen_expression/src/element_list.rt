@@ -1,8 +1,8 @@
 //! Lists of what channels carry, each element once. The place of one is the number of its shape.
 
-ghost use Rattle.std.specs.Prelude.{◌≡◌, ℕ, List, [], ◌∷◌, ◌++◌, OnOk, OnErr};
+ghost use Rattle.std.specs.Prelude.{◌≡◌, ℕ, ◌+◌, ◌<◌, ◌^◌, List, [], ◌∷◌, ◌++◌, length, OnOk, OnErr};
 ghost use Rattle.codegen_base.specs.declared.element.Element.{Element as OneElement};
-ghost use Rattle.codegen_base.specs.Elements.{found_at, with_element};
+ghost use Rattle.codegen_base.specs.Elements.{found_at, place_of, with_element};
 ghost use Rattle.codegen_expression.specs.Indexes.{place_in};
 
 use codegen_base::element::Element;
@@ -15,6 +15,7 @@ use std::marker::Model;
 pub struct ElementList {
     elements: Vec<Element>,
     places: HashMap<Element, usize>,
+    ghost few: { length elements.items < 2 ^ 32 },
     ghost found: { (element : OneElement) → place_in places element ≡ found_at elements.items element },
 }
 
@@ -45,8 +46,19 @@ impl ElementList {
         self.places.get(&element).copied()
     }
 
-    /// Notes an element, if it is new.
+    /// The place of an element; of one that is not there, 0.
+    #[tactic(auto, using(crate::proofs::Finding::place_below))]
+    pub fn place_of(&self, element: Element) -> u32
+        ensures { result ≡ place_of self.now element }
+    {
+        let place = self.found_at(element).unwrap_or(0);
+        prove!(place <= self.elements.len());
+        place as u32
+    }
+
+    /// Notes an element, if it is new. There are fewer than 2^32.
     pub fn note(&mut self, element: Element) -> Result<(), AllocError>
+        requires room { length self.old + 1 < 2 ^ 32 }
         ensures noted { OnOk result (self.new ≡ with_element self.old element) }
         ensures err { OnErr result (self.new ≡ self.old) }
     {

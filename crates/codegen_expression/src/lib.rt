@@ -2,3 +2,4 @@
 #![tactic(auto)]
 
 pub mod element_list;
+pub mod shape;

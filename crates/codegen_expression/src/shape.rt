@@ -1,0 +1,89 @@
+//! The shapes of what channels carry, and the kinds of the words of values.
+
+ghost use Rattle.std.specs.Prelude.{◌≡◌, ◌+◌, ◌++◌, ◌<◌, ◌≤◌, ◌^◌, IfOk, OnOk, length, map};
+ghost use Rattle.bytecode.specs.declared.instr.WordKind.{WordKind as OneKind};
+ghost use Rattle.syntax.specs.View.{type_of};
+ghost use Rattle.type_table.specs.Scopes.{nothing_declared, type_in};
+ghost use Rattle.type_table.specs.Views.{kind_of, kind_size};
+ghost use Rattle.type_table.specs.Visible.{globals_in, types_of};
+ghost use Rattle.meaning.specs.Values.{known};
+ghost use Rattle.codegen_base.specs.Elements.{element_of, shape_of, with_type, word_kind, kinds_of};
+
+use crate::element_list::ElementList;
+use bytecode::WordKind;
+use codegen_base::element::Element;
+use std::alloc::{AllocError, Global};
+use type_table::table::TypeTable;
+use type_table::value_type::{ValueType, element_in};
+use type_table::zero::parts;
+
+/// What a channel of this type's values carries.
+pub fn element_of(table: &TypeTable<'_>, elements: &ElementList, kind: ValueType<'_>) -> Element
+    ensures { result ≡ element_of elements.now (kind_of (types_of table.now) kind.entry) }
+{
+    match kind {
+        ValueType::Int => Element::Int,
+        ValueType::Bool => Element::Bool,
+        ValueType::Struct(number) => Element::Struct(number),
+        ValueType::Channel(_, carried) => {
+            let carried = element_of(table, elements, element_in(table, carried));
+            Element::Channel(elements.place_of(carried) as usize)
+        }
+    }
+}
+
+/// The number of the shape of values of a type.
+pub fn shape_of(table: &TypeTable<'_>, elements: &ElementList, kind: ValueType<'_>) -> u32
+    ensures { result ≡ shape_of elements.now (kind_of (types_of table.now) kind.entry) }
+{
+    elements.place_of(element_of(table, elements, kind))
+}
+
+/// Notes the elements of the channels in a type, those within others first.
+pub fn note_kind<'t, 'e>(
+    table: &'t TypeTable<'_>,
+    elements: &'e mut ElementList,
+    kind: ValueType<'_>,
+) -> Result<(), AllocError>
+    requires room { length elements.old + kind_size kind < 2 ^ 32 }
+    ensures noted { OnOk result (elements.new ≡ with_type elements.old (kind_of (types_of table.now) kind.entry)) }
+    ensures count { OnOk result (length elements.new ≤ length elements.old + kind_size kind.entry) }
+{
+    match kind {
+        ValueType::Channel(_, carried) => {
+            let carried = element_in(table, carried);
+            note_kind(table, elements, carried)?;
+            elements.note(element_of(table, elements, carried))
+        }
+        _ => Ok(()),
+    }
+}
+
+/// The kind of the word of a value; a struct has many.
+pub fn word_kind(table: &TypeTable<'_>, elements: &ElementList, kind: ValueType<'_>) -> WordKind
+    ensures { result ≡ word_kind elements.now (kind_of (types_of table.now) kind.entry) }
+{
+    match kind {
+        ValueType::Int | ValueType::Struct(_) => WordKind::Int,
+        ValueType::Bool => WordKind::Bool,
+        ValueType::Channel(_, carried) => {
+            WordKind::Chan(shape_of(table, elements, element_in(table, carried)))
+        }
+    }
+}
+
+/// Puts the kinds of the words of a value behind others.
+pub fn put_kinds<'a>(
+    alloc: Global,
+    table: &TypeTable<'a>,
+    elements: &ElementList,
+    kind: ValueType<'a>,
+    kinds: &mut Vec<WordKind>,
+) -> Result<(), AllocError>
+    ensures { OnOk result (kinds.new.items ≡ kinds.old.items ++ kinds_of (globals_in table.now).structs elements.now (kind_of (types_of table.now) kind.entry)) }
+{
+    for part in parts(alloc, table, kind)?.iter() {
+        kinds.push(word_kind(table, elements, *part))?;
+    }
+    Ok(())
+}
