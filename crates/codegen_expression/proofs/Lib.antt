@@ -1,3 +1,4 @@
 pub mod Finding
 pub mod Premises
 pub mod Emitting
+pub mod Counting

@@ -1,2 +1,3 @@
 pub mod Indexes
 pub mod Emission
+pub mod Depths

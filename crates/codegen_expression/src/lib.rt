@@ -2,4 +2,5 @@
 #![tactic(auto)]
 
 pub mod element_list;
+pub mod noting;
 pub mod shape;

@@ -8,6 +8,7 @@ ghost use Rattle.type_table.specs.Views.{kind_of, kind_size};
 ghost use Rattle.type_table.specs.Visible.{globals_in, types_of};
 ghost use Rattle.meaning.specs.Values.{known};
 ghost use Rattle.codegen_base.specs.Elements.{element_of, shape_of, with_type, word_kind, kinds_of};
+ghost use Rattle.codegen_expression.specs.Depths.{depth};
 
 use crate::element_list::ElementList;
 use bytecode::WordKind;
@@ -40,14 +41,14 @@ pub fn shape_of(table: &TypeTable<'_>, elements: &ElementList, kind: ValueType<'
 }
 
 /// Notes the elements of the channels in a type, those within others first.
+#[tactic(auto, using(crate::proofs::Counting::with_length))]
 pub fn note_kind<'t, 'e>(
     table: &'t TypeTable<'_>,
     elements: &'e mut ElementList,
     kind: ValueType<'_>,
 ) -> Result<(), AllocError>
-    requires room { length elements.old + kind_size kind < 2 ^ 32 }
-    ensures noted { OnOk result (elements.new ≡ with_type elements.old (kind_of (types_of table.now) kind.entry)) }
-    ensures count { OnOk result (length elements.new ≤ length elements.old + kind_size kind.entry) }
+    requires room { length elements.old + depth (kind_of (types_of table.now) kind) < 2 ^ 32 }
+    ensures { OnOk result (elements.new ≡ with_type elements.old (kind_of (types_of table.now) kind.entry)) }
 {
     match kind {
         ValueType::Channel(_, carried) => {

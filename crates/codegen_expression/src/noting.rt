@@ -1,0 +1,293 @@
+//! What the channels of a file carry: each type that is written in it, in order.
+
+ghost use Rattle.std.specs.Prelude.{◌≡◌, ◌+◌, ◌<◌, ◌≤◌, ◌^◌, OnOk, length, map, option_map, sum_by};
+ghost use Rattle.syntax.specs.Measures.{if_any, type_size, operation_size, right_size, simple_size, for_head_size, returned_size, statement_size, statements_size, branch_size, otherwise_size, clauses_size, declared_size, function_size, top_size, if_head_size};
+ghost use Rattle.syntax.specs.Tree.{RightOperation};
+ghost use Rattle.syntax.specs.View.{type_of, operation_of, right_of, simple_of, if_head_of, for_head_of, returned_of, statement_of, body_of, branch_of, otherwise_of, clause_of, clauses, declared_of, top_of};
+ghost use Rattle.type_table.specs.Views.{kind_of};
+ghost use Rattle.type_table.specs.Visible.{types_of};
+ghost use Rattle.checker_statement.specs.Statements.{head_simple};
+ghost use Rattle.codegen_base.specs.Program.{noting, noting_any, noting_right, noting_given, noting_simple, noting_first, noting_head, noting_returned, noting_statement, noting_statements, noting_branch, noting_otherwise, noting_clauses, noting_declared, noting_top, noting_tops};
+
+use crate::element_list::ElementList;
+use crate::shape::note_kind;
+use std::alloc::AllocError;
+use syntax::{
+    ClauseNode, DeclaredNode, ElseNode, ForHeader, IfHeader, IfNode, OperationNode, ReturnNode,
+    RightNode, SimpleNode, StatementNode, TopNode, TypeNode,
+};
+use type_table::table::TypeTable;
+use type_table::value_type::global_type_in;
+
+/// Notes what the channels in a type carry.
+#[tactic(auto, using(crate::proofs::Counting::written_depth))]
+fn note_type(
+    table: &TypeTable<'_>,
+    elements: &mut ElementList,
+    kind: &TypeNode,
+) -> Result<(), AllocError>
+    requires room { length elements.old + type_size (type_of kind.now) < 2 ^ 32 }
+    ensures { OnOk result (elements.new ≡ noting (types_of table.now) (type_of kind.now) elements.old) }
+{
+    match global_type_in(table.types(), kind) {
+        Some(kind) => note_kind(table, elements, kind),
+        None => Ok(()),
+    }
+}
+
+/// The same for a type that may be left out.
+fn note_any(
+    table: &TypeTable<'_>,
+    elements: &mut ElementList,
+    kind: Option<&TypeNode>,
+) -> Result<(), AllocError>
+    requires room { length elements.old + if_any type_size (option_map (λ (t : _). type_of t.now) kind) < 2 ^ 32 }
+    ensures { OnOk result (elements.new ≡ noting_any (types_of table.now) (option_map (λ (t : _). type_of t.now) kind.entry) elements.old) }
+{
+    match kind {
+        Some(kind) => note_type(table, elements, kind),
+        None => Ok(()),
+    }
+}
+
+/// The same for an operation: a `make` names a type.
+fn note_operation(
+    table: &TypeTable<'_>,
+    elements: &mut ElementList,
+    operation: &OperationNode,
+) -> Result<(), AllocError>
+    requires room { length elements.old + operation_size (operation_of operation.now) < 2 ^ 32 }
+    ensures { OnOk result (elements.new ≡ noting_right (types_of table.now) (RightOperation (operation_of operation.now)) elements.old) }
+{
+    match operation {
+        OperationNode::Make(kind, _) => note_type(table, elements, kind),
+        _ => Ok(()),
+    }
+}
+
+/// The same for a right side.
+fn note_right(
+    table: &TypeTable<'_>,
+    elements: &mut ElementList,
+    right: &RightNode,
+) -> Result<(), AllocError>
+    requires room { length elements.old + right_size (right_of right.now) < 2 ^ 32 }
+    ensures { OnOk result (elements.new ≡ noting_right (types_of table.now) (right_of right.now) elements.old) }
+{
+    match right {
+        RightNode::Operation(operation) => note_operation(table, elements, operation),
+        RightNode::Values(_) => Ok(()),
+    }
+}
+
+/// The same for a simple statement.
+fn note_simple(
+    table: &TypeTable<'_>,
+    elements: &mut ElementList,
+    simple: &SimpleNode,
+) -> Result<(), AllocError>
+    requires room { length elements.old + simple_size (simple_of simple.now) < 2 ^ 32 }
+    ensures { OnOk result (elements.new ≡ noting_simple (types_of table.now) (simple_of simple.now) elements.old) }
+{
+    match simple {
+        SimpleNode::Assign(_, right) | SimpleNode::Define(_, right) => {
+            note_right(table, elements, right)
+        }
+        _ => Ok(()),
+    }
+}
+
+/// The same for a right side that may be left out.
+fn note_given(
+    table: &TypeTable<'_>,
+    elements: &mut ElementList,
+    right: &Option<RightNode>,
+) -> Result<(), AllocError>
+    requires room { length elements.old + if_any right_size (option_map right_of right.now) < 2 ^ 32 }
+    ensures { OnOk result (elements.new ≡ noting_given (types_of table.now) (option_map right_of right.now) elements.old) }
+{
+    match right {
+        Some(right) => note_right(table, elements, right),
+        None => Ok(()),
+    }
+}
+
+/// The same for a simple statement that may be left out.
+fn note_first(
+    table: &TypeTable<'_>,
+    elements: &mut ElementList,
+    simple: &Option<SimpleNode>,
+) -> Result<(), AllocError>
+    requires room { length elements.old + if_any simple_size (option_map simple_of simple.now) < 2 ^ 32 }
+    ensures { OnOk result (elements.new ≡ noting_first (types_of table.now) (option_map simple_of simple.now) elements.old) }
+{
+    match simple {
+        Some(simple) => note_simple(table, elements, simple),
+        None => Ok(()),
+    }
+}
+
+/// The same for what stands before the condition of an `if`.
+fn note_header(
+    table: &TypeTable<'_>,
+    elements: &mut ElementList,
+    header: &IfHeader,
+) -> Result<(), AllocError>
+    requires room { length elements.old + if_head_size (if_head_of header.now) < 2 ^ 32 }
+    ensures { OnOk result (elements.new ≡ noting_first (types_of table.now) (head_simple (if_head_of header.now)) elements.old) }
+{
+    match header {
+        IfHeader::Simple(simple) => note_simple(table, elements, simple),
+        IfHeader::Bare | IfHeader::Semicolon => Ok(()),
+    }
+}
+
+/// The same for the head of a loop.
+#[tactic(auto, using(crate::proofs::Counting::first_length))]
+fn note_head(
+    table: &TypeTable<'_>,
+    elements: &mut ElementList,
+    head: &ForHeader,
+) -> Result<(), AllocError>
+    requires room { length elements.old + for_head_size (for_head_of head.now) < 2 ^ 32 }
+    ensures { OnOk result (elements.new ≡ noting_head (types_of table.now) (for_head_of head.now) elements.old) }
+{
+    match head {
+        ForHeader::Clauses(first, _, post) => {
+            note_first(table, elements, first)?;
+            note_first(table, elements, post)
+        }
+        _ => Ok(()),
+    }
+}
+
+/// The same for what is returned.
+fn note_returned(
+    table: &TypeTable<'_>,
+    elements: &mut ElementList,
+    returned: &ReturnNode,
+) -> Result<(), AllocError>
+    requires room { length elements.old + returned_size (returned_of returned.now) < 2 ^ 32 }
+    ensures { OnOk result (elements.new ≡ noting_returned (types_of table.now) (returned_of returned.now) elements.old) }
+{
+    match returned {
+        ReturnNode::Operation(operation) => note_operation(table, elements, operation),
+        ReturnNode::Nothing | ReturnNode::Value(_) => Ok(()),
+    }
+}
+
+/// The same for a statement.
+#[cycle(statement)]
+#[tactic(auto, using(crate::proofs::Counting::noting_length, crate::proofs::Counting::head_length))]
+fn note_statement<'t, 'e, 's>(
+    table: &'t TypeTable<'_>,
+    elements: &'e mut ElementList,
+    statement: &'s StatementNode,
+) -> Result<(), AllocError>
+    requires room { length elements.old + statement_size (statement_of statement.now) < 2 ^ 32 }
+    ensures { OnOk result (elements.new ≡ noting_statement (types_of table.now) (statement_of statement.now) elements.old) }
+{
+    match statement {
+        StatementNode::Simple(simple) => note_simple(table, elements, simple),
+        StatementNode::Typed(_, kind, right) => {
+            note_type(table, elements, kind)?;
+            note_given(table, elements, right)
+        }
+        StatementNode::Untyped(_, right) => note_right(table, elements, right),
+        StatementNode::Block(body) => note_statements(table, elements, body.as_slice()),
+        StatementNode::If(branch) => note_branch(table, elements, branch),
+        StatementNode::For(head, body) => {
+            note_head(table, elements, head)?;
+            note_statements(table, elements, body.as_slice())
+        }
+        StatementNode::Select(clauses) => note_clauses(table, elements, clauses.as_slice()),
+        StatementNode::Return(returned) => note_returned(table, elements, returned),
+        StatementNode::Empty
+        | StatementNode::Go(..)
+        | StatementNode::Break
+        | StatementNode::Continue => Ok(()),
+    }
+}
+
+/// The same for the statements of a block.
+#[cycle(statement)]
+#[tactic(auto, using(crate::proofs::Counting::statement_length))]
+fn note_statements<'t, 'e, 's>(
+    table: &'t TypeTable<'_>,
+    elements: &'e mut ElementList,
+    body: &'s [StatementNode],
+) -> Result<(), AllocError>
+    requires room { length elements.old + statements_size (body_of body.now) < 2 ^ 32 }
+    ensures { OnOk result (elements.new ≡ noting_statements (types_of table.now) (body_of body.now) elements.old) }
+{
+    for one in body {
+        note_statement(table, elements, one)?;
+    }
+    Ok(())
+}
+
+/// The same for an `if`.
+#[cycle(statement)]
+#[tactic(auto, using(crate::proofs::Counting::if_length, crate::proofs::Counting::statements_length))]
+fn note_branch<'t, 'e, 's>(
+    table: &'t TypeTable<'_>,
+    elements: &'e mut ElementList,
+    branch: &'s IfNode,
+) -> Result<(), AllocError>
+    requires room { length elements.old + branch_size (branch_of branch.now) < 2 ^ 32 }
+    ensures { OnOk result (elements.new ≡ noting_branch (types_of table.now) (branch_of branch.now) elements.old) }
+{
+    note_header(table, elements, &branch.header)?;
+    note_statements(table, elements, branch.body.as_slice())?;
+    note_otherwise(table, elements, &branch.otherwise)
+}
+
+/// The same for what an `else` holds.
+#[cycle(statement)]
+fn note_otherwise<'t, 'e, 's>(
+    table: &'t TypeTable<'_>,
+    elements: &'e mut ElementList,
+    otherwise: &'s ElseNode,
+) -> Result<(), AllocError>
+    requires room { length elements.old + otherwise_size (otherwise_of otherwise.now) < 2 ^ 32 }
+    ensures { OnOk result (elements.new ≡ noting_otherwise (types_of table.now) (otherwise_of otherwise.now) elements.old) }
+{
+    match otherwise {
+        ElseNode::Nothing => Ok(()),
+        ElseNode::Block(body) => note_statements(table, elements, body.as_slice()),
+        ElseNode::If(branch) => note_branch(table, elements, branch),
+    }
+}
+
+/// The same for the clauses of a select.
+#[cycle(statement)]
+#[tactic(auto, using(crate::proofs::Counting::statements_length))]
+fn note_clauses<'t, 'e, 's>(
+    table: &'t TypeTable<'_>,
+    elements: &'e mut ElementList,
+    all: &'s [ClauseNode],
+) -> Result<(), AllocError>
+    requires room { length elements.old + clauses_size (clauses (map clause_of all.now)) < 2 ^ 32 }
+    ensures { OnOk result (elements.new ≡ noting_clauses (types_of table.now) (clauses (map clause_of all.now)) elements.old) }
+{
+    for one in all {
+        note_statements(table, elements, one.body.as_slice())?;
+    }
+    Ok(())
+}
+
+/// The same for fields or parameters.
+#[tactic(auto, using(crate::proofs::Counting::noting_length))]
+fn note_declared(
+    table: &TypeTable<'_>,
+    elements: &mut ElementList,
+    groups: &[DeclaredNode],
+) -> Result<(), AllocError>
+    requires room { length elements.old + sum_by declared_size (map declared_of groups.now) < 2 ^ 32 }
+    ensures { OnOk result (elements.new ≡ noting_declared (types_of table.now) (map declared_of groups.now) elements.old) }
+{
+    for group in groups {
+        note_type(table, elements, &group.type_node)?;
+    }
+    Ok(())
+}
