@@ -1,10 +1,10 @@
 -- How many elements are noted at most: one for each node.
-use Rattle.std.proofs.Common.{◌≡◌, ℕ, suc, ◌+◌, ◌≤◌, Bool, true, false, List, [], ◌∷◌, ◌++◌, length, Option, Some, None, option_map, refl, sym, ap, ◌∙◌, arith, length-append}
+use Rattle.std.proofs.Common.{◌≡◌, ℕ, ◌+◌, ◌≤◌, Bool, true, false, List, [], ◌∷◌, ◌++◌, length, Option, Some, None, option_map, sym, ap, ◌∙◌, arith, length-append}
 use Rattle.std.specs.Prelude.{if◌then◌else◌, sum_by, bytes_eq, codes}
 use Rattle.std.specs.Option.{is_some}
 use Rattle.std.proofs.lemmas.List.Sums.{sum_by-cons}
-use Rattle.syntax.specs.Tree.{TypeExpression, NamedType, ParenthesizedType, Channel, Operation, Call, Receive, Make, Length, Capacity, Right, RightOperation, Values, Simple, CallAlone, Close, Print, ReceiveAlone, Send, Increment, Decrement, Assign, Define, Update, IfHead, Bare, Semicolon, First, ForHead, Forever, While, ForClauses, Range, Returned, NoValue, ReturnedOperation, ReturnedValue, Statement, Empty, Alone, VarTyped, VarUntyped, Block, If, For, Select, Go, Return, Break, Continue, Statements, NoStatement, Then, Branch, Conditional, Otherwise, NoElse, ElseBlock, ElseIf, Clauses, NoClause, Clause, Declared, Function, Top, StructTop, FunctionTop}
-use Rattle.syntax.specs.Measures.{if_any, type_size, right_size, operation_size, simple_size, if_head_size, for_head_size, returned_size, statement_size, statements_size, branch_size, otherwise_size, clauses_size, block_size, declared_size, function_size, top_size}
+use Rattle.syntax.specs.Tree.{TypeExpression, NamedType, ParenthesizedType, Channel, Call, Receive, Make, Length, Capacity, Right, RightOperation, Values, Simple, CallAlone, Close, Print, ReceiveAlone, Send, Increment, Decrement, Assign, Define, Update, IfHead, Bare, Semicolon, First, ForHead, Forever, While, ForClauses, Range, Returned, NoValue, ReturnedOperation, ReturnedValue, Statement, Empty, Alone, VarTyped, VarUntyped, Block, If, For, Select, Go, Return, Break, Continue, Statements, NoStatement, Then, Branch, Conditional, Otherwise, NoElse, ElseBlock, ElseIf, Clauses, NoClause, Clause, Declared, Top, StructTop, FunctionTop}
+use Rattle.syntax.specs.Measures.{if_any, type_size, right_size, simple_size, if_head_size, for_head_size, returned_size, statement_size, statements_size, branch_size, otherwise_size, clauses_size, declared_size, top_size}
 use Rattle.type_table.specs.declared.value_type.ValueType.{ValueType as Kind}
 use Rattle.type_table.specs.Views.{kind_of}
 use Rattle.type_table.specs.Types.{ValueType, IntType, BoolType, StructType, ChannelType}

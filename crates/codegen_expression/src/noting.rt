@@ -1,6 +1,6 @@
 //! What the channels of a file carry: each type that is written in it, in order.
 
-ghost use Rattle.std.specs.Prelude.{◌≡◌, ◌+◌, ◌<◌, ◌≤◌, ◌^◌, OnOk, length, map, option_map, sum_by};
+ghost use Rattle.std.specs.Prelude.{◌≡◌, ◌+◌, ◌<◌, ◌≤◌, ◌^◌, [], IfOk, OnOk, length, map, option_map, sum_by};
 ghost use Rattle.syntax.specs.Measures.{if_any, type_size, operation_size, right_size, simple_size, for_head_size, returned_size, statement_size, statements_size, branch_size, otherwise_size, clauses_size, declared_size, function_size, top_size, if_head_size};
 ghost use Rattle.syntax.specs.Tree.{RightOperation};
 ghost use Rattle.syntax.specs.View.{type_of, operation_of, right_of, simple_of, if_head_of, for_head_of, returned_of, statement_of, body_of, branch_of, otherwise_of, clause_of, clauses, declared_of, top_of};
@@ -11,7 +11,7 @@ ghost use Rattle.codegen_base.specs.Program.{noting, noting_any, noting_right, n
 
 use crate::element_list::ElementList;
 use crate::shape::note_kind;
-use std::alloc::AllocError;
+use std::alloc::{AllocError, Global};
 use syntax::{
     ClauseNode, DeclaredNode, ElseNode, ForHeader, IfHeader, IfNode, OperationNode, ReturnNode,
     RightNode, SimpleNode, StatementNode, TopNode, TypeNode,
@@ -20,14 +20,15 @@ use type_table::table::TypeTable;
 use type_table::value_type::global_type_in;
 
 /// Notes what the channels in a type carry.
-#[tactic(auto, using(crate::proofs::Counting::written_depth))]
+#[tactic(auto, using(crate::proofs::Counting::noting_length))]
 fn note_type(
     table: &TypeTable<'_>,
     elements: &mut ElementList,
     kind: &TypeNode,
 ) -> Result<(), AllocError>
     requires room { length elements.old + type_size (type_of kind.now) < 2 ^ 32 }
-    ensures { OnOk result (elements.new ≡ noting (types_of table.now) (type_of kind.now) elements.old) }
+    ensures noted { OnOk result (elements.new ≡ noting (types_of table.now) (type_of kind.now) elements.old) }
+    ensures count { OnOk result (length elements.new ≤ length elements.old + type_size (type_of kind.now)) }
 {
     match global_type_in(table.types(), kind) {
         Some(kind) => note_kind(table, elements, kind),
@@ -36,13 +37,15 @@ fn note_type(
 }
 
 /// The same for a type that may be left out.
+#[tactic(auto, using(crate::proofs::Counting::any_length))]
 fn note_any(
     table: &TypeTable<'_>,
     elements: &mut ElementList,
     kind: Option<&TypeNode>,
 ) -> Result<(), AllocError>
     requires room { length elements.old + if_any type_size (option_map (λ (t : _). type_of t.now) kind) < 2 ^ 32 }
-    ensures { OnOk result (elements.new ≡ noting_any (types_of table.now) (option_map (λ (t : _). type_of t.now) kind.entry) elements.old) }
+    ensures noted { OnOk result (elements.new ≡ noting_any (types_of table.now) (option_map (λ (t : _). type_of t.now) kind.entry) elements.old) }
+    ensures count { OnOk result (length elements.new ≤ length elements.old + if_any type_size (option_map (λ (t : _). type_of t.now) kind.entry)) }
 {
     match kind {
         Some(kind) => note_type(table, elements, kind),
@@ -57,7 +60,8 @@ fn note_operation(
     operation: &OperationNode,
 ) -> Result<(), AllocError>
     requires room { length elements.old + operation_size (operation_of operation.now) < 2 ^ 32 }
-    ensures { OnOk result (elements.new ≡ noting_right (types_of table.now) (RightOperation (operation_of operation.now)) elements.old) }
+    ensures noted { OnOk result (elements.new ≡ noting_right (types_of table.now) (RightOperation (operation_of operation.now)) elements.old) }
+    ensures count { OnOk result (length elements.new ≤ length elements.old + operation_size (operation_of operation.now)) }
 {
     match operation {
         OperationNode::Make(kind, _) => note_type(table, elements, kind),
@@ -72,7 +76,8 @@ fn note_right(
     right: &RightNode,
 ) -> Result<(), AllocError>
     requires room { length elements.old + right_size (right_of right.now) < 2 ^ 32 }
-    ensures { OnOk result (elements.new ≡ noting_right (types_of table.now) (right_of right.now) elements.old) }
+    ensures noted { OnOk result (elements.new ≡ noting_right (types_of table.now) (right_of right.now) elements.old) }
+    ensures count { OnOk result (length elements.new ≤ length elements.old + right_size (right_of right.now)) }
 {
     match right {
         RightNode::Operation(operation) => note_operation(table, elements, operation),
@@ -87,7 +92,8 @@ fn note_simple(
     simple: &SimpleNode,
 ) -> Result<(), AllocError>
     requires room { length elements.old + simple_size (simple_of simple.now) < 2 ^ 32 }
-    ensures { OnOk result (elements.new ≡ noting_simple (types_of table.now) (simple_of simple.now) elements.old) }
+    ensures noted { OnOk result (elements.new ≡ noting_simple (types_of table.now) (simple_of simple.now) elements.old) }
+    ensures count { OnOk result (length elements.new ≤ length elements.old + simple_size (simple_of simple.now)) }
 {
     match simple {
         SimpleNode::Assign(_, right) | SimpleNode::Define(_, right) => {
@@ -98,13 +104,15 @@ fn note_simple(
 }
 
 /// The same for a right side that may be left out.
+#[tactic(auto, using(crate::proofs::Counting::given_length))]
 fn note_given(
     table: &TypeTable<'_>,
     elements: &mut ElementList,
     right: &Option<RightNode>,
 ) -> Result<(), AllocError>
     requires room { length elements.old + if_any right_size (option_map right_of right.now) < 2 ^ 32 }
-    ensures { OnOk result (elements.new ≡ noting_given (types_of table.now) (option_map right_of right.now) elements.old) }
+    ensures noted { OnOk result (elements.new ≡ noting_given (types_of table.now) (option_map right_of right.now) elements.old) }
+    ensures count { OnOk result (length elements.new ≤ length elements.old + if_any right_size (option_map right_of right.now)) }
 {
     match right {
         Some(right) => note_right(table, elements, right),
@@ -113,13 +121,15 @@ fn note_given(
 }
 
 /// The same for a simple statement that may be left out.
+#[tactic(auto, using(crate::proofs::Counting::first_length))]
 fn note_first(
     table: &TypeTable<'_>,
     elements: &mut ElementList,
     simple: &Option<SimpleNode>,
 ) -> Result<(), AllocError>
     requires room { length elements.old + if_any simple_size (option_map simple_of simple.now) < 2 ^ 32 }
-    ensures { OnOk result (elements.new ≡ noting_first (types_of table.now) (option_map simple_of simple.now) elements.old) }
+    ensures noted { OnOk result (elements.new ≡ noting_first (types_of table.now) (option_map simple_of simple.now) elements.old) }
+    ensures count { OnOk result (length elements.new ≤ length elements.old + if_any simple_size (option_map simple_of simple.now)) }
 {
     match simple {
         Some(simple) => note_simple(table, elements, simple),
@@ -128,13 +138,15 @@ fn note_first(
 }
 
 /// The same for what stands before the condition of an `if`.
+#[tactic(auto, using(crate::proofs::Counting::if_length))]
 fn note_header(
     table: &TypeTable<'_>,
     elements: &mut ElementList,
     header: &IfHeader,
 ) -> Result<(), AllocError>
     requires room { length elements.old + if_head_size (if_head_of header.now) < 2 ^ 32 }
-    ensures { OnOk result (elements.new ≡ noting_first (types_of table.now) (head_simple (if_head_of header.now)) elements.old) }
+    ensures noted { OnOk result (elements.new ≡ noting_first (types_of table.now) (head_simple (if_head_of header.now)) elements.old) }
+    ensures count { OnOk result (length elements.new ≤ length elements.old + if_head_size (if_head_of header.now)) }
 {
     match header {
         IfHeader::Simple(simple) => note_simple(table, elements, simple),
@@ -143,14 +155,15 @@ fn note_header(
 }
 
 /// The same for the head of a loop.
-#[tactic(auto, using(crate::proofs::Counting::first_length))]
+#[tactic(auto, using(crate::proofs::Counting::head_length))]
 fn note_head(
     table: &TypeTable<'_>,
     elements: &mut ElementList,
     head: &ForHeader,
 ) -> Result<(), AllocError>
     requires room { length elements.old + for_head_size (for_head_of head.now) < 2 ^ 32 }
-    ensures { OnOk result (elements.new ≡ noting_head (types_of table.now) (for_head_of head.now) elements.old) }
+    ensures noted { OnOk result (elements.new ≡ noting_head (types_of table.now) (for_head_of head.now) elements.old) }
+    ensures count { OnOk result (length elements.new ≤ length elements.old + for_head_size (for_head_of head.now)) }
 {
     match head {
         ForHeader::Clauses(first, _, post) => {
@@ -168,7 +181,8 @@ fn note_returned(
     returned: &ReturnNode,
 ) -> Result<(), AllocError>
     requires room { length elements.old + returned_size (returned_of returned.now) < 2 ^ 32 }
-    ensures { OnOk result (elements.new ≡ noting_returned (types_of table.now) (returned_of returned.now) elements.old) }
+    ensures noted { OnOk result (elements.new ≡ noting_returned (types_of table.now) (returned_of returned.now) elements.old) }
+    ensures count { OnOk result (length elements.new ≤ length elements.old + returned_size (returned_of returned.now)) }
 {
     match returned {
         ReturnNode::Operation(operation) => note_operation(table, elements, operation),
@@ -178,14 +192,15 @@ fn note_returned(
 
 /// The same for a statement.
 #[cycle(statement)]
-#[tactic(auto, using(crate::proofs::Counting::noting_length, crate::proofs::Counting::head_length))]
+#[tactic(auto, using(crate::proofs::Counting::statement_length))]
 fn note_statement<'t, 'e, 's>(
     table: &'t TypeTable<'_>,
     elements: &'e mut ElementList,
     statement: &'s StatementNode,
 ) -> Result<(), AllocError>
     requires room { length elements.old + statement_size (statement_of statement.now) < 2 ^ 32 }
-    ensures { OnOk result (elements.new ≡ noting_statement (types_of table.now) (statement_of statement.now) elements.old) }
+    ensures noted { OnOk result (elements.new ≡ noting_statement (types_of table.now) (statement_of statement.now) elements.old) }
+    ensures count { OnOk result (length elements.new ≤ length elements.old + statement_size (statement_of statement.now)) }
 {
     match statement {
         StatementNode::Simple(simple) => note_simple(table, elements, simple),
@@ -211,14 +226,15 @@ fn note_statement<'t, 'e, 's>(
 
 /// The same for the statements of a block.
 #[cycle(statement)]
-#[tactic(auto, using(crate::proofs::Counting::statement_length))]
+#[tactic(auto, using(crate::proofs::Counting::statements_length))]
 fn note_statements<'t, 'e, 's>(
     table: &'t TypeTable<'_>,
     elements: &'e mut ElementList,
     body: &'s [StatementNode],
 ) -> Result<(), AllocError>
     requires room { length elements.old + statements_size (body_of body.now) < 2 ^ 32 }
-    ensures { OnOk result (elements.new ≡ noting_statements (types_of table.now) (body_of body.now) elements.old) }
+    ensures noted { OnOk result (elements.new ≡ noting_statements (types_of table.now) (body_of body.now) elements.old) }
+    ensures count { OnOk result (length elements.new ≤ length elements.old + statements_size (body_of body.now)) }
 {
     for one in body {
         note_statement(table, elements, one)?;
@@ -228,14 +244,15 @@ fn note_statements<'t, 'e, 's>(
 
 /// The same for an `if`.
 #[cycle(statement)]
-#[tactic(auto, using(crate::proofs::Counting::if_length, crate::proofs::Counting::statements_length))]
+#[tactic(auto, using(crate::proofs::Counting::branch_length))]
 fn note_branch<'t, 'e, 's>(
     table: &'t TypeTable<'_>,
     elements: &'e mut ElementList,
     branch: &'s IfNode,
 ) -> Result<(), AllocError>
     requires room { length elements.old + branch_size (branch_of branch.now) < 2 ^ 32 }
-    ensures { OnOk result (elements.new ≡ noting_branch (types_of table.now) (branch_of branch.now) elements.old) }
+    ensures noted { OnOk result (elements.new ≡ noting_branch (types_of table.now) (branch_of branch.now) elements.old) }
+    ensures count { OnOk result (length elements.new ≤ length elements.old + branch_size (branch_of branch.now)) }
 {
     note_header(table, elements, &branch.header)?;
     note_statements(table, elements, branch.body.as_slice())?;
@@ -244,13 +261,15 @@ fn note_branch<'t, 'e, 's>(
 
 /// The same for what an `else` holds.
 #[cycle(statement)]
+#[tactic(auto, using(crate::proofs::Counting::otherwise_length))]
 fn note_otherwise<'t, 'e, 's>(
     table: &'t TypeTable<'_>,
     elements: &'e mut ElementList,
     otherwise: &'s ElseNode,
 ) -> Result<(), AllocError>
     requires room { length elements.old + otherwise_size (otherwise_of otherwise.now) < 2 ^ 32 }
-    ensures { OnOk result (elements.new ≡ noting_otherwise (types_of table.now) (otherwise_of otherwise.now) elements.old) }
+    ensures noted { OnOk result (elements.new ≡ noting_otherwise (types_of table.now) (otherwise_of otherwise.now) elements.old) }
+    ensures count { OnOk result (length elements.new ≤ length elements.old + otherwise_size (otherwise_of otherwise.now)) }
 {
     match otherwise {
         ElseNode::Nothing => Ok(()),
@@ -261,14 +280,15 @@ fn note_otherwise<'t, 'e, 's>(
 
 /// The same for the clauses of a select.
 #[cycle(statement)]
-#[tactic(auto, using(crate::proofs::Counting::statements_length))]
+#[tactic(auto, using(crate::proofs::Counting::clauses_length))]
 fn note_clauses<'t, 'e, 's>(
     table: &'t TypeTable<'_>,
     elements: &'e mut ElementList,
     all: &'s [ClauseNode],
 ) -> Result<(), AllocError>
     requires room { length elements.old + clauses_size (clauses (map clause_of all.now)) < 2 ^ 32 }
-    ensures { OnOk result (elements.new ≡ noting_clauses (types_of table.now) (clauses (map clause_of all.now)) elements.old) }
+    ensures noted { OnOk result (elements.new ≡ noting_clauses (types_of table.now) (clauses (map clause_of all.now)) elements.old) }
+    ensures count { OnOk result (length elements.new ≤ length elements.old + clauses_size (clauses (map clause_of all.now))) }
 {
     for one in all {
         note_statements(table, elements, one.body.as_slice())?;
@@ -277,17 +297,56 @@ fn note_clauses<'t, 'e, 's>(
 }
 
 /// The same for fields or parameters.
-#[tactic(auto, using(crate::proofs::Counting::noting_length))]
+#[tactic(auto, using(crate::proofs::Counting::declared_length))]
 fn note_declared(
     table: &TypeTable<'_>,
     elements: &mut ElementList,
     groups: &[DeclaredNode],
 ) -> Result<(), AllocError>
     requires room { length elements.old + sum_by declared_size (map declared_of groups.now) < 2 ^ 32 }
-    ensures { OnOk result (elements.new ≡ noting_declared (types_of table.now) (map declared_of groups.now) elements.old) }
+    ensures noted { OnOk result (elements.new ≡ noting_declared (types_of table.now) (map declared_of groups.now) elements.old) }
+    ensures count { OnOk result (length elements.new ≤ length elements.old + sum_by declared_size (map declared_of groups.now)) }
 {
     for group in groups {
         note_type(table, elements, &group.type_node)?;
     }
     Ok(())
+}
+
+/// The same for a declaration.
+#[tactic(auto, using(crate::proofs::Counting::top_length))]
+fn note_top(
+    table: &TypeTable<'_>,
+    elements: &mut ElementList,
+    top: &TopNode,
+) -> Result<(), AllocError>
+    requires room { length elements.old + top_size (top_of top.now) < 2 ^ 32 }
+    ensures noted { OnOk result (elements.new ≡ noting_top (types_of table.now) (top_of top.now) elements.old) }
+    ensures count { OnOk result (length elements.new ≤ length elements.old + top_size (top_of top.now)) }
+{
+    match top {
+        TopNode::Struct(one) => note_declared(table, elements, one.fields.as_slice()),
+        TopNode::Function(function) => {
+            note_declared(table, elements, function.parameters.as_slice())?;
+            note_any(table, elements, function.result.as_ref())?;
+            note_statements(table, elements, function.body.as_slice())
+        }
+    }
+}
+
+/// What the channels of a file carry.
+#[tactic(auto, using(crate::proofs::Counting::tops_length))]
+pub fn elements_in(
+    alloc: Global,
+    table: &TypeTable<'_>,
+    tops: &[TopNode],
+) -> Result<ElementList, AllocError>
+    requires small { sum_by top_size (map top_of tops.now) < 2 ^ 32 }
+    ensures { IfOk result (λ elements. elements ≡ noting_tops (types_of table.now) (map top_of tops.now) []) }
+{
+    let mut elements = ElementList::new(alloc);
+    for top in tops {
+        note_top(table, &mut elements, top)?;
+    }
+    Ok(elements)
 }

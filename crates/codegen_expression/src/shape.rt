@@ -48,7 +48,8 @@ pub fn note_kind<'t, 'e>(
     kind: ValueType<'_>,
 ) -> Result<(), AllocError>
     requires room { length elements.old + depth (kind_of (types_of table.now) kind) < 2 ^ 32 }
-    ensures { OnOk result (elements.new ≡ with_type elements.old (kind_of (types_of table.now) kind.entry)) }
+    ensures count { OnOk result (length elements.new ≤ length elements.old + depth (kind_of (types_of table.now) kind.entry)) }
+    ensures noted { OnOk result (elements.new ≡ with_type elements.old (kind_of (types_of table.now) kind.entry)) }
 {
     match kind {
         ValueType::Channel(_, carried) => {
