@@ -1,0 +1,3 @@
+pub mod Tasks
+pub mod Steps
+pub mod Operands

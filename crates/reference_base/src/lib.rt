@@ -1,0 +1,6 @@
+//! Goroutines as the source says: frames of variables and tasks, what each task does, and what becomes of replies.
+#![tactic(auto)]
+
+pub mod operand;
+pub mod program;
+pub mod task;
