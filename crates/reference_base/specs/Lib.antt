@@ -1,3 +1,4 @@
+pub mod Codes
 pub mod Tasks
 pub mod Steps
 pub mod Operands

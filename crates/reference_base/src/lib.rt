@@ -2,5 +2,7 @@
 #![tactic(auto)]
 
 pub mod operand;
+pub mod outcome;
 pub mod program;
+pub mod step;
 pub mod task;
