@@ -1,0 +1,5 @@
+pub mod Codes
+pub mod Tasks
+pub mod Calls
+pub mod Steps
+pub mod Operands

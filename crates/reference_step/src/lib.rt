@@ -1,0 +1,6 @@
+//! The steps of goroutines as the source says: what each task does, and what becomes of replies.
+#![tactic(auto)]
+
+mod places;
+mod simple;
+mod statement;

@@ -1,0 +1,408 @@
+//! What simple statements do.
+
+ghost use Rattle.std.specs.Prelude.{◌≡◌, ◌++◌, ◌∷◌, [], Bool, List, IfErr, IfOk, OnOk, Ok, map};
+ghost use Rattle.syntax.specs.Tree.{Assign, Close, Define, Print, Send, Update};
+ghost use Rattle.syntax.specs.View.{expression_of, file_of, name_of, operation_of, part_of, place_of, right_of, simple_of, type_of};
+ghost use Rattle.type_table.specs.Views.{kind_of};
+ghost use Rattle.type_table.specs.Visible.{types_of};
+ghost use Rattle.meaning.specs.Destinations.{placed};
+ghost use Rattle.meaning.specs.Source.{globals, gives, made_kind, makes, operates, simple_next, updates, value_at};
+ghost use Rattle.meaning.specs.Expressions.{word_in};
+ghost use Rattle.meaning.specs.Tasks.{Store, frame};
+ghost use Rattle.reference_value.specs.Destinations.{destinations_of};
+ghost use Rattle.reference_value.specs.Scopes.{blocks_of};
+ghost use Rattle.reference_value.specs.Stops.{Fails};
+ghost use Rattle.reference_base.specs.Steps.{Goes, Panics, Went};
+ghost use Rattle.reference_base.specs.Tasks.{frame_of, frames_of, purpose_of, tasks_of};
+
+use crate::places::{assigned, defined};
+use reference_base::call::call;
+use reference_base::operand::{
+    channel, item_in, item_zeros, number_in, one, one_value, printed, texts,
+};
+use reference_base::outcome::Move;
+use reference_base::program::Program;
+use reference_base::task::{Frame, Purpose, Task};
+use reference_value::fault::Stop;
+use reference_value::kind::{element_kind, written_kind};
+use reference_value::place::{Destination, placed, value_at};
+use reference_value::value::{value, values};
+use reference_value::words::{between, settled, word_in};
+use std::alloc::{AllocError, Global};
+use syntax::{
+    BinaryOperator, ExpressionNode, Name, OperationNode, PartNode, PlaceNode, RightNode,
+    SimpleNode, TypeNode,
+};
+use type_table::value_type::{ValueType, element_in};
+use type_table::zero::zero;
+use word::request::Request;
+use word::value::Word;
+
+/// What a channel carries that is made by this type.
+fn made_kind<'t>(program: &Program<'t>, kind: &'t TypeNode) -> ValueType<'t>
+    ensures { kind_of (types_of program.now.table) result ≡ made_kind (file_of program.now.file.now) [] [] [] (type_of kind.now) }
+{
+    match written_kind(&program.table, kind) {
+        ValueType::Channel(_, element) => element_in(&program.table, element),
+        _ => ValueType::Int,
+    }
+}
+
+/// A new channel.
+fn makes<'t>(
+    alloc: Global,
+    program: &Program<'t>,
+    top: &mut Frame<'t>,
+    callers: &[Frame<'t>],
+    kind: &'t TypeNode,
+    size: i64,
+    purpose: Purpose<'t>,
+) -> Result<(), Stop>
+    ensures ok { OnOk result (Goes (makes (file_of program.now.file.now) (blocks_of (types_of program.now.table) top.old.scope) (tasks_of (types_of program.now.table) top.old.tasks.items) (frames_of (types_of program.now.table) callers.now) (type_of kind.now) size (purpose_of (types_of program.now.table) purpose.entry)) (types_of program.now.table) top.new callers.now) }
+    ensures err { IfErr result (Panics (makes (file_of program.now.file.now) (blocks_of (types_of program.now.table) top.old.scope) (tasks_of (types_of program.now.table) top.old.tasks.items) (frames_of (types_of program.now.table) callers.now) (type_of kind.now) size (purpose_of (types_of program.now.table) purpose.entry))) }
+{
+    let _callers = callers;
+    let zero = zero(alloc, &program.table, made_kind(program, kind))?;
+    let zeros = one_value(alloc, Word::Chan(None))?;
+    top.push(Task::Ask(Request::Make(size, zero), zeros, purpose))?;
+    Ok(())
+}
+
+/// What stands alone on the right of an assignment, or behind `return`.
+///
+/// Errors: the panic that is met first; want of memory.
+pub(crate) fn operates<'t>(
+    alloc: Global,
+    program: &Program<'t>,
+    top: &mut Frame<'t>,
+    callers: &[Frame<'t>],
+    operation: &'t OperationNode,
+    purpose: Purpose<'t>,
+) -> Result<Move<'t>, Stop>
+    ensures ok { IfOk result (λ move. Went (operates (file_of program.now.file.now) (blocks_of (types_of program.now.table) top.old.scope) (tasks_of (types_of program.now.table) top.old.tasks.items) (frames_of (types_of program.now.table) callers.now) (operation_of operation.now) (purpose_of (types_of program.now.table) purpose.entry)) (types_of program.now.table) move top.new callers.now) }
+    ensures err { IfErr result (Panics (operates (file_of program.now.file.now) (blocks_of (types_of program.now.table) top.old.scope) (tasks_of (types_of program.now.table) top.old.tasks.items) (frames_of (types_of program.now.table) callers.now) (operation_of operation.now) (purpose_of (types_of program.now.table) purpose.entry))) }
+{
+    match operation {
+        OperationNode::Call(name, arguments) => {
+            call(alloc, program, top, callers, name, arguments, purpose)
+        }
+        OperationNode::Receive(from) => {
+            let c = channel(alloc, program, &top.scope, from)?;
+            let kind = element_kind(&program.table, &top.scope, from);
+            let zeros = item_zeros(alloc, program, kind)?;
+            top.push(Task::Ask(Request::Receive(c), zeros, purpose))?;
+            Ok(Move::Slides)
+        }
+        OperationNode::Make(kind, None) => {
+            makes(alloc, program, top, callers, kind, 0, purpose)?;
+            Ok(Move::Slides)
+        }
+        OperationNode::Make(kind, Some(size)) => {
+            let size = number_in(one(alloc, program, &top.scope, size)?);
+            makes(alloc, program, top, callers, kind, size, purpose)?;
+            Ok(Move::Slides)
+        }
+        OperationNode::Length(from) => {
+            let c = channel(alloc, program, &top.scope, from)?;
+            let zeros = one_value(alloc, Word::Int(0))?;
+            top.push(Task::Ask(Request::Len(c), zeros, purpose))?;
+            Ok(Move::Slides)
+        }
+        OperationNode::Capacity(from) => {
+            let c = channel(alloc, program, &top.scope, from)?;
+            let zeros = one_value(alloc, Word::Int(0))?;
+            top.push(Task::Ask(Request::Cap(c), zeros, purpose))?;
+            Ok(Move::Slides)
+        }
+    }
+}
+
+/// What a right side gives goes to these destinations.
+///
+/// Errors: the panic that is met first; want of memory.
+pub(crate) fn gives<'t>(
+    alloc: Global,
+    program: &Program<'t>,
+    top: &mut Frame<'t>,
+    callers: &[Frame<'t>],
+    destinations: Vec<Destination<'t>>,
+    right: &'t RightNode,
+) -> Result<Move<'t>, Stop>
+    ensures ok { IfOk result (λ move. Went (gives (file_of program.now.file.now) (blocks_of (types_of program.now.table) top.old.scope) (tasks_of (types_of program.now.table) top.old.tasks.items) (frames_of (types_of program.now.table) callers.now) (destinations_of (types_of program.now.table) destinations.entry.items) (right_of right.now)) (types_of program.now.table) move top.new callers.now) }
+    ensures err { IfErr result (Panics (gives (file_of program.now.file.now) (blocks_of (types_of program.now.table) top.old.scope) (tasks_of (types_of program.now.table) top.old.tasks.items) (frames_of (types_of program.now.table) callers.now) (destinations_of (types_of program.now.table) destinations.entry.items) (right_of right.now))) }
+{
+    match right {
+        RightNode::Operation(operation) => {
+            operates(
+                alloc,
+                program,
+                top,
+                callers,
+                operation,
+                Purpose::Assigned(destinations),
+            )
+        }
+        RightNode::Values(all) => {
+            let all = values(alloc, &program.table, &top.scope, all.as_slice())?;
+            top.push(Task::Store(destinations, all))?;
+            Ok(Move::Slides)
+        }
+    }
+}
+
+/// A close.
+fn close<'t>(
+    alloc: Global,
+    program: &Program<'t>,
+    top: &mut Frame<'t>,
+    callers: &[Frame<'t>],
+    from: &'t ExpressionNode,
+) -> Result<(), Stop>
+    ensures ok { OnOk result (Goes (simple_next (file_of program.now.file.now) (blocks_of (types_of program.now.table) top.old.scope) (tasks_of (types_of program.now.table) top.old.tasks.items) (frames_of (types_of program.now.table) callers.now) (Close (expression_of from.now))) (types_of program.now.table) top.new callers.now) }
+    ensures err { IfErr result (Panics (simple_next (file_of program.now.file.now) (blocks_of (types_of program.now.table) top.old.scope) (tasks_of (types_of program.now.table) top.old.tasks.items) (frames_of (types_of program.now.table) callers.now) (Close (expression_of from.now)))) }
+{
+    let _callers = callers;
+    let c = channel(alloc, program, &top.scope, from)?;
+    top.push(Task::Ask(Request::Close(c), Vec::new(alloc), Purpose::Unused))?;
+    Ok(())
+}
+
+/// A print.
+fn print<'t>(
+    alloc: Global,
+    program: &Program<'t>,
+    top: &mut Frame<'t>,
+    callers: &[Frame<'t>],
+    line: bool,
+    parts: &[PartNode],
+    trailing: bool,
+) -> Result<(), Stop>
+    ensures ok { OnOk result (Goes (simple_next (file_of program.now.file.now) (blocks_of (types_of program.now.table) top.old.scope) (tasks_of (types_of program.now.table) top.old.tasks.items) (frames_of (types_of program.now.table) callers.now) (Print line (map part_of parts.now) trailing)) (types_of program.now.table) top.new callers.now) }
+    ensures err { IfErr result (Panics (simple_next (file_of program.now.file.now) (blocks_of (types_of program.now.table) top.old.scope) (tasks_of (types_of program.now.table) top.old.tasks.items) (frames_of (types_of program.now.table) callers.now) (Print line (map part_of parts.now) trailing))) }
+{
+    let _callers = callers;
+    let _trailing = trailing;
+    let all = texts(alloc, program, &top.scope, parts)?;
+    let bytes = printed(alloc, line, all.as_slice())?;
+    top.push(Task::Ask(Request::Print(bytes), Vec::new(alloc), Purpose::Unused))?;
+    Ok(())
+}
+
+/// A send.
+fn send<'t>(
+    alloc: Global,
+    program: &Program<'t>,
+    top: &mut Frame<'t>,
+    callers: &[Frame<'t>],
+    to: &'t ExpressionNode,
+    item: &'t ExpressionNode,
+) -> Result<(), Stop>
+    ensures ok { OnOk result (Goes (simple_next (file_of program.now.file.now) (blocks_of (types_of program.now.table) top.old.scope) (tasks_of (types_of program.now.table) top.old.tasks.items) (frames_of (types_of program.now.table) callers.now) (Send (expression_of to.now) (expression_of item.now))) (types_of program.now.table) top.new callers.now) }
+    ensures err { IfErr result (Panics (simple_next (file_of program.now.file.now) (blocks_of (types_of program.now.table) top.old.scope) (tasks_of (types_of program.now.table) top.old.tasks.items) (frames_of (types_of program.now.table) callers.now) (Send (expression_of to.now) (expression_of item.now)))) }
+{
+    let _callers = callers;
+    let c = channel(alloc, program, &top.scope, to)?;
+    let words = item_in(alloc, program, &top.scope, to, item)?;
+    top.push(Task::Ask(Request::Send(c, words), Vec::new(alloc), Purpose::Unused))?;
+    Ok(())
+}
+
+/// The word that a place holds.
+fn held<'t>(
+    alloc: Global,
+    program: &Program<'t>,
+    top: &Frame<'t>,
+    place: &PlaceNode,
+) -> Result<Word, AllocError>
+    ensures { IfOk result (λ w. w ≡ word_in (value_at (file_of program.now.file.now) (blocks_of (types_of program.now.table) top.now.scope) [] [] (place_of place.now))) }
+{
+    let words = value_at(alloc, &program.table, &top.scope, place)?;
+    Ok(word_in(words.as_slice()))
+}
+
+/// A place gets a word.
+fn stores<'t>(
+    alloc: Global,
+    program: &Program<'t>,
+    top: &mut Frame<'t>,
+    place: &'t PlaceNode,
+    word: Word,
+) -> Result<(), AllocError>
+    ensures { OnOk result (frame_of (types_of program.now.table) top.new ≡ frame (blocks_of (types_of program.now.table) top.old.scope) (Store (placed (globals (file_of program.now.file.now)) (blocks_of (types_of program.now.table) top.old.scope) (place_of place.now) ∷ []) ((word ∷ []) ∷ []) ∷ (tasks_of (types_of program.now.table) top.old.tasks.items))) }
+{
+    let mut destinations = Vec::new(alloc);
+    destinations.push(placed(&program.table, &top.scope, place))?;
+    let values = one_value(alloc, word)?;
+    top.push(Task::Store(destinations, values))?;
+    Ok(())
+}
+
+/// A place gets the value of an operator between its own and this word.
+fn counts<'t>(
+    alloc: Global,
+    program: &Program<'t>,
+    top: &mut Frame<'t>,
+    callers: &[Frame<'t>],
+    place: &'t PlaceNode,
+    operator: BinaryOperator,
+    by: Word,
+) -> Result<(), Stop>
+    ensures ok { OnOk result (Goes (updates (file_of program.now.file.now) (blocks_of (types_of program.now.table) top.old.scope) (tasks_of (types_of program.now.table) top.old.tasks.items) (frames_of (types_of program.now.table) callers.now) (place_of place.now) operator (Ok (by ∷ []))) (types_of program.now.table) top.new callers.now) }
+    ensures err { IfErr result (Panics (updates (file_of program.now.file.now) (blocks_of (types_of program.now.table) top.old.scope) (tasks_of (types_of program.now.table) top.old.tasks.items) (frames_of (types_of program.now.table) callers.now) (place_of place.now) operator (Ok (by ∷ [])))) }
+{
+    let _callers = callers;
+    let a = held(alloc, program, top, place)?;
+    if let Some(word) = settled(operator, a) {
+        stores(alloc, program, top, place, word)?;
+        return Ok(());
+    }
+    let word = between(operator, a, by)?;
+    stores(alloc, program, top, place, word)?;
+    Ok(())
+}
+
+/// A place gets the value of an operator between its own and an operand.
+fn updates<'t>(
+    alloc: Global,
+    program: &Program<'t>,
+    top: &mut Frame<'t>,
+    callers: &[Frame<'t>],
+    place: &'t PlaceNode,
+    operator: BinaryOperator,
+    operand: &'t ExpressionNode,
+) -> Result<(), Stop>
+    ensures ok { OnOk result (Goes (simple_next (file_of program.now.file.now) (blocks_of (types_of program.now.table) top.old.scope) (tasks_of (types_of program.now.table) top.old.tasks.items) (frames_of (types_of program.now.table) callers.now) (Update (place_of place.now) operator (expression_of operand.now))) (types_of program.now.table) top.new callers.now) }
+    ensures err { IfErr result (Panics (simple_next (file_of program.now.file.now) (blocks_of (types_of program.now.table) top.old.scope) (tasks_of (types_of program.now.table) top.old.tasks.items) (frames_of (types_of program.now.table) callers.now) (Update (place_of place.now) operator (expression_of operand.now)))) }
+{
+    let _callers = callers;
+    let a = held(alloc, program, top, place)?;
+    if let Some(word) = settled(operator, a) {
+        stores(alloc, program, top, place, word)?;
+        return Ok(());
+    }
+    let b = value(alloc, &program.table, &top.scope, operand)?;
+    let word = between(operator, a, word_in(b.as_slice()))?;
+    stores(alloc, program, top, place, word)?;
+    Ok(())
+}
+
+/// An assignment.
+fn assign<'t>(
+    alloc: Global,
+    program: &Program<'t>,
+    top: &mut Frame<'t>,
+    callers: &[Frame<'t>],
+    places: &'t [PlaceNode],
+    right: &'t RightNode,
+) -> Result<Move<'t>, Stop>
+    ensures ok { IfOk result (λ move. Went (simple_next (file_of program.now.file.now) (blocks_of (types_of program.now.table) top.old.scope) (tasks_of (types_of program.now.table) top.old.tasks.items) (frames_of (types_of program.now.table) callers.now) (Assign (map place_of places.now) (right_of right.now))) (types_of program.now.table) move top.new callers.now) }
+    ensures err { IfErr result (Panics (simple_next (file_of program.now.file.now) (blocks_of (types_of program.now.table) top.old.scope) (tasks_of (types_of program.now.table) top.old.tasks.items) (frames_of (types_of program.now.table) callers.now) (Assign (map place_of places.now) (right_of right.now)))) }
+{
+    let destinations = assigned(alloc, program, &top.scope, places)?;
+    gives(alloc, program, top, callers, destinations, right)
+}
+
+/// A `:=`.
+fn define<'t>(
+    alloc: Global,
+    program: &Program<'t>,
+    top: &mut Frame<'t>,
+    callers: &[Frame<'t>],
+    names: &'t [Name],
+    right: &'t RightNode,
+) -> Result<Move<'t>, Stop>
+    ensures ok { IfOk result (λ move. Went (simple_next (file_of program.now.file.now) (blocks_of (types_of program.now.table) top.old.scope) (tasks_of (types_of program.now.table) top.old.tasks.items) (frames_of (types_of program.now.table) callers.now) (Define (map name_of names.now) (right_of right.now))) (types_of program.now.table) move top.new callers.now) }
+    ensures err { IfErr result (Panics (simple_next (file_of program.now.file.now) (blocks_of (types_of program.now.table) top.old.scope) (tasks_of (types_of program.now.table) top.old.tasks.items) (frames_of (types_of program.now.table) callers.now) (Define (map name_of names.now) (right_of right.now)))) }
+{
+    let destinations = defined(alloc, program, &top.scope, names, right)?;
+    gives(alloc, program, top, callers, destinations, right)
+}
+
+/// A simple statement.
+///
+/// Errors: the panic that is met first; want of memory.
+pub(crate) fn simple<'t>(
+    alloc: Global,
+    program: &Program<'t>,
+    top: &mut Frame<'t>,
+    callers: &[Frame<'t>],
+    simple: &'t SimpleNode,
+) -> Result<Move<'t>, Stop>
+    ensures ok { IfOk result (λ move. Went (simple_next (file_of program.now.file.now) (blocks_of (types_of program.now.table) top.old.scope) (tasks_of (types_of program.now.table) top.old.tasks.items) (frames_of (types_of program.now.table) callers.now) (simple_of simple.now)) (types_of program.now.table) move top.new callers.now) }
+    ensures err { IfErr result (Panics (simple_next (file_of program.now.file.now) (blocks_of (types_of program.now.table) top.old.scope) (tasks_of (types_of program.now.table) top.old.tasks.items) (frames_of (types_of program.now.table) callers.now) (simple_of simple.now))) }
+{
+    match simple {
+        SimpleNode::Call(name, arguments) => {
+            call(
+                alloc,
+                program,
+                top,
+                callers,
+                name,
+                arguments,
+                Purpose::Unused,
+            )
+        }
+        SimpleNode::Close(from) => {
+            close(alloc, program, top, callers, from)?;
+            Ok(Move::Slides)
+        }
+        SimpleNode::Print(line, parts, trailing) => {
+            print(
+                alloc,
+                program,
+                top,
+                callers,
+                *line,
+                parts.as_slice(),
+                *trailing,
+            )?;
+            Ok(Move::Slides)
+        }
+        SimpleNode::Receive(from) => {
+            let c = channel(alloc, program, &top.scope, from)?;
+            let kind = element_kind(&program.table, &top.scope, from);
+            let zeros = item_zeros(alloc, program, kind)?;
+            top.push(Task::Ask(Request::Receive(c), zeros, Purpose::Unused))?;
+            Ok(Move::Slides)
+        }
+        SimpleNode::Send(to, item) => {
+            send(alloc, program, top, callers, to, item)?;
+            Ok(Move::Slides)
+        }
+        SimpleNode::Increment(place) => {
+            counts(
+                alloc,
+                program,
+                top,
+                callers,
+                place,
+                BinaryOperator::Add,
+                Word::Int(1),
+            )?;
+            Ok(Move::Slides)
+        }
+        SimpleNode::Decrement(place) => {
+            counts(
+                alloc,
+                program,
+                top,
+                callers,
+                place,
+                BinaryOperator::Subtract,
+                Word::Int(1),
+            )?;
+            Ok(Move::Slides)
+        }
+        SimpleNode::Update(place, operator, operand) => {
+            updates(alloc, program, top, callers, place, *operator, operand)?;
+            Ok(Move::Slides)
+        }
+        SimpleNode::Assign(places, right) => {
+            assign(alloc, program, top, callers, places.as_slice(), right)
+        }
+        SimpleNode::Define(names, right) => {
+            define(alloc, program, top, callers, names.as_slice(), right)
+        }
+    }
+}

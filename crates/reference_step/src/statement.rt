@@ -1,0 +1,170 @@
+//! What blocks, ifs, loops and returns do.
+
+ghost use Rattle.std.specs.Prelude.{◌≡◌, ℕ, List, IfErr, OnOk, IfOk};
+ghost use Rattle.syntax.specs.View.{body_of, branch_of, file_of, otherwise_of, returned_of};
+ghost use Rattle.type_table.specs.Visible.{types_of};
+ghost use Rattle.meaning.specs.Source.{branch_next, enters_block, otherwise_next, return_next, task_next};
+ghost use Rattle.meaning.specs.Tasks.{all_of, broken, continued};
+ghost use Rattle.reference_value.specs.Scopes.{blocks_of};
+ghost use Rattle.reference_base.specs.Steps.{Goes, Panics, Went};
+ghost use Rattle.reference_base.specs.Tasks.{decided, frame_of, frames_of, tasks_of};
+
+use crate::simple::operates;
+use reference_base::operand::{one, truth_in};
+use reference_base::outcome::Move;
+use reference_base::program::Program;
+use reference_base::task::{Frame, Purpose, Task};
+use reference_value::fault::Stop;
+use reference_value::value::value;
+use std::alloc::{AllocError, Global};
+use syntax::node::IfHeader;
+use syntax::{ElseNode, IfNode, ReturnNode, StatementNode};
+
+/// Leaves a loop or a select.
+#[tactic(auto, using(reference_value::proofs::Lasts::shown_last))]
+pub(crate) fn leave(top: &mut Frame<'_>)
+    ensures { (types : List (List ℕ)) → frame_of types top.new ≡ broken (blocks_of types top.old.scope) (tasks_of types top.old.tasks.items) }
+{
+    match top.tasks.pop() {
+        None => {}
+        Some(Task::EndBlock) => {
+            top.scope.leave();
+            leave(top);
+        }
+        Some(Task::Again(_) | Task::EndSelect) => top.scope.leave(),
+        Some(_) => leave(top),
+    }
+}
+
+/// Goes to the end of a loop's body.
+#[tactic(auto, using(reference_value::proofs::Lasts::shown_last))]
+pub(crate) fn go_on(top: &mut Frame<'_>) -> Result<(), AllocError>
+    ensures { (types : List (List ℕ)) → OnOk result (frame_of types top.new ≡ continued (blocks_of types top.old.scope) (tasks_of types top.old.tasks.items)) }
+{
+    match top.tasks.pop() {
+        None => Ok(()),
+        Some(Task::EndBlock | Task::EndSelect) => {
+            top.scope.leave();
+            go_on(top)?;
+            Ok(())
+        }
+        Some(Task::Again(again)) => {
+            top.push(Task::Again(again))?;
+            Ok(())
+        }
+        Some(_) => {
+            go_on(top)?;
+            Ok(())
+        }
+    }
+}
+
+/// Goes into a block of these statements.
+pub(crate) fn block<'t>(
+    alloc: Global,
+    program: &Program<'t>,
+    top: &mut Frame<'t>,
+    callers: &[Frame<'t>],
+    body: &'t [StatementNode],
+) -> Result<(), Stop>
+    ensures ok { OnOk result (Goes (enters_block (file_of program.now.file.now) (blocks_of (types_of program.now.table) top.old.scope) (tasks_of (types_of program.now.table) top.old.tasks.items) (frames_of (types_of program.now.table) callers.now) (all_of (body_of body.now))) (types_of program.now.table) top.new callers.now) }
+    ensures err { IfErr result (Panics (enters_block (file_of program.now.file.now) (blocks_of (types_of program.now.table) top.old.scope) (tasks_of (types_of program.now.table) top.old.tasks.items) (frames_of (types_of program.now.table) callers.now) (all_of (body_of body.now)))) }
+{
+    let _program = program;
+    let _callers = callers;
+    top.scope.enter(alloc)?;
+    top.push(Task::EndBlock)?;
+    top.push_all(alloc, body)?;
+    Ok(())
+}
+
+/// An if.
+pub(crate) fn branch<'t>(
+    alloc: Global,
+    program: &Program<'t>,
+    top: &mut Frame<'t>,
+    callers: &[Frame<'t>],
+    branch: &'t IfNode,
+) -> Result<(), Stop>
+    ensures ok { OnOk result (Goes (branch_next (file_of program.now.file.now) (blocks_of (types_of program.now.table) top.old.scope) (tasks_of (types_of program.now.table) top.old.tasks.items) (frames_of (types_of program.now.table) callers.now) (branch_of branch.now)) (types_of program.now.table) top.new callers.now) }
+    ensures err { IfErr result (Panics (branch_next (file_of program.now.file.now) (blocks_of (types_of program.now.table) top.old.scope) (tasks_of (types_of program.now.table) top.old.tasks.items) (frames_of (types_of program.now.table) callers.now) (branch_of branch.now))) }
+{
+    let _program = program;
+    let _callers = callers;
+    top.scope.enter(alloc)?;
+    top.push(Task::EndBlock)?;
+    top.push(Task::Decide(Box::new(alloc, branch)?))?;
+    match &branch.header {
+        IfHeader::Simple(first) => top.push(Task::Simply(Box::new(alloc, first)?))?,
+        IfHeader::Bare => {}
+        IfHeader::Semicolon => {}
+    }
+    Ok(())
+}
+
+/// What stands behind the block of an if.
+fn otherwise<'t>(
+    alloc: Global,
+    program: &Program<'t>,
+    top: &mut Frame<'t>,
+    callers: &[Frame<'t>],
+    otherwise: &'t ElseNode,
+) -> Result<(), Stop>
+    ensures ok { OnOk result (Goes (otherwise_next (file_of program.now.file.now) (blocks_of (types_of program.now.table) top.old.scope) (tasks_of (types_of program.now.table) top.old.tasks.items) (frames_of (types_of program.now.table) callers.now) (otherwise_of otherwise.now)) (types_of program.now.table) top.new callers.now) }
+    ensures err { IfErr result (Panics (otherwise_next (file_of program.now.file.now) (blocks_of (types_of program.now.table) top.old.scope) (tasks_of (types_of program.now.table) top.old.tasks.items) (frames_of (types_of program.now.table) callers.now) (otherwise_of otherwise.now))) }
+{
+    match otherwise {
+        ElseNode::Nothing => Ok(()),
+        ElseNode::Block(body) => block(alloc, program, top, callers, body.as_slice()),
+        ElseNode::If(next) => {
+            let next: &'t IfNode = next;
+            top.push(Task::Branch(Box::new(alloc, next)?))?;
+            Ok(())
+        }
+    }
+}
+
+/// An if, behind its first statement.
+pub(crate) fn decide<'t>(
+    alloc: Global,
+    program: &Program<'t>,
+    top: &mut Frame<'t>,
+    callers: &[Frame<'t>],
+    branch: &'t IfNode,
+) -> Result<(), Stop>
+    ensures ok { OnOk result (Goes (task_next (file_of program.now.file.now) (blocks_of (types_of program.now.table) top.old.scope) (tasks_of (types_of program.now.table) top.old.tasks.items) (frames_of (types_of program.now.table) callers.now) (decided (branch_of branch.now))) (types_of program.now.table) top.new callers.now) }
+    ensures err { IfErr result (Panics (task_next (file_of program.now.file.now) (blocks_of (types_of program.now.table) top.old.scope) (tasks_of (types_of program.now.table) top.old.tasks.items) (frames_of (types_of program.now.table) callers.now) (decided (branch_of branch.now)))) }
+{
+    let word = one(alloc, program, &top.scope, &branch.condition)?;
+    if truth_in(word) {
+        return block(alloc, program, top, callers, branch.body.as_slice());
+    }
+    otherwise(alloc, program, top, callers, &branch.otherwise)
+}
+
+/// A return.
+pub(crate) fn back<'t>(
+    alloc: Global,
+    program: &Program<'t>,
+    top: &mut Frame<'t>,
+    callers: &[Frame<'t>],
+    returned: &'t ReturnNode,
+) -> Result<Move<'t>, Stop>
+    ensures ok { IfOk result (λ move. Went (return_next (file_of program.now.file.now) (blocks_of (types_of program.now.table) top.old.scope) (tasks_of (types_of program.now.table) top.old.tasks.items) (frames_of (types_of program.now.table) callers.now) (returned_of returned.now)) (types_of program.now.table) move top.new callers.now) }
+    ensures err { IfErr result (Panics (return_next (file_of program.now.file.now) (blocks_of (types_of program.now.table) top.old.scope) (tasks_of (types_of program.now.table) top.old.tasks.items) (frames_of (types_of program.now.table) callers.now) (returned_of returned.now))) }
+{
+    match returned {
+        ReturnNode::Nothing => {
+            top.push(Task::GiveBack(Vec::new(alloc)))?;
+            Ok(Move::Slides)
+        }
+        ReturnNode::Operation(one) => {
+            operates(alloc, program, top, callers, one, Purpose::GivenBack)
+        }
+        ReturnNode::Value(expression) => {
+            let words = value(alloc, &program.table, &top.scope, expression)?;
+            top.push(Task::GiveBack(words))?;
+            Ok(Move::Slides)
+        }
+    }
+}

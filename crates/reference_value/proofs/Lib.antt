@@ -1,0 +1,5 @@
+pub mod Lasts
+pub mod Parts
+pub mod Names
+pub mod Types
+pub mod Literals

@@ -1,0 +1,5 @@
+pub mod Scopes
+pub mod Stops
+pub mod Parts
+pub mod Values
+pub mod Destinations

@@ -1,0 +1,184 @@
+//! The values of expressions.
+
+ghost use Rattle.std.specs.Prelude.{◌≡◌, ◌||◌, ◌∷◌, [], true, false, IfSome, IfNone, IfOk, IfErr, Ok, map};
+ghost use Rattle.syntax.specs.Tree.{expressions};
+ghost use Rattle.syntax.specs.View.{expression_of};
+ghost use Rattle.type_table.specs.Visible.{types_of, globals_in};
+ghost use Rattle.checker_base.specs.Worths.{is_equality, is_order};
+ghost use Rattle.word.specs.Apply.{value as applied};
+ghost use Rattle.meaning.specs.Expressions.{one_word, operator_at, value, values, fields};
+ghost use Rattle.reference_value.specs.Scopes.{blocks_of};
+ghost use Rattle.reference_value.specs.Stops.{Fails};
+ghost use Rattle.reference_value.specs.Values.{by_parts, fixed, values_of};
+
+use crate::fault::Stop;
+use crate::kind::kind_in;
+use crate::part::selected;
+use crate::scope::Scope;
+use crate::words::{before, between, settled, single, word_in, wrapped};
+use crate::worth::worth;
+use checker_base::worth::Worth;
+use std::alloc::{AllocError, Global};
+use syntax::{BinaryOperator, ExpressionNode};
+use type_table::scope::{is_nil, is_truth};
+use type_table::table::TypeTable;
+use type_table::zero::zero;
+use word::value::Word;
+
+/// Whether a comparison of two constants holds; of another operator none.
+fn compared(operator: BinaryOperator, a: i128, b: i128) -> Option<bool>
+    ensures some { IfSome result (λ truth. one_word (applied (operator_at operator (Word.Int a)) (Word.Int a) (Word.Int b)) ≡ Ok (Word.Bool truth ∷ [])) }
+    ensures comparison { IfSome result (λ _. (is_equality operator || is_order operator) ≡ true) }
+    ensures none { IfNone result ((is_equality operator || is_order operator) ≡ false) }
+{
+    match operator {
+        BinaryOperator::Equal => Some(a == b),
+        BinaryOperator::NotEqual => Some(a != b),
+        BinaryOperator::Less => Some(a < b),
+        BinaryOperator::LessEqual => Some(a <= b),
+        BinaryOperator::Greater => Some(a > b),
+        BinaryOperator::GreaterEqual => Some(a >= b),
+        _ => None,
+    }
+}
+
+/// The word of a truth value's name, or of `nil`; of another name none.
+fn fixed(name: &[u8]) -> Option<Word>
+    ensures { result ≡ fixed name.now }
+{
+    if is_truth(name) {
+        Some(Word::Bool(name == b"true".as_slice()))
+    } else if is_nil(name) {
+        Some(Word::Chan(None))
+    } else {
+        None
+    }
+}
+
+/// The word of a constant, of a comparison of two, or of a name that stands for no variable; of another expression none.
+fn constant(table: &TypeTable<'_>, scope: &Scope<'_>, expression: &ExpressionNode) -> Option<Word>
+    ensures some { IfSome result (λ word. value (globals_in table.now) (blocks_of (types_of table.now) scope.now) (expression_of expression.now) ≡ Ok (word ∷ [])) }
+    ensures none { IfNone result (value (globals_in table.now) (blocks_of (types_of table.now) scope.now) (expression_of expression.now) ≡ by_parts (globals_in table.now) (blocks_of (types_of table.now) scope.now) (expression_of expression.now)) }
+{
+    match expression {
+        ExpressionNode::Integer(_) | ExpressionNode::Unary(_, _) => {
+            match worth(table, scope, expression) {
+                Some(Worth::Constant(number)) => Some(Word::Int(wrapped(number))),
+                _ => None,
+            }
+        }
+        ExpressionNode::Binary(operator, left, right) => {
+            if let Some(Worth::Constant(number)) = worth(table, scope, expression) {
+                return Some(Word::Int(wrapped(number)));
+            }
+            match (worth(table, scope, left), worth(table, scope, right)) {
+                (Some(Worth::Constant(a)), Some(Worth::Constant(b))) => {
+                    match compared(*operator, a, b) {
+                        Some(truth) => Some(Word::Bool(truth)),
+                        None => None,
+                    }
+                }
+                _ => None,
+            }
+        }
+        ExpressionNode::Named(name) => fixed(name.bytes.as_slice()),
+        _ => None,
+    }
+}
+
+/// The value of an expression.
+///
+/// Errors: the panic that is met first; want of memory.
+#[cycle(value)]
+pub fn value<'a, 't>(
+    alloc: Global,
+    table: &'a TypeTable<'t>,
+    scope: &'a Scope<'t>,
+    expression: &'a ExpressionNode,
+) -> Result<Vec<Word>, Stop>
+    ensures ok { IfOk result (λ v. value (globals_in table.now) (blocks_of (types_of table.now) scope.now) (expression_of expression.now) ≡ Ok v.items) }
+    ensures err { IfErr result (Fails (value (globals_in table.now) (blocks_of (types_of table.now) scope.now) (expression_of expression.now))) }
+{
+    if let Some(word) = constant(table, scope, expression) {
+        return Ok(single(alloc, word)?);
+    }
+    match expression {
+        ExpressionNode::Integer(_) => Ok(Vec::new(alloc)),
+        ExpressionNode::Named(name) => match scope.lookup(name.bytes.as_slice()) {
+            Some(variable) => Ok(Vec::from_slice(alloc, variable.words.as_slice())?),
+            None => Ok(Vec::new(alloc)),
+        },
+        ExpressionNode::Parenthesized(inner) => value(alloc, table, scope, inner),
+        ExpressionNode::Selection(whole, field) => {
+            let words = value(alloc, table, scope, whole)?;
+            let kind = kind_in(table, scope, whole);
+            let name = field.bytes.as_slice();
+            Ok(selected(alloc, table, kind, name, words.as_slice())?)
+        }
+        ExpressionNode::Composite(_, values, _) => {
+            if values.is_empty() {
+                let kind = kind_in(table, scope, expression);
+                let item = zero(alloc, table, kind)?;
+                return Ok(Vec::from_slice(alloc, item.words())?);
+            }
+            fields(alloc, table, scope, values.as_slice())
+        }
+        ExpressionNode::Unary(operator, operand) => {
+            let a = value(alloc, table, scope, operand)?;
+            let word = before(*operator, word_in(a.as_slice()))?;
+            Ok(single(alloc, word)?)
+        }
+        ExpressionNode::Binary(operator, left, right) => {
+            let a = value(alloc, table, scope, left)?;
+            let a = word_in(a.as_slice());
+            if let Some(word) = settled(*operator, a) {
+                return Ok(single(alloc, word)?);
+            }
+            let b = value(alloc, table, scope, right)?;
+            let word = between(*operator, a, word_in(b.as_slice()))?;
+            Ok(single(alloc, word)?)
+        }
+    }
+}
+
+/// The words of the fields of a literal, in order.
+///
+/// Errors: the panic that is met first; want of memory.
+#[cycle(value)]
+fn fields<'a, 't>(
+    alloc: Global,
+    table: &'a TypeTable<'t>,
+    scope: &'a Scope<'t>,
+    values: &'a [ExpressionNode],
+) -> Result<Vec<Word>, Stop>
+    ensures ok { IfOk result (λ v. fields (globals_in table.now) (blocks_of (types_of table.now) scope.now) (expressions (map expression_of values.now)) ≡ Ok v.items) }
+    ensures err { IfErr result (Fails (fields (globals_in table.now) (blocks_of (types_of table.now) scope.now) (expressions (map expression_of values.now)))) }
+{
+    let mut words = Vec::new(alloc);
+    for expression in values {
+        let own = value(alloc, table, scope, expression)?;
+        words.extend_from_slice(own.as_slice())?;
+    }
+    Ok(words)
+}
+
+/// One value after the other.
+///
+/// Errors: the panic that is met first; want of memory.
+pub fn values<'a, 't>(
+    alloc: Global,
+    table: &'a TypeTable<'t>,
+    scope: &'a Scope<'t>,
+    expressions: &'a [ExpressionNode],
+) -> Result<Vec<Vec<Word>>, Stop>
+    ensures ok { IfOk result (λ v. values (globals_in table.now) (blocks_of (types_of table.now) scope.now) (map expression_of expressions.now) ≡ Ok (values_of v.items)) }
+    ensures err { IfErr result (Fails (values (globals_in table.now) (blocks_of (types_of table.now) scope.now) (map expression_of expressions.now))) }
+{
+    let Some((first, rest)) = expressions.split_first() else {
+        return Ok(Vec::new(alloc));
+    };
+    let words = value(alloc, table, scope, first)?;
+    let mut all = values(alloc, table, scope, rest)?;
+    all.insert(0, words)?;
+    Ok(all)
+}

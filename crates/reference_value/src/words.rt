@@ -1,0 +1,170 @@
+//! Values as words, and operators on them.
+
+ghost use Rattle.std.specs.Prelude.{◌≡◌, ◌++◌, ◌∷◌, [], Ok, Err, IfOk, IfErr, IfSome, IfNone, length};
+ghost use Rattle.std.specs.Int.{w64, int_wrap};
+ghost use Rattle.meaning.specs.Expressions.{Worked, and_then, word_in, one_word, equality, inequality, operator_at, between, beside, before};
+ghost use Rattle.meaning.specs.Values.{Value, word_like, words_like};
+
+use std::alloc::{AllocError, Global};
+use syntax::{BinaryOperator, UnaryOperator};
+use word::apply::{Op, checked_apply};
+use word::panic::Panic;
+use word::value::Word;
+
+/// The one word of an int, a bool or a channel.
+pub fn word_in(words: &[Word]) -> Word
+    ensures { result ≡ word_in words.now }
+{
+    match words.first() {
+        Some(word) => *word,
+        None => Word::Int(0),
+    }
+}
+
+/// The value that is this word.
+pub fn single(alloc: Global, word: Word) -> Result<Vec<Word>, AllocError>
+    ensures { IfOk result (λ v. v.items ≡ word ∷ []) }
+{
+    let mut words = Vec::new(alloc);
+    words.push(word)?;
+    Ok(words)
+}
+
+/// A number brought into 64 bits.
+pub fn wrapped(number: i128) -> i64
+    ensures { result ≡ int_wrap w64 number }
+{
+    (number.rem_euclid(1 << 64).unsigned_abs() as u64).cast_signed()
+}
+
+/// A word like this zero; the zero where it is of another kind.
+fn word_like(zero: Word, word: Word) -> Word
+    ensures { result ≡ word_like zero word }
+{
+    match (zero, word) {
+        (Word::Int(_), Word::Int(number)) => Word::Int(number),
+        (Word::Bool(_), Word::Bool(truth)) => Word::Bool(truth),
+        (Word::Chan(_), Word::Chan(channel)) => Word::Chan(channel),
+        _ => zero,
+    }
+}
+
+/// Words like these zeros, and zeros where there are no more.
+pub fn words_like(alloc: Global, zeros: &[Word], words: &[Word]) -> Result<Vec<Word>, AllocError>
+    ensures words { IfOk result (λ v. v.items ≡ words_like zeros.now words.now) }
+    ensures count { IfOk result (λ v. length v.items ≡ length zeros.now) }
+{
+    match (zeros, words) {
+        ([], _) => Ok(Vec::new(alloc)),
+        ([zero, zeros @ ..], []) => {
+            let mut all = words_like(alloc, zeros, &[])?;
+            all.insert(0, *zero)?;
+            Ok(all)
+        }
+        ([zero, zeros @ ..], [word, words @ ..]) => {
+            let mut all = words_like(alloc, zeros, words)?;
+            all.insert(0, word_like(*zero, *word))?;
+            Ok(all)
+        }
+    }
+}
+
+/// What an operator gave; a zero where its operands were of other kinds.
+fn one_word(valued: Option<Result<Word, Panic>>) -> Result<Word, Panic>
+    ensures ok { IfOk result (λ w. one_word valued ≡ Ok (w ∷ [])) }
+    ensures err { IfErr result (λ p. one_word valued ≡ Err p) }
+{
+    match valued {
+        Some(Ok(word)) => Ok(word),
+        Some(Err(cause)) => Err(cause),
+        None => Ok(Word::Int(0)),
+    }
+}
+
+/// The equality of words of this one's kind.
+fn equality(word: Word) -> Op
+    ensures { result ≡ equality word }
+{
+    match word {
+        Word::Int(_) => Op::EqInt,
+        Word::Bool(_) => Op::EqBool,
+        Word::Chan(_) => Op::EqChan,
+    }
+}
+
+/// The inequality of words of this one's kind.
+fn inequality(word: Word) -> Op
+    ensures { result ≡ inequality word }
+{
+    match word {
+        Word::Int(_) => Op::NeInt,
+        Word::Bool(_) => Op::NeBool,
+        Word::Chan(_) => Op::NeChan,
+    }
+}
+
+/// The operator between this word and another one.
+fn operator_at(operator: BinaryOperator, word: Word) -> Op
+    ensures { result ≡ operator_at operator word }
+{
+    match operator {
+        BinaryOperator::Add => Op::Add,
+        BinaryOperator::Subtract => Op::Sub,
+        BinaryOperator::Multiply => Op::Mul,
+        BinaryOperator::Divide => Op::Div,
+        BinaryOperator::Remainder => Op::Rem,
+        BinaryOperator::And => Op::And,
+        BinaryOperator::Or => Op::Or,
+        BinaryOperator::ExclusiveOr => Op::Xor,
+        BinaryOperator::AndNot => Op::AndNot,
+        BinaryOperator::ShiftLeft => Op::Shl,
+        BinaryOperator::ShiftRight => Op::Shr,
+        BinaryOperator::Equal => equality(word),
+        BinaryOperator::NotEqual => inequality(word),
+        BinaryOperator::Less => Op::Lt,
+        BinaryOperator::LessEqual => Op::Le,
+        BinaryOperator::Greater => Op::Gt,
+        BinaryOperator::GreaterEqual => Op::Ge,
+        BinaryOperator::LogicalAnd | BinaryOperator::LogicalOr => Op::EqBool,
+    }
+}
+
+/// What an operator between two words makes of them. Where `&&` and `||` need the right one, it is their value.
+///
+/// Errors: the panic that it meets.
+pub fn between(operator: BinaryOperator, a: Word, b: Word) -> Result<Word, Panic>
+    ensures ok { IfOk result (λ w. between operator a b ≡ Ok (w ∷ [])) }
+    ensures err { IfErr result (λ p. between operator a b ≡ Err p) }
+{
+    match operator {
+        BinaryOperator::LogicalAnd | BinaryOperator::LogicalOr => Ok(b),
+        _ => one_word(checked_apply(operator_at(operator, a), a, b)),
+    }
+}
+
+/// The word of `&&` or `||` whose left operand settles it.
+pub fn settled(operator: BinaryOperator, a: Word) -> Option<Word>
+    ensures some { IfSome result (λ w. (right : Worked Value) → beside operator a right ≡ Ok (w ∷ [])) }
+    ensures none { IfNone result ((right : Worked Value) → beside operator a right ≡ and_then right (λ b. between operator a (word_in b))) }
+{
+    match (operator, a) {
+        (BinaryOperator::LogicalAnd, Word::Bool(false)) => Some(Word::Bool(false)),
+        (BinaryOperator::LogicalOr, Word::Bool(true)) => Some(Word::Bool(true)),
+        _ => None,
+    }
+}
+
+/// What an operator before a word makes of it.
+///
+/// Errors: the panic that it meets.
+pub fn before(operator: UnaryOperator, a: Word) -> Result<Word, Panic>
+    ensures ok { IfOk result (λ w. before operator a ≡ Ok (w ∷ [])) }
+    ensures err { IfErr result (λ p. before operator a ≡ Err p) }
+{
+    match operator {
+        UnaryOperator::Plus => Ok(a),
+        UnaryOperator::Negate => one_word(checked_apply(Op::Neg, a, a)),
+        UnaryOperator::Not => one_word(checked_apply(Op::Not, a, a)),
+        UnaryOperator::Complement => one_word(checked_apply(Op::Com, a, a)),
+    }
+}
