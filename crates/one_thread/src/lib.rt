@@ -1,0 +1,8 @@
+//! The one-thread run of goroutines of any kind: the awake goroutine of least clock, and at one clock of least number,
+//! always moves.
+#![tactic(auto)]
+
+mod goroutine;
+mod interpreter;
+
+pub use interpreter::{Interpreter, Step};
