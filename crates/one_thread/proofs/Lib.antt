@@ -1,0 +1,3 @@
+pub mod After
+pub mod Orderly
+pub mod Standing

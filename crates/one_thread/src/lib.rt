@@ -4,5 +4,6 @@
 
 mod goroutine;
 mod interpreter;
+mod places;
 
 pub use interpreter::{Interpreter, Step};
