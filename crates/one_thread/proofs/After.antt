@@ -64,10 +64,9 @@ module _ {S : Type 0} (K : GoroutineKind) (held : S → K.State) (limit : ℕ) w
   wakes_all clock beds [] old new once all is = (ap (awake_in held) is, λ k apart. ap (λ (x : Places). bed_at held x k) is)
   wakes_all clock beds (w ∷ ws) old new once all h =
       let mid : Places = h.0 in
-      let rest = wakes_all clock beds ws mid new once.1 (beds_on beds w.0 (woken_to K clock w.1 (bed_at held old w.0)) None old mid ws once.0 h.1 all.1) h.2 in
-      (
+      let rest = wakes_all clock beds ws mid new once.1 (beds_on beds w.0 (woken_to K clock w.1 (bed_at held old w.0)) None old mid ws once.0 h.1 all.1) h.2 in (
         rest.0 ∙ ap (λ (a : List (Option (Clocked K.State))). changed (rules K limit) a (woken_by K limit beds clock ws))
-        (h.1.awake ∙ ap (λ (b : Option (Clocked K.State)). slice_set (awake_in held old) w.0 (woken_to K clock w.1 b)) (sym all.0)),
+            (h.1.awake ∙ ap (λ (b : Option (Clocked K.State)). slice_set (awake_in held old) w.0 (woken_to K clock w.1 b)) (sym all.0)),
         λ k apart. rest.1 k apart.1 ∙ h.1.others k apart.0,
       )
 
@@ -143,7 +142,7 @@ module _ {S : Type 0} (K : GoroutineKind) (held : S → K.State) (limit : ℕ) w
         let on = on_by mid (Some (told K s (s.clock + 1) Nothing)) h.2 in
         record {
           awake = ap (awake_in held) h.5 ∙ map-append _ _ _ ∙ ap (λ (a : List (Option (Clocked K.State))). a ++ awake_of held (Some g) ∷ []) (set_is mid (Some (told K s (s.clock + 1) Nothing)) None h.2)
-          ∙ ap (λ (x : Option (Clocked K.State)). slice_set w.awake n (Some (told K s (s.clock + 1) Nothing)) ++ x ∷ []) (awake_is held g h.4 ∙ ap (λ (t : Clocked K.State). Some t) h.3);
+              ∙ ap (λ (x : Option (Clocked K.State)). slice_set w.awake n (Some (told K s (s.clock + 1) Nothing)) ++ x ∷ []) (awake_is held g h.4 ∙ ap (λ (t : Clocked K.State). Some t) h.3);
           beds = all_lie new w.shared.beds _ (λ x i. lay x (k.fair.asleep x i) ∙ sym (on x.number) ∙ sym (bed_new mid g x.number h.4) ∙ ap (λ (y : Places). bed_at held y x.number) (sym h.5));
           shared = k.shown;
           once = k.asleep;

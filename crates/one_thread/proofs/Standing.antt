@@ -67,18 +67,16 @@ module _ {S : Type 0} (K : GoroutineKind) (held : S → K.State) (limit : ℕ) w
   pub turned : (old : List (Option (Goroutine S))) (n : ℕ) (g h : Goroutine S) (turn : Turn) → slice_index_or old n None ≡ Some g → n < length old → g.asleep ≡ false → h.asleep ≡ g.asleep → Advances K limit turn (clocked held g) (clocked held h) → AdvancesAt K held limit turn old n (slice_set old n (Some h))
   turned old n g h turns.Stepped at lt up same step =
       let there : here (awake_of held) old n ≡ Some (clocked held g) = ap (awake_of held) at ∙ awake_is held g up in
-      let set : Sets held old (slice_set old n (Some h)) n (Some (clocked held h)) None = sets held old n (Some h) (Some (clocked held h)) None lt (awake_is held h (same ∙ up)) (no_bed held h (same ∙ up)) in
-      (
+      let set : Sets held old (slice_set old n (Some h)) n (Some (clocked held h)) None = sets held old n (Some h) (Some (clocked held h)) None lt (awake_is held h (same ∙ up)) (no_bed held h (same ∙ up)) in (
         (λ w.
-          let W : World (Clocked K.State) (Rest K.State) = record { awake = awake_in held old; shared = w } in
-          ap (move_at (rules K limit) W n) there ∙ ap (move_on (rules K limit) W n (clocked held g)) step
-          ∙ ap (λ (a : List (Option (Clocked K.State))). let v : World (Clocked K.State) (Rest K.State) = record { awake = a; shared = w } in v) (sym set.awake)),
+            let W : World (Clocked K.State) (Rest K.State) = record { awake = awake_in held old; shared = w } in
+            ap (move_at (rules K limit) W n) there ∙ ap (move_on (rules K limit) W n (clocked held g)) step
+            ∙ ap (λ (a : List (Option (Clocked K.State))). let v : World (Clocked K.State) (Rest K.State) = record { awake = a; shared = w } in v) (sym set.awake)),
         sleep_on held old (slice_set old n (Some h)) n (Some (clocked held h)) (awake_no_bed held (slice_index_or old n None) (clocked held g) there) set,
       )
   turned old n g h (turns.Asks request later) at lt up same step =
       let there : here (awake_of held) old n ≡ Some (clocked held g) = ap (awake_of held) at ∙ awake_is held g up in
-      let set : Sets held old (slice_set old n (Some h)) n (Some (clocked held h)) None = sets held old n (Some h) (Some (clocked held h)) None lt (awake_is held h (same ∙ up)) (no_bed held h (same ∙ up)) in
-      (
+      let set : Sets held old (slice_set old n (Some h)) n (Some (clocked held h)) None = sets held old n (Some h) (Some (clocked held h)) None lt (awake_is held h (same ∙ up)) (no_bed held h (same ∙ up)) in (
         clocked held g,
         record { here = there; asks = step.0 },
         step.1,
@@ -101,7 +99,6 @@ module _ {S : Type 0} (K : GoroutineKind) (held : S → K.State) where
       who : (b : Bool) → cond b None (Some (clocked held g)) ≡ Some s → clocked held g ≡ s
       who true e = cc
       who false e = cc
-
 
   pub told_ok : {T E : Type 0} (r : Result T E) (old : List (Option (Goroutine S))) (n : ℕ) (g h : Goroutine S) (clock : ℕ) (reply : Reply) → slice_index_or old n None ≡ Some g → n < length old → OnOk r (clocked held h ≡ told K (clocked held g) clock reply) → OnOk r (h.asleep ≡ false)
       → OnOk r ((s : Clocked K.State) → here (awake_of held) old n ≡ Some s → Sets held old (slice_set old n (Some h)) n (Some (told K s clock reply)) None)

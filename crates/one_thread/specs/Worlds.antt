@@ -4,14 +4,16 @@ use Rattle.std.specs.Io.KnownBytes.{Appends}
 use Rattle.reference_world.specs.Deeds.{IsShownBy, SharedValue}
 use Rattle.reference_world.specs.declared.deed.Deed.{Deed}
 use Rattle.reference_world.specs.declared.deed.Deed.TheVariants as deeds
+use Rattle.logical_clock.specs.declared.key.Key.{Key}
+use Rattle.logical_clock.specs.Order.{keys, least}
 use Rattle.turn_rule.specs.Turns.{World}
-use Rattle.word.specs.Values.{Nothing, Sleeper}
+use Rattle.word.specs.Values.{Nothing, Request, Sleeper}
 use Rattle.word.specs.declared.end.End.{End as Ending}
-use Rattle.word.specs.Kinds.{Clocked, GoroutineKind, at, told}
+use Rattle.word.specs.Kinds.{Clocked, GoroutineKind, asks, at, told}
 use Rattle.word.specs.Views.{reply_of}
 use Rattle.word.specs.Worlds.{Bed, Rest, end_of, in_bed, moment}
 use Rattle.one_thread.specs.declared.goroutine.Goroutine.{Goroutine}
-use Rattle.one_thread.specs.Places.{Sets, Wakes, awake_in, awake_of, bed_at, clocked, here}
+use Rattle.one_thread.specs.Places.{IsAt, Sets, Wakes, awake_in, bed_at, clock_of, clocked}
 
 abbrev pub IsLimit : ℕ → Type 0
 IsLimit limit = (1 ≤ limit) × (limit ≤ 2 ^ 62)
@@ -70,7 +72,26 @@ module _ {S : Type 0} (K : GoroutineKind) (held : S → K.State) where
   Applies clock n s (deeds.Panics cause clause) old new = Unit {0}
   Applies clock n s (deeds.Ends end) old new = Unit {0}
 
+  -- the run goes on, or has ended so
+  abbrev pub Goes : ℕ → Option (List ℕ) → Option (List ℕ) → List (Option (Goroutine S)) → SharedValue → Option Ending → Type 0
+  Goes limit known now places v None = Stands limit known now places v
+  Goes limit known now places v (Some ending) = IsWhole K limit known now ending
+
+  -- the goroutine of least key asks this, and whoever goes on is at this clock
+  pub record IsAsked (limit : ℕ) (places : List (Option (Goroutine S))) (place later : ℕ) (q : Request) : Type 0 where
+    pub state : Clocked K.State
+    pub at : IsAt K held limit places place state
+    pub what : asks K limit state ≡ Some q
+    pub clock : later ≡ state.clock + 1
+    pub key : Key
+    pub turn : least (keys clock_of 0 places) ≡ Some key
+    pub number : key.number ≡ place
+
 -- the bytes that a deed appends to the output
 abbrev pub printed : Deed → List ℕ
 printed (deeds.Prints bytes) = bytes.items
 printed deed = []
+
+-- goroutine 1 alone, at `main`
+abbrev pub IsOpen : {S : Type 0} (K : GoroutineKind) → (S → K.State) → List (Option (Goroutine S)) → Type 0
+IsOpen {S} K held places = (g : Goroutine S) × (clocked held g ≡ at 0 (K.begin K.main [])) × (g.asleep ≡ false) × (places ≡ None ∷ Some g ∷ [])

@@ -5,5 +5,7 @@
 mod goroutine;
 mod interpreter;
 mod places;
+mod running;
 
 pub use interpreter::{Interpreter, Step};
+pub use running::run;

@@ -116,7 +116,14 @@ pub(crate) fn wake_all<P: Interpreter>(
     ensures { OnOk result (Wakes (kind_of (P.parts program.now)) (P.held program.now) clock places.old woken.items places.new) }
 {
     for one in woken {
-        wake_at(program, alloc, places, one.number as usize, clock, one.reply)?;
+        wake_at(
+            program,
+            alloc,
+            places,
+            one.number as usize,
+            clock,
+            one.reply,
+        )?;
     }
     Ok(())
 }
