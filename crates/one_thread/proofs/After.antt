@@ -120,7 +120,7 @@ module _ {S : Type 0} (K : GoroutineKind) (held : S → K.State) (limit : ℕ) w
     set_is : (mid : Places) (a b : Option (Clocked K.State)) → Sets held old mid n a b → awake_in held mid ≡ slice_set w.awake n a
     set_is mid a b set = set.awake ∙ ap (λ (x : List (Option (Clocked K.State))). slice_set x n a) fits.awake
 
-    applied : (deed : Did) → Known w.shared.shared n p v' (what deed) → v'.ending ≡ None → Applies K held (s.clock + 1) n s deed old new → IsWorldOf K held (after w n s (what deed)) new v'
+    pub applied : (deed : Did) → Known w.shared.shared n p v' (what deed) → v'.ending ≡ None → Applies K held (s.clock + 1) n s deed old new → IsWorldOf K held (after w n s (what deed)) new v'
     applied (did.Done reply woken) k going h =
         let on = on_by h.0 (Some (told K s (s.clock + 1) (reply_of reply))) h.1 in
         let r = wakes_all (s.clock + 1) w.shared.beds woken.items h.0 new k.woken (all_beds old h.0 w.shared.beds w.shared.shared.asleep woken.items lay on k.fair.woken) h.2 in

@@ -1,9 +1,9 @@
 -- One place changes.
-use Rattle.std.proofs.Common.{◌≡◌, ◌≢◌, ℕ, suc, zero, ◌+◌, ◌<◌, ◌≤◌, Bool, true, false, cond, List, [], ◌∷◌, ◌++◌, length, map, Option, Some, None, refl, sym, ap, ◌∙◌, subst, arith, inl, inr, get_or-set_same, get_or-set_other}
+use Rattle.std.proofs.Common.{◌≡◌, ◌≢◌, ℕ, suc, zero, ◌+◌, ◌<◌, ◌≤◌, Bool, true, false, cond, List, [], ◌∷◌, ◌++◌, length, take, drop, map, Option, Some, None, refl, sym, ap, ◌∙◌, subst, arith, inl, inr, get_or-set_same, get_or-set_other}
 use Rattle.std.specs.Prelude.{option_map, slice_index_or, slice_set, Result, Ok, Err, OnOk}
-use Rattle.std.proofs.lemmas.Bool.{cases_eq}
-use Rattle.std.proofs.lemmas.List.{map-set, get_or_past, length-map}
-use Rattle.std.proofs.Math.Seq.{map-set_same, set_out}
+use Rattle.std.proofs.lemmas.Bool.{cases_eq, cases_lt}
+use Rattle.std.proofs.lemmas.List.{map-set, get_or_past, length-map, take-append-le}
+use Rattle.std.proofs.Math.Seq.{map-set_same, set_out, take-length}
 use Rattle.turn_rule.specs.Turns.{World, move_at, move_on}
 use Rattle.word.specs.Values.{Exhausted, Reply}
 use Rattle.word.specs.Kinds.{Clocked, GoroutineKind, asks, local, told}
@@ -12,7 +12,7 @@ use Rattle.one_thread.specs.declared.goroutine.Goroutine.{Goroutine}
 use Rattle.one_thread.specs.declared.goroutine.Turn.{Turn}
 use Rattle.one_thread.specs.declared.goroutine.Turn.TheVariants as turns
 use Rattle.one_thread.specs.Steps.{Advances}
-use Rattle.one_thread.specs.Places.{AdvancesAt, IsAt, Sets, SleepOn, Wakes, awake_in, awake_of, bed_at, bed_of, clocked, here, woken_to}
+use Rattle.one_thread.specs.Places.{AdvancesAt, IsAt, IsLaid, Sets, SleepOn, Wakes, awake_in, awake_of, bed_at, bed_of, clocked, here, woken_to}
 
 -- what was read at a place, whatever stands for one that is not there
 pub read_at : {A : Type 0} (xs : List A) (n : ℕ) (x d : A) → n < length xs → x ≡ slice_index_or xs n x → slice_index_or xs n d ≡ x
@@ -165,3 +165,21 @@ module _ {S H : Type 0} (held : S → H) where
 
   pub beyond : (old : List (Option (Goroutine S))) (n : ℕ) (s : Clocked H) → length old ≤ n → here (awake_of held) old n ≡ Some s → ⊥
   beyond old n s le is = let none = get_or_past old n None le in let e : here (awake_of held) old n ≡ None = ap (awake_of held) none in cc
+
+  -- who is awake has a place
+  pub within : (old : List (Option (Goroutine S))) (n : ℕ) (s : Clocked H) → here (awake_of held) old n ≡ Some s → n < length old
+  within old n s up = elim (cases_lt n (length old)) [ inl lt ↦ lt | inr le ↦ absurd (beyond old n s le up) ]
+
+  pub laid_by : (old : List (Option (Goroutine S))) (n : ℕ) (new : List (Option (Goroutine S))) (s : Clocked H) → IsLaid old n new → here (awake_of held) old n ≡ Some s → Sets held old new n None (Some s)
+  laid_by old n new s h up = go (slice_index_or old n None) refl
+    where
+      go : (x : Option (Goroutine S)) → slice_index_or old n None ≡ x → Sets held old new n None (Some s)
+      go None e = let no : here (awake_of held) old n ≡ None = ap (awake_of held) e in cc
+      go (Some g) e = subst (λ (x : List (Option (Goroutine S))). Sets held old x n None (Some s)) (sym (h g e)) (laid old n g (record g { asleep = true }) s e (within old n s up) refl up)
+
+  pub ended_by : (old : List (Option (Goroutine S))) (n : ℕ) (new : List (Option (Goroutine S))) (s : Clocked H) → new ≡ slice_set old n None → here (awake_of held) old n ≡ Some s → Sets held old new n None None
+  ended_by old n new s is up = subst (λ (x : List (Option (Goroutine S))). Sets held old x n None None) (sym is) (ended old n (within old n s up))
+
+-- a slice of a whole list, written back
+pub written_back : {A : Type 0} (len : ℕ) (old new : List A) → len ≡ length old → length new ≡ length old → take len (new ++ drop (length new) old) ≡ new
+written_back len old new a b = ap (λ (n : ℕ). take n (new ++ drop (length new) old)) (a ∙ sym b) ∙ take-append-le (length new) new (drop (length new) old) (omega arith) ∙ take-length new
