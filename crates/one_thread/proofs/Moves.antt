@@ -1,6 +1,6 @@
 -- Moves of the run, and what was written.
 use Rattle.std.proofs.Common.{◌≡◌, ◌≢◌, ℕ, zero, suc, ◌+◌, Bool, true, false, ◌&&◌, not, cond, List, [], ◌∷◌, ◌++◌, length, map, take, Option, Some, None, refl, sym, ap, ◌∙◌, subst, append-nil, append_assoc, zero-add, suc-add}
-use Rattle.std.specs.Prelude.{◌==◌, ◌^◌, option_map, slice_index_or, slice_set}
+use Rattle.std.specs.Prelude.{◌==◌, ◌^◌, Result, Ok, Err, IfOk, option_map, slice_index_or, slice_set}
 use Rattle.std.specs.Io.KnownBytes.{Appends}
 use Rattle.std.specs.Option.{is_some}
 use Rattle.std.proofs.Math.Seq.{take-length}
@@ -52,6 +52,11 @@ still_exhausted w n = go (length w.events + 1 == 2 ^ 62)
     go : (b : Bool) → cond b Exhausted Exhausted ≡ Exhausted
     go true = refl
     go false = refl
+
+-- what follows of an answer
+pub ok_more : {T E : Type 0} (r : Result T E) {A B : T → Type 0} → IfOk r A → ((x : T) → A x → B x) → IfOk r B
+ok_more (Ok x) h more = more x h
+ok_more (Err e) h more = tt
 
 never_none : (k : Key) (o : Option Key) → sooner k o ≡ None → ⊥
 never_none k None e = cc
