@@ -6,7 +6,7 @@ use Rattle.std.specs.Option.{is_some}
 use Rattle.std.proofs.Math.Seq.{take-length}
 use Rattle.logical_clock.specs.declared.key.Key.{Key}
 use Rattle.logical_clock.specs.Order.{keys, least, sooner, with_key}
-use Rattle.reference_world.specs.Deeds.{History, MeetingValue, Performs, SharedValue, deed_of, history_of}
+use Rattle.reference_world.specs.Deeds.{History, MeetingValue, Performs, SharedValue, deed_of, history_of, opened}
 use Rattle.reference_world.specs.declared.deed.Deed.{Deed as Did}
 use Rattle.reference_world.specs.declared.deed.Deed.TheVariants as did
 use Rattle.turn_rule.specs.Turns.{World, move_at, move_next, next, one}
@@ -21,16 +21,21 @@ use Rattle.word.specs.Worlds.{Bed, Rest, end_of, is_deserted, moment, opening, r
 use Rattle.one_thread.specs.declared.goroutine.Goroutine.{Goroutine}
 use Rattle.one_thread.specs.declared.goroutine.Turn.TheVariants as turns
 use Rattle.one_thread.specs.Places.{AdvancesAt, IsAt, SleepOn, awake_in, awake_of, bed_at, clock_of, clocked, here}
-use Rattle.one_thread.specs.Worlds.{Applies, BeginsOutput, Goes, IsAsked, IsWhole, IsWorldOf, LieIn, Stands, printed}
+use Rattle.one_thread.specs.Worlds.{Applies, BeginsOutput, Goes, IsAsked, IsOpen, IsWhole, IsWorldOf, LieIn, Stands, printed}
 use Rattle.one_thread.proofs.After.{Known, after, applied, known, one_after}
 use Rattle.word.specs.declared.request.Request.{Request as Asked}
 use Rattle.word.proofs.Laws.{laws}
+use Rattle.one_thread.proofs.Standing.{awake_is}
 
 appends_more : (old mid new : Option (List ℕ)) (xs ys : List ℕ) → Appends old mid xs → Appends mid new ys → Appends old new (xs ++ ys)
 appends_more None mid new xs ys a b = tt
 appends_more (Some os) None new xs ys a b = absurd a
 appends_more (Some os) (Some ms) None xs ys a b = absurd b
 appends_more (Some os) (Some ms) (Some ns) xs ys a b = b ∙ ap (λ zs. zs ++ ys) a ∙ append_assoc os xs ys
+
+pub appends_none : (old : Option (List ℕ)) → Appends old old []
+appends_none None = tt
+appends_none (Some xs) = sym (append-nil xs)
 
 take_past : (xs ys : List ℕ) (k : ℕ) → take (length xs + k) (xs ++ ys) ≡ xs ++ take k ys
 take_past [] ys k = ap (λ n. take n ys) (zero-add k)
@@ -239,3 +244,21 @@ module _ {S : Type 0} (K : GoroutineKind) (held : S → K.State) (limit : ℕ) w
             written = all;
             goes_on = h;
           }
+
+  -- ---- the beginning
+
+  pub opened_stands : (seen : Option (List ℕ)) (places : List (Option (Goroutine S))) (v : SharedValue) → IsOpen K held places → v ≡ opened → Stands K held limit seen seen places v
+  opened_stands seen places v start is =
+      let g : Goroutine S = start.0 in
+      let there : IsWorldOf K held (opening K) (None ∷ Some g ∷ []) opened = record {
+        awake = ap (λ (x : Option (Clocked K.State)). None ∷ x ∷ []) (awake_is held g start.2 ∙ ap (λ (s : Clocked K.State). Some s) start.1);
+        beds = tt;
+        shared = record { asleep = refl; channels = refl; live = refl; made = refl; events = refl; ending = refl };
+        once = tt;
+      } in
+      subst (λ (x : SharedValue). Stands K held limit seen seen places x) (sym is) (record {
+        moves = 0;
+        world = subst (λ (x : List (Option (Goroutine S))). IsWorldOf K held (opening K) x opened) (sym start.3) there;
+        written = appends_none seen;
+        goes_on = refl;
+      })
