@@ -137,7 +137,7 @@ module _ {S : Type 0} (K : GoroutineKind) (held : S → K.State) (limit : ℕ) w
       st.moves,
       st.written,
       ap (λ (o : Option Ending). cond (is_some o) o (cond (is_deserted (map is_some w.awake)) (Some Deadlock) None)) goes
-      ∙ ap (λ (b : Bool). cond b (Some Deadlock) None) (ap (λ (a : List (Option (Clocked K.State))). is_deserted (map is_some a)) (sym st.world.awake) ∙ deserted 0 old none),
+          ∙ ap (λ (b : Bool). cond b (Some Deadlock) None) (ap (λ (a : List (Option (Clocked K.State))). is_deserted (map is_some a)) (sym st.world.awake) ∙ deserted 0 old none),
     )
 
     pub stepped : (key : Key) (place : ℕ) (new : List (Option (Goroutine S))) → least (keys clock_of 0 old) ≡ Some key → key.number ≡ place → AdvancesAt K held limit turns.Stepped old place new → Stands K held limit seen now new v
@@ -212,7 +212,7 @@ module _ {S : Type 0} (K : GoroutineKind) (held : S → K.State) (limit : ℕ) w
         st.moves + 1,
         length w.shared.shared.output + k,
         subst (Appends seen new) (sym (ap (take (length w.shared.shared.output + k)) output_is ∙ take_past w.shared.shared.output (printed deed) k))
-        (appends_more seen now new w.shared.shared.output (take k (printed deed)) st.written a),
+            (appends_more seen now new w.shared.shared.output (take k (printed deed)) st.written a),
       )
 
       -- all of it is written
@@ -233,14 +233,14 @@ module _ {S : Type 0} (K : GoroutineKind) (held : S → K.State) (limit : ℕ) w
             st.moves + 1,
             all,
             ap (λ (x : World (Clocked K.State) (Rest K.State)). end_of x) next_moment
-            ∙ ap (λ (o : Option Ending). cond (is_some o) o (cond (is_deserted (map is_some (after K held limit w place ask.state d).awake)) (Some Deadlock) None)) (ends_so (Some e) h),
+                ∙ ap (λ (o : Option Ending). cond (is_some o) o (cond (is_deserted (map is_some (after K held limit w place ask.state d).awake)) (Some Deadlock) None)) (ends_so (Some e) h),
           )
           go None h = record {
             moves = st.moves + 1;
             world = subst (λ (x : World (Clocked K.State) (Rest K.State)). IsWorldOf K held x new v') (sym (next_moment ∙ ap (after K held limit w place ask.state) is))
-            (applied K held limit w old new v v' place ask.state (meant w.shared.shared place q) st.world ask.at.here deed
-            (subst (λ (x : Deed). Known K held limit w.shared.shared place (meant w.shared.shared place q) v' x) is (known K held limit w.shared.shared place ask.state.clock q v' st.world.once (does w.shared.shared ask.state.clock st.world.shared).1))
-            h (subst (λ (c : ℕ). Applies K held c place ask.state deed old new) ask.clock applies));
+                (applied K held limit w old new v v' place ask.state (meant w.shared.shared place q) st.world ask.at.here deed
+                (subst (λ (x : Deed). Known K held limit w.shared.shared place (meant w.shared.shared place q) v' x) is (known K held limit w.shared.shared place ask.state.clock q v' st.world.once (does w.shared.shared ask.state.clock st.world.shared).1))
+                h (subst (λ (c : ℕ). Applies K held c place ask.state deed old new) ask.clock applies));
             written = all;
             goes_on = h;
           }

@@ -38,6 +38,22 @@ pub fn run<P: Interpreter, W: Write>(
     if limit < 1 || limit > 1 << 62 {
         return Err(Fault::BadLimit);
     }
+    let end = run_below(alloc, program, limit, output)?;
+    Ok(end)
+}
+
+/// The run at a limit that is none too high.
+fn run_below<P: Interpreter, W: Write>(
+    alloc: Global,
+    program: &P,
+    limit: u64,
+    output: &mut W,
+) -> Result<End, Fault>
+    ensures begins { BeginsOutput (kind_of (P.parts program.now)) limit (W.contents output.old) (W.contents output.new) }
+    ensures whole { IfOk result (λ end. IsWhole (kind_of (P.parts program.now)) limit (W.contents output.old) (W.contents output.new) end) }
+    ensures write { IsErrOf result Fault.Write → W.has_failed output.new ≡ true }
+    ensures only { IfErr result (λ fault. (fault ≡ Fault.Memory) ⊎ (fault ≡ Fault.Write)) }
+{
     let mut places = opening(alloc, program)?;
     let mut shared = Shared::new(alloc)?;
     for _ in 0..u64::MAX {

@@ -1,7 +1,7 @@
 use Rattle.std.proofs.Common.{◌≡◌, ℕ, List, Option, None}
 use Rattle.word.specs.Related.{kind_of}
 use Rattle.one_thread.specs.Worlds.{Stands}
-use Rattle.one_thread.proofs.running.run.Given as goal
+use Rattle.one_thread.proofs.running.run_below.Given as goal
 
 abbrev pub invariant-loop : goal.invariant-loop
 invariant-loop g l = record {
