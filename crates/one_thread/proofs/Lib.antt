@@ -1,0 +1,4 @@
+pub mod After
+pub mod Moves
+pub mod Orderly
+pub mod Standing

@@ -1,0 +1,264 @@
+-- Moves of the run, and what was written.
+use Rattle.std.proofs.Common.{◌≡◌, ◌≢◌, ℕ, zero, suc, ◌+◌, Bool, true, false, ◌&&◌, not, cond, List, [], ◌∷◌, ◌++◌, length, map, take, Option, Some, None, refl, sym, ap, ◌∙◌, subst, append-nil, append_assoc, zero-add, suc-add}
+use Rattle.std.specs.Prelude.{◌==◌, ◌^◌, Result, Ok, Err, IfOk, option_map, slice_index_or, slice_set}
+use Rattle.std.specs.Io.KnownBytes.{Appends}
+use Rattle.std.specs.Option.{is_some}
+use Rattle.std.proofs.Math.Seq.{take-length}
+use Rattle.logical_clock.specs.declared.key.Key.{Key}
+use Rattle.logical_clock.specs.Order.{keys, least, sooner, with_key}
+use Rattle.reference_world.specs.Deeds.{History, MeetingValue, Performs, SharedValue, deed_of, history_of, opened}
+use Rattle.reference_world.specs.declared.deed.Deed.{Deed as Did}
+use Rattle.reference_world.specs.declared.deed.Deed.TheVariants as did
+use Rattle.turn_rule.specs.Turns.{World, move_at, move_next, next, one}
+use Rattle.turn_rule.proofs.Stable.{run_add}
+use Rattle.word.specs.declared.end.End.{End as Ending}
+use Rattle.word.specs.declared.end.End.TheVariants.{Deadlock, Exhausted as RanOut}
+use Rattle.word.specs.Values.{Exhausted, Request, Shared, Sleeper}
+use Rattle.word.specs.Kinds.{Clocked, GoroutineKind, asks, local}
+use Rattle.word.specs.Requests.{Deed, act, asked, meant, perform}
+use Rattle.word.specs.Views.{request_of}
+use Rattle.word.specs.Worlds.{Bed, Rest, end_of, is_deserted, moment, opening, rules}
+use Rattle.one_thread.specs.declared.goroutine.Goroutine.{Goroutine}
+use Rattle.one_thread.specs.declared.goroutine.Turn.TheVariants as turns
+use Rattle.one_thread.specs.Places.{AdvancesAt, IsAt, SleepOn, awake_in, awake_of, bed_at, clock_of, clocked, here}
+use Rattle.one_thread.specs.Worlds.{Applies, BeginsOutput, Goes, IsAsked, IsOpen, IsWhole, IsWorldOf, LieIn, Stands, printed}
+use Rattle.one_thread.proofs.After.{Known, after, applied, known, one_after}
+use Rattle.word.specs.declared.request.Request.{Request as Asked}
+use Rattle.word.proofs.Laws.{laws}
+use Rattle.one_thread.proofs.Standing.{awake_is}
+
+appends_more : (old mid new : Option (List ℕ)) (xs ys : List ℕ) → Appends old mid xs → Appends mid new ys → Appends old new (xs ++ ys)
+appends_more None mid new xs ys a b = tt
+appends_more (Some os) None new xs ys a b = absurd a
+appends_more (Some os) (Some ms) None xs ys a b = absurd b
+appends_more (Some os) (Some ms) (Some ns) xs ys a b = b ∙ ap (λ zs. zs ++ ys) a ∙ append_assoc os xs ys
+
+pub appends_none : (old : Option (List ℕ)) → Appends old old []
+appends_none None = tt
+appends_none (Some xs) = sym (append-nil xs)
+
+take_past : (xs ys : List ℕ) (k : ℕ) → take (length xs + k) (xs ++ ys) ≡ xs ++ take k ys
+take_past [] ys k = ap (λ n. take n ys) (zero-add k)
+take_past (x ∷ xs) ys k = rw suc-add (ap (λ zs. x ∷ zs) (take_past xs ys k))
+
+-- what a deed appends to the output
+deed_output : (h : History) (n c : ℕ) (p : Request) (deed : Did) (v : SharedValue) (m : MeetingValue) → (deed_of h n c p deed v m).shared.output ≡ h.output ++ printed deed
+deed_output h n c p (did.Done reply woken) v m = sym (append-nil h.output)
+deed_output h n c p (did.Prints bytes) v m = refl
+deed_output h n c p (did.Starts function arguments) v m = sym (append-nil h.output)
+deed_output h n c p did.Sleeps v m = sym (append-nil h.output)
+deed_output h n c p did.Leaves v m = sym (append-nil h.output)
+deed_output h n c p (did.Panics cause clause) v m = sym (append-nil h.output)
+deed_output h n c p (did.Ends end) v m = sym (append-nil h.output)
+
+still_exhausted : (w : Shared) (n : ℕ) → meant w n Exhausted ≡ Exhausted
+still_exhausted w n = go (length w.events + 1 == 2 ^ 62)
+  where
+    go : (b : Bool) → cond b Exhausted Exhausted ≡ Exhausted
+    go true = refl
+    go false = refl
+
+-- what follows of an answer
+pub ok_more : {T E : Type 0} (r : Result T E) {A B : T → Type 0} → IfOk r A → ((x : T) → A x → B x) → IfOk r B
+ok_more (Ok x) h more = more x h
+ok_more (Err e) h more = tt
+
+never_none : (k : Key) (o : Option Key) → sooner k o ≡ None → ⊥
+never_none k None e = cc
+never_none k (Some j) e = cc
+
+module _ {S : Type 0} (K : GoroutineKind) (held : S → K.State) (limit : ℕ) where
+  clock_is : (x : Option (Goroutine S)) → option_map (rules K limit).clock (awake_of held x) ≡ clock_of x
+  clock_is None = refl
+  clock_is (Some g) = go g.asleep
+    where
+      go : (b : Bool) → option_map (rules K limit).clock (cond b None (Some (clocked held g))) ≡ cond b None (Some g.clock)
+      go true = refl
+      go false = refl
+
+  keys_is : (n : ℕ) (xs : List (Option (Goroutine S))) → keys (option_map (rules K limit).clock) n (awake_in held xs) ≡ keys clock_of n xs
+  keys_is n [] = refl
+  keys_is n (x ∷ xs) = ap (λ (o : Option ℕ). with_key n o (keys (option_map (rules K limit).clock) (suc n) (awake_in held xs))) (clock_is x) ∙ ap (with_key n (clock_of x)) (keys_is (suc n) xs)
+
+  here_is : (xs : List (Option (Goroutine S))) (n : ℕ) → slice_index_or (awake_in held xs) n None ≡ here (awake_of held) xs n
+  here_is [] n = refl
+  here_is (x ∷ xs) zero = refl
+  here_is (x ∷ xs) (suc n) = here_is xs n
+
+  -- ---- nobody is awake
+
+  nobody_by : (n : ℕ) (x : Option (Goroutine S)) (o : Option ℕ) (ks : List Key) → clock_of x ≡ o → least (with_key n o ks) ≡ None → (clock_of x ≡ None) × (least ks ≡ None)
+  nobody_by n x None ks e h = (e, h)
+  nobody_by n x (Some c) ks e h = absurd (never_none (record { clock = c; number = n }) (least ks) h)
+
+  not_awake : (x : Option (Goroutine S)) → clock_of x ≡ None → is_some (awake_of held x) ≡ false
+  not_awake None e = refl
+  not_awake (Some g) e = go g.asleep e
+    where
+      go : (b : Bool) → cond b None (Some g.clock) ≡ None → is_some (cond b None (Some (clocked held g))) ≡ false
+      go true e' = refl
+      go false e' = cc
+
+  deserted : (n : ℕ) (xs : List (Option (Goroutine S))) → least (keys clock_of n xs) ≡ None → is_deserted (map is_some (awake_in held xs)) ≡ true
+  deserted n [] h = refl
+  deserted n (x ∷ xs) h =
+      let t = nobody_by n x (clock_of x) (keys clock_of (suc n) xs) refl h in
+      ap (λ (b : Bool). not b && is_deserted (map is_some (awake_in held xs))) (not_awake x t.0) ∙ deserted (suc n) xs t.1
+
+  -- ---- the world in memory
+
+  lie_on : (old new : List (Option (Goroutine S))) (beds : List (Bed K.State)) (ss : List Sleeper) → SleepOn held old new → LieIn K held old beds ss → LieIn K held new beds ss
+  lie_on old new beds [] on h = tt
+  lie_on old new beds (x ∷ xs) on h = (h.0 ∙ sym (on x.number), lie_on old new beds xs on h.1)
+
+  next_is : (w : World (Clocked K.State) (Rest K.State)) (old : List (Option (Goroutine S))) (v : SharedValue) (o : Option Key) → IsWorldOf K held w old v → least (keys clock_of 0 old) ≡ o → next (rules K limit) w.awake ≡ o
+  next_is w old v o fits is = ap (λ (a : List (Option (Clocked K.State))). next (rules K limit) a) (sym fits.awake) ∙ ap least (keys_is 0 old) ∙ is
+
+  at_is : (w : World (Clocked K.State) (Rest K.State)) (old : List (Option (Goroutine S))) (v : SharedValue) (n : ℕ) → IsWorldOf K held w old v → slice_index_or w.awake n None ≡ here (awake_of held) old n
+  at_is w old v n fits = ap (λ (a : List (Option (Clocked K.State))). slice_index_or a n None) (sym fits.awake) ∙ here_is old n
+
+  moment_next : (n : ℕ) → moment K limit (n + 1) ≡ one (rules K limit) (moment K limit n)
+  moment_next n = run_add (rules K limit) (laws K limit) n 1 (opening K)
+
+  -- ---- each move
+
+  module _ (seen : Option (List ℕ)) (now : Option (List ℕ)) (old : List (Option (Goroutine S))) (v : SharedValue) (st : Stands K held limit seen now old v) where
+    abbrev w : World (Clocked K.State) (Rest K.State)
+    w = moment K limit st.moves
+
+    goes : w.shared.shared.ending ≡ None
+    goes = sym st.world.shared.ending ∙ st.goes_on
+
+    pub begins : BeginsOutput K limit seen now
+    begins = (st.moves, length w.shared.shared.output, subst (Appends seen now) (sym (take-length w.shared.shared.output)) st.written)
+
+    pub deadlock : least (keys clock_of 0 old) ≡ None → IsWhole K limit seen now Deadlock
+    deadlock none = (
+      st.moves,
+      st.written,
+      ap (λ (o : Option Ending). cond (is_some o) o (cond (is_deserted (map is_some w.awake)) (Some Deadlock) None)) goes
+          ∙ ap (λ (b : Bool). cond b (Some Deadlock) None) (ap (λ (a : List (Option (Clocked K.State))). is_deserted (map is_some a)) (sym st.world.awake) ∙ deserted 0 old none),
+    )
+
+    pub stepped : (key : Key) (place : ℕ) (new : List (Option (Goroutine S))) → least (keys clock_of 0 old) ≡ Some key → key.number ≡ place → AdvancesAt K held limit turns.Stepped old place new → Stands K held limit seen now new v
+    stepped key place new is number h =
+        let there : World (Clocked K.State) (Rest K.State) = record { awake = awake_in held new; shared = w.shared } in
+        let moves : one (rules K limit) w ≡ there =
+        ap (λ (o : Option Ending). cond (is_some o) w (move_next (rules K limit) w (next (rules K limit) w.awake))) goes
+        ∙ ap (move_next (rules K limit) w) (next_is w old v (Some key) st.world is)
+        ∙ ap (λ (n : ℕ). move_at (rules K limit) w n (slice_index_or w.awake n None)) number
+        ∙ ap (move_at (rules K limit) w place) (at_is w old v place st.world)
+        ∙ ap (λ (a : List (Option (Clocked K.State))). move_at (rules K limit) (record { awake = a; shared = w.shared }) place (here (awake_of held) old place)) (sym st.world.awake)
+        ∙ h.0 w.shared in
+        let e : moment K limit (st.moves + 1) ≡ there = moment_next st.moves ∙ moves in
+        record {
+          moves = st.moves + 1;
+          world = subst (λ (x : World (Clocked K.State) (Rest K.State)). IsWorldOf K held x new v) (sym e) (record { awake = refl; beds = lie_on old new w.shared.beds w.shared.shared.asleep h.1 st.world.beds; shared = st.world.shared; once = st.world.once });
+          written = subst (λ (x : World (Clocked K.State) (Rest K.State)). Appends seen now x.shared.shared.output) (sym e) st.written;
+          goes_on = st.goes_on;
+        }
+
+    pub asks_on : (key : Key) (place later : ℕ) (request : Asked) (new : List (Option (Goroutine S))) → least (keys clock_of 0 old) ≡ Some key → key.number ≡ place → AdvancesAt K held limit (turns.Asks request later) old place new → Stands K held limit seen now new v × IsAsked K held limit new place later (request_of request)
+    asks_on key place later request new is number h = (
+      record {
+        moves = st.moves;
+        world = record { awake = h.4 ∙ st.world.awake; beds = lie_on old new w.shared.beds w.shared.shared.asleep h.5 st.world.beds; shared = st.world.shared; once = st.world.once };
+        written = st.written;
+        goes_on = st.goes_on;
+      },
+      record {
+        state = h.0;
+        at = record { here = sym (here_is new place) ∙ ap (λ (a : List (Option (Clocked K.State))). slice_index_or a place None) h.4 ∙ here_is old place ∙ h.1.here; asks = h.1.asks };
+        what = h.2;
+        clock = h.3;
+        key = key;
+        turn = ap least (sym (keys_is 0 new)) ∙ ap (λ (a : List (Option (Clocked K.State))). next (rules K limit) a) h.4 ∙ ap least (keys_is 0 old) ∙ is;
+        number = number;
+      },
+    )
+
+    one_is : (key : Key) (place : ℕ) (s : Clocked K.State) (q : Request) → least (keys clock_of 0 old) ≡ Some key → key.number ≡ place → IsAt K held limit old place s → asks K limit s ≡ Some q → moment K limit (st.moves + 1) ≡ after K held limit w place s (perform w.shared.shared place s.clock q)
+    one_is key place s q is number at what =
+        moment_next st.moves
+        ∙ one_after K held limit w key s q goes (next_is w old v (Some key) st.world is) (ap (λ (n : ℕ). slice_index_or w.awake n None) number ∙ at_is w old v place st.world ∙ at.here) at.asks what
+        ∙ ap (λ (n : ℕ). after K held limit w n s (perform w.shared.shared n s.clock q)) number
+
+    pub exhausted : (key : Key) (place : ℕ) (new : List (Option (Goroutine S))) → least (keys clock_of 0 old) ≡ Some key → key.number ≡ place → AdvancesAt K held limit turns.Exhausted old place new → IsWhole K limit seen now RanOut
+    exhausted key place new is number h =
+        let sh : Shared = w.shared.shared in
+        let e = one_is key place h.0 Exhausted is number h.1 h.2 ∙ ap (λ (p : Request). after K held limit w place h.0 (act sh place h.0.clock p p)) (still_exhausted sh place) in
+        let both : Appends seen now (moment K limit (st.moves + 1)).shared.shared.output × (end_of (moment K limit (st.moves + 1)) ≡ Some RanOut) =
+        subst (λ (x : World (Clocked K.State) (Rest K.State)). Appends seen now x.shared.shared.output × (end_of x ≡ Some RanOut)) (sym e) (st.written, refl) in
+        (st.moves + 1, both.0, both.1)
+
+    -- ---- a request
+
+    module _ (place later : ℕ) (q : Request) (deed : Did) (v' : SharedValue) (ask : IsAsked K held limit old place later q) (does : Performs v place q deed v') where
+      abbrev d : Deed
+      d = perform w.shared.shared place ask.state.clock q
+
+      next_moment : moment K limit (st.moves + 1) ≡ after K held limit w place ask.state d
+      next_moment = one_is ask.key place ask.state q ask.turn ask.number ask.at ask.what
+
+      output_is : (moment K limit (st.moves + 1)).shared.shared.output ≡ w.shared.shared.output ++ printed deed
+      output_is =
+          ap (λ (x : World (Clocked K.State) (Rest K.State)). x.shared.shared.output) next_moment
+          ∙ ap (λ (x : Deed). x.shared.output) (does w.shared.shared ask.state.clock st.world.shared).0
+          ∙ deed_output (history_of w.shared.shared) place ask.state.clock (meant w.shared.shared place q) deed v' v'.meeting
+
+      -- some of what it prints is written
+      pub begins_after : (new : Option (List ℕ)) (k : ℕ) → Appends now new (take k (printed deed)) → BeginsOutput K limit seen new
+      begins_after new k a = (
+        st.moves + 1,
+        length w.shared.shared.output + k,
+        subst (Appends seen new) (sym (ap (take (length w.shared.shared.output + k)) output_is ∙ take_past w.shared.shared.output (printed deed) k))
+            (appends_more seen now new w.shared.shared.output (take k (printed deed)) st.written a),
+      )
+
+      -- all of it is written
+      pub goes_after : (written : Option (List ℕ)) (new : List (Option (Goroutine S))) → Appends now written (printed deed) → Applies K held later place ask.state deed old new → Goes K held limit seen written new v' v'.ending
+      goes_after written new a applies = go v'.ending refl
+        where
+          all : Appends seen written (moment K limit (st.moves + 1)).shared.shared.output
+          all = subst (Appends seen written) (sym output_is) (appends_more seen now written w.shared.shared.output (printed deed) st.written a)
+
+          is : d ≡ deed_of (history_of w.shared.shared) place ask.state.clock (meant w.shared.shared place q) deed v' v'.meeting
+          is = (does w.shared.shared ask.state.clock st.world.shared).0
+
+          ends_so : (e : Option Ending) → v'.ending ≡ e → d.shared.ending ≡ e
+          ends_so e h = sym (does w.shared.shared ask.state.clock st.world.shared).1.ending ∙ h
+
+          go : (o : Option Ending) → v'.ending ≡ o → Goes K held limit seen written new v' o
+          go (Some e) h = (
+            st.moves + 1,
+            all,
+            ap (λ (x : World (Clocked K.State) (Rest K.State)). end_of x) next_moment
+                ∙ ap (λ (o : Option Ending). cond (is_some o) o (cond (is_deserted (map is_some (after K held limit w place ask.state d).awake)) (Some Deadlock) None)) (ends_so (Some e) h),
+          )
+          go None h = record {
+            moves = st.moves + 1;
+            world = subst (λ (x : World (Clocked K.State) (Rest K.State)). IsWorldOf K held x new v') (sym (next_moment ∙ ap (after K held limit w place ask.state) is))
+                (applied K held limit w old new v v' place ask.state (meant w.shared.shared place q) st.world ask.at.here deed
+                (subst (λ (x : Deed). Known K held limit w.shared.shared place (meant w.shared.shared place q) v' x) is (known K held limit w.shared.shared place ask.state.clock q v' st.world.once (does w.shared.shared ask.state.clock st.world.shared).1))
+                h (subst (λ (c : ℕ). Applies K held c place ask.state deed old new) ask.clock applies));
+            written = all;
+            goes_on = h;
+          }
+
+  -- ---- the beginning
+
+  pub opened_stands : (seen : Option (List ℕ)) (places : List (Option (Goroutine S))) (v : SharedValue) → IsOpen K held places → v ≡ opened → Stands K held limit seen seen places v
+  opened_stands seen places v start is =
+      let g : Goroutine S = start.0 in
+      let there : IsWorldOf K held (opening K) (None ∷ Some g ∷ []) opened = record {
+        awake = ap (λ (x : Option (Clocked K.State)). None ∷ x ∷ []) (awake_is held g start.2 ∙ ap (λ (s : Clocked K.State). Some s) start.1);
+        beds = tt;
+        shared = record { asleep = refl; channels = refl; live = refl; made = refl; events = refl; ending = refl };
+        once = tt;
+      } in
+      subst (λ (x : SharedValue). Stands K held limit seen seen places x) (sym is) (record {
+        moves = 0;
+        world = subst (λ (x : List (Option (Goroutine S))). IsWorldOf K held (opening K) x opened) (sym start.3) there;
+        written = appends_none seen;
+        goes_on = refl;
+      })

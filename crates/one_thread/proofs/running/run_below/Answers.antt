@@ -1,0 +1,24 @@
+use Rattle.std.proofs.Common.{◌≡◌, ap, ◌∙◌}
+use Rattle.word.specs.Related.{kind_of}
+use Rattle.one_thread.proofs.Moves.{appends_none, begins, opened_stands}
+use Rattle.one_thread.proofs.running.run_below.Goals as goal
+
+pub returns-in_err-shared-clause-begins : goal.returns-in_err-shared-clause-begins
+returns-in_err-shared-clause-begins g c = (0, 0, appends_none (g.W.Write.contents c.args.output.now))
+
+pub loop-init : goal.loop-init
+loop-init g c =
+    let stands = opened_stands (kind_of (g.P.Interpreter.parts c.args.program.now)) (g.P.Interpreter.held c.args.program.now) c.args.limit (g.W.Write.contents c.args.output.now) c.in_ok-places.places.items c.in_ok-shared.shared c.in_ok-places.ensures c.in_ok-shared.ensures in
+    record { going = stands.goes_on; stands = stands }
+
+pub returns-in_err-end-clause-begins : goal.returns-in_err-end-clause-begins
+returns-in_err-end-clause-begins g c = c.most_moves.ensures.begins (g.W.Write.contents c.args.output.now) c.loop.invariant.stands
+
+pub returns-in-Some-clause-begins : goal.returns-in-Some-clause-begins
+returns-in-Some-clause-begins g c = c.most_moves.ensures.begins (g.W.Write.contents c.args.output.now) c.loop.invariant.stands
+
+pub returns-in-Some-clause-whole : goal.returns-in-Some-clause-whole
+returns-in-Some-clause-whole g c = rw c.in-Some.is at (c.in_ok-end.ensures.goes (g.W.Write.contents c.args.output.now) c.loop.invariant.stands)
+
+pub returns-clause-begins : goal.returns-clause-begins
+returns-clause-begins g c = begins (kind_of (g.P.Interpreter.parts c.args.program.now)) (g.P.Interpreter.held c.args.program.now) c.args.limit (g.W.Write.contents c.args.output.now) (g.W.Write.contents c.loop.output) c.loop.places.items c.loop.shared c.loop.invariant.stands

@@ -1,0 +1,27 @@
+-- What a step and a turn of a goroutine do.
+use Rattle.std.specs.Prelude.{◌≡◌, ℕ, ◌+◌, Option, Some, None}
+use Rattle.word.specs.declared.request.Request.{Request as Asked}
+use Rattle.word.specs.Values.{Exhausted}
+use Rattle.word.specs.Kinds.{Next, Slides, Ticks, Asks, GoroutineKind, Clocked, local, asks}
+use Rattle.word.specs.Views.{request_of}
+use Rattle.one_thread.specs.declared.goroutine.Turn.{Turn}
+use Rattle.one_thread.specs.declared.goroutine.Turn.TheVariants as turns
+use Rattle.one_thread.specs.declared.interpreter.Step.{Step}
+use Rattle.one_thread.specs.declared.interpreter.Step.TheVariants as steps
+
+-- this step comes next, and leads from the old state to the new one; who asks stays as it is
+abbrev pub Moves : {A : Type 0} → Next A → Step → A → A → Type 0
+Moves next steps.Slides new old = next ≡ Slides new
+Moves next steps.Ticks new old = next ≡ Ticks new
+Moves next (steps.Asks request) new old = (next ≡ Asks (request_of request)) × (new ≡ old)
+
+-- the goroutine makes this local step, or has none and asks
+abbrev pub Advances : (K : GoroutineKind) (limit : ℕ) → Turn → Clocked K.State → Clocked K.State → Type 0
+Advances K limit turns.Stepped old new = local K limit old ≡ Some new
+Advances K limit (turns.Asks request later) old new = (local K limit old ≡ None) × (asks K limit old ≡ Some (request_of request)) × (new ≡ old) × (later ≡ old.clock + 1)
+Advances K limit turns.Exhausted old new = (local K limit old ≡ None) × (asks K limit old ≡ Some Exhausted)
+
+-- the turn of who asks this, where there is a later clock
+abbrev pub asking : Asked → Option ℕ → Turn
+asking request None = turns.Exhausted
+asking request (Some later) = turns.Asks request later

@@ -1,0 +1,111 @@
+//! A goroutine with its clock.
+
+ghost use Rattle.std.specs.Prelude.{◌≡◌, ◌+◌, ◌==◌, IfOk, MatchOption, OnOk, false, true};
+ghost use Rattle.word.specs.Kinds.{told};
+ghost use Rattle.word.specs.Related.{kind_of};
+ghost use Rattle.word.specs.Views.{reply_of};
+ghost use Rattle.one_thread.specs.Steps.{Advances, asking};
+ghost use Rattle.one_thread.specs.Places.{clocked};
+
+use crate::interpreter::{Interpreter, Step};
+use go_text::Memory;
+use logical_clock::{Clock, LAST, tick};
+use std::alloc::Global;
+use word::panic::Panic;
+use word::request::{Reply, Request};
+
+/// A goroutine: its clock, whether it was woken at its send by a close, whether it is asleep, and its state.
+#[derive(Drop)]
+pub(crate) struct Goroutine<S: Drop> {
+    pub(crate) clock: Clock,
+    pub(crate) doomed: bool,
+    pub(crate) asleep: bool,
+    pub(crate) state: S,
+}
+
+/// What came of a goroutine's turn.
+#[derive(Drop)]
+pub(crate) enum Turn {
+    /// It made a step of its own.
+    Stepped,
+    /// It asks, and whoever goes on is at this clock.
+    Asks(Request, Clock),
+    /// It is at the clock limit.
+    Exhausted,
+}
+
+/// A goroutine has its turn. At the limit its state is of no more use.
+pub(crate) fn advance<P: Interpreter>(
+    program: &P,
+    alloc: Global,
+    goroutine: &mut Goroutine<P::State>,
+    limit: u64,
+) -> Result<Turn, Memory>
+    ensures turn { IfOk result (λ turn. Advances (kind_of (P.parts program.now)) limit turn (clocked (P.held program.now) goroutine.old) (clocked (P.held program.now) goroutine.new)) }
+    ensures asleep { OnOk result (goroutine.new.asleep ≡ goroutine.old.asleep) }
+{
+    let later = later(goroutine.clock, limit)?;
+    if goroutine.doomed {
+        return Ok(asking(Request::Panic(Panic::SendOnClosed), later));
+    }
+    match program.step(alloc, &mut goroutine.state)? {
+        Step::Slides => Ok(Turn::Stepped),
+        Step::Ticks => {
+            let Some(clock) = later else {
+                return Ok(Turn::Exhausted);
+            };
+            goroutine.clock = clock;
+            Ok(Turn::Stepped)
+        }
+        Step::Asks(request) => Ok(asking(request, later)),
+    }
+}
+
+/// The clock one later; none at the limit, which no clock is beyond.
+fn later(clock: Clock, limit: u64) -> Result<Option<Clock>, Memory>
+    ensures { IfOk result (λ later. MatchOption later ((clock == limit) ≡ true) (λ next. ((clock == limit) ≡ false) × (next ≡ clock + 1))) }
+{
+    if clock.time() == limit {
+        return Ok(None);
+    }
+    match tick(clock, LAST) {
+        Some(next) => Ok(Some(next)),
+        None => Err(Memory),
+    }
+}
+
+/// Who asks at the limit is exhausted.
+fn asking(request: Request, later: Option<Clock>) -> Turn
+    ensures { result ≡ asking request later }
+{
+    match later {
+        Some(later) => Turn::Asks(request, later),
+        None => Turn::Exhausted,
+    }
+}
+
+/// A goroutine that asked, or was woken, is told this, and goes on at this clock.
+pub(crate) fn tell<P: Interpreter>(
+    program: &P,
+    alloc: Global,
+    goroutine: &mut Goroutine<P::State>,
+    clock: Clock,
+    reply: Reply,
+) -> Result<(), Memory>
+    ensures told { OnOk result (clocked (P.held program.now) goroutine.new ≡ told (kind_of (P.parts program.now)) (clocked (P.held program.now) goroutine.old) clock (reply_of reply)) }
+    ensures awake { OnOk result (goroutine.new.asleep ≡ false) }
+{
+    goroutine.clock = clock;
+    goroutine.asleep = false;
+    match reply {
+        Reply::Closed => {
+            goroutine.doomed = true;
+            Ok(())
+        }
+        other => {
+            goroutine.doomed = false;
+            program.answer(alloc, &mut goroutine.state, other)?;
+            Ok(())
+        }
+    }
+}

@@ -1,0 +1,258 @@
+//! The run.
+
+ghost use Rattle.std.specs.Prelude.{◌≡◌, ◌⊎◌, ◌↔◌, ◌^◌, ◌≤◌, ℕ, IfErr, IfOk, IsErr, IsErrOf, List, None, OnOk, Option, Some, take, true};
+ghost use Rattle.std.specs.Io.KnownBytes.{Appends};
+ghost use Rattle.word.specs.Kinds.{Clocked};
+ghost use Rattle.word.specs.Related.{kind_of};
+ghost use Rattle.word.specs.Values.{Request as AnyRequest};
+ghost use Rattle.word.specs.Views.{request_of};
+ghost use Rattle.one_thread.specs.Places.{awake_of, here};
+ghost use Rattle.one_thread.specs.Worlds.{Applies, BeginsOutput, Goes, IsAsked, IsLimit, IsOpen, IsWhole, Stands, printed};
+
+use crate::goroutine::{Goroutine, Turn};
+use crate::interpreter::Interpreter;
+use crate::places::{advance_at, end, lay, least, tell_at, wake_all};
+use go_text::{Fault, Memory};
+use logical_clock::Clock;
+use reference_world::{Deed, Shared};
+use std::alloc::Global;
+use word::end::End;
+use word::request::{Reply, Request};
+use word::{Write, write_all};
+
+/// Runs goroutine 1 at `main`, and all that come of it, up to the clock limit (1 to 2^62 steps), and answers how the run
+/// ended. What is written begins the output of the one-thread run; at an end it is all of it.
+pub fn run<P: Interpreter, W: Write>(
+    alloc: Global,
+    program: &P,
+    limit: u64,
+    output: &mut W,
+) -> Result<End, Fault>
+    ensures limit { IsErrOf result Fault.BadLimit ↔ (IsLimit limit → ⊥) }
+    ensures nothing { IsErrOf result Fault.BadLimit → W.contents output.new ≡ W.contents output.old }
+    ensures begins { BeginsOutput (kind_of (P.parts program.now)) limit (W.contents output.old) (W.contents output.new) }
+    ensures whole { IfOk result (λ end. IsWhole (kind_of (P.parts program.now)) limit (W.contents output.old) (W.contents output.new) end) }
+    ensures write { IsErrOf result Fault.Write → W.has_failed output.new ≡ true }
+    ensures only { IfErr result (λ fault. (fault ≡ Fault.Memory) ⊎ ((fault ≡ Fault.Write) ⊎ (fault ≡ Fault.BadLimit))) }
+{
+    if limit < 1 || limit > 1 << 62 {
+        return Err(Fault::BadLimit);
+    }
+    let end = run_below(alloc, program, limit, output)?;
+    Ok(end)
+}
+
+/// The run at a limit that is none too high.
+fn run_below<P: Interpreter, W: Write>(
+    alloc: Global,
+    program: &P,
+    limit: u64,
+    output: &mut W,
+) -> Result<End, Fault>
+    ensures begins { BeginsOutput (kind_of (P.parts program.now)) limit (W.contents output.old) (W.contents output.new) }
+    ensures whole { IfOk result (λ end. IsWhole (kind_of (P.parts program.now)) limit (W.contents output.old) (W.contents output.new) end) }
+    ensures write { IsErrOf result Fault.Write → W.has_failed output.new ≡ true }
+    ensures only { IfErr result (λ fault. (fault ≡ Fault.Memory) ⊎ (fault ≡ Fault.Write)) }
+{
+    let mut places = opening(alloc, program)?;
+    let mut shared = Shared::new(alloc)?;
+    for _ in 0..u64::MAX {
+        if let Some(end) = most_moves(alloc, program, &mut places, &mut shared, limit, output)? {
+            return Ok(end);
+        }
+    }
+    Err(Fault::Memory)
+}
+
+/// Goroutine 1 alone, at `main`.
+fn opening<P: Interpreter>(
+    alloc: Global,
+    program: &P,
+) -> Result<Vec<Option<Goroutine<P::State>>>, Memory>
+    ensures { IfOk result (λ places. IsOpen (kind_of (P.parts program.now)) (P.held program.now) places.items) }
+{
+    let state = program.begin(alloc, program.main(), [].as_slice())?;
+    let mut places = Vec::new(alloc);
+    places.push(None)?;
+    places.push(Some(Goroutine {
+        clock: Clock::START,
+        doomed: false,
+        asleep: false,
+        state,
+    }))?;
+    Ok(places)
+}
+
+/// Up to 2^128 moves, and the end of the run, where it has ended.
+fn most_moves<P: Interpreter, W: Write>(
+    alloc: Global,
+    program: &P,
+    places: &mut Vec<Option<Goroutine<P::State>>>,
+    shared: &mut Shared,
+    limit: u64,
+    output: &mut W,
+) -> Result<Option<End>, Fault>
+    requires { shared.old.ending ≡ None }
+    ensures goes { IfOk result (λ ending. (known : Option (List ℕ)) → Stands (kind_of (P.parts program.now)) (P.held program.now) limit known (W.contents output.old) places.old.items shared.old → Goes (kind_of (P.parts program.now)) (P.held program.now) limit known (W.contents output.new) places.new.items shared.new ending) }
+    ensures begins { (known : Option (List ℕ)) → Stands (kind_of (P.parts program.now)) (P.held program.now) limit known (W.contents output.old) places.old.items shared.old → BeginsOutput (kind_of (P.parts program.now)) limit known (W.contents output.new) }
+    ensures going { IfOk result (λ ending. ending ≡ None → shared.new.ending ≡ None) }
+    ensures write { IsErrOf result Fault.Write → W.has_failed output.new ≡ true }
+    ensures only { IfErr result (λ fault. (fault ≡ Fault.Memory) ⊎ (fault ≡ Fault.Write)) }
+{
+    for _ in 0..u64::MAX {
+        if let Some(end) = moves(alloc, program, places, shared, limit, output)? {
+            return Ok(Some(end));
+        }
+    }
+    Ok(None)
+}
+
+/// Up to 2^64 moves, and the end of the run, where it has ended.
+fn moves<P: Interpreter, W: Write>(
+    alloc: Global,
+    program: &P,
+    places: &mut Vec<Option<Goroutine<P::State>>>,
+    shared: &mut Shared,
+    limit: u64,
+    output: &mut W,
+) -> Result<Option<End>, Fault>
+    requires { shared.old.ending ≡ None }
+    ensures goes { IfOk result (λ ending. (known : Option (List ℕ)) → Stands (kind_of (P.parts program.now)) (P.held program.now) limit known (W.contents output.old) places.old.items shared.old → Goes (kind_of (P.parts program.now)) (P.held program.now) limit known (W.contents output.new) places.new.items shared.new ending) }
+    ensures begins { (known : Option (List ℕ)) → Stands (kind_of (P.parts program.now)) (P.held program.now) limit known (W.contents output.old) places.old.items shared.old → BeginsOutput (kind_of (P.parts program.now)) limit known (W.contents output.new) }
+    ensures going { IfOk result (λ ending. ending ≡ None → shared.new.ending ≡ None) }
+    ensures write { IsErrOf result Fault.Write → W.has_failed output.new ≡ true }
+    ensures only { IfErr result (λ fault. (fault ≡ Fault.Memory) ⊎ (fault ≡ Fault.Write)) }
+{
+    for _ in 0..u64::MAX {
+        if let Some(end) = one_move(alloc, program, places, shared, limit, output)? {
+            return Ok(Some(end));
+        }
+    }
+    Ok(None)
+}
+
+/// One move, and the end of the run, where it has ended.
+fn one_move<P: Interpreter, W: Write>(
+    alloc: Global,
+    program: &P,
+    places: &mut Vec<Option<Goroutine<P::State>>>,
+    shared: &mut Shared,
+    limit: u64,
+    output: &mut W,
+) -> Result<Option<End>, Fault>
+    requires { shared.old.ending ≡ None }
+    ensures goes { IfOk result (λ ending. (known : Option (List ℕ)) → Stands (kind_of (P.parts program.now)) (P.held program.now) limit known (W.contents output.old) places.old.items shared.old → Goes (kind_of (P.parts program.now)) (P.held program.now) limit known (W.contents output.new) places.new.items shared.new ending) }
+    ensures begins { (known : Option (List ℕ)) → Stands (kind_of (P.parts program.now)) (P.held program.now) limit known (W.contents output.old) places.old.items shared.old → BeginsOutput (kind_of (P.parts program.now)) limit known (W.contents output.new) }
+    ensures going { IfOk result (λ ending. ending ≡ None → shared.new.ending ≡ None) }
+    ensures write { IsErrOf result Fault.Write → W.has_failed output.new ≡ true }
+    ensures only { IfErr result (λ fault. (fault ≡ Fault.Memory) ⊎ (fault ≡ Fault.Write)) }
+{
+    let Some(key) = least(places.as_slice()) else {
+        return Ok(Some(End::Deadlock));
+    };
+    let place = key.number as usize;
+    match advance_at(program, alloc, places.as_mut_slice(), place, limit)? {
+        Turn::Stepped => Ok(None),
+        Turn::Exhausted => Ok(Some(End::Exhausted)),
+        Turn::Asks(request, later) => {
+            perform(
+                alloc, program, places, shared, place, later, request, output,
+            )
+        }
+    }
+}
+
+/// Performs what the goroutine at this place asks, whose turn it is; whoever goes on is at this clock. The end of the run,
+/// where it has ended.
+fn perform<P: Interpreter, W: Write>(
+    alloc: Global,
+    program: &P,
+    places: &mut Vec<Option<Goroutine<P::State>>>,
+    shared: &mut Shared,
+    place: usize,
+    later: Clock,
+    request: Request,
+    output: &mut W,
+) -> Result<Option<End>, Fault>
+    requires { shared.old.ending ≡ None }
+    ensures goes { IfOk result (λ ending. (limit : ℕ) (known : Option (List ℕ)) → IsAsked (kind_of (P.parts program.now)) (P.held program.now) limit places.old.items place later (request_of request) → Stands (kind_of (P.parts program.now)) (P.held program.now) limit known (W.contents output.old) places.old.items shared.old → Goes (kind_of (P.parts program.now)) (P.held program.now) limit known (W.contents output.new) places.new.items shared.new ending) }
+    ensures begins { (limit : ℕ) (known : Option (List ℕ)) → IsAsked (kind_of (P.parts program.now)) (P.held program.now) limit places.old.items place later (request_of request) → Stands (kind_of (P.parts program.now)) (P.held program.now) limit known (W.contents output.old) places.old.items shared.old → BeginsOutput (kind_of (P.parts program.now)) limit known (W.contents output.new) }
+    ensures going { IfOk result (λ ending. ending ≡ None → shared.new.ending ≡ None) }
+    ensures write { IsErrOf result Fault.Write → W.has_failed output.new ≡ true }
+    ensures only { IfErr result (λ fault. (fault ≡ Fault.Memory) ⊎ (fault ≡ Fault.Write)) }
+{
+    let deed = shared.perform(place as u64, request)?;
+    print(&deed, output)?;
+    apply(alloc, program, places, place, later, deed)?;
+    Ok(shared.ending())
+}
+
+/// Writes what a deed prints.
+fn print<W: Write>(deed: &Deed, output: &mut W) -> Result<(), Fault>
+    ensures ok { OnOk result (Appends (W.contents output.old) (W.contents output.new) (printed deed.now)) }
+    ensures err { IsErr result → (k : ℕ) × Appends (W.contents output.old) (W.contents output.new) (take k (printed deed.now)) }
+    ensures write { IsErr result → W.has_failed output.new ≡ true }
+    ensures only { IfErr result (λ fault. fault ≡ Fault.Write) }
+{
+    let Deed::Prints(bytes) = deed else {
+        return Ok(());
+    };
+    match write_all(output, bytes.as_slice()) {
+        Ok(()) => Ok(()),
+        Err(_) => Err(Fault::Write),
+    }
+}
+
+/// Does to the goroutines what became of a request of the one at this place; whoever goes on is at this clock.
+fn apply<P: Interpreter>(
+    alloc: Global,
+    program: &P,
+    places: &mut Vec<Option<Goroutine<P::State>>>,
+    place: usize,
+    later: Clock,
+    deed: Deed,
+) -> Result<(), Memory>
+    ensures { OnOk result ((s : Clocked P.Held) → here (awake_of (P.held program.now)) places.old.items place ≡ Some s → Applies (kind_of (P.parts program.now)) (P.held program.now) later place s deed places.old.items places.new.items) }
+{
+    match deed {
+        Deed::Done(reply, woken) => {
+            tell_at(program, alloc, places.as_mut_slice(), place, later, reply)?;
+            wake_all(program, alloc, places.as_mut_slice(), later, woken)
+        }
+        Deed::Prints(_) => tell_at(
+            program,
+            alloc,
+            places.as_mut_slice(),
+            place,
+            later,
+            Reply::Nothing,
+        ),
+        Deed::Starts(function, arguments) => {
+            tell_at(
+                program,
+                alloc,
+                places.as_mut_slice(),
+                place,
+                later,
+                Reply::Nothing,
+            )?;
+            let state = program.begin(alloc, function, arguments.as_slice())?;
+            places.push(Some(Goroutine {
+                clock: later,
+                doomed: false,
+                asleep: false,
+                state,
+            }))?;
+            Ok(())
+        }
+        Deed::Sleeps => {
+            lay(places.as_mut_slice(), place);
+            Ok(())
+        }
+        Deed::Leaves => {
+            end(places.as_mut_slice(), place);
+            Ok(())
+        }
+        Deed::Panics(..) | Deed::Ends(_) => Ok(()),
+    }
+}
