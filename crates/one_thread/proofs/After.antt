@@ -1,25 +1,23 @@
 -- A move in memory is a move of the world.
-use Rattle.std.proofs.Common.{◌≡◌, ◌≢◌, ℕ, zero, suc, ◌+◌, Bool, true, false, cond, List, [], ◌∷◌, ◌++◌, map, Option, Some, None, refl, sym, ap, ◌∙◌, subst, inl, inr, ◌⊎◌, append-nil}
-use Rattle.std.specs.Prelude.{◌==◌, option_map, slice_index_or, slice_set}
+use Rattle.std.proofs.Common.{◌≡◌, ◌≢◌, ℕ, zero, suc, ◌+◌, Bool, false, cond, List, [], ◌∷◌, ◌++◌, map, Option, Some, None, refl, sym, ap, ◌∙◌, subst, inl, inr, ◌⊎◌, append-nil}
+use Rattle.std.specs.Prelude.{◌==◌, slice_index_or, slice_set}
 use Rattle.std.specs.Option.{is_some}
 use Rattle.std.proofs.lemmas.Bool.{eq-eqb, ne_eqb}
 use Rattle.std.proofs.lemmas.List.{map-append}
 use Rattle.logical_clock.specs.declared.key.Key.{Key}
-use Rattle.reference_world.specs.Deeds.{History, IsShownBy, MeetingValue, Performs, SharedValue, deed_of, history_of}
+use Rattle.reference_world.specs.Deeds.{IsShownBy, SharedValue, deed_of, history_of}
 use Rattle.reference_world.specs.declared.deed.Deed.{Deed as Did}
 use Rattle.reference_world.specs.declared.deed.Deed.TheVariants as did
-use Rattle.turn_rule.specs.Turns.{World, changed, move_at, move_next, move_on, next, one, run}
-use Rattle.turn_rule.specs.Turns as turns
-use Rattle.turn_rule.proofs.Stable.{run_add}
+use Rattle.turn_rule.specs.Turns.{World, changed, move_at, move_next, move_on, next, one}
 use Rattle.word.specs.Values.{Nothing, Reply, Request, Shared, Sleeper}
-use Rattle.word.specs.Kinds.{Clocked, GoroutineKind, asks, at, local, told}
-use Rattle.word.specs.Requests.{Deed, act, meant, perform}
+use Rattle.word.specs.Kinds.{Clocked, GoroutineKind, asks, local, told}
+use Rattle.word.specs.Requests.{Deed, meant, perform}
 use Rattle.word.specs.Views.{reply_of}
 use Rattle.word.specs.Worlds.{Bed, Rest, effect, in_bed, performs, rules, woken_by}
 use Rattle.word.proofs.Fair.{AllWake, Fair, IsApart, fair}
 use Rattle.word.proofs.Found.{In}
 use Rattle.one_thread.specs.declared.goroutine.Goroutine.{Goroutine}
-use Rattle.one_thread.specs.Places.{Sets, SleepOn, Wakes, awake_in, awake_of, bed_at, bed_of, clocked, here, woken_to}
+use Rattle.one_thread.specs.Places.{Sets, SleepOn, Wakes, awake_in, awake_of, bed_at, here, woken_to}
 use Rattle.one_thread.specs.Worlds.{Applies, IsWorldOf, LieIn, Misses, Once, numbers}
 use Rattle.one_thread.proofs.Orderly.{orderly, woken_numbers}
 use Rattle.one_thread.proofs.Standing.{awake_is, awake_no_bed, no_bed, sleep_on}

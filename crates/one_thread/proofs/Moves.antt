@@ -1,6 +1,6 @@
 -- Moves of the run, and what was written.
-use Rattle.std.proofs.Common.{◌≡◌, ◌≢◌, ℕ, zero, suc, ◌+◌, Bool, true, false, ◌&&◌, not, cond, List, [], ◌∷◌, ◌++◌, length, map, take, Option, Some, None, refl, sym, ap, ◌∙◌, subst, append-nil, append_assoc, zero-add, suc-add}
-use Rattle.std.specs.Prelude.{◌==◌, ◌^◌, Result, Ok, Err, IfOk, option_map, slice_index_or, slice_set}
+use Rattle.std.proofs.Common.{◌≡◌, ℕ, zero, suc, ◌+◌, Bool, true, false, ◌&&◌, not, cond, List, [], ◌∷◌, ◌++◌, length, map, take, Option, Some, None, refl, sym, ap, ◌∙◌, subst, append-nil, append_assoc, zero-add, suc-add}
+use Rattle.std.specs.Prelude.{◌==◌, ◌^◌, Result, Ok, Err, IfOk, option_map, slice_index_or}
 use Rattle.std.specs.Io.KnownBytes.{Appends}
 use Rattle.std.specs.Option.{is_some}
 use Rattle.std.proofs.Math.Seq.{take-length}
@@ -14,13 +14,13 @@ use Rattle.turn_rule.proofs.Stable.{run_add}
 use Rattle.word.specs.declared.end.End.{End as Ending}
 use Rattle.word.specs.declared.end.End.TheVariants.{Deadlock, Exhausted as RanOut}
 use Rattle.word.specs.Values.{Exhausted, Request, Shared, Sleeper}
-use Rattle.word.specs.Kinds.{Clocked, GoroutineKind, asks, local}
-use Rattle.word.specs.Requests.{Deed, act, asked, meant, perform}
+use Rattle.word.specs.Kinds.{Clocked, GoroutineKind, asks}
+use Rattle.word.specs.Requests.{Deed, act, meant, perform}
 use Rattle.word.specs.Views.{request_of}
 use Rattle.word.specs.Worlds.{Bed, Rest, end_of, is_deserted, moment, opening, rules}
 use Rattle.one_thread.specs.declared.goroutine.Goroutine.{Goroutine}
 use Rattle.one_thread.specs.declared.goroutine.Turn.TheVariants as turns
-use Rattle.one_thread.specs.Places.{AdvancesAt, IsAt, SleepOn, awake_in, awake_of, bed_at, clock_of, clocked, here}
+use Rattle.one_thread.specs.Places.{AdvancesAt, IsAt, SleepOn, awake_in, awake_of, clock_of, clocked, here}
 use Rattle.one_thread.specs.Worlds.{Applies, BeginsOutput, Goes, IsAsked, IsOpen, IsWhole, IsWorldOf, LieIn, Stands, printed}
 use Rattle.one_thread.proofs.After.{Known, after, applied, known, one_after}
 use Rattle.word.specs.declared.request.Request.{Request as Asked}

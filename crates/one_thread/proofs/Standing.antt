@@ -1,18 +1,18 @@
 -- One place changes.
-use Rattle.std.proofs.Common.{◌≡◌, ◌≢◌, ℕ, suc, zero, ◌+◌, ◌<◌, ◌≤◌, Bool, true, false, cond, List, [], ◌∷◌, ◌++◌, length, take, drop, map, Option, Some, None, refl, sym, ap, ◌∙◌, subst, arith, inl, inr, get_or-set_same, get_or-set_other}
-use Rattle.std.specs.Prelude.{option_map, slice_index_or, slice_set, Result, Ok, Err, OnOk}
+use Rattle.std.proofs.Common.{◌≡◌, ℕ, suc, zero, ◌<◌, ◌≤◌, Bool, true, false, cond, List, [], ◌∷◌, ◌++◌, length, take, drop, Option, Some, None, refl, sym, ap, ◌∙◌, subst, arith, inl, inr, get_or-set_same, get_or-set_other}
+use Rattle.std.specs.Prelude.{slice_index_or, slice_set, Result, Ok, Err, OnOk}
 use Rattle.std.proofs.lemmas.Bool.{cases_eq, cases_lt}
 use Rattle.std.proofs.lemmas.List.{map-set, get_or_past, length-map, take-append-le}
 use Rattle.std.proofs.Math.Seq.{map-set_same, set_out, take-length}
 use Rattle.turn_rule.specs.Turns.{World, move_at, move_on}
-use Rattle.word.specs.Values.{Exhausted, Reply}
-use Rattle.word.specs.Kinds.{Clocked, GoroutineKind, asks, local, told}
+use Rattle.word.specs.Values.{Reply}
+use Rattle.word.specs.Kinds.{Clocked, GoroutineKind, told}
 use Rattle.word.specs.Worlds.{Rest, rules}
 use Rattle.one_thread.specs.declared.goroutine.Goroutine.{Goroutine}
 use Rattle.one_thread.specs.declared.goroutine.Turn.{Turn}
 use Rattle.one_thread.specs.declared.goroutine.Turn.TheVariants as turns
 use Rattle.one_thread.specs.Steps.{Advances}
-use Rattle.one_thread.specs.Places.{AdvancesAt, IsAt, IsLaid, Sets, SleepOn, Wakes, awake_in, awake_of, bed_at, bed_of, clocked, here, woken_to}
+use Rattle.one_thread.specs.Places.{AdvancesAt, IsLaid, Sets, SleepOn, Wakes, awake_in, awake_of, bed_at, bed_of, clocked, here, woken_to}
 
 -- what was read at a place, whatever stands for one that is not there
 pub read_at : {A : Type 0} (xs : List A) (n : ℕ) (x d : A) → n < length xs → x ≡ slice_index_or xs n x → slice_index_or xs n d ≡ x

@@ -1,6 +1,6 @@
 -- Goroutines in memory, goroutine n at place n, and what changes of them.
 use Rattle.std.specs.Prelude.{◌≡◌, ◌≢◌, ℕ, ◌+◌, true, cond, List, [], ◌∷◌, map, Option, Some, None, option_map, slice_index_or, slice_set}
-use Rattle.turn_rule.specs.Turns.{World, move_at}
+use Rattle.turn_rule.specs.Turns.{move_at}
 use Rattle.word.specs.Values.{Reply, Exhausted}
 use Rattle.word.specs.Kinds.{Clocked, GoroutineKind, asks, local, told}
 use Rattle.word.specs.Views.{request_of}

@@ -1,4 +1,4 @@
-use Rattle.std.proofs.Common.{◌≡◌, None, Some, ap, sym, ◌∙◌, arith, refl}
+use Rattle.std.proofs.Common.{None, Some, arith}
 use Rattle.word.specs.Related.{kind_of}
 use Rattle.word.specs.Views.{reply_of}
 use Rattle.one_thread.proofs.Standing.{read_as, told_ok}

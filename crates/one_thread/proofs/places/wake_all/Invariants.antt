@@ -1,4 +1,3 @@
-use Rattle.std.proofs.Common.{◌≡◌}
 use Rattle.word.specs.Related.{kind_of}
 use Rattle.one_thread.specs.Places.{Wakes}
 use Rattle.one_thread.proofs.places.wake_all.Given as goal

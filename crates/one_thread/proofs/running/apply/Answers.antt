@@ -1,9 +1,8 @@
-use Rattle.std.proofs.Common.{◌≡◌, ℕ, List, Option, length, ◌++◌, ◌∷◌, [], refl, ap, ◌∙◌, subst, sym, arith, None, Some, false}
+use Rattle.std.proofs.Common.{◌≡◌, List, Option, length, ◌++◌, ◌∷◌, [], refl, ap, ◌∙◌, subst, arith, None, Some, false}
 use Rattle.std.specs.Prelude.{slice_set}
 use Rattle.word.specs.Kinds.{at}
-use Rattle.word.specs.Related.{kind_of}
 use Rattle.one_thread.specs.declared.goroutine.Goroutine.{Goroutine}
-use Rattle.one_thread.specs.Places.{IsLaid, Sets}
+use Rattle.one_thread.specs.Places.{IsLaid}
 use Rattle.one_thread.proofs.Standing.{ended_by, laid_by, written_back}
 use Rattle.one_thread.proofs.running.apply.Goals as goal
 

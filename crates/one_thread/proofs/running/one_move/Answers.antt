@@ -1,6 +1,5 @@
-use Rattle.std.proofs.Common.{◌≡◌, ℕ, List, Option, length, take, drop, ◌++◌, refl, ap, ◌∙◌, subst, sym, arith}
+use Rattle.std.proofs.Common.{List, Option, length, take, drop, ◌++◌, refl, ap, ◌∙◌, subst, sym, arith}
 use Rattle.word.specs.Related.{kind_of}
-use Rattle.word.specs.Views.{request_of}
 use Rattle.one_thread.specs.declared.goroutine.Goroutine.{Goroutine}
 use Rattle.one_thread.specs.declared.goroutine.Turn.{Turn}
 use Rattle.one_thread.specs.declared.goroutine.Turn.TheVariants as turns

@@ -1,4 +1,4 @@
-use Rattle.std.proofs.Common.{◌≡◌, ℕ, false, refl, ap, ◌∙◌}
+use Rattle.std.proofs.Common.{ℕ, false, refl, ap, ◌∙◌}
 use Rattle.word.specs.Kinds.{at}
 use Rattle.one_thread.proofs.running.opening.Goals as goal
 

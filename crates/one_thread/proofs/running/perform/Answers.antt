@@ -1,4 +1,4 @@
-use Rattle.std.proofs.Common.{◌≡◌, ℕ, List, Option, length, take, refl, ap, ◌∙◌, subst, sym}
+use Rattle.std.proofs.Common.{Option, length, refl, subst, sym}
 use Rattle.std.specs.Io.KnownBytes.{Appends}
 use Rattle.std.proofs.Math.Seq.{take-length}
 use Rattle.word.specs.declared.end.End.{End}

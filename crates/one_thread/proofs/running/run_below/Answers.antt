@@ -1,4 +1,3 @@
-use Rattle.std.proofs.Common.{◌≡◌, ap, ◌∙◌}
 use Rattle.word.specs.Related.{kind_of}
 use Rattle.one_thread.proofs.Moves.{appends_none, begins, opened_stands}
 use Rattle.one_thread.proofs.running.run_below.Goals as goal

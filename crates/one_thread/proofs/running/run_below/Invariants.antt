@@ -1,4 +1,4 @@
-use Rattle.std.proofs.Common.{◌≡◌, ℕ, List, Option, None}
+use Rattle.std.proofs.Common.{◌≡◌, None}
 use Rattle.word.specs.Related.{kind_of}
 use Rattle.one_thread.specs.Worlds.{Stands}
 use Rattle.one_thread.proofs.running.run_below.Given as goal
