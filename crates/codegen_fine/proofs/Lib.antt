@@ -1,0 +1,3 @@
+pub mod WordKinds
+pub mod Pushing
+pub mod Operands
