@@ -1,3 +1,4 @@
 pub mod WordKinds
 pub mod Pushing
 pub mod Operands
+pub mod Emitted

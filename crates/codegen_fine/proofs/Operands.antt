@@ -1,10 +1,9 @@
 -- What the code of operands and operators pushes, by what the operands are worth.
 use Rattle.std.specs.Int.{w64, int_wrap}
-use Rattle.std.proofs.Common.{◌≡◌, ℕ, ℤ, ◌+◌, ◌<◌, ◌≤◌, Bool, true, false, ◌&&◌, ◌||◌, List, [], ◌∷◌, ◌++◌, length, map, Option, Some, None, Result, Ok, Err, refl, sym, ap, ◌∙◌, subst, arith, append_assoc, slice_get, slice_range, ◌⊎◌, inl, inr, ⊎_elim}
+use Rattle.std.proofs.Common.{◌≡◌, ℕ, ℤ, ◌+◌, ◌<◌, ◌≤◌, Bool, true, false, ◌||◌, List, ◌++◌, length, Some, Ok, refl, sym, ap, ◌∙◌, subst, slice_get, slice_range, ◌⊎◌, inl, inr, ⊎_elim}
 use Rattle.std.specs.Prelude.{if◌then◌else◌}
 use Rattle.std.proofs.lemmas.Bool.{or_cases}
 use Rattle.std.proofs.lemmas.Option.{slice_get_within}
-use Rattle.syntax.specs.Tree.{Expression}
 use Rattle.syntax.specs.declared.node.Direction.{Direction}
 use Rattle.syntax.specs.declared.node.UnaryOperator.{UnaryOperator}
 use Rattle.syntax.specs.declared.node.UnaryOperator.TheVariants as signs
@@ -15,22 +14,22 @@ use Rattle.bytecode.specs.declared.instr.Instr.TheVariants as instrs
 use Rattle.bytecode.specs.Code.{Function as CodeFunction, Code}
 use Rattle.bytecode.specs.Rules.{AreThere}
 use Rattle.word.specs.declared.apply.Op.TheVariants as ops
-use Rattle.type_table.specs.Types.{ValueType, IntType, BoolType, StructType, ChannelType, is_channel_type, assignable}
+use Rattle.type_table.specs.Types.{ValueType, IntType, BoolType, StructType, ChannelType, assignable}
 use Rattle.type_table.specs.Containment.{Field, fields_of}
 use Rattle.type_table.specs.Scopes.{Globals, Scope, Variable, variable_named}
-use Rattle.checker_base.specs.declared.flaw.Misuse.{Misuse}
-use Rattle.checker_base.specs.Worths.{Worth, Typed as TypedWorth, Constant, Nil, is_equality, is_order, is_logical, is_not, made_type, if_good, are_comparable, is_bool_type, is_int_type, unary_worth, binary_worth}
+use Rattle.checker_base.specs.Worths.{Worth, Typed as TypedWorth, Constant, Nil, is_equality, is_order, is_logical, is_not, made_type, if_good, are_comparable, unary_worth, binary_worth}
+use Rattle.checker_base.specs.Expressions.{default_type}
 use Rattle.meaning.specs.Values.{known}
 use Rattle.codegen_base.specs.declared.element.Element.{Element}
 use Rattle.codegen_base.specs.Elements.{kinds_of, shape_of, shapes_of}
-use Rattle.codegen_base.specs.Pushes.{operator_of, elements_shape, valued, settled, signed, between, operates, emits}
+use Rattle.codegen_base.specs.Pushes.{operator_of, elements_shape, valued, compared, settled, signed, between, operates}
 use Rattle.codegen_base.proofs.Fields.{AllWide, AllTyped}
 use Rattle.codegen_base.proofs.Noted.{Noted, shape_there}
 use Rattle.codegen_base.proofs.Known.{FieldsNoted}
 use Rattle.codegen_base.proofs.Typing.{FieldsKnown, Fits}
 use Rattle.codegen_base.proofs.Splits.{plain_plan, equality_plain, constants_compare, made_logical, channel_is, unary_typed, Operands, Ints, Bools, Channels, Truths, typed_operands, left_operand, right_operand, nil_right, nil_left, two_constants}
 use Rattle.plan.specs.Plan.{Plan, Do}
-use Rattle.plan.proofs.Typed.{Allowed, Typed}
+use Rattle.plan.proofs.Typed.{Typed}
 use Rattle.codegen_fine.proofs.WordKinds.{carried_same, assignable_kinds}
 use Rattle.codegen_fine.proofs.Pushing.{Operates, int_operates, bool_operates, channel_operates, Pushes, puts_int, puts_bool, puts_nil, puts_operator, puts_and, puts_or, puts_unary}
 
@@ -150,7 +149,42 @@ module _ (globals : Globals) (elements : List Element) (code : Code) (f : CodeFu
       puts_int globals.structs elements code f (int_wrap w64 z) a ks out rest (subst (λ j. Typed code f a (ks ++ kinds_of globals.structs elements j) rest out) fits.0 ty)
   settled_pushed push Nil k fits noted emitted a ks out rest ty = let (d, c, is) = channel_is k fits in nil_pushed k d c is noted a ks out rest ty
 
+  -- the type of a worth
+  abbrev pub type_worth : Worth → ValueType
+  type_worth w = known (default_type (Some w))
+
+  -- two constants are compared while the code is made
+  constants_pushed : (operator : BinaryOperator) (x y : ℤ) (k : ValueType) → binary_worth operator (Constant x) (Constant y) ≡ Ok (TypedWorth k) → P k (λ rest. Do (compared operator x y) rest)
+  constants_pushed operator x y k made a ks out rest t =
+      let (compares, bool) = two_constants operator x y k made in
+      let (truth, is) = constants_compare operator compares x y in
+      subst (λ o. Typed code f a ks (Do (valued o) rest) out) (sym is)
+      (puts_bool globals.structs elements code f truth a ks out rest (subst (λ j. Typed code f a (ks ++ kinds_of globals.structs elements j) rest out) bool t))
+
   -- an operator between operands of these worths
-  pub operates_pushed : (operator : BinaryOperator) (a b : Worth) (s t k : ValueType) (left right : Plan → Plan) → ((j : ValueType) → a ≡ TypedWorth j → s ≡ j) → ((j : ValueType) → b ≡ TypedWorth j → t ≡ j) → binary_worth operator a b ≡ Ok (TypedWorth k) → IsEmitted left a → IsEmitted right b
-      → (a ≡ Nil → s ≡ t) → P k (operates elements operator (Some a) (Some b) s t left right)
-  operates_pushed operator a b s t k left right is it made el er nil = ?
+  pub operates_pushed : (operator : BinaryOperator) (a b : Worth) (k : ValueType) (left right : Plan → Plan) → binary_worth operator a b ≡ Ok (TypedWorth k) → IsEmitted left a → IsEmitted right b
+      → P k (operates elements operator (Some a) (Some b) (type_worth a) (type_worth b) left right)
+  operates_pushed operator (Constant a) (Constant b) k left right made el er = constants_pushed operator a b k made
+  operates_pushed operator (Constant a) (TypedWorth t) k left right made el er =
+      let w = left_operand operator a t k made in
+      subst (λ j. P j (between operator IntType (λ rest. Do (instrs.Int (int_wrap w64 a)) rest) right)) w.gives
+      (two_pushed operator IntType IntType IntType (made_type operator) (λ rest. Do (instrs.Int (int_wrap w64 a)) rest) right w.plain (int_operates globals.structs elements operator w.plain)
+      (puts_int globals.structs elements code f (int_wrap w64 a)) (subst (λ j. P j right) w.int (er t refl).1))
+  operates_pushed operator (Constant a) Nil k left right made el er = absurd cc
+  operates_pushed operator (TypedWorth s) (Constant b) k left right made el er =
+      let w = right_operand operator s b k made in
+      subst (λ j. P k (between operator j left (λ rest. Do (instrs.Int (int_wrap w64 b)) rest))) (sym w.int)
+      (subst (λ j. P j (between operator IntType left (λ rest. Do (instrs.Int (int_wrap w64 b)) rest))) w.gives
+      (two_pushed operator IntType IntType IntType (made_type operator) left (λ rest. Do (instrs.Int (int_wrap w64 b)) rest) w.plain (int_operates globals.structs elements operator w.plain)
+      (subst (λ j. P j left) w.int (el s refl).1) (puts_int globals.structs elements code f (int_wrap w64 b))))
+  operates_pushed operator (TypedWorth s) (TypedWorth t) k left right made el er = typed_pushed operator s t k left right made (el s refl).1 (er t refl).1
+  operates_pushed operator (TypedWorth s) Nil k left right made el er =
+      let n = nil_right operator s k made in
+      two_pushed operator s s s k left (λ rest. Do (instrs.Nil (elements_shape elements s)) rest) (equality_plain operator n.compares) (channels_operate operator s k n.direction n.carried n.channel n.compares n.gives) (el s refl).1
+      (nil_pushed s n.direction n.carried n.channel (el s refl).0)
+  operates_pushed operator Nil (Constant b) k left right made el er = absurd cc
+  operates_pushed operator Nil (TypedWorth t) k left right made el er =
+      let n = nil_left operator t k made in
+      puts_operator globals.structs elements code f (operator_of operator t) t t k right (λ rest. Do (instrs.Nil (elements_shape elements t)) rest) (channels_operate operator t k n.direction n.carried n.channel n.compares n.gives) (er t refl).1
+      (nil_pushed t n.direction n.carried n.channel (er t refl).0)
+  operates_pushed operator Nil Nil k left right made el er = absurd cc

@@ -1,8 +1,6 @@
 -- The kinds that the code of operands and operators pushes.
-use Rattle.std.specs.Int.{w64, int_wrap}
-use Rattle.std.proofs.Common.{◌≡◌, ℕ, ℤ, pos, suc, ◌+◌, ◌<◌, ◌≤◌, Bool, true, false, ◌&&◌, ◌||◌, List, [], ◌∷◌, ◌++◌, length, map, Option, Some, None, Result, Ok, Err, refl, sym, ap, ◌∙◌, subst, arith, append_assoc, slice_get, slice_range}
-use Rattle.std.specs.Prelude.{if◌then◌else◌}
-use Rattle.std.proofs.lemmas.Bool.{OnTrue_from, or_cases, and_parts}
+use Rattle.std.proofs.Common.{◌≡◌, ℕ, ℤ, pos, suc, ◌+◌, ◌<◌, ◌≤◌, Bool, true, false, List, [], ◌∷◌, ◌++◌, length, refl, sym, ap, subst, append_assoc, slice_range}
+use Rattle.std.proofs.lemmas.Bool.{OnTrue_from}
 use Rattle.std.proofs.lemmas.List.{append-nil}
 use Rattle.syntax.specs.declared.node.BinaryOperator.{BinaryOperator}
 use Rattle.syntax.specs.declared.node.BinaryOperator.TheVariants as symbols
@@ -13,16 +11,14 @@ use Rattle.bytecode.specs.declared.instr.Instr.{Instr}
 use Rattle.bytecode.specs.declared.instr.Instr.TheVariants as instrs
 use Rattle.bytecode.specs.Code.{Function as CodeFunction, Code}
 use Rattle.bytecode.specs.Effects.{count, operands, outcome, Meets}
-use Rattle.bytecode.specs.Rules.{AreThere, IsThere, Named}
+use Rattle.bytecode.specs.Rules.{AreThere, IsThere}
 use Rattle.word.specs.declared.apply.Op.{Op}
-use Rattle.word.specs.declared.apply.Op.TheVariants as ops
-use Rattle.type_table.specs.Types.{ValueType, IntType, BoolType, StructType, ChannelType, element_type}
+use Rattle.type_table.specs.Types.{ValueType, IntType, BoolType, ChannelType}
 use Rattle.type_table.specs.Containment.{Structs}
 use Rattle.checker_base.specs.Worths.{is_equality, is_logical, made_type}
-use Rattle.meaning.specs.Values.{known}
 use Rattle.codegen_base.specs.declared.element.Element.{Element}
 use Rattle.codegen_base.specs.Elements.{kinds_of, shape_of}
-use Rattle.codegen_base.specs.Pushes.{operator_of, elements_shape, zero_instr, pushes_zeros, between, drops}
+use Rattle.codegen_base.specs.Pushes.{operator_of, zero_instr, pushes_zeros, between, drops}
 use Rattle.plan.specs.Plan.{Plan, Skip, Do, Seq, IfElse, reaches_end}
 use Rattle.plan.proofs.Typed.{Allowed, Typed, typed_step, typed_none}
 
