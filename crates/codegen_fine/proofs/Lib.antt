@@ -2,3 +2,4 @@ pub mod WordKinds
 pub mod Pushing
 pub mod Operands
 pub mod Emitted
+pub mod Spots
