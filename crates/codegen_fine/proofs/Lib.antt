@@ -3,3 +3,5 @@ pub mod Pushing
 pub mod Operands
 pub mod Emitted
 pub mod Spots
+pub mod Called
+pub mod Requests
