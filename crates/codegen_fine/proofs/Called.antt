@@ -1,5 +1,5 @@
 -- What is so of calls in which nothing is wrong.
-use Rattle.std.proofs.Common.{◌≡◌, ℕ, zero, suc, ◌+◌, ◌==◌, ◌≤◌, Bool, true, false, ◌||◌, List, [], ◌∷◌, length, map, Option, Some, None, refl, sym, ap, ◌∙◌, subst, arith, inl, inr}
+use Rattle.std.proofs.Common.{◌≡◌, ℕ, suc, ◌+◌, ◌==◌, ◌≤◌, Bool, true, false, List, [], ◌∷◌, length, map, Option, Some, None, refl, sym, ap, subst, arith, inl, inr}
 use Rattle.std.specs.Prelude.{if◌then◌else◌, unwrap_or}
 use Rattle.std.proofs.lemmas.Bool.Decides.{nat_tests}
 use Rattle.go_text.specs.declared.rule.Rule.TheVariants as rules
@@ -7,13 +7,12 @@ use Rattle.syntax.specs.Tree.{Expression, expressions, Arguments}
 use Rattle.syntax.specs.Measures.{expression_size, arguments_size}
 use Rattle.type_table.specs.Types.{ValueType}
 use Rattle.type_table.specs.Scopes.{Globals, Scope, function_number}
-use Rattle.checker_base.specs.declared.flaw.Flaw.{Flaw}
-use Rattle.checker_base.specs.Worths.{Worth, worth}
+use Rattle.checker_base.specs.Worths.{worth}
 use Rattle.checker_base.specs.Expressions.{nodes_of, ValueHas, NumbersHave, ValuesFail, PassedHave, ExpressionsHave}
 use Rattle.checker_operation.specs.Operations.{Callee, NotDeclared, NoFunction, IsFunction, function_of, is_other, callee, parameters_of, CalleeHas, CallHas}
 use Rattle.meaning.specs.Values.{known}
 use Rattle.meaning.specs.Destinations.{number_of}
-use Rattle.codegen_base.proofs.Typing.{Free, FieldsKnown, Fits, fits, broken, nodes_end, worth_there}
+use Rattle.codegen_base.proofs.Typing.{Free, FieldsKnown, fits, broken, nodes_end, worth_there}
 use Rattle.codegen_base.proofs.Passed.{AllFit}
 
 -- the types of places are known

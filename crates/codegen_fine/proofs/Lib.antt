@@ -5,3 +5,4 @@ pub mod Emitted
 pub mod Spots
 pub mod Called
 pub mod Requests
+pub mod Operations

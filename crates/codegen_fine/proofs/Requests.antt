@@ -1,5 +1,5 @@
 -- What instructions that ask take and leave.
-use Rattle.std.proofs.Common.{◌≡◌, ℕ, ◌+◌, ◌<◌, ◌≤◌, List, [], ◌∷◌, ◌++◌, length, map, Option, Some, None, refl, sym, ap, ◌∙◌, subst, slice_get}
+use Rattle.std.proofs.Common.{◌≡◌, ℕ, ◌<◌, List, [], ◌∷◌, ◌++◌, length, refl, sym, ap, ◌∙◌, subst, slice_get}
 use Rattle.std.proofs.lemmas.List.{append-nil}
 use Rattle.syntax.specs.declared.node.Direction.{Direction}
 use Rattle.bytecode.specs.declared.instr.WordKind.{WordKind}
@@ -10,7 +10,7 @@ use Rattle.bytecode.specs.Effects.{params_in, results_in, shape_kinds, kinds_in,
 use Rattle.type_table.specs.Types.{ValueType, ChannelType}
 use Rattle.type_table.specs.Scopes.{Globals}
 use Rattle.codegen_base.specs.declared.element.Element.{Element}
-use Rattle.codegen_base.specs.Elements.{kinds_of, shape_of, shapes_of}
+use Rattle.codegen_base.specs.Elements.{kinds_of, shape_of}
 use Rattle.codegen_base.proofs.Noted.{Noted, shape_there}
 use Rattle.plan.specs.Plan.{Plan, Do}
 use Rattle.plan.proofs.Typed.{Allowed, Typed, typed_step}
