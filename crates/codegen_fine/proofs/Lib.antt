@@ -6,3 +6,4 @@ pub mod Spots
 pub mod Called
 pub mod Requests
 pub mod Operations
+pub mod Simple
