@@ -7,3 +7,4 @@ pub mod Called
 pub mod Requests
 pub mod Operations
 pub mod Simple
+pub mod Printed
