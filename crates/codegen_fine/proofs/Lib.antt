@@ -8,3 +8,4 @@ pub mod Requests
 pub mod Operations
 pub mod Simple
 pub mod Printed
+pub mod Branches
