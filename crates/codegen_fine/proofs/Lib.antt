@@ -9,3 +9,4 @@ pub mod Operations
 pub mod Simple
 pub mod Printed
 pub mod Branches
+pub mod Updates

@@ -117,7 +117,7 @@ module _ (structs : Structs) (elements : List Element) (code : Code) (f : CodeFu
     go true fit = fit.0
     go false fit = fit
 
-  ticks_typed : (a : Allowed) (ks out : List WordKind) (rest : Plan) → Typed code f a ks rest out → Typed code f a ks (Do instrs.Tick rest) out
+  pub ticks_typed : (a : Allowed) (ks out : List WordKind) (rest : Plan) → Typed code f a ks rest out → Typed code f a ks (Do instrs.Tick rest) out
   ticks_typed a ks out rest t = typed_none code f a ks instrs.Tick rest out tt tt refl tt (subst (λ (l : List WordKind). Typed code f a l rest out) (sym (append-nil ks)) t)
 
   -- values go to their spots
