@@ -1,5 +1,5 @@
 -- Conditions, loops, goroutines and returns, by the code of their parts.
-use Rattle.std.proofs.Common.{◌≡◌, ℕ, List, [], ◌∷◌, ◌++◌, map, Option, Some, refl, sym, ap, ◌∙◌, subst, slice_get}
+use Rattle.std.proofs.Common.{◌≡◌, ℕ, List, [], ◌∷◌, ◌++◌, map, Some, refl, sym, subst}
 use Rattle.std.proofs.lemmas.Bool.{OnTrue_from}
 use Rattle.syntax.specs.Tree.{Expression, Arguments}
 use Rattle.bytecode.specs.declared.instr.WordKind.{WordKind}

@@ -1,16 +1,15 @@
 -- What a print statement's code pushes is what its table takes.
-use Rattle.std.proofs.Common.{◌≡◌, ℕ, ◌+◌, ◌-◌, ◌<◌, ◌≤◌, Bool, true, false, ◌||◌, List, [], ◌∷◌, ◌++◌, length, map, Option, Some, refl, sym, ap, ◌∙◌, subst, arith, slice_get, inl, inr}
+use Rattle.std.proofs.Common.{◌≡◌, ℕ, ◌+◌, ◌<◌, ◌≤◌, Bool, true, List, [], ◌∷◌, ◌++◌, length, map, Some, refl, sym, ap, ◌∙◌, subst, arith, slice_get, inl, inr}
 use Rattle.std.proofs.lemmas.List.{append-nil}
 use Rattle.go_text.specs.declared.rule.Rule.TheVariants as rules
-use Rattle.syntax.specs.Tree.{Expression, Part, Value as ValuePart, Text, Simple, Print}
+use Rattle.syntax.specs.Tree.{Part, Value as ValuePart, Text, Print}
 use Rattle.syntax.specs.Measures.{part_size}
 use Rattle.bytecode.specs.declared.instr.WordKind.{WordKind}
-use Rattle.bytecode.specs.declared.instr.WordKind.TheVariants as kinds
 use Rattle.bytecode.specs.declared.instr.Instr.TheVariants as instrs
 use Rattle.bytecode.specs.declared.table.Part.{Part as TablePart}
 use Rattle.bytecode.specs.Code.{Function as CodeFunction, Code, PrintTable}
 use Rattle.bytecode.specs.Effects.{part_kinds, print_kinds}
-use Rattle.type_table.specs.Types.{ValueType, IntType, BoolType, StructType, ChannelType}
+use Rattle.type_table.specs.Types.{IntType, BoolType, StructType, ChannelType}
 use Rattle.type_table.specs.Scopes.{Globals, Scope}
 use Rattle.checker_base.specs.Flaws.{Nodes}
 use Rattle.checker_base.specs.Worths.{Worth, Typed as TypedWorth, Constant, Nil, is_int, worth}
@@ -19,13 +18,13 @@ use Rattle.checker_simple.specs.Simples.{PartsHave, SimpleHas}
 use Rattle.meaning.specs.Values.{known}
 use Rattle.codegen_base.specs.declared.element.Element.{Element}
 use Rattle.codegen_base.specs.Elements.{kinds_of}
-use Rattle.codegen_base.specs.Layouts.{Layout, type_of}
-use Rattle.codegen_base.specs.Pushes.{pushes, pushes_own}
+use Rattle.codegen_base.specs.Layouts.{Layout}
+use Rattle.codegen_base.specs.Pushes.{pushes}
 use Rattle.codegen_base.specs.Statements.{printed_as, printed_part, pushes_parts, simple_plan}
 use Rattle.codegen_base.proofs.Alike.{Alike, worth_alike}
 use Rattle.codegen_base.proofs.Noted.{Noted}
 use Rattle.codegen_base.proofs.Typing.{Free, Fits, broken, nodes_end, worth_there, not_false}
-use Rattle.plan.specs.Plan.{Plan, Skip, Do}
+use Rattle.plan.specs.Plan.{Skip, Do}
 use Rattle.plan.proofs.Typed.{Allowed, Typed}
 use Rattle.codegen_fine.proofs.Pushing.{Puts, puts_both}
 use Rattle.codegen_fine.proofs.Operands.{Grounds, Housed}

@@ -1,5 +1,5 @@
 -- The code of a simple statement that gives nothing leaves the stack as it was.
-use Rattle.std.proofs.Common.{◌≡◌, ℕ, ◌+◌, List, [], ◌∷◌, ◌++◌, length, Option, Some, refl, sym, ap, ◌∙◌, subst, append_assoc, length-append, inl, inr}
+use Rattle.std.proofs.Common.{◌≡◌, ℕ, ◌+◌, List, [], ◌∷◌, ◌++◌, length, Some, sym, ap, ◌∙◌, subst, append_assoc, length-append, inl, inr}
 use Rattle.std.proofs.lemmas.List.{append-nil}
 use Rattle.syntax.specs.Tree.{Expression, Arguments, Simple, CallAlone, Close, ReceiveAlone, Send}
 use Rattle.syntax.specs.Measures.{expression_size}
@@ -7,9 +7,8 @@ use Rattle.bytecode.specs.declared.instr.WordKind.{WordKind}
 use Rattle.bytecode.specs.declared.instr.WordKind.TheVariants as kinds
 use Rattle.bytecode.specs.declared.instr.Instr.TheVariants as instrs
 use Rattle.bytecode.specs.Code.{Function as CodeFunction, Code}
-use Rattle.type_table.specs.Types.{ValueType}
 use Rattle.type_table.specs.Scopes.{Globals, Scope, Yield, NoResult, Yields}
-use Rattle.checker_base.specs.Worths.{Worth, worth}
+use Rattle.checker_base.specs.Worths.{worth}
 use Rattle.checker_base.specs.Expressions.{nodes_of, ValueHas, element_of}
 use Rattle.checker_operation.specs.Operations.{result_of}
 use Rattle.checker_simple.specs.Simples.{SimpleHas}
@@ -20,7 +19,7 @@ use Rattle.codegen_base.specs.Elements.{kinds_of, shape_of}
 use Rattle.codegen_base.specs.Generated.{result_kinds}
 use Rattle.codegen_base.specs.Layouts.{Layout, carried}
 use Rattle.codegen_base.specs.Pushes.{pushes, pushes_own, drops}
-use Rattle.codegen_base.specs.Statements.{width, result_words, simple_plan}
+use Rattle.codegen_base.specs.Statements.{result_words, simple_plan}
 use Rattle.codegen_base.proofs.Alike.{Alike, worth_alike}
 use Rattle.codegen_base.proofs.Typing.{Free, fits, nodes_end, worth_there}
 use Rattle.plan.specs.Plan.{Plan, Skip, Do}
