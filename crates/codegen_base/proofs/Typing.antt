@@ -49,7 +49,7 @@ made (Err misuse) left right end a b c free = let m = misused misuse left right 
 pub nodes_end : (first : ℕ) (e : Expression) → 1 ≤ (nodes_of first e).end
 nodes_end first e = omega (arith, expression_positive e)
 
-not_false : (b : Bool) → (b ≡ false → ⊥) → b ≡ true
+pub not_false : (b : Bool) → (b ≡ false → ⊥) → b ≡ true
 not_false true never = refl
 not_false false never = absurd (never refl)
 
@@ -61,7 +61,7 @@ is_there : {A : Type 0} (o : Option A) → (o ≡ None → ⊥) → (a : A) × (
 is_there None never = absurd (never refl)
 is_there (Some a) never = (a, refl)
 
-int_type : (t : ValueType) → is_int_type t ≡ true → t ≡ IntType
+pub int_type : (t : ValueType) → is_int_type t ≡ true → t ≡ IntType
 int_type IntType e = refl
 int_type BoolType e = absurd cc
 int_type (StructType n) e = absurd cc

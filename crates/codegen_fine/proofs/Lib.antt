@@ -1,0 +1,12 @@
+pub mod WordKinds
+pub mod Pushing
+pub mod Operands
+pub mod Emitted
+pub mod Spots
+pub mod Called
+pub mod Requests
+pub mod Operations
+pub mod Simple
+pub mod Printed
+pub mod Branches
+pub mod Updates
