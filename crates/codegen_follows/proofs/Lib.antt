@@ -1,2 +1,3 @@
 pub mod Paths
 pub mod Called
+pub mod Stands
