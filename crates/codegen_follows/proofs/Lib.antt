@@ -1,3 +1,4 @@
 pub mod Paths
 pub mod Called
 pub mod Stands
+pub mod Unwound
