@@ -2,3 +2,4 @@ pub mod Paths
 pub mod Called
 pub mod Stands
 pub mod Unwound
+pub mod Grown
