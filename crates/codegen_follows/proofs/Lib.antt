@@ -3,3 +3,4 @@ pub mod Called
 pub mod Stands
 pub mod Unwound
 pub mod Grown
+pub mod Narrowed
