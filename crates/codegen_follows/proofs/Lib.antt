@@ -4,3 +4,4 @@ pub mod Stands
 pub mod Unwound
 pub mod Grown
 pub mod Narrowed
+pub mod Begun
