@@ -5,3 +5,4 @@ pub mod Unwound
 pub mod Grown
 pub mod Narrowed
 pub mod Begun
+pub mod Valued
