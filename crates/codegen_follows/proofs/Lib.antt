@@ -6,3 +6,4 @@ pub mod Grown
 pub mod Narrowed
 pub mod Begun
 pub mod Valued
+pub mod Follows

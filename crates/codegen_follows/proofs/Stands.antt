@@ -176,7 +176,7 @@ module _ (file : File) (elements : List Element) (all : AllWide (globals file).s
 
   -- a task at a place, with this stack: its code leads to `mid`, where what is next has its variables
   abbrev pub Does : Around → View → List Word → Task → View → ℕ → Option ℕ → Type 0
-  Does l view stack (Do s) next place mid = (stack ≡ []) × Doing l view s place mid × (next ≡ behind view s)
+  Does l view stack (Do s) next place mid = (stack ≡ []) × Doing l view s place mid × (variables next ≡ variables (behind view s))
   Does l view stack (Decide condition body otherwise) next place mid = (stack ≡ []) × Deciding l view condition body otherwise place mid × (variables next ≡ variables view)
   Does l view stack (Head loop) next place mid = (stack ≡ []) × Loops l view loop place mid × (variables next ≡ variables view)
   Does l view stack (Turn loop) next place mid = (stack ≡ []) × (head : ℕ) × At f.instrs place (instrs.Loop head) × Loops l view loop head mid × (variables next ≡ variables view)

@@ -1,0 +1,222 @@
+-- Blocks, ifs and loops: the code does what the source does.
+use Rattle.std.proofs.Common.{◌≡◌, ℕ, ◌+◌, ◌≤◌, Bool, true, false, List, [], ◌∷◌, ◌++◌, length, take, Option, Some, None, IfSome, refl, sym, ap, ◌∙◌, subst, arith, slice_get}
+use Rattle.syntax.specs.Tree.{Expression, Simple, Statement, Empty, Alone, Block, If, Statements, Branch, Conditional, Otherwise, NoElse, ElseBlock, ElseIf, File}
+use Rattle.bytecode.specs.declared.instr.Instr.TheVariants as instrs
+use Rattle.bytecode.specs.Code.{Function as CodeFunction, Code}
+use Rattle.bytecode.specs.Machine.{Frames as CodeFrames, code_next}
+use Rattle.word.specs.declared.panic.Panic.{Panic as Cause}
+use Rattle.word.specs.declared.value.Word.{Word}
+use Rattle.word.specs.declared.value.Word.TheVariants.{Bool as Truth}
+use Rattle.word.specs.Values.{Request, Panic}
+use Rattle.word.specs.Kinds.{Next, Slides}
+use Rattle.word.specs.Related.{Slips, here}
+use Rattle.type_table.specs.Containment.{fields_of}
+use Rattle.type_table.specs.Scopes.{Scope, Yield, entered as scope_entered}
+use Rattle.checker_statement.specs.Statements.{after_all}
+use Rattle.meaning.specs.Variables.{Blocks, entered, left}
+use Rattle.meaning.specs.Tasks.{Loop, Repeating, Ranging, Task, Do, EndBlock, Decide, Head, Again, Turn, EndSelect, Ask, Await, Store, GiveBack, Frames, frame, all_of, broken, continued}
+use Rattle.meaning.specs.Source.{globals, statement_next, task_next, decides, head_next, again_next, body_next}
+use Rattle.codegen_base.specs.declared.element.Element.{Element}
+use Rattle.codegen_base.specs.Generated.{Site, Made, inside, ended, past, made_all, made_branch}
+use Rattle.plan.proofs.Words.{Words}
+use Rattle.plan.proofs.Places.{At, JumpsTo, at_once, Leads, jumps_through}
+use Rattle.plan.proofs.Steps.{spots, slips_more, passes, chooses, turns}
+use Rattle.codegen_base.proofs.Alike.{alike_left}
+use Rattle.codegen_base.proofs.Fields.{AllWide, AllTyped}
+use Rattle.codegen_base.proofs.Seen.{seen, rising_up}
+use Rattle.codegen_base.proofs.Assigned.{AllLike, holding_like, like_holding}
+use Rattle.codegen_base.proofs.Static.{innermost_begins}
+use Rattle.codegen_base.proofs.Typing.{FieldsKnown}
+use Rattle.codegen_base.proofs.Expressions.{Holding}
+use Rattle.codegen_follows.proofs.Stands.{Around, View, scope_of, variables, Together, Inner, opened, IsOn, LeadsOn, Fine, Fits, made_body, behind, behind_body, Doing, Deciding, Looping, Sits}
+use Rattle.codegen_follows.proofs.Grown.{grown_statements, grown_otherwise}
+use Rattle.codegen_follows.proofs.Unwound.{Left, inner_left, broken_sits, continued_sits}
+use Rattle.codegen_follows.proofs.Begun.{prints_front, prints_back, together_behind, Live, FineBehind, sits_all, fine_opened, inner_opened, seen_opened}
+use Rattle.codegen_follows.proofs.Valued.{Goes, before, test_goes}
+
+module _ (file : File) (elements : List Element) (all : AllWide (globals file).structs) (typed : (n : ℕ) → AllTyped (globals file).structs (fields_of (globals file).structs n)) (known_fields : (s : Scope) → FieldsKnown (globals file) s)
+    (code : Code) (result : Yield) (g : ℕ) (f : CodeFunction) (there : slice_get code.functions g ≡ Some f) (cs : Frames) (ds : CodeFrames) (R : Frames → CodeFrames → Type 0) (Asked : Request → CodeFrames → Type 0) (panics : (cause : Cause) (d : CodeFrames) → Asked (Panic cause) d) where
+  abbrev at : ℕ → Words → Words → CodeFrames
+  at place ls stack = spots code g f there ds place ls stack
+
+  abbrev S : View → Around → Option ℕ → List Word → List Task → Type 0
+  S view l place stack tasks = Sits file elements all code result f view l place stack tasks
+
+  abbrev G : Next Frames → CodeFrames → Type 0
+  G x c = Goes file elements all typed known_fields code result g f there ds R Asked panics x c
+
+  abbrev blocks : Words → View → Blocks
+  blocks ls view = seen (globals file).structs ls (variables view) view.begins
+
+  -- the locals hold values of the variables' types, and are all there
+  pub record Held (ls : Words) (view : View) : Type 0 where
+    pub holding : Holding (globals file).structs ls (variables view)
+    pub full : length ls ≡ length f.locals
+
+  -- states that sit are related
+  abbrev pub Sitting : Type 0
+  Sitting = (view : View) (l : Around) (place : ℕ) (ls stack : Words) (tasks : List Task) → Held ls view → S view l (Some place) stack tasks → R (frame (blocks ls view) tasks ∷ cs) (at place ls stack)
+
+  -- and those from which the code slips to related ones
+  abbrev pub Back : Type 0
+  Back = (a : Frames) (c d : CodeFrames) → Slips (code_next code) c d → R a d → R a c
+
+  -- what is still to be done behind a task that ends at `mid`
+  abbrev pub Rest : View → Around → Option ℕ → List Task → Type 0
+  Rest next l mid k = (to : Option ℕ) × LeadsOn file elements all code result f mid to × S next l to [] k
+
+  -- ---- what is held
+
+  held_same : (ls : Words) (view next : View) → variables next ≡ variables view → Held ls view → Held ls next
+  held_same ls view next same h = record { holding = subst (Holding (globals file).structs ls) (sym same) h.holding; full = h.full }
+
+  held_inner : (ls : Words) (outer view : View) → Inner outer view → Held ls view → Held ls outer
+  held_inner ls outer view i h =
+      record {
+        holding = like_holding (globals file).structs ls (variables outer) outer.begins
+            (subst (λ vs. AllLike (globals file).structs (seen (globals file).structs ls vs outer.begins)) i.within (holding_like (globals file).structs ls (variables view) (i.begin ∷ outer.begins) h.holding).1);
+        full = h.full;
+      }
+
+  blocks_same : (ls : Words) (view next : View) → variables next ≡ variables view → next.begins ≡ view.begins → blocks ls next ≡ blocks ls view
+  blocks_same ls view next same begins = ap (λ vs. seen (globals file).structs ls vs next.begins) same ∙ ap (seen (globals file).structs ls (variables view)) begins
+
+  -- ---- where jumps lead
+
+  lead_through : (place : ℕ) (mid to : Option ℕ) → Leads f.instrs place mid → LeadsOn file elements all code result f mid to → Leads f.instrs place to
+  lead_through place None to lead on = absurd lead
+  lead_through place (Some m) None lead on = absurd on
+  lead_through place (Some m) (Some n) lead on = jumps_through f.instrs place m n lead on
+
+  with_stack : (mid to : Option ℕ) → LeadsOn file elements all code result f mid to → IfSome mid (λ p. (◌≡◌ {A = List Word} [] []) × Leads f.instrs p to)
+  with_stack None to lead = tt
+  with_stack (Some m) to lead = (refl, lead)
+
+  end_sits : (outer last : View) (l : Around) (mid to : Option ℕ) (k : List Task) → Inner outer last → LeadsOn file elements all code result f mid to → S outer l to [] k → S last l mid [] (EndBlock ∷ k)
+  end_sits outer last l mid to k inner lead sits = (outer, inner, to, with_stack mid to lead, sits)
+
+  inner_same : (view next last : View) → variables next ≡ variables view → next.begins ≡ view.begins → Inner view last → Inner next last
+  inner_same view next last same begins i = record { begin = i.begin; begins = i.begins ∙ ap (λ ns. i.begin ∷ ns) (sym begins); within = i.within ∙ sym same }
+
+  fine_body : (view : View) (body : Statements) → Fine file elements all code result f view → Fine file elements all code result f (behind_body file elements all code result f view body)
+  fine_body view body fine =
+      let p = fine.placed in
+      let le = (grown_statements (globals file) elements result (inside view.site) body).words in
+      record {
+        placed = record { rising = rising_up (globals file).structs 0 (variables view) (scope_of view).words (scope_of (behind_body file elements all code result f view body)).words le p.rising; known = p.known; outer = p.outer; nested = p.nested };
+        alike = alike_left view.checked (scope_of view) (after_all (globals file) (scope_entered view.checked) body) (made_body file elements all code result f view body).layout.scope fine.alike;
+      }
+
+  -- an if keeps the variables
+  pub branch_same : (site : Site) (branch : Branch) → (made_branch (globals file) elements result site branch).layout.scope.variables ≡ site.layout.scope.variables
+  branch_same site (Conditional head condition body otherwise) = refl
+
+  room_of : (ls : Words) (view : View) (words : ℕ) → length ls ≡ length f.locals → (scope_of view).words ≤ words → words ≤ length f.locals → (scope_of view).words ≤ length ls
+  room_of ls view words full a b = omega (arith, full, a, b)
+
+  module _ (fine_behind : FineBehind file elements all code result f) (sitting : Sitting) (back : Back) where
+    lands : (ls : Words) (view : View) (l : Around) (place : ℕ) (to : Option ℕ) (tasks : List Task) → Held ls view → Leads f.instrs place to → S view l to [] tasks → R (frame (blocks ls view) tasks ∷ cs) (at place ls [])
+    lands ls view l place None tasks h lead sits = absurd lead
+    lands ls view l place (Some n) tasks h lead sits = back (frame (blocks ls view) tasks ∷ cs) (at place ls []) (at n ls []) (passes code g f there ds place n ls [] lead) (sitting view l n ls [] tasks h sits)
+
+    -- what is next has the same variables
+    lands_same : (ls : Words) (view next : View) (l : Around) (place : ℕ) (mid : Option ℕ) (k : List Task) → Held ls view → variables next ≡ variables view → next.begins ≡ view.begins → Leads f.instrs place mid → Rest next l mid k → R (frame (blocks ls view) k ∷ cs) (at place ls [])
+    lands_same ls view next l place mid k h same begins lead r =
+        subst (λ b. R (frame b k ∷ cs) (at place ls [])) (blocks_same ls view next same begins) (lands ls next l place r.0 k (held_same ls view next same h) (lead_through place mid r.0 lead r.1) r.2)
+
+    -- a block begins
+    block_lands : (ls : Words) (view : View) (l : Around) (body : Statements) (place : ℕ) (out : Option ℕ) (k : List Task) → Held ls view → Live file elements all code result f (opened view) l body place out → ((last : View) → Inner view last → S last l out [] k)
+        → R (frame (entered (blocks ls view)) (all_of body ++ k) ∷ cs) (at place ls [])
+    block_lands ls view l body place out k h live sits =
+        let fine = live.fine in
+        let soon = sits_all file elements all code result f fine_behind body (opened view) l (Some place) out k live fine.placed.nested (λ last t. sits last (inner_opened file elements all code result f view last t)) in
+        subst (λ b. R (frame b (all_of body ++ k) ∷ cs) (at place ls [])) (seen_opened file elements all code result f ls view)
+        (lands ls (opened view) l place soon.0 (all_of body ++ k) (record { holding = h.holding; full = h.full }) soon.1 soon.2)
+
+    -- ---- the end of a block
+
+    pub end_block_goes : (ls : Words) (view : View) (l : Around) (place : ℕ) (stack : Words) (k : List Task) → Held ls view → S view l (Some place) stack (EndBlock ∷ k) → G (task_next file (blocks ls view) k cs EndBlock) (at place ls stack)
+    end_block_goes ls view l place stack k h (outer, inner, to, (empty, lead), sits) =
+        subst (λ (x : Words). G (task_next file (blocks ls view) k cs EndBlock) (at place ls x)) (sym empty)
+        (at place ls [], here, subst (λ b. R (frame b k ∷ cs) (at place ls [])) (sym (inner_left (globals file).structs ls outer view inner)) (lands ls outer l place to k (held_inner ls outer view inner h) lead sits))
+
+    -- ---- an empty statement, and a block
+
+    pub empty_goes : (ls : Words) (view next : View) (l : Around) (place : ℕ) (mid : Option ℕ) (k : List Task) → Held ls view → Doing file elements all code result f l view Empty place mid → variables next ≡ variables view → next.begins ≡ view.begins → Rest next l mid k
+        → G (statement_next file (blocks ls view) k cs Empty) (at place ls [])
+    empty_goes ls view next l place mid k h d same begins r = (at place ls [], here, lands_same ls view next l place mid k h same begins d.on r)
+
+    pub block_goes : (ls : Words) (view next : View) (l : Around) (body : Statements) (place : ℕ) (mid : Option ℕ) (k : List Task) → Held ls view → Doing file elements all code result f l view (Block body) place mid → variables next ≡ variables view → next.begins ≡ view.begins → Rest next l mid k
+        → G (statement_next file (blocks ls view) k cs (Block body)) (at place ls [])
+    block_goes ls view next l body place mid k h d same begins r = (
+      at place ls [],
+      here,
+      block_lands ls view l body place mid (EndBlock ∷ k) h
+          (record { first = d.first; breaks = d.breaks; continues = d.continues; fine = fine_opened file elements all code result f view d.fine; good = d.good; on = d.on; fits = record { tables = d.fits.tables; room = d.fits.room } })
+          (λ last i. end_sits next last l mid r.0 k (inner_same view next last same begins i) r.1 r.2),
+    )
+
+    -- ---- an if behind its first statement
+
+    pub decide_goes : (ls : Words) (view next : View) (l : Around) (condition : Expression) (body : Statements) (otherwise : Otherwise) (place : ℕ) (mid : Option ℕ) (k : List Task) → Held ls view → Deciding file elements all code result f l view condition body otherwise place mid → variables next ≡ variables view → next.begins ≡ view.begins → Rest next l mid k
+        → G (task_next file (blocks ls view) k cs (Decide condition body otherwise)) (at place ls [])
+    decide_goes ls view next l condition body NoElse place mid k h d same begins r =
+        let fits = d.fits in
+        let grown = grown_statements (globals file) elements result (inside view.site) body in
+        test_goes file elements all typed known_fields code result g f there ds R Asked panics ls l view d.fine (room_of ls view (made_body file elements all code result f view body).layout.scope.words h.full grown.words fits.room) h.holding condition d.first
+        (decides file (blocks ls view) k cs body NoElse) _ mid place d.test d.on
+        (λ b to on. go b to on.0 on.1
+        (block_lands ls view l body (to + 1) mid (EndBlock ∷ k) h
+        (record { first = d.second; breaks = d.breaks; continues = d.continues; fine = fine_opened file elements all code result f view d.fine; good = d.good; on = on.2; fits = record { tables = fits.tables; room = fits.room } })
+        (λ last i. end_sits next last l mid r.0 k (inner_same view next last same begins i) r.1 r.2))
+        (lands_same ls view next l on.0 mid k h same begins on.3 r)) where
+          go : (b : Bool) (to other : ℕ) → At f.instrs to (instrs.Unless other) → R (frame (entered (blocks ls view)) (all_of body ++ EndBlock ∷ k) ∷ cs) (at (to + 1) ls []) → R (frame (blocks ls view) k ∷ cs) (at other ls [])
+              → G (decides file (blocks ls view) k cs body NoElse (Truth b)) (at to ls (Truth b ∷ []))
+          go true to other i x y = (at (to + 1) ls [], chooses code g f there ds to other ls [] true i, x)
+          go false to other i x y = (at other ls [], chooses code g f there ds to other ls [] false i, y)
+    decide_goes ls view next l condition body (ElseBlock others) place mid k h d same begins r =
+        let fits = d.fits in
+        let so = ended view.site.layout (made_body file elements all code result f view body) in
+        let second = behind_body file elements all code result f view body in
+        let grown = grown_statements (globals file) elements result (inside view.site) body in
+        let more = grown_statements (globals file) elements result (inside second.site) others in
+        let most : (made_body file elements all code result f view body).layout.scope.words ≤ length f.locals = (let a = more.words in let b = fits.room in omega (arith, a, b)) in
+        test_goes file elements all typed known_fields code result g f there ds R Asked panics ls l view d.fine (room_of ls view (made_body file elements all code result f view body).layout.scope.words h.full grown.words most) h.holding condition d.first
+        (decides file (blocks ls view) k cs body (ElseBlock others)) _ mid place d.test d.on
+        (λ b to on. go b to on.0 on.1
+        (block_lands ls view l body (to + 1) mid (EndBlock ∷ k) h
+        (record { first = d.second; breaks = d.breaks; continues = d.continues; fine = fine_opened file elements all code result f view d.fine; good = d.good; on = on.2;
+          fits = record { tables = prints_front code view.site.prints so.prints (made_all (globals file) elements result (inside second.site) others).prints fits.tables; room = most } })
+        (λ last i. end_sits next last l mid r.0 k (inner_same view next last same begins i) r.1 r.2))
+        (block_lands ls second l others on.0 mid (EndBlock ∷ k) (record { holding = h.holding; full = h.full })
+        (record { first = d.third; breaks = d.breaks; continues = d.continues; fine = fine_opened file elements all code result f second (fine_body view body d.fine); good = d.other; on = on.3;
+          fits = record { tables = prints_back code view.site.prints so.prints (made_all (globals file) elements result (inside second.site) others).prints fits.tables; room = fits.room } })
+        (λ last i. end_sits next last l mid r.0 k (inner_same second next last same begins i) r.1 r.2))) where
+          go : (b : Bool) (to other : ℕ) → At f.instrs to (instrs.Unless other) → R (frame (entered (blocks ls view)) (all_of body ++ EndBlock ∷ k) ∷ cs) (at (to + 1) ls []) → R (frame (entered (blocks ls view)) (all_of others ++ EndBlock ∷ k) ∷ cs) (at other ls [])
+              → G (decides file (blocks ls view) k cs body (ElseBlock others) (Truth b)) (at to ls (Truth b ∷ []))
+          go true to other i x y = (at (to + 1) ls [], chooses code g f there ds to other ls [] true i, x)
+          go false to other i x y = (at other ls [], chooses code g f there ds to other ls [] false i, y)
+    decide_goes ls view next l condition body (ElseIf branch) place mid k h d same begins r =
+        let fits = d.fits in
+        let so = ended view.site.layout (made_body file elements all code result f view body) in
+        let second = behind_body file elements all code result f view body in
+        let grown = grown_statements (globals file) elements result (inside view.site) body in
+        let le = grown_otherwise (globals file) elements result view.site condition so (ElseIf branch) in
+        let most : (made_body file elements all code result f view body).layout.scope.words ≤ length f.locals = (let b = fits.room in omega (arith, le, b)) in
+        let fine = fine_body view body d.fine in
+        test_goes file elements all typed known_fields code result g f there ds R Asked panics ls l view d.fine (room_of ls view (made_body file elements all code result f view body).layout.scope.words h.full grown.words most) h.holding condition d.first
+        (decides file (blocks ls view) k cs body (ElseIf branch)) _ mid place d.test d.on
+        (λ b to on. go b to on.0 on.1
+        (block_lands ls view l body (to + 1) mid (EndBlock ∷ k) h
+        (record { first = d.second; breaks = d.breaks; continues = d.continues; fine = fine_opened file elements all code result f view d.fine; good = d.good; on = on.2;
+          fits = record { tables = prints_front code view.site.prints so.prints (made_branch (globals file) elements result second.site branch).prints fits.tables; room = most } })
+        (λ last i. end_sits next last l mid r.0 k (inner_same view next last same begins i) r.1 r.2))
+        (sitting second l on.0 ls [] (Do (If branch) ∷ k) (record { holding = h.holding; full = h.full })
+        (next, (begins, ap (take (innermost_begins view.begins)) same), mid,
+          (refl, record { first = d.third; breaks = d.breaks; continues = d.continues; fine = fine; good = d.other; on = on.3;
+            fits = record { tables = prints_back code view.site.prints so.prints (made_branch (globals file) elements result second.site branch).prints fits.tables; room = fits.room } }, same ∙ sym (branch_same second.site branch)),
+          r.0, r.1, r.2))) where
+          go : (b : Bool) (to other : ℕ) → At f.instrs to (instrs.Unless other) → R (frame (entered (blocks ls view)) (all_of body ++ EndBlock ∷ k) ∷ cs) (at (to + 1) ls []) → R (frame (blocks ls view) (Do (If branch) ∷ k) ∷ cs) (at other ls [])
+              → G (decides file (blocks ls view) k cs body (ElseIf branch) (Truth b)) (at to ls (Truth b ∷ []))
+          go true to other i x y = (at (to + 1) ls [], chooses code g f there ds to other ls [] true i, x)
+          go false to other i x y = (at other ls [], chooses code g f there ds to other ls [] false i, y)
