@@ -1,5 +1,6 @@
 -- Blocks, ifs and loops: the code does what the source does.
 use Rattle.std.proofs.Common.{◌≡◌, ℕ, ◌+◌, ◌≤◌, Bool, true, false, List, [], ◌∷◌, ◌++◌, length, take, Option, Some, None, IfSome, refl, sym, ap, ◌∙◌, subst, arith, slice_get}
+use Rattle.std.specs.Prelude.{if◌then◌else◌}
 use Rattle.syntax.specs.Tree.{Expression, Simple, Statement, Empty, Alone, Block, If, Statements, Branch, Conditional, Otherwise, NoElse, ElseBlock, ElseIf, File}
 use Rattle.bytecode.specs.declared.instr.Instr.TheVariants as instrs
 use Rattle.bytecode.specs.Code.{Function as CodeFunction, Code}
@@ -15,9 +16,10 @@ use Rattle.type_table.specs.Scopes.{Scope, Yield, entered as scope_entered}
 use Rattle.checker_statement.specs.Statements.{after_all}
 use Rattle.meaning.specs.Variables.{Blocks, entered, left}
 use Rattle.meaning.specs.Tasks.{Loop, Repeating, Ranging, Task, Do, EndBlock, Decide, Head, Again, Turn, EndSelect, Ask, Await, Store, GiveBack, Frames, frame, all_of, broken, continued}
-use Rattle.meaning.specs.Source.{globals, statement_next, task_next, decides, head_next, again_next, body_next}
+use Rattle.meaning.specs.Source.{globals, truth_in, statement_next, task_next, decides, head_next, again_next, body_next}
 use Rattle.codegen_base.specs.declared.element.Element.{Element}
 use Rattle.codegen_base.specs.Generated.{Site, Made, inside, ended, past, made_all, made_branch}
+use Rattle.plan.specs.Plan.{Skip}
 use Rattle.plan.proofs.Words.{Words}
 use Rattle.plan.proofs.Places.{At, JumpsTo, at_once, Leads, jumps_through}
 use Rattle.plan.proofs.Steps.{spots, slips_more, passes, chooses, turns}
@@ -28,7 +30,7 @@ use Rattle.codegen_base.proofs.Assigned.{AllLike, holding_like, like_holding}
 use Rattle.codegen_base.proofs.Static.{innermost_begins}
 use Rattle.codegen_base.proofs.Typing.{FieldsKnown}
 use Rattle.codegen_base.proofs.Expressions.{Holding}
-use Rattle.codegen_follows.proofs.Stands.{Around, View, scope_of, variables, Together, Inner, opened, IsOn, LeadsOn, Fine, Fits, made_body, behind, behind_body, Doing, Deciding, Looping, Sits}
+use Rattle.codegen_follows.proofs.Stands.{Around, View, scope_of, variables, Together, Inner, opened, IsOn, LeadsOn, Fine, Fits, made_body, behind, behind_body, Doing, Deciding, Looping, post_made, Sits}
 use Rattle.codegen_follows.proofs.Grown.{grown_statements, grown_otherwise}
 use Rattle.codegen_follows.proofs.Unwound.{Left, inner_left, broken_sits, continued_sits}
 use Rattle.codegen_follows.proofs.Begun.{prints_front, prints_back, together_behind, Live, FineBehind, sits_all, fine_opened, inner_opened, seen_opened}
@@ -220,3 +222,73 @@ module _ (file : File) (elements : List Element) (all : AllWide (globals file).s
               → G (decides file (blocks ls view) k cs body (ElseIf branch) (Truth b)) (at to ls (Truth b ∷ []))
           go true to other i x y = (at (to + 1) ls [], chooses code g f there ds to other ls [] true i, x)
           go false to other i x y = (at other ls [], chooses code g f there ds to other ls [] false i, y)
+
+    -- ---- loops
+
+    -- where a loop's body ends
+    again_place : (o : Option ℕ) → IfSome o (λ p. (◌≡◌ {A = List Word} [] []) × (o ≡ Some p))
+    again_place None = tt
+    again_place (Some p) = (refl, refl)
+
+    -- a loop's body begins
+    body_lands : (ls : Words) (view next : View) (l : Around) (condition : Option Expression) (post : Option Simple) (body : Statements) (head : ℕ) (mid : Option ℕ) (k : List Task) (place : ℕ) (post_at : Option ℕ) → Held ls view → (d : Looping file elements all code result f l view condition post body head mid)
+        → IsOn file elements all code result f (record { leave = mid; again = post_at }) (made_body file elements all code result f view body).plan place post_at → IfSome post_at (λ m. (turn : ℕ) × IsOn file elements all code result f l (post_made file elements all code result f view body post).plan m (Some turn) × At f.instrs turn (instrs.Loop head))
+        → Together view next → variables next ≡ variables view → Rest next l mid k → R (frame (entered (blocks ls view)) (all_of body ++ Again (Repeating condition post body) ∷ k) ∷ cs) (at place ls [])
+    body_lands ls view next l condition post body head mid k place post_at h d on turns' t same r =
+        block_lands ls view (record { leave = mid; again = post_at }) body place post_at (Again (Repeating condition post body) ∷ k) h
+        (record { first = d.second; breaks = true; continues = true; fine = fine_opened file elements all code result f view d.fine; good = d.good; on = on; fits = record { tables = d.fits.tables; room = d.fits.room } })
+        (λ last i. (view, i, l, next, t, same, head, mid, refl, (d, turns'), again_place post_at, r.0, r.1, r.2))
+
+    pub head_goes : (ls : Words) (view next : View) (l : Around) (condition : Option Expression) (post : Option Simple) (body : Statements) (place : ℕ) (mid : Option ℕ) (k : List Task) → Held ls view → Looping file elements all code result f l view condition post body place mid → Together view next → variables next ≡ variables view → Rest next l mid k
+        → G (head_next file (blocks ls view) k cs (Repeating condition post body)) (at place ls [])
+    head_goes ls view next l None post body place mid k h d t same r = (at place ls [], here, body_lands ls view next l None post body place mid k place d.on.0 h d d.on.1 d.on.2 t same r)
+    head_goes ls view next l (Some condition) post body place mid k h d t same r =
+        let on = d.on in
+        let grown = grown_statements (globals file) elements result (inside view.site) body in
+        let fits = d.fits in
+        test_goes file elements all typed known_fields code result g f there ds R Asked panics ls l view d.fine (room_of ls view (made_body file elements all code result f view body).layout.scope.words h.full grown.words fits.room) h.holding condition d.first _ Skip (Some on.0) place d.test on.3
+        (λ b to lead. before file elements all typed known_fields code result g f there ds R Asked panics _ (at to ls (Truth b ∷ [])) (at on.0 ls (Truth b ∷ [])) (passes code g f there ds to on.0 ls (Truth b ∷ []) lead)
+        (go b on.0 on.2 on.4 (body_lands ls view next l (Some condition) post body place mid k (on.0 + 1) on.1 h d on.5 on.6 t same r) (lands_same ls view next l on.2 mid k h same t.0 on.7 r))) where
+          go : (b : Bool) (to other : ℕ) → At f.instrs to (instrs.Unless other) → R (frame (entered (blocks ls view)) (all_of body ++ Again (Repeating (Some condition) post body) ∷ k) ∷ cs) (at (to + 1) ls []) → R (frame (blocks ls view) k ∷ cs) (at other ls [])
+              → G (if truth_in (Truth b) then body_next file (blocks ls view) k cs (Repeating (Some condition) post body) body else Slides (frame (blocks ls view) k ∷ cs)) (at to ls (Truth b ∷ []))
+          go true to other i x y = (at (to + 1) ls [], chooses code g f there ds to other ls [] true i, x)
+          go false to other i x y = (at other ls [], chooses code g f there ds to other ls [] false i, y)
+
+    -- behind a loop's body and its post statement the code goes back to the loop's head
+    pub turn_goes : (ls : Words) (view next : View) (l : Around) (condition : Option Expression) (post : Option Simple) (body : Statements) (head place : ℕ) (mid : Option ℕ) (k : List Task) → Held ls view → At f.instrs place (instrs.Loop head) → Looping file elements all code result f l view condition post body head mid → Together view next → variables next ≡ variables view
+        → Rest next l mid k → G (task_next file (blocks ls view) k cs (Turn (Repeating condition post body))) (at place ls [])
+    turn_goes ls view next l condition post body head place mid k h i d t same r =
+        (at place ls [], at head ls [], here, turns code g f there ds place head ls [] i, sitting view l head ls [] (Head (Repeating condition post body) ∷ k) h (next, t, mid, (refl, d, same), r.0, r.1, r.2))
+
+    turn_sits : (view next : View) (l : Around) (condition : Option Expression) (post : Option Simple) (body : Statements) (head turn : ℕ) (mid : Option ℕ) (k : List Task) → At f.instrs turn (instrs.Loop head) → Looping file elements all code result f l view condition post body head mid → Together view next → variables next ≡ variables view
+        → Rest next l mid k → S view l (Some turn) [] (Turn (Repeating condition post body) ∷ k)
+    turn_sits view next l condition post body head turn mid k i d t same r = (next, t, mid, (refl, head, i, d, same), r.0, r.1, r.2)
+
+    pub again_goes : (ls : Words) (view : View) (l : Around) (condition : Option Expression) (post : Option Simple) (body : Statements) (place : ℕ) (stack : Words) (k : List Task) → Held ls view → S view l (Some place) stack (Again (Repeating condition post body) ∷ k)
+        → G (again_next file (blocks ls view) k cs (Repeating condition post body)) (at place ls stack)
+    again_goes ls view l condition None body place stack k h (outer, inner, around, next, t, same, head, out, leave, (d, turns'), (empty, is), to, lead, sits) =
+        let m = subst (λ o. IfSome o (λ m. (turn : ℕ) × Leads f.instrs m (Some turn) × At f.instrs turn (instrs.Loop head))) is turns' in
+        subst (λ (x : Words). G (again_next file (blocks ls view) k cs (Repeating condition None body)) (at place ls x)) (sym empty)
+        (at place ls [], here, subst (λ b. R (frame b (Turn (Repeating condition None body) ∷ k) ∷ cs) (at place ls [])) (sym (inner_left (globals file).structs ls outer view inner))
+        (lands ls outer around place (Some m.0) (Turn (Repeating condition None body) ∷ k) (held_inner ls outer view inner h) m.1 (turn_sits outer next around condition None body head m.0 out k m.2 d t same (to, lead, sits))))
+    again_goes ls view l condition (Some post) body place stack k h (outer, inner, around, next, t, same, head, out, leave, (d, turns'), (empty, is), to, lead, sits) =
+        let m = subst (λ o. IfSome o (λ m. (turn : ℕ) × IsOn file elements all code result f around (post_made file elements all code result f outer body (Some post)).plan m (Some turn) × At f.instrs turn (instrs.Loop head))) is turns' in
+        let within = opened (behind_body file elements all code result f outer body) in
+        let fine = fine_opened file elements all code result f (behind_body file elements all code result f outer body) (fine_body outer body d.fine) in
+        let last = behind file elements all code result f within (Alone post) in
+        let u = together_behind file elements all code result f within (Alone post) fine.placed.nested in
+        let tail = turn_sits outer next around condition (Some post) body head m.0 out k m.2 d t same (to, lead, sits) in
+        let k' : List Task = EndBlock ∷ (Turn (Repeating condition (Some post) body) ∷ k) in
+        let sits' : S within around (Some place) [] (Do (Alone post) ∷ k') =
+        (last, u, Some m.0, (refl, record { first = d.third; breaks = true; continues = true; fine = fine; good = d.after_good; on = m.1; fits = record { tables = d.post_fits.tables; room = d.post_fits.room } }, refl), Some m.0, at_once,
+            end_sits outer last around (Some m.0) (Some m.0) (Turn (Repeating condition (Some post) body) ∷ k) (inner_opened file elements all code result f outer last u) at_once tail) in
+        subst (λ (x : Words). G (again_next file (blocks ls view) k cs (Repeating condition (Some post) body)) (at place ls x)) (sym empty)
+        (at place ls [], here, subst (λ b. R (frame b (Do (Alone post) ∷ k') ∷ cs) (at place ls [])) (seen_opened file elements all code result f ls outer ∙ ap entered (sym (inner_left (globals file).structs ls outer view inner)))
+        (sitting within around place ls [] (Do (Alone post) ∷ k') (record { holding = (held_inner ls outer view inner h).holding; full = h.full }) sits'))
+
+    -- ---- a for without clauses
+
+    pub repeats_goes : (ls : Words) (view next : View) (l : Around) (condition : Option Expression) (body : Statements) (place : ℕ) (mid : Option ℕ) (k : List Task) → Held ls view → Looping file elements all code result f l view condition None body place mid → Together view next → variables next ≡ variables view → Rest next l mid k
+        → G (Slides (frame (blocks ls view) (Head (Repeating condition None body) ∷ k) ∷ cs)) (at place ls [])
+    repeats_goes ls view next l condition body place mid k h d t same r =
+        (at place ls [], here, sitting view l place ls [] (Head (Repeating condition None body) ∷ k) h (next, t, mid, (refl, d, same), r.0, r.1, r.2))
