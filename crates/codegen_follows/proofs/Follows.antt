@@ -15,7 +15,7 @@ use Rattle.type_table.specs.Containment.{fields_of}
 use Rattle.type_table.specs.Scopes.{Scope, Yield, entered as scope_entered}
 use Rattle.checker_statement.specs.Statements.{after_all}
 use Rattle.meaning.specs.Variables.{Blocks, entered, left}
-use Rattle.meaning.specs.Tasks.{Loop, Repeating, Ranging, Task, Do, EndBlock, Decide, Head, Again, Turn, EndSelect, Ask, Await, Store, GiveBack, Frames, frame, all_of, broken, continued}
+use Rattle.meaning.specs.Tasks.{Loop, Repeating, Ranging, Task, Do, EndBlock, Decide, Head, Again, Turn, EndSelect, Ask, Await, Store, GiveBack, Frame, Frames, frame, all_of, broken, continued}
 use Rattle.meaning.specs.Source.{globals, truth_in, statement_next, task_next, decides, head_next, again_next, body_next}
 use Rattle.codegen_base.specs.declared.element.Element.{Element}
 use Rattle.codegen_base.specs.Generated.{Site, Made, inside, ended, past, made_all, made_branch}
@@ -187,12 +187,26 @@ module _ (file : File) (elements : List Element) (all : AllWide (globals file).s
         (decides file (blocks ls view) k cs body (ElseBlock others)) _ mid place d.test d.on
         (λ b to on. go b to on.0 on.1
         (block_lands ls view l body (to + 1) mid (EndBlock ∷ k) h
-        (record { first = d.second; breaks = d.breaks; continues = d.continues; fine = fine_opened file elements all code result f view d.fine; good = d.good; on = on.2;
-          fits = record { tables = prints_front code view.site.prints so.prints (made_all (globals file) elements result (inside second.site) others).prints fits.tables; room = most } })
+        (record {
+          first = d.second;
+          breaks = d.breaks;
+          continues = d.continues;
+          fine = fine_opened file elements all code result f view d.fine;
+          good = d.good;
+          on = on.2;
+          fits = record { tables = prints_front code view.site.prints so.prints (made_all (globals file) elements result (inside second.site) others).prints fits.tables; room = most };
+        })
         (λ last i. end_sits next last l mid r.0 k (inner_same view next last same begins i) r.1 r.2))
         (block_lands ls second l others on.0 mid (EndBlock ∷ k) (record { holding = h.holding; full = h.full })
-        (record { first = d.third; breaks = d.breaks; continues = d.continues; fine = fine_opened file elements all code result f second (fine_body view body d.fine); good = d.other; on = on.3;
-          fits = record { tables = prints_back code view.site.prints so.prints (made_all (globals file) elements result (inside second.site) others).prints fits.tables; room = fits.room } })
+        (record {
+          first = d.third;
+          breaks = d.breaks;
+          continues = d.continues;
+          fine = fine_opened file elements all code result f second (fine_body view body d.fine);
+          good = d.other;
+          on = on.3;
+          fits = record { tables = prints_back code view.site.prints so.prints (made_all (globals file) elements result (inside second.site) others).prints fits.tables; room = fits.room };
+        })
         (λ last i. end_sits next last l mid r.0 k (inner_same second next last same begins i) r.1 r.2))) where
           go : (b : Bool) (to other : ℕ) → At f.instrs to (instrs.Unless other) → R (frame (entered (blocks ls view)) (all_of body ++ EndBlock ∷ k) ∷ cs) (at (to + 1) ls []) → R (frame (entered (blocks ls view)) (all_of others ++ EndBlock ∷ k) ∷ cs) (at other ls [])
               → G (decides file (blocks ls view) k cs body (ElseBlock others) (Truth b)) (at to ls (Truth b ∷ []))
@@ -210,14 +224,37 @@ module _ (file : File) (elements : List Element) (all : AllWide (globals file).s
         (decides file (blocks ls view) k cs body (ElseIf branch)) _ mid place d.test d.on
         (λ b to on. go b to on.0 on.1
         (block_lands ls view l body (to + 1) mid (EndBlock ∷ k) h
-        (record { first = d.second; breaks = d.breaks; continues = d.continues; fine = fine_opened file elements all code result f view d.fine; good = d.good; on = on.2;
-          fits = record { tables = prints_front code view.site.prints so.prints (made_branch (globals file) elements result second.site branch).prints fits.tables; room = most } })
+        (record {
+          first = d.second;
+          breaks = d.breaks;
+          continues = d.continues;
+          fine = fine_opened file elements all code result f view d.fine;
+          good = d.good;
+          on = on.2;
+          fits = record { tables = prints_front code view.site.prints so.prints (made_branch (globals file) elements result second.site branch).prints fits.tables; room = most };
+        })
         (λ last i. end_sits next last l mid r.0 k (inner_same view next last same begins i) r.1 r.2))
-        (sitting second l on.0 ls [] (Do (If branch) ∷ k) (record { holding = h.holding; full = h.full })
-        (next, (begins, ap (take (innermost_begins view.begins)) same), mid,
-          (refl, record { first = d.third; breaks = d.breaks; continues = d.continues; fine = fine; good = d.other; on = on.3;
-            fits = record { tables = prints_back code view.site.prints so.prints (made_branch (globals file) elements result second.site branch).prints fits.tables; room = fits.room } }, same ∙ sym (branch_same second.site branch)),
-          r.0, r.1, r.2))) where
+        (sitting second l on.0 ls [] (Do (If branch) ∷ k) (record { holding = h.holding; full = h.full }) (
+          next,
+          (begins, ap (take (innermost_begins view.begins)) same),
+          mid,
+          (
+            refl,
+            record {
+              first = d.third;
+              breaks = d.breaks;
+              continues = d.continues;
+              fine = fine;
+              good = d.other;
+              on = on.3;
+              fits = record { tables = prints_back code view.site.prints so.prints (made_branch (globals file) elements result second.site branch).prints fits.tables; room = fits.room };
+            },
+            same ∙ sym (branch_same second.site branch),
+          ),
+          r.0,
+          r.1,
+          r.2,
+        ))) where
           go : (b : Bool) (to other : ℕ) → At f.instrs to (instrs.Unless other) → R (frame (entered (blocks ls view)) (all_of body ++ EndBlock ∷ k) ∷ cs) (at (to + 1) ls []) → R (frame (blocks ls view) (Do (If branch) ∷ k) ∷ cs) (at other ls [])
               → G (decides file (blocks ls view) k cs body (ElseIf branch) (Truth b)) (at to ls (Truth b ∷ []))
           go true to other i x y = (at (to + 1) ls [], chooses code g f there ds to other ls [] true i, x)
@@ -268,9 +305,12 @@ module _ (file : File) (elements : List Element) (all : AllWide (globals file).s
         → G (again_next file (blocks ls view) k cs (Repeating condition post body)) (at place ls stack)
     again_goes ls view l condition None body place stack k h (outer, inner, around, next, t, same, head, out, leave, (d, turns'), (empty, is), to, lead, sits) =
         let m = subst (λ o. IfSome o (λ m. (turn : ℕ) × Leads f.instrs m (Some turn) × At f.instrs turn (instrs.Loop head))) is turns' in
-        subst (λ (x : Words). G (again_next file (blocks ls view) k cs (Repeating condition None body)) (at place ls x)) (sym empty)
-        (at place ls [], here, subst (λ b. R (frame b (Turn (Repeating condition None body) ∷ k) ∷ cs) (at place ls [])) (sym (inner_left (globals file).structs ls outer view inner))
-        (lands ls outer around place (Some m.0) (Turn (Repeating condition None body) ∷ k) (held_inner ls outer view inner h) m.1 (turn_sits outer next around condition None body head m.0 out k m.2 d t same (to, lead, sits))))
+        subst (λ (x : Words). G (again_next file (blocks ls view) k cs (Repeating condition None body)) (at place ls x)) (sym empty) (
+          at place ls [],
+          here,
+          subst (λ b. R (frame b (Turn (Repeating condition None body) ∷ k) ∷ cs) (at place ls [])) (sym (inner_left (globals file).structs ls outer view inner))
+              (lands ls outer around place (Some m.0) (Turn (Repeating condition None body) ∷ k) (held_inner ls outer view inner h) m.1 (turn_sits outer next around condition None body head m.0 out k m.2 d t same (to, lead, sits))),
+        )
     again_goes ls view l condition (Some post) body place stack k h (outer, inner, around, next, t, same, head, out, leave, (d, turns'), (empty, is), to, lead, sits) =
         let m = subst (λ o. IfSome o (λ m. (turn : ℕ) × IsOn file elements all code result f around (post_made file elements all code result f outer body (Some post)).plan m (Some turn) × At f.instrs turn (instrs.Loop head))) is turns' in
         let within = opened (behind_body file elements all code result f outer body) in
@@ -279,12 +319,21 @@ module _ (file : File) (elements : List Element) (all : AllWide (globals file).s
         let u = together_behind file elements all code result f within (Alone post) fine.placed.nested in
         let tail = turn_sits outer next around condition (Some post) body head m.0 out k m.2 d t same (to, lead, sits) in
         let k' : List Task = EndBlock ∷ (Turn (Repeating condition (Some post) body) ∷ k) in
-        let sits' : S within around (Some place) [] (Do (Alone post) ∷ k') =
-        (last, u, Some m.0, (refl, record { first = d.third; breaks = true; continues = true; fine = fine; good = d.after_good; on = m.1; fits = record { tables = d.post_fits.tables; room = d.post_fits.room } }, refl), Some m.0, at_once,
-            end_sits outer last around (Some m.0) (Some m.0) (Turn (Repeating condition (Some post) body) ∷ k) (inner_opened file elements all code result f outer last u) at_once tail) in
-        subst (λ (x : Words). G (again_next file (blocks ls view) k cs (Repeating condition (Some post) body)) (at place ls x)) (sym empty)
-        (at place ls [], here, subst (λ b. R (frame b (Do (Alone post) ∷ k') ∷ cs) (at place ls [])) (seen_opened file elements all code result f ls outer ∙ ap entered (sym (inner_left (globals file).structs ls outer view inner)))
-        (sitting within around place ls [] (Do (Alone post) ∷ k') (record { holding = (held_inner ls outer view inner h).holding; full = h.full }) sits'))
+        let sits' : S within around (Some place) [] (Do (Alone post) ∷ k') = (
+          last,
+          u,
+          Some m.0,
+          (refl, record { first = d.third; breaks = true; continues = true; fine = fine; good = d.after_good; on = m.1; fits = record { tables = d.post_fits.tables; room = d.post_fits.room } }, refl),
+          Some m.0,
+          at_once,
+          end_sits outer last around (Some m.0) (Some m.0) (Turn (Repeating condition (Some post) body) ∷ k) (inner_opened file elements all code result f outer last u) at_once tail,
+        ) in
+        subst (λ (x : Words). G (again_next file (blocks ls view) k cs (Repeating condition (Some post) body)) (at place ls x)) (sym empty) (
+          at place ls [],
+          here,
+          subst (λ b. R (frame b (Do (Alone post) ∷ k') ∷ cs) (at place ls [])) (seen_opened file elements all code result f ls outer ∙ ap entered (sym (inner_left (globals file).structs ls outer view inner)))
+              (sitting within around place ls [] (Do (Alone post) ∷ k') (record { holding = (held_inner ls outer view inner h).holding; full = h.full }) sits'),
+        )
 
     -- ---- a for without clauses
 
@@ -292,3 +341,62 @@ module _ (file : File) (elements : List Element) (all : AllWide (globals file).s
         → G (Slides (frame (blocks ls view) (Head (Repeating condition None body) ∷ k) ∷ cs)) (at place ls [])
     repeats_goes ls view next l condition body place mid k h d t same r =
         (at place ls [], here, sitting view l place ls [] (Head (Repeating condition None body) ∷ k) h (next, t, mid, (refl, d, same), r.0, r.1, r.2))
+
+    -- ---- break, continue, and the end of a select's clause
+
+    like_left : (b : Blocks) → AllLike (globals file).structs b → AllLike (globals file).structs (left b)
+    like_left [] h = tt
+    like_left (block ∷ outer) h = h.1
+
+    broken_like : (tasks : List Task) (b : Blocks) → AllLike (globals file).structs b → AllLike (globals file).structs (broken b tasks).blocks
+    broken_like [] b h = h
+    broken_like (EndBlock ∷ k) b h = broken_like k (left b) (like_left b h)
+    broken_like (Again x ∷ k) b h = like_left b h
+    broken_like (EndSelect ∷ k) b h = like_left b h
+    broken_like (Do x ∷ k) b h = broken_like k b h
+    broken_like (Decide x y z ∷ k) b h = broken_like k b h
+    broken_like (Head x ∷ k) b h = broken_like k b h
+    broken_like (Turn x ∷ k) b h = broken_like k b h
+    broken_like (Ask x y z ∷ k) b h = broken_like k b h
+    broken_like (Await x y ∷ k) b h = broken_like k b h
+    broken_like (Store x y ∷ k) b h = broken_like k b h
+    broken_like (GiveBack x ∷ k) b h = broken_like k b h
+
+    continued_like : (tasks : List Task) (b : Blocks) → AllLike (globals file).structs b → AllLike (globals file).structs (continued b tasks).blocks
+    continued_like [] b h = h
+    continued_like (EndBlock ∷ k) b h = continued_like k (left b) (like_left b h)
+    continued_like (Again x ∷ k) b h = h
+    continued_like (EndSelect ∷ k) b h = continued_like k (left b) (like_left b h)
+    continued_like (Do x ∷ k) b h = continued_like k b h
+    continued_like (Decide x y z ∷ k) b h = continued_like k b h
+    continued_like (Head x ∷ k) b h = continued_like k b h
+    continued_like (Turn x ∷ k) b h = continued_like k b h
+    continued_like (Ask x y z ∷ k) b h = continued_like k b h
+    continued_like (Await x y ∷ k) b h = continued_like k b h
+    continued_like (Store x y ∷ k) b h = continued_like k b h
+    continued_like (GiveBack x ∷ k) b h = continued_like k b h
+
+    -- what is left by a jump
+    left_lands : (ls : Words) (c : Frame) (place from : ℕ) → length ls ≡ length f.locals → AllLike (globals file).structs c.blocks → JumpsTo f.instrs place from → Left file elements all code result f ls from c → R (c ∷ cs) (at place ls [])
+    left_lands ls c place from full like jumps (view, l, to, same, lead, sits) =
+        let holding = like_holding (globals file).structs ls (variables view) view.begins (subst (AllLike (globals file).structs) same like) in
+        subst (λ b. R (frame b c.tasks ∷ cs) (at place ls [])) (sym same) (lands ls view l place (Some to) c.tasks (record { holding = holding; full = full }) (jumps_through f.instrs place from to jumps lead) sits)
+
+    pub break_goes : (ls : Words) (view next : View) (l : Around) (place : ℕ) (k : List Task) (to : Option ℕ) → Held ls view → Leads f.instrs place l.leave → Together view next → S next l to [] k → G (Slides (broken (blocks ls view) k ∷ cs)) (at place ls [])
+    break_goes ls view next l place k to h lead t sits = go l.leave refl lead where
+      go : (o : Option ℕ) → l.leave ≡ o → Leads f.instrs place o → G (Slides (broken (blocks ls view) k ∷ cs)) (at place ls [])
+      go None is lead = absurd lead
+      go (Some n) is lead =
+          (at place ls [], here, left_lands ls (broken (blocks ls view) k) place n h.full (broken_like k (blocks ls view) (holding_like (globals file).structs ls (variables view) view.begins h.holding)) lead (broken_sits file elements all code result f ls k view next l to [] n is t sits))
+
+    pub continue_goes : (ls : Words) (view next : View) (l : Around) (place : ℕ) (k : List Task) (to : Option ℕ) → Held ls view → Leads f.instrs place l.again → Together view next → S next l to [] k → G (Slides (continued (blocks ls view) k ∷ cs)) (at place ls [])
+    continue_goes ls view next l place k to h lead t sits = go l.again refl lead where
+      go : (o : Option ℕ) → l.again ≡ o → Leads f.instrs place o → G (Slides (continued (blocks ls view) k ∷ cs)) (at place ls [])
+      go None is lead = absurd lead
+      go (Some n) is lead =
+          (at place ls [], here, left_lands ls (continued (blocks ls view) k) place n h.full (continued_like k (blocks ls view) (holding_like (globals file).structs ls (variables view) view.begins h.holding)) lead (continued_sits file elements all code result f ls k view next l to [] n is t sits))
+
+    pub end_select_goes : (ls : Words) (view : View) (l : Around) (place : ℕ) (stack : Words) (k : List Task) → Held ls view → S view l (Some place) stack (EndSelect ∷ k) → G (task_next file (blocks ls view) k cs EndSelect) (at place ls stack)
+    end_select_goes ls view l place stack k h (outer, inner, around, again, to, out, (empty, lead), sits) =
+        subst (λ (x : Words). G (task_next file (blocks ls view) k cs EndSelect) (at place ls x)) (sym empty)
+        (at place ls [], here, subst (λ b. R (frame b k ∷ cs) (at place ls [])) (sym (inner_left (globals file).structs ls outer view inner)) (lands ls outer around place to k (held_inner ls outer view inner h) lead sits))
