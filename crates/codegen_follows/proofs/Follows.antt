@@ -1,7 +1,7 @@
 -- Blocks, ifs and loops: the code does what the source does.
-use Rattle.std.proofs.Common.{◌≡◌, ℕ, ◌+◌, ◌≤◌, Bool, true, false, List, [], ◌∷◌, ◌++◌, length, take, Option, Some, None, IfSome, refl, sym, ap, ◌∙◌, subst, arith, slice_get}
+use Rattle.std.proofs.Common.{◌≡◌, ℕ, ◌+◌, ◌≤◌, Bool, true, false, List, [], ◌∷◌, ◌++◌, length, take, Option, Some, None, IfSome, refl, sym, ap, ◌∙◌, subst, arith, slice_get, inl, inr}
 use Rattle.std.specs.Prelude.{if◌then◌else◌}
-use Rattle.syntax.specs.Tree.{Expression, Simple, Statement, Empty, Alone, Block, If, Statements, Branch, Conditional, Otherwise, NoElse, ElseBlock, ElseIf, File}
+use Rattle.syntax.specs.Tree.{Expression, Simple, Statement, Empty, Alone, Block, If, First, Statements, Branch, Conditional, Otherwise, NoElse, ElseBlock, ElseIf, File}
 use Rattle.bytecode.specs.declared.instr.Instr.TheVariants as instrs
 use Rattle.bytecode.specs.Code.{Function as CodeFunction, Code}
 use Rattle.bytecode.specs.Machine.{Frames as CodeFrames, code_next}
@@ -18,7 +18,7 @@ use Rattle.meaning.specs.Variables.{Blocks, entered, left}
 use Rattle.meaning.specs.Tasks.{Loop, Repeating, Ranging, Task, Do, EndBlock, Decide, Head, Again, Turn, EndSelect, Ask, Await, Store, GiveBack, Frame, Frames, frame, all_of, broken, continued}
 use Rattle.meaning.specs.Source.{globals, truth_in, statement_next, task_next, decides, head_next, again_next, body_next}
 use Rattle.codegen_base.specs.declared.element.Element.{Element}
-use Rattle.codegen_base.specs.Generated.{Site, Made, inside, ended, past, made_all, made_branch}
+use Rattle.codegen_base.specs.Generated.{Site, Made, inside, ended, past, made_all, made_branch, made_simple, made_otherwise}
 use Rattle.plan.specs.Plan.{Skip}
 use Rattle.plan.proofs.Words.{Words}
 use Rattle.plan.proofs.Places.{At, JumpsTo, at_once, Leads, jumps_through}
@@ -108,6 +108,10 @@ module _ (file : File) (elements : List Element) (all : AllWide (globals file).s
         placed = record { rising = rising_up (globals file).structs 0 (variables view) (scope_of view).words (scope_of (behind_body file elements all code result f view body)).words le p.rising; known = p.known; outer = p.outer; nested = p.nested };
         alike = alike_left view.checked (scope_of view) (after_all (globals file) (scope_entered view.checked) body) (made_body file elements all code result f view body).layout.scope fine.alike;
       }
+
+  map_reached : (o : Option ℕ) (A B : ℕ → Type 0) → ((n : ℕ) → A n → B n) → IfSome o A → IfSome o B
+  map_reached None A B go h = tt
+  map_reached (Some n) A B go h = go n h
 
   -- an if keeps the variables
   pub branch_same : (site : Site) (branch : Branch) → (made_branch (globals file) elements result site branch).layout.scope.variables ≡ site.layout.scope.variables
@@ -400,3 +404,69 @@ module _ (file : File) (elements : List Element) (all : AllWide (globals file).s
     end_select_goes ls view l place stack k h (outer, inner, around, again, to, out, (empty, lead), sits) =
         subst (λ (x : Words). G (task_next file (blocks ls view) k cs EndSelect) (at place ls x)) (sym empty)
         (at place ls [], here, subst (λ b. R (frame b k ∷ cs) (at place ls [])) (sym (inner_left (globals file).structs ls outer view inner)) (lands ls outer around place to k (held_inner ls outer view inner h) lead sits))
+
+    -- ---- an if
+
+    self_lead : (o : Option ℕ) → LeadsOn file elements all code result f o o
+    self_lead None = tt
+    self_lead (Some p) = at_once
+
+    -- what is decided behind the first statement of an if
+    decide_sits : (view next : View) (l : Around) (condition : Expression) (body : Statements) (otherwise : Otherwise) (place mid : Option ℕ) (k : List Task) → IfSome place (λ p. Deciding file elements all code result f l view condition body otherwise p mid) → Inner next view → Rest next l mid k
+        → S view l place [] (Decide condition body otherwise ∷ (EndBlock ∷ k))
+    decide_sits view next l condition body otherwise place mid k d inner r = (view, (refl, refl), mid, go place d, mid, self_lead mid, end_sits next view l mid r.0 k inner r.1 r.2) where
+      go : (place : Option ℕ) → IfSome place (λ p. Deciding file elements all code result f l view condition body otherwise p mid) → IfSome place (λ p. (◌≡◌ {A = List Word} [] []) × Deciding file elements all code result f l view condition body otherwise p mid × (variables view ≡ variables view))
+      go None d = tt
+      go (Some p) d = (refl, d, refl)
+
+    pub if_first_goes : (ls : Words) (view next : View) (l : Around) (simple : Simple) (condition : Expression) (body : Statements) (otherwise : Otherwise) (place : ℕ) (mid : Option ℕ) (k : List Task) → Held ls view → Doing file elements all code result f l view (If (Conditional (First simple) condition body otherwise)) place mid
+        → variables next ≡ variables view → next.begins ≡ view.begins → Rest next l mid k → G (statement_next file (blocks ls view) k cs (If (Conditional (First simple) condition body otherwise))) (at place ls [])
+    if_first_goes ls view next l simple condition body otherwise place mid k h d same begins r =
+        let inside' = opened view in
+        let fine = fine_opened file elements all code result f view d.fine in
+        let first = made_simple (globals file) elements inside'.site simple in
+        let v = behind file elements all code result f inside' (Alone simple) in
+        let u = together_behind file elements all code result f inside' (Alone simple) fine.placed.nested in
+        let so = ended v.site.layout (made_body file elements all code result f v body) in
+        let other = made_otherwise (globals file) elements result v.site condition so otherwise in
+        let a = (grown_statements (globals file) elements result (inside v.site) body).words in
+        let b = grown_otherwise (globals file) elements result v.site condition so otherwise in
+        let most = d.fits.room in
+        let doing : Doing file elements all code result f l inside' (Alone simple) place d.on.0 = record {
+          first = d.first;
+          breaks = d.breaks;
+          continues = d.continues;
+          fine = fine;
+          good = λ flaw x. d.good flaw (inl (inl x));
+          on = d.on.1;
+          fits = record { tables = prints_front code view.site.prints first.prints other.prints d.fits.tables; room = omega (arith, a, b, most) };
+        } in
+        let fine' = fine_behind inside' (Alone simple) d.first d.breaks d.continues fine (λ flaw x. d.good flaw (inl (inl x))) in
+        let deciding : (m : ℕ) → IsOn file elements all code result f l other.plan m mid → Deciding file elements all code result f l v condition body otherwise m mid = λ m on. record {
+          first = _;
+          second = _;
+          third = _;
+          breaks = d.breaks;
+          continues = d.continues;
+          fine = fine';
+          test = λ flaw x. d.good flaw (inl (inr x));
+          good = λ flaw x. d.good flaw (inr (inl x));
+          other = λ flaw x. d.good flaw (inr (inr x));
+          on = on;
+          fits = record { tables = prints_back code view.site.prints first.prints other.prints d.fits.tables; room = most };
+        } in
+        let k' : List Task = Decide condition body otherwise ∷ (EndBlock ∷ k) in (
+          at place ls [],
+          here,
+          subst (λ b. R (frame b (Do (Alone simple) ∷ k') ∷ cs) (at place ls [])) (seen_opened file elements all code result f ls view)
+              (sitting inside' l place ls [] (Do (Alone simple) ∷ k') (record { holding = h.holding; full = h.full }) (
+                v,
+                u,
+                d.on.0,
+                (refl, doing, refl),
+                d.on.0,
+                self_lead d.on.0,
+                decide_sits v next l condition body otherwise d.on.0 mid k (map_reached d.on.0 (λ m. IsOn file elements all code result f l other.plan m mid) (λ m. Deciding file elements all code result f l v condition body otherwise m mid) deciding d.on.2)
+                    (inner_same view next v same begins (inner_opened file elements all code result f view v u)) r,
+              )),
+        )
