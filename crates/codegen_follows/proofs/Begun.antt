@@ -1,5 +1,5 @@
 -- The statements of a block sit where their code stands.
-use Rattle.std.proofs.Common.{◌≡◌, ℕ, zero, suc, ◌+◌, ◌≤◌, Bool, true, false, List, [], ◌∷◌, ◌++◌, length, take, drop, Option, Some, None, IfSome, refl, sym, ap, ◌∙◌, subst, arith, append_assoc, length-append, slice_get, inl, inr}
+use Rattle.std.proofs.Common.{◌≡◌, ℕ, zero, suc, ◌+◌, ◌≤◌, Bool, true, false, List, [], ◌∷◌, ◌++◌, length, take, Option, Some, None, IfSome, refl, sym, ap, ◌∙◌, subst, arith, length-append, slice_get, inl, inr}
 use Rattle.std.specs.Prelude.{if◌then◌else◌}
 use Rattle.syntax.specs.Tree.{Statement, Statements, NoStatement, Then, File}
 use Rattle.syntax.specs.Measures.{statement_size}
@@ -14,7 +14,7 @@ use Rattle.codegen_base.specs.declared.element.Element.{Element}
 use Rattle.codegen_base.specs.Generated.{Made, followed, past, made_all}
 use Rattle.plan.specs.Plan.{Plan, reaches_end}
 use Rattle.plan.proofs.Words.{Words}
-use Rattle.plan.proofs.Places.{at_once, Leads}
+use Rattle.plan.proofs.Places.{at_once}
 use Rattle.codegen_base.proofs.Alike.{drop_all, alike_entered}
 use Rattle.codegen_base.proofs.Fields.{AllWide}
 use Rattle.codegen_base.proofs.Seen.{seen, seen_block}

@@ -1,7 +1,7 @@
 -- Blocks, ifs and loops: the code does what the source does.
 use Rattle.std.proofs.Common.{◌≡◌, ℕ, ◌+◌, ◌≤◌, Bool, true, false, List, [], ◌∷◌, ◌++◌, length, take, Option, Some, None, IfSome, refl, sym, ap, ◌∙◌, subst, arith, slice_get, inl, inr}
 use Rattle.std.specs.Prelude.{if◌then◌else◌}
-use Rattle.syntax.specs.Tree.{Expression, Simple, Statement, Empty, Alone, Block, If, IfHead, Bare, Semicolon, First, Statements, Branch, Conditional, Otherwise, NoElse, ElseBlock, ElseIf, File}
+use Rattle.syntax.specs.Tree.{Expression, Simple, Empty, Alone, Block, If, IfHead, Bare, Semicolon, First, Statements, Branch, Conditional, Otherwise, NoElse, ElseBlock, ElseIf, File}
 use Rattle.bytecode.specs.declared.instr.Instr.TheVariants as instrs
 use Rattle.bytecode.specs.Code.{Function as CodeFunction, Code}
 use Rattle.bytecode.specs.Machine.{Frames as CodeFrames, code_next}
@@ -15,14 +15,14 @@ use Rattle.type_table.specs.Containment.{fields_of}
 use Rattle.type_table.specs.Scopes.{Scope, Yield, entered as scope_entered}
 use Rattle.checker_statement.specs.Statements.{after_all}
 use Rattle.meaning.specs.Variables.{Blocks, entered, left}
-use Rattle.meaning.specs.Tasks.{Loop, Repeating, Ranging, Task, Do, EndBlock, Decide, Head, Again, Turn, EndSelect, Ask, Await, Store, GiveBack, Frame, Frames, frame, all_of, broken, continued}
+use Rattle.meaning.specs.Tasks.{Repeating, Task, Do, EndBlock, Decide, Head, Again, Turn, EndSelect, Ask, Await, Store, GiveBack, Frame, Frames, frame, all_of, broken, continued}
 use Rattle.meaning.specs.Source.{globals, truth_in, statement_next, task_next, decides, head_next, again_next, body_next}
 use Rattle.codegen_base.specs.declared.element.Element.{Element}
-use Rattle.codegen_base.specs.Generated.{Site, Made, nothing, inside, ended, past, made_all, made_branch, made_simple, made_otherwise}
+use Rattle.codegen_base.specs.Generated.{Site, nothing, inside, ended, past, made_all, made_branch, made_simple, made_otherwise}
 use Rattle.plan.specs.Plan.{Skip}
 use Rattle.plan.proofs.Words.{Words}
 use Rattle.plan.proofs.Places.{At, JumpsTo, at_once, Leads, jumps_through}
-use Rattle.plan.proofs.Steps.{spots, slips_more, passes, chooses, turns}
+use Rattle.plan.proofs.Steps.{spots, passes, chooses, turns}
 use Rattle.codegen_base.proofs.Alike.{alike_left}
 use Rattle.codegen_base.proofs.Fields.{AllWide, AllTyped}
 use Rattle.codegen_base.proofs.Seen.{seen, rising_up}
@@ -30,7 +30,7 @@ use Rattle.codegen_base.proofs.Assigned.{AllLike, holding_like, like_holding}
 use Rattle.codegen_base.proofs.Static.{innermost_begins}
 use Rattle.codegen_base.proofs.Typing.{FieldsKnown}
 use Rattle.codegen_base.proofs.Expressions.{Holding}
-use Rattle.codegen_follows.proofs.Stands.{Around, View, scope_of, variables, Together, Inner, opened, IsOn, LeadsOn, Fine, Fits, made_body, behind, behind_body, Doing, Deciding, Looping, post_made, Sits}
+use Rattle.codegen_follows.proofs.Stands.{Around, View, scope_of, variables, Together, Inner, opened, IsOn, LeadsOn, Fine, made_body, behind, behind_body, Doing, Deciding, Looping, post_made, Sits}
 use Rattle.codegen_follows.proofs.Grown.{grown_statements, grown_otherwise}
 use Rattle.codegen_follows.proofs.Unwound.{Left, inner_left, broken_sits, continued_sits}
 use Rattle.codegen_follows.proofs.Begun.{prints_front, prints_back, together_behind, Live, FineBehind, sits_all, fine_opened, inner_opened, seen_opened}
@@ -481,15 +481,23 @@ module _ (file : File) (elements : List Element) (all : AllWide (globals file).s
         let so = ended v.site.layout (made_body file elements all code result f v body) in
         let other = made_otherwise (globals file) elements result v.site condition so otherwise in
         let deciding : (m : ℕ) → IsOn file elements all code result f l other.plan m mid → Deciding file elements all code result f l v condition body otherwise m mid = λ m on. record {
-          first = _; second = _; third = _; breaks = d.breaks; continues = d.continues; fine = fine';
-          test = λ flaw x. d.good flaw (inl (inr x)); good = λ flaw x. d.good flaw (inr (inl x)); other = λ flaw x. d.good flaw (inr (inr x)); on = on;
+          first = _;
+          second = _;
+          third = _;
+          breaks = d.breaks;
+          continues = d.continues;
+          fine = fine';
+          test = λ flaw x. d.good flaw (inl (inr x));
+          good = λ flaw x. d.good flaw (inr (inl x));
+          other = λ flaw x. d.good flaw (inr (inr x));
+          on = on;
           fits = record { tables = prints_back code view.site.prints [] other.prints d.fits.tables; room = d.fits.room };
         } in
         let k' : List Task = Decide condition body otherwise ∷ (EndBlock ∷ k) in
         subst (λ b. R (frame b k' ∷ cs) (at place ls [])) (seen_opened file elements all code result f ls view)
         (lands ls v l place d.on.0 k' (record { holding = h.holding; full = h.full }) d.on.1
         (decide_sits v next l condition body otherwise d.on.0 mid k (map_reached d.on.0 (λ m. IsOn file elements all code result f l other.plan m mid) (λ m. Deciding file elements all code result f l v condition body otherwise m mid) deciding d.on.2)
-            (inner_same view next v same begins (inner_opened file elements all code result f view v (refl, refl))) r))
+        (inner_same view next v same begins (inner_opened file elements all code result f view v (refl, refl))) r))
 
     pub if_goes : (ls : Words) (view next : View) (l : Around) (head : IfHead) (condition : Expression) (body : Statements) (otherwise : Otherwise) (place : ℕ) (mid : Option ℕ) (k : List Task) → Held ls view → Doing file elements all code result f l view (If (Conditional head condition body otherwise)) place mid
         → variables next ≡ variables view → next.begins ≡ view.begins → Rest next l mid k → G (statement_next file (blocks ls view) k cs (If (Conditional head condition body otherwise))) (at place ls [])

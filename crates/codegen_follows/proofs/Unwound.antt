@@ -1,5 +1,5 @@
 -- What a break or a continue leaves to be done sits where the jump leads.
-use Rattle.std.proofs.Common.{◌≡◌, ℕ, List, [], ◌∷◌, take, Option, Some, None, IfSome, refl, sym, ap, ◌∙◌, subst}
+use Rattle.std.proofs.Common.{◌≡◌, ℕ, List, [], ◌∷◌, take, Option, Some, None, refl, sym, ap, ◌∙◌, subst}
 use Rattle.syntax.specs.Tree.{File}
 use Rattle.bytecode.specs.Code.{Function as CodeFunction, Code}
 use Rattle.word.specs.declared.value.Word.{Word}
@@ -14,7 +14,7 @@ use Rattle.plan.proofs.Places.{at_once, Leads}
 use Rattle.codegen_base.proofs.Fields.{AllWide}
 use Rattle.codegen_base.proofs.Seen.{seen}
 use Rattle.codegen_base.proofs.Static.{innermost_begins}
-use Rattle.codegen_follows.proofs.Stands.{Around, nowhere, View, variables, Together, Inner, LeadsOn, Sits}
+use Rattle.codegen_follows.proofs.Stands.{Around, View, variables, Together, Inner, LeadsOn, Sits}
 
 abbrev HasNone : Option ℕ → Type 0
 HasNone None = Unit {0}

@@ -1,5 +1,5 @@
 -- An expression's code leads to where its value lies on the stack, or panics as the source does.
-use Rattle.std.proofs.Common.{◌≡◌, ℕ, ◌+◌, ◌≤◌, Bool, true, false, List, [], ◌∷◌, ◌++◌, length, Option, Some, None, Ok, Err, refl, sym, ap, ◌∙◌, subst, arith, slice_get, inl, inr}
+use Rattle.std.proofs.Common.{◌≡◌, ℕ, ◌+◌, ◌≤◌, Bool, true, false, List, [], ◌∷◌, ◌++◌, length, Option, Some, Ok, Err, refl, sym, ap, ◌∙◌, subst, arith, slice_get, inl, inr}
 use Rattle.go_text.specs.declared.rule.Rule.TheVariants as rules
 use Rattle.syntax.specs.Tree.{Expression, File}
 use Rattle.bytecode.specs.Code.{Function as CodeFunction, Code}
@@ -7,9 +7,9 @@ use Rattle.bytecode.specs.Machine.{Frames as CodeFrames, code_next}
 use Rattle.word.specs.declared.panic.Panic.{Panic as Cause}
 use Rattle.word.specs.declared.value.Word.{Word}
 use Rattle.word.specs.declared.value.Word.TheVariants.{Bool as Truth}
-use Rattle.word.specs.Values.{Request, Reply, Panic}
-use Rattle.word.specs.Kinds.{Next, Slides, Ticks, Asks, Stuck, Suits}
-use Rattle.word.specs.Related.{Slips, here}
+use Rattle.word.specs.Values.{Request, Panic}
+use Rattle.word.specs.Kinds.{Next, Slides, Ticks, Asks, Stuck}
+use Rattle.word.specs.Related.{Slips}
 use Rattle.type_table.specs.Types.{ValueType, BoolType, StructType, ChannelType, IntType, is_bool_type}
 use Rattle.type_table.specs.Containment.{fields_of}
 use Rattle.type_table.specs.Scopes.{Scope, Yield}
