@@ -1,0 +1,76 @@
+-- What is so of calls in which nothing is wrong.
+use Rattle.std.proofs.Common.{◌≡◌, ℕ, suc, ◌+◌, ◌==◌, ◌≤◌, Bool, true, false, List, [], ◌∷◌, length, map, Option, Some, None, refl, sym, ap, subst, arith, inl, inr}
+use Rattle.std.specs.Prelude.{if◌then◌else◌, unwrap_or}
+use Rattle.std.proofs.lemmas.Bool.Decides.{nat_tests}
+use Rattle.go_text.specs.declared.rule.Rule.TheVariants as rules
+use Rattle.syntax.specs.Tree.{Expression, expressions, Arguments}
+use Rattle.syntax.specs.Measures.{expression_size, arguments_size}
+use Rattle.type_table.specs.Types.{ValueType}
+use Rattle.type_table.specs.Scopes.{Globals, Scope, function_number}
+use Rattle.checker_base.specs.Worths.{worth}
+use Rattle.checker_base.specs.Expressions.{nodes_of, ValueHas, NumbersHave, ValuesFail, PassedHave, ExpressionsHave}
+use Rattle.checker_operation.specs.Operations.{Callee, NotDeclared, NoFunction, IsFunction, function_of, is_other, callee, parameters_of, CalleeHas, CallHas}
+use Rattle.meaning.specs.Values.{known}
+use Rattle.meaning.specs.Destinations.{number_of}
+use Rattle.codegen_base.proofs.Typing.{Free, FieldsKnown, fits, broken, nodes_end, worth_there}
+use Rattle.codegen_base.proofs.Passed.{AllFit}
+
+-- the types of places are known
+abbrev pub KindsKnown : List (Option ValueType) → Type 0
+KindsKnown [] = Unit {0}
+KindsKnown (kind ∷ kinds) = (kind ≡ Some (known kind)) × KindsKnown kinds
+
+pub same_count : (a b end : ℕ) → 1 ≤ end → Free (NumbersHave a b end) → a ≡ b
+same_count a b end le free = go (a == b) refl where
+  go : (t : Bool) → (a == b) ≡ t → a ≡ b
+  go true e = grind (arith, nat_tests, e)
+  go false e = let x = broken rules.Numbers end le in absurd (free x.0 (e, x.1))
+
+module _ (globals : Globals) (s : Scope) (known-fields : FieldsKnown globals s) where
+  -- values that fit places of types which are known
+  pub all_fit : (es : List Expression) (kinds : List (Option ValueType)) (first : ℕ) → KindsKnown kinds → length es ≡ length kinds → Free (ExpressionsHave globals s first (expressions es)) → Free (ValuesFail globals s first es kinds) → AllFit globals s es (map known kinds)
+  all_fit [] [] first k many free fail = tt
+  all_fit [] (kind ∷ kinds) first k many free fail = absurd cc
+  all_fit (e ∷ es) [] first k many free fail = absurd cc
+  all_fit (e ∷ es) (kind ∷ kinds) first k many free fail =
+      let w = worth_there globals s known-fields e first (λ flaw h. free flaw (inl h)) in
+      let fit = fits w.0 (known kind) (nodes_of first e) (nodes_end first e)
+      (λ flaw h. fail flaw (inl (subst (λ o. ValueHas (worth globals s e) o (nodes_of first e) flaw) (sym k.0) (subst (λ o. ValueHas o (Some (known kind)) (nodes_of first e) flaw) (sym w.1) h)))) in
+      let rest : suc (length es) ≡ suc (length kinds) = many in
+      ((w.0, w.1, fit), all_fit es kinds (first + expression_size e) k.1 (omega (arith, rest)) (λ flaw h. free flaw (inr h)) (λ flaw h. fail flaw (inr h)))
+
+  -- ---- calls
+
+  -- a call is of a function, with values that fit its parameters
+  pub record Calls (function : List ℕ) (values : List Expression) : Type 0 where
+    pub number : ℕ
+    pub is : function_number globals.functions function ≡ Some number
+    pub numbered : number_of globals function ≡ number
+    pub fit : AllFit globals s values (map known (parameters_of globals number))
+
+  function_is : (o : Option ℕ) (other : Bool) (n : ℕ) → (if other then NoFunction else function_of o) ≡ IsFunction n → o ≡ Some n
+  function_is o true n e = absurd cc
+  function_is None false n e = absurd cc
+  function_is (Some m) false n e = ap number_in e where
+    number_in : Callee → Option ℕ
+    number_in NotDeclared = None
+    number_in NoFunction = None
+    number_in (IsFunction k) = Some k
+
+  pub calls : ((n : ℕ) → KindsKnown (parameters_of globals n)) → (function : List ℕ) (arguments : Arguments) (first : ℕ) → Free (CallHas globals s first function arguments) → Calls function arguments.values
+  calls known-kinds function arguments first free = go (callee globals s function) refl (λ flaw h. free flaw (inr h)) where
+    end : ℕ
+    end = first + arguments_size arguments + 1
+
+    go : (c : Callee) → callee globals s function ≡ c → Free (CalleeHas globals s (callee globals s function) first arguments.values end) → Calls function arguments.values
+    go NotDeclared is free-of = let b = broken rules.Visible end (omega arith) in absurd (free-of b.0 (subst (λ c. CalleeHas globals s c first arguments.values end b.0) (sym is) b.1))
+    go NoFunction is free-of = let b = broken rules.Called end (omega arith) in absurd (free-of b.0 (subst (λ c. CalleeHas globals s c first arguments.values end b.0) (sym is) b.1))
+    go (IsFunction n) is free-of =
+        let passed : Free (PassedHave globals s first arguments.values (parameters_of globals n) end) = λ flaw h. free-of flaw (subst (λ c. CalleeHas globals s c first arguments.values end flaw) (sym is) h) in
+        let found = function_is (function_number globals.functions function) (is_other globals s function) n is in
+        record {
+          number = n;
+          is = found;
+          numbered = ap (λ o. unwrap_or o 0) found;
+          fit = all_fit arguments.values (parameters_of globals n) first (known-kinds n) (same_count (length arguments.values) (length (parameters_of globals n)) end (omega arith) (λ flaw h. passed flaw (inl h))) (λ flaw h. free flaw (inl h)) (λ flaw h. passed flaw (inr h));
+        }

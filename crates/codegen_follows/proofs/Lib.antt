@@ -1,0 +1,9 @@
+pub mod Paths
+pub mod Called
+pub mod Stands
+pub mod Unwound
+pub mod Grown
+pub mod Narrowed
+pub mod Begun
+pub mod Valued
+pub mod Follows

@@ -1,0 +1,203 @@
+-- Where the code stands of what is still to be done.
+use Rattle.std.proofs.Common.{◌≡◌, ℕ, ◌+◌, ◌≤◌, Bool, true, List, [], ◌∷◌, ◌++◌, length, take, Option, Some, None, IfSome, slice_get}
+use Rattle.syntax.specs.Tree.{Expression, Simple, Statement, Statements, Otherwise, File}
+use Rattle.bytecode.specs.declared.instr.Instr.TheVariants as instrs
+use Rattle.bytecode.specs.Code.{PrintTable, Function as CodeFunction, Code}
+use Rattle.word.specs.declared.value.Word.{Word}
+use Rattle.type_table.specs.Types.{ValueType}
+use Rattle.type_table.specs.Scopes.{Variable, Scope, Yield, NoResult, Yields, entered, left}
+use Rattle.checker_base.specs.Expressions.{TestHas}
+use Rattle.checker_simple.specs.Simples.{SimpleHas}
+use Rattle.checker_statement.specs.Statements.{Setting, after, after_all, StatementHas, StatementsHave, OtherwiseHas}
+use Rattle.meaning.specs.Values.{Value, known}
+use Rattle.meaning.specs.Variables.{Destination}
+use Rattle.meaning.specs.Tasks.{Loop, Repeating, Ranging, Task, Do, EndBlock, Decide, Head, Again, Turn, EndSelect, Store, GiveBack}
+use Rattle.meaning.specs.Source.{globals}
+use Rattle.codegen_base.specs.declared.element.Element.{Element}
+use Rattle.codegen_base.specs.Pushes.{pushes_zeros}
+use Rattle.codegen_base.specs.Statements.{Spot, assigns}
+use Rattle.codegen_base.specs.Generated.{Site, Made, past, ended, inside, loop, test_plan, made_post, made, made_all, made_otherwise, result_kinds}
+use Rattle.plan.specs.Plan.{Plan, Skip, Stop}
+use Rattle.plan.proofs.Places.{At, On, Leads}
+use Rattle.codegen_base.proofs.Alike.{Alike}
+use Rattle.codegen_base.proofs.Seen.{Like}
+use Rattle.codegen_base.proofs.Static.{innermost_begins, IsPlaced}
+use Rattle.codegen_base.proofs.Typing.{Free}
+use Rattle.codegen_base.proofs.Fields.{AllWide}
+use Rattle.codegen_base.proofs.Assigned.{AreLike, AreSpots, all_words_of, behind_all}
+
+-- where a break and a continue lead
+pub record Around : Type 0 where
+  pub leave : Option ℕ
+  pub again : Option ℕ
+
+-- in no loop and no select
+abbrev pub nowhere : Around
+nowhere = record { leave = None; again = None }
+
+-- what is known of the variables at a place: where the layout has them, where each block begins, and what the typing rules see
+pub record View : Type 0 where
+  pub site : Site
+  pub begins : List ℕ
+  pub checked : Scope
+
+abbrev pub scope_of : View → Scope
+scope_of view = view.site.layout.scope
+
+abbrev pub variables : View → List Variable
+variables view = (scope_of view).variables
+
+-- the variables of the blocks round the innermost one are the same
+abbrev pub Together : View → View → Type 0
+Together view next = (next.begins ≡ view.begins) × (take (innermost_begins view.begins) (variables next) ≡ take (innermost_begins view.begins) (variables view))
+
+-- the innermost block of the one is in the innermost block of the other
+pub record Inner (outer view : View) : Type 0 where
+  pub begin : ℕ
+  pub begins : view.begins ≡ begin ∷ outer.begins
+  pub within : take begin (variables view) ≡ variables outer
+
+-- a block begins
+abbrev pub opened : View → View
+opened view = record { site = inside view.site; begins = length (variables view) ∷ view.begins; checked = entered view.checked }
+
+-- print tables stand from a number on
+abbrev pub Prints : Code → ℕ → List PrintTable → Type 0
+Prints code first tables = (n : ℕ) (table : PrintTable) → slice_get tables n ≡ Some table → slice_get code.prints (first + n) ≡ Some table
+
+module _ (file : File) (elements : List Element) (all : AllWide (globals file).structs) (code : Code) (result : Yield) (f : CodeFunction) where
+  abbrev pub IsOn : Around → Plan → ℕ → Option ℕ → Type 0
+  IsOn l plan place out = On code.selects f.instrs l.leave l.again plan place out
+
+  -- from a place that is reached jumps alone lead to the other
+  abbrev pub LeadsOn : Option ℕ → Option ℕ → Type 0
+  LeadsOn mid to = IfSome mid (λ m. Leads f.instrs m to)
+
+  -- a statement's setting
+  abbrev pub within : Bool → Bool → Setting
+  within breaks continues = record { globals = globals file; result = result; breaks = breaks; continues = continues }
+
+  -- the variables lie where the layout says, and are those that the typing rules see
+  pub record Fine (view : View) : Type 0 where
+    pub placed : IsPlaced (globals file).structs (scope_of view) view.begins
+    pub alike : Alike view.checked (scope_of view)
+
+  abbrev pub made_here : View → Statement → Made
+  made_here view s = made (globals file) elements result view.site s
+
+  abbrev pub made_body : View → Statements → Made
+  made_body view body = made_all (globals file) elements result (inside view.site) body
+
+  abbrev pub made_other : View → Expression → Statements → Otherwise → Made
+  made_other view condition body otherwise = made_otherwise (globals file) elements result view.site condition (ended view.site.layout (made_body view body)) otherwise
+
+  -- behind a statement
+  abbrev pub behind : View → Statement → View
+  behind view s = record { site = past view.site (made_here view s); begins = view.begins; checked = after (globals file) view.checked s }
+
+  -- behind the first block of an if or a for
+  abbrev pub behind_body : View → Statements → View
+  behind_body view body = record {
+    site = past view.site (ended view.site.layout (made_body view body));
+    begins = view.begins;
+    checked = left view.checked (after_all (globals file) (entered view.checked) body);
+  }
+
+  -- what is made has its print tables, and room for its variables
+  pub record Fits (first : ℕ) (one : Made) : Type 0 where
+    pub tables : Prints code first one.prints
+    pub room : one.layout.scope.words ≤ length f.locals
+
+  -- ---- tasks that are done at a place
+
+  pub record Doing (l : Around) (view : View) (s : Statement) (place : ℕ) (mid : Option ℕ) : Type 0 where
+    pub first : ℕ
+    pub breaks : Bool
+    pub continues : Bool
+    pub fine : Fine view
+    pub good : Free (StatementHas (within breaks continues) view.checked first s)
+    pub on : IsOn l (made_here view s).plan place mid
+    pub fits : Fits view.site.prints (made_here view s)
+
+  pub record Deciding (l : Around) (view : View) (condition : Expression) (body : Statements) (otherwise : Otherwise) (place : ℕ) (mid : Option ℕ) : Type 0 where
+    pub first : ℕ
+    pub second : ℕ
+    pub third : ℕ
+    pub breaks : Bool
+    pub continues : Bool
+    pub fine : Fine view
+    pub test : Free (TestHas (globals file) view.checked first condition)
+    pub good : Free (StatementsHave (within breaks continues) (entered view.checked) second body)
+    pub other : Free (OtherwiseHas (within breaks continues) (left view.checked (after_all (globals file) (entered view.checked) body)) third otherwise)
+    pub on : IsOn l (made_other view condition body otherwise).plan place mid
+    pub fits : Fits view.site.prints (made_other view condition body otherwise)
+
+  abbrev pub post_made : View → Statements → Option Simple → Made
+  post_made view body post = made_post (globals file) elements view.site.layout (behind_body view body).site post
+
+  -- a loop with a condition and a post statement; a continue leads to `again`
+  pub record Looping (l : Around) (view : View) (condition : Option Expression) (post : Option Simple) (body : Statements) (head : ℕ) (out : Option ℕ) : Type 0 where
+    pub first : ℕ
+    pub second : ℕ
+    pub third : ℕ
+    pub fine : Fine view
+    pub test : IfSome condition (λ c. Free (TestHas (globals file) view.checked first c))
+    pub good : Free (StatementsHave (within true true) (entered view.checked) second body)
+    pub after_good : IfSome post (λ s. Free (SimpleHas (globals file) (entered (behind_body view body).checked) third s))
+    pub on : IsOn l (loop (test_plan (globals file) elements view.site.layout condition) (made_body view body).plan (post_made view body post).plan) head out
+    pub fits : Fits view.site.prints (made_body view body)
+    pub post_fits : Fits (behind_body view body).site.prints (post_made view body post)
+
+  -- a value that is returned is of the function's result
+  abbrev pub IsResult : Yield → Value → Type 0
+  IsResult NoResult v = v ≡ []
+  IsResult (Yields kind) v = Like (globals file).structs (known kind) v
+
+  -- values that are stored: those that have a place lie on the stack
+  pub record Storing (l : Around) (view : View) (stack : List Word) (destinations : List Destination) (values : List Value) (next : View) (place : ℕ) (mid : Option ℕ) : Type 0 where
+    pub types : List ValueType
+    pub spots : List Spot
+    pub kept : List Value
+    pub others : List Value
+    pub fine : Fine view
+    pub values_are : values ≡ kept ++ others
+    pub stack_is : stack ≡ all_words_of (globals file).structs all kept
+    pub like : AreLike (globals file).structs all types kept
+    pub spots_are : AreSpots (globals file).structs all (scope_of view) destinations types spots
+    pub room : (behind_all (globals file).structs all destinations (scope_of view)).words ≤ length f.locals
+    pub on : IsOn l (assigns spots Skip) place mid
+    pub variables_are : variables next ≡ (behind_all (globals file).structs all destinations (scope_of view)).variables
+
+  -- what a loop's head does at a place
+  abbrev pub Loops : Around → View → Loop → ℕ → Option ℕ → Type 0
+  Loops l view (Repeating condition post body) head out = Looping l view condition post body head out
+  Loops l view (Ranging destinations zero body) head out = ⊥
+
+  -- a task at a place, with this stack: its code leads to `mid`, where what is next has its variables
+  abbrev pub Does : Around → View → List Word → Task → View → ℕ → Option ℕ → Type 0
+  Does l view stack (Do s) next place mid = (stack ≡ []) × Doing l view s place mid × (variables next ≡ variables (behind view s))
+  Does l view stack (Decide condition body otherwise) next place mid = (stack ≡ []) × Deciding l view condition body otherwise place mid × (variables next ≡ variables view)
+  Does l view stack (Head loop) next place mid = (stack ≡ []) × Loops l view loop place mid × (variables next ≡ variables view)
+  Does l view stack (Turn loop) next place mid = (stack ≡ []) × (head : ℕ) × At f.instrs place (instrs.Loop head) × Loops l view loop head mid × (variables next ≡ variables view)
+  Does l view stack (Store destinations values) next place mid = Storing l view stack destinations values next place mid
+  Does l view stack (GiveBack v) next place mid = (stack ≡ v) × At f.instrs place instrs.Return × IsResult result v
+  Does l view stack task next place mid = ⊥
+
+  -- where a loop's body ends
+  abbrev pub Turns : Loop → Around → View → ℕ → Option ℕ → Option ℕ → Type 0
+  Turns (Ranging destinations zero body) l view head out post_at = ⊥
+  Turns (Repeating condition post body) l view head out post_at =
+      Looping l view condition post body head out
+      × IfSome post_at (λ m. (turn : ℕ) × IsOn l (post_made view body post).plan m (Some turn) × At f.instrs turn (instrs.Loop head))
+
+  -- the code from a place on, with this stack, does what is still to be done; what is never reached has no place
+  abbrev pub Sits : View → Around → Option ℕ → List Word → List Task → Type 0
+  Sits view l place stack [] = (l ≡ nowhere) × IfSome place (λ p. (stack ≡ []) × IsOn nowhere (pushes_zeros (result_kinds (globals file) elements result) Stop) p None)
+  Sits view l place stack (EndBlock ∷ rest) = (outer : View) × Inner outer view × (to : Option ℕ) × IfSome place (λ p. (stack ≡ []) × Leads f.instrs p to) × Sits outer l to [] rest
+  Sits view l place stack (EndSelect ∷ rest) =
+      (outer : View) × Inner outer view × (around : Around) × (l.again ≡ around.again) × (to : Option ℕ) × LeadsOn l.leave to × IfSome place (λ p. (stack ≡ []) × Leads f.instrs p to) × Sits outer around to [] rest
+  Sits view l place stack (Again loop ∷ rest) =
+      (outer : View) × Inner outer view × (around : Around) × (next : View) × Together outer next × (variables next ≡ variables outer) × (head : ℕ) × (out : Option ℕ) × (l.leave ≡ out) × Turns loop around outer head out l.again
+      × IfSome place (λ p. (stack ≡ []) × (l.again ≡ Some p)) × (to : Option ℕ) × LeadsOn out to × Sits next around to [] rest
+  Sits view l place stack (task ∷ rest) =
+      (next : View) × Together view next × (mid : Option ℕ) × IfSome place (λ p. Does l view stack task next p mid) × (to : Option ℕ) × LeadsOn mid to × Sits next l to [] rest
