@@ -18,3 +18,4 @@ pub mod Noted
 pub mod Known
 pub mod Tables
 pub mod Passed
+pub mod Called

@@ -3,7 +3,6 @@ pub mod Pushing
 pub mod Operands
 pub mod Emitted
 pub mod Spots
-pub mod Called
 pub mod Requests
 pub mod Operations
 pub mod Simple

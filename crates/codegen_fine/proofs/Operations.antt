@@ -31,7 +31,7 @@ use Rattle.plan.proofs.Typed.{Typed}
 use Rattle.codegen_fine.proofs.Pushing.{Puts, puts_int}
 use Rattle.codegen_fine.proofs.Operands.{Grounds, Housed, P}
 use Rattle.codegen_fine.proofs.Emitted.{all_kinds, AllNoted, typed_emits, typed_pushes, typed_pushes_all}
-use Rattle.codegen_fine.proofs.Called.{KindsKnown, calls}
+use Rattle.codegen_base.proofs.Called.{KindsKnown, calls}
 use Rattle.codegen_fine.proofs.Requests.{receives_typed, makes_typed, lengths_typed, capacities_typed, calls_typed}
 
 -- what is so of the functions of a program: the code's are there, with the kinds of their parameters and results, which are noted

@@ -1,5 +1,4 @@
 pub mod Paths
-pub mod Called
 pub mod Stands
 pub mod Unwound
 pub mod Grown
