@@ -1,0 +1,279 @@
+//! What loops do.
+
+ghost use Rattle.std.specs.Prelude.{◌≡◌, ◌∷◌, [], Bool, ℕ, List, IfErr, IfOk, OnOk, None, Some, option_map};
+ghost use Rattle.syntax.specs.Tree.{Range as RangeHead};
+ghost use Rattle.syntax.specs.View.{body_of, expression_of, file_of, for_head_of, simple_of, target_of};
+ghost use Rattle.type_table.specs.Views.{kind_of};
+ghost use Rattle.type_table.specs.Visible.{globals_in, types_of};
+ghost use Rattle.word.specs.declared.value.Word.TheVariants.{Bool as Truth, Chan};
+ghost use Rattle.meaning.specs.Expressions.{word_in};
+ghost use Rattle.meaning.specs.Source.{again_next, body_next, channel_in, for_next, globals, head_next, item_destinations, keeps};
+ghost use Rattle.meaning.specs.Tasks.{Head, Repeating, frame};
+ghost use Rattle.meaning.specs.Variables.{blank, declare, entered, holding, in_block, innermost, value_of};
+ghost use Rattle.reference_value.specs.Destinations.{destinations_of};
+ghost use Rattle.reference_value.specs.Scopes.{blocks_of};
+ghost use Rattle.reference_value.specs.Values.{values_of};
+ghost use Rattle.reference_base.specs.Steps.{Goes, Panics};
+ghost use Rattle.reference_base.specs.Tasks.{expression_in, frame_of, frames_of, loop_of, simple_in, tasks_of};
+
+use reference_base::operand::{channel, channel_in, one, truth_in, zero_of};
+use reference_base::program::Program;
+use reference_base::task::{Frame, Loop, Purpose, Range, Repeat, Task};
+use reference_value::fault::Stop;
+use reference_value::kind::{element_kind, kind_in};
+use reference_value::place::{Destination, holding, new, placed};
+use reference_value::scope::Scope;
+use reference_value::words::{single, word_in};
+use std::alloc::{AllocError, Global};
+use syntax::node::{ForHeader, RangeTarget};
+use syntax::{ExpressionNode, SimpleNode, StatementNode};
+use type_table::table::TypeTable;
+use type_table::value_type::ValueType;
+use word::request::Request;
+use word::value::Word;
+
+/// The channel that a loop over one keeps.
+fn kept(scope: &Scope<'_>) -> Option<u32>
+    ensures { (types : List (List ℕ)) → result ≡ channel_in (word_in (value_of (in_block (innermost (blocks_of types scope.now)) blank))) }
+{
+    match scope.own(b"_") {
+        Some(variable) => channel_in(word_in(variable.words.as_slice())),
+        None => None,
+    }
+}
+
+/// Keeps a channel in a block of its own.
+fn keep_in<'t>(
+    alloc: Global,
+    table: &TypeTable<'t>,
+    scope: &mut Scope<'t>,
+    kind: ValueType<'t>,
+    c: Option<u32>,
+) -> Result<(), AllocError>
+    ensures { OnOk result (blocks_of (types_of table.now) scope.new ≡ declare (holding (globals_in table.now).structs blank (kind_of (types_of table.now) kind.entry) (Chan c ∷ [])) (entered (blocks_of (types_of table.now) scope.old))) }
+{
+    let words = single(alloc, Word::Chan(c))?;
+    let variable = holding(alloc, table, b"_", kind, words.as_slice())?;
+    scope.enter(alloc)?;
+    scope.declare(alloc, variable)?;
+    Ok(())
+}
+
+/// The channel of a loop is kept in a block of its own.
+fn keep<'t>(
+    alloc: Global,
+    program: &Program<'t>,
+    scope: &mut Scope<'t>,
+    kind: ValueType<'t>,
+    c: Option<u32>,
+) -> Result<(), AllocError>
+    ensures { OnOk result (blocks_of (types_of program.now.table) scope.new ≡ keeps (file_of program.now.file.now) (blocks_of (types_of program.now.table) scope.old) [] [] (kind_of (types_of program.now.table) kind.entry) c) }
+{
+    keep_in(alloc, &program.table, scope, kind, c)?;
+    Ok(())
+}
+
+/// Where the items of a loop over a channel go.
+fn item_destinations<'t>(
+    alloc: Global,
+    program: &Program<'t>,
+    scope: &Scope<'t>,
+    kind: ValueType<'t>,
+    target: &'t RangeTarget,
+) -> Result<Vec<Destination<'t>>, AllocError>
+    ensures { IfOk result (λ v. destinations_of (types_of program.now.table) v.items ≡ item_destinations (file_of program.now.file.now) (blocks_of (types_of program.now.table) scope.now) [] [] (kind_of (types_of program.now.table) kind.entry) (target_of target.now)) }
+{
+    let mut all = Vec::new(alloc);
+    match target {
+        RangeTarget::Nothing => {}
+        RangeTarget::Define(name) => all.push(new(name.bytes.as_slice(), kind))?,
+        RangeTarget::Assign(place) => all.push(placed(&program.table, scope, place))?,
+    }
+    Ok(all)
+}
+
+/// A loop over a channel.
+fn ranges<'t>(
+    alloc: Global,
+    program: &Program<'t>,
+    top: &mut Frame<'t>,
+    callers: &[Frame<'t>],
+    target: &'t RangeTarget,
+    from: &'t ExpressionNode,
+    body: &'t [StatementNode],
+) -> Result<(), Stop>
+    ensures ok { OnOk result (Goes (for_next (file_of program.now.file.now) (blocks_of (types_of program.now.table) top.old.scope) (tasks_of (types_of program.now.table) top.old.tasks.items) (frames_of (types_of program.now.table) callers.now) (RangeHead (target_of target.now) (expression_of from.now)) (body_of body.now)) (types_of program.now.table) top.new callers.now) }
+    ensures err { IfErr result (Panics (for_next (file_of program.now.file.now) (blocks_of (types_of program.now.table) top.old.scope) (tasks_of (types_of program.now.table) top.old.tasks.items) (frames_of (types_of program.now.table) callers.now) (RangeHead (target_of target.now) (expression_of from.now)) (body_of body.now))) }
+{
+    let _callers = callers;
+    let c = channel(alloc, program, &top.scope, from)?;
+    let kind = element_kind(&program.table, &top.scope, from);
+    let destinations = item_destinations(alloc, program, &top.scope, kind, target)?;
+    let zero = zero_of(alloc, program, kind)?;
+    let kept_kind = kind_in(&program.table, &top.scope, from);
+    keep(alloc, program, &mut top.scope, kept_kind, c)?;
+    let range = Range {
+        destinations,
+        zero,
+        body,
+    };
+    top.push(Task::EndBlock)?;
+    top.push(Task::Head(Loop::Ranging(Box::new(alloc, range)?)))?;
+    Ok(())
+}
+
+/// A loop with a condition and a post statement is to be done first.
+fn repeats<'t>(
+    alloc: Global,
+    top: &mut Frame<'t>,
+    condition: Option<&'t ExpressionNode>,
+    post: Option<&'t SimpleNode>,
+    body: &'t [StatementNode],
+) -> Result<(), AllocError>
+    ensures { (types : List (List ℕ)) → OnOk result (frame_of types top.new ≡ frame (blocks_of types top.old.scope) (Head (Repeating (expression_in condition.entry) (simple_in post.entry) (body_of body.now)) ∷ tasks_of types top.old.tasks.items)) }
+{
+    let repeat = Repeat {
+        condition,
+        post,
+        body,
+    };
+    top.push(Task::Head(Loop::Repeating(Box::new(alloc, repeat)?)))?;
+    Ok(())
+}
+
+/// A for.
+pub(crate) fn for_loop<'t>(
+    alloc: Global,
+    program: &Program<'t>,
+    top: &mut Frame<'t>,
+    callers: &[Frame<'t>],
+    header: &'t ForHeader,
+    body: &'t [StatementNode],
+) -> Result<(), Stop>
+    ensures ok { OnOk result (Goes (for_next (file_of program.now.file.now) (blocks_of (types_of program.now.table) top.old.scope) (tasks_of (types_of program.now.table) top.old.tasks.items) (frames_of (types_of program.now.table) callers.now) (for_head_of header.now) (body_of body.now)) (types_of program.now.table) top.new callers.now) }
+    ensures err { IfErr result (Panics (for_next (file_of program.now.file.now) (blocks_of (types_of program.now.table) top.old.scope) (tasks_of (types_of program.now.table) top.old.tasks.items) (frames_of (types_of program.now.table) callers.now) (for_head_of header.now) (body_of body.now))) }
+{
+    match header {
+        ForHeader::Forever => {
+            repeats(alloc, top, None, None, body)?;
+            Ok(())
+        }
+        ForHeader::While(condition) => {
+            repeats(alloc, top, Some(condition), None, body)?;
+            Ok(())
+        }
+        ForHeader::Clauses(first, condition, post) => {
+            top.scope.enter(alloc)?;
+            top.push(Task::EndBlock)?;
+            repeats(alloc, top, condition.as_ref(), post.as_ref(), body)?;
+            match first {
+                Some(first) => top.push(Task::Simply(Box::new(alloc, first)?))?,
+                None => {}
+            }
+            Ok(())
+        }
+        ForHeader::Range(target, from) => {
+            ranges(alloc, program, top, callers, target, from, body)
+        }
+    }
+}
+
+/// What a loop over a channel asks for: the next item.
+fn next_zeros(alloc: Global, zero: &[Word]) -> Result<Vec<Vec<Word>>, AllocError>
+    ensures { IfOk result (λ v. values_of v.items ≡ zero.now ∷ ((Truth Bool.false ∷ []) ∷ [])) }
+{
+    let item = Vec::from_slice(alloc, zero)?;
+    let sent = single(alloc, Word::Bool(false))?;
+    let mut all = Vec::new(alloc);
+    all.push(item)?;
+    all.push(sent)?;
+    Ok(all)
+}
+
+/// A loop goes into its body.
+pub(crate) fn turn<'t>(
+    alloc: Global,
+    program: &Program<'t>,
+    top: &mut Frame<'t>,
+    callers: &[Frame<'t>],
+    at: Loop<'t>,
+    body: &'t [StatementNode],
+) -> Result<(), Stop>
+    ensures ok { OnOk result (Goes (body_next (file_of program.now.file.now) (blocks_of (types_of program.now.table) top.old.scope) (tasks_of (types_of program.now.table) top.old.tasks.items) (frames_of (types_of program.now.table) callers.now) (loop_of (types_of program.now.table) at.entry) (body_of body.now)) (types_of program.now.table) top.new callers.now) }
+    ensures err { IfErr result (Panics (body_next (file_of program.now.file.now) (blocks_of (types_of program.now.table) top.old.scope) (tasks_of (types_of program.now.table) top.old.tasks.items) (frames_of (types_of program.now.table) callers.now) (loop_of (types_of program.now.table) at.entry) (body_of body.now))) }
+{
+    let _program = program;
+    let _callers = callers;
+    top.scope.enter(alloc)?;
+    top.push(Task::Again(at))?;
+    top.push_all(alloc, body)?;
+    Ok(())
+}
+
+/// A loop at its head.
+pub(crate) fn head<'t>(
+    alloc: Global,
+    program: &Program<'t>,
+    top: &mut Frame<'t>,
+    callers: &[Frame<'t>],
+    at: Loop<'t>,
+) -> Result<(), Stop>
+    ensures ok { OnOk result (Goes (head_next (file_of program.now.file.now) (blocks_of (types_of program.now.table) top.old.scope) (tasks_of (types_of program.now.table) top.old.tasks.items) (frames_of (types_of program.now.table) callers.now) (loop_of (types_of program.now.table) at.entry)) (types_of program.now.table) top.new callers.now) }
+    ensures err { IfErr result (Panics (head_next (file_of program.now.file.now) (blocks_of (types_of program.now.table) top.old.scope) (tasks_of (types_of program.now.table) top.old.tasks.items) (frames_of (types_of program.now.table) callers.now) (loop_of (types_of program.now.table) at.entry))) }
+{
+    match at {
+        Loop::Ranging(range) => {
+            let c = kept(&top.scope);
+            let zeros = next_zeros(alloc, range.zero.as_slice())?;
+            let purpose = Purpose::NextItem(Loop::Ranging(range));
+            top.push(Task::Ask(Request::Receive(c), zeros, purpose))?;
+            Ok(())
+        }
+        Loop::Repeating(repeat) => {
+            let goes_on = match repeat.condition {
+                None => true,
+                Some(condition) => truth_in(one(alloc, program, &top.scope, condition)?),
+            };
+            if !goes_on {
+                return Ok(());
+            }
+            let body = repeat.body;
+            turn(alloc, program, top, callers, Loop::Repeating(repeat), body)
+        }
+    }
+}
+
+/// A loop at the end of its body.
+pub(crate) fn again<'t>(
+    alloc: Global,
+    program: &Program<'t>,
+    top: &mut Frame<'t>,
+    callers: &[Frame<'t>],
+    at: Loop<'t>,
+) -> Result<(), Stop>
+    ensures ok { OnOk result (Goes (again_next (file_of program.now.file.now) (blocks_of (types_of program.now.table) top.old.scope) (tasks_of (types_of program.now.table) top.old.tasks.items) (frames_of (types_of program.now.table) callers.now) (loop_of (types_of program.now.table) at.entry)) (types_of program.now.table) top.new callers.now) }
+    ensures err { IfErr result (Panics (again_next (file_of program.now.file.now) (blocks_of (types_of program.now.table) top.old.scope) (tasks_of (types_of program.now.table) top.old.tasks.items) (frames_of (types_of program.now.table) callers.now) (loop_of (types_of program.now.table) at.entry))) }
+{
+    let _program = program;
+    let _callers = callers;
+    top.scope.leave();
+    match at {
+        Loop::Ranging(range) => {
+            top.push(Task::Turn(Loop::Ranging(range)))?;
+            Ok(())
+        }
+        Loop::Repeating(repeat) => match repeat.post {
+            None => {
+                top.push(Task::Turn(Loop::Repeating(repeat)))?;
+                Ok(())
+            }
+            Some(post) => {
+                top.scope.enter(alloc)?;
+                top.push(Task::Turn(Loop::Repeating(repeat)))?;
+                top.push(Task::EndBlock)?;
+                top.push(Task::Simply(Box::new(alloc, post)?))?;
+                Ok(())
+            }
+        },
+    }
+}
