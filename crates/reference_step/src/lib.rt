@@ -5,3 +5,4 @@ mod loops;
 mod places;
 mod simple;
 mod statement;
+mod variables;
