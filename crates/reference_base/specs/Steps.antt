@@ -13,10 +13,10 @@ use Rattle.reference_base.specs.declared.outcome.Step.{Step}
 use Rattle.reference_base.specs.declared.outcome.Step.TheVariants as steps
 use Rattle.reference_base.specs.declared.task.Frame.{Frame}
 
--- a panic is what is asked next; want of memory says nothing
-abbrev pub Panics : Next Frames → Stop → Type 0
-Panics next stops.Memory = Unit {0}
-Panics next (stops.Panics cause) = next ≡ Asks (Panic cause)
+-- a panic is what is asked next, and the function that runs stays as it was; want of memory says nothing
+abbrev pub Panics : Next Frames → List (List ℕ) → Frame → Frame → Stop → Type 0
+Panics next types new old stops.Memory = Unit {0}
+Panics next types new old (stops.Panics cause) = (next ≡ Asks (Panic cause)) × (frame_of types new ≡ frame_of types old)
 
 -- the function that runs and its callers go on so
 abbrev pub Goes : Next Frames → List (List ℕ) → Frame → List Frame → Type 0

@@ -103,7 +103,7 @@ fn ranges<'t>(
     body: &'t [StatementNode],
 ) -> Result<(), Stop>
     ensures ok { OnOk result (Goes (for_next (file_of program.now.file.now) (blocks_of (types_of program.now.table) top.old.scope) (tasks_of (types_of program.now.table) top.old.tasks.items) (frames_of (types_of program.now.table) callers.now) (RangeHead (target_of target.now) (expression_of from.now)) (body_of body.now)) (types_of program.now.table) top.new callers.now) }
-    ensures err { IfErr result (Panics (for_next (file_of program.now.file.now) (blocks_of (types_of program.now.table) top.old.scope) (tasks_of (types_of program.now.table) top.old.tasks.items) (frames_of (types_of program.now.table) callers.now) (RangeHead (target_of target.now) (expression_of from.now)) (body_of body.now))) }
+    ensures err { IfErr result (Panics (for_next (file_of program.now.file.now) (blocks_of (types_of program.now.table) top.old.scope) (tasks_of (types_of program.now.table) top.old.tasks.items) (frames_of (types_of program.now.table) callers.now) (RangeHead (target_of target.now) (expression_of from.now)) (body_of body.now)) (types_of program.now.table) top.new top.old) }
 {
     let _callers = callers;
     let c = channel(alloc, program, &top.scope, from)?;
@@ -151,7 +151,7 @@ pub(crate) fn for_loop<'t>(
     body: &'t [StatementNode],
 ) -> Result<(), Stop>
     ensures ok { OnOk result (Goes (for_next (file_of program.now.file.now) (blocks_of (types_of program.now.table) top.old.scope) (tasks_of (types_of program.now.table) top.old.tasks.items) (frames_of (types_of program.now.table) callers.now) (for_head_of header.now) (body_of body.now)) (types_of program.now.table) top.new callers.now) }
-    ensures err { IfErr result (Panics (for_next (file_of program.now.file.now) (blocks_of (types_of program.now.table) top.old.scope) (tasks_of (types_of program.now.table) top.old.tasks.items) (frames_of (types_of program.now.table) callers.now) (for_head_of header.now) (body_of body.now))) }
+    ensures err { IfErr result (Panics (for_next (file_of program.now.file.now) (blocks_of (types_of program.now.table) top.old.scope) (tasks_of (types_of program.now.table) top.old.tasks.items) (frames_of (types_of program.now.table) callers.now) (for_head_of header.now) (body_of body.now)) (types_of program.now.table) top.new top.old) }
 {
     match header {
         ForHeader::Forever => {
@@ -200,7 +200,7 @@ pub(crate) fn turn<'t>(
     body: &'t [StatementNode],
 ) -> Result<(), Stop>
     ensures ok { OnOk result (Goes (body_next (file_of program.now.file.now) (blocks_of (types_of program.now.table) top.old.scope) (tasks_of (types_of program.now.table) top.old.tasks.items) (frames_of (types_of program.now.table) callers.now) (loop_of (types_of program.now.table) at.entry) (body_of body.now)) (types_of program.now.table) top.new callers.now) }
-    ensures err { IfErr result (Panics (body_next (file_of program.now.file.now) (blocks_of (types_of program.now.table) top.old.scope) (tasks_of (types_of program.now.table) top.old.tasks.items) (frames_of (types_of program.now.table) callers.now) (loop_of (types_of program.now.table) at.entry) (body_of body.now))) }
+    ensures err { IfErr result (Panics (body_next (file_of program.now.file.now) (blocks_of (types_of program.now.table) top.old.scope) (tasks_of (types_of program.now.table) top.old.tasks.items) (frames_of (types_of program.now.table) callers.now) (loop_of (types_of program.now.table) at.entry) (body_of body.now)) (types_of program.now.table) top.new top.old) }
 {
     let _program = program;
     let _callers = callers;
@@ -219,7 +219,7 @@ pub(crate) fn head<'t>(
     at: Loop<'t>,
 ) -> Result<(), Stop>
     ensures ok { OnOk result (Goes (head_next (file_of program.now.file.now) (blocks_of (types_of program.now.table) top.old.scope) (tasks_of (types_of program.now.table) top.old.tasks.items) (frames_of (types_of program.now.table) callers.now) (loop_of (types_of program.now.table) at.entry)) (types_of program.now.table) top.new callers.now) }
-    ensures err { IfErr result (Panics (head_next (file_of program.now.file.now) (blocks_of (types_of program.now.table) top.old.scope) (tasks_of (types_of program.now.table) top.old.tasks.items) (frames_of (types_of program.now.table) callers.now) (loop_of (types_of program.now.table) at.entry))) }
+    ensures err { IfErr result (Panics (head_next (file_of program.now.file.now) (blocks_of (types_of program.now.table) top.old.scope) (tasks_of (types_of program.now.table) top.old.tasks.items) (frames_of (types_of program.now.table) callers.now) (loop_of (types_of program.now.table) at.entry)) (types_of program.now.table) top.new top.old) }
 {
     match at {
         Loop::Ranging(range) => {
@@ -252,7 +252,7 @@ pub(crate) fn again<'t>(
     at: Loop<'t>,
 ) -> Result<(), Stop>
     ensures ok { OnOk result (Goes (again_next (file_of program.now.file.now) (blocks_of (types_of program.now.table) top.old.scope) (tasks_of (types_of program.now.table) top.old.tasks.items) (frames_of (types_of program.now.table) callers.now) (loop_of (types_of program.now.table) at.entry)) (types_of program.now.table) top.new callers.now) }
-    ensures err { IfErr result (Panics (again_next (file_of program.now.file.now) (blocks_of (types_of program.now.table) top.old.scope) (tasks_of (types_of program.now.table) top.old.tasks.items) (frames_of (types_of program.now.table) callers.now) (loop_of (types_of program.now.table) at.entry))) }
+    ensures err { IfErr result (Panics (again_next (file_of program.now.file.now) (blocks_of (types_of program.now.table) top.old.scope) (tasks_of (types_of program.now.table) top.old.tasks.items) (frames_of (types_of program.now.table) callers.now) (loop_of (types_of program.now.table) at.entry)) (types_of program.now.table) top.new top.old) }
 {
     let _program = program;
     let _callers = callers;

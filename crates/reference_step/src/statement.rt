@@ -68,7 +68,7 @@ pub(crate) fn block<'t>(
     body: &'t [StatementNode],
 ) -> Result<(), Stop>
     ensures ok { OnOk result (Goes (enters_block (file_of program.now.file.now) (blocks_of (types_of program.now.table) top.old.scope) (tasks_of (types_of program.now.table) top.old.tasks.items) (frames_of (types_of program.now.table) callers.now) (all_of (body_of body.now))) (types_of program.now.table) top.new callers.now) }
-    ensures err { IfErr result (Panics (enters_block (file_of program.now.file.now) (blocks_of (types_of program.now.table) top.old.scope) (tasks_of (types_of program.now.table) top.old.tasks.items) (frames_of (types_of program.now.table) callers.now) (all_of (body_of body.now)))) }
+    ensures err { IfErr result (Panics (enters_block (file_of program.now.file.now) (blocks_of (types_of program.now.table) top.old.scope) (tasks_of (types_of program.now.table) top.old.tasks.items) (frames_of (types_of program.now.table) callers.now) (all_of (body_of body.now))) (types_of program.now.table) top.new top.old) }
 {
     let _program = program;
     let _callers = callers;
@@ -87,7 +87,7 @@ pub(crate) fn branch<'t>(
     branch: &'t IfNode,
 ) -> Result<(), Stop>
     ensures ok { OnOk result (Goes (branch_next (file_of program.now.file.now) (blocks_of (types_of program.now.table) top.old.scope) (tasks_of (types_of program.now.table) top.old.tasks.items) (frames_of (types_of program.now.table) callers.now) (branch_of branch.now)) (types_of program.now.table) top.new callers.now) }
-    ensures err { IfErr result (Panics (branch_next (file_of program.now.file.now) (blocks_of (types_of program.now.table) top.old.scope) (tasks_of (types_of program.now.table) top.old.tasks.items) (frames_of (types_of program.now.table) callers.now) (branch_of branch.now))) }
+    ensures err { IfErr result (Panics (branch_next (file_of program.now.file.now) (blocks_of (types_of program.now.table) top.old.scope) (tasks_of (types_of program.now.table) top.old.tasks.items) (frames_of (types_of program.now.table) callers.now) (branch_of branch.now)) (types_of program.now.table) top.new top.old) }
 {
     let _program = program;
     let _callers = callers;
@@ -111,7 +111,7 @@ fn otherwise<'t>(
     otherwise: &'t ElseNode,
 ) -> Result<(), Stop>
     ensures ok { OnOk result (Goes (otherwise_next (file_of program.now.file.now) (blocks_of (types_of program.now.table) top.old.scope) (tasks_of (types_of program.now.table) top.old.tasks.items) (frames_of (types_of program.now.table) callers.now) (otherwise_of otherwise.now)) (types_of program.now.table) top.new callers.now) }
-    ensures err { IfErr result (Panics (otherwise_next (file_of program.now.file.now) (blocks_of (types_of program.now.table) top.old.scope) (tasks_of (types_of program.now.table) top.old.tasks.items) (frames_of (types_of program.now.table) callers.now) (otherwise_of otherwise.now))) }
+    ensures err { IfErr result (Panics (otherwise_next (file_of program.now.file.now) (blocks_of (types_of program.now.table) top.old.scope) (tasks_of (types_of program.now.table) top.old.tasks.items) (frames_of (types_of program.now.table) callers.now) (otherwise_of otherwise.now)) (types_of program.now.table) top.new top.old) }
 {
     match otherwise {
         ElseNode::Nothing => Ok(()),
@@ -133,7 +133,7 @@ pub(crate) fn decide<'t>(
     branch: &'t IfNode,
 ) -> Result<(), Stop>
     ensures ok { OnOk result (Goes (task_next (file_of program.now.file.now) (blocks_of (types_of program.now.table) top.old.scope) (tasks_of (types_of program.now.table) top.old.tasks.items) (frames_of (types_of program.now.table) callers.now) (decided (branch_of branch.now))) (types_of program.now.table) top.new callers.now) }
-    ensures err { IfErr result (Panics (task_next (file_of program.now.file.now) (blocks_of (types_of program.now.table) top.old.scope) (tasks_of (types_of program.now.table) top.old.tasks.items) (frames_of (types_of program.now.table) callers.now) (decided (branch_of branch.now)))) }
+    ensures err { IfErr result (Panics (task_next (file_of program.now.file.now) (blocks_of (types_of program.now.table) top.old.scope) (tasks_of (types_of program.now.table) top.old.tasks.items) (frames_of (types_of program.now.table) callers.now) (decided (branch_of branch.now))) (types_of program.now.table) top.new top.old) }
 {
     let word = one(alloc, program, &top.scope, &branch.condition)?;
     if truth_in(word) {
@@ -151,7 +151,7 @@ pub(crate) fn back<'t>(
     returned: &'t ReturnNode,
 ) -> Result<Move<'t>, Stop>
     ensures ok { IfOk result (λ move. Went (return_next (file_of program.now.file.now) (blocks_of (types_of program.now.table) top.old.scope) (tasks_of (types_of program.now.table) top.old.tasks.items) (frames_of (types_of program.now.table) callers.now) (returned_of returned.now)) (types_of program.now.table) move top.new callers.now) }
-    ensures err { IfErr result (Panics (return_next (file_of program.now.file.now) (blocks_of (types_of program.now.table) top.old.scope) (tasks_of (types_of program.now.table) top.old.tasks.items) (frames_of (types_of program.now.table) callers.now) (returned_of returned.now))) }
+    ensures err { IfErr result (Panics (return_next (file_of program.now.file.now) (blocks_of (types_of program.now.table) top.old.scope) (tasks_of (types_of program.now.table) top.old.tasks.items) (frames_of (types_of program.now.table) callers.now) (returned_of returned.now)) (types_of program.now.table) top.new top.old) }
 {
     match returned {
         ReturnNode::Nothing => {

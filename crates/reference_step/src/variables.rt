@@ -63,7 +63,7 @@ pub(crate) fn zeroed<'t>(
     kind: &'t TypeNode,
 ) -> Result<(), Stop>
     ensures ok { OnOk result (Goes (statement_next (file_of program.now.file.now) (blocks_of (types_of program.now.table) top.old.scope) (tasks_of (types_of program.now.table) top.old.tasks.items) (frames_of (types_of program.now.table) callers.now) (VarTyped (map name_of names.now) (type_of kind.now) None)) (types_of program.now.table) top.new callers.now) }
-    ensures err { IfErr result (Panics (statement_next (file_of program.now.file.now) (blocks_of (types_of program.now.table) top.old.scope) (tasks_of (types_of program.now.table) top.old.tasks.items) (frames_of (types_of program.now.table) callers.now) (VarTyped (map name_of names.now) (type_of kind.now) None))) }
+    ensures err { IfErr result (Panics (statement_next (file_of program.now.file.now) (blocks_of (types_of program.now.table) top.old.scope) (tasks_of (types_of program.now.table) top.old.tasks.items) (frames_of (types_of program.now.table) callers.now) (VarTyped (map name_of names.now) (type_of kind.now) None)) (types_of program.now.table) top.new top.old) }
 {
     let _callers = callers;
     let destinations = typed(alloc, program, &top.scope, names, kind)?;
@@ -83,7 +83,7 @@ pub(crate) fn typed_values<'t>(
     right: &'t RightNode,
 ) -> Result<Move<'t>, Stop>
     ensures ok { IfOk result (λ move. Went (statement_next (file_of program.now.file.now) (blocks_of (types_of program.now.table) top.old.scope) (tasks_of (types_of program.now.table) top.old.tasks.items) (frames_of (types_of program.now.table) callers.now) (VarTyped (map name_of names.now) (type_of kind.now) (Some (right_of right.now)))) (types_of program.now.table) move top.new callers.now) }
-    ensures err { IfErr result (Panics (statement_next (file_of program.now.file.now) (blocks_of (types_of program.now.table) top.old.scope) (tasks_of (types_of program.now.table) top.old.tasks.items) (frames_of (types_of program.now.table) callers.now) (VarTyped (map name_of names.now) (type_of kind.now) (Some (right_of right.now))))) }
+    ensures err { IfErr result (Panics (statement_next (file_of program.now.file.now) (blocks_of (types_of program.now.table) top.old.scope) (tasks_of (types_of program.now.table) top.old.tasks.items) (frames_of (types_of program.now.table) callers.now) (VarTyped (map name_of names.now) (type_of kind.now) (Some (right_of right.now)))) (types_of program.now.table) top.new top.old) }
 {
     let destinations = typed(alloc, program, &top.scope, names, kind)?;
     gives(alloc, program, top, callers, destinations, right)
@@ -99,7 +99,7 @@ pub(crate) fn untyped_values<'t>(
     right: &'t RightNode,
 ) -> Result<Move<'t>, Stop>
     ensures ok { IfOk result (λ move. Went (statement_next (file_of program.now.file.now) (blocks_of (types_of program.now.table) top.old.scope) (tasks_of (types_of program.now.table) top.old.tasks.items) (frames_of (types_of program.now.table) callers.now) (VarUntyped (map name_of names.now) (right_of right.now))) (types_of program.now.table) move top.new callers.now) }
-    ensures err { IfErr result (Panics (statement_next (file_of program.now.file.now) (blocks_of (types_of program.now.table) top.old.scope) (tasks_of (types_of program.now.table) top.old.tasks.items) (frames_of (types_of program.now.table) callers.now) (VarUntyped (map name_of names.now) (right_of right.now)))) }
+    ensures err { IfErr result (Panics (statement_next (file_of program.now.file.now) (blocks_of (types_of program.now.table) top.old.scope) (tasks_of (types_of program.now.table) top.old.tasks.items) (frames_of (types_of program.now.table) callers.now) (VarUntyped (map name_of names.now) (right_of right.now))) (types_of program.now.table) top.new top.old) }
 {
     let destinations = untyped(alloc, program, &top.scope, names, right)?;
     gives(alloc, program, top, callers, destinations, right)
