@@ -1,6 +1,7 @@
 -- How many functions a file declares, and the values of their parameters.
-use Rattle.std.proofs.Common.{◌≡◌, ℕ, ◌+◌, ◌<◌, ◌≤◌, ◌^◌, List, [], ◌∷◌, map, length, take, drop, sum_by, refl, ap, arith}
+use Rattle.std.proofs.Common.{◌≡◌, ℕ, suc, ◌<◌, ◌≤◌, ◌^◌, List, [], ◌∷◌, map, length, take, drop, sum_by, refl, ap, arith}
 use Rattle.std.proofs.lemmas.List.{length-map}
+use Rattle.std.proofs.lemmas.List.Sums.{sum_by-cons}
 use Rattle.syntax.specs.Measures.{size, top_size}
 use Rattle.syntax.specs.Tree.{File, StructTop, FunctionTop, Top}
 use Rattle.type_table.specs.Containment.{Field}
@@ -17,8 +18,12 @@ use Rattle.reference_base.specs.Calls.{settled}
 -- a function is a node at least
 nodes_of_functions : (types : List (List ℕ)) (tops : List Top) → length (signatures types tops) ≤ sum_by top_size tops
 nodes_of_functions types [] = omega arith
-nodes_of_functions types (StructTop struct ∷ rest) = omega (arith, nodes_of_functions types rest)
-nodes_of_functions types (FunctionTop function ∷ rest) = omega (arith, nodes_of_functions types rest)
+nodes_of_functions types (StructTop struct ∷ rest) =
+    let none : length (signatures types (StructTop struct ∷ rest)) ≡ length (signatures types rest) = refl in
+    omega (arith, sum_by-cons top_size (StructTop struct) rest, nodes_of_functions types rest)
+nodes_of_functions types (FunctionTop function ∷ rest) =
+    let one : length (signatures types (FunctionTop function ∷ rest)) ≡ suc (length (signatures types rest)) = refl in
+    omega (arith, sum_by-cons top_size (FunctionTop function) rest, nodes_of_functions types rest)
 
 -- a file with fewer than 2^32 nodes declares fewer than 2^32 functions
 pub few_functions : (table : TypeTable) (file : File) → globals_in table ≡ globals_of file.tops → size file < 2 ^ 32 → length table.functions.items < 2 ^ 32
