@@ -10,7 +10,6 @@ use reference_base::program::Program;
 use std::alloc::{AllocError, Global};
 
 /// The program that a checked tree is.
-#[tactic(auto, using(crate::proofs::Functions::few_functions))]
 pub(crate) fn program_of(alloc: Global, typed: &Typed) -> Result<Program<'_>, AllocError>
     ensures { IfOk result (λ program. file_of program.file.now ≡ tree_of (tree_in typed.now)) }
 {
