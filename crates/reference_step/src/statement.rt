@@ -22,53 +22,48 @@ use syntax::{ElseNode, IfNode, ReturnNode, StatementNode};
 
 /// Leaves a loop or a select.
 #[tactic(auto, using(reference_value::proofs::Lasts::shown_last))]
-pub(crate) fn leave(top: &mut Frame<'_>)
+pub fn leave(top: &mut Frame<'_>)
     ensures { (types : List (List ℕ)) → frame_of types top.new ≡ broken (blocks_of types top.old.scope) (tasks_of types top.old.tasks.items) }
 {
-    match top.tasks.pop() {
-        None => {}
-        Some(Task::EndBlock) => {
-            top.scope.leave();
-            leave(top);
+    while let Some(task) = top.tasks.pop() {
+        match task {
+            Task::EndBlock => top.scope.leave(),
+            Task::Again(_) | Task::EndSelect => {
+                top.scope.leave();
+                return;
+            }
+            _ => {}
         }
-        Some(Task::Again(_) | Task::EndSelect) => top.scope.leave(),
-        Some(_) => leave(top),
     }
 }
 
 /// Goes to the end of a loop's body.
 #[tactic(auto, using(reference_value::proofs::Lasts::shown_last))]
-pub(crate) fn go_on(top: &mut Frame<'_>) -> Result<(), AllocError>
+pub fn go_on(top: &mut Frame<'_>) -> Result<(), AllocError>
     ensures { (types : List (List ℕ)) → OnOk result (frame_of types top.new ≡ continued (blocks_of types top.old.scope) (tasks_of types top.old.tasks.items)) }
 {
-    match top.tasks.pop() {
-        None => Ok(()),
-        Some(Task::EndBlock | Task::EndSelect) => {
-            top.scope.leave();
-            go_on(top)?;
-            Ok(())
-        }
-        Some(Task::Again(again)) => {
-            top.push(Task::Again(again))?;
-            Ok(())
-        }
-        Some(_) => {
-            go_on(top)?;
-            Ok(())
+    while let Some(task) = top.tasks.pop() {
+        match task {
+            Task::EndBlock | Task::EndSelect => top.scope.leave(),
+            Task::Again(again) => {
+                top.push(Task::Again(again))?;
+                return Ok(());
+            }
+            _ => {}
         }
     }
+    Ok(())
 }
 
 /// Goes into a block of these statements.
-pub(crate) fn block<'t>(
+pub fn block<'t>(
     alloc: Global,
     program: &Program<'t>,
     top: &mut Frame<'t>,
     callers: &[Frame<'t>],
     body: &'t [StatementNode],
-) -> Result<(), Stop>
-    ensures ok { OnOk result (Goes (enters_block (file_of program.now.file.now) (blocks_of (types_of program.now.table) top.old.scope) (tasks_of (types_of program.now.table) top.old.tasks.items) (frames_of (types_of program.now.table) callers.now) (all_of (body_of body.now))) (types_of program.now.table) top.new callers.now) }
-    ensures err { IfErr result (Panics (enters_block (file_of program.now.file.now) (blocks_of (types_of program.now.table) top.old.scope) (tasks_of (types_of program.now.table) top.old.tasks.items) (frames_of (types_of program.now.table) callers.now) (all_of (body_of body.now))) (types_of program.now.table) top.new top.old) }
+) -> Result<(), AllocError>
+    ensures { OnOk result (Goes (enters_block (file_of program.now.file.now) (blocks_of (types_of program.now.table) top.old.scope) (tasks_of (types_of program.now.table) top.old.tasks.items) (frames_of (types_of program.now.table) callers.now) (all_of (body_of body.now))) (types_of program.now.table) top.new callers.now) }
 {
     let _program = program;
     let _callers = callers;
@@ -79,15 +74,14 @@ pub(crate) fn block<'t>(
 }
 
 /// An if.
-pub(crate) fn branch<'t>(
+pub fn branch<'t>(
     alloc: Global,
     program: &Program<'t>,
     top: &mut Frame<'t>,
     callers: &[Frame<'t>],
     branch: &'t IfNode,
-) -> Result<(), Stop>
-    ensures ok { OnOk result (Goes (branch_next (file_of program.now.file.now) (blocks_of (types_of program.now.table) top.old.scope) (tasks_of (types_of program.now.table) top.old.tasks.items) (frames_of (types_of program.now.table) callers.now) (branch_of branch.now)) (types_of program.now.table) top.new callers.now) }
-    ensures err { IfErr result (Panics (branch_next (file_of program.now.file.now) (blocks_of (types_of program.now.table) top.old.scope) (tasks_of (types_of program.now.table) top.old.tasks.items) (frames_of (types_of program.now.table) callers.now) (branch_of branch.now)) (types_of program.now.table) top.new top.old) }
+) -> Result<(), AllocError>
+    ensures { OnOk result (Goes (branch_next (file_of program.now.file.now) (blocks_of (types_of program.now.table) top.old.scope) (tasks_of (types_of program.now.table) top.old.tasks.items) (frames_of (types_of program.now.table) callers.now) (branch_of branch.now)) (types_of program.now.table) top.new callers.now) }
 {
     let _program = program;
     let _callers = callers;
@@ -109,9 +103,8 @@ fn otherwise<'t>(
     top: &mut Frame<'t>,
     callers: &[Frame<'t>],
     otherwise: &'t ElseNode,
-) -> Result<(), Stop>
-    ensures ok { OnOk result (Goes (otherwise_next (file_of program.now.file.now) (blocks_of (types_of program.now.table) top.old.scope) (tasks_of (types_of program.now.table) top.old.tasks.items) (frames_of (types_of program.now.table) callers.now) (otherwise_of otherwise.now)) (types_of program.now.table) top.new callers.now) }
-    ensures err { IfErr result (Panics (otherwise_next (file_of program.now.file.now) (blocks_of (types_of program.now.table) top.old.scope) (tasks_of (types_of program.now.table) top.old.tasks.items) (frames_of (types_of program.now.table) callers.now) (otherwise_of otherwise.now)) (types_of program.now.table) top.new top.old) }
+) -> Result<(), AllocError>
+    ensures { OnOk result (Goes (otherwise_next (file_of program.now.file.now) (blocks_of (types_of program.now.table) top.old.scope) (tasks_of (types_of program.now.table) top.old.tasks.items) (frames_of (types_of program.now.table) callers.now) (otherwise_of otherwise.now)) (types_of program.now.table) top.new callers.now) }
 {
     match otherwise {
         ElseNode::Nothing => Ok(()),
@@ -125,7 +118,7 @@ fn otherwise<'t>(
 }
 
 /// An if, behind its first statement.
-pub(crate) fn decide<'t>(
+pub fn decide<'t>(
     alloc: Global,
     program: &Program<'t>,
     top: &mut Frame<'t>,
@@ -137,13 +130,15 @@ pub(crate) fn decide<'t>(
 {
     let word = one(alloc, program, &top.scope, &branch.condition)?;
     if truth_in(word) {
-        return block(alloc, program, top, callers, branch.body.as_slice());
+        block(alloc, program, top, callers, branch.body.as_slice())?;
+        return Ok(());
     }
-    otherwise(alloc, program, top, callers, &branch.otherwise)
+    otherwise(alloc, program, top, callers, &branch.otherwise)?;
+    Ok(())
 }
 
 /// A return.
-pub(crate) fn back<'t>(
+pub fn back<'t>(
     alloc: Global,
     program: &Program<'t>,
     top: &mut Frame<'t>,
