@@ -1,13 +1,11 @@
-// A library with one function.
+//! Whole steps of goroutines as the source says: a task is done, and who asks stays as it was.
 #![tactic(auto)]
 
-ghost use Rattle.std.specs.Prelude.{◌≡◌};
-ghost use Rattle.reference_task.specs.Echo.{echo_of};
+mod outcome;
+mod pending;
+mod request;
+mod statement;
+mod step;
+mod task;
 
-// The `ensures` clause is the contract: what `echo` returns is `echo_of` of its argument, a definition
-// in `specs/Echo.antt`, which a caller's clause can cite too.
-pub fn echo(x: usize) -> usize
-    ensures { result ≡ echo_of x }
-{
-    x
-}
+pub use step::step;
