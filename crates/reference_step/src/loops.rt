@@ -1,14 +1,14 @@
 //! What loops do.
 
-ghost use Rattle.std.specs.Prelude.{◌≡◌, ◌∷◌, [], Bool, ℕ, List, IfErr, IfOk, OnOk, None, Some, option_map};
+ghost use Rattle.std.specs.Prelude.{◌≡◌, ◌++◌, ◌∷◌, [], Bool, ℕ, List, IfErr, IfOk, OnOk, None, Some, option_map};
 ghost use Rattle.syntax.specs.Tree.{Range as RangeHead};
 ghost use Rattle.syntax.specs.View.{body_of, expression_of, file_of, for_head_of, simple_of, target_of};
 ghost use Rattle.type_table.specs.Views.{kind_of};
 ghost use Rattle.type_table.specs.Visible.{globals_in, types_of};
 ghost use Rattle.word.specs.declared.value.Word.TheVariants.{Bool as Truth, Chan};
 ghost use Rattle.meaning.specs.Expressions.{word_in};
-ghost use Rattle.meaning.specs.Source.{again_next, body_next, channel_in, for_next, globals, head_next, item_destinations, keeps};
-ghost use Rattle.meaning.specs.Tasks.{Head, Repeating, frame};
+ghost use Rattle.meaning.specs.Source.{again_next, channel_in, for_next, globals, head_next, item_destinations, keeps};
+ghost use Rattle.meaning.specs.Tasks.{Again, Head, Repeating, all_of, frame};
 ghost use Rattle.meaning.specs.Variables.{blank, declare, entered, holding, in_block, innermost, value_of};
 ghost use Rattle.reference_value.specs.Destinations.{destinations_of};
 ghost use Rattle.reference_value.specs.Scopes.{blocks_of};
@@ -192,18 +192,14 @@ fn next_zeros(alloc: Global, zero: &[Word]) -> Result<Vec<Vec<Word>>, AllocError
 }
 
 /// A loop goes into its body.
-pub(crate) fn turn<'t>(
+fn turn<'t>(
     alloc: Global,
-    program: &Program<'t>,
     top: &mut Frame<'t>,
-    callers: &[Frame<'t>],
     at: Loop<'t>,
     body: &'t [StatementNode],
 ) -> Result<(), AllocError>
-    ensures { OnOk result (Goes (body_next (file_of program.now.file.now) (blocks_of (types_of program.now.table) top.old.scope) (tasks_of (types_of program.now.table) top.old.tasks.items) (frames_of (types_of program.now.table) callers.now) (loop_of (types_of program.now.table) at.entry) (body_of body.now)) (types_of program.now.table) top.new callers.now) }
+    ensures { (types : List (List ℕ)) → OnOk result (frame_of types top.new ≡ frame (entered (blocks_of types top.old.scope)) (all_of (body_of body.now) ++ Again (loop_of types at.entry) ∷ tasks_of types top.old.tasks.items)) }
 {
-    let _program = program;
-    let _callers = callers;
     top.scope.enter(alloc)?;
     top.push(Task::Again(at))?;
     top.push_all(alloc, body)?;
@@ -250,7 +246,7 @@ pub fn repeat<'t>(
         return Ok(());
     }
     let body = at.body;
-    turn(alloc, program, top, callers, Loop::Repeating(at), body)?;
+    turn(alloc, top, Loop::Repeating(at), body)?;
     Ok(())
 }
 

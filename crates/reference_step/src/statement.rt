@@ -1,10 +1,11 @@
 //! What blocks, ifs, loops and returns do.
 
-ghost use Rattle.std.specs.Prelude.{◌≡◌, ℕ, List, IfErr, OnOk, IfOk};
+ghost use Rattle.std.specs.Prelude.{◌≡◌, ◌++◌, ◌∷◌, ℕ, List, IfErr, OnOk, IfOk};
 ghost use Rattle.syntax.specs.View.{body_of, branch_of, file_of, otherwise_of, returned_of};
 ghost use Rattle.type_table.specs.Visible.{types_of};
-ghost use Rattle.meaning.specs.Source.{branch_next, enters_block, otherwise_next, return_next, task_next};
-ghost use Rattle.meaning.specs.Tasks.{all_of, broken, continued};
+ghost use Rattle.meaning.specs.Source.{branch_next, otherwise_next, return_next, task_next};
+ghost use Rattle.meaning.specs.Tasks.{EndBlock, all_of, broken, continued, frame};
+ghost use Rattle.meaning.specs.Variables.{entered};
 ghost use Rattle.reference_value.specs.Scopes.{blocks_of};
 ghost use Rattle.reference_base.specs.Steps.{Goes, Panics, Went};
 ghost use Rattle.reference_base.specs.Tasks.{decided, frame_of, frames_of, tasks_of};
@@ -58,15 +59,11 @@ pub fn go_on(top: &mut Frame<'_>) -> Result<(), AllocError>
 /// Goes into a block of these statements.
 pub fn block<'t>(
     alloc: Global,
-    program: &Program<'t>,
     top: &mut Frame<'t>,
-    callers: &[Frame<'t>],
     body: &'t [StatementNode],
 ) -> Result<(), AllocError>
-    ensures { OnOk result (Goes (enters_block (file_of program.now.file.now) (blocks_of (types_of program.now.table) top.old.scope) (tasks_of (types_of program.now.table) top.old.tasks.items) (frames_of (types_of program.now.table) callers.now) (all_of (body_of body.now))) (types_of program.now.table) top.new callers.now) }
+    ensures { (types : List (List ℕ)) → OnOk result (frame_of types top.new ≡ frame (entered (blocks_of types top.old.scope)) (all_of (body_of body.now) ++ EndBlock ∷ tasks_of types top.old.tasks.items)) }
 {
-    let _program = program;
-    let _callers = callers;
     top.scope.enter(alloc)?;
     top.push(Task::EndBlock)?;
     top.push_all(alloc, body)?;
@@ -108,7 +105,7 @@ fn otherwise<'t>(
 {
     match otherwise {
         ElseNode::Nothing => Ok(()),
-        ElseNode::Block(body) => block(alloc, program, top, callers, body.as_slice()),
+        ElseNode::Block(body) => block(alloc, top, body.as_slice()),
         ElseNode::If(next) => {
             let next: &'t IfNode = next;
             top.push(Task::Branch(Box::new(alloc, next)?))?;
@@ -130,7 +127,7 @@ pub fn decide<'t>(
 {
     let word = one(alloc, program, &top.scope, &branch.condition)?;
     if truth_in(word) {
-        block(alloc, program, top, callers, branch.body.as_slice())?;
+        block(alloc, top, branch.body.as_slice())?;
         return Ok(());
     }
     otherwise(alloc, program, top, callers, &branch.otherwise)?;

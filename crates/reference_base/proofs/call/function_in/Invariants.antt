@@ -4,8 +4,8 @@ use Rattle.meaning.specs.Destinations.{functions_in}
 use Rattle.reference_base.proofs.call.function_in.Given as goal
 
 -- the function with the number that is left, in what is left, is the one that is looked for
-abbrev pub invariant-loop-left : goal.invariant-loop-left
-invariant-loop-left l = slice_get (functions_in (map top_of l.left)) l.before ≡ slice_get (functions_in (map top_of l.tops)) l.number
+abbrev pub invariant-loop-first : goal.invariant-loop-first
+invariant-loop-first l = slice_get (functions_in (map top_of l.left)) l.before ≡ slice_get (functions_in (map top_of l.tops)) l.number
 
-abbrev pub decreases-loop-left : goal.decreases-loop-left
-decreases-loop-left l = length l.left
+abbrev pub decreases-loop-first : goal.decreases-loop-first
+decreases-loop-first l = length l.left
