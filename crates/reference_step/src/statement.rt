@@ -1,11 +1,10 @@
 //! What blocks, ifs, loops and returns do.
 
-ghost use Rattle.std.specs.Prelude.{◌≡◌, ◌++◌, ◌∷◌, ℕ, List, IfErr, OnOk, IfOk};
+ghost use Rattle.std.specs.Prelude.{◌≡◌, ℕ, List, IfErr, OnOk, IfOk};
 ghost use Rattle.syntax.specs.View.{body_of, branch_of, file_of, otherwise_of, returned_of};
 ghost use Rattle.type_table.specs.Visible.{types_of};
-ghost use Rattle.meaning.specs.Source.{branch_next, otherwise_next, return_next, task_next};
-ghost use Rattle.meaning.specs.Tasks.{EndBlock, all_of, broken, continued, frame};
-ghost use Rattle.meaning.specs.Variables.{entered};
+ghost use Rattle.meaning.specs.Source.{branch_next, decides, enters_block, otherwise_next, return_next, task_next};
+ghost use Rattle.meaning.specs.Tasks.{all_of, broken, continued};
 ghost use Rattle.reference_value.specs.Scopes.{blocks_of};
 ghost use Rattle.reference_base.specs.Steps.{Goes, Panics, Went};
 ghost use Rattle.reference_base.specs.Tasks.{decided, frame_of, frames_of, tasks_of};
@@ -20,6 +19,7 @@ use reference_value::value::value;
 use std::alloc::{AllocError, Global};
 use syntax::node::IfHeader;
 use syntax::{ElseNode, IfNode, ReturnNode, StatementNode};
+use word::value::Word;
 
 /// Leaves a loop or a select.
 #[tactic(auto, using(reference_value::proofs::Lasts::shown_last))]
@@ -59,11 +59,15 @@ pub fn go_on(top: &mut Frame<'_>) -> Result<(), AllocError>
 /// Goes into a block of these statements.
 pub fn block<'t>(
     alloc: Global,
+    program: &Program<'t>,
     top: &mut Frame<'t>,
+    callers: &[Frame<'t>],
     body: &'t [StatementNode],
 ) -> Result<(), AllocError>
-    ensures { (types : List (List ℕ)) → OnOk result (frame_of types top.new ≡ frame (entered (blocks_of types top.old.scope)) (all_of (body_of body.now) ++ EndBlock ∷ tasks_of types top.old.tasks.items)) }
+    ensures { OnOk result (Goes (enters_block (file_of program.now.file.now) (blocks_of (types_of program.now.table) top.old.scope) (tasks_of (types_of program.now.table) top.old.tasks.items) (frames_of (types_of program.now.table) callers.now) (all_of (body_of body.now))) (types_of program.now.table) top.new callers.now) }
 {
+    let _program = program;
+    let _callers = callers;
     top.scope.enter(alloc)?;
     top.push(Task::EndBlock)?;
     top.push_all(alloc, body)?;
@@ -105,13 +109,30 @@ fn otherwise<'t>(
 {
     match otherwise {
         ElseNode::Nothing => Ok(()),
-        ElseNode::Block(body) => block(alloc, top, body.as_slice()),
+        ElseNode::Block(body) => block(alloc, program, top, callers, body.as_slice()),
         ElseNode::If(next) => {
             let next: &'t IfNode = next;
             top.push(Task::Branch(Box::new(alloc, next)?))?;
             Ok(())
         }
     }
+}
+
+/// An if whose condition is this word.
+fn decides<'t>(
+    alloc: Global,
+    program: &Program<'t>,
+    top: &mut Frame<'t>,
+    callers: &[Frame<'t>],
+    branch: &'t IfNode,
+    word: Word,
+) -> Result<(), AllocError>
+    ensures { OnOk result (Goes (decides (file_of program.now.file.now) (blocks_of (types_of program.now.table) top.old.scope) (tasks_of (types_of program.now.table) top.old.tasks.items) (frames_of (types_of program.now.table) callers.now) (body_of branch.now.body.items) (otherwise_of branch.now.otherwise) word) (types_of program.now.table) top.new callers.now) }
+{
+    if truth_in(word) {
+        return block(alloc, program, top, callers, branch.body.as_slice());
+    }
+    otherwise(alloc, program, top, callers, &branch.otherwise)
 }
 
 /// An if, behind its first statement.
@@ -126,11 +147,7 @@ pub fn decide<'t>(
     ensures err { IfErr result (Panics (task_next (file_of program.now.file.now) (blocks_of (types_of program.now.table) top.old.scope) (tasks_of (types_of program.now.table) top.old.tasks.items) (frames_of (types_of program.now.table) callers.now) (decided (branch_of branch.now))) (types_of program.now.table) top.new top.old) }
 {
     let word = one(alloc, program, &top.scope, &branch.condition)?;
-    if truth_in(word) {
-        block(alloc, top, branch.body.as_slice())?;
-        return Ok(());
-    }
-    otherwise(alloc, program, top, callers, &branch.otherwise)?;
+    decides(alloc, program, top, callers, branch, word)?;
     Ok(())
 }
 

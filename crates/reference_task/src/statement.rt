@@ -66,7 +66,7 @@ pub(crate) fn statement<'t>(
             untyped_values(alloc, program, top, callers, names.as_slice(), right)
         }
         StatementNode::Block(body) => {
-            block(alloc, top, body.as_slice())?;
+            block(alloc, program, top, callers, body.as_slice())?;
             Ok(Move::Slides)
         }
         StatementNode::If(one) => {

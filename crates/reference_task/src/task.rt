@@ -192,7 +192,7 @@ pub(crate) fn task<'t>(
             Ok(Outcome::Moves(Move::Slides))
         }
         Task::Enclose(body) => {
-            block(alloc, top, *body)?;
+            block(alloc, program, top, callers, *body)?;
             Ok(Outcome::Moves(Move::Slides))
         }
         Task::EndBlock | Task::EndSelect => {
