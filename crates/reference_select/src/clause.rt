@@ -1,11 +1,11 @@
 //! A clause of a select.
 
 ghost use Rattle.std.specs.Prelude.{◌≡◌, [], IfErr, IfOk, Ok, option_map};
-ghost use Rattle.syntax.specs.Tree.{Expression, CommAssign, CommDefine, CommSend};
+ghost use Rattle.syntax.specs.Tree.{CommDefine, CommSend};
 ghost use Rattle.syntax.specs.View.{body_of, comm_of, expression_of, file_of, name_of, place_of};
 ghost use Rattle.type_table.specs.Visible.{types_of};
-ghost use Rattle.meaning.specs.Destinations.{element_kind};
-ghost use Rattle.meaning.specs.Source.{case_of, comm_destinations, comm_zeros, globals, item_zeros, received_case, way_of};
+ghost use Rattle.meaning.specs.Destinations.{element_kind, placed};
+ghost use Rattle.meaning.specs.Source.{case_of, comm_destinations, comm_zeros, globals, item_zeros, one_or_two, received_case, way_of};
 ghost use Rattle.reference_value.specs.Destinations.{destinations_of};
 ghost use Rattle.reference_value.specs.Scopes.{blocks_of};
 ghost use Rattle.reference_value.specs.Stops.{Fails};
@@ -61,7 +61,7 @@ fn sent_case<'t>(
 /// What a clause waits for, as a case of a select.
 ///
 /// Errors: the panic that is met first; want of memory.
-pub fn case_of<'t>(
+pub(crate) fn case_of<'t>(
     alloc: Global,
     program: &Program<'t>,
     scope: &Scope<'t>,
@@ -106,7 +106,7 @@ fn assigned_destinations<'t>(
     item: &'t PlaceNode,
     ok: &'t Option<PlaceNode>,
 ) -> Result<Vec<Destination<'t>>, AllocError>
-    ensures { (from : Expression) → IfOk result (λ v. destinations_of (types_of program.now.table) v.items ≡ comm_destinations (file_of program.now.file.now) (blocks_of (types_of program.now.table) scope.now) [] [] (CommAssign (place_of item.now) (option_map place_of ok.now) from)) }
+    ensures { IfOk result (λ v. destinations_of (types_of program.now.table) v.items ≡ one_or_two (file_of program.now.file.now) (blocks_of (types_of program.now.table) scope.now) [] [] (placed (globals (file_of program.now.file.now)) (blocks_of (types_of program.now.table) scope.now) (place_of item.now)) (option_map (placed (globals (file_of program.now.file.now)) (blocks_of (types_of program.now.table) scope.now)) (option_map place_of ok.now))) }
 {
     let mut all = Vec::new(alloc);
     all.push(placed(&program.table, scope, item))?;
@@ -168,7 +168,7 @@ fn comm_zeros<'t>(
 /// Where a select goes on that did this clause.
 ///
 /// Errors: want of memory.
-pub fn way_of<'t>(
+pub(crate) fn way_of<'t>(
     alloc: Global,
     program: &Program<'t>,
     scope: &Scope<'t>,
