@@ -21,10 +21,10 @@ use syntax::{ClauseNode, StatementNode};
 use word::request::{Case, Request};
 
 /// The cases of a select.
-fn cases_of<'a, 't>(
+fn cases_of<'p, 's, 't>(
     alloc: Global,
-    program: &'a Program<'t>,
-    scope: &'a Scope<'t>,
+    program: &'p Program<'t>,
+    scope: &'s Scope<'t>,
     all: &'t [ClauseNode],
 ) -> Result<Vec<Case>, Stop>
     ensures ok { IfOk result (λ cases. cases_of (file_of program.now.file.now) (blocks_of (types_of program.now.table) scope.now) [] [] (clauses (map clause_of all.now)) ≡ Ok cases.items) }
@@ -45,10 +45,10 @@ fn cases_of<'a, 't>(
 }
 
 /// Where a select goes on, for each of its cases.
-fn ways_of<'a, 't>(
+fn ways_of<'p, 's, 't>(
     alloc: Global,
-    program: &'a Program<'t>,
-    scope: &'a Scope<'t>,
+    program: &'p Program<'t>,
+    scope: &'s Scope<'t>,
     all: &'t [ClauseNode],
 ) -> Result<Vec<Way<'t>>, AllocError>
     ensures { IfOk result (λ ways. map (way_in (types_of program.now.table)) ways.items ≡ ways_of (file_of program.now.file.now) (blocks_of (types_of program.now.table) scope.now) [] [] (clauses (map clause_of all.now))) }
