@@ -2,14 +2,15 @@
 
 ghost use Rattle.std.specs.Option.{is_some};
 ghost use Rattle.std.specs.Prelude.{◌≡◌, [], List, IfErr, IfOk, Ok, OnOk, map, unwrap_or};
-ghost use Rattle.syntax.specs.Tree.{File, NoStatement};
+ghost use Rattle.syntax.specs.Tree.{NoStatement};
 ghost use Rattle.syntax.specs.View.{body_of, clause_of, clauses, file_of};
 ghost use Rattle.type_table.specs.Visible.{types_of};
-ghost use Rattle.meaning.specs.Source.{cases_of, default_of, select_next, ways_of};
+ghost use Rattle.meaning.specs.Source.{cases_of, select_next, ways_of};
 ghost use Rattle.reference_value.specs.Scopes.{blocks_of};
 ghost use Rattle.reference_value.specs.Stops.{Fails};
 ghost use Rattle.reference_base.specs.Steps.{Goes, Panics};
 ghost use Rattle.reference_base.specs.Tasks.{frames_of, tasks_of, way_in};
+ghost use Rattle.reference_select.specs.Selects.{default_in};
 
 use crate::clause::{case_of, way_of};
 use reference_base::program::Program;
@@ -69,7 +70,7 @@ fn ways_of<'p, 's, 't>(
 
 /// Whether a select has a default.
 fn has_default(all: &[ClauseNode]) -> bool
-    ensures { (file : File) → result ≡ is_some (default_of file [] [] [] (clauses (map clause_of all.now))) }
+    ensures { result ≡ is_some (default_in (clauses (map clause_of all.now))) }
 {
     let Some((first, rest)) = all.split_first() else {
         return false;
@@ -82,7 +83,7 @@ fn has_default(all: &[ClauseNode]) -> bool
 
 /// The statements of a select's default.
 fn default_of<'t>(all: &'t [ClauseNode]) -> &'t [StatementNode]
-    ensures { (file : File) → body_of result.now ≡ unwrap_or (default_of file [] [] [] (clauses (map clause_of all.now))) NoStatement }
+    ensures { body_of result.now ≡ unwrap_or (default_in (clauses (map clause_of all.now))) NoStatement }
 {
     let Some((first, rest)) = all.split_first() else {
         return &[];
