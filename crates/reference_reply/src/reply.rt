@@ -83,7 +83,8 @@ fn next_item<'t>(
     let [Word::Bool(true), ..] = sent.as_slice() else {
         return Ok(());
     };
-    with_item(alloc, top, at, values)
+    with_item(alloc, top, at, values)?;
+    Ok(())
 }
 
 /// A select goes on at this clause, which received these words.
@@ -105,6 +106,7 @@ fn at_way<'t>(
 }
 
 /// A select goes on at the clause of this place, which received these words.
+#[tactic(auto, using(crate::proofs::Ways::way_there))]
 fn at_clause<'t>(
     alloc: Global,
     top: &mut Frame<'t>,
@@ -115,7 +117,10 @@ fn at_clause<'t>(
     ensures { (types : List (List ℕ)) → OnOk result (frame_of types top.new ≡ at_clause (blocks_of types top.old.scope) (tasks_of types top.old.tasks.items) words.now (slice_get (map (way_in types) ways.now) place)) }
 {
     match ways.get(place) {
-        Some(way) => at_way(alloc, top, way, words),
+        Some(way) => {
+            at_way(alloc, top, way, words)?;
+            Ok(())
+        }
         None => Ok(()),
     }
 }
@@ -148,9 +153,13 @@ fn chosen<'t>(
         Reply::Clause(number, _) => {
             let words = reply_words(alloc, reply)?;
             let place = number.saturating_sub(1);
-            at_clause(alloc, top, ways, place, words.as_slice())
+            at_clause(alloc, top, ways, place, words.as_slice())?;
+            Ok(())
         }
-        _ => at_default(alloc, top, default),
+        _ => {
+            at_default(alloc, top, default)?;
+            Ok(())
+        }
     }
 }
 
@@ -187,16 +196,21 @@ fn goes_on<'t>(
     ensures { (types : List (List ℕ)) → OnOk result (frame_of types top.new ≡ goes_on (blocks_of types top.old.scope) (tasks_of types top.old.tasks.items) (purpose_of types purpose.entry) (values_of zeros.now) (reply_of reply.now)) }
 {
     match purpose {
-        Purpose::Chosen(ways, default) => chosen(alloc, top, ways.as_slice(), *default, reply),
+        Purpose::Chosen(ways, default) => {
+            chosen(alloc, top, ways.as_slice(), *default, reply)?;
+            Ok(())
+        }
         Purpose::NextItem(at) => {
             let words = reply_words(alloc, reply)?;
             let values = parted(alloc, zeros, words.as_slice())?;
-            next_item(alloc, top, at, values)
+            next_item(alloc, top, at, values)?;
+            Ok(())
         }
         Purpose::Unused | Purpose::GivenBack | Purpose::Assigned(_) => {
             let words = reply_words(alloc, reply)?;
             let values = parted(alloc, zeros, words.as_slice())?;
-            used(alloc, top, purpose, values)
+            used(alloc, top, purpose, values)?;
+            Ok(())
         }
     }
 }
@@ -209,7 +223,8 @@ fn tell<'t>(alloc: Global, top: &mut Frame<'t>, reply: &Reply) -> Result<(), All
     match top.tasks.pop() {
         None => Ok(()),
         Some(Task::Ask(_, zeros, purpose)) => {
-            goes_on(alloc, top, purpose, zeros.as_slice(), reply)
+            goes_on(alloc, top, purpose, zeros.as_slice(), reply)?;
+            Ok(())
         }
         Some(task) => {
             top.push(task)?;
@@ -242,7 +257,8 @@ fn awaited<'t>(alloc: Global, top: &mut Frame<'t>, words: &[Word]) -> Result<(),
             let given = words_like(alloc, zero.as_slice(), words)?;
             let mut values = Vec::new(alloc);
             values.push(given)?;
-            used(alloc, top, purpose, values)
+            used(alloc, top, purpose, values)?;
+            Ok(())
         }
         Some(task) => {
             top.push(task)?;
