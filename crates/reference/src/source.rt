@@ -1,13 +1,13 @@
 //! The source of a program as a kind of goroutine.
 
 use crate::begin::begun;
-use crate::stand_in;
+use crate::stand_in::step;
 use go_text::Memory;
 use one_thread::{Interpreter, Step};
-use reference_base::outcome;
 use reference_base::program::Program;
 use reference_base::start::main_number;
 use reference_base::task::Frame;
+use reference_reply::reply::answer;
 use std::alloc::Global;
 use word::request::Reply;
 use word::value::Word;
@@ -34,15 +34,11 @@ impl<'t> Interpreter for Source<'t> {
     ghost held = { λ source frames. frames_of (types_of source.program.table) frames.items };
 
     fn step(&self, alloc: Global, state: &mut Self::State) -> Result<Step, Memory> {
-        match stand_in::step(alloc, &self.program, state)? {
-            outcome::Step::Slides => Ok(Step::Slides),
-            outcome::Step::Ticks => Ok(Step::Ticks),
-            outcome::Step::Asks(request) => Ok(Step::Asks(request)),
-        }
+        step(alloc, &self.program, state)
     }
 
     fn answer(&self, alloc: Global, state: &mut Self::State, reply: Reply) -> Result<(), Memory> {
-        stand_in::answer(alloc, state, reply)
+        answer(alloc, state, reply)
     }
 
     fn begin(

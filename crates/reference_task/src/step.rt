@@ -1,0 +1,120 @@
+//! Steps of goroutines.
+
+ghost use Rattle.std.specs.Prelude.{◌≡◌, ◌∷◌, ◌≤◌, [], ℕ, List, IfOk, length};
+ghost use Rattle.syntax.specs.View.{file_of};
+ghost use Rattle.type_table.specs.Visible.{types_of};
+ghost use Rattle.meaning.specs.Replies.{give_back};
+ghost use Rattle.meaning.specs.Source.{source_next};
+ghost use Rattle.meaning.specs.Tasks.{Frames, GiveBack};
+ghost use Rattle.one_thread.specs.Steps.{Moves};
+ghost use Rattle.reference_base.specs.Tasks.{frames_of, task_of, tasks_of};
+ghost use Rattle.reference_task.specs.Steps.{Steps};
+
+use crate::outcome::Outcome;
+use crate::pending::{Returned, give_back};
+use crate::task::task;
+use go_text::Memory;
+use one_thread::Step;
+use reference_base::outcome::Move;
+use reference_base::program::Program;
+use reference_base::task::{Frame, Task};
+use std::alloc::Global;
+use word::request::Request;
+use word::value::Word;
+
+/// A function that was called returns.
+fn returns<'t>(alloc: Global, words: Vec<Word>, frames: &mut Vec<Frame<'t>>) -> Result<Step, Memory>
+    requires { 1 ≤ length frames.old.items }
+    ensures { (types : List (List ℕ)) → (old : Frames) → IfOk result (λ step. Moves (give_back words.entry.items (frames_of types frames.old.items)) step (frames_of types frames.new.items) old) }
+{
+    match give_back(alloc, words, frames)? {
+        Returned::GoesOn => Ok(Step::Slides),
+        Returned::Ends => unreachable!(),
+    }
+}
+
+/// The end of a function's body: it returns nothing.
+fn ends<'t>(
+    alloc: Global,
+    program: &Program<'t>,
+    top: Frame<'t>,
+    frames: &mut Vec<Frame<'t>>,
+) -> Result<Step, Memory>
+    requires { top.entry.tasks.items ≡ [] }
+    ensures { IfOk result (λ step. Steps (file_of program.now.file.now) (types_of program.now.table) top.entry [] frames.old.items step frames.new.items) }
+{
+    let _program = program;
+    if frames.is_empty() {
+        frames.push(top)?;
+        return Ok(Step::Asks(Request::End));
+    }
+    returns(alloc, Vec::new(alloc), frames)
+}
+
+/// A return of these words.
+fn gives_back<'t>(
+    alloc: Global,
+    program: &Program<'t>,
+    mut top: Frame<'t>,
+    frames: &mut Vec<Frame<'t>>,
+    words: Vec<Word>,
+) -> Result<Step, Memory>
+    ensures { IfOk result (λ step. Steps (file_of program.now.file.now) (types_of program.now.table) top.entry (GiveBack words.entry.items ∷ tasks_of (types_of program.now.table) top.entry.tasks.items) frames.old.items step frames.new.items) }
+{
+    let _program = program;
+    if frames.is_empty() {
+        top.push(Task::GiveBack(words))?;
+        frames.push(top)?;
+        return Ok(Step::Asks(Request::End));
+    }
+    returns(alloc, words, frames)
+}
+
+/// The function that runs does a task.
+fn does<'t>(
+    alloc: Global,
+    program: &Program<'t>,
+    mut top: Frame<'t>,
+    frames: &mut Vec<Frame<'t>>,
+    next: Task<'t>,
+) -> Result<Step, Memory>
+    ensures { IfOk result (λ step. Steps (file_of program.now.file.now) (types_of program.now.table) top.entry (task_of (types_of program.now.table) next.entry ∷ tasks_of (types_of program.now.table) top.entry.tasks.items) frames.old.items step frames.new.items) }
+{
+    match task(alloc, program, &mut top, frames.as_slice(), next)? {
+        Outcome::Moves(Move::Slides) => {
+            frames.push(top)?;
+            Ok(Step::Slides)
+        }
+        Outcome::Moves(Move::Calls(new)) => {
+            frames.push(top)?;
+            frames.push(new)?;
+            Ok(Step::Ticks)
+        }
+        Outcome::Ticks => {
+            frames.push(top)?;
+            Ok(Step::Ticks)
+        }
+        Outcome::Asks(request) => {
+            frames.push(top)?;
+            Ok(Step::Asks(request))
+        }
+        Outcome::Returns(words) => gives_back(alloc, program, top, frames, words),
+    }
+}
+
+/// The next step of a goroutine. One that asks stays as it is.
+pub fn step<'t>(
+    alloc: Global,
+    program: &Program<'t>,
+    frames: &mut Vec<Frame<'t>>,
+) -> Result<Step, Memory>
+    ensures { IfOk result (λ step. Moves (source_next (file_of program.now.file.now) (frames_of (types_of program.now.table) frames.old.items)) step (frames_of (types_of program.now.table) frames.new.items) (frames_of (types_of program.now.table) frames.old.items)) }
+{
+    let Some(mut top) = frames.pop() else {
+        return Ok(Step::Asks(Request::End));
+    };
+    match top.tasks.pop() {
+        None => ends(alloc, program, top, frames),
+        Some(next) => does(alloc, program, top, frames, next),
+    }
+}
