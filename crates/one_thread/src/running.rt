@@ -22,6 +22,8 @@ use word::{Write, write_all};
 
 /// Runs goroutine 1 at `main`, and all that come of it, up to the clock limit (1 to 2^62 steps), and answers how the run
 /// ended. What is written begins the output of the one-thread run; at an end it is all of it.
+///
+/// Errors: `BadLimit`; `Write`; `Memory`, as which 2^192 moves count, since no run makes so many.
 pub fn run<P: Interpreter, W: Write>(
     alloc: Global,
     program: &P,

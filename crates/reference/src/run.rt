@@ -17,6 +17,8 @@ use word::end::End;
 
 /// Runs a program as its source says, up to the clock limit (1 to 2^62 steps), and answers how the run ended. What is
 /// written begins the output of the program; at an end it is all of it.
+///
+/// Errors: `BadLimit`; `Write`; `Memory`.
 pub fn run_source<O: Write>(
     alloc: Global,
     typed: &Typed,
