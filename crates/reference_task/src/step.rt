@@ -22,13 +22,14 @@ use word::request::Request;
 use word::value::Word;
 
 /// The end of a function's body: it returns nothing.
+#[tactic(auto, using(reference_value::proofs::Lasts::shown_last))]
 fn ends<'t>(
     alloc: Global,
     program: &Program<'t>,
     top: Frame<'t>,
     frames: &mut Vec<Frame<'t>>,
 ) -> Result<Step, Memory>
-    requires { top.entry.tasks.items ≡ [] }
+    requires { top.tasks.items ≡ [] }
     ensures { IfOk result (λ step. Steps (file_of program.now.file.now) (types_of program.now.table) top.entry [] frames.old.items step frames.new.items) }
 {
     let _program = program;
@@ -42,6 +43,7 @@ fn ends<'t>(
 }
 
 /// A return of these words.
+#[tactic(auto, using(reference_value::proofs::Lasts::shown_last))]
 fn gives_back<'t>(
     alloc: Global,
     program: &Program<'t>,
@@ -49,7 +51,7 @@ fn gives_back<'t>(
     frames: &mut Vec<Frame<'t>>,
     words: Vec<Word>,
 ) -> Result<Step, Memory>
-    ensures { IfOk result (λ step. Steps (file_of program.now.file.now) (types_of program.now.table) top.entry (GiveBack words.entry.items ∷ tasks_of (types_of program.now.table) top.entry.tasks.items) frames.old.items step frames.new.items) }
+    ensures { IfOk result (λ step. Steps (file_of program.now.file.now) (types_of program.now.table) top.entry (GiveBack words.items ∷ tasks_of (types_of program.now.table) top.entry.tasks.items) frames.old.items step frames.new.items) }
 {
     let _program = program;
     match give_back(alloc, words.as_slice(), frames)? {
@@ -63,6 +65,7 @@ fn gives_back<'t>(
 }
 
 /// The function that runs does a task.
+#[tactic(auto, using(reference_value::proofs::Lasts::shown_last))]
 fn does<'t>(
     alloc: Global,
     program: &Program<'t>,
@@ -95,6 +98,7 @@ fn does<'t>(
 }
 
 /// The next step of a goroutine. One that asks stays as it is.
+#[tactic(auto, using(reference_value::proofs::Lasts::shown_last))]
 pub fn step<'t>(
     alloc: Global,
     program: &Program<'t>,
