@@ -5,6 +5,5 @@ mod begin;
 mod program;
 mod run;
 mod source;
-mod stand_in;
 
 pub use run::run_source;

@@ -1,13 +1,13 @@
 //! The source of a program as a kind of goroutine.
 
 use crate::begin::begun;
-use crate::stand_in::step;
 use go_text::Memory;
 use one_thread::{Interpreter, Step};
 use reference_base::program::Program;
 use reference_base::start::main_number;
 use reference_base::task::Frame;
 use reference_reply::reply::answer;
+use reference_task::step::step;
 use std::alloc::Global;
 use word::request::Reply;
 use word::value::Word;

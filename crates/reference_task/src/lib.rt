@@ -2,10 +2,7 @@
 #![tactic(auto)]
 
 mod outcome;
-mod pending;
 mod request;
 mod statement;
-mod step;
+pub mod step;
 mod task;
-
-pub use step::step;

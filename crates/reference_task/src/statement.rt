@@ -9,10 +9,11 @@ ghost use Rattle.reference_value.specs.Scopes.{blocks_of};
 ghost use Rattle.reference_base.specs.Steps.{Panics, Went};
 ghost use Rattle.reference_base.specs.Tasks.{frames_of, tasks_of};
 
-use crate::pending::{select, start};
 use reference_base::outcome::Move;
 use reference_base::program::Program;
 use reference_base::task::Frame;
+use reference_select::go::start;
+use reference_select::select::select;
 use reference_step::loops::for_loop;
 use reference_step::simple::simple;
 use reference_step::statement::{back, block, branch, go_on, leave};

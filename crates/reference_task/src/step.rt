@@ -1,57 +1,49 @@
 //! Steps of goroutines.
 
-ghost use Rattle.std.specs.Prelude.{◌≡◌, ◌∷◌, ◌≤◌, [], ℕ, List, IfOk, length};
+ghost use Rattle.std.specs.Prelude.{◌≡◌, ◌∷◌, [], IfOk};
 ghost use Rattle.syntax.specs.View.{file_of};
 ghost use Rattle.type_table.specs.Visible.{types_of};
-ghost use Rattle.meaning.specs.Replies.{give_back};
 ghost use Rattle.meaning.specs.Source.{source_next};
-ghost use Rattle.meaning.specs.Tasks.{Frames, GiveBack};
+ghost use Rattle.meaning.specs.Tasks.{GiveBack};
 ghost use Rattle.one_thread.specs.Steps.{Moves};
 ghost use Rattle.reference_base.specs.Tasks.{frames_of, task_of, tasks_of};
 ghost use Rattle.reference_task.specs.Steps.{Steps};
 
 use crate::outcome::Outcome;
-use crate::pending::{Returned, give_back};
 use crate::task::task;
 use go_text::Memory;
 use one_thread::Step;
 use reference_base::outcome::Move;
 use reference_base::program::Program;
 use reference_base::task::{Frame, Task};
+use reference_reply::reply::{Returned, give_back};
 use std::alloc::Global;
 use word::request::Request;
 use word::value::Word;
 
-/// A function that was called returns.
-fn returns<'t>(alloc: Global, words: Vec<Word>, frames: &mut Vec<Frame<'t>>) -> Result<Step, Memory>
-    requires { 1 ≤ length frames.old.items }
-    ensures { (types : List (List ℕ)) → (old : Frames) → IfOk result (λ step. Moves (give_back words.entry.items (frames_of types frames.old.items)) step (frames_of types frames.new.items) old) }
-{
-    match give_back(alloc, words, frames)? {
-        Returned::GoesOn => Ok(Step::Slides),
-        Returned::Ends => unreachable!(),
-    }
-}
-
 /// The end of a function's body: it returns nothing.
+#[tactic(auto, using(reference_value::proofs::Lasts::shown_last))]
 fn ends<'t>(
     alloc: Global,
     program: &Program<'t>,
     top: Frame<'t>,
     frames: &mut Vec<Frame<'t>>,
 ) -> Result<Step, Memory>
-    requires { top.entry.tasks.items ≡ [] }
+    requires { top.tasks.items ≡ [] }
     ensures { IfOk result (λ step. Steps (file_of program.now.file.now) (types_of program.now.table) top.entry [] frames.old.items step frames.new.items) }
 {
     let _program = program;
-    if frames.is_empty() {
-        frames.push(top)?;
-        return Ok(Step::Asks(Request::End));
+    match give_back(alloc, &[], frames)? {
+        Returned::GoesOn => Ok(Step::Slides),
+        Returned::Ends => {
+            frames.push(top)?;
+            Ok(Step::Asks(Request::End))
+        }
     }
-    returns(alloc, Vec::new(alloc), frames)
 }
 
 /// A return of these words.
+#[tactic(auto, using(reference_value::proofs::Lasts::shown_last))]
 fn gives_back<'t>(
     alloc: Global,
     program: &Program<'t>,
@@ -59,18 +51,21 @@ fn gives_back<'t>(
     frames: &mut Vec<Frame<'t>>,
     words: Vec<Word>,
 ) -> Result<Step, Memory>
-    ensures { IfOk result (λ step. Steps (file_of program.now.file.now) (types_of program.now.table) top.entry (GiveBack words.entry.items ∷ tasks_of (types_of program.now.table) top.entry.tasks.items) frames.old.items step frames.new.items) }
+    ensures { IfOk result (λ step. Steps (file_of program.now.file.now) (types_of program.now.table) top.entry (GiveBack words.items ∷ tasks_of (types_of program.now.table) top.entry.tasks.items) frames.old.items step frames.new.items) }
 {
     let _program = program;
-    if frames.is_empty() {
-        top.push(Task::GiveBack(words))?;
-        frames.push(top)?;
-        return Ok(Step::Asks(Request::End));
+    match give_back(alloc, words.as_slice(), frames)? {
+        Returned::GoesOn => Ok(Step::Slides),
+        Returned::Ends => {
+            top.push(Task::GiveBack(words))?;
+            frames.push(top)?;
+            Ok(Step::Asks(Request::End))
+        }
     }
-    returns(alloc, words, frames)
 }
 
 /// The function that runs does a task.
+#[tactic(auto, using(reference_value::proofs::Lasts::shown_last))]
 fn does<'t>(
     alloc: Global,
     program: &Program<'t>,
@@ -103,6 +98,7 @@ fn does<'t>(
 }
 
 /// The next step of a goroutine. One that asks stays as it is.
+#[tactic(auto, using(reference_value::proofs::Lasts::shown_last))]
 pub fn step<'t>(
     alloc: Global,
     program: &Program<'t>,

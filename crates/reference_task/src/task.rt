@@ -143,7 +143,7 @@ fn asks<'t>(
     zeros: Vec<Vec<Word>>,
     purpose: Purpose<'t>,
 ) -> Result<Outcome<'t>, Memory>
-    ensures { IfOk result (λ outcome. Does (file_of program.now.file.now) (types_of program.now.table) (Ask (request_of request.entry) (values_of zeros.entry.items) (purpose_of (types_of program.now.table) purpose.entry)) top.old callers.now outcome top.new) }
+    ensures { IfOk result (λ outcome. Does (file_of program.now.file.now) (types_of program.now.table) (Ask (request_of request) (values_of zeros.items) (purpose_of (types_of program.now.table) purpose.entry)) top.old callers.now outcome top.new) }
 {
     let _program = program;
     let _callers = callers;
@@ -161,7 +161,7 @@ fn stores<'t>(
     destinations: Vec<Destination<'t>>,
     values: Vec<Vec<Word>>,
 ) -> Result<Outcome<'t>, Memory>
-    ensures { IfOk result (λ outcome. Does (file_of program.now.file.now) (types_of program.now.table) (Store (destinations_of (types_of program.now.table) destinations.entry.items) (values_of values.entry.items)) top.old callers.now outcome top.new) }
+    ensures { IfOk result (λ outcome. Does (file_of program.now.file.now) (types_of program.now.table) (Store (destinations_of (types_of program.now.table) destinations.entry.items) (values_of values.items)) top.old callers.now outcome top.new) }
 {
     let _callers = callers;
     store(
