@@ -1,6 +1,7 @@
 -- A flaw's node is one of the simple statement's.
 use Rattle.std.proofs.Common.{ℕ, ◌+◌, ◌<◌, ◌≤◌, inl, inr, List, [], ◌∷◌, Option, Some, None, length, sum_by, arith, pos}
 use Rattle.std.specs.Option.{is_none}
+use Rattle.std.specs.Result.{result_ok}
 use Rattle.std.proofs.lemmas.List.Sums.{sum_by-cons}
 use Rattle.syntax.specs.declared.node.BinaryOperator.{BinaryOperator}
 use Rattle.syntax.specs.declared.node.BinaryOperator.TheVariants as ops
@@ -41,7 +42,9 @@ parts_within globals scope (p ∷ ps) first flaw (inr has) = omega (arith, parts
 updated_within : (operator : BinaryOperator) (kind : Option ValueType) (w : Option Worth) (nodes : Nodes) (end : ℕ) (flaw : Flaw) → nodes.first < end → nodes.end ≤ end → UpdatedHas operator kind w nodes end flaw → node_of flaw < end
 updated_within operator None w nodes end flaw a b has = absurd has
 updated_within operator (Some kind) None nodes end flaw a b has = absurd has
-updated_within operator (Some kind) (Some w) nodes end flaw a b has = fails_within (binary_worth operator (Typed kind) w) nodes nodes end flaw a b a b has
+updated_within operator (Some kind) (Some w) nodes end flaw a b (inl has) = fails_within (binary_worth operator (Typed kind) w) nodes nodes end flaw a b a b has
+updated_within operator (Some kind) (Some w) nodes end flaw a b (inr has) =
+    omega (arith, value_within (result_ok (binary_worth operator (Typed kind) w)) (Some kind) nodes flaw a has, b)
 
 step_within : (globals : Globals) (scope : Scope) (p : Place) (first : ℕ) (flaw : Flaw) → StepHas globals scope first p flaw → node_of flaw < first + 2
 step_within globals scope p first flaw (inl has) = omega (arith, read_place_within globals scope p first flaw has)
