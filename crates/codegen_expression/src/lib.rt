@@ -2,5 +2,9 @@
 #![tactic(auto)]
 
 pub mod element_list;
+pub mod emission;
+pub mod halt;
 pub mod noting;
+pub mod operand;
+pub(crate) mod operator;
 pub mod shape;

@@ -1,0 +1,8 @@
+use Rattle.std.proofs.Common.{◌∙◌}
+use Rattle.type_table.specs.Views.{kind_of}
+use Rattle.type_table.specs.Visible.{globals_in, types_of}
+use Rattle.codegen_expression.proofs.Widths.{words_counted}
+use Rattle.codegen_expression.proofs.operand.words_of.Goals as goal
+
+pub returns : goal.returns
+returns c = λ scope. c.words_of.ensures.words ∙ words_counted (globals_in c.args.table.now).structs c.args.table.now.widths.items c.args.elements.now c.args.table.now.sized (kind_of (types_of c.args.table.now) c.args.kind)

@@ -1,0 +1,397 @@
+//! Expressions: the instructions that push their values ("Expressions" of the Go specification).
+
+ghost use Rattle.std.specs.Prelude.{◌≡◌, ◌++◌, ◌∷◌, [], Bool, IfOk, Ok, OnOk, Some, false, map, slice_set, take};
+ghost use Rattle.syntax.specs.Tree.{Binary, Composite, Named, expressions};
+ghost use Rattle.syntax.specs.View.{expression_of, name_of};
+ghost use Rattle.type_table.specs.Views.{field_in, kind_of};
+ghost use Rattle.type_table.specs.Visible.{globals_in, scope_of, types_of};
+ghost use Rattle.checker_base.specs.Views.{IsSmall, worth_of};
+ghost use Rattle.checker_base.specs.Worths.{binary_worth, is_logical, selected_worth, unary_worth, worth};
+ghost use Rattle.codegen_base.specs.Pushes.{emits, emits_fields, kinds_in, operator_of};
+ghost use Rattle.codegen_expression.specs.Emission.{Emits, Puts, comparing, literal_part, operated, picks, settling, signed_with};
+
+use crate::element_list::ElementList;
+use crate::halt::Halt;
+use crate::operand::{
+    carried_shape, fields_at, literal_struct, named, number, push_constant, push_zeros, settle,
+    words_of,
+};
+use crate::operator::{compared, operator_of, sign_of};
+use bytecode::Instr;
+use checker_base::worth::{Worth, binary_worth, literal, named_worth, unary_worth};
+use std::alloc::{AllocError, Global};
+use syntax::{BinaryOperator, ExpressionNode, Name, UnaryOperator};
+use type_table::entry::FieldEntry;
+use type_table::layout::field_of;
+use type_table::scope::Visible;
+use type_table::table::TypeTable;
+use type_table::value_type::ValueType;
+
+/// What an operator does whose operands are pushed; where both are constants, so many instructions stay.
+fn operate(
+    table: &TypeTable<'_>,
+    elements: &ElementList,
+    operator: BinaryOperator,
+    left: Worth<'_>,
+    right: Worth<'_>,
+    made: Worth<'_>,
+    first: usize,
+    code: &mut Vec<Instr>,
+) -> Result<(), Halt>
+    ensures { OnOk result (code.new.items ≡ operated elements.now operator (worth_of (types_of table.now) left.entry) (worth_of (types_of table.now) right.entry) (worth_of (types_of table.now) made.entry) first code.old.items) }
+{
+    match left {
+        Worth::Constant(a) => match right {
+            Worth::Constant(b) => {
+                compare(operator, a, b, made, first, code)?;
+                Ok(())
+            }
+            Worth::Typed(_) => apply(table, elements, operator, ValueType::Int, right, code),
+            Worth::Nil => Err(Halt::Flawed),
+        },
+        Worth::Typed(kind) => apply(table, elements, operator, kind, right, code),
+        Worth::Nil => match right {
+            Worth::Typed(kind) => apply(table, elements, operator, kind, left, code),
+            _ => Err(Halt::Flawed),
+        },
+    }
+}
+
+/// Pushes what is a constant or `nil` beside a value of this type, and then comes the operator.
+fn apply(
+    table: &TypeTable<'_>,
+    elements: &ElementList,
+    operator: BinaryOperator,
+    kind: ValueType<'_>,
+    other: Worth<'_>,
+    code: &mut Vec<Instr>,
+) -> Result<(), Halt>
+    ensures { OnOk result (code.new.items ≡ code.old.items ++ (settling elements.now (worth_of (types_of table.now) other.entry) (kind_of (types_of table.now) kind.entry) ++ Instr.Apply (operator_of operator (kind_of (types_of table.now) kind.entry)) ∷ [])) }
+{
+    settle(table, elements, other, kind, code)?;
+    code.push(Instr::Apply(operator_of(operator, kind)))?;
+    Ok(())
+}
+
+/// Two constants make another one, or are compared here and now; so many instructions stay.
+fn compare(
+    operator: BinaryOperator,
+    a: i128,
+    b: i128,
+    made: Worth<'_>,
+    first: usize,
+    code: &mut Vec<Instr>,
+) -> Result<(), Halt>
+    ensures { (types : _) → OnOk result (code.new.items ≡ take first code.old.items ++ comparing operator a b (worth_of types made.entry)) }
+{
+    code.truncate(first);
+    match made {
+        Worth::Typed(_) => match compared(operator, a, b) {
+            Some(truth) => {
+                code.push(Instr::Bool(truth))?;
+                Ok(())
+            }
+            None => Err(Halt::Flawed),
+        },
+        _ => Ok(()),
+    }
+}
+
+/// Emits an expression, and answers what it is worth. A constant and `nil` are not pushed yet, since their use tells as what.
+///
+/// Errors: something is wrong with the expression; want of memory.
+#[cycle(emit)]
+pub fn emit<'t, 'l, 'v, 'e, 'm, 'k>(
+    alloc: Global,
+    table: &'t TypeTable<'k>,
+    elements: &'l ElementList,
+    visible: &'v Visible<'k>,
+    expression: &'e ExpressionNode,
+    code: &'m mut Vec<Instr>,
+) -> Result<Worth<'k>, Halt>
+    ensures worth { IfOk result (λ w. worth (globals_in table.now) (scope_of table.now visible.now) (expression_of expression.now) ≡ Some (worth_of (types_of table.now) w)) }
+    ensures small { IfOk result IsSmall }
+    ensures emitted { IfOk result (λ w. Emits (Some (worth_of (types_of table.now) w)) code.old.items code.new.items (emits (globals_in table.now) elements.now (scope_of table.now visible.now) (expression_of expression.now))) }
+{
+    match expression {
+        ExpressionNode::Integer(value) => match literal(*value) {
+            Some(value) => Ok(Worth::Constant(value)),
+            None => Err(Halt::Flawed),
+        },
+        ExpressionNode::Named(name) => emit_name(table, elements, visible, name, code),
+        ExpressionNode::Parenthesized(inner) => emit(alloc, table, elements, visible, inner, code),
+        ExpressionNode::Selection(whole, field) => {
+            let whole = emit(alloc, table, elements, visible, whole, code)?;
+            let made = emit_field(table, elements, whole, field.bytes.as_slice(), code)?;
+            Ok(made)
+        }
+        ExpressionNode::Composite(name, values, _) => {
+            let values = values.as_slice();
+            let made = emit_composite(alloc, table, elements, visible, name, values, code)?;
+            Ok(made)
+        }
+        ExpressionNode::Unary(operator, operand) => {
+            let operand = emit(alloc, table, elements, visible, operand, code)?;
+            let made = emit_sign(*operator, operand, code)?;
+            Ok(made)
+        }
+        ExpressionNode::Binary(operator, left, right) => match operator {
+            BinaryOperator::LogicalAnd => emit_and(
+                alloc, table, elements, visible, left, right, code,
+            ),
+            BinaryOperator::LogicalOr => emit_or(
+                alloc, table, elements, visible, left, right, code,
+            ),
+            _ => emit_binary(
+                alloc, table, elements, visible, *operator, left, right, code,
+            ),
+        },
+    }
+}
+
+/// Emits an operator between two operands, which is neither `&&` nor `||`.
+#[cycle(emit)]
+fn emit_binary<'t, 'l, 'v, 'e, 'f, 'm, 'k>(
+    alloc: Global,
+    table: &'t TypeTable<'k>,
+    elements: &'l ElementList,
+    visible: &'v Visible<'k>,
+    operator: BinaryOperator,
+    left: &'e ExpressionNode,
+    right: &'f ExpressionNode,
+    code: &'m mut Vec<Instr>,
+) -> Result<Worth<'k>, Halt>
+    requires { is_logical operator ≡ false }
+    ensures worth { IfOk result (λ w. worth (globals_in table.now) (scope_of table.now visible.now) (Binary operator (expression_of left.now) (expression_of right.now)) ≡ Some (worth_of (types_of table.now) w)) }
+    ensures small { IfOk result IsSmall }
+    ensures emitted { IfOk result (λ w. Emits (Some (worth_of (types_of table.now) w)) code.old.items code.new.items (emits (globals_in table.now) elements.now (scope_of table.now visible.now) (Binary operator (expression_of left.now) (expression_of right.now)))) }
+{
+    let a = emit(alloc, table, elements, visible, left, code)?;
+    let first = code.len();
+    push_constant(a, code)?;
+    let b = emit(alloc, table, elements, visible, right, code)?;
+    let made = made_between(table, operator, a, b)?;
+    operate(table, elements, operator, a, b, made, first, code)?;
+    Ok(made)
+}
+
+/// Emits a composite literal of this name and these values ("Composite literals").
+#[cycle(emit)]
+fn emit_composite<'t, 'l, 'v, 'e, 'f, 'm, 'k>(
+    alloc: Global,
+    table: &'t TypeTable<'k>,
+    elements: &'l ElementList,
+    visible: &'v Visible<'k>,
+    name: &'f Name,
+    values: &'e [ExpressionNode],
+    code: &'m mut Vec<Instr>,
+) -> Result<Worth<'k>, Halt>
+    ensures worth { IfOk result (λ w. (trailing : Bool) → worth (globals_in table.now) (scope_of table.now visible.now) (Composite (name_of name.now) (expressions (map expression_of values.now)) trailing) ≡ Some (worth_of (types_of table.now) w)) }
+    ensures small { IfOk result IsSmall }
+    ensures emitted { IfOk result (λ w. (trailing : Bool) → Emits (Some (worth_of (types_of table.now) w)) code.old.items code.new.items (emits (globals_in table.now) elements.now (scope_of table.now visible.now) (Composite (name_of name.now) (expressions (map expression_of values.now)) trailing))) }
+{
+    let Some(number) = literal_struct(table, visible, name.bytes.as_slice()) else {
+        return Err(Halt::Flawed);
+    };
+    emit_literal(alloc, table, elements, visible, number, values, code)?;
+    Ok(Worth::Typed(ValueType::Struct(number)))
+}
+
+/// Emits the fields of a literal of the struct with this number, or zeros where there are no values.
+#[cycle(emit)]
+fn emit_literal<'t, 'l, 'v, 'e, 'm, 'k>(
+    alloc: Global,
+    table: &'t TypeTable<'k>,
+    elements: &'l ElementList,
+    visible: &'v Visible<'k>,
+    number: usize,
+    values: &'e [ExpressionNode],
+    code: &'m mut Vec<Instr>,
+) -> Result<(), Halt>
+    ensures { OnOk result (Puts code.old.items code.new.items (literal_part (globals_in table.now) elements.now (scope_of table.now visible.now) number (expressions (map expression_of values.now)))) }
+{
+    match values {
+        [] => {
+            push_zeros(alloc, table, elements, ValueType::Struct(number), code)?;
+            Ok(())
+        }
+        [_, ..] => {
+            let fields = fields_at(table, number);
+            emit_fields(alloc, table, elements, visible, fields, values, code)?;
+            Ok(())
+        }
+    }
+}
+
+/// Emits the fields of a literal, in order.
+#[cycle(emit)]
+fn emit_fields<'t, 'l, 'v, 'e, 'f, 'm, 'k>(
+    alloc: Global,
+    table: &'t TypeTable<'k>,
+    elements: &'l ElementList,
+    visible: &'v Visible<'k>,
+    fields: &'f [FieldEntry<'k>],
+    values: &'e [ExpressionNode],
+    code: &'m mut Vec<Instr>,
+) -> Result<(), Halt>
+    ensures { OnOk result (Puts code.old.items code.new.items (emits_fields (globals_in table.now) elements.now (scope_of table.now visible.now) (kinds_in (map (field_in (types_of table.now)) fields.now)) (expressions (map expression_of values.now)))) }
+{
+    let Some((value, values)) = values.split_first() else {
+        return Ok(());
+    };
+    let Some((field, fields)) = fields.split_first() else {
+        return Ok(());
+    };
+    let worth = emit(alloc, table, elements, visible, value, code)?;
+    settle(table, elements, worth, field.kind, code)?;
+    emit_fields(alloc, table, elements, visible, fields, values, code)
+}
+
+/// What an operator makes of two operands.
+fn made_between<'t>(
+    table: &TypeTable<'_>,
+    operator: BinaryOperator,
+    left: Worth<'_>,
+    right: Worth<'_>,
+) -> Result<Worth<'t>, Halt>
+    requires left { IsSmall left }
+    requires right { IsSmall right }
+    ensures worth { IfOk result (λ w. binary_worth operator (worth_of (types_of table.now) left.entry) (worth_of (types_of table.now) right.entry) ≡ Ok (worth_of (types_of table.now) w)) }
+    ensures small { IfOk result IsSmall }
+{
+    match binary_worth(table, operator, left, right) {
+        Ok(made) => Ok(made),
+        Err(_) => Err(Halt::Flawed),
+    }
+}
+
+/// Emits a name ("Operands").
+fn emit_name<'t>(
+    table: &TypeTable<'t>,
+    elements: &ElementList,
+    visible: &Visible<'t>,
+    name: &Name,
+    code: &mut Vec<Instr>,
+) -> Result<Worth<'t>, Halt>
+    ensures worth { IfOk result (λ w. worth (globals_in table.now) (scope_of table.now visible.now) (Named (name_of name.now)) ≡ Some (worth_of (types_of table.now) w)) }
+    ensures small { IfOk result IsSmall }
+    ensures emitted { IfOk result (λ w. Emits (Some (worth_of (types_of table.now) w)) code.old.items code.new.items (emits (globals_in table.now) elements.now (scope_of table.now visible.now) (Named (name_of name.now)))) }
+{
+    let name = name.bytes.as_slice();
+    let Some(worth) = named_worth(table, visible, name) else {
+        return Err(Halt::Flawed);
+    };
+    if let Worth::Typed(_) = worth {
+        code.push(named(table, elements, visible, name)?)?;
+    }
+    Ok(worth)
+}
+
+/// Emits the selection of a field of an operand, which is pushed ("Selectors").
+fn emit_field<'t>(
+    table: &TypeTable<'t>,
+    elements: &ElementList,
+    whole: Worth<'_>,
+    field: &[u8],
+    code: &mut Vec<Instr>,
+) -> Result<Worth<'t>, Halt>
+    ensures worth { IfOk result (λ w. selected_worth (globals_in table.now) field.now (worth_of (types_of table.now) whole.entry) ≡ Some (worth_of (types_of table.now) w)) }
+    ensures small { IfOk result IsSmall }
+    ensures emitted { OnOk result (code.new.items ≡ code.old.items ++ picks (globals_in table.now) elements.now (worth_of (types_of table.now) whole.entry) field.now) }
+{
+    let Worth::Typed(kind) = whole else {
+        return Err(Halt::Flawed);
+    };
+    let Some(part) = field_of(table, kind, field) else {
+        return Err(Halt::Flawed);
+    };
+    let words = words_of(table, elements, kind);
+    let kept = words_of(table, elements, part.kind);
+    code.push(Instr::Pick(words, part.place as u32, kept))?;
+    Ok(Worth::Typed(part.kind))
+}
+
+/// Emits an operator before an operand, which is pushed where it is no constant.
+fn emit_sign<'t>(
+    operator: UnaryOperator,
+    operand: Worth<'_>,
+    code: &mut Vec<Instr>,
+) -> Result<Worth<'t>, Halt>
+    requires { IsSmall operand }
+    ensures worth { IfOk result (λ w. (types : _) → unary_worth operator (worth_of types operand.entry) ≡ Ok (worth_of types w)) }
+    ensures small { IfOk result IsSmall }
+    ensures emitted { (types : _) → OnOk result (code.new.items ≡ code.old.items ++ signed_with operator (worth_of types operand.entry)) }
+{
+    let Ok(made) = unary_worth(operator, operand) else {
+        return Err(Halt::Flawed);
+    };
+    if let Worth::Typed(_) = operand {
+        if let Some(sign) = sign_of(operator) {
+            code.push(Instr::Apply(sign))?;
+        }
+    }
+    Ok(made)
+}
+
+/// An instruction takes the place of another one.
+fn aim(code: &mut Vec<Instr>, at: usize, instr: Instr)
+    ensures { code.new.items ≡ slice_set code.old.items at instr }
+{
+    if let Some(place) = code.get_mut(at) {
+        *place = instr;
+    }
+}
+
+/// Emits `&&`: the right operand is valued where the left one is true ("Logical operators").
+#[cycle(emit)]
+fn emit_and<'t, 'l, 'v, 'e, 'f, 'm, 'k>(
+    alloc: Global,
+    table: &'t TypeTable<'k>,
+    elements: &'l ElementList,
+    visible: &'v Visible<'k>,
+    left: &'e ExpressionNode,
+    right: &'f ExpressionNode,
+    code: &'m mut Vec<Instr>,
+) -> Result<Worth<'k>, Halt>
+    ensures worth { IfOk result (λ w. worth (globals_in table.now) (scope_of table.now visible.now) (Binary BinaryOperator.LogicalAnd (expression_of left.now) (expression_of right.now)) ≡ Some (worth_of (types_of table.now) w)) }
+    ensures small { IfOk result IsSmall }
+    ensures emitted { IfOk result (λ w. Emits (Some (worth_of (types_of table.now) w)) code.old.items code.new.items (emits (globals_in table.now) elements.now (scope_of table.now visible.now) (Binary BinaryOperator.LogicalAnd (expression_of left.now) (expression_of right.now)))) }
+{
+    let a = emit(alloc, table, elements, visible, left, code)?;
+    let test = code.len();
+    code.push(Instr::Unless(0))?;
+    let b = emit(alloc, table, elements, visible, right, code)?;
+    let made = made_between(table, BinaryOperator::LogicalAnd, a, b)?;
+    let over = code.len();
+    code.push(Instr::Jump(0))?;
+    aim(code, test, Instr::Unless(number(code.len())?));
+    code.push(Instr::Bool(false))?;
+    aim(code, over, Instr::Jump(number(code.len())?));
+    Ok(made)
+}
+
+/// Emits `||`: the right operand is valued where the left one is false.
+#[cycle(emit)]
+fn emit_or<'t, 'l, 'v, 'e, 'f, 'm, 'k>(
+    alloc: Global,
+    table: &'t TypeTable<'k>,
+    elements: &'l ElementList,
+    visible: &'v Visible<'k>,
+    left: &'e ExpressionNode,
+    right: &'f ExpressionNode,
+    code: &'m mut Vec<Instr>,
+) -> Result<Worth<'k>, Halt>
+    ensures worth { IfOk result (λ w. worth (globals_in table.now) (scope_of table.now visible.now) (Binary BinaryOperator.LogicalOr (expression_of left.now) (expression_of right.now)) ≡ Some (worth_of (types_of table.now) w)) }
+    ensures small { IfOk result IsSmall }
+    ensures emitted { IfOk result (λ w. Emits (Some (worth_of (types_of table.now) w)) code.old.items code.new.items (emits (globals_in table.now) elements.now (scope_of table.now visible.now) (Binary BinaryOperator.LogicalOr (expression_of left.now) (expression_of right.now)))) }
+{
+    let a = emit(alloc, table, elements, visible, left, code)?;
+    let test = code.len();
+    code.push(Instr::Unless(number(test + 3)?))?;
+    code.push(Instr::Bool(true))?;
+    code.push(Instr::Jump(0))?;
+    let b = emit(alloc, table, elements, visible, right, code)?;
+    let made = made_between(table, BinaryOperator::LogicalOr, a, b)?;
+    aim(code, test + 2, Instr::Jump(number(code.len())?));
+    Ok(made)
+}
