@@ -72,9 +72,9 @@ pub(crate) fn case_of<'t>(
 {
     match comm {
         CommNode::Send(to, item) => sent_case(alloc, program, scope, to, item),
-        CommNode::Receive(from) => received_case(alloc, program, scope, from),
-        CommNode::Define(_, _, from) => received_case(alloc, program, scope, from),
-        CommNode::Assign(_, _, from) => received_case(alloc, program, scope, from),
+        CommNode::Receive(from) | CommNode::Define(_, _, from) | CommNode::Assign(_, _, from) => {
+            received_case(alloc, program, scope, from)
+        }
     }
 }
 
@@ -126,8 +126,7 @@ fn comm_destinations<'t>(
     ensures { IfOk result (λ v. destinations_of (types_of program.now.table) v.items ≡ comm_destinations (file_of program.now.file.now) (blocks_of (types_of program.now.table) scope.now) [] [] (comm_of comm.now)) }
 {
     match comm {
-        CommNode::Send(_, _) => Ok(Vec::new(alloc)),
-        CommNode::Receive(_) => Ok(Vec::new(alloc)),
+        CommNode::Send(_, _) | CommNode::Receive(_) => Ok(Vec::new(alloc)),
         CommNode::Define(item, ok, from) => {
             defined_destinations(alloc, program, scope, item, ok, from)
         }
@@ -159,9 +158,9 @@ fn comm_zeros<'t>(
 {
     match comm {
         CommNode::Send(_, _) => Ok(Vec::new(alloc)),
-        CommNode::Receive(from) => received_zeros(alloc, program, scope, from),
-        CommNode::Define(_, _, from) => received_zeros(alloc, program, scope, from),
-        CommNode::Assign(_, _, from) => received_zeros(alloc, program, scope, from),
+        CommNode::Receive(from) | CommNode::Define(_, _, from) | CommNode::Assign(_, _, from) => {
+            received_zeros(alloc, program, scope, from)
+        }
     }
 }
 
