@@ -1,4 +1,4 @@
-//! Goroutines as the source says: frames of variables and tasks, what each task does, and what becomes of replies.
+//! Goroutines as the source says: frames of variables and tasks, operands, and calls.
 #![tactic(auto)]
 
 pub mod call;

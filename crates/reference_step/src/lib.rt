@@ -1,4 +1,4 @@
-//! The steps of goroutines as the source says: what each task does, and what becomes of replies.
+//! What statements and loops do, as the source says.
 #![tactic(auto)]
 
 pub mod loops;
