@@ -1,37 +1,9 @@
 //! The reference interpreter: runs a program as its source says, all goroutines in one thread.
 #![tactic(auto)]
 
-ghost use Rattle.std.specs.Prelude.{◌≡◌, ◌⊎◌, ◌↔◌, IfErr, IfOk, IsErrOf, true};
-ghost use Rattle.syntax.specs.Spans.{tree_of};
-ghost use Rattle.checker.specs.Trees.{tree_in};
-ghost use Rattle.meaning.specs.Source.{source_kind};
-ghost use Rattle.one_thread.specs.Worlds.{BeginsOutput, IsLimit, IsWhole};
+mod begin;
+mod program;
+mod run;
+mod source;
 
-use checker::Typed;
-use go_text::Fault;
-use std::alloc::Global;
-use word::Write;
-use word::end::End;
-
-/// Runs a program as its source says, up to the clock limit (1 to 2^62 steps), and answers how the run ended. What is
-/// written begins the output of the program; at an end it is all of it.
-pub fn run_source<O: Write>(
-    _alloc: Global,
-    typed: &Typed,
-    limit: u64,
-    out: &mut O,
-) -> Result<End, Fault>
-    ensures limit { IsErrOf result Fault.BadLimit ↔ (IsLimit limit → ⊥) }
-    ensures nothing { IsErrOf result Fault.BadLimit → O.contents out.new ≡ O.contents out.old }
-    ensures begins { BeginsOutput (source_kind (tree_of (tree_in typed.now))) limit (O.contents out.old) (O.contents out.new) }
-    ensures whole { IfOk result (λ end. IsWhole (source_kind (tree_of (tree_in typed.now))) limit (O.contents out.old) (O.contents out.new) end) }
-    ensures write { IsErrOf result Fault.Write → O.has_failed out.new ≡ true }
-    ensures only { IfErr result (λ fault. (fault ≡ Fault.Memory) ⊎ ((fault ≡ Fault.Write) ⊎ (fault ≡ Fault.BadLimit))) }
-{
-    let _typed = typed;
-    let _out = out;
-    if limit < 1 || limit > 1 << 62 {
-        return Err(Fault::BadLimit);
-    }
-    Err(Fault::Memory)
-}
+pub use run::run_source;

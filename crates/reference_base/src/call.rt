@@ -165,18 +165,18 @@ pub fn called<'t>(
 fn function_in<'t>(tops: &'t [TopNode], number: usize) -> Option<&'t FunctionNode>
     ensures { option_map (λ f. function_of f.now) result ≡ slice_get (functions_in (map top_of tops.now)) number }
 {
-    let Some((first, rest)) = tops.split_first() else {
-        return None;
-    };
-    match first {
-        TopNode::Struct(_) => function_in(rest, number),
-        TopNode::Function(function) => {
-            if number == 0 {
+    let mut left = tops;
+    let mut before = number;
+    while let Some((first, rest)) = left.split_first() {
+        left = rest;
+        if let TopNode::Function(function) = first {
+            if before == 0 {
                 return Some(function);
             }
-            function_in(rest, number - 1)
+            before -= 1;
         }
     }
+    None
 }
 
 /// The function with this number.

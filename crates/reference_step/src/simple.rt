@@ -321,7 +321,7 @@ fn define<'t>(
 /// A simple statement.
 ///
 /// Errors: the panic that is met first; want of memory.
-pub(crate) fn simple<'t>(
+pub fn simple<'t>(
     alloc: Global,
     program: &Program<'t>,
     top: &mut Frame<'t>,
