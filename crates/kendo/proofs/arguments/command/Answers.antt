@@ -15,7 +15,7 @@ returns c =
     let new_reference : app_of c.about-3.result ≡ new_app (codes "reference") = ap app_of_fields c.about-3.ensures ∙ c.new-3.ensures.app in
     let of_file : app_of c.in_ok-arg.field-0 ≡ with_rule (new_app (codes "reference")) file =
     c.in_ok-arg.ensures.shape c.file_argument-3.ensures.local ∙ ap₂ with_rule new_reference c.file_argument-3.ensures.rule in
-    let reference_is : app_of c.in_ok-reference.reference' ≡ reference = c.in_ok-reference.ensures.shape c.limit_argument.ensures.local ∙ ap₂ with_rule of_file c.limit_argument.ensures.rule in
+    let reference_is : app_of c.in_ok-reference.reference ≡ reference = c.in_ok-reference.ensures.shape c.limit_argument.ensures.local ∙ ap₂ with_rule of_file c.limit_argument.ensures.rule in
     let new_run : app_of c.about-4.result ≡ new_app (codes "run") = ap app_of_fields c.about-4.ensures ∙ c.new-4.ensures.app in
     let with_file : app_of c.in_ok-arg-2.field-0 ≡ with_rule (new_app (codes "run")) file =
     c.in_ok-arg-2.ensures.shape c.file_argument-4.ensures.local ∙ ap₂ with_rule new_run c.file_argument-4.ensures.rule in
@@ -28,7 +28,7 @@ returns c =
     c.in_ok-list.ensures.globals ∙ ap₂ ◌||◌ (ap (λ f. f.has_globals) c.about-2.ensures ∙ c.new-2.ensures.local) c.file_argument-2.ensures.local in
     let of_file_local : (out-Command c.in_ok-arg.field-0).has_globals ≡ false =
     c.in_ok-arg.ensures.globals ∙ ap₂ ◌||◌ (ap (λ f. f.has_globals) c.about-3.ensures ∙ c.new-3.ensures.local) c.file_argument-3.ensures.local in
-    let reference_local : (out-Command c.in_ok-reference.reference').has_globals ≡ false = c.in_ok-reference.ensures.globals ∙ ap₂ ◌||◌ of_file_local c.limit_argument.ensures.local in
+    let reference_local : (out-Command c.in_ok-reference.reference).has_globals ≡ false = c.in_ok-reference.ensures.globals ∙ ap₂ ◌||◌ of_file_local c.limit_argument.ensures.local in
     let with_file_local : (out-Command c.in_ok-arg-2.field-0).has_globals ≡ false =
     c.in_ok-arg-2.ensures.globals ∙ ap₂ ◌||◌ (ap (λ f. f.has_globals) c.about-4.ensures ∙ c.new-4.ensures.local) c.file_argument-4.ensures.local in
     let with_workers_local : (out-Command c.in_ok-arg-3.field-0).has_globals ≡ false = c.in_ok-arg-3.ensures.globals ∙ ap₂ ◌||◌ with_file_local c.workers_argument.ensures.local in
