@@ -79,11 +79,12 @@ class Trial:
 
     def differ(self, file, text, limit, workers):
         """What differs at one limit, as lines."""
-        came, found = self.run(file, limit, workers), {}
-        if not self.given.no_reference:
+        first, found = ("reference", {}) if self.given.no_run else ("run", {})
+        came = self.reference(file, limit) if self.given.no_run else self.run(file, limit, workers)
+        if not self.given.no_reference and not self.given.no_run:
             found["run and reference"] = difference(came, self.reference(file, limit))
-        if self.given.oracle:
-            found["run and interpreter"] = difference(came, interpreted(text, limit or interpret.LIMIT))
+        if self.given.oracle or self.given.no_run:
+            found[f"{first} and interpreter"] = difference(came, interpreted(text, limit or interpret.LIMIT))
         how = f"{f'--limit {limit}' if limit else 'no limit'}, --workers {workers}"
         return [f"{what} with {how}: {it}" for what, it in found.items() if it]
 
