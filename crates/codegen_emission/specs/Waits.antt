@@ -1,0 +1,29 @@
+-- Instructions of statements, whose breaks and continues wait for their targets.
+use Rattle.std.specs.Prelude.{◌≡◌, ℕ, ◌≤◌, ◌<◌, Bool, cond, List, [], ◌∷◌, ◌++◌, length, slice_set}
+use Rattle.bytecode.specs.declared.instr.Instr.{Instr}
+use Rattle.bytecode.specs.declared.instr.Instr.TheVariants as instrs
+use Rattle.plan.specs.Plan.{Plan, flat}
+
+-- a jump at a place whose target is not known yet: that of a break, or of a continue
+pub record Wait : Type 0 where
+  pub place : ℕ
+  pub leaves : Bool
+
+-- the jump, where breaks and continues lead to these places
+abbrev pub jump : ℕ → ℕ → Wait → Instr
+jump leave again wait = instrs.Jump (cond wait.leaves leave again)
+
+-- the instructions with these targets
+abbrev pub filled : List Wait → ℕ → ℕ → List Instr → List Instr
+filled [] leave again code = code
+filled (w ∷ ws) leave again code = slice_set (filled ws leave again code) w.place (jump leave again w)
+
+-- each of them stands from a first place on, and before an end
+abbrev pub AreWithin : ℕ → ℕ → List Wait → Type 0
+AreWithin first end [] = Unit {0}
+AreWithin first end (w ∷ ws) = (first ≤ w.place) × (w.place < end) × AreWithin first end ws
+
+-- what stands behind the old instructions is a plan, whatever the targets will be
+pub record Makes (old new : List Instr) (waits : List Wait) (plan : Plan) : Type 0 where
+  pub within : AreWithin (length old) (length new) waits
+  pub is : (leave again : ℕ) → filled waits leave again new ≡ old ++ flat leave again (length old) plan

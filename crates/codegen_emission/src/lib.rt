@@ -1,0 +1,2 @@
+//! The instructions of statements. Lemmas alone so far.
+#![tactic(auto)]
