@@ -21,7 +21,7 @@ filled_length (w ∷ ws) leave again code = length-set (filled ws leave again co
 pub filled_before : (ws : List Wait) (leave again first end : ℕ) (xs ys : List Instr) → AreWithin first end ws → end ≤ length xs → filled ws leave again (xs ++ ys) ≡ filled ws leave again xs ++ ys
 filled_before [] leave again first end xs ys in_range le = refl
 filled_before (w ∷ ws) leave again first end xs ys in_range le =
-    let others = filled_before ws leave again first end xs ys in_range.2 le in
+    let others = filled_before ws leave again (w.place + 1) end xs ys in_range.2 le in
     let n = filled_length ws leave again xs in
     ap (λ (c : List Instr). slice_set c w.place (jump leave again w)) others ∙ set-append_left (filled ws leave again xs) ys w.place (jump leave again w) (omega (arith, in_range.1, le, n))
 
@@ -29,7 +29,7 @@ filled_before (w ∷ ws) leave again first end xs ys in_range le =
 pub filled_set : (ws : List Wait) (leave again first end at : ℕ) (code : List Instr) (i : Instr) → AreWithin first end ws → at < first → filled ws leave again (slice_set code at i) ≡ slice_set (filled ws leave again code) at i
 filled_set [] leave again first end at code i in_range le = refl
 filled_set (w ∷ ws) leave again first end at code i in_range le =
-    ap (λ (c : List Instr). slice_set c w.place (jump leave again w)) (filled_set ws leave again first end at code i in_range.2 le)
+    ap (λ (c : List Instr). slice_set c w.place (jump leave again w)) (filled_set ws leave again (w.place + 1) end at code i in_range.2 (omega (arith, in_range.0, le)))
     ∙ set_comm (filled ws leave again code) at w.place i (jump leave again w) (λ same. absurd (omega (arith, same, in_range.0, le)))
 
 pub filled_both : (ws vs : List Wait) (leave again : ℕ) (code : List Instr) → filled (ws ++ vs) leave again code ≡ filled ws leave again (filled vs leave again code)
@@ -38,11 +38,11 @@ filled_both (w ∷ ws) vs leave again code = ap (λ (c : List Instr). slice_set 
 
 pub within_wider : (ws : List Wait) (first end first' end' : ℕ) → first' ≤ first → end ≤ end' → AreWithin first end ws → AreWithin first' end' ws
 within_wider [] first end first' end' a b in_range = tt
-within_wider (w ∷ ws) first end first' end' a b in_range = (omega (arith, a, in_range.0), omega (arith, b, in_range.1), within_wider ws first end first' end' a b in_range.2)
+within_wider (w ∷ ws) first end first' end' a b in_range = (omega (arith, a, in_range.0), omega (arith, b, in_range.1), within_wider ws (w.place + 1) end (w.place + 1) end' (omega arith) b in_range.2)
 
-pub within_both : (ws vs : List Wait) (first end : ℕ) → AreWithin first end ws → AreWithin first end vs → AreWithin first end (ws ++ vs)
-within_both [] vs first end a b = b
-within_both (w ∷ ws) vs first end a b = (a.0, a.1, within_both ws vs first end a.2 b)
+pub within_both : (ws vs : List Wait) (first middle end : ℕ) → first ≤ middle → middle ≤ end → AreWithin first middle ws → AreWithin middle end vs → AreWithin first end (ws ++ vs)
+within_both [] vs first middle end a b c d = within_wider vs middle end first end a (omega arith) d
+within_both (w ∷ ws) vs first middle end a b c d = (c.0, omega (arith, c.1, b), within_both ws vs (w.place + 1) middle end (omega (arith, c.1)) b c.2 d)
 
 -- ---- plans
 
@@ -90,7 +90,7 @@ makes_seq i0 i1 i2 ws vs p q leads m o =
     let n = makes_length i0 i1 ws p m in
     let k = makes_length i1 i2 vs q o in
     record {
-      within = within_both ws vs (length i0) (length i2) (within_wider ws (length i0) (length i1) (length i0) (length i2) (omega arith) (omega (arith, k)) m.within) (within_wider vs (length i1) (length i2) (length i0) (length i2) (omega (arith, n)) (omega arith) o.within);
+      within = within_both ws vs (length i0) (length i1) (length i2) (omega (arith, n)) (omega (arith, k)) m.within o.within;
       is = λ leave again.
           let fp = flat leave again (length i0) p in
           let fq = flat leave again (length i1) q in
@@ -110,7 +110,7 @@ makes_cut i0 i1 ws p q ends m = record {
 -- ---- conditions: the test's jump is known behind what is done
 
 -- an instruction, and a plan behind it
-behind_set : (i0 i1 i2 i3 : List Instr) (ws : List Wait) (p : Plan) (leave again : ℕ) (i j : Instr) → i1 ≡ i0 ++ i ∷ [] → Makes i1 i2 ws p → i3 ≡ slice_set i2 (length i0) j
+pub behind_set : (i0 i1 i2 i3 : List Instr) (ws : List Wait) (p : Plan) (leave again : ℕ) (i j : Instr) → i1 ≡ i0 ++ i ∷ [] → Makes i1 i2 ws p → i3 ≡ slice_set i2 (length i0) j
     → filled ws leave again i3 ≡ (i0 ++ j ∷ []) ++ flat leave again (length i1) p
 behind_set i0 i1 i2 i3 ws p leave again i j e1 m e3 =
     let n : length i1 ≡ length i0 + 1 = ap length e1 ∙ length-append i0 (i ∷ []) in

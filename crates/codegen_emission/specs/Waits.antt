@@ -1,5 +1,5 @@
 -- Instructions of statements, whose breaks and continues wait for their targets.
-use Rattle.std.specs.Prelude.{◌≡◌, ℕ, ◌≤◌, ◌<◌, Bool, cond, List, [], ◌∷◌, ◌++◌, length, slice_set}
+use Rattle.std.specs.Prelude.{◌≡◌, ℕ, ◌+◌, ◌≤◌, ◌<◌, Bool, cond, List, [], ◌∷◌, ◌++◌, length, slice_set}
 use Rattle.bytecode.specs.declared.instr.Instr.{Instr}
 use Rattle.bytecode.specs.declared.instr.Instr.TheVariants as instrs
 use Rattle.plan.specs.Plan.{Plan, flat}
@@ -18,10 +18,19 @@ abbrev pub filled : List Wait → ℕ → ℕ → List Instr → List Instr
 filled [] leave again code = code
 filled (w ∷ ws) leave again code = slice_set (filled ws leave again code) w.place (jump leave again w)
 
--- each of them stands from a first place on, and before an end
+-- they stand one behind the other, from a first place on, and before an end
 abbrev pub AreWithin : ℕ → ℕ → List Wait → Type 0
 AreWithin first end [] = Unit {0}
-AreWithin first end (w ∷ ws) = (first ≤ w.place) × (w.place < end) × AreWithin first end ws
+AreWithin first end (w ∷ ws) = (first ≤ w.place) × (w.place < end) × AreWithin (w.place + 1) end ws
+
+-- breaks have this target now, and continues still wait
+abbrev pub settled : List Wait → ℕ → List Instr → List Instr
+settled [] leave code = code
+settled (w ∷ ws) leave code = cond w.leaves (slice_set (settled ws leave code) w.place (instrs.Jump leave)) (settled ws leave code)
+
+abbrev pub continues : List Wait → List Wait
+continues [] = []
+continues (w ∷ ws) = cond w.leaves (continues ws) (w ∷ continues ws)
 
 -- what stands behind the old instructions is a plan, whatever the targets will be
 pub record Makes (old new : List Instr) (waits : List Wait) (plan : Plan) : Type 0 where

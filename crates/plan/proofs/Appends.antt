@@ -58,7 +58,7 @@ appends_if_then leave again next i0 i1 i2 so e1 e2 en =
 abbrev pub round : (leave again head place : ℕ) (body post : Plan) → List Instr
 round leave again head place body post = cond (turns body) (flat leave again place post ++ instrs.Loop head ∷ []) []
 
-round_size : (leave again head place : ℕ) (body post : Plan) → length (round leave again head place body post) ≡ cond (turns body) (size post + 1) 0
+pub round_size : (leave again head place : ℕ) (body post : Plan) → length (round leave again head place body post) ≡ cond (turns body) (size post + 1) 0
 round_size leave again head place body post =
     let fp = flat leave again place post in
     length_if (turns body) (fp ++ instrs.Loop head ∷ []) (size post + 1) (omega (arith, length-append fp (instrs.Loop head ∷ []), flat_size leave again place post))
