@@ -8,4 +8,6 @@ pub mod Operations
 pub mod Simple
 pub mod Printed
 pub mod Branches
+pub mod Places
 pub mod Updates
+pub mod Changes

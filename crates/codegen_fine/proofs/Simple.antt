@@ -45,7 +45,7 @@ module _ (globals : Globals) (elements : List Element) (code : Code) (f : CodeFu
     abbrev pub Leaves : ℕ → Simple → Type 0
     Leaves q simple = (a : Allowed) (ks out : List WordKind) → Typed code f a ks Skip out → Typed code f a ks (simple_plan globals elements layout q simple) out
 
-    module _ (q : ℕ) (s : Scope) (alike : Alike s layout.scope) (functions : Functions globals elements code f grounds layout.scope housed s alike) where
+    module _ (q : ℕ) (s : Scope) (alike : Alike s layout.scope) (functions : Functions globals elements code) where
       pub typed_call_alone : (function : List ℕ) (arguments : Arguments) (first : ℕ) → Free (SimpleHas globals s first (CallAlone function arguments)) → Leaves q (CallAlone function arguments)
       typed_call_alone function arguments first free a ks out t =
           let result = result_of globals (number_of globals function) in
