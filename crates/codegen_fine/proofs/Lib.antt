@@ -11,3 +11,5 @@ pub mod Branches
 pub mod Places
 pub mod Updates
 pub mod Changes
+pub mod Givens
+pub mod Rights
