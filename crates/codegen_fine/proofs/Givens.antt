@@ -69,6 +69,18 @@ taken_all [] types = []
 taken_all (want ∷ wants) [] = []
 taken_all (want ∷ wants) (kind ∷ types) = taken want kind ∷ taken_all wants types
 
+-- a value that is taken as it is has a type, which is known and noted
+abbrev pub HasDefault : List Element → Option Worth → Type 0
+HasDefault elements w = (default_type w ≡ Some (known (default_type w))) × Noted elements (known (default_type w))
+
+abbrev pub WellTaken : List Element → List (Option ValueType) → List Given → Type 0
+WellTaken elements [] [] = Unit {0}
+WellTaken elements (want ∷ wants) (value ∷ values) = (want ≡ None → HasDefault elements value.worth) × WellTaken elements wants values
+WellTaken elements wants values = ⊥
+
+pub never_some : {A : Type 0} (x : A) → Some x ≡ None → ⊥
+never_some x e = absurd cc
+
 direction_itself : (d : Direction) → same_direction d d ≡ true
 direction_itself directions.Both = refl
 direction_itself directions.Send = refl
@@ -153,15 +165,20 @@ module _ (globals : Globals) (elements : List Element) where
       -- ---- values
 
       value_taken : (want : Option ValueType) (w : Worth) (nodes : Nodes) (e : Expression) → worth globals scope e ≡ Some w → 1 ≤ nodes.end → WantsNoted elements (want ∷ []) → Free (WantHas want (record { worth = Some w; nodes = nodes }))
-          → Fits w (taken want (known (default_type (Some w)))) × Noted elements (taken want (known (default_type (Some w))))
-      value_taken (Some t) w nodes e is le noted free = (fits w t nodes le free, noted.0)
-      value_taken None (TypedWorth t) nodes e is le noted free = (assignable_itself t, worth_noted elements globals grounds.fields_noted scope housed.noted e t is)
-      value_taken None (Constant z) nodes e is le noted free = let b = broken rules.Constant nodes.end le in ((refl, not_false (is_int z) (λ x. free b.0 (x, b.1))), tt)
+          → Fits w (taken want (known (default_type (Some w)))) × Noted elements (taken want (known (default_type (Some w)))) × (want ≡ None → HasDefault elements (Some w))
+      value_taken (Some t) w nodes e is le noted free = (fits w t nodes le free, noted.0, λ x. absurd (never_some t x))
+      value_taken None (TypedWorth t) nodes e is le noted free = let n = worth_noted elements globals grounds.fields_noted scope housed.noted e t is in (assignable_itself t, n, λ x. (refl, n))
+      value_taken None (Constant z) nodes e is le noted free = let b = broken rules.Constant nodes.end le in ((refl, not_false (is_int z) (λ x. free b.0 (x, b.1))), tt, λ x. (refl, tt))
       value_taken None Nil nodes e is le noted free = let b = broken rules.Nil (nodes.first + 1) (omega arith) in absurd (free b.0 b.1)
 
-      pub values_fit : (values : List Expression) (wants : List (Option ValueType)) (first m : ℕ) → length values ≡ length wants → WantsNoted elements wants → Free (ExpressionsHave globals s first (expressions values)) → Free (WantsFail wants (given_values globals s first values))
-          → AllFit globals s values (taken_all wants (given_types globals elements (given_values globals scope m values))) × AllNoted elements (taken_all wants (given_types globals elements (given_values globals scope m values)))
-      values_fit [] [] first m many noted free fail = (tt, tt)
+      -- values fit where they are wanted
+      pub record ValuesFit (values : List Expression) (wants : List (Option ValueType)) (m : ℕ) : Type 0 where
+        pub fit : AllFit globals s values (taken_all wants (given_types globals elements (given_values globals scope m values)))
+        pub noted : AllNoted elements (taken_all wants (given_types globals elements (given_values globals scope m values)))
+        pub well : WellTaken elements wants (given_values globals scope m values)
+
+      pub values_fit : (values : List Expression) (wants : List (Option ValueType)) (first m : ℕ) → length values ≡ length wants → WantsNoted elements wants → Free (ExpressionsHave globals s first (expressions values)) → Free (WantsFail wants (given_values globals s first values)) → ValuesFit values wants m
+      values_fit [] [] first m many noted free fail = record { fit = tt; noted = tt; well = tt }
       values_fit [] (want ∷ wants) first m many noted free fail = absurd cc
       values_fit (value ∷ rest) [] first m many noted free fail = absurd cc
       values_fit (value ∷ rest) (want ∷ wants) first m many noted free fail =
@@ -171,10 +188,12 @@ module _ (globals : Globals) (elements : List Element) where
           let one = value_taken want w (nodes_of first value) value here-is (nodes_end first value) n.0 (λ flaw h. fail flaw (inl (subst (λ o. WantHas want (record { worth = o; nodes = nodes_of first value }) flaw) (sym is) h))) in
           let same : known (default_type (Some w)) ≡ known (default_type (worth globals scope value)) = ap (λ o. known (default_type o)) (sym here-is) in
           let long : suc (length rest) ≡ suc (length wants) = many in
-          let more = values_fit rest wants (first + expression_size value) (m + expression_size value) (omega (arith, long)) n.1 (λ flaw h. free flaw (inr h)) (λ flaw h. fail flaw (inr h)) in (
-            ((w, is, subst (λ k. Fits w (taken want k)) same one.0), more.0),
-            (subst (λ k. Noted elements (taken want k)) same one.1, more.1),
-          )
+          let more = values_fit rest wants (first + expression_size value) (m + expression_size value) (omega (arith, long)) n.1 (λ flaw h. free flaw (inr h)) (λ flaw h. fail flaw (inr h)) in
+          record {
+            fit = ((w, is, subst (λ k. Fits w (taken want k)) same one.0), more.fit);
+            noted = (subst (λ k. Noted elements (taken want k)) same one.1, more.noted);
+            well = (λ x. subst (HasDefault elements) (sym here-is) (one.2 x), more.well);
+          }
 
       -- ---- operations
 

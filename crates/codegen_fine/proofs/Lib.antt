@@ -13,3 +13,4 @@ pub mod Updates
 pub mod Changes
 pub mod Givens
 pub mod Rights
+pub mod Layouts

@@ -26,9 +26,9 @@ use Rattle.plan.specs.Plan.{Plan}
 use Rattle.plan.proofs.Typed.{Typed}
 use Rattle.codegen_fine.proofs.Pushing.{Puts}
 use Rattle.codegen_fine.proofs.Operands.{Grounds, Housed, P}
-use Rattle.codegen_fine.proofs.Emitted.{all_kinds, AllNoted, typed_pushes_all}
+use Rattle.codegen_fine.proofs.Emitted.{all_kinds, typed_pushes_all}
 use Rattle.codegen_fine.proofs.Operations.{Functions, MakesNoted, channel_there, typed_received}
-use Rattle.codegen_fine.proofs.Givens.{WantsFail, WantsNoted, taken, taken_all, operation_alike, operation_end, Taken, typed_taken, first_noted, values_fit, GivesOne, typed_one}
+use Rattle.codegen_fine.proofs.Givens.{HasDefault, WellTaken, WantsFail, WantsNoted, taken, taken_all, operation_alike, operation_end, Taken, typed_taken, first_noted, values_fit, GivesOne, typed_one}
 
 default_typed : (o : Option ValueType) → default_type (option_map TypedWorth o) ≡ o
 default_typed None = refl
@@ -37,10 +37,6 @@ default_typed (Some t) = refl
 values_many : (globals : Globals) (s : Scope) (values : List Expression) (m : ℕ) → length (given_values globals s m values) ≡ length values
 values_many globals s [] m = refl
 values_many globals s (value ∷ rest) m = ap suc (values_many globals s rest (m + expression_size value))
-
-types_many : (globals : Globals) (elements : List Element) (values : List Given) → length (given_types globals elements values) ≡ length values
-types_many globals elements [] = refl
-types_many globals elements (value ∷ rest) = ap suc (types_many globals elements rest)
 
 module _ (globals : Globals) (elements : List Element) (code : Code) (f : CodeFunction) (grounds : Grounds globals elements code) where
   module _ (scope : Scope) (housed : Housed globals elements f scope) (s : Scope) (alike : Alike s scope) (functions : Functions globals elements code) where
@@ -54,19 +50,22 @@ module _ (globals : Globals) (elements : List Element) (code : Code) (f : CodeFu
     RightNoted (RightOperation operation) = MakesNoted globals elements code f grounds scope housed s alike functions operation
     RightNoted (Values values) = Unit {0}
 
-    -- what is taken of values of these types is pushed
-    pub record Takes (count : ℕ) (wants : List (Option ValueType)) (types : List ValueType) (push : List ValueType → Plan → Plan) : Type 0 where
-      pub many : length types ≡ count
-      pub noted : AllNoted elements (taken_all wants types)
-      pub pushed : Puts globals.structs elements code f (all_kinds globals.structs elements (taken_all wants types)) (push (taken_all wants types))
+    -- what is taken of values is pushed
+    pub record Takes (count : ℕ) (wants : List (Option ValueType)) (values : List Given) (push : List ValueType → Plan → Plan) : Type 0 where
+      pub many : length values ≡ count
+      pub well : WellTaken elements wants values
+      pub pushed : Puts globals.structs elements code f (all_kinds globals.structs elements (taken_all wants (given_types globals elements values))) (push (taken_all wants (given_types globals elements values)))
 
     -- the type of what an operation gives
     abbrev one_type : Operation → ValueType
     one_type operation = known (default_type (option_map TypedWorth (operation_type globals scope operation)))
 
+    one_default : (operation : Operation) (kind : ValueType) → operation_type globals scope operation ≡ Some kind → Noted elements kind → HasDefault elements (option_map TypedWorth (operation_type globals scope operation))
+    one_default operation kind is noted = subst (λ o. HasDefault elements (option_map TypedWorth o)) (sym is) (refl, noted)
+
     takes_one : (operation : Operation) (first end count : ℕ) (wants : List (Option ValueType)) → 1 ≤ end → length wants ≡ count → WantsNoted elements wants → Free (OperationHas globals s first operation) → Free (NumbersHave 1 count end)
         → Free (WantsFail wants (given_by first operation (operation_type globals s operation) ∷ [])) → MakesNoted globals elements code f grounds scope housed s alike functions operation
-        → Takes count wants (one_type operation ∷ []) (λ types. pushes_one globals elements scope operation)
+        → Takes count wants (given_by 0 operation (operation_type globals scope operation) ∷ []) (λ types. pushes_one globals elements scope operation)
     takes_one operation first end count [] le long noted free numbers fail makes = absurd (omega (arith, long, same_count 1 count end le numbers))
     takes_one operation first end count (want ∷ other ∷ more) le long noted free numbers fail makes = absurd (omega (arith, long, same_count 1 count end le numbers))
     takes_one operation first end count (want ∷ []) le long noted free numbers fail makes =
@@ -75,14 +74,14 @@ module _ (globals : Globals) (elements : List Element) (code : Code) (f : CodeFu
         let x = typed_taken globals elements want g.kind (given_by first operation (operation_type globals s operation)) (ap (option_map TypedWorth) g.is) (operation_end first operation) (first_noted globals elements want [] noted).0 g.noted (λ flaw h. fail flaw (inl h)) in
         record {
           many = same_count 1 count end le numbers;
-          noted = (subst (λ k. Noted elements (taken want k)) (sym one) x.noted, tt);
+          well = (λ e. one_default operation g.kind (sym (operation_alike globals elements s scope alike operation) ∙ g.is) g.noted, tt);
           pushed = subst (λ k. PS (kinds_in (taken want k) ++ []) (pushes_one globals elements scope operation)) (sym one)
               (subst (λ (l : List WordKind). PS l (pushes_one globals elements scope operation)) (sym (append-nil (kinds_in (taken want g.kind)) ∙ x.same)) g.pushed);
         }
 
     takes_two : (channel : Expression) (first end count : ℕ) (wants : List (Option ValueType)) → 1 ≤ end → length wants ≡ count → WantsNoted elements wants → Free (OperationHas globals s first (Receive channel)) → Free (NumbersHave 2 count end)
         → Free (WantsFail wants (given_by first (Receive channel) (operation_type globals s (Receive channel)) ∷ given_by first (Receive channel) (Some BoolType) ∷ []))
-        → Takes count wants (one_type (Receive channel) ∷ BoolType ∷ []) (λ types. pushes_operation globals elements scope (Receive channel))
+        → Takes count wants (given_by 0 (Receive channel) (operation_type globals scope (Receive channel)) ∷ given_by 0 (Receive channel) (Some BoolType) ∷ []) (λ types. pushes_operation globals elements scope (Receive channel))
     takes_two channel first end count [] le long noted free numbers fail = absurd (omega (arith, long, same_count 2 count end le numbers))
     takes_two channel first end count (want ∷ []) le long noted free numbers fail = absurd (omega (arith, long, same_count 2 count end le numbers))
     takes_two channel first end count (want ∷ other ∷ third ∷ more) le long noted free numbers fail = absurd (omega (arith, long, same_count 2 count end le numbers))
@@ -99,7 +98,7 @@ module _ (globals : Globals) (elements : List Element) (code : Code) (f : CodeFu
         ap (λ (l : List WordKind). l ++ (kinds_in (taken other BoolType) ++ [])) (x.same ∙ ap kinds_in (sym c.carries)) ∙ ap (λ (l : List WordKind). kinds_in (carried globals elements scope channel) ++ l) bool in
         record {
           many = same_count 2 count end le numbers;
-          noted = (subst (λ k. Noted elements (taken want k)) (sym one) x.noted, (y.noted, tt));
+          well = (λ e. one_default (Receive channel) c.element (ap element_of c.is) c.noted.0, (λ e. (refl, tt), tt));
           pushed = subst (λ k. PS (kinds_in (taken want k) ++ (kinds_in (taken other BoolType) ++ [])) push) (sym one)
               (subst (λ (l : List WordKind). PS l push) (sym both) (typed_received globals elements code f grounds scope housed s alike functions channel first free));
         }
@@ -109,7 +108,7 @@ module _ (globals : Globals) (elements : List Element) (code : Code) (f : CodeFu
 
     takes_operation : (operation : Operation) (first end count : ℕ) (wants : List (Option ValueType)) (two : Bool) → (two ≡ true → is_receive operation ≡ true) → 1 ≤ end → length wants ≡ count → WantsNoted elements wants → Free (OperationHas globals s first operation)
         → Free (NumbersHave (length (both_given two first s operation)) count end) → Free (WantsFail wants (both_given two first s operation)) → MakesNoted globals elements code f grounds scope housed s alike functions operation
-        → Takes count wants (given_types globals elements (both_given two 0 scope operation)) (λ types rest. if two then pushes_operation globals elements scope operation rest else pushes_one globals elements scope operation rest)
+        → Takes count wants (both_given two 0 scope operation) (λ types rest. if two then pushes_operation globals elements scope operation rest else pushes_one globals elements scope operation rest)
     takes_operation operation first end count wants false receives le long noted free numbers fail makes = takes_one operation first end count wants le long noted free numbers fail makes
     takes_operation (Receive channel) first end count wants true receives le long noted free numbers fail makes = takes_two channel first end count wants le long noted free numbers fail
     takes_operation (Call a b) first end count wants true receives le long noted free numbers fail makes = absurd (never (receives refl)) where
@@ -128,7 +127,7 @@ module _ (globals : Globals) (elements : List Element) (code : Code) (f : CodeFu
     -- what is taken of a right side with which nothing is wrong
     pub typed_right : (right : Right) (first end count : ℕ) (wants : List (Option ValueType)) → 1 ≤ end → length wants ≡ count → WantsNoted elements wants → Free (RightHas globals s first right)
         → Free (NumbersHave (length (given globals s count first right)) count end) → Free (WantsFail wants (given globals s count first right)) → RightNoted right
-        → Takes count wants (given_types globals elements (given globals scope count 0 right)) (λ types. pushes_right globals elements scope count types right)
+        → Takes count wants (given globals scope count 0 right) (λ types. pushes_right globals elements scope count types right)
     typed_right (RightOperation operation) first end count wants le long noted free numbers fail makes =
         takes_operation operation first end count wants ((count == 2) && is_receive operation) (λ e. (and_parts (count == 2) (is_receive operation) e).1) le long noted free numbers fail makes
     typed_right (Values values) first end count wants le long noted free numbers fail makes =
@@ -137,7 +136,7 @@ module _ (globals : Globals) (elements : List Element) (code : Code) (f : CodeFu
         let fit = values_fit globals elements code f grounds scope housed s alike values wants first 0 (omega (arith, many, counted, long)) noted free fail in
         let types = taken_all wants (given_types globals elements (given_values globals scope 0 values)) in
         record {
-          many = types_many globals elements (given_values globals scope 0 values) ∙ values_many globals scope values 0 ∙ sym counted ∙ many;
-          noted = fit.1;
-          pushed = typed_pushes_all globals elements code f grounds scope housed s alike values types first free fit.0 fit.1;
+          many = values_many globals scope values 0 ∙ sym counted ∙ many;
+          well = fit.well;
+          pushed = typed_pushes_all globals elements code f grounds scope housed s alike values types first free fit.fit fit.noted;
         }
