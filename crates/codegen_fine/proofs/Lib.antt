@@ -14,3 +14,4 @@ pub mod Changes
 pub mod Givens
 pub mod Rights
 pub mod Layouts
+pub mod Assigns
