@@ -43,7 +43,7 @@ own_stays structs scope kind new name le other =
     ap (λ o. if is_blank name then None else o) same
 
 -- none of these names is another one
-abbrev AllOthers : List ℕ → List (List ℕ) → Type 0
+abbrev pub AllOthers : List ℕ → List (List ℕ) → Type 0
 AllOthers new [] = Unit {0}
 AllOthers new (name ∷ names) = (bytes_eq new name ≡ false) × AllOthers new names
 
@@ -60,7 +60,7 @@ pub own_same : (a : Scope) (names : List (List ℕ)) → OwnSame a a names
 own_same a [] = tt
 own_same a (name ∷ names) = (refl, own_same a names)
 
-own_declared : (structs : Structs) (a b : Scope) (kind : Option ValueType) (new : List ℕ) (names : List (List ℕ)) → a.outer ≤ length a.variables → AllOthers new names → OwnSame a b names → OwnSame (declared structs a kind new) b names
+pub own_declared : (structs : Structs) (a b : Scope) (kind : Option ValueType) (new : List ℕ) (names : List (List ℕ)) → a.outer ≤ length a.variables → AllOthers new names → OwnSame a b names → OwnSame (declared structs a kind new) b names
 own_declared structs a b kind new [] le others same = tt
 own_declared structs a b kind new (name ∷ names) le others same = (own_stays structs a kind new name le others.0 ∙ same.0, own_declared structs a b kind new names le others.1 same.1)
 
@@ -85,7 +85,7 @@ declarable_alike : (s t : Scope) → Alike s t → (name : List ℕ) → is_decl
 declarable_alike s t alike name = ap (λ b. not (is_blank name) && b) (none_alike (own_variable s name) (own_variable t name) (own_alike s t alike name))
 
 -- names none of which, but `_`, stands among them twice
-twice_parts : (name : List ℕ) (names : List (List ℕ)) → has_twice (name ∷ names) ≡ false → (is_blank name ≡ false → AllOthers name names) × (has_twice names ≡ false)
+pub twice_parts : (name : List ℕ) (names : List (List ℕ)) → has_twice (name ∷ names) ≡ false → (is_blank name ≡ false → AllOthers name names) × (has_twice names ≡ false)
 twice_parts name names e =
     let w = or_parts (not (is_blank name) && has_name names name) (has_twice names) e in
     (λ b. others_by name names (sym (ap (λ t. not t && has_name names name) b) ∙ w.0), w.1)

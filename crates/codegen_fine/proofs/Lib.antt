@@ -15,3 +15,5 @@ pub mod Givens
 pub mod Rights
 pub mod Layouts
 pub mod Assigns
+pub mod Makes
+pub mod Variables
