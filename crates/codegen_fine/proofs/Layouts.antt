@@ -112,7 +112,7 @@ pub begins_before : (f : CodeFunction) (a b : Layout) → Longer a b → Begins 
 begins_before f a b g h = record { more = g.more ++ h.more; is = h.is ∙ ap (λ (l : List WordKind). l ++ h.more) g.is ∙ append_assoc a.locals g.more h.more }
 
 module _ (globals : Globals) (elements : List Element) where
-  longer_declaring : (kind : ValueType) (name : List ℕ) (layout : Layout) → Longer layout (declaring globals elements kind name layout)
+  pub longer_declaring : (kind : ValueType) (name : List ℕ) (layout : Layout) → Longer layout (declaring globals elements kind name layout)
   longer_declaring kind name layout = record { more = kinds_of globals.structs elements kind; is = refl }
 
   pub longer_new : (kind : ValueType) (name : List ℕ) (layout : Layout) → Longer layout (declaring_new globals elements kind name layout)

@@ -17,3 +17,5 @@ pub mod Layouts
 pub mod Assigns
 pub mod Makes
 pub mod Variables
+pub mod Simples
+pub mod Growing
