@@ -19,3 +19,5 @@ pub mod Makes
 pub mod Variables
 pub mod Simples
 pub mod Growing
+pub mod Entered
+pub mod Before
