@@ -26,6 +26,7 @@ use Rattle.codegen_base.specs.Statements.{Spot, Dropped, Local, assigns, spot_of
 use Rattle.codegen_base.proofs.Alike.{kind_if, Alike, own_alike}
 use Rattle.codegen_base.proofs.Noted.{Noted}
 use Rattle.codegen_base.proofs.Typing.{Free, broken}
+use Rattle.codegen_fine.proofs.Sees.{Sees}
 use Rattle.plan.specs.Plan.{Plan, Skip}
 use Rattle.plan.proofs.Typed.{Allowed, Typed}
 use Rattle.codegen_fine.proofs.Pushing.{Puts}
@@ -85,12 +86,12 @@ with_worths globals s [] ws = s
 with_worths globals s (name ∷ names) ws = with_worths globals (after_name globals s name (first_default ws)) names (others ws)
 
 module _ (globals : Globals) (elements : List Element) where
-  by_worths : (x scope : Scope) (alike : Alike x scope) (names : List (List ℕ)) (s : Scope) (values : List Given) → with_defined globals s names values ≡ with_worths globals s names (worths globals elements x scope alike values)
+  by_worths : (x scope : Scope) (alike : Sees x scope) (names : List (List ℕ)) (s : Scope) (values : List Given) → with_defined globals s names values ≡ with_worths globals s names (worths globals elements x scope alike values)
   by_worths x scope alike [] s values = refl
   by_worths x scope alike (name ∷ names) s [] = by_worths x scope alike names (after_name globals s name None) []
   by_worths x scope alike (name ∷ names) s (value ∷ values) = by_worths x scope alike names (after_name globals s name (default_type value.worth)) values
 
-  pub defined_alike : (s scope : Scope) (alike : Alike s scope) (names : List (List ℕ)) (count m n : ℕ) (right : Right) → with_defined globals s names (given globals s count m right) ≡ with_defined globals s names (given globals scope count n right)
+  pub defined_alike : (s scope : Scope) (alike : Sees s scope) (names : List (List ℕ)) (count m n : ℕ) (right : Right) → with_defined globals s names (given globals s count m right) ≡ with_defined globals s names (given globals scope count n right)
   defined_alike s scope alike names count m n right =
       by_worths s scope alike names s (given globals s count m right) ∙ ap (with_worths globals s names) (given_alike globals elements s scope alike count m n right) ∙ sym (by_worths s scope alike names s (given globals scope count n right))
 
@@ -115,7 +116,7 @@ module _ (globals : Globals) (elements : List Element) where
 
     -- ---- places
 
-    module _ (scope : Scope) (all : AllHoused globals elements f scope.variables) (s : Scope) (alike : Alike s scope) where
+    module _ (scope : Scope) (all : AllHoused globals elements f scope.variables) (s : Scope) (alike : Sees s scope) where
       place_fits : (place : Place) (first : ℕ) (kind : ValueType) → Free (PlaceHas globals s first place) → SpotFits globals.structs elements code f (place_spot globals elements scope place kind) (kinds_in (taken_type globals elements scope place kind))
       place_fits place first kind free = go (is_blank place.name) refl where
         go : (b : Bool) → is_blank place.name ≡ b → SpotFits globals.structs elements code f (if b then Dropped (length (kinds_in kind)) else spot_of globals elements scope (selected globals scope place)) (kinds_in (if b then kind else known (place_type globals scope place)))
@@ -208,7 +209,7 @@ module _ (globals : Globals) (elements : List Element) where
       all_taken (name ∷ names) (value ∷ values) w = (λ e. w.0 (ap want_of e), all_taken names values w.1)
 
       pub typed_defines : (names : List (List ℕ)) (right : Right) (first end : ℕ) → 1 ≤ end → has_twice names ≡ false → Free (RightHas globals s first right) → Free (NumbersHave (length (given globals s (length names) first right)) (length names) end)
-          → Free (NamesFail s names (given globals s (length names) first right)) → RightNoted globals elements code f grounds layout.scope (housed_of globals elements f layout.scope room.housed) s alike functions right
+          → Free (NamesFail s names (given globals s (length names) first right)) → RightNoted globals elements code f grounds layout.scope (housed_of globals elements f layout.scope room.housed) s alike.named functions right
           → Begins f (declaring_all globals elements names (right_types globals elements layout.scope (length names) right) layout)
           → Declares (defines globals elements layout names (right_types globals elements layout.scope (length names) right) right) (with_defined globals s names (given globals s (length names) 0 right))
           (declaring_all globals elements names (right_types globals elements layout.scope (length names) right) layout)
@@ -217,13 +218,13 @@ module _ (globals : Globals) (elements : List Element) where
           let housed = housed_of globals elements f layout.scope room.housed in
           let wants = names_want layout.scope names in
           let types = right_types globals elements layout.scope count right in
-          let t = typed_right globals elements code f grounds layout.scope housed s alike functions right first end count wants le (length-map names (λ name. want_of (own_variable layout.scope name))) (names_noted names) free numbers (λ flaw h. fail flaw (names_fail names (given globals s count first right) flaw h)) noted in
+          let t = typed_right globals elements code f grounds layout.scope housed s alike.named functions right first end count wants le (length-map names (λ name. want_of (own_variable layout.scope name))) (names_noted names) free numbers (λ flaw h. fail flaw (names_fail names (given globals s count first right) flaw h)) noted in
           let n = names_fit globals elements f code grounds.wide names (given globals layout.scope count 0 right) layout layout s room begins alike (own_same layout.scope names) twice (all_taken names (given globals layout.scope count 0 right) t.well) in
           let pushed = subst (λ (l : List ValueType). Puts globals.structs elements code f (all_kinds globals.structs elements l) (pushes_right globals elements layout.scope count l right)) (sym (names_taken globals elements layout names types)) t.pushed in
           record {
             leaves = put_leaves (name_types globals elements layout names types) (name_spots globals elements layout names types) (pushes_right globals elements layout.scope count (name_types globals elements layout names types) right) pushed n.fit;
             room = n.room;
-            alike = subst (λ x. Alike x (declaring_all globals elements names types layout).scope) (sym (defined_alike s layout.scope alike names count 0 0 right)) n.alike;
+            alike = subst (λ x. Alike x (declaring_all globals elements names types layout).scope) (sym (defined_alike s layout.scope alike.named names count 0 0 right)) n.alike;
           }
 
       not_true : (b : Bool) → (b ≡ true → ⊥) → b ≡ false
@@ -231,7 +232,7 @@ module _ (globals : Globals) (elements : List Element) where
       not_true false never = refl
 
       -- a `:=`
-      pub typed_define : (names : List (List ℕ)) (right : Right) (first : ℕ) → Free (SimpleHas globals s first (Define names right)) → RightNoted globals elements code f grounds layout.scope (housed_of globals elements f layout.scope room.housed) s alike functions right
+      pub typed_define : (names : List (List ℕ)) (right : Right) (first : ℕ) → Free (SimpleHas globals s first (Define names right)) → RightNoted globals elements code f grounds layout.scope (housed_of globals elements f layout.scope room.housed) s alike.named functions right
           → Begins f (behind_simple globals elements (Define names right) layout)
           → Declares (defines globals elements layout names (right_types globals elements layout.scope (length names) right) right) (after_simple globals s (Define names right)) (behind_simple globals elements (Define names right) layout)
       typed_define names right first free noted begins =

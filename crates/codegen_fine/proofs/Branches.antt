@@ -17,7 +17,7 @@ use Rattle.codegen_base.specs.declared.element.Element.{Element}
 use Rattle.codegen_base.specs.Elements.{kinds_of}
 use Rattle.codegen_base.specs.Pushes.{pushes}
 use Rattle.codegen_base.specs.Statements.{pushes_arguments}
-use Rattle.codegen_base.proofs.Alike.{Alike}
+use Rattle.codegen_fine.proofs.Sees.{Sees}
 use Rattle.codegen_base.proofs.Noted.{Noted}
 use Rattle.codegen_base.proofs.Typing.{Free, Fits}
 use Rattle.plan.specs.Plan.{Plan, Skip, Do, IfElse, IfThen, Cycle, Endless, Stop, turns}
@@ -28,7 +28,7 @@ use Rattle.codegen_fine.proofs.Operations.{Functions, call_there}
 use Rattle.codegen_fine.proofs.Requests.{starts_typed}
 
 module _ (globals : Globals) (elements : List Element) (code : Code) (f : CodeFunction) (grounds : Grounds globals elements code) where
-  module _ (scope : Scope) (housed : Housed globals elements f scope) (s : Scope) (alike : Alike s scope) where
+  module _ (scope : Scope) (housed : Housed globals elements f scope) (s : Scope) (alike : Sees s scope) where
     abbrev T : Allowed → List WordKind → Plan → List WordKind → Type 0
     T = Typed code f
 

@@ -27,7 +27,7 @@ use Rattle.codegen_base.specs.Elements.{kinds_of}
 use Rattle.codegen_base.specs.Layouts.{Layout}
 use Rattle.codegen_base.specs.Pushes.{operator_of, emits, operates}
 use Rattle.codegen_base.specs.Statements.{Spot, Local, spot_of, stores, loads_spot, steps, updates}
-use Rattle.codegen_base.proofs.Alike.{Alike, worth_alike}
+use Rattle.codegen_fine.proofs.Sees.{Sees, worth_sees}
 use Rattle.codegen_base.proofs.Known.{worth_noted}
 use Rattle.codegen_base.proofs.Noted.{Noted}
 use Rattle.codegen_base.proofs.Splits.{right_operand}
@@ -99,7 +99,7 @@ made_own operator own w nodes end le lt free =
     is ∙ ap Ok (plain ∙ ap TypedWorth (same own (subst (λ x. Fits x own) plain fit)))
 
 module _ (globals : Globals) (elements : List Element) (code : Code) (f : CodeFunction) (grounds : Grounds globals elements code) where
-  module _ (scope : Scope) (all : AllHoused globals elements f scope.variables) (s : Scope) (alike : Alike s scope) where
+  module _ (scope : Scope) (all : AllHoused globals elements f scope.variables) (s : Scope) (alike : Sees s scope) where
     -- a place that is read
     record Readable (place : Place) : Type 0 where
       at : Selected
@@ -159,7 +159,7 @@ module _ (globals : Globals) (elements : List Element) (code : Code) (f : CodeFu
         let r = readable place first (λ flaw h. free flaw (inl h)) in
         let p = place_is place r in
         let (w, has) = worth_there globals s (grounds.fields_known s) value (first + 1) (λ flaw h. free flaw (inr (inl h))) in
-        let here-is : worth globals scope value ≡ Some w = sym (worth_alike s scope alike globals value) ∙ has in
+        let here-is : worth globals scope value ≡ Some w = sym (worth_sees s scope alike globals value) ∙ has in
         let end = first + 1 + expression_size value + 1 in
         let nodes = nodes_of (first + 1) value in
         let sum = made_own operator r.own w nodes end (nodes_end (first + 1) value) (omega arith)

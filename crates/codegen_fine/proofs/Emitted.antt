@@ -23,7 +23,7 @@ use Rattle.codegen_base.specs.declared.element.Element.{Element}
 use Rattle.codegen_base.specs.Elements.{kinds_of}
 use Rattle.codegen_base.specs.Layouts.{type_of}
 use Rattle.codegen_base.specs.Pushes.{words_of, loads, signed, settled, kinds_in, literal_types, emits, emits_fields, pushes, pushes_all, pushes_zeros, operates, selects as selects_plan}
-use Rattle.codegen_base.proofs.Alike.{Alike, worth_alike}
+use Rattle.codegen_fine.proofs.Sees.{Sees, worth_sees}
 use Rattle.codegen_base.proofs.Fields.{AllTyped}
 use Rattle.codegen_base.proofs.Expressions.{typed_same, typed_variable}
 use Rattle.codegen_base.proofs.Known.{worth_noted}
@@ -51,12 +51,12 @@ AllNoted elements [] = Unit {0}
 AllNoted elements (kind ∷ types) = Noted elements kind × AllNoted elements types
 
 module _ (globals : Globals) (elements : List Element) (code : Code) (f : CodeFunction) (grounds : Grounds globals elements code) where
-  module _ (scope : Scope) (housed : Housed globals elements f scope) (s : Scope) (alike : Alike s scope) where
+  module _ (scope : Scope) (housed : Housed globals elements f scope) (s : Scope) (alike : Sees s scope) where
     abbrev PK : ValueType → (Plan → Plan) → Type 0
     PK kind push = P globals elements code f grounds kind push
 
     checked : (e : Expression) → worth globals s e ≡ worth globals scope e
-    checked e = worth_alike s scope alike globals e
+    checked e = worth_sees s scope alike globals e
 
     -- nothing is wrong with an expression, which has these nodes
     abbrev Whole : ℕ → Expression → Type 0

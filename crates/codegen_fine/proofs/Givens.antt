@@ -28,7 +28,8 @@ use Rattle.codegen_base.specs.Elements.{kinds_of, shape_of}
 use Rattle.codegen_base.specs.Generated.{result_kinds}
 use Rattle.codegen_base.specs.Layouts.{carried, given_types}
 use Rattle.codegen_base.specs.Statements.{pushes_operation, pushes_received, pushes_one, pushes_right}
-use Rattle.codegen_base.proofs.Alike.{Alike, variable_alike, there_alike, worth_alike, type_alike}
+use Rattle.codegen_base.proofs.Alike.{there_alike}
+use Rattle.codegen_fine.proofs.Sees.{Sees, variable_sees, worth_sees, type_sees}
 use Rattle.codegen_base.proofs.Called.{same_count}
 use Rattle.codegen_base.proofs.Known.{worth_noted}
 use Rattle.codegen_base.proofs.Noted.{Noted}
@@ -102,14 +103,14 @@ assignable_itself (ChannelType directions.Receive t) = identical_itself t
 
 -- ---- the values that are given have the same worths in scopes that are alike
 
-callee_alike : (globals : Globals) (s t : Scope) → Alike s t → (name : List ℕ) → callee globals s name ≡ callee globals t name
-callee_alike globals s t alike name = ap (λ b. if b || is_some (number_of_type globals.types name) || (is_reserved name && not (bytes_eq name (codes "init"))) then NoFunction else function_of (function_number globals.functions name)) (there_alike (variable_named s name) (variable_named t name) (variable_alike s t alike name))
+callee_alike : (globals : Globals) (s t : Scope) → Sees s t → (name : List ℕ) → callee globals s name ≡ callee globals t name
+callee_alike globals s t alike name = ap (λ b. if b || is_some (number_of_type globals.types name) || (is_reserved name && not (bytes_eq name (codes "init"))) then NoFunction else function_of (function_number globals.functions name)) (there_alike (variable_named s name) (variable_named t name) (variable_sees s t alike name))
 
-module _ (globals : Globals) (elements : List Element) (s scope : Scope) (alike : Alike s scope) where
+module _ (globals : Globals) (elements : List Element) (s scope : Scope) (alike : Sees s scope) where
   pub operation_alike : (operation : Operation) → operation_type globals s operation ≡ operation_type globals scope operation
   operation_alike (Call function arguments) = ap (result_type globals) (callee_alike globals s scope alike function)
-  operation_alike (Receive channel) = ap element_of (worth_alike s scope alike globals channel)
-  operation_alike (Make kind size) = ap made_of (type_alike s scope alike globals.types kind)
+  operation_alike (Receive channel) = ap element_of (worth_sees s scope alike globals channel)
+  operation_alike (Make kind size) = ap made_of (type_sees s scope alike globals.types kind)
   operation_alike (Length channel) = refl
   operation_alike (Capacity channel) = refl
 
@@ -119,7 +120,7 @@ module _ (globals : Globals) (elements : List Element) (s scope : Scope) (alike 
 
   pub values_alike : (values : List Expression) (m n : ℕ) → worths (given_values globals s m values) ≡ worths (given_values globals scope n values)
   values_alike [] m n = refl
-  values_alike (value ∷ rest) m n = ap (λ (l : List (Option Worth)). worth globals s value ∷ l) (values_alike rest (m + expression_size value) (n + expression_size value)) ∙ ap (λ o. o ∷ worths (given_values globals scope (n + expression_size value) rest)) (worth_alike s scope alike globals value)
+  values_alike (value ∷ rest) m n = ap (λ (l : List (Option Worth)). worth globals s value ∷ l) (values_alike rest (m + expression_size value) (n + expression_size value)) ∙ ap (λ o. o ∷ worths (given_values globals scope (n + expression_size value) rest)) (worth_sees s scope alike globals value)
 
   pub given_alike : (count m n : ℕ) (right : Right) → worths (given globals s count m right) ≡ worths (given globals scope count n right)
   given_alike count m n (Values values) = values_alike values m n
@@ -133,7 +134,7 @@ abbrev pub types_of : List (Option Worth) → List ValueType
 types_of [] = []
 types_of (w ∷ rest) = known (default_type w) ∷ types_of rest
 
-pub types_given : (globals : Globals) (elements : List Element) (s scope : Scope) (alike : Alike s scope) (values : List Given) → given_types globals elements values ≡ types_of (worths globals elements s scope alike values)
+pub types_given : (globals : Globals) (elements : List Element) (s scope : Scope) (alike : Sees s scope) (values : List Given) → given_types globals elements values ≡ types_of (worths globals elements s scope alike values)
 types_given globals elements s scope alike [] = refl
 types_given globals elements s scope alike (value ∷ rest) = ap (λ (l : List ValueType). known (default_type value.worth) ∷ l) (types_given globals elements s scope alike rest)
 
@@ -161,7 +162,7 @@ module _ (globals : Globals) (elements : List Element) where
   first_noted (Some kind) wants n = ((n.0, tt), n.1)
 
   module _ (code : Code) (f : CodeFunction) (grounds : Grounds globals elements code) where
-    module _ (scope : Scope) (housed : Housed globals elements f scope) (s : Scope) (alike : Alike s scope) where
+    module _ (scope : Scope) (housed : Housed globals elements f scope) (s : Scope) (alike : Sees s scope) where
       -- ---- values
 
       value_taken : (want : Option ValueType) (w : Worth) (nodes : Nodes) (e : Expression) → worth globals scope e ≡ Some w → 1 ≤ nodes.end → WantsNoted elements (want ∷ []) → Free (WantHas want (record { worth = Some w; nodes = nodes }))
@@ -183,7 +184,7 @@ module _ (globals : Globals) (elements : List Element) where
       values_fit (value ∷ rest) [] first m many noted free fail = absurd cc
       values_fit (value ∷ rest) (want ∷ wants) first m many noted free fail =
           let (w, is) = worth_there globals s (grounds.fields_known s) value first (λ flaw h. free flaw (inl h)) in
-          let here-is : worth globals scope value ≡ Some w = sym (worth_alike s scope alike globals value) ∙ is in
+          let here-is : worth globals scope value ≡ Some w = sym (worth_sees s scope alike globals value) ∙ is in
           let n = first_noted want wants noted in
           let one = value_taken want w (nodes_of first value) value here-is (nodes_end first value) n.0 (λ flaw h. fail flaw (inl (subst (λ o. WantHas want (record { worth = o; nodes = nodes_of first value }) flaw) (sym is) h))) in
           let same : known (default_type (Some w)) ≡ known (default_type (worth globals scope value)) = ap (λ o. known (default_type o)) (sym here-is) in
@@ -243,7 +244,7 @@ module _ (globals : Globals) (elements : List Element) where
             let item = kinds_of globals.structs elements (carried globals elements scope channel) in
             record {
               kind = c.element;
-              is = ap element_of (worth_alike s scope alike globals channel ∙ c.is);
+              is = ap element_of (worth_sees s scope alike globals channel ∙ c.is);
               noted = c.noted.0;
               pushed = λ a ks out rest t.
                   typed_received globals elements code f grounds scope housed s alike functions channel first free a ks out (Do (instrs.Discard 1) rest)
@@ -256,7 +257,7 @@ module _ (globals : Globals) (elements : List Element) where
           go : (o : Option ValueType) → type_in globals.types s kind ≡ o → GivesOne (Make kind size)
           go None none = let b = broken rules.Visible (first + 1) (omega arith) in absurd (free b.0 (inl (subst (λ o. TypeHas o first b.0) (sym none) b.1)))
           go (Some t) some =
-              let here-is : known (type_in globals.types scope kind) ≡ t = ap known (sym (type_alike s scope alike globals.types kind) ∙ some) in
+              let here-is : known (type_in globals.types scope kind) ≡ t = ap known (sym (type_sees s scope alike globals.types kind) ∙ some) in
               let channel : t ≡ ChannelType d c = sym here-is ∙ is in
               record {
                 kind = ChannelType d c;

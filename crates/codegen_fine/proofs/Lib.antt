@@ -1,3 +1,4 @@
+pub mod Sees
 pub mod WordKinds
 pub mod Pushing
 pub mod Operands
@@ -19,5 +20,6 @@ pub mod Makes
 pub mod Variables
 pub mod Simples
 pub mod Growing
-pub mod Entered
+pub mod Conditions
 pub mod Before
+pub mod Noting

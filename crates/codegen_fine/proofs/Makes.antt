@@ -18,7 +18,7 @@ use Rattle.meaning.specs.Values.{known}
 use Rattle.codegen_base.specs.declared.element.Element.{Element}
 use Rattle.codegen_base.specs.Elements.{kinds_of, shape_of}
 use Rattle.codegen_base.specs.Program.{noting, noting_right}
-use Rattle.codegen_base.proofs.Alike.{Alike, type_alike}
+use Rattle.codegen_fine.proofs.Sees.{Sees, type_sees}
 use Rattle.codegen_base.proofs.Noted.{Noted, Grows, noted_grows, type_noted}
 use Rattle.codegen_base.proofs.Splits.{channel_is}
 use Rattle.codegen_base.proofs.Typing.{Free, broken, not_false}
@@ -56,7 +56,7 @@ module _ (globals : Globals) (elements : List Element) (code : Code) (f : CodeFu
   noted_there (StructType n) noted = grounds.structs_there n
   noted_there (ChannelType d c) noted = one_there (kinds.Chan (shape_of elements c)) (shape_within globals elements code f grounds d c noted)
 
-  module _ (scope : Scope) (housed : Housed globals elements f scope) (s : Scope) (alike : Alike s scope) (functions : Functions globals elements code) where
+  module _ (scope : Scope) (housed : Housed globals elements f scope) (s : Scope) (alike : Sees s scope) (functions : Functions globals elements code) where
     -- a type with which nothing is wrong
     pub written : (kind : TypeExpression) (first : ℕ) → Free (TypeHas (type_in globals.types s kind) first) → (t : ValueType) × (type_in globals.types s kind ≡ Some t)
     written kind first free = go (type_in globals.types s kind) refl where
@@ -70,7 +70,7 @@ module _ (globals : Globals) (elements : List Element) (code : Code) (f : CodeFu
         let end = first + operation_size (Make kind size) in
         let b = broken rules.Made end (omega arith) in
         let (d, c, channel) = channel_is t (not_false (is_channel_type t) (λ e. free b.0 (inr (inr (subst (λ o. MadeHas o end b.0) (sym is) (e, b.1)))))) in
-        let here-is : type_in globals.types scope kind ≡ Some t = sym (type_alike s scope alike globals.types kind) ∙ is in
+        let here-is : type_in globals.types scope kind ≡ Some t = sym (type_sees s scope alike globals.types kind) ∙ is in
         (d, c, ap known here-is ∙ channel, subst (Noted elements) channel (written_noted globals.types elements all scope kind t g here-is))
 
     pub right_noted : (right : Right) (first : ℕ) → Free (RightHas globals s first right) → (all : List Element) → Grows (noting_right globals.types right all) elements → RightNoted globals elements code f grounds scope housed s alike functions right

@@ -22,7 +22,7 @@ use Rattle.codegen_base.specs.Generated.{result_kinds}
 use Rattle.codegen_base.specs.Layouts.{carried}
 use Rattle.codegen_base.specs.Pushes.{settled, emits, pushes_own}
 use Rattle.codegen_base.specs.Statements.{pushes_arguments, pushes_received, pushes_size, pushes_operation}
-use Rattle.codegen_base.proofs.Alike.{Alike, worth_alike}
+use Rattle.codegen_fine.proofs.Sees.{Sees, worth_sees}
 use Rattle.codegen_base.proofs.Known.{worth_noted}
 use Rattle.codegen_base.proofs.Noted.{Noted}
 use Rattle.codegen_base.proofs.Typing.{Free, Fits, broken, nodes_end, worth_there, int_type, not_false}
@@ -51,7 +51,7 @@ channel_of BoolType o is never = absurd (never (sym is))
 channel_of (StructType n) o is never = absurd (never (sym is))
 
 module _ (globals : Globals) (elements : List Element) (code : Code) (f : CodeFunction) (grounds : Grounds globals elements code) where
-  module _ (scope : Scope) (housed : Housed globals elements f scope) (s : Scope) (alike : Alike s scope) (functions : Functions globals elements code) where
+  module _ (scope : Scope) (housed : Housed globals elements f scope) (s : Scope) (alike : Sees s scope) (functions : Functions globals elements code) where
     abbrev PK : ValueType → (Plan → Plan) → Type 0
     PK kind push = P globals elements code f grounds kind push
 
@@ -59,7 +59,7 @@ module _ (globals : Globals) (elements : List Element) (code : Code) (f : CodeFu
     PS js push = Puts globals.structs elements code f js push
 
     checked : (e : Expression) → worth globals s e ≡ worth globals scope e
-    checked e = worth_alike s scope alike globals e
+    checked e = worth_sees s scope alike globals e
 
     noted_here : (e : Expression) (k : ValueType) → worth globals scope e ≡ Some (TypedWorth k) → Noted elements k
     noted_here e k is = worth_noted elements globals grounds.fields_noted scope housed.noted e k is

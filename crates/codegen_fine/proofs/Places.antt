@@ -15,7 +15,8 @@ use Rattle.checker_operation.specs.Operations.{PathHas, PlaceHas, followed, vari
 use Rattle.meaning.specs.Values.{known}
 use Rattle.codegen_base.specs.declared.element.Element.{Element}
 use Rattle.codegen_base.specs.Elements.{kinds_of}
-use Rattle.codegen_base.proofs.Alike.{kind_if, Alike, variable_alike, kind_alike}
+use Rattle.codegen_base.proofs.Alike.{kind_if, kind_alike}
+use Rattle.codegen_fine.proofs.Sees.{Sees, variable_sees}
 use Rattle.codegen_base.proofs.Noted.{Noted}
 use Rattle.codegen_base.proofs.Typing.{Free, broken}
 use Rattle.plan.proofs.Lists.{Stand, split}
@@ -105,8 +106,8 @@ module _ (globals : Globals) (elements : List Element) (f : CodeFunction) where
           subst (λ o. Leads (followed globals.structs o rest)) (sym same) next
 
     -- a place with which nothing is wrong, and which is not `_`
-    pub place_leads : (scope : Scope) (alike : Alike s scope) (all : AllHoused scope.variables) (place : Place) (first : ℕ) → Free (PlaceHas globals s first place) → is_blank place.name ≡ false → Leads (selected globals scope place)
-    place_leads scope alike all place first free named = go (variable_named s place.name) (variable_named scope place.name) refl refl (variable_alike s scope alike place.name) where
+    pub place_leads : (scope : Scope) (alike : Sees s scope) (all : AllHoused scope.variables) (place : Place) (first : ℕ) → Free (PlaceHas globals s first place) → is_blank place.name ≡ false → Leads (selected globals scope place)
+    place_leads scope alike all place first free named = go (variable_named s place.name) (variable_named scope place.name) refl refl (variable_sees s scope alike place.name) where
       go : (a b : Option Variable) → variable_named s place.name ≡ a → variable_named scope place.name ≡ b → kind_if (variable_named s place.name) ≡ kind_if (variable_named scope place.name) → Leads (selected globals scope place)
       go None b is ib same =
           let x = broken rules.Visible (first + 1) (omega arith) in
@@ -153,10 +154,10 @@ followed_alike structs (field ∷ rest) (Some x) (Some y) e = followed_alike str
   moved None = refl
   moved (Some z) = refl
 
-pub place_alike : (globals : Globals) (s scope : Scope) → Alike s scope → (place : Place) → place_type globals s place ≡ place_type globals scope place
+pub place_alike : (globals : Globals) (s scope : Scope) → Sees s scope → (place : Place) → place_type globals s place ≡ place_type globals scope place
 place_alike globals s scope alike place =
     followed_alike globals.structs place.fields (option_map variable_at (variable_named s place.name)) (option_map variable_at (variable_named scope place.name))
-    (at (variable_named s place.name) ∙ kind_alike (variable_named s place.name) (variable_named scope place.name) (variable_alike s scope alike place.name) ∙ sym (at (variable_named scope place.name))) where
+    (at (variable_named s place.name) ∙ kind_alike (variable_named s place.name) (variable_named scope place.name) (variable_sees s scope alike place.name) ∙ sym (at (variable_named scope place.name))) where
       at : (o : Option Variable) → type_of_field (option_map variable_at o) ≡ kind_of o
       at None = refl
       at (Some v) = refl

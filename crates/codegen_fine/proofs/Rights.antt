@@ -18,7 +18,7 @@ use Rattle.codegen_base.specs.declared.element.Element.{Element}
 use Rattle.codegen_base.specs.Elements.{kinds_of}
 use Rattle.codegen_base.specs.Layouts.{carried, given_types}
 use Rattle.codegen_base.specs.Statements.{pushes_operation, pushes_received, pushes_one, pushes_right}
-use Rattle.codegen_base.proofs.Alike.{Alike, worth_alike}
+use Rattle.codegen_fine.proofs.Sees.{Sees, worth_sees}
 use Rattle.codegen_base.proofs.Called.{same_count}
 use Rattle.codegen_base.proofs.Noted.{Noted}
 use Rattle.codegen_base.proofs.Typing.{Free}
@@ -39,7 +39,7 @@ values_many globals s [] m = refl
 values_many globals s (value ∷ rest) m = ap suc (values_many globals s rest (m + expression_size value))
 
 module _ (globals : Globals) (elements : List Element) (code : Code) (f : CodeFunction) (grounds : Grounds globals elements code) where
-  module _ (scope : Scope) (housed : Housed globals elements f scope) (s : Scope) (alike : Alike s scope) (functions : Functions globals elements code) where
+  module _ (scope : Scope) (housed : Housed globals elements f scope) (s : Scope) (alike : Sees s scope) (functions : Functions globals elements code) where
     abbrev kinds_in : ValueType → List WordKind
     kinds_in = kinds_of globals.structs elements
 
@@ -88,7 +88,7 @@ module _ (globals : Globals) (elements : List Element) (code : Code) (f : CodeFu
     takes_two channel first end count (want ∷ other ∷ []) le long noted free numbers fail =
         let c = channel_there globals elements code f grounds scope housed s alike functions channel first (λ flaw h. free flaw (inl h)) (λ flaw h. free flaw (inr (inl h))) in
         let n = first_noted globals elements want (other ∷ []) noted in
-        let is : operation_type globals s (Receive channel) ≡ Some c.element = ap element_of (worth_alike s scope alike globals channel ∙ c.is) in
+        let is : operation_type globals s (Receive channel) ≡ Some c.element = ap element_of (worth_sees s scope alike globals channel ∙ c.is) in
         let x = typed_taken globals elements want c.element (given_by first (Receive channel) (operation_type globals s (Receive channel))) (ap (option_map TypedWorth) is) (operation_end first (Receive channel)) n.0 c.noted.0 (λ flaw h. fail flaw (inl h)) in
         let y = typed_taken globals elements other BoolType (given_by first (Receive channel) (Some BoolType)) refl (operation_end first (Receive channel)) (first_noted globals elements other [] n.1).0 tt (λ flaw h. fail flaw (inr (inl h))) in
         let one : one_type (Receive channel) ≡ c.element = ap (λ o. known (default_type (option_map TypedWorth (element_of o)))) c.is in

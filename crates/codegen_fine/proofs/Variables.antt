@@ -139,7 +139,7 @@ module _ (globals : Globals) (elements : List Element) where
 
     module _ (layout : Layout) (room : Room globals elements f layout) (s : Scope) (alike : Alike s layout.scope) where
       -- a `var` without a type
-      pub typed_untyped : (names : List (List ℕ)) (right : Right) (first : ℕ) → Free (UntypedVariablesHave globals s first names right) → RightNoted globals elements code f grounds layout.scope (housed_of globals elements f layout.scope room.housed) s alike functions right
+      pub typed_untyped : (names : List (List ℕ)) (right : Right) (first : ℕ) → Free (UntypedVariablesHave globals s first names right) → RightNoted globals elements code f grounds layout.scope (housed_of globals elements f layout.scope room.housed) s alike.named functions right
           → Begins f (declaring_all globals elements names (right_types globals elements layout.scope (length names) right) layout)
           → Declares globals elements code f grounds functions (defines globals elements layout names (right_types globals elements layout.scope (length names) right) right) (with_defined globals s names (given globals s (length names) 0 right))
           (declaring_all globals elements names (right_types globals elements layout.scope (length names) right) layout)
@@ -152,7 +152,7 @@ module _ (globals : Globals) (elements : List Element) where
 
       -- a `var` with a type
       pub typed_typed : (names : List (List ℕ)) (written : TypeExpression) (right : Option Right) (first : ℕ) (kind : ValueType) → type_in globals.types s written ≡ Some kind → Noted elements kind → Free (TypedVariablesHave globals s first names written right)
-          → ((r : Right) → right ≡ Some r → RightNoted globals elements code f grounds layout.scope (housed_of globals elements f layout.scope room.housed) s alike functions r)
+          → ((r : Right) → right ≡ Some r → RightNoted globals elements code f grounds layout.scope (housed_of globals elements f layout.scope room.housed) s alike.named functions r)
           → Begins f (declaring_each globals elements kind names layout)
           → Declares globals elements code f grounds functions (variables_plan globals elements layout names kind right) (with_variables globals s (type_in globals.types s written) names) (declaring_each globals elements kind names layout)
       typed_typed names written right first kind is noted free makes begins =
@@ -174,7 +174,7 @@ module _ (globals : Globals) (elements : List Element) where
                 (subst (λ x. Alike x (declaring_each globals elements kind names layout).scope) (variables_are names kind s s alike.fits (own_same s names) fresh parts.0) (subst (λ (x : Layout). Alike (with_defined globals s names (alike_values names kind)) x.scope) (all_each names kind layout) n.alike));
           } where
             go : (right : Option Right) → Free (IfRightHas globals s (length names) (type_in globals.types s written) (first + type_size written) right)
-                → ((r : Right) → right ≡ Some r → RightNoted globals elements code f grounds layout.scope (housed_of globals elements f layout.scope room.housed) s alike functions r)
+                → ((r : Right) → right ≡ Some r → RightNoted globals elements code f grounds layout.scope (housed_of globals elements f layout.scope room.housed) s alike.named functions r)
                 → name_types globals elements layout names (same_types globals elements names kind) ≡ same_types globals elements names kind
                 → SpotsFit globals.structs elements code f (name_spots globals elements layout names (same_types globals elements names kind)) (map (kinds_of globals.structs elements) (name_types globals elements layout names (same_types globals elements names kind)))
                 → Leaves globals elements code f grounds functions (variables_plan globals elements layout names kind right)
@@ -185,7 +185,7 @@ module _ (globals : Globals) (elements : List Element) where
                 let count = length names in
                 let at = first + type_size written in
                 let values = given globals layout.scope count 0 r in
-                let t = typed_right globals elements code f grounds layout.scope (housed_of globals elements f layout.scope room.housed) s alike functions r at (at + right_size r + 1) count (all_want names kind) (omega arith) (length-map names (λ name. Some kind)) (want_noted names kind noted)
+                let t = typed_right globals elements code f grounds layout.scope (housed_of globals elements f layout.scope room.housed) s alike.named functions r at (at + right_size r + 1) count (all_want names kind) (omega arith) (length-map names (λ name. Some kind)) (want_noted names kind noted)
                 (λ flaw h. free flaw (inl h)) (λ flaw h. free flaw (inr (inl h))) (λ flaw h. free flaw (inr (inr (want_fails names kind (type_in globals.types s written) (given globals s count at r) flaw is h)))) (makes r refl) in
                 let pushed = subst (λ (l : List ValueType). Puts globals.structs elements code f (all_kinds globals.structs elements l) (pushes_right globals elements layout.scope count l r)) (want_same names kind values t.many ∙ sym same) t.pushed in
                 put_leaves globals elements code f grounds functions (name_types globals elements layout names (same_types globals elements names kind)) (name_spots globals elements layout names (same_types globals elements names kind)) (pushes_right globals elements layout.scope count (name_types globals elements layout names (same_types globals elements names kind)) r) pushed fit
