@@ -23,3 +23,5 @@ pub mod Growing
 pub mod Conditions
 pub mod Before
 pub mod Noting
+pub mod Bodies
+pub mod Returns
