@@ -15,11 +15,11 @@ use Rattle.plan.specs.Plan.{reaches_end}
 use Rattle.codegen_fine.proofs.Layouts.{Longer, longer_no, longer_on, longer_declaring, longer_new, longer_all, longer_each}
 
 -- of layouts with the same locals
-longer_as : (a b c d : Layout) → c.locals ≡ a.locals → d.locals ≡ b.locals → Longer a b → Longer c d
+pub longer_as : (a b c d : Layout) → c.locals ≡ a.locals → d.locals ≡ b.locals → Longer a b → Longer c d
 longer_as a b c d e h g = record { more = g.more; is = h ∙ g.is ∙ ap (λ (l : List WordKind). l ++ g.more) (sym e) }
 
 -- a block has ended
-longer_kept : (outer inner : Layout) → Longer (entering outer) inner → Longer outer (leaving outer inner)
+pub longer_kept : (outer inner : Layout) → Longer (entering outer) inner → Longer outer (leaving outer inner)
 longer_kept outer inner g = longer_as (entering outer) inner outer (leaving outer inner) refl refl g
 
 -- a block within a block

@@ -25,3 +25,4 @@ pub mod Before
 pub mod Noting
 pub mod Bodies
 pub mod Returns
+pub mod Statements
