@@ -43,7 +43,7 @@ module _ (globals : Globals) (elements : List Element) where
   longer_any None site = longer_no site.layout
   longer_any (Some simple) site = longer_simple simple site.layout
 
-  longer_target : (kind : ValueType) (target : Target) (layout : Layout) → Longer layout (behind_target globals elements kind target layout)
+  pub longer_target : (kind : ValueType) (target : Target) (layout : Layout) → Longer layout (behind_target globals elements kind target layout)
   longer_target kind NoTarget layout = longer_no layout
   longer_target kind (DefineTarget name) layout = longer_new globals elements kind name layout
   longer_target kind (AssignTarget place) layout = longer_no layout

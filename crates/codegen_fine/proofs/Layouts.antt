@@ -147,7 +147,7 @@ module _ (globals : Globals) (elements : List Element) where
     housed_more (w ∷ vs) v all h = (all.0, housed_more vs v all.1 h)
 
     -- the words behind a layout's own
-    new_housed : (kind : ValueType) (layout : Layout) → Room layout → (name : List ℕ) → Begins f (declaring globals elements kind name layout) → Noted elements kind → IsHoused globals elements f layout.scope.words (Some kind)
+    pub new_housed : (kind : ValueType) (layout : Layout) → Room layout → (name : List ℕ) → Begins f (declaring globals elements kind name layout) → Noted elements kind → IsHoused globals elements f layout.scope.words (Some kind)
     new_housed kind layout room name begins noted =
         let ks = kinds_of globals.structs elements kind in
         let all : f.locals ≡ layout.locals ++ (ks ++ begins.more) = begins.is ∙ append_assoc layout.locals ks begins.more in

@@ -26,3 +26,4 @@ pub mod Noting
 pub mod Bodies
 pub mod Returns
 pub mod Statements
+pub mod Ranges

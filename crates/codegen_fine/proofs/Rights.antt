@@ -56,6 +56,11 @@ module _ (globals : Globals) (elements : List Element) (code : Code) (f : CodeFu
       pub well : WellTaken elements wants values
       pub pushed : Puts globals.structs elements code f (all_kinds globals.structs elements (taken_all wants (given_types globals elements values))) (push (taken_all wants (given_types globals elements values)))
 
+    -- what is taken of the values of an operation has their kinds
+    pub record TakesGiven (count : ℕ) (wants : List (Option ValueType)) (values : List Given) (push : List ValueType → Plan → Plan) : Type 0 where
+      pub takes : Takes count wants values push
+      pub same : all_kinds globals.structs elements (taken_all wants (given_types globals elements values)) ≡ all_kinds globals.structs elements (given_types globals elements values)
+
     -- the type of what an operation gives
     abbrev one_type : Operation → ValueType
     one_type operation = known (default_type (option_map TypedWorth (operation_type globals scope operation)))
@@ -65,7 +70,7 @@ module _ (globals : Globals) (elements : List Element) (code : Code) (f : CodeFu
 
     takes_one : (operation : Operation) (first end count : ℕ) (wants : List (Option ValueType)) → 1 ≤ end → length wants ≡ count → WantsNoted elements wants → Free (OperationHas globals s first operation) → Free (NumbersHave 1 count end)
         → Free (WantsFail wants (given_by first operation (operation_type globals s operation) ∷ [])) → MakesNoted globals elements code f grounds scope housed s alike functions operation
-        → Takes count wants (given_by 0 operation (operation_type globals scope operation) ∷ []) (λ types. pushes_one globals elements scope operation)
+        → TakesGiven count wants (given_by 0 operation (operation_type globals scope operation) ∷ []) (λ types. pushes_one globals elements scope operation)
     takes_one operation first end count [] le long noted free numbers fail makes = absurd (omega (arith, long, same_count 1 count end le numbers))
     takes_one operation first end count (want ∷ other ∷ more) le long noted free numbers fail makes = absurd (omega (arith, long, same_count 1 count end le numbers))
     takes_one operation first end count (want ∷ []) le long noted free numbers fail makes =
@@ -73,15 +78,18 @@ module _ (globals : Globals) (elements : List Element) (code : Code) (f : CodeFu
         let one : one_type operation ≡ g.kind = ap (λ o. known (default_type (option_map TypedWorth o))) (sym (operation_alike globals elements s scope alike operation) ∙ g.is) in
         let x = typed_taken globals elements want g.kind (given_by first operation (operation_type globals s operation)) (ap (option_map TypedWorth) g.is) (operation_end first operation) (first_noted globals elements want [] noted).0 g.noted (λ flaw h. fail flaw (inl h)) in
         record {
-          many = same_count 1 count end le numbers;
-          well = (λ e. one_default operation g.kind (sym (operation_alike globals elements s scope alike operation) ∙ g.is) g.noted, tt);
-          pushed = subst (λ k. PS (kinds_in (taken want k) ++ []) (pushes_one globals elements scope operation)) (sym one)
-              (subst (λ (l : List WordKind). PS l (pushes_one globals elements scope operation)) (sym (append-nil (kinds_in (taken want g.kind)) ∙ x.same)) g.pushed);
+          takes = record {
+            many = same_count 1 count end le numbers;
+            well = (λ e. one_default operation g.kind (sym (operation_alike globals elements s scope alike operation) ∙ g.is) g.noted, tt);
+            pushed = subst (λ k. PS (kinds_in (taken want k) ++ []) (pushes_one globals elements scope operation)) (sym one)
+                (subst (λ (l : List WordKind). PS l (pushes_one globals elements scope operation)) (sym (append-nil (kinds_in (taken want g.kind)) ∙ x.same)) g.pushed);
+          };
+          same = ap (λ (l : List WordKind). l ++ []) (subst (λ k. kinds_in (taken want k) ≡ kinds_in k) (sym one) x.same);
         }
 
     takes_two : (channel : Expression) (first end count : ℕ) (wants : List (Option ValueType)) → 1 ≤ end → length wants ≡ count → WantsNoted elements wants → Free (OperationHas globals s first (Receive channel)) → Free (NumbersHave 2 count end)
         → Free (WantsFail wants (given_by first (Receive channel) (operation_type globals s (Receive channel)) ∷ given_by first (Receive channel) (Some BoolType) ∷ []))
-        → Takes count wants (given_by 0 (Receive channel) (operation_type globals scope (Receive channel)) ∷ given_by 0 (Receive channel) (Some BoolType) ∷ []) (λ types. pushes_operation globals elements scope (Receive channel))
+        → TakesGiven count wants (given_by 0 (Receive channel) (operation_type globals scope (Receive channel)) ∷ given_by 0 (Receive channel) (Some BoolType) ∷ []) (λ types. pushes_operation globals elements scope (Receive channel))
     takes_two channel first end count [] le long noted free numbers fail = absurd (omega (arith, long, same_count 2 count end le numbers))
     takes_two channel first end count (want ∷ []) le long noted free numbers fail = absurd (omega (arith, long, same_count 2 count end le numbers))
     takes_two channel first end count (want ∷ other ∷ third ∷ more) le long noted free numbers fail = absurd (omega (arith, long, same_count 2 count end le numbers))
@@ -97,10 +105,13 @@ module _ (globals : Globals) (elements : List Element) (code : Code) (f : CodeFu
         let both : kinds_in (taken want c.element) ++ (kinds_in (taken other BoolType) ++ []) ≡ kinds_in (carried globals elements scope channel) ++ kinds.Bool ∷ [] =
         ap (λ (l : List WordKind). l ++ (kinds_in (taken other BoolType) ++ [])) (x.same ∙ ap kinds_in (sym c.carries)) ∙ ap (λ (l : List WordKind). kinds_in (carried globals elements scope channel) ++ l) bool in
         record {
-          many = same_count 2 count end le numbers;
-          well = (λ e. one_default (Receive channel) c.element (ap element_of c.is) c.noted.0, (λ e. (refl, tt), tt));
-          pushed = subst (λ k. PS (kinds_in (taken want k) ++ (kinds_in (taken other BoolType) ++ [])) push) (sym one)
-              (subst (λ (l : List WordKind). PS l push) (sym both) (typed_received globals elements code f grounds scope housed s alike functions channel first free));
+          takes = record {
+            many = same_count 2 count end le numbers;
+            well = (λ e. one_default (Receive channel) c.element (ap element_of c.is) c.noted.0, (λ e. (refl, tt), tt));
+            pushed = subst (λ k. PS (kinds_in (taken want k) ++ (kinds_in (taken other BoolType) ++ [])) push) (sym one)
+                (subst (λ (l : List WordKind). PS l push) (sym both) (typed_received globals elements code f grounds scope housed s alike functions channel first free));
+          };
+          same = ap (λ (l : List WordKind). l ++ (kinds_in (taken other BoolType) ++ [])) (subst (λ k. kinds_in (taken want k) ≡ kinds_in k) (sym one) x.same) ∙ ap (λ (l : List WordKind). kinds_in (one_type (Receive channel)) ++ (l ++ [])) y.same;
         }
 
     abbrev both_given : Bool → ℕ → Scope → Operation → List Given
@@ -108,7 +119,7 @@ module _ (globals : Globals) (elements : List Element) (code : Code) (f : CodeFu
 
     takes_operation : (operation : Operation) (first end count : ℕ) (wants : List (Option ValueType)) (two : Bool) → (two ≡ true → is_receive operation ≡ true) → 1 ≤ end → length wants ≡ count → WantsNoted elements wants → Free (OperationHas globals s first operation)
         → Free (NumbersHave (length (both_given two first s operation)) count end) → Free (WantsFail wants (both_given two first s operation)) → MakesNoted globals elements code f grounds scope housed s alike functions operation
-        → Takes count wants (both_given two 0 scope operation) (λ types rest. if two then pushes_operation globals elements scope operation rest else pushes_one globals elements scope operation rest)
+        → TakesGiven count wants (both_given two 0 scope operation) (λ types rest. if two then pushes_operation globals elements scope operation rest else pushes_one globals elements scope operation rest)
     takes_operation operation first end count wants false receives le long noted free numbers fail makes = takes_one operation first end count wants le long noted free numbers fail makes
     takes_operation (Receive channel) first end count wants true receives le long noted free numbers fail makes = takes_two channel first end count wants le long noted free numbers fail
     takes_operation (Call a b) first end count wants true receives le long noted free numbers fail makes = absurd (never (receives refl)) where
@@ -124,12 +135,19 @@ module _ (globals : Globals) (elements : List Element) (code : Code) (f : CodeFu
       never : false ≡ true → ⊥
       never e = absurd cc
 
+    -- what is taken of an operation with which nothing is wrong
+    pub typed_given : (operation : Operation) (first end count : ℕ) (wants : List (Option ValueType)) → 1 ≤ end → length wants ≡ count → WantsNoted elements wants → Free (RightHas globals s first (RightOperation operation))
+        → Free (NumbersHave (length (given globals s count first (RightOperation operation))) count end) → Free (WantsFail wants (given globals s count first (RightOperation operation))) → RightNoted (RightOperation operation)
+        → TakesGiven count wants (given globals scope count 0 (RightOperation operation)) (λ types. pushes_right globals elements scope count types (RightOperation operation))
+    typed_given operation first end count wants le long noted free numbers fail makes =
+        takes_operation operation first end count wants ((count == 2) && is_receive operation) (λ e. (and_parts (count == 2) (is_receive operation) e).1) le long noted free numbers fail makes
+
     -- what is taken of a right side with which nothing is wrong
     pub typed_right : (right : Right) (first end count : ℕ) (wants : List (Option ValueType)) → 1 ≤ end → length wants ≡ count → WantsNoted elements wants → Free (RightHas globals s first right)
         → Free (NumbersHave (length (given globals s count first right)) count end) → Free (WantsFail wants (given globals s count first right)) → RightNoted right
         → Takes count wants (given globals scope count 0 right) (λ types. pushes_right globals elements scope count types right)
     typed_right (RightOperation operation) first end count wants le long noted free numbers fail makes =
-        takes_operation operation first end count wants ((count == 2) && is_receive operation) (λ e. (and_parts (count == 2) (is_receive operation) e).1) le long noted free numbers fail makes
+        (typed_given operation first end count wants le long noted free numbers fail makes).takes
     typed_right (Values values) first end count wants le long noted free numbers fail makes =
         let many = same_count (length (given_values globals s first values)) count end le numbers in
         let counted = values_many globals s values first in

@@ -122,14 +122,14 @@ module _ (globals : Globals) (elements : List Element) (code : Code) (f : CodeFu
 
   -- ---- hypotheses on ranges and selects
 
-  abbrev RangesHold : Type 0
+  abbrev pub RangesHold : Type 0
   RangesHold = (target : Target) (channel : Expression) (body : Statements) (site : Site) (s : Scope) (a : Allowed) (first end : ℕ) → 1 ≤ end → R site.layout → Alike s site.layout.scope → Free (ForHeadHas globals (entered s) first (Range target channel) end)
       → F site.prints (made globals elements result site (For (Range target channel) body))
       → (R (item_site globals elements result site target channel).layout → Alike (after_for_head globals (entered s) (Range target channel)) (item_site globals elements result site target channel).layout.scope → F site.prints (made_all globals elements result (inside (item_site globals elements result site target channel)) body)
       → M in_loop (made_all globals elements result (inside (item_site globals elements result site target channel)) body))
       → M a (made globals elements result site (For (Range target channel) body))
 
-  abbrev SelectsHold : Type 0
+  abbrev pub SelectsHold : Type 0
   SelectsHold = (clauses : Clauses) (site : Site) (s : Scope) (breaks continues : Bool) (first : ℕ) → R site.layout → Alike s site.layout.scope → PostsClauses clauses → Free (StatementHas (setting breaks continues) s first (Select clauses)) → (all : List Element) → G (noting_statement globals.types (Select clauses) all)
       → F site.prints (made globals elements result site (Select clauses)) → MA (allowed breaks continues) (made globals elements result site (Select clauses)) (after globals s (Select clauses))
 

@@ -60,7 +60,7 @@ none_of None e = refl
 none_of (Some v) e = absurd cc
 
 -- all names are new in the innermost block
-abbrev AllNew : Scope → List (List ℕ) → Type 0
+abbrev pub AllNew : Scope → List (List ℕ) → Type 0
 AllNew s [] = Unit {0}
 AllNew s (name ∷ names) = (own_variable s name ≡ None) × AllNew s names
 
@@ -76,7 +76,7 @@ new_alike s t alike (name ∷ names) all = (go (own_variable t name) (sym (ap ki
   go (Some v) e = absurd cc
 
 -- values of one type, one for each name
-abbrev alike_values : List (List ℕ) → ValueType → List Given
+abbrev pub alike_values : List (List ℕ) → ValueType → List Given
 alike_values [] kind = []
 alike_values (name ∷ names) kind = record { worth = Some (TypedWorth kind); nodes = record { first = 0; end = 0 } } ∷ alike_values names kind
 
@@ -94,7 +94,7 @@ module _ (globals : Globals) (elements : List Element) where
   names_same layout (name ∷ names) kind all = ap (λ o. name_type globals elements kind o ∷ name_types globals elements layout names (same_types globals elements names kind)) all.0 ∙ ap (λ (l : List ValueType). kind ∷ l) (names_same layout names kind all.1)
 
   -- the variables behind names that are all new
-  variables_are : (names : List (List ℕ)) (kind : ValueType) (s base : Scope) → s.outer ≤ length s.variables → OwnSame s base names → AllNew base names → has_twice names ≡ false → with_defined globals s names (alike_values names kind) ≡ with_variables globals s (Some kind) names
+  pub variables_are : (names : List (List ℕ)) (kind : ValueType) (s base : Scope) → s.outer ≤ length s.variables → OwnSame s base names → AllNew base names → has_twice names ≡ false → with_defined globals s names (alike_values names kind) ≡ with_variables globals s (Some kind) names
   variables_are [] kind s base le same all twice = refl
   variables_are (name ∷ names) kind s base le same all twice = go (is_blank name) (is_none (own_variable s name)) refl (ap is_none (same.0 ∙ all.0)) (twice_parts name names twice) (λ next l h t. variables_are names kind next base l h all.1 t) where
     go : (b n : Bool) → is_blank name ≡ b → n ≡ true → ((is_blank name ≡ false → AllOthers name names) × (has_twice names ≡ false))
@@ -133,7 +133,7 @@ module _ (globals : Globals) (elements : List Element) where
         puts_both globals.structs elements code f (kinds_of globals.structs elements kind) (all_kinds globals.structs elements (same_types globals elements names kind)) (pushes_zeros (kinds_of globals.structs elements kind)) (zero_values globals elements count names kind)
         (puts_zeros globals.structs elements code f (kinds_of globals.structs elements kind) (noted_there globals elements code f grounds kind noted)) (zeros_put names count kind noted) a ks out rest t
 
-    taken_alike : (scope : Scope) (names : List (List ℕ)) (kind : ValueType) → Noted elements kind → AllTaken globals elements f code grounds.wide scope names (alike_values names kind)
+    pub taken_alike : (scope : Scope) (names : List (List ℕ)) (kind : ValueType) → Noted elements kind → AllTaken globals elements f code grounds.wide scope names (alike_values names kind)
     taken_alike scope [] kind noted = tt
     taken_alike scope (name ∷ names) kind noted = (λ e. (refl, noted), taken_alike scope names kind noted)
 
