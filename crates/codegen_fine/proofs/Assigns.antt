@@ -189,13 +189,13 @@ module _ (globals : Globals) (elements : List Element) where
             let has = (own_housed name w is).has in
             subst (λ o. ValueHas value.worth o value.nodes flaw) (sym (same_Some v.kind w.kind e ∙ has)) (subst (λ o. ValueHas value.worth (Some (known o)) value.nodes flaw) has h)
 
-      names_fail : (names : List (List ℕ)) (values : List Given) (flaw : Flaw) → WantsFail (names_want layout.scope names) values flaw → NamesFail s names values flaw
+      pub names_fail : (names : List (List ℕ)) (values : List Given) (flaw : Flaw) → WantsFail (names_want layout.scope names) values flaw → NamesFail s names values flaw
       names_fail [] values flaw h = h
       names_fail (name ∷ names) [] flaw h = h
       names_fail (name ∷ names) (value ∷ values) flaw (inl h) = inl (name_fails name value flaw h)
       names_fail (name ∷ names) (value ∷ values) flaw (inr h) = inr (names_fail names values flaw h)
 
-      names_noted : (names : List (List ℕ)) → WantsNoted elements (names_want layout.scope names)
+      pub names_noted : (names : List (List ℕ)) → WantsNoted elements (names_want layout.scope names)
       names_noted [] = tt
       names_noted (name ∷ names) = go (own_variable layout.scope name) refl (names_noted names) where
         go : (o : Option Variable) → own_variable layout.scope name ≡ o → WantsNoted elements (names_want layout.scope names) → WantsNoted elements (want_of o ∷ names_want layout.scope names)
@@ -207,6 +207,19 @@ module _ (globals : Globals) (elements : List Element) where
       all_taken [] (value ∷ values) w = absurd w
       all_taken (name ∷ names) [] w = absurd w
       all_taken (name ∷ names) (value ∷ values) w = (λ e. w.0 (ap want_of e), all_taken names values w.1)
+
+      -- the names of a declaration, and what they take
+      pub record DefineFits (names : List (List ℕ)) (right : Right) : Type 0 where
+        pub takes : Takes globals elements code f grounds layout.scope (housed_of globals elements f layout.scope room.housed) s alike.named functions (length names) (names_want layout.scope names) (given globals layout.scope (length names) 0 right) (λ types. pushes_right globals elements layout.scope (length names) types right)
+        pub names_fit : NamesFit globals elements f code grounds.wide layout layout s names (given globals layout.scope (length names) 0 right)
+
+      pub defines_fit : (names : List (List ℕ)) (right : Right) → has_twice names ≡ false → Begins f (declaring_all globals elements names (right_types globals elements layout.scope (length names) right) layout)
+          → Takes globals elements code f grounds layout.scope (housed_of globals elements f layout.scope room.housed) s alike.named functions (length names) (names_want layout.scope names) (given globals layout.scope (length names) 0 right) (λ types. pushes_right globals elements layout.scope (length names) types right)
+          → DefineFits names right
+      defines_fit names right twice begins t = record {
+        takes = t;
+        names_fit = names_fit globals elements f code grounds.wide names (given globals layout.scope (length names) 0 right) layout layout s room begins alike (own_same layout.scope names) twice (all_taken names (given globals layout.scope (length names) 0 right) t.well);
+      }
 
       pub typed_defines : (names : List (List ℕ)) (right : Right) (first end : ℕ) → 1 ≤ end → has_twice names ≡ false → Free (RightHas globals s first right) → Free (NumbersHave (length (given globals s (length names) first right)) (length names) end)
           → Free (NamesFail s names (given globals s (length names) first right)) → RightNoted globals elements code f grounds layout.scope (housed_of globals elements f layout.scope room.housed) s alike.named functions right

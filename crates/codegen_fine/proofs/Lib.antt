@@ -16,6 +16,7 @@ pub mod Givens
 pub mod Rights
 pub mod Layouts
 pub mod Assigns
+pub mod Comms
 pub mod Makes
 pub mod Variables
 pub mod Simples
@@ -25,5 +26,6 @@ pub mod Before
 pub mod Noting
 pub mod Bodies
 pub mod Returns
+pub mod Selects
 pub mod Statements
 pub mod Ranges

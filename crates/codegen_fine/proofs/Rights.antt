@@ -30,7 +30,7 @@ use Rattle.codegen_fine.proofs.Emitted.{all_kinds, typed_pushes_all}
 use Rattle.codegen_fine.proofs.Operations.{Functions, MakesNoted, channel_there, typed_received}
 use Rattle.codegen_fine.proofs.Givens.{HasDefault, WellTaken, WantsFail, WantsNoted, taken, taken_all, operation_alike, operation_end, Taken, typed_taken, first_noted, values_fit, GivesOne, typed_one}
 
-default_typed : (o : Option ValueType) → default_type (option_map TypedWorth o) ≡ o
+pub default_typed : (o : Option ValueType) → default_type (option_map TypedWorth o) ≡ o
 default_typed None = refl
 default_typed (Some t) = refl
 
