@@ -1,27 +1,30 @@
 -- The code of statements with which nothing is wrong keeps the verifier's rules.
-use Rattle.std.proofs.Common.{◌≡◌, ℕ, ◌+◌, ◌≤◌, Bool, true, false, List, [], ◌∷◌, ◌++◌, length, Option, Some, None, IsTrue, refl, sym, ap, ◌∙◌, subst, arith, inl, inr}
+use Rattle.std.proofs.Common.{◌≡◌, ℕ, ◌+◌, ◌≤◌, Bool, true, false, List, [], ◌∷◌, ◌++◌, length, Option, Some, None, IfSome, IsTrue, refl, sym, ap, ◌∙◌, subst, arith, inl, inr}
 use Rattle.std.specs.Prelude.{if◌then◌else◌}
 use Rattle.go_text.specs.declared.rule.Rule.TheVariants as rules
 use Rattle.syntax.specs.Tree.{Expression, Simple, Right, ForHead, Target, Forever, While, ForClauses, Range, Comm, Statement, Empty, Alone, VarTyped, VarUntyped, Block, If, For, Select, Go, Return, Break, Continue, Statements, NoStatement, Then, Branch, Conditional, Otherwise, NoElse, ElseBlock, ElseIf, Clauses, NoClause, Clause}
-use Rattle.syntax.specs.Measures.{if_any, type_size, simple_size, expression_size, if_head_size, for_head_size, statement_size, statements_size}
+use Rattle.syntax.specs.Measures.{comm_size, if_any, type_size, simple_size, expression_size, if_head_size, for_head_size, statement_size, statements_size}
+use Rattle.std.specs.Bool.{OnTrue}
+use Rattle.std.proofs.lemmas.Bool.{OnTrue_from, OnTrue_at}
+use Rattle.bytecode.specs.declared.instr.WordKind.{WordKind}
 use Rattle.bytecode.specs.Code.{Function as CodeFunction, Code}
 use Rattle.std.proofs.lemmas.Option.{same_Some}
 use Rattle.type_table.specs.Types.{ValueType}
 use Rattle.type_table.specs.Scopes.{Globals, Scope, Yield, entered, left, type_in}
 use Rattle.checker_base.specs.declared.flaw.Flaw.{Flaw}
 use Rattle.checker_base.specs.Expressions.{TestHas}
-use Rattle.checker_simple.specs.Simples.{IfRightHas}
-use Rattle.checker_statement.specs.Statements.{Setting, in_for, head_simple, after_any, ForHeadHas, after_for_head, after, after_all, after_branch, after_otherwise, StatementHas, StatementsHave, BranchHas, OtherwiseHas}
+use Rattle.checker_simple.specs.Simples.{IfRightHas, comm_simple}
+use Rattle.checker_statement.specs.Statements.{Setting, in_for, head_simple, after_any, ForHeadHas, after_for_head, after, after_all, after_branch, after_otherwise, ClausesHave, StatementHas, StatementsHave, BranchHas, OtherwiseHas}
 use Rattle.meaning.specs.Values.{known}
 use Rattle.codegen_base.specs.declared.element.Element.{Element}
 use Rattle.codegen_base.specs.Layouts.{Layout, entering, leaving}
-use Rattle.codegen_base.specs.Program.{noting, noting_given, noting_first, noting_head, noting_statement, noting_statements, noting_branch, noting_otherwise}
-use Rattle.codegen_base.specs.Generated.{Site, Made, at, past, made_of, nothing, followed, ended, inside, loop, test_plan, made_any, made_post, made_while, made_clauses, made_else, item_site, unless_ended, made, made_all, made_branch, made_otherwise}
+use Rattle.codegen_base.specs.Program.{noting, noting_given, noting_first, noting_head, noting_statement, noting_statements, noting_branch, noting_otherwise, noting_clauses}
+use Rattle.codegen_base.specs.Generated.{Site, Made, at, past, made_of, nothing, followed, ended, inside, loop, test_plan, made_any, made_post, made_while, made_clauses, made_else, item_site, with_way, comm_kinds, made_comm, made_select, made_ways, made_default, within_select, unless_ended, made, made_all, made_branch, made_otherwise}
 use Rattle.codegen_base.proofs.Alike.{Alike, alike_entered, alike_left, type_alike}
 use Rattle.codegen_base.proofs.Noted.{Noted, Grows, grows_on, noted_grows}
 use Rattle.codegen_base.proofs.Typing.{Free, broken, not_false}
 use Rattle.plan.specs.Plan.{Plan, Skip, Seq, reaches_end}
-use Rattle.plan.proofs.Typed.{Allowed, in_loop, Typed}
+use Rattle.plan.proofs.Typed.{Allowed, in_loop, in_select, Typed}
 use Rattle.codegen_fine.proofs.Operands.{Grounds}
 use Rattle.codegen_fine.proofs.Operations.{Functions}
 use Rattle.codegen_fine.proofs.Branches.{typed_go}
@@ -31,9 +34,12 @@ use Rattle.codegen_fine.proofs.Rights.{RightNoted}
 use Rattle.codegen_fine.proofs.Makes.{written, written_noted, right_noted}
 use Rattle.codegen_fine.proofs.Variables.{typed_typed, typed_untyped}
 use Rattle.codegen_fine.proofs.Simples.{Prints, typed_simple}
-use Rattle.codegen_fine.proofs.Growing.{longer_any, longer_post, longer, longer_statements, longer_branch, longer_otherwise, longer_as, longer_kept}
-use Rattle.codegen_fine.proofs.Noting.{given_grows, simple_grows, first_grows, head_grows, statements_grow, branch_grows, otherwise_grows}
+use Rattle.codegen_fine.proofs.Growing.{longer_any, longer_post, longer, longer_statements, longer_branch, longer_otherwise, longer_ways, longer_default, longer_as, longer_kept}
+use Rattle.codegen_fine.proofs.Noting.{given_grows, simple_grows, first_grows, head_grows, statements_grow, branch_grows, otherwise_grows, clauses_grow}
 use Rattle.codegen_fine.proofs.Bodies.{prints_front, prints_back, StillAny, Runs, IsMade, IsMadeAlike, Fits, fits_first, fits_rest, fits_as, made_followed, made_ended, runs_if, runs_else, runs_loop, typed_any, typed_post}
+use Rattle.codegen_fine.proofs.Sees.{Sees}
+use Rattle.codegen_fine.proofs.Comms.{comm_fine, comm_made}
+use Rattle.codegen_fine.proofs.Selects.{comm_count, alike_step, alike_right, alike_clauses, comm_same, WaysOf, join_way, last_way, typed_choice}
 use Rattle.codegen_fine.proofs.Returns.{IsResult, typed_returned}
 
 -- no post statement declares anything, as none does that a file can have
@@ -120,7 +126,7 @@ module _ (globals : Globals) (elements : List Element) (code : Code) (f : CodeFu
   fits_else : (first : ℕ) (layout : Layout) (condition : Expression) (so other : Made) → F first (made_else globals elements result layout condition so other) → F (first + length so.prints) other
   fits_else first layout condition so other h = record { begins = h.begins; prints = prints_back code first so.prints other.prints h.prints }
 
-  -- ---- hypotheses on ranges and selects
+  -- ---- what is so of ranges
 
   abbrev pub RangesHold : Type 0
   RangesHold = (target : Target) (channel : Expression) (body : Statements) (site : Site) (s : Scope) (a : Allowed) (first end : ℕ) → 1 ≤ end → R site.layout → Alike s site.layout.scope → Free (ForHeadHas globals (entered s) first (Range target channel) end)
@@ -129,11 +135,31 @@ module _ (globals : Globals) (elements : List Element) (code : Code) (f : CodeFu
       → M in_loop (made_all globals elements result (inside (item_site globals elements result site target channel)) body))
       → M a (made globals elements result site (For (Range target channel) body))
 
-  abbrev pub SelectsHold : Type 0
-  SelectsHold = (clauses : Clauses) (site : Site) (s : Scope) (breaks continues : Bool) (first : ℕ) → R site.layout → Alike s site.layout.scope → PostsClauses clauses → Free (StatementHas (setting breaks continues) s first (Select clauses)) → (all : List Element) → G (noting_statement globals.types (Select clauses) all)
-      → F site.prints (made globals elements result site (Select clauses)) → MA (allowed breaks continues) (made globals elements result site (Select clauses)) (after globals s (Select clauses))
+  -- ---- selects
 
-  module _ (ranges : RangesHold) (selects : SelectsHold) where
+  abbrev WF : (layout : Layout) → R layout → Scope → Clauses → Allowed → Option Made → Type 0
+  WF layout room s clauses a o = WaysOf globals elements code f grounds functions result layout room s clauses a o
+
+  -- ways that are there fit
+  abbrev FO : ℕ → Option Made → Type 0
+  FO first None = Unit {0}
+  FO first (Some m) = F first m
+
+  fits_way : (first : ℕ) (ks : List WordKind) (one : Made) (o : Option Made) → IfSome o (λ m. Longer one.layout m.layout) → F first (with_way ks one o) → F first one × FO (first + length one.prints) o
+  fits_way first ks one None longer h = (record { begins = h.begins; prints = h.prints }, tt)
+  fits_way first ks one (Some m) longer h =
+      (record { begins = begins_before f one.layout m.layout longer h.begins; prints = prints_front code first one.prints m.prints h.prints }, record { begins = h.begins; prints = prints_back code first one.prints m.prints h.prints })
+
+  fits_select : (site : Site) (clauses : Clauses) (o : Option Made) → F site.prints (made_select globals elements result site clauses o) → FO site.prints o
+  fits_select site clauses None h = tt
+  fits_select site clauses (Some m) h = record { begins = h.begins; prints = h.prints }
+
+  -- a default among other clauses
+  as_none : (layout : Layout) (outer : R layout) (base : Scope) (body : Statements) (more : Clauses) (a : Allowed) (o : Option Made) → WF layout outer base more a o → WF layout outer base (Clause None body more) a o
+  as_none layout outer base body more a None none = none
+  as_none layout outer base body more a (Some m) w = record { least = w.least; most = w.most; begin = w.begin; kinds_are = w.kinds_are; runs = w.runs; behind = w.behind; seen = w.seen }
+
+  module _ (ranges : RangesHold) where
     mutual
       pub typed_statement : (statement : Statement) (site : Site) (s : Scope) (breaks continues : Bool) (first : ℕ) → R site.layout → Alike s site.layout.scope → PostsStill statement → Free (StatementHas (setting breaks continues) s first statement) → (all : List Element) → G (noting_statement globals.types statement all)
           → F site.prints (made globals elements result site statement) → MA (allowed breaks continues) (made globals elements result site statement) (after globals s statement)
@@ -206,7 +232,13 @@ module _ (globals : Globals) (elements : List Element) (code : Code) (f : CodeFu
                 (λ item-room item-alike inner-fits. typed_statements body (inside item) (entered x) true true (first + for_head_size (Range target channel)) (room_entering globals elements f item.layout item-room) (alike_entered x item.layout.scope item-alike) still (λ flaw h. free flaw (inr h)) all g inner-fits),
             alike_left s site.layout.scope (after_all globals (entered x) body) (made globals elements result site (For (Range target channel) body)).layout.scope alike,
           )
-      typed_statement (Select clauses) site s b c first room alike still free all g fits = selects clauses site s b c first room alike still free all g fits
+      typed_statement (Select clauses) site s b c first room alike still free all g fits =
+          let default : Site → Option Made = λ behind. made_default globals elements result behind clauses in
+          let o = made_ways globals elements result (within_select globals elements result site) default clauses in
+          let w = typed_ways clauses (within_select globals elements result site) site.layout room s s alike.named b c first room alike alike still (λ flaw h. free flaw (inl h)) all g default (λ behind. longer_default globals elements result behind clauses)
+          (λ behind behind-room seen h. typed_default clauses behind site.layout room s s b c first behind-room seen seen still (λ flaw h. free flaw (inl h)) all g h) (fits_select site clauses o fits) in
+          let x = typed_choice globals elements code f grounds functions result site.layout room site refl s alike.named clauses b c first (allowed b c) o (λ flaw h. free flaw (inl h)) alike w in
+          (x.0, alike_clauses globals clauses s (made globals elements result site (Select clauses)).layout.scope x.1)
       typed_statement (Go function arguments) site s b c first room alike still free all g fits =
           (record { runs = λ place tabled. typed_go globals elements code f grounds site.layout.scope (housed_of globals elements f site.layout.scope room.housed) s alike.named functions function arguments first free (allowed b c) [] [] refl; room = room }, alike)
       typed_statement (Return returned) site s b c first room alike still free all g fits =
@@ -269,3 +301,53 @@ module _ (globals : Globals) (elements : List Element) (code : Code) (f : CodeFu
           let other = made_branch globals elements result behind branch in
           let n = typed_branch branch behind s b c first m.room so-alike still free all g (fits_else site.prints site.layout condition so other fits) in
           runs_else globals elements code f grounds functions site.layout room h alike.named result condition at test (allowed b c) so other m n.0
+
+      typed_ways : (clauses : Clauses) (site : Site) (layout : Layout) (outer : R layout) (base s : Scope) → Sees s layout.scope → (breaks continues : Bool) (first : ℕ) → R site.layout → Alike base site.layout.scope → Alike s site.layout.scope → PostsClauses clauses → Free (ClausesHave (setting breaks continues) s first clauses)
+          → (all : List Element) → G (noting_clauses globals.types clauses all) → (default : Site → Option Made) → ((behind : Site) → IfSome (default behind) (λ m. Longer behind.layout m.layout))
+          → ((behind : Site) → R behind.layout → Alike base behind.layout.scope → FO behind.prints (default behind) → WF layout outer base NoClause (in_select (allowed breaks continues)) (default behind)) → FO site.prints (made_ways globals elements result site default clauses)
+          → WF layout outer base clauses (in_select (allowed breaks continues)) (made_ways globals elements result site default clauses)
+      typed_ways NoClause site layout outer base s sees b c first room seen alike still free all g default grows last fits = last site room seen fits
+      typed_ways (Clause None body more) site layout outer base s sees b c first room seen alike still free all g default grows last fits =
+          let inner = after_all globals (entered s) body in
+          as_none layout outer base body more (in_select (allowed b c)) (made_ways globals elements result site default more)
+          (typed_ways more site layout outer base (left s inner) sees b c (first + if_any comm_size None + statements_size body + 1) room seen (alike_step s site.layout.scope inner alike) still.1 (λ flaw h. free flaw (inr (inr h))) (noting_statements globals.types body all) g default grows last fits)
+      typed_ways (Clause (Some comm) body more) site layout outer base s sees b c first room seen alike still free all g default grows last fits =
+          let ks = comm_kinds globals elements result site.layout comm in
+          let begun = made_comm globals elements result (inside site) comm in
+          let behind = past (inside site) begun in
+          let inner = made_all globals elements result behind body in
+          let one = ended site.layout (followed begun inner) in
+          let o = made_ways globals elements result (past site one) default more in
+          let parts = fits_way site.prints ks one o (longer_ways globals elements result (past site one) default more grows) fits in
+          let both = fits_as globals elements code f grounds functions site.prints one (followed begun inner) refl refl parts.0 in
+          let grown = longer_statements globals elements result behind body in
+          let within = room_entering globals elements f site.layout room in
+          let cm = comm_made globals elements code f grounds functions result (inside site).layout within (entered s) (alike_entered s site.layout.scope alike) comm first (λ flaw h. free flaw (inl h)) (begins_before f begun.layout inner.layout grown both.begins) in
+          let checked = after_any globals (entered s) (Some (comm_simple comm)) in
+          let noted = noting_statements globals.types body all in
+          let m = typed_statements body behind checked true c (first + comm_size comm) cm.behind cm.seen still.0 (λ flaw h. free flaw (inr (inl h))) all (of_rest noted (noting_clauses globals.types more noted) (clauses_grow globals.types more noted) g)
+          (fits_rest globals elements code f grounds functions site.prints begun inner both) in
+          let a = in_select (allowed b c) in
+          let takes = subst (λ (l : List WordKind). Typed code f a l begun.plan []) (comm_same globals elements code f grounds functions result comm (inside site).layout site.layout (λ name e. refl)) (cm.takes a) in
+          let fine = comm_fine globals elements code f grounds functions result layout outer (entered s) sees comm first (λ flaw h. free flaw (inl h)) in
+          let ended-scope = after_all globals checked body in
+          join_way globals elements code f grounds functions result layout outer base comm body more a ks one o
+          (λ to. fine.gives to ∙ comm_same globals elements code f grounds functions result comm layout site.layout (λ name e. sym (sees name e) ∙ alike.named name e))
+          (λ place tabled. ([], takes, OnTrue_from (reaches_end begun.plan) (Typed code f a [] inner.plan []) (λ e. m.runs _ (OnTrue_at e tabled.1))))
+          (room_leaving globals elements f site.layout inner.layout room m.room) (alike_right base site.layout.scope inner.layout.scope seen)
+          (typed_ways more (past site one) layout outer base (left s ended-scope) sees b c (first + comm_size comm + statements_size body + 1) (room_leaving globals elements f site.layout inner.layout room m.room) (alike_right base site.layout.scope inner.layout.scope seen) (alike_left s site.layout.scope ended-scope inner.layout.scope alike) still.1
+          (λ flaw h. free flaw (inr (inr h))) noted g default grows last parts.1)
+
+      typed_default : (clauses : Clauses) (site : Site) (layout : Layout) (outer : R layout) (base s : Scope) (breaks continues : Bool) (first : ℕ) → R site.layout → Alike base site.layout.scope → Alike s site.layout.scope → PostsClauses clauses → Free (ClausesHave (setting breaks continues) s first clauses) → (all : List Element)
+          → G (noting_clauses globals.types clauses all) → FO site.prints (made_default globals elements result site clauses) → WF layout outer base NoClause (in_select (allowed breaks continues)) (made_default globals elements result site clauses)
+      typed_default NoClause site layout outer base s b c first room seen alike still free all g fits = refl
+      typed_default (Clause None body more) site layout outer base s b c first room seen alike still free all g fits =
+          let inner = made_all globals elements result (inside site) body in
+          let one = ended site.layout inner in
+          let noted = noting_statements globals.types body all in
+          let inner-fits : F site.prints inner = record { begins = record { more = fits.begins.more; is = fits.begins.is }; prints = fits.prints } in
+          let m = typed_statements body (inside site) (entered s) true c (first + if_any comm_size None) (room_entering globals elements f site.layout room) (alike_entered s site.layout.scope alike) still.0 (λ flaw h. free flaw (inr (inl h))) all (of_rest noted (noting_clauses globals.types more noted) (clauses_grow globals.types more noted) g) inner-fits in
+          last_way globals elements code f grounds functions result layout outer base (in_select (allowed b c)) one (made_ended globals elements code f grounds functions (in_select (allowed b c)) site.layout inner room m) (alike_right base site.layout.scope inner.layout.scope seen)
+      typed_default (Clause (Some comm) body more) site layout outer base s b c first room seen alike still free all g fits =
+          let ended-scope = after_all globals (after_any globals (entered s) (Some (comm_simple comm))) body in
+          typed_default more site layout outer base (left s ended-scope) b c (first + comm_size comm + statements_size body + 1) room seen (alike_step s site.layout.scope ended-scope alike) still.1 (λ flaw h. free flaw (inr (inr h))) (noting_statements globals.types body all) g fits
