@@ -6,18 +6,19 @@ use Rattle.syntax.specs.declared.node.UnaryOperator.{UnaryOperator}
 use Rattle.syntax.specs.declared.node.UnaryOperator.TheVariants as signs
 use Rattle.syntax.specs.declared.node.BinaryOperator.{BinaryOperator}
 use Rattle.syntax.specs.declared.node.BinaryOperator.TheVariants as symbols
-use Rattle.syntax.specs.Tree.{Expression, Integer, Named, Parenthesized, Selection, Composite, Unary, Binary, Expressions, NoMore, Behind}
+use Rattle.syntax.specs.Tree.{Expression, Integer, Named, Parenthesized, Selection, Composite, Unary, Binary, Expressions, NoMore, Behind, Comm, CommSend, CommReceive, CommDefine, CommAssign, Clauses, NoClause, Clause}
 use Rattle.bytecode.specs.declared.instr.WordKind.{WordKind}
 use Rattle.bytecode.specs.declared.instr.Instr.{Instr}
 use Rattle.bytecode.specs.declared.instr.Instr.TheVariants as instrs
 use Rattle.bytecode.specs.Code.{SelectTable}
 use Rattle.type_table.specs.Types.{ValueType}
-use Rattle.type_table.specs.Scopes.{Globals, Scope}
+use Rattle.type_table.specs.Scopes.{Globals, Scope, Yield}
 use Rattle.checker_base.specs.Worths.{Worth, Typed as TypedWorth, Constant, Nil, worth}
 use Rattle.codegen_base.specs.declared.element.Element.{Element}
 use Rattle.codegen_base.specs.Elements.{kinds_of}
-use Rattle.codegen_base.specs.Layouts.{type_of}
-use Rattle.codegen_base.specs.Pushes.{pushes_zeros, signed, settled, between, operates, literal_types, emits, emits_fields, pushes, pushes_all, selects}
+use Rattle.codegen_base.specs.Layouts.{Layout, type_of, carried}
+use Rattle.codegen_base.specs.Pushes.{pushes_own, pushes_zeros, signed, settled, between, operates, literal_types, emits, emits_fields, pushes, pushes_all, selects}
+use Rattle.codegen_base.specs.Generated.{pushes_comm, pushes_clauses}
 use Rattle.plan.specs.Plan.{Plan, Skip, Do, Seq, IfElse, reaches_end, size, table_count}
 use Rattle.plan.proofs.Tables.{Numbered, Tabled}
 
@@ -150,3 +151,18 @@ module _ (globals : Globals) (elements : List Element) (scope : Scope) where
   pushes_all_before [] (first ∷ others) rest = Here rest
   pushes_all_before (kind ∷ types) (first ∷ others) rest =
       let more = pushes_all globals elements scope types others rest in before_on (pushes globals elements scope kind first more) more rest (pushes_before kind first more) (pushes_all_before types others rest)
+
+module _ (globals : Globals) (elements : List Element) (layout : Layout) (result : Yield) where
+  pub comm_before : (comm : Comm) (rest : Plan) → Before rest (pushes_comm globals elements result layout comm rest)
+  comm_before (CommSend channel value) rest =
+      let kind = carried globals elements layout.scope channel in
+      let more = pushes globals elements layout.scope kind value rest in
+      before_on (pushes_own globals elements layout.scope channel more) more rest (pushes_before globals elements layout.scope _ channel more) (pushes_before globals elements layout.scope kind value rest)
+  comm_before (CommReceive channel) rest = pushes_before globals elements layout.scope _ channel rest
+  comm_before (CommDefine item ok channel) rest = pushes_before globals elements layout.scope _ channel rest
+  comm_before (CommAssign item ok channel) rest = pushes_before globals elements layout.scope _ channel rest
+
+  pub clauses_before : (clauses : Clauses) (rest : Plan) → Before rest (pushes_clauses globals elements result layout clauses rest)
+  clauses_before NoClause rest = Here rest
+  clauses_before (Clause None body more) rest = clauses_before more rest
+  clauses_before (Clause (Some comm) body more) rest = let p = pushes_clauses globals elements result layout more rest in before_on (pushes_comm globals elements result layout comm p) p rest (comm_before comm p) (clauses_before more rest)

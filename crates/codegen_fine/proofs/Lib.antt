@@ -29,3 +29,4 @@ pub mod Returns
 pub mod Selects
 pub mod Statements
 pub mod Ranges
+pub mod Finished

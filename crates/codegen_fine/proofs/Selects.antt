@@ -33,7 +33,7 @@ use Rattle.codegen_fine.proofs.Operands.{Grounds}
 use Rattle.codegen_fine.proofs.Operations.{Functions}
 use Rattle.codegen_fine.proofs.Layouts.{Longer, Begins, begins_before, Room}
 use Rattle.codegen_fine.proofs.Comms.{comm_channel, comm_fine}
-use Rattle.codegen_fine.proofs.Before.{Before, Here, before_on, before_tabled, pushes_before}
+use Rattle.codegen_fine.proofs.Before.{Before, Here, before_on, before_tabled, clauses_before}
 use Rattle.codegen_fine.proofs.Bodies.{prints_front, prints_back, IsMade, Fits}
 
 abbrev pub comm_count : Clauses → ℕ
@@ -82,20 +82,6 @@ module _ (globals : Globals) (elements : List Element) (code : Code) (f : CodeFu
         let one = comm_fine globals elements code f grounds functions result layout room (entered s) sees comm first (λ flaw h. free flaw (inl h)) in
         puts_both globals.structs elements code f _ (all_clause_kinds code (clauses_at layout more places)) (pushes_comm globals elements result layout comm) (pushes_clauses globals elements result layout more) (one.pushed to)
         (all_puts more (left s (after_all globals inner body)) sees b c (first + comm_size comm + statements_size body + 1) places (omega (arith, le)) (λ flaw h. free flaw (inr (inr h)))) a ks out rest t
-
-    comm_before : (comm : Comm) (rest : Plan) → Before rest (pushes_comm globals elements result layout comm rest)
-    comm_before (CommSend channel value) rest =
-        let kind = carried globals elements layout.scope channel in
-        let more = pushes globals elements layout.scope kind value rest in
-        before_on (pushes_own globals elements layout.scope channel more) more rest (pushes_before globals elements layout.scope _ channel more) (pushes_before globals elements layout.scope kind value rest)
-    comm_before (CommReceive channel) rest = pushes_before globals elements layout.scope _ channel rest
-    comm_before (CommDefine item ok channel) rest = pushes_before globals elements layout.scope _ channel rest
-    comm_before (CommAssign item ok channel) rest = pushes_before globals elements layout.scope _ channel rest
-
-    clauses_before : (clauses : Clauses) (rest : Plan) → Before rest (pushes_clauses globals elements result layout clauses rest)
-    clauses_before NoClause rest = Here rest
-    clauses_before (Clause None body more) rest = clauses_before more rest
-    clauses_before (Clause (Some comm) body more) rest = let p = pushes_clauses globals elements result layout more rest in before_on (pushes_comm globals elements result layout comm p) p rest (comm_before comm p) (clauses_before more rest)
 
     -- ---- where the ways begin
 
@@ -220,13 +206,13 @@ module _ (globals : Globals) (elements : List Element) (code : Code) (f : CodeFu
       go : (place : ℕ) → Tabled code.selects place (pushes_clauses globals elements result layout clauses (Choose site.selects (select_table globals elements result layout clauses) Skip)) → Typed code f a [] (pushes_clauses globals elements result layout clauses (Choose site.selects (select_table globals elements result layout clauses) Skip)) []
       go place tabled =
           let plan = Choose site.selects (select_table globals elements result layout clauses) Skip in
-          let t = before_tabled code.selects plan (pushes_clauses globals elements result layout clauses plan) place (clauses_before clauses plan) tabled in
+          let t = before_tabled code.selects plan (pushes_clauses globals elements result layout clauses plan) place (clauses_before globals elements layout result clauses plan) tabled in
           all_puts clauses s sees b c first [] (omega (arith, none)) free a [] [] plan (chosen s clauses a site.selects t.0 (made_of Skip [] layout) (no_way s clauses (in_select a) none alike) t.1.0 t.1.1)
     typed_choice site same s sees clauses b c first a (Some ways) free alike w =
         let plan = Choose site.selects (select_table globals elements result layout clauses) ways.plan in (
           record {
             runs = λ place tabled.
-                let t = before_tabled code.selects plan (pushes_clauses globals elements result layout clauses plan) place (clauses_before clauses plan) tabled in
+                let t = before_tabled code.selects plan (pushes_clauses globals elements result layout clauses plan) place (clauses_before globals elements layout result clauses plan) tabled in
                 let begin = w.begin (t.0 + 1) in
                 let least = w.least in
                 all_puts clauses s sees b c first (starts (t.0 + 1) ways.plan) (omega (arith, begin, least)) free a [] [] plan (chosen s clauses a site.selects t.0 ways w t.1.0 t.1.1);
