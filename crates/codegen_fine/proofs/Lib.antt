@@ -23,6 +23,8 @@ pub mod Simples
 pub mod Growing
 pub mod Conditions
 pub mod Before
+pub mod Plain
+pub mod Numbering
 pub mod Noting
 pub mod Bodies
 pub mod Returns
