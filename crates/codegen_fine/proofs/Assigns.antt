@@ -111,7 +111,7 @@ module _ (globals : Globals) (elements : List Element) where
     -- what a declaration leaves: the stack as it was, and the variables that the typing rules see
     pub record Declares (plan : Plan) (after : Scope) (behind : Layout) : Type 0 where
       pub leaves : Leaves plan
-      pub room : Room globals elements f behind
+      pub room : Room globals elements code f behind
       pub alike : Alike after behind.scope
 
     -- ---- places
@@ -172,7 +172,7 @@ module _ (globals : Globals) (elements : List Element) where
 
     -- ---- names
 
-    module _ (layout : Layout) (room : Room globals elements f layout) (s : Scope) (alike : Alike s layout.scope) where
+    module _ (layout : Layout) (room : Room globals elements code f layout) (s : Scope) (alike : Alike s layout.scope) where
       own_housed : (name : List ℕ) (v : Variable) → own_variable layout.scope name ≡ Some v → IsHoused globals elements f v.place v.kind
       own_housed name v is = found_housed globals elements f (drop layout.scope.outer layout.scope.variables) name v (drop_housed globals elements f layout.scope.outer layout.scope.variables room.housed) (of (is_blank name) is) where
         of : (b : Bool) → (if b then None else last_named (drop layout.scope.outer layout.scope.variables) name) ≡ Some v → last_named (drop layout.scope.outer layout.scope.variables) name ≡ Some v
@@ -202,7 +202,7 @@ module _ (globals : Globals) (elements : List Element) where
         go None is rest = rest
         go (Some v) is rest = let h = own_housed name v is in (subst (λ o. Noted elements (known o)) (sym h.has) h.noted, rest)
 
-      all_taken : (names : List (List ℕ)) (values : List Given) → WellTaken elements (names_want layout.scope names) values → AllTaken globals elements f code grounds.wide layout.scope names values
+      all_taken : (names : List (List ℕ)) (values : List Given) → WellTaken elements (names_want layout.scope names) values → AllTaken globals elements code f grounds layout.scope names values
       all_taken [] [] w = tt
       all_taken [] (value ∷ values) w = absurd w
       all_taken (name ∷ names) [] w = absurd w
@@ -211,14 +211,14 @@ module _ (globals : Globals) (elements : List Element) where
       -- the names of a declaration, and what they take
       pub record DefineFits (names : List (List ℕ)) (right : Right) : Type 0 where
         pub takes : Takes globals elements code f grounds layout.scope (housed_of globals elements f layout.scope room.housed) s alike.named functions (length names) (names_want layout.scope names) (given globals layout.scope (length names) 0 right) (λ types. pushes_right globals elements layout.scope (length names) types right)
-        pub names_fit : NamesFit globals elements f code grounds.wide layout layout s names (given globals layout.scope (length names) 0 right)
+        pub names_fit : NamesFit globals elements code f grounds layout layout s names (given globals layout.scope (length names) 0 right)
 
       pub defines_fit : (names : List (List ℕ)) (right : Right) → has_twice names ≡ false → Begins f (declaring_all globals elements names (right_types globals elements layout.scope (length names) right) layout)
           → Takes globals elements code f grounds layout.scope (housed_of globals elements f layout.scope room.housed) s alike.named functions (length names) (names_want layout.scope names) (given globals layout.scope (length names) 0 right) (λ types. pushes_right globals elements layout.scope (length names) types right)
           → DefineFits names right
       defines_fit names right twice begins t = record {
         takes = t;
-        names_fit = names_fit globals elements f code grounds.wide names (given globals layout.scope (length names) 0 right) layout layout s room begins alike (own_same layout.scope names) twice (all_taken names (given globals layout.scope (length names) 0 right) t.well);
+        names_fit = names_fit globals elements code f grounds names (given globals layout.scope (length names) 0 right) layout layout s room begins alike (own_same layout.scope names) twice (all_taken names (given globals layout.scope (length names) 0 right) t.well);
       }
 
       pub typed_defines : (names : List (List ℕ)) (right : Right) (first end : ℕ) → 1 ≤ end → has_twice names ≡ false → Free (RightHas globals s first right) → Free (NumbersHave (length (given globals s (length names) first right)) (length names) end)
@@ -232,7 +232,7 @@ module _ (globals : Globals) (elements : List Element) where
           let wants = names_want layout.scope names in
           let types = right_types globals elements layout.scope count right in
           let t = typed_right globals elements code f grounds layout.scope housed s alike.named functions right first end count wants le (length-map names (λ name. want_of (own_variable layout.scope name))) (names_noted names) free numbers (λ flaw h. fail flaw (names_fail names (given globals s count first right) flaw h)) noted in
-          let n = names_fit globals elements f code grounds.wide names (given globals layout.scope count 0 right) layout layout s room begins alike (own_same layout.scope names) twice (all_taken names (given globals layout.scope count 0 right) t.well) in
+          let n = names_fit globals elements code f grounds names (given globals layout.scope count 0 right) layout layout s room begins alike (own_same layout.scope names) twice (all_taken names (given globals layout.scope count 0 right) t.well) in
           let pushed = subst (λ (l : List ValueType). Puts globals.structs elements code f (all_kinds globals.structs elements l) (pushes_right globals elements layout.scope count l right)) (sym (names_taken globals elements layout names types)) t.pushed in
           record {
             leaves = put_leaves (name_types globals elements layout names types) (name_spots globals elements layout names types) (pushes_right globals elements layout.scope count (name_types globals elements layout names types) right) pushed n.fit;

@@ -55,7 +55,7 @@ module _ (globals : Globals) (elements : List Element) (code : Code) (f : CodeFu
 
   pub record IsMade (a : Allowed) (made : Made) : Type 0 where
     pub runs : Runs a made.plan
-    pub room : Room globals elements f made.layout
+    pub room : Room globals elements code f made.layout
 
   -- the variables behind it are those that the typing rules see
   abbrev pub IsMadeAlike : Allowed → Made → Scope → Type 0
@@ -85,12 +85,12 @@ module _ (globals : Globals) (elements : List Element) (code : Code) (f : CodeFu
   pub made_followed : (a : Allowed) (x y : Made) → IsMade a x → IsMade a y → IsMade a (followed x y)
   made_followed a x y p q = record { runs = runs_seq a x.plan y.plan p.runs (λ e. q.runs); room = q.room }
 
-  pub made_ended : (a : Allowed) (outer : Layout) (x : Made) → Room globals elements f outer → IsMade a x → IsMade a (ended outer x)
-  made_ended a outer x room p = record { runs = p.runs; room = room_leaving globals elements f outer x.layout room p.room }
+  pub made_ended : (a : Allowed) (outer : Layout) (x : Made) → Room globals elements code f outer → IsMade a x → IsMade a (ended outer x)
+  made_ended a outer x room p = record { runs = p.runs; room = room_leaving globals elements code f outer x.layout room p.room }
 
   -- ---- conditions
 
-  module _ (layout : Layout) (room : Room globals elements f layout) (s : Scope) (sees : Sees s layout.scope) where
+  module _ (layout : Layout) (room : Room globals elements code f layout) (s : Scope) (sees : Sees s layout.scope) where
     pub typed_tests : (condition : Expression) (first : ℕ) → Free (TestHas globals s first condition) → (a : Allowed) (ks out : List WordKind) (rest : Plan) → Typed code f a (ks ++ kinds.Bool ∷ []) rest out → Typed code f a ks (tests globals elements layout condition rest) out
     typed_tests condition first free a ks out rest t =
         let w = worth_there globals s (grounds.fields_known s) condition first (λ flaw h. free flaw (inl h)) in
@@ -122,7 +122,7 @@ module _ (globals : Globals) (elements : List Element) (code : Code) (f : CodeFu
 
   -- ---- headers
 
-  module _ (site : Site) (room : Room globals elements f site.layout) (s : Scope) where
+  module _ (site : Site) (room : Room globals elements code f site.layout) (s : Scope) where
     pub typed_any : (simple : Option Simple) (first : ℕ) (a : Allowed) → Alike s site.layout.scope → Free (IfSimpleHas globals s first simple) → (all : List Element) → Grows (noting_first globals.types simple all) elements → Fits site.prints (made_any globals elements site simple) → IsMadeAlike a (made_any globals elements site simple) (after_any globals s simple)
     typed_any None first a alike free all g fits = (record { runs = λ place tabled. refl; room = room }, alike)
     typed_any (Some simple) first a alike free all g fits =
@@ -147,13 +147,13 @@ module _ (globals : Globals) (elements : List Element) (code : Code) (f : CodeFu
   still_behind (Assign a b) layout still = refl
   still_behind (Update a b c) layout still = refl
 
-  pub typed_post : (header : Layout) (site : Site) → Room globals elements f header → Room globals elements f site.layout → (s : Scope) → Sees s site.layout.scope → (post : Option Simple) (first : ℕ) (a : Allowed) → StillAny post → Free (IfSimpleHas globals s first post) → (all : List Element) → Grows (noting_first globals.types post all) elements
+  pub typed_post : (header : Layout) (site : Site) → Room globals elements code f header → Room globals elements code f site.layout → (s : Scope) → Sees s site.layout.scope → (post : Option Simple) (first : ℕ) (a : Allowed) → StillAny post → Free (IfSimpleHas globals s first post) → (all : List Element) → Grows (noting_first globals.types post all) elements
       → Prints code site.prints (made_post globals elements header site post).prints → IsMade globals elements code f grounds functions a (made_post globals elements header site post)
   typed_post header site outer room s sees None first a still free all g prints = record { runs = λ place tabled. refl; room = room }
   typed_post header site outer room s sees (Some simple) first a still free all g prints =
       let within = entering site.layout in
-      let inner = room_entering globals elements f site.layout room in
+      let inner = room_entering globals elements code f site.layout room in
       record {
         runs = λ place tabled. typed_still globals elements code f grounds functions within inner s sees site.prints simple first still free all g prints a [] [] refl;
-        room = subst (λ (x : Layout). Room globals elements f (leaving header x)) (sym (still_behind simple within still)) (room_leaving globals elements f header within outer inner);
+        room = subst (λ (x : Layout). Room globals elements code f (leaving header x)) (sym (still_behind simple within still)) (room_leaving globals elements code f header within outer inner);
       }

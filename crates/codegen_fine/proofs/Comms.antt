@@ -59,7 +59,7 @@ module _ (globals : Globals) (elements : List Element) (code : Code) (f : CodeFu
 
   -- ---- its operands
 
-  module _ (layout : Layout) (room : Room globals elements f layout) (s : Scope) (sees : Sees s layout.scope) where
+  module _ (layout : Layout) (room : Room globals elements code f layout) (s : Scope) (sees : Sees s layout.scope) where
     -- what is pushed is what its clause of the table takes, and what the clause leaves is what its way begins with
     pub record CommFine (comm : Comm) : Type 0 where
       pub pushed : (to : ℕ) → Puts globals.structs elements code f (clause_kinds code (table_clause globals elements result layout comm to)) (pushes_comm globals elements result layout comm)
@@ -128,11 +128,11 @@ module _ (globals : Globals) (elements : List Element) (code : Code) (f : CodeFu
   given_two item None x channel = ap (λ o. known o ∷ []) (default_typed (element_of (worth globals x channel)))
   given_two item (Some other) x channel = ap (λ o. known o ∷ BoolType ∷ []) (default_typed (element_of (worth globals x channel)))
 
-  module _ (layout : Layout) (room : Room globals elements f layout) (s : Scope) (alike : Alike s layout.scope) where
+  module _ (layout : Layout) (room : Room globals elements code f layout) (s : Scope) (alike : Alike s layout.scope) where
     -- a way begins with what its clause leaves, and leads to the variables that the typing rules see
     pub record CommMade (comm : Comm) : Type 0 where
       pub takes : (a : Allowed) → Typed code f a (comm_kinds globals elements result layout comm) (comm_plan globals elements result layout comm) []
-      pub behind : Room globals elements f (behind_comm globals elements result comm layout)
+      pub behind : Room globals elements code f (behind_comm globals elements result comm layout)
       pub seen : Alike (after_simple globals s (comm_simple comm)) (behind_comm globals elements result comm layout).scope
 
     two_spots : (places : List Place) (item : Place) (ok : Option Place) (kind : ValueType) → place_spots globals elements layout.scope (and_also item ok) (two_types ok kind) ≡ place_spots globals elements layout.scope (one_or_two globals elements result item ok) (kind ∷ BoolType ∷ [])
@@ -198,6 +198,6 @@ module _ (globals : Globals) (elements : List Element) (code : Code) (f : CodeFu
         let spots : name_spots globals elements layout names types ≡ name_spots globals elements layout (one_or_two globals elements result item ok) (kind ∷ BoolType ∷ []) = ap (name_spots globals elements layout names) (given_two item ok layout.scope channel) ∙ two_names item ok kind in
         record {
           takes = λ a. subst (λ (x : List Spot). Typed code f a (kinds_in kind ++ kinds.Bool ∷ []) (unless_two globals elements result ok (assigns x Skip)) []) spots (received ok kind (name_spots globals elements layout names types) (map kinds_in (name_types globals elements layout names types)) n.fit same a);
-          behind = subst (Room globals elements f) behind-is n.room;
+          behind = subst (Room globals elements code f) behind-is n.room;
           seen = subst (λ (x : Layout). Alike (after_simple globals s (Define names right)) x.scope) behind-is (subst (λ x. Alike x (declaring_all globals elements names types layout).scope) (sym (defined_alike globals elements s layout.scope alike.named names count 0 0 right)) n.alike);
         }

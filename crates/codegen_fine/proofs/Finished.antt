@@ -45,7 +45,7 @@ module _ (globals : Globals) (elements : List Element) (code : Code) (f : CodeFu
   -- a body that returns wherever it ends
   pub record IsBody (made : Made) : Type 0 where
     pub runs : Runs globals elements code f grounds functions outside made.plan
-    pub room : Room globals elements f made.layout
+    pub room : Room globals elements code f made.layout
     pub ends : reaches_end made.plan ≡ false
 
   module _ (result : Yield) (yields : IsResult globals elements f result) where
@@ -68,7 +68,7 @@ module _ (globals : Globals) (elements : List Element) (code : Code) (f : CodeFu
           }
       go false is h = let m = made h in record { runs = m.runs; room = m.room; ends = is }
 
-    pub typed_body : (body : Statements) (site : Site) (s : Scope) (first : ℕ) → Room globals elements f site.layout → Alike s site.layout.scope → PostsAll body → Free (StatementsHave setting s first body) → (all : List Element) → Grows (noting_statements globals.types body all) elements
+    pub typed_body : (body : Statements) (site : Site) (s : Scope) (first : ℕ) → Room globals elements code f site.layout → Alike s site.layout.scope → PostsAll body → Free (StatementsHave setting s first body) → (all : List Element) → Grows (noting_statements globals.types body all) elements
         → Fits globals elements code f grounds functions site.prints (made_body globals elements result site body) → IsBody (made_body globals elements result site body)
     typed_body body site s first room alike still free all g fits =
         typed_finished site.prints (made_all globals elements result site body) fits

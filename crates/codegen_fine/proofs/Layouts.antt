@@ -8,6 +8,7 @@ use Rattle.std.proofs.lemmas.List.{append-nil}
 use Rattle.std.proofs.lemmas.Option.{same_Some}
 use Rattle.bytecode.specs.declared.instr.WordKind.{WordKind}
 use Rattle.bytecode.specs.Code.{Function as CodeFunction, Code}
+use Rattle.bytecode.specs.Rules.{AreThere}
 use Rattle.type_table.specs.Types.{ValueType}
 use Rattle.type_table.specs.Containment.{Structs, variable_words}
 use Rattle.type_table.specs.Scopes.{Globals, Scope, Variable, is_blank, later, if_named, last_named, own_variable, entered, left, declared, declared_unless_blank}
@@ -25,6 +26,8 @@ use Rattle.codegen_base.proofs.Fields.{AllWide}
 use Rattle.codegen_base.proofs.Likeness.{kinds_long}
 use Rattle.codegen_base.proofs.Noted.{Noted}
 use Rattle.plan.proofs.Lists.{Stand, whole, split}
+use Rattle.codegen_fine.proofs.Operands.{Grounds}
+use Rattle.codegen_fine.proofs.Makes.{noted_there}
 use Rattle.codegen_fine.proofs.Places.{IsHoused, AllHoused, found_housed, drop_housed}
 use Rattle.codegen_fine.proofs.Spots.{SpotFits, SpotsFit}
 
@@ -92,6 +95,12 @@ twice_parts name names e =
 
 -- ---- locals
 
+-- shapes that two lists name are there
+there_append : (code : Code) (xs ys : List WordKind) → AreThere code xs → AreThere code ys → AreThere code (xs ++ ys)
+there_append code [] ys a b n k e = b n k e
+there_append code (x ∷ xs) ys a b zero k e = a zero k e
+there_append code (x ∷ xs) ys a b (suc n) k e = there_append code xs ys (λ m j h. a (suc m) j h) b n k e
+
 -- the locals of the one begin those of the other
 pub record Longer (a b : Layout) : Type 0 where
   pub more : List WordKind
@@ -130,17 +139,18 @@ module _ (globals : Globals) (elements : List Element) where
   longer_each kind [] layout = longer_no layout
   longer_each kind (name ∷ names) layout = longer_on layout (declaring_new globals elements kind name layout) _ (longer_new kind name layout) (longer_each kind names (declaring_new globals elements kind name layout))
 
-  module _ (f : CodeFunction) where
+  module _ (code : Code) (f : CodeFunction) where
     -- a layout's variables are among the function's locals, and its locals are those that are taken
     pub record Room (layout : Layout) : Type 0 where
       pub housed : AllHoused globals elements f layout.scope.variables
       pub words : layout.scope.words ≡ length layout.locals
+      pub there : AreThere code layout.locals
 
     pub room_entering : (layout : Layout) → Room layout → Room (entering layout)
-    room_entering layout r = record { housed = r.housed; words = r.words }
+    room_entering layout r = record { housed = r.housed; words = r.words; there = r.there }
 
     pub room_leaving : (outer inner : Layout) → Room outer → Room inner → Room (leaving outer inner)
-    room_leaving outer inner r s = record { housed = r.housed; words = s.words }
+    room_leaving outer inner r s = record { housed = r.housed; words = s.words; there = s.there }
 
     housed_more : (vs : List Variable) (v : Variable) → AllHoused globals elements f vs → IsHoused globals elements f v.place v.kind → AllHoused globals elements f (vs ++ v ∷ [])
     housed_more [] v all h = (h, tt)
@@ -161,17 +171,18 @@ module _ (globals : Globals) (elements : List Element) where
           noted = noted;
         }
 
-    pub room_declaring : AllWide globals.structs → (kind : ValueType) (name : List ℕ) (layout : Layout) → Room layout → Begins f (declaring globals elements kind name layout) → Noted elements kind → Room (declaring globals elements kind name layout)
-    room_declaring wide kind name layout room begins noted =
+    pub room_declaring : Grounds globals elements code → (kind : ValueType) (name : List ℕ) (layout : Layout) → Room layout → Begins f (declaring globals elements kind name layout) → Noted elements kind → Room (declaring globals elements kind name layout)
+    room_declaring grounds kind name layout room begins noted =
         let ks = kinds_of globals.structs elements kind in
         record {
           housed = housed_more layout.scope.variables (record { name = name; kind = Some kind; place = layout.scope.words }) room.housed (new_housed kind layout room name begins noted);
-          words = omega (arith, room.words, length-append layout.locals ks, counted_words globals.structs wide kind, kinds_long globals.structs elements kind);
+          words = omega (arith, room.words, length-append layout.locals ks, counted_words globals.structs grounds.wide kind, kinds_long globals.structs elements kind);
+          there = there_append code layout.locals ks room.there (noted_there globals elements code f grounds kind noted);
         }
 
     -- ---- names that are given values
 
-    module _ (code : Code) (wide : AllWide globals.structs) where
+    module _ (grounds : Grounds globals elements code) where
       -- a name that is new in a scope takes a type that is known and noted
       abbrev pub AllTaken : Scope → List (List ℕ) → List Given → Type 0
       AllTaken base [] [] = Unit {0}
@@ -221,7 +232,7 @@ module _ (globals : Globals) (elements : List Element) where
               fit = subst (λ t. SpotFits globals.structs elements code f (if t then Local layout.scope.words (length (kinds_of globals.structs elements (known o))) else own_spot globals elements layout.scope (known o) (own_variable layout.scope name)) (kinds_of globals.structs elements (name_type globals elements (known o) (own_variable base.scope name)))) (sym is)
                   (subst (λ x. SpotFits globals.structs elements code f (Local layout.scope.words (length (kinds_of globals.structs elements (known o)))) (kinds_of globals.structs elements (name_type globals elements (known o) x))) (sym none)
                   (subst (λ k. SpotFits globals.structs elements code f (Local layout.scope.words (length (kinds_of globals.structs elements k))) (kinds_of globals.structs elements k)) (same_Some h.kind (known o) (sym h.has)) (refl, h.within, h.stand)));
-              room = subst (λ t. Room (if t then declaring globals elements (known o) name layout else layout)) (sym is) (room_declaring wide (known o) name layout room b w.1);
+              room = subst (λ t. Room (if t then declaring globals elements (known o) name layout else layout)) (sym is) (room_declaring grounds (known o) name layout room b w.1);
               alike = subst (λ t. Alike (if t then declared globals.structs s o name else s) (declaring_new globals elements (known o) name layout).scope) (sym (declarable ∙ is))
                   (subst (λ t. Alike (declared globals.structs s o name) (if t then declaring globals elements (known o) name layout else layout).scope) (sym is)
                   (subst (λ k. Alike (declared globals.structs s k name) (declared globals.structs layout.scope (Some (known o)) name)) (sym w.0) (alike_declared globals.structs globals.structs s layout.scope (Some (known o)) name alike)));

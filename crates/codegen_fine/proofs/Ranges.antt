@@ -98,21 +98,21 @@ module _ (globals : Globals) (elements : List Element) (code : Code) (f : CodeFu
   -- the layout of an item, and what goes there
   record Goes (result : Yield) (layout : Layout) (s : Scope) (kind : ValueType) (target : Target) (o : Option ValueType) (behind : Layout) : Type 0 where
     taken : Typed code f in_loop (kinds_in kind) (takes globals elements result layout kind target) []
-    room : Room globals elements f behind
+    room : Room globals elements code f behind
     alike : Alike (after_target globals s o target) behind.scope
 
   stored : (layout : Layout) (kind : ValueType) (spot : Spot) (js : List WordKind) → js ≡ kinds_in kind → SpotFits globals.structs elements code f spot js → Typed code f in_loop (kinds_in kind) (stores spot (Do instrs.Tick Skip)) []
   stored layout kind spot js same fit =
       stores_typed globals.structs elements code f spot (kinds_in kind) (subst (SpotFits globals.structs elements code f spot) same fit) in_loop [] [] (Do instrs.Tick Skip) (ticks_typed globals.structs elements code f in_loop [] [] Skip refl)
 
-  goes : (layout : Layout) (room : Room globals elements f layout) (s : Scope) (alike : Alike (entered s) layout.scope) (fresh : (name : List ℕ) → own_variable layout.scope name ≡ None) (kind : ValueType) (noted : Noted elements kind) (item : Given) (target : Target) (first end : ℕ)
+  goes : (layout : Layout) (room : Room globals elements code f layout) (s : Scope) (alike : Alike (entered s) layout.scope) (fresh : (name : List ℕ) → own_variable layout.scope name ≡ None) (kind : ValueType) (noted : Noted elements kind) (item : Given) (target : Target) (first end : ℕ)
       → item.worth ≡ Some (TypedWorth kind) → 1 ≤ item.nodes.end → Free (TargetHas globals (entered s) first target) → Free (TakenHas globals (entered s) target item end) → Begins f (behind_target globals elements kind target layout)
       → (result : Yield) → Goes result layout (entered s) kind target (Some kind) (behind_target globals elements kind target layout)
   goes layout room s alike fresh kind noted item NoTarget first end is le free fit_goes begins _ =
       record { taken = drops_typed globals.structs elements code f (kinds_in kind) in_loop [] [] Skip refl; room = room; alike = alike }
   goes layout room s alike fresh kind noted item (DefineTarget name) first end is le free fit_goes begins _ =
       let names = name ∷ [] in
-      let n = names_fit globals elements f code grounds.wide names (alike_values names kind) layout layout (entered s) room begins alike (own_same layout.scope names) (one_once name) (taken_alike globals elements code f grounds functions layout.scope names kind noted) in
+      let n = names_fit globals elements code f grounds names (alike_values names kind) layout layout (entered s) room begins alike (own_same layout.scope names) (one_once name) (taken_alike globals elements code f grounds functions layout.scope names kind noted) in
       let after = variables_are globals elements names kind (entered s) (entered s) alike.fits (own_same (entered s) names) (new_entered s name, tt) (one_once name) in
       record {
         taken = stored layout kind (name_spot globals elements layout name kind) (kinds_in (name_type globals elements kind (own_variable layout.scope name))) (ap (λ o. kinds_in (name_type globals elements kind o)) (fresh name)) n.fit.0;
@@ -150,13 +150,13 @@ module _ (globals : Globals) (elements : List Element) (code : Code) (f : CodeFu
         let within = entering kept in
         let kept-begins = begins_before f kept item.layout (longer_as within item.layout kept item.layout refl refl (longer_target globals elements kind target within)) item-begins in
         let noted-own = subst (Noted elements) (sym own) c.noted in
-        let entered-room = room_entering globals elements f layout room in
-        let kept-room = room_declaring globals elements f grounds.wide (type_of globals elements layout.scope channel) blank (entering layout) entered-room kept-begins noted-own in
-        let h = new_housed globals elements f (type_of globals elements layout.scope channel) (entering layout) entered-room blank kept-begins noted-own in
+        let entered-room = room_entering globals elements code f layout room in
+        let kept-room = room_declaring globals elements code f grounds (type_of globals elements layout.scope channel) blank (entering layout) entered-room kept-begins noted-own in
+        let h = new_housed globals elements code f (type_of globals elements layout.scope channel) (entering layout) entered-room blank kept-begins noted-own in
         let spot : SpotFits globals.structs elements code f (Local layout.scope.words 1) (kinds_in whole) = subst (λ k. SpotFits globals.structs elements code f (Local layout.scope.words (length (kinds_in k))) (kinds_in k)) (same_Some h.kind whole (sym h.has ∙ ap Some own)) (refl, h.within, h.stand) in
         let element-is : element_of (worth globals (entered s) channel) ≡ Some kind = ap element_of (worth_sees (entered s) layout.scope alike.named globals channel ∙ c.is) ∙ ap Some (sym c.carries) in
         let noted = subst (Noted elements) (sym c.carries) c.noted.0 in
-        let g = goes within (room_entering globals elements f kept kept-room) s (alike_blank globals.structs s layout.scope (type_of globals elements layout.scope channel) alike) (λ name. new_entered kept.scope name) kind noted (item_given globals (entered s) at channel) target first end
+        let g = goes within (room_entering globals elements code f kept kept-room) s (alike_blank globals.structs s layout.scope (type_of globals elements layout.scope channel) alike) (λ name. new_entered kept.scope name) kind noted (item_given globals (entered s) at channel) target first end
         (ap (option_map TypedWorth) element-is) (nodes_end at channel) (λ flaw x. free flaw (inl x)) (λ flaw x. free flaw (inr (inr x))) item-begins result in
         let m = body-made g.room (subst (λ o. Alike (after_target globals (entered s) o target) item.layout.scope) (sym element-is) g.alike)
         (record { begins = begins_before f inner.layout all.layout (longer_as inner.layout inner.layout inner.layout all.layout refl refl (longer_no inner.layout)) fits.begins; prints = fits.prints }) in
@@ -175,5 +175,5 @@ module _ (globals : Globals) (elements : List Element) (code : Code) (f : CodeFu
                 let t = OnTrue_at e tabled.1 in
                 (kinds_in kind, refl, refl, test, turn _ t.1, OnTrue_from (turns (Seq taken inner.plan)) (Typed code f a [] Skip []) (λ x. refl), drops_typed globals.structs elements code f (kinds_in kind) a [] [] Skip refl)),
           );
-          room = room_leaving globals elements f layout (leaving item.layout inner.layout) room (room_leaving globals elements f item.layout inner.layout g.room m.room);
+          room = room_leaving globals elements code f layout (leaving item.layout inner.layout) room (room_leaving globals elements code f item.layout inner.layout g.room m.room);
         }

@@ -38,7 +38,7 @@ pub record IsResult (globals : Globals) (elements : List Element) (f : CodeFunct
   pub noted : (kind : Option ValueType) → result ≡ Yields kind → Noted elements (known kind)
 
 module _ (globals : Globals) (elements : List Element) (code : Code) (f : CodeFunction) (grounds : Grounds globals elements code) (functions : Functions globals elements code) where
-  module _ (layout : Layout) (room : Room globals elements f layout) (s : Scope) (sees : Sees s layout.scope) where
+  module _ (layout : Layout) (room : Room globals elements code f layout) (s : Scope) (sees : Sees s layout.scope) where
     pub typed_returned : (result : Yield) → IsResult globals elements f result → (returned : Returned) (first : ℕ) → Free (ReturnStatementHas globals result s first returned) → (all : List Element) → Grows (noting_returned globals.types returned all) elements → (a : Allowed) (out : List WordKind)
         → Typed code f a [] (return_plan globals elements result layout returned) out
     typed_returned NoResult r NoValue first free all g a out = sym r.kinds_are

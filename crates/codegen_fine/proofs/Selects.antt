@@ -68,7 +68,7 @@ module _ (globals : Globals) (elements : List Element) (code : Code) (f : CodeFu
   comm_same (CommDefine item ok channel) a b sees = ap (λ o. kinds_of globals.structs elements (known (element_of o)) ++ kinds.Bool ∷ []) (worth_sees a.scope b.scope sees globals channel)
   comm_same (CommAssign item ok channel) a b sees = ap (λ o. kinds_of globals.structs elements (known (element_of o)) ++ kinds.Bool ∷ []) (worth_sees a.scope b.scope sees globals channel)
 
-  module _ (layout : Layout) (room : Room globals elements f layout) where
+  module _ (layout : Layout) (room : Room globals elements code f layout) where
     -- ---- the operands of all clauses
 
     pub all_puts : (clauses : Clauses) (s : Scope) → Sees s layout.scope → (breaks continues : Bool) (first : ℕ) (places : List ℕ) → comm_count clauses ≤ length places → Free (ClausesHave (setting breaks continues) s first clauses)
@@ -111,7 +111,7 @@ module _ (globals : Globals) (elements : List Element) (code : Code) (f : CodeFu
       pub begin : (place : ℕ) → length (starts place m.plan) ≡ length (entries m.plan)
       pub kinds_are : (places : List ℕ) → comm_count clauses ≤ length places → (k : ℕ) (js : List WordKind) → slice_get (entries m.plan) k ≡ Some js → js ≡ clause_gives code (slice_get (clauses_at layout clauses places) k)
       pub runs : (place : ℕ) → Tabled code.selects place m.plan → (first : List WordKind) × Typed code f a first m.plan []
-      pub behind : Room globals elements f m.layout
+      pub behind : Room globals elements code f m.layout
       pub seen : Alike s m.layout.scope
 
     abbrev pub WaysOf : Scope → Clauses → Allowed → Option Made → Type 0
@@ -120,7 +120,7 @@ module _ (globals : Globals) (elements : List Element) (code : Code) (f : CodeFu
 
     -- a way, and those behind it
     pub join_way : (s : Scope) (comm : Comm) (body : Statements) (more : Clauses) (a : Allowed) (ks : List WordKind) (one : Made) (o : Option Made) → ((to : ℕ) → clause_gives code (Some (table_clause globals elements result layout comm to)) ≡ ks)
-        → ((place : ℕ) → Tabled code.selects place one.plan → Typed code f a ks one.plan []) → Room globals elements f one.layout → Alike s one.layout.scope → WaysOf s more a o → WaysFine s (Clause (Some comm) body more) a (with_way ks one o)
+        → ((place : ℕ) → Tabled code.selects place one.plan → Typed code f a ks one.plan []) → Room globals elements code f one.layout → Alike s one.layout.scope → WaysOf s more a o → WaysFine s (Clause (Some comm) body more) a (with_way ks one o)
     join_way s comm body more a ks one None gives runs behind seen none = record {
       least = omega (arith, none);
       most = omega (arith, none);

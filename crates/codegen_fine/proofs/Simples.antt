@@ -33,7 +33,7 @@ IsStill (Define names right) = ⊥
 IsStill simple = Unit {0}
 
 module _ (globals : Globals) (elements : List Element) (code : Code) (f : CodeFunction) (grounds : Grounds globals elements code) (functions : Functions globals elements code) where
-  pub typed_still : (layout : Layout) (room : Room globals elements f layout) (s : Scope) (sees : Sees s layout.scope) (q : ℕ) (simple : Simple) (first : ℕ) → IsStill simple → Free (SimpleHas globals s first simple) → (all : List Element) → Grows (noting_simple globals.types simple all) elements → Prints code q (simple_prints globals elements layout.scope simple)
+  pub typed_still : (layout : Layout) (room : Room globals elements code f layout) (s : Scope) (sees : Sees s layout.scope) (q : ℕ) (simple : Simple) (first : ℕ) → IsStill simple → Free (SimpleHas globals s first simple) → (all : List Element) → Grows (noting_simple globals.types simple all) elements → Prints code q (simple_prints globals elements layout.scope simple)
       → Leaves globals elements code f grounds functions (simple_plan globals elements layout q simple)
   typed_still layout room s sees q (CallAlone function arguments) first still free all g prints = typed_call_alone globals elements code f grounds layout (housed_of globals elements f layout.scope room.housed) q s sees functions function arguments first free
   typed_still layout room s sees q (Close channel) first still free all g prints = typed_close globals elements code f grounds layout (housed_of globals elements f layout.scope room.housed) q s sees functions channel first free
@@ -52,7 +52,7 @@ module _ (globals : Globals) (elements : List Element) (code : Code) (f : CodeFu
       (right_noted globals elements code f grounds layout.scope (housed_of globals elements f layout.scope room.housed) s sees functions right _ (λ flaw h. free flaw (inr (inl h))) all g)
   typed_still layout room s sees q (Define names right) first still free all g prints = absurd still
 
-  module _ (layout : Layout) (room : Room globals elements f layout) (s : Scope) (alike : Alike s layout.scope) where
+  module _ (layout : Layout) (room : Room globals elements code f layout) (s : Scope) (alike : Alike s layout.scope) where
     abbrev pub IsDone : ℕ → Simple → Type 0
     IsDone q simple = Declares globals elements code f grounds functions (simple_plan globals elements layout q simple) (after_simple globals s simple) (behind_simple globals elements simple layout)
 

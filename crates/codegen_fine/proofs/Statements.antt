@@ -85,7 +85,7 @@ module _ (globals : Globals) (elements : List Element) (code : Code) (f : CodeFu
   F first x = Fits globals elements code f grounds functions first x
 
   abbrev R : Layout → Type 0
-  R layout = Room globals elements f layout
+  R layout = Room globals elements code f layout
 
   abbrev G : List Element → Type 0
   G all = Grows all elements
@@ -185,20 +185,20 @@ module _ (globals : Globals) (elements : List Element) (code : Code) (f : CodeFu
       typed_statement (Block body) site s b c first room alike still free all g fits =
           let inner = made_all globals elements result (inside site) body in
           blocked (allowed b c) site.layout inner s (after_all globals (entered s) body) room alike
-          (typed_statements body (inside site) (entered s) b c first (room_entering globals elements f site.layout room) (alike_entered s site.layout.scope alike) still free all g (fits_as globals elements code f grounds functions site.prints (ended site.layout inner) inner refl refl fits))
+          (typed_statements body (inside site) (entered s) b c first (room_entering globals elements code f site.layout room) (alike_entered s site.layout.scope alike) still free all g (fits_as globals elements code f grounds functions site.prints (ended site.layout inner) inner refl refl fits))
       typed_statement (If branch) site s b c first room alike still free all g fits = typed_branch branch site s b c first room alike still free all g fits
       typed_statement (For Forever body) site s b c first room alike still free all g fits =
           let inner = made_all globals elements result (inside site) body in
-          let m = typed_statements body (inside site) (entered s) true true (first + for_head_size Forever) (room_entering globals elements f site.layout room) (alike_entered s site.layout.scope alike) still (λ flaw h. free flaw (inr h)) all g
+          let m = typed_statements body (inside site) (entered s) true true (first + for_head_size Forever) (room_entering globals elements code f site.layout room) (alike_entered s site.layout.scope alike) still (λ flaw h. free flaw (inr h)) all g
           (fits_as globals elements code f grounds functions site.prints (made globals elements result site (For Forever body)) inner refl refl fits) in (
-            record { runs = runs_loop globals elements code f grounds functions site.layout room (entered s) alike.named None first (λ flaw h. h) (allowed b c) inner.plan Skip m.runs (λ place tabled. refl); room = room_leaving globals elements f site.layout inner.layout room m.room },
+            record { runs = runs_loop globals elements code f grounds functions site.layout room (entered s) alike.named None first (λ flaw h. h) (allowed b c) inner.plan Skip m.runs (λ place tabled. refl); room = room_leaving globals elements code f site.layout inner.layout room m.room },
             alike_left s site.layout.scope (after_all globals (entered s) body) inner.layout.scope alike,
           )
       typed_statement (For (While condition) body) site s b c first room alike still free all g fits =
           let inner = made_all globals elements result (inside site) body in
-          let m = typed_statements body (inside site) (entered s) true true (first + for_head_size (While condition)) (room_entering globals elements f site.layout room) (alike_entered s site.layout.scope alike) still (λ flaw h. free flaw (inr h)) all g
+          let m = typed_statements body (inside site) (entered s) true true (first + for_head_size (While condition)) (room_entering globals elements code f site.layout room) (alike_entered s site.layout.scope alike) still (λ flaw h. free flaw (inr h)) all g
           (fits_as globals elements code f grounds functions site.prints (made globals elements result site (For (While condition) body)) inner refl refl fits) in (
-            record { runs = runs_loop globals elements code f grounds functions site.layout room (entered s) alike.named (Some condition) first (λ flaw h. free flaw (inl h)) (allowed b c) inner.plan Skip m.runs (λ place tabled. refl); room = room_leaving globals elements f site.layout inner.layout room m.room },
+            record { runs = runs_loop globals elements code f grounds functions site.layout room (entered s) alike.named (Some condition) first (λ flaw h. free flaw (inl h)) (allowed b c) inner.plan Skip m.runs (λ place tabled. refl); room = room_leaving globals elements code f site.layout inner.layout room m.room },
             alike_left s site.layout.scope (after_all globals (entered s) body) inner.layout.scope alike,
           )
       typed_statement (For (ForClauses simple condition post) body) site s b c first room alike still free all g fits =
@@ -214,13 +214,13 @@ module _ (globals : Globals) (elements : List Element) (code : Code) (f : CodeFu
           let two = noting_first globals.types post one in
           let g2 = of_rest two (noting_statements globals.types body two) (statements_grow globals.types body two) g in
           let all-fit = fits_as globals elements code f grounds functions site.prints (made globals elements result site (For (ForClauses simple condition post) body)) (followed header looped) refl refl fits in
-          let head = typed_any globals elements code f grounds functions (inside site) (room_entering globals elements f site.layout room) (entered s) simple first (allowed b c) (alike_entered s site.layout.scope alike) (λ flaw h. free flaw (inl (inl h))) all
+          let head = typed_any globals elements code f grounds functions (inside site) (room_entering globals elements code f site.layout room) (entered s) simple first (allowed b c) (alike_entered s site.layout.scope alike) (λ flaw h. free flaw (inl (inl h))) all
           (of_rest one two (first_grows globals.types post one) g2) (fits_first globals elements code f grounds functions site.prints header looped (longer_on header.layout within.layout turn.layout kept last) all-fit) in
           let h = after_any globals (entered s) simple in
           let loop-fits = fits_rest globals elements code f grounds functions site.prints header looped all-fit in
           let inner-fits : F behind.prints inner = record { begins = begins_before f inner.layout turn.layout (longer_as within.layout turn.layout inner.layout turn.layout refl refl last) loop-fits.begins; prints = prints_front code behind.prints within.prints turn.prints loop-fits.prints } in
-          let m = typed_statements body (inside behind) (entered h) true true (first + for_head_size (ForClauses simple condition post)) (room_entering globals elements f header.layout head.0.room) (alike_entered h header.layout.scope head.1) still.1 (λ flaw x. free flaw (inr x)) two g inner-fits in
-          let within-room = room_leaving globals elements f header.layout inner.layout head.0.room m.room in
+          let m = typed_statements body (inside behind) (entered h) true true (first + for_head_size (ForClauses simple condition post)) (room_entering globals elements code f header.layout head.0.room) (alike_entered h header.layout.scope head.1) still.1 (λ flaw x. free flaw (inr x)) two g inner-fits in
+          let within-room = room_leaving globals elements code f header.layout inner.layout head.0.room m.room in
           let p = typed_post globals elements code f grounds functions header.layout (past behind within) head.0.room within-room h head.1.named post (first + if_any simple_size simple + if_any expression_size condition) (allowed b c) still.0 (λ flaw x. free flaw (inl (inr (inr x)))) one g2
           (prints_back code behind.prints within.prints turn.prints loop-fits.prints) in
           let l : M (allowed b c) looped = record { runs = runs_loop globals elements code f grounds functions header.layout head.0.room h head.1.named condition (first + if_any simple_size simple) (λ flaw x. free flaw (inl (inr (inl x)))) (allowed b c) within.plan turn.plan m.runs p.runs; room = p.room } in
@@ -229,7 +229,7 @@ module _ (globals : Globals) (elements : List Element) (code : Code) (f : CodeFu
           let item = item_site globals elements result site target channel in
           let x = after_for_head globals (entered s) (Range target channel) in (
             ranges target channel body site s (allowed b c) first (first + statement_size (For (Range target channel) body)) (omega arith) room alike (λ flaw h. free flaw (inl h)) fits
-                (λ item-room item-alike inner-fits. typed_statements body (inside item) (entered x) true true (first + for_head_size (Range target channel)) (room_entering globals elements f item.layout item-room) (alike_entered x item.layout.scope item-alike) still (λ flaw h. free flaw (inr h)) all g inner-fits),
+                (λ item-room item-alike inner-fits. typed_statements body (inside item) (entered x) true true (first + for_head_size (Range target channel)) (room_entering globals elements code f item.layout item-room) (alike_entered x item.layout.scope item-alike) still (λ flaw h. free flaw (inr h)) all g inner-fits),
             alike_left s site.layout.scope (after_all globals (entered x) body) (made globals elements result site (For (Range target channel) body)).layout.scope alike,
           )
       typed_statement (Select clauses) site s b c first room alike still free all g fits =
@@ -275,11 +275,11 @@ module _ (globals : Globals) (elements : List Element) (code : Code) (f : CodeFu
           let two = noting_statements globals.types body one in
           let g2 = of_rest two (noting_otherwise globals.types otherwise two) (otherwise_grows globals.types otherwise two) g in
           let all-fit = fits_as globals elements code f grounds functions site.prints (made_branch globals elements result site (Conditional head condition body otherwise)) (followed header other) refl refl fits in
-          let top = typed_any globals elements code f grounds functions (inside site) (room_entering globals elements f site.layout room) (entered s) simple first (allowed b c) (alike_entered s site.layout.scope alike) (λ flaw h. free flaw (inl (inl h))) all
+          let top = typed_any globals elements code f grounds functions (inside site) (room_entering globals elements code f site.layout room) (entered s) simple first (allowed b c) (alike_entered s site.layout.scope alike) (λ flaw h. free flaw (inl (inl h))) all
           (of_rest one two (statements_grow globals.types body one) g2) (fits_first globals elements code f grounds functions site.prints header other (longer_on header.layout so.layout other.layout kept last) all-fit) in
           let h = after_any globals (entered s) simple in
           let other-fits = fits_rest globals elements code f grounds functions site.prints header other all-fit in
-          let m = typed_statements body (inside behind) (entered h) b c block (room_entering globals elements f header.layout top.0.room) (alike_entered h header.layout.scope top.1) still.0 (λ flaw x. free flaw (inr (inl x))) one g2
+          let m = typed_statements body (inside behind) (entered h) b c block (room_entering globals elements code f header.layout top.0.room) (alike_entered h header.layout.scope top.1) still.0 (λ flaw x. free flaw (inr (inl x))) one g2
           (fits_as globals elements code f grounds functions behind.prints so inner refl refl (fits_so behind condition so otherwise other-fits)) in
           let so-made = made_ended globals elements code f grounds functions (allowed b c) header.layout inner top.0.room m in
           let next = left h (after_all globals (entered h) body) in
@@ -294,7 +294,7 @@ module _ (globals : Globals) (elements : List Element) (code : Code) (f : CodeFu
           let inner = made_all globals elements result (inside behind) body in
           let other = ended site.layout inner in
           let other-fits = fits_else site.prints site.layout condition so other fits in
-          let n = typed_statements body (inside behind) (entered s) b c first (room_entering globals elements f so.layout m.room) (alike_entered s so.layout.scope so-alike) still free all g (fits_as globals elements code f grounds functions behind.prints other inner refl refl other-fits) in
+          let n = typed_statements body (inside behind) (entered s) b c first (room_entering globals elements code f so.layout m.room) (alike_entered s so.layout.scope so-alike) still free all g (fits_as globals elements code f grounds functions behind.prints other inner refl refl other-fits) in
           runs_else globals elements code f grounds functions site.layout room h alike.named result condition at test (allowed b c) so other m (made_ended globals elements code f grounds functions (allowed b c) site.layout inner room n)
       typed_otherwise (ElseIf branch) site h s condition at test so b c first room alike m so-alike still free all g fits =
           let behind = past site so in
@@ -321,7 +321,7 @@ module _ (globals : Globals) (elements : List Element) (code : Code) (f : CodeFu
           let parts = fits_way site.prints ks one o (longer_ways globals elements result (past site one) default more grows) fits in
           let both = fits_as globals elements code f grounds functions site.prints one (followed begun inner) refl refl parts.0 in
           let grown = longer_statements globals elements result behind body in
-          let within = room_entering globals elements f site.layout room in
+          let within = room_entering globals elements code f site.layout room in
           let cm = comm_made globals elements code f grounds functions result (inside site).layout within (entered s) (alike_entered s site.layout.scope alike) comm first (λ flaw h. free flaw (inl h)) (begins_before f begun.layout inner.layout grown both.begins) in
           let checked = after_any globals (entered s) (Some (comm_simple comm)) in
           let noted = noting_statements globals.types body all in
@@ -334,8 +334,8 @@ module _ (globals : Globals) (elements : List Element) (code : Code) (f : CodeFu
           join_way globals elements code f grounds functions result layout outer base comm body more a ks one o
           (λ to. fine.gives to ∙ comm_same globals elements code f grounds functions result comm layout site.layout (λ name e. sym (sees name e) ∙ alike.named name e))
           (λ place tabled. ([], takes, OnTrue_from (reaches_end begun.plan) (Typed code f a [] inner.plan []) (λ e. m.runs _ (OnTrue_at e tabled.1))))
-          (room_leaving globals elements f site.layout inner.layout room m.room) (alike_right base site.layout.scope inner.layout.scope seen)
-          (typed_ways more (past site one) layout outer base (left s ended-scope) sees b c (first + comm_size comm + statements_size body + 1) (room_leaving globals elements f site.layout inner.layout room m.room) (alike_right base site.layout.scope inner.layout.scope seen) (alike_left s site.layout.scope ended-scope inner.layout.scope alike) still.1
+          (room_leaving globals elements code f site.layout inner.layout room m.room) (alike_right base site.layout.scope inner.layout.scope seen)
+          (typed_ways more (past site one) layout outer base (left s ended-scope) sees b c (first + comm_size comm + statements_size body + 1) (room_leaving globals elements code f site.layout inner.layout room m.room) (alike_right base site.layout.scope inner.layout.scope seen) (alike_left s site.layout.scope ended-scope inner.layout.scope alike) still.1
           (λ flaw h. free flaw (inr (inr h))) noted g default grows last parts.1)
 
       typed_default : (clauses : Clauses) (site : Site) (layout : Layout) (outer : R layout) (base s : Scope) (breaks continues : Bool) (first : ℕ) → R site.layout → Alike base site.layout.scope → Alike s site.layout.scope → PostsClauses clauses → Free (ClausesHave (setting breaks continues) s first clauses) → (all : List Element)
@@ -346,7 +346,7 @@ module _ (globals : Globals) (elements : List Element) (code : Code) (f : CodeFu
           let one = ended site.layout inner in
           let noted = noting_statements globals.types body all in
           let inner-fits : F site.prints inner = record { begins = record { more = fits.begins.more; is = fits.begins.is }; prints = fits.prints } in
-          let m = typed_statements body (inside site) (entered s) true c (first + if_any comm_size None) (room_entering globals elements f site.layout room) (alike_entered s site.layout.scope alike) still.0 (λ flaw h. free flaw (inr (inl h))) all (of_rest noted (noting_clauses globals.types more noted) (clauses_grow globals.types more noted) g) inner-fits in
+          let m = typed_statements body (inside site) (entered s) true c (first + if_any comm_size None) (room_entering globals elements code f site.layout room) (alike_entered s site.layout.scope alike) still.0 (λ flaw h. free flaw (inr (inl h))) all (of_rest noted (noting_clauses globals.types more noted) (clauses_grow globals.types more noted) g) inner-fits in
           last_way globals elements code f grounds functions result layout outer base (in_select (allowed b c)) one (made_ended globals elements code f grounds functions (in_select (allowed b c)) site.layout inner room m) (alike_right base site.layout.scope inner.layout.scope seen)
       typed_default (Clause (Some comm) body more) site layout outer base s b c first room seen alike still free all g fits =
           let ended-scope = after_all globals (after_any globals (entered s) (Some (comm_simple comm))) body in

@@ -133,11 +133,11 @@ module _ (globals : Globals) (elements : List Element) where
         puts_both globals.structs elements code f (kinds_of globals.structs elements kind) (all_kinds globals.structs elements (same_types globals elements names kind)) (pushes_zeros (kinds_of globals.structs elements kind)) (zero_values globals elements count names kind)
         (puts_zeros globals.structs elements code f (kinds_of globals.structs elements kind) (noted_there globals elements code f grounds kind noted)) (zeros_put names count kind noted) a ks out rest t
 
-    pub taken_alike : (scope : Scope) (names : List (List ℕ)) (kind : ValueType) → Noted elements kind → AllTaken globals elements f code grounds.wide scope names (alike_values names kind)
+    pub taken_alike : (scope : Scope) (names : List (List ℕ)) (kind : ValueType) → Noted elements kind → AllTaken globals elements code f grounds scope names (alike_values names kind)
     taken_alike scope [] kind noted = tt
     taken_alike scope (name ∷ names) kind noted = (λ e. (refl, noted), taken_alike scope names kind noted)
 
-    module _ (layout : Layout) (room : Room globals elements f layout) (s : Scope) (alike : Alike s layout.scope) where
+    module _ (layout : Layout) (room : Room globals elements code f layout) (s : Scope) (alike : Alike s layout.scope) where
       -- a `var` without a type
       pub typed_untyped : (names : List (List ℕ)) (right : Right) (first : ℕ) → Free (UntypedVariablesHave globals s first names right) → RightNoted globals elements code f grounds layout.scope (housed_of globals elements f layout.scope room.housed) s alike.named functions right
           → Begins f (declaring_all globals elements names (right_types globals elements layout.scope (length names) right) layout)
@@ -163,13 +163,13 @@ module _ (globals : Globals) (elements : List Element) where
           (not_true (list_any is_reserved names || has_twice names || list_any (λ name. is_some (own_variable s name)) names) (λ e. free b.0 (inr (inr (e, b.1))))) in
           let fresh = new_by s names parts.1 in
           let fresh-here = new_alike s layout.scope alike names fresh in
-          let n = names_fit globals elements f code grounds.wide names (alike_values names kind) layout layout s room (subst (Begins f) (sym (all_each names kind layout)) begins) alike (own_same layout.scope names) parts.0 (taken_alike layout.scope names kind noted) in
+          let n = names_fit globals elements code f grounds names (alike_values names kind) layout layout s room (subst (Begins f) (sym (all_each names kind layout)) begins) alike (own_same layout.scope names) parts.0 (taken_alike layout.scope names kind noted) in
           let fit = subst (λ (l : List ValueType). SpotsFit globals.structs elements code f (name_spots globals elements layout names l) (map (kinds_of globals.structs elements) (name_types globals elements layout names l))) (values_types names kind) n.fit in
           let same = names_same layout names kind fresh-here in
           let types = same_types globals elements names kind in
           record {
             leaves = go right (λ flaw h. free flaw (inr (inl h))) makes same fit;
-            room = subst (Room globals elements f) (all_each names kind layout) n.room;
+            room = subst (Room globals elements code f) (all_each names kind layout) n.room;
             alike = subst (λ o. Alike (with_variables globals s o names) (declaring_each globals elements kind names layout).scope) (sym is)
                 (subst (λ x. Alike x (declaring_each globals elements kind names layout).scope) (variables_are names kind s s alike.fits (own_same s names) fresh parts.0) (subst (λ (x : Layout). Alike (with_defined globals s names (alike_values names kind)) x.scope) (all_each names kind layout) n.alike));
           } where
