@@ -17,7 +17,7 @@ use Rattle.codegen_base.specs.declared.element.Element.{Element}
 use Rattle.codegen_base.specs.Elements.{kinds_of}
 use Rattle.codegen_base.specs.Pushes.{pushes}
 use Rattle.codegen_base.specs.Statements.{pushes_arguments}
-use Rattle.codegen_base.proofs.Alike.{Alike}
+use Rattle.codegen_fine.proofs.Sees.{Sees}
 use Rattle.codegen_base.proofs.Noted.{Noted}
 use Rattle.codegen_base.proofs.Typing.{Free, Fits}
 use Rattle.plan.specs.Plan.{Plan, Skip, Do, IfElse, IfThen, Cycle, Endless, Stop, turns}
@@ -28,7 +28,7 @@ use Rattle.codegen_fine.proofs.Operations.{Functions, call_there}
 use Rattle.codegen_fine.proofs.Requests.{starts_typed}
 
 module _ (globals : Globals) (elements : List Element) (code : Code) (f : CodeFunction) (grounds : Grounds globals elements code) where
-  module _ (scope : Scope) (housed : Housed globals elements f scope) (s : Scope) (alike : Alike s scope) where
+  module _ (scope : Scope) (housed : Housed globals elements f scope) (s : Scope) (alike : Sees s scope) where
     abbrev T : Allowed → List WordKind → Plan → List WordKind → Type 0
     T = Typed code f
 
@@ -61,10 +61,10 @@ module _ (globals : Globals) (elements : List Element) (code : Code) (f : CodeFu
 
     -- ---- a goroutine is started
 
-    pub typed_go : Functions globals elements code f grounds scope housed s alike → (function : List ℕ) (arguments : Arguments) (first : ℕ) → Free (CallHas globals s first function arguments)
+    pub typed_go : Functions globals elements code → (function : List ℕ) (arguments : Arguments) (first : ℕ) → Free (CallHas globals s first function arguments)
         → (a : Allowed) (ks out : List WordKind) → T a ks Skip out → T a ks (pushes_arguments globals elements scope (number_of globals function) arguments.values (Do (instrs.Go (number_of globals function)) Skip)) out
     typed_go functions function arguments first free a ks out t =
         let c = call_there globals elements code f grounds scope housed s alike functions function arguments first free in
         subst (λ n. T a ks (pushes_arguments globals elements scope n arguments.values (Do (instrs.Go n) Skip)) out) (sym c.is)
         (c.pushed a ks out (Do (instrs.Go c.number) Skip)
-        (starts_typed globals elements code f grounds c.number (all_kinds globals elements code f grounds scope housed s alike (map known (parameters_of globals c.number))) c.there (functions.params c.number) a ks out Skip t))
+        (starts_typed globals elements code f grounds c.number (all_kinds globals.structs elements (map known (parameters_of globals c.number))) c.there (functions.params c.number) a ks out Skip t))

@@ -14,7 +14,7 @@ use Rattle.bytecode.specs.declared.instr.WordKind.{WordKind}
 use Rattle.bytecode.specs.declared.instr.Instr.TheVariants as instrs
 use Rattle.bytecode.specs.Code.{Function as CodeFunction, Code}
 use Rattle.type_table.specs.Types.{ValueType, BoolType, StructType}
-use Rattle.type_table.specs.Containment.{Field, Selected, fields_of, field_of}
+use Rattle.type_table.specs.Containment.{Field, Structs, Selected, fields_of, field_of}
 use Rattle.type_table.specs.Scopes.{Globals, Scope, is_truth, is_nil, variable_named}
 use Rattle.checker_base.specs.Worths.{Worth, Typed as TypedWorth, Constant, Nil, kind_of, literal, unary_worth, binary_worth, selected_worth, type_of_field, worth}
 use Rattle.checker_base.specs.Expressions.{nodes_of, ValueHas, NumbersHave, ValuesFail, field_kinds, PassedHave, LiteralHas, default_type, ExpressionHas, ExpressionsHave}
@@ -23,7 +23,7 @@ use Rattle.codegen_base.specs.declared.element.Element.{Element}
 use Rattle.codegen_base.specs.Elements.{kinds_of}
 use Rattle.codegen_base.specs.Layouts.{type_of}
 use Rattle.codegen_base.specs.Pushes.{words_of, loads, signed, settled, kinds_in, literal_types, emits, emits_fields, pushes, pushes_all, pushes_zeros, operates, selects as selects_plan}
-use Rattle.codegen_base.proofs.Alike.{Alike, worth_alike}
+use Rattle.codegen_fine.proofs.Sees.{Sees, worth_sees}
 use Rattle.codegen_base.proofs.Fields.{AllTyped}
 use Rattle.codegen_base.proofs.Expressions.{typed_same, typed_variable}
 use Rattle.codegen_base.proofs.Known.{worth_noted}
@@ -41,13 +41,22 @@ use Rattle.codegen_fine.proofs.Operands.{Grounds, Housed, P, IsEmitted, settled_
 abbrev pub FieldsAreNoted : List Element → List Field → Type 0
 FieldsAreNoted elements fs = (m : ℕ) (field : Field) → slice_get fs m ≡ Some field → Noted elements (known field.kind)
 
+-- the kinds of values of these types, one behind the other
+abbrev pub all_kinds : Structs → List Element → List ValueType → List WordKind
+all_kinds structs elements [] = []
+all_kinds structs elements (kind ∷ types) = kinds_of structs elements kind ++ all_kinds structs elements types
+
+abbrev pub AllNoted : List Element → List ValueType → Type 0
+AllNoted elements [] = Unit {0}
+AllNoted elements (kind ∷ types) = Noted elements kind × AllNoted elements types
+
 module _ (globals : Globals) (elements : List Element) (code : Code) (f : CodeFunction) (grounds : Grounds globals elements code) where
-  module _ (scope : Scope) (housed : Housed globals elements f scope) (s : Scope) (alike : Alike s scope) where
+  module _ (scope : Scope) (housed : Housed globals elements f scope) (s : Scope) (alike : Sees s scope) where
     abbrev PK : ValueType → (Plan → Plan) → Type 0
     PK kind push = P globals elements code f grounds kind push
 
     checked : (e : Expression) → worth globals s e ≡ worth globals scope e
-    checked e = worth_alike s scope alike globals e
+    checked e = worth_sees s scope alike globals e
 
     -- nothing is wrong with an expression, which has these nodes
     abbrev Whole : ℕ → Expression → Type 0
@@ -200,21 +209,12 @@ module _ (globals : Globals) (elements : List Element) (code : Code) (f : CodeFu
         subst (λ o. Typed code f a ks (settled elements o kind (emits globals elements scope e rest) rest) out) (sym is)
         (settled_pushed globals elements code f grounds (emits globals elements scope e) w kind fit noted (λ j ej. (noted_here e j (is ∙ ap Some ej), typed_emits e first free j (is ∙ ap Some ej))) a ks out rest t)
 
-    -- the kinds of values of these types, one behind the other
-    abbrev pub all_kinds : List ValueType → List WordKind
-    all_kinds [] = []
-    all_kinds (kind ∷ types) = kinds_of globals.structs elements kind ++ all_kinds types
-
-    abbrev pub AllNoted : List ValueType → Type 0
-    AllNoted [] = Unit {0}
-    AllNoted (kind ∷ types) = Noted elements kind × AllNoted types
-
     -- several values
-    pub typed_pushes_all : (es : List Expression) (types : List ValueType) (first : ℕ) → Free (ExpressionsHave globals s first (expressions es)) → AllFit globals s es types → AllNoted types → Puts globals.structs elements code f (all_kinds types) (pushes_all globals elements scope types es)
+    pub typed_pushes_all : (es : List Expression) (types : List ValueType) (first : ℕ) → Free (ExpressionsHave globals s first (expressions es)) → AllFit globals s es types → AllNoted elements types → Puts globals.structs elements code f (all_kinds globals.structs elements types) (pushes_all globals elements scope types es)
     typed_pushes_all [] [] first free fit noted a ks out rest t = subst (λ (l : List WordKind). Typed code f a l rest out) (append-nil ks) t
     typed_pushes_all [] (kind ∷ types) first free fit noted a ks out rest t = absurd fit
     typed_pushes_all (e ∷ es) [] first free fit noted a ks out rest t = absurd fit
     typed_pushes_all (e ∷ es) (kind ∷ types) first free ((w, is, fits), others) noted a ks out rest t =
-        puts_both globals.structs elements code f (kinds_of globals.structs elements kind) (all_kinds types) (pushes globals elements scope kind e) (pushes_all globals elements scope types es)
+        puts_both globals.structs elements code f (kinds_of globals.structs elements kind) (all_kinds globals.structs elements types) (pushes globals elements scope kind e) (pushes_all globals elements scope types es)
         (typed_pushes e first (λ flaw h. free flaw (inl h)) w kind (sym (checked e) ∙ is) fits noted.0)
         (typed_pushes_all es types (first + expression_size e) (λ flaw h. free flaw (inr h)) others noted.1) a ks out rest t

@@ -10,7 +10,7 @@ use Rattle.bytecode.specs.declared.instr.Instr.TheVariants as instrs
 use Rattle.bytecode.specs.Code.{Function as CodeFunction, Code}
 use Rattle.bytecode.specs.Effects.{params_in, results_in}
 use Rattle.type_table.specs.Types.{ValueType, IntType, BoolType, StructType, ChannelType, element_type, is_int_type, assignable}
-use Rattle.type_table.specs.Scopes.{Globals, Scope, function_number, type_in}
+use Rattle.type_table.specs.Scopes.{Globals, Scope, Yield, NoResult, Yields, function_number, type_in}
 use Rattle.checker_base.specs.Worths.{Worth, Typed as TypedWorth, Constant, Nil, is_int, worth}
 use Rattle.checker_base.specs.Expressions.{nodes_of, element_of, ChannelHas, default_type, ExpressionHas}
 use Rattle.checker_operation.specs.Operations.{parameters_of, result_of, CallHas, OperationHas, SizeHas, IfSizeHas, ReceiveHas}
@@ -22,7 +22,7 @@ use Rattle.codegen_base.specs.Generated.{result_kinds}
 use Rattle.codegen_base.specs.Layouts.{carried}
 use Rattle.codegen_base.specs.Pushes.{settled, emits, pushes_own}
 use Rattle.codegen_base.specs.Statements.{pushes_arguments, pushes_received, pushes_size, pushes_operation}
-use Rattle.codegen_base.proofs.Alike.{Alike, worth_alike}
+use Rattle.codegen_fine.proofs.Sees.{Sees, worth_sees}
 use Rattle.codegen_base.proofs.Known.{worth_noted}
 use Rattle.codegen_base.proofs.Noted.{Noted}
 use Rattle.codegen_base.proofs.Typing.{Free, Fits, broken, nodes_end, worth_there, int_type, not_false}
@@ -35,12 +35,14 @@ use Rattle.codegen_base.proofs.Called.{KindsKnown, calls}
 use Rattle.codegen_fine.proofs.Requests.{receives_typed, makes_typed, lengths_typed, capacities_typed, calls_typed}
 
 -- what is so of the functions of a program: the code's are there, with the kinds of their parameters and results, which are noted
-pub record Functions (globals : Globals) (elements : List Element) (code : Code) (f : CodeFunction) (grounds : Grounds globals elements code) (scope : Scope) (housed : Housed globals elements f scope) (s : Scope) (alike : Alike s scope) : Type 0 where
+pub record Functions (globals : Globals) (elements : List Element) (code : Code) : Type 0 where
   pub there : (name : List ℕ) (n : ℕ) → function_number globals.functions name ≡ Some n → n < length code.functions
-  pub params : (n : ℕ) → params_in (slice_get code.functions n) ≡ all_kinds globals elements code f grounds scope housed s alike (map known (parameters_of globals n))
+  pub params : (n : ℕ) → params_in (slice_get code.functions n) ≡ all_kinds globals.structs elements (map known (parameters_of globals n))
   pub results : (n : ℕ) → results_in (slice_get code.functions n) ≡ result_kinds globals elements (result_of globals n)
-  pub noted : (n : ℕ) → AllNoted globals elements code f grounds scope housed s alike (map known (parameters_of globals n))
+  pub noted : (n : ℕ) → AllNoted elements (map known (parameters_of globals n))
   pub known_kinds : (n : ℕ) → KindsKnown (parameters_of globals n)
+  pub result_known : (n : ℕ) (kind : Option ValueType) → result_of globals n ≡ Yields kind → kind ≡ Some (known kind)
+  pub result_noted : (n : ℕ) (kind : Option ValueType) → result_of globals n ≡ Yields kind → Noted elements (known kind)
 
 channel_of : (t : ValueType) (o : Option ValueType) → element_type t ≡ o → (o ≡ None → ⊥) → (d : Direction) × (c : ValueType) × (t ≡ ChannelType d c)
 channel_of (ChannelType d c) o is never = (d, c, refl)
@@ -49,7 +51,7 @@ channel_of BoolType o is never = absurd (never (sym is))
 channel_of (StructType n) o is never = absurd (never (sym is))
 
 module _ (globals : Globals) (elements : List Element) (code : Code) (f : CodeFunction) (grounds : Grounds globals elements code) where
-  module _ (scope : Scope) (housed : Housed globals elements f scope) (s : Scope) (alike : Alike s scope) (functions : Functions globals elements code f grounds scope housed s alike) where
+  module _ (scope : Scope) (housed : Housed globals elements f scope) (s : Scope) (alike : Sees s scope) (functions : Functions globals elements code) where
     abbrev PK : ValueType → (Plan → Plan) → Type 0
     PK kind push = P globals elements code f grounds kind push
 
@@ -57,7 +59,7 @@ module _ (globals : Globals) (elements : List Element) (code : Code) (f : CodeFu
     PS js push = Puts globals.structs elements code f js push
 
     checked : (e : Expression) → worth globals s e ≡ worth globals scope e
-    checked e = worth_alike s scope alike globals e
+    checked e = worth_sees s scope alike globals e
 
     noted_here : (e : Expression) (k : ValueType) → worth globals scope e ≡ Some (TypedWorth k) → Noted elements k
     noted_here e k is = worth_noted elements globals grounds.fields_noted scope housed.noted e k is
@@ -112,7 +114,7 @@ module _ (globals : Globals) (elements : List Element) (code : Code) (f : CodeFu
       pub number : ℕ
       pub is : number_of globals function ≡ number
       pub there : number < length code.functions
-      pub pushed : PS (all_kinds globals elements code f grounds scope housed s alike (map known (parameters_of globals number))) (pushes_arguments globals elements scope number values)
+      pub pushed : PS (all_kinds globals.structs elements (map known (parameters_of globals number))) (pushes_arguments globals elements scope number values)
 
     pub call_there : (function : List ℕ) (arguments : Arguments) (first : ℕ) → Free (CallHas globals s first function arguments) → IsCall function arguments.values
     call_there function arguments first free =
@@ -132,7 +134,7 @@ module _ (globals : Globals) (elements : List Element) (code : Code) (f : CodeFu
         subst (λ n. PS (result_kinds globals elements (result_of globals n)) (λ rest. pushes_arguments globals elements scope n arguments.values (Do (instrs.Call n) rest))) (sym c.is)
         (λ a ks out rest t.
         c.pushed a ks out (Do (instrs.Call c.number) rest)
-        (calls_typed globals elements code f grounds c.number (all_kinds globals elements code f grounds scope housed s alike (map known (parameters_of globals c.number))) c.there (functions.params c.number) a ks out rest
+        (calls_typed globals elements code f grounds c.number (all_kinds globals.structs elements (map known (parameters_of globals c.number))) c.there (functions.params c.number) a ks out rest
         (subst (λ (l : List WordKind). Typed code f a (ks ++ l) rest out) (sym (functions.results c.number)) t)))
 
     -- a receive leaves the item and whether it was sent

@@ -21,7 +21,7 @@ use Rattle.codegen_base.specs.Elements.{kinds_of}
 use Rattle.codegen_base.specs.Layouts.{Layout}
 use Rattle.codegen_base.specs.Pushes.{pushes}
 use Rattle.codegen_base.specs.Statements.{printed_as, printed_part, pushes_parts, simple_plan}
-use Rattle.codegen_base.proofs.Alike.{Alike, worth_alike}
+use Rattle.codegen_fine.proofs.Sees.{Sees, worth_sees}
 use Rattle.codegen_base.proofs.Noted.{Noted}
 use Rattle.codegen_base.proofs.Typing.{Free, Fits, broken, nodes_end, worth_there, not_false}
 use Rattle.plan.specs.Plan.{Skip, Do}
@@ -50,14 +50,14 @@ module _ (globals : Globals) (elements : List Element) where
   printable Nil nodes le free = let b = broken rules.Nil (nodes.first + 1) (omega arith) in absurd (free b.0 b.1)
 
   module _ (code : Code) (f : CodeFunction) (grounds : Grounds globals elements code) where
-    module _ (scope : Scope) (housed : Housed globals elements f scope) (s : Scope) (alike : Alike s scope) where
+    module _ (scope : Scope) (housed : Housed globals elements f scope) (s : Scope) (alike : Sees s scope) where
       -- the values of a print statement are of the kinds that its table takes
       pub typed_parts : (parts : List Part) (first : ℕ) → Free (PartsHave globals s first parts) → Puts globals.structs elements code f (part_kinds (map (printed_part globals elements scope) parts)) (pushes_parts globals elements scope parts)
       typed_parts [] first free a ks out rest t = subst (λ (l : List WordKind). Typed code f a l rest out) (append-nil ks) t
       typed_parts (Text bytes ∷ others) first free a ks out rest t = typed_parts others (first + part_size (Text bytes)) (λ flaw h. free flaw (inr h)) a ks out rest t
       typed_parts (ValuePart value ∷ others) first free a ks out rest t =
           let w = worth_there globals s (grounds.fields_known s) value first (λ flaw h. free flaw (inl (inl h))) in
-          let here-is : worth globals scope value ≡ Some w.0 = sym (worth_alike s scope alike globals value) ∙ w.1 in
+          let here-is : worth globals scope value ≡ Some w.0 = sym (worth_sees s scope alike globals value) ∙ w.1 in
           let p = printable w.0 (nodes_of first value) (nodes_end first value) (λ flaw h. free flaw (inl (inr (subst (λ o. PrintedHas o (nodes_of first value) flaw) (sym w.1) h)))) in
           let kind = known (default_type (Some w.0)) in
           let more = part_kinds (map (printed_part globals elements scope) others) in
@@ -70,7 +70,7 @@ module _ (globals : Globals) (elements : List Element) where
           (subst (λ (l : List WordKind). Typed code f a (ks ++ l) rest out) same t))
 
     -- where the statement's table has its number, the statement leaves the stack as it was
-    pub typed_print : (layout : Layout) (housed : Housed globals elements f layout.scope) (s : Scope) (alike : Alike s layout.scope) (q : ℕ) (line trailing : Bool) (parts : List Part) (first : ℕ) → Free (SimpleHas globals s first (Print line parts trailing))
+    pub typed_print : (layout : Layout) (housed : Housed globals elements f layout.scope) (s : Scope) (alike : Sees s layout.scope) (q : ℕ) (line trailing : Bool) (parts : List Part) (first : ℕ) → Free (SimpleHas globals s first (Print line parts trailing))
         → (table : PrintTable) → q < length code.prints → slice_get code.prints q ≡ Some table → table.parts ≡ map (printed_part globals elements layout.scope) parts
         → (a : Allowed) (ks out : List WordKind) → Typed code f a ks Skip out → Typed code f a ks (simple_plan globals elements layout q (Print line parts trailing)) out
     typed_print layout housed s alike q line trailing parts first free table there is same a ks out t =

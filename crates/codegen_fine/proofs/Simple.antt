@@ -20,7 +20,7 @@ use Rattle.codegen_base.specs.Generated.{result_kinds}
 use Rattle.codegen_base.specs.Layouts.{Layout, carried}
 use Rattle.codegen_base.specs.Pushes.{pushes, pushes_own, drops}
 use Rattle.codegen_base.specs.Statements.{result_words, simple_plan}
-use Rattle.codegen_base.proofs.Alike.{Alike, worth_alike}
+use Rattle.codegen_fine.proofs.Sees.{Sees, worth_sees}
 use Rattle.codegen_base.proofs.Typing.{Free, fits, nodes_end, worth_there}
 use Rattle.plan.specs.Plan.{Plan, Skip, Do}
 use Rattle.plan.proofs.Typed.{Allowed, Typed, typed_step}
@@ -45,7 +45,7 @@ module _ (globals : Globals) (elements : List Element) (code : Code) (f : CodeFu
     abbrev pub Leaves : ℕ → Simple → Type 0
     Leaves q simple = (a : Allowed) (ks out : List WordKind) → Typed code f a ks Skip out → Typed code f a ks (simple_plan globals elements layout q simple) out
 
-    module _ (q : ℕ) (s : Scope) (alike : Alike s layout.scope) (functions : Functions globals elements code f grounds layout.scope housed s alike) where
+    module _ (q : ℕ) (s : Scope) (alike : Sees s layout.scope) (functions : Functions globals elements code) where
       pub typed_call_alone : (function : List ℕ) (arguments : Arguments) (first : ℕ) → Free (SimpleHas globals s first (CallAlone function arguments)) → Leaves q (CallAlone function arguments)
       typed_call_alone function arguments first free a ks out t =
           let result = result_of globals (number_of globals function) in
@@ -67,11 +67,11 @@ module _ (globals : Globals) (elements : List Element) (code : Code) (f : CodeFu
           let c = channel_there globals elements code f grounds layout.scope housed s alike functions channel first (λ flaw h. free flaw (inl h)) (λ flaw h. free flaw (inr (inr (inl h)))) in
           let behind = first + expression_size channel in
           let w = worth_there globals s (grounds.fields_known s) value behind (λ flaw h. free flaw (inr (inl h))) in
-          let is-element : element_of (worth globals s channel) ≡ Some c.element = ap element_of (worth_alike s layout.scope alike globals channel ∙ c.is) in
+          let is-element : element_of (worth globals s channel) ≡ Some c.element = ap element_of (worth_sees s layout.scope alike globals channel ∙ c.is) in
           let fit = fits w.0 c.element (nodes_of behind value) (nodes_end behind value)
           (λ flaw h. free flaw (inr (inr (inr (inr (subst (λ o. ValueHas (worth globals s value) o (nodes_of behind value) flaw) (sym is-element) (subst (λ o. ValueHas o (Some c.element) (nodes_of behind value) flaw) (sym w.1) h))))))) in
           subst (λ j. Typed code f a ks (pushes_own globals elements layout.scope channel (pushes globals elements layout.scope j value (Do (instrs.Send (shape_of elements j)) Skip))) out) (sym c.carries)
           (c.pushed a ks out (pushes globals elements layout.scope c.element value (Do (instrs.Send (shape_of elements c.element)) Skip))
-          (typed_pushes globals elements code f grounds layout.scope housed s alike value behind (λ flaw h. free flaw (inr (inl h))) w.0 c.element (sym (worth_alike s layout.scope alike globals value) ∙ w.1) fit c.noted.0 a (ks ++ kinds.Chan (shape_of elements c.element) ∷ []) out (Do (instrs.Send (shape_of elements c.element)) Skip)
+          (typed_pushes globals elements code f grounds layout.scope housed s alike value behind (λ flaw h. free flaw (inr (inl h))) w.0 c.element (sym (worth_sees s layout.scope alike globals value) ∙ w.1) fit c.noted.0 a (ks ++ kinds.Chan (shape_of elements c.element) ∷ []) out (Do (instrs.Send (shape_of elements c.element)) Skip)
           (subst (λ (l : List WordKind). Typed code f a l (Do (instrs.Send (shape_of elements c.element)) Skip) out) (sym (append_assoc ks (kinds.Chan (shape_of elements c.element) ∷ []) (kinds_of globals.structs elements c.element)))
           (sends_typed globals elements code f grounds c.direction c.element c.noted a ks out Skip t))))
