@@ -6,3 +6,5 @@ pub mod Narrowed
 pub mod Begun
 pub mod Valued
 pub mod Follows
+pub mod Spots
+pub mod Stored

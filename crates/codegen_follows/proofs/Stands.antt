@@ -153,20 +153,24 @@ module _ (file : File) (elements : List Element) (all : AllWide (globals file).s
   IsResult NoResult v = v ≡ []
   IsResult (Yields kind) v = Like (globals file).structs (known kind) v
 
-  -- values that are stored: those that have a place lie on the stack
-  pub record Storing (l : Around) (view : View) (stack : List Word) (destinations : List Destination) (values : List Value) (next : View) (place : ℕ) (mid : Option ℕ) : Type 0 where
-    pub types : List ValueType
+  -- values of these types go to their destinations from the stack
+  pub record Assigning (l : Around) (view : View) (types : List ValueType) (destinations : List Destination) (next : View) (place : ℕ) (mid : Option ℕ) : Type 0 where
     pub spots : List Spot
-    pub kept : List Value
-    pub others : List Value
     pub fine : Fine view
-    pub values_are : values ≡ kept ++ others
-    pub stack_is : stack ≡ all_words_of (globals file).structs all kept
-    pub like : AreLike (globals file).structs all types kept
     pub spots_are : AreSpots (globals file).structs all (scope_of view) destinations types spots
     pub room : (behind_all (globals file).structs all destinations (scope_of view)).words ≤ length f.locals
     pub on : IsOn l (assigns spots Skip) place mid
     pub variables_are : variables next ≡ (behind_all (globals file).structs all destinations (scope_of view)).variables
+
+  -- values that are stored: those that have a place lie on the stack
+  pub record Storing (l : Around) (view : View) (stack : List Word) (destinations : List Destination) (values : List Value) (next : View) (place : ℕ) (mid : Option ℕ) : Type 0 where
+    pub types : List ValueType
+    pub kept : List Value
+    pub others : List Value
+    pub values_are : values ≡ kept ++ others
+    pub stack_is : stack ≡ all_words_of (globals file).structs all kept
+    pub like : AreLike (globals file).structs all types kept
+    pub assigning : Assigning l view types destinations next place mid
 
   -- what a loop's head does at a place
   abbrev pub Loops : Around → View → Loop → ℕ → Option ℕ → Type 0
