@@ -8,3 +8,4 @@ pub mod Valued
 pub mod Follows
 pub mod Spots
 pub mod Stored
+pub mod Taken
