@@ -6,6 +6,3 @@ pub mod Narrowed
 pub mod Begun
 pub mod Valued
 pub mod Follows
-pub mod Spots
-pub mod Stored
-pub mod Taken

@@ -25,7 +25,7 @@ use Rattle.codegen_follows.proofs.Stands.{Around, View, scope_of, variables, Sto
 use Rattle.codegen_follows.proofs.Begun.{FineBehind}
 use Rattle.codegen_follows.proofs.Valued.{Goes}
 use Rattle.codegen_follows.proofs.Follows.{Held, Sitting, Back, Rest, lands, lead_through}
-use Rattle.codegen_follows.proofs.Spots.{spots_words, spots_there, stored_kept, assigned_goes}
+use Rattle.codegen_steps.proofs.Spots.{spots_words, spots_there, stored_kept, assigned_goes}
 
 module _ (file : File) (elements : List Element) (all : AllWide (globals file).structs) (typed : (n : ℕ) → AllTyped (globals file).structs (fields_of (globals file).structs n)) (known_fields : (s : Scope) → FieldsKnown (globals file) s)
     (code : Code) (result : Yield) (g : ℕ) (f : CodeFunction) (there : slice_get code.functions g ≡ Some f) (cs : Frames) (ds : CodeFrames) (R : Frames → CodeFrames → Type 0) (Asked : Request → CodeFrames → Type 0) (panics : (cause : Cause) (d : CodeFrames) → Asked (Panic cause) d) where

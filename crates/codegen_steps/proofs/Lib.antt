@@ -1,0 +1,3 @@
+pub mod Spots
+pub mod Stored
+pub mod Taken
