@@ -1,3 +1,4 @@
 pub mod Spots
 pub mod Stored
 pub mod Taken
+pub mod Returned
