@@ -2,3 +2,6 @@ pub mod Spots
 pub mod Stored
 pub mod Taken
 pub mod Returned
+pub mod Outers
+pub mod Simples
+pub mod Loops
