@@ -107,6 +107,7 @@ module _ (file : File) (elements : List Element) (all : AllWide (globals file).s
       record {
         placed = record { rising = rising_up (globals file).structs 0 (variables view) (scope_of view).words (scope_of (behind_body file elements all code result f view body)).words le p.rising; known = p.known; outer = p.outer; nested = p.nested };
         alike = alike_left view.checked (scope_of view) (after_all (globals file) (scope_entered view.checked) body) (made_body file elements all code result f view body).layout.scope fine.alike;
+        noted = fine.noted;
       }
 
   pub map_reached : (o : Option ℕ) (A B : ℕ → Type 0) → ((n : ℕ) → A n → B n) → IfSome o A → IfSome o B
@@ -477,7 +478,7 @@ module _ (file : File) (elements : List Element) (all : AllWide (globals file).s
     bare_lands ls view next l condition body otherwise place mid k h d same begins r =
         let fine = fine_opened file elements all code result f view d.fine in
         let v : View = record { site = past (inside view.site) (nothing (inside view.site)); begins = length (variables view) ∷ view.begins; checked = scope_entered view.checked } in
-        let fine' : Fine file elements all code result f v = record { placed = fine.placed; alike = fine.alike } in
+        let fine' : Fine file elements all code result f v = record { placed = fine.placed; alike = fine.alike; noted = fine.noted } in
         let so = ended v.site.layout (made_body file elements all code result f v body) in
         let other = made_otherwise (globals file) elements result v.site condition so otherwise in
         let deciding : (m : ℕ) → IsOn file elements all code result f l other.plan m mid → Deciding file elements all code result f l v condition body otherwise m mid = λ m on. record {

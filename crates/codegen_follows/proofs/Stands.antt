@@ -29,6 +29,7 @@ use Rattle.codegen_base.specs.Generated.{Site, Made, past, ended, inside, loop, 
 use Rattle.plan.specs.Plan.{Plan, Skip, Stop}
 use Rattle.plan.proofs.Places.{At, On, Leads}
 use Rattle.codegen_base.proofs.Alike.{Alike}
+use Rattle.codegen_base.proofs.Known.{VariablesNoted}
 use Rattle.codegen_base.proofs.Static.{innermost_begins, IsPlaced}
 use Rattle.codegen_base.proofs.Typing.{Free}
 use Rattle.codegen_base.proofs.Fields.{AllWide}
@@ -85,10 +86,11 @@ module _ (file : File) (elements : List Element) (all : AllWide (globals file).s
   abbrev pub within : Bool → Bool → Setting
   within breaks continues = record { globals = globals file; result = result; breaks = breaks; continues = continues }
 
-  -- the variables lie where the layout says, and are those that the typing rules see
+  -- the variables lie where the layout says, and are those that the typing rules see; the elements of their types are noted
   pub record Fine (view : View) : Type 0 where
     pub placed : IsPlaced (globals file).structs (scope_of view) view.begins
     pub alike : Alike view.checked (scope_of view)
+    pub noted : VariablesNoted elements (globals file) (scope_of view)
 
   abbrev pub made_here : View → Statement → Made
   made_here view s = made (globals file) elements result view.site s

@@ -101,6 +101,16 @@ module _ (file : File) (elements : List Element) (all : AllWide (globals file).s
         → ((v : Value) → Like (globals file).structs kind v → (to : ℕ) → On' rest to out → Goes (go v) (place_at to ls (stack ++ v))) → Goes (valued (value_here e) go) (place_at place ls stack)
     value_goes e first w kind go rest out place stack free is fits on then' = valued_by (value_here e) go kind rest out place stack (evals e first w kind rest out place stack free is fits on) then'
 
+    -- a value of a type of its own, and then
+    pub own_goes : (e : Expression) (first : ℕ) (kind wanted : ValueType) (go : Value → Next Frames) (rest : Plan) (out : Option ℕ) (place : ℕ) (stack : Words) → Free (ExpressionHas (globals file) view.checked first e) → worth (globals file) view.checked e ≡ Some (Typed kind)
+        → On' (pushes (globals file) elements (scope_of view) wanted e rest) place out
+        → ((v : Value) → Like (globals file).structs kind v → (to : ℕ) → On' rest to out → Goes (go v) (place_at to ls (stack ++ v))) → Goes (valued (value_here e) go) (place_at place ls stack)
+    own_goes e first kind wanted go rest out place stack free is on then' =
+        let here-worth : worth (globals file) (scope_of view) e ≡ Some (Typed kind) = sym (checked (globals file) elements all typed code g f there ds ls l.leave l.again (scope_of view) view.begins fine.placed room holding view.checked fine.alike (known_fields view.checked) e) ∙ is in
+        valued_by (value_here e) go kind rest out place stack
+        (emits_goes (globals file) elements all typed code g f there ds ls l.leave l.again (scope_of view) view.begins fine.placed room holding view.checked fine.alike (known_fields view.checked) e first free kind here-worth rest out place stack
+        (subst (λ o. On' (settled elements o wanted (emits (globals file) elements (scope_of view) e rest) rest) place out) here-worth on)) then'
+
     -- a condition is a truth value, and then
     pub test_goes : (e : Expression) (first : ℕ) (go : Word → Next Frames) (rest : Plan) (out : Option ℕ) (place : ℕ) → Free (TestHas (globals file) view.checked first e) → On' (pushes (globals file) elements (scope_of view) BoolType e rest) place out
         → ((b : Bool) (to : ℕ) → On' rest to out → Goes (go (Truth b)) (place_at to ls (Truth b ∷ []))) → Goes (valued (and_then (value_here e) (λ words. Ok (word_in words))) go) (place_at place ls [])

@@ -5,3 +5,5 @@ pub mod Returned
 pub mod Outers
 pub mod Simples
 pub mod Loops
+pub mod Channels
+pub mod Requests

@@ -196,7 +196,7 @@ module _ (file : File) (elements : List Element) (all : AllWide (globals file).s
         let fine = fine_opened file elements all code result f view d.fine in
         let header = nothing (inside view.site) in
         let v : View = record { site = past (inside view.site) header; begins = length (variables view) ∷ view.begins; checked = scope_entered view.checked } in
-        let fine' : Fine file elements all code result f v = record { placed = fine.placed; alike = fine.alike } in
+        let fine' : Fine file elements all code result f v = record { placed = fine.placed; alike = fine.alike; noted = fine.noted } in
         let one = made_body file elements all code result f v body in
         let turn = post_made file elements all code result f v body post in
         let looping : (m : ℕ) → IsOn file elements all code result f l (loop (test_plan (globals file) elements header.layout condition) one.plan turn.plan) m mid → Does l v condition post body m mid = λ m on.
