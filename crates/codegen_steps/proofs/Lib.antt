@@ -7,3 +7,4 @@ pub mod Simples
 pub mod Loops
 pub mod Channels
 pub mod Requests
+pub mod Calling

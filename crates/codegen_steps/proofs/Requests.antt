@@ -98,7 +98,7 @@ module _ (file : File) (elements : List Element) (all : AllWide (globals file).s
     abbrev pub Takes : List ValueType → Purpose → Plan → Type 0
     Takes types purpose rest = (to : ℕ) → On' rest to → Taking file elements all code result f l view types purpose next to mid
 
-    asked : (q : Request) (zeros : List Value) (purpose : Purpose) (place : ℕ) (stack : Words) → Asking file elements all code result f l view stack q zeros purpose next place mid → G (Slides (frame blocks (Ask q zeros purpose ∷ k) ∷ cs)) (at place ls stack)
+    pub asked : (q : Request) (zeros : List Value) (purpose : Purpose) (place : ℕ) (stack : Words) → Asking file elements all code result f l view stack q zeros purpose next place mid → G (Slides (frame blocks (Ask q zeros purpose ∷ k) ∷ cs)) (at place ls stack)
     asked q zeros purpose place stack d = (at place ls stack, here, sitting view l place ls stack (Ask q zeros purpose ∷ k) h (next, t, mid, d, r.0, r.1, r.2))
 
     -- ---- operands that are channels
