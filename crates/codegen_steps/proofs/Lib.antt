@@ -5,6 +5,3 @@ pub mod Returned
 pub mod Outers
 pub mod Simples
 pub mod Loops
-pub mod Channels
-pub mod Requests
-pub mod Calling

@@ -49,7 +49,7 @@ use Rattle.codegen_base.proofs.Typing.{Free, FieldsKnown, Fits, fits, broken, no
 use Rattle.codegen_follows.proofs.Stands.{Around, View, scope_of, variables, Together, IsOn, Fine, Taking, Asking}
 use Rattle.codegen_follows.proofs.Valued.{Goes, before, value_here, valued_then, value_goes}
 use Rattle.codegen_follows.proofs.Follows.{Held, Sitting, Rest}
-use Rattle.codegen_steps.proofs.Channels.{Grounds, shape_is, IsChannel, channel_there, channel_goes}
+use Rattle.codegen_requests.proofs.Channels.{Grounds, shape_is, IsChannel, channel_there, channel_goes}
 
 abbrev make_asked : ℤ → Words → Next CodeFrames
 make_asked n zero = Asks (requests.Make n zero)

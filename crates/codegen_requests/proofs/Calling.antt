@@ -40,8 +40,8 @@ use Rattle.codegen_follows.proofs.Stands.{Around, View, scope_of, variables, Tog
 use Rattle.codegen_follows.proofs.Valued.{Goes, before}
 use Rattle.codegen_follows.proofs.Follows.{Held, Sitting, Rest}
 use Rattle.codegen_steps.proofs.Returned.{Gives, result_types, IsUsed, Waits, AllWait}
-use Rattle.codegen_steps.proofs.Channels.{Grounds}
-use Rattle.codegen_steps.proofs.Requests.{asked}
+use Rattle.codegen_requests.proofs.Channels.{Grounds}
+use Rattle.codegen_requests.proofs.Requests.{asked}
 
 pub unused : (file : File) (elements : List Element) (all : AllWide (globals file).structs) (typed : (n : ℕ) → AllTyped (globals file).structs (fields_of (globals file).structs n)) (known_fields : (s : Scope) → FieldsKnown (globals file) s) (code : Code) (given : Yield) → IsUsed file elements all typed known_fields code given Unused
 unused file elements all typed known_fields code NoResult = refl
