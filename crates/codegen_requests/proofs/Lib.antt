@@ -1,3 +1,4 @@
 pub mod Channels
 pub mod Requests
 pub mod Calling
+pub mod Operations

@@ -251,7 +251,7 @@ module _ (file : File) (elements : List Element) (all : AllWide (globals file).s
       pub element : ValueType
       pub is : type_in (globals file).types view.checked kind ≡ Some (ChannelType direction element)
 
-    made_there : (kind : TypeExpression) (first end : ℕ) → 1 ≤ end → Free (TypeHas (type_in (globals file).types view.checked kind) first) → Free (MadeHas (type_in (globals file).types view.checked kind) end) → IsMade kind
+    pub made_there : (kind : TypeExpression) (first end : ℕ) → 1 ≤ end → Free (TypeHas (type_in (globals file).types view.checked kind) first) → Free (MadeHas (type_in (globals file).types view.checked kind) end) → IsMade kind
     made_there kind first end le some made = go (type_in (globals file).types view.checked kind) refl some made where
       go : (o : Option ValueType) → type_in (globals file).types view.checked kind ≡ o → Free (TypeHas o first) → Free (MadeHas o end) → IsMade kind
       go None is some made = let b = broken rules.Visible (first + 1) (omega arith) in absurd (some b.0 b.1)
