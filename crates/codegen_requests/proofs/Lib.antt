@@ -2,3 +2,4 @@ pub mod Channels
 pub mod Requests
 pub mod Calling
 pub mod Operations
+pub mod Returns
