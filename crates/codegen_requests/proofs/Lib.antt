@@ -3,3 +3,4 @@ pub mod Requests
 pub mod Calling
 pub mod Operations
 pub mod Returns
+pub mod Places
