@@ -4,3 +4,4 @@ pub mod Calling
 pub mod Operations
 pub mod Returns
 pub mod Places
+pub mod Assigns
