@@ -5,3 +5,4 @@ pub mod Operations
 pub mod Returns
 pub mod Places
 pub mod Assigns
+pub mod Sets
