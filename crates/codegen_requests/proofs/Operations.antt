@@ -73,7 +73,7 @@ module _ (file : File) (elements : List Element) (all : AllWide (globals file).s
       pub laid-out : callee (globals file) (scope_of view) function ≡ IsFunction number
       pub named : function_named (globals file) function ≡ number
 
-    callee_laid : (function : List ℕ) → callee (globals file) view.checked function ≡ callee (globals file) (scope_of view) function
+    pub callee_laid : (function : List ℕ) → callee (globals file) view.checked function ≡ callee (globals file) (scope_of view) function
     callee_laid function =
         ap (λ b. if b || is_some (number_of (globals file).types function) || (is_reserved function && not (bytes_eq function (codes "init"))) then NoFunction else function_of (function_number (globals file).functions function))
         (there_alike (variable_named view.checked function) (variable_named (scope_of view) function) (variable_alike view.checked (scope_of view) fine.alike function))

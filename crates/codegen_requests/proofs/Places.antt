@@ -29,7 +29,7 @@ use Rattle.codegen_base.proofs.Typing.{Free, broken}
 use Rattle.codegen_follows.proofs.Paths.{AllKnown as FieldsKnown, leads}
 use Rattle.codegen_follows.proofs.Stands.{View, scope_of, variables, Fine}
 
-known_named : (vs : List Variable) (name : List ℕ) (v : Variable) → AllKnown vs → last_named vs name ≡ Some v → v.kind ≡ Some (known v.kind)
+pub known_named : (vs : List Variable) (name : List ℕ) (v : Variable) → AllKnown vs → last_named vs name ≡ Some v → v.kind ≡ Some (known v.kind)
 known_named [] name v k e = absurd cc
 known_named (w ∷ vs) name v k e = go (last_named vs name) (bytes_eq w.name name) refl e (λ h. known_named vs name v k.1 h) where
   go : (o : Option Variable) (t : Bool) → last_named vs name ≡ o → later (if t then Some w else None) o ≡ Some v → (last_named vs name ≡ Some v → v.kind ≡ Some (known v.kind)) → v.kind ≡ Some (known v.kind)

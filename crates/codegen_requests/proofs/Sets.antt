@@ -52,11 +52,11 @@ AreTyped [] [] = Unit {0}
 AreTyped (v ∷ vs) (kind ∷ kinds) = (v.worth ≡ Some (Typed kind)) × (1 ≤ v.nodes.end) × AreTyped vs kinds
 AreTyped vs kinds = ⊥
 
-typed_default : (o : Option ValueType) → known (default_type (option_map Typed o)) ≡ known o
+pub typed_default : (o : Option ValueType) → known (default_type (option_map Typed o)) ≡ known o
 typed_default None = refl
 typed_default (Some kind) = refl
 
-given_long : (globals' : Globals) (s : Scope) (first : ℕ) (es : List Expression) → length (given_values globals' s first es) ≡ length es
+pub given_long : (globals' : Globals) (s : Scope) (first : ℕ) (es : List Expression) → length (given_values globals' s first es) ≡ length es
 given_long globals' s first [] = refl
 given_long globals' s first (e ∷ es) = ap suc (given_long globals' s (first + expression_size e) es)
 
@@ -137,18 +137,18 @@ module _ (file : File) (elements : List Element) (all : AllWide (globals file).s
       abbrev kept : ℕ → Operation → List ValueType
       kept count operation = kept_types file elements all typed known_fields code result g f there cs ds R Asked panics sitting grounds ls l view next mid k fine room h t r all_there starting has wait count operation
 
-      abbrev RightNoted : Right → Type 0
+      abbrev pub RightNoted : Right → Type 0
       RightNoted (RightOperation operation) = MakesNoted file elements all typed known_fields code result g f there cs ds R Asked panics operation
       RightNoted (Values es) = Unit {0}
 
       -- the types of what an operation gives, and its values
-      right_is : (count : ℕ) (operation : Operation) → right_types (globals file) elements (scope_of view) count (RightOperation operation) ≡ kept count operation
+      pub right_is : (count : ℕ) (operation : Operation) → right_types (globals file) elements (scope_of view) count (RightOperation operation) ≡ kept count operation
       right_is count operation = go ((count == 2) && is_receive operation) where
         go : (b : Bool) → given_types (globals file) elements (given_by 0 operation (operation_type (globals file) (scope_of view) operation) ∷ (if b then given_by 0 operation (Some BoolType) ∷ [] else [])) ≡ known (operation_type (globals file) (scope_of view) operation) ∷ (if b then BoolType ∷ [] else [])
         go true = ap (λ kind. kind ∷ BoolType ∷ []) (typed_default (operation_type (globals file) (scope_of view) operation))
         go false = ap (λ kind. kind ∷ []) (typed_default (operation_type (globals file) (scope_of view) operation))
 
-      given_typed : (count first : ℕ) (operation : Operation) → Free (OperationHas (globals file) view.checked first operation) → AreTyped (given (globals file) view.checked count first (RightOperation operation)) (kept count operation)
+      pub given_typed : (count first : ℕ) (operation : Operation) → Free (OperationHas (globals file) view.checked first operation) → AreTyped (given (globals file) view.checked count first (RightOperation operation)) (kept count operation)
       given_typed count first operation free = go ((count == 2) && is_receive operation) where
         go : (b : Bool) → AreTyped (given_by first operation (operation_type (globals file) view.checked operation) ∷ (if b then given_by first operation (Some BoolType) ∷ [] else [])) (known (operation_type (globals file) (scope_of view) operation) ∷ (if b then BoolType ∷ [] else []))
         go b =

@@ -1,1 +1,2 @@
 pub mod Printed
+pub mod Names
