@@ -1,2 +1,3 @@
 pub mod Printed
 pub mod Names
+pub mod Defined

@@ -42,7 +42,7 @@ fits_declared : (structs : Structs) (s : Scope) (kind : ValueType) (name : List 
 fits_declared structs s kind name fits = let v : Variable = record { name = name; kind = Some kind; place = s.words } in omega (arith, fits, length-append s.variables (v ∷ []))
 
 -- the variables of the innermost block
-own_block : (structs : Structs) (ls : Words) (vs : List Variable) (ns : List ℕ) (name : List ℕ) → in_block (innermost (seen structs ls vs ns)) name ≡ option_map (seen_one structs ls) (last_named (drop (innermost_begins ns) vs) name)
+pub own_block : (structs : Structs) (ls : Words) (vs : List Variable) (ns : List ℕ) (name : List ℕ) → in_block (innermost (seen structs ls vs ns)) name ≡ option_map (seen_one structs ls) (last_named (drop (innermost_begins ns) vs) name)
 own_block structs ls vs [] name = seen_found structs ls vs name
 own_block structs ls vs (n ∷ ns) name = seen_found structs ls (drop n vs) name
 
