@@ -26,7 +26,7 @@ use Rattle.codegen_base.proofs.Assigned.{IsSpot, behind_destination, behind_all,
 use Rattle.codegen_follows.proofs.Paths.{held_whole}
 use Rattle.codegen_follows.proofs.Stands.{View, scope_of, variables, Fine}
 
-neither : (a b : Bool) → (a || b) ≡ false → (a ≡ false) × (b ≡ false)
+pub neither : (a b : Bool) → (a || b) ≡ false → (a ≡ false) × (b ≡ false)
 neither true b e = absurd cc
 neither false b e = (refl, e)
 
