@@ -1,45 +1,56 @@
 -- Assignments with an operator.
-use Rattle.std.proofs.Common.{◌≡◌, ℕ, zero, suc, ◌+◌, ◌≤◌, Bool, true, false, List, [], ◌∷◌, ◌++◌, length, take, drop, Option, Some, option_map, Result, Ok, Err, refl, sym, ap, ◌∙◌, subst, arith, slice_get, inl, inr}
+use Rattle.std.proofs.Common.{◌≡◌, ℕ, zero, suc, ◌+◌, ◌≤◌, Bool, true, false, List, [], ◌∷◌, ◌++◌, length, take, drop, Option, Some, pos, option_map, Result, Ok, Err, refl, sym, ap, ◌∙◌, subst, arith, slice_get, inl, inr}
 use Rattle.std.specs.Prelude.{if◌then◌else◌, ◌&&◌, ◌||◌, not}
 use Rattle.std.specs.Result.{result_ok}
 use Rattle.std.proofs.lemmas.List.{append-nil, drop-drop}
 use Rattle.go_text.specs.declared.rule.Rule.TheVariants as rules
 use Rattle.syntax.specs.declared.node.BinaryOperator.{BinaryOperator}
-use Rattle.syntax.specs.Tree.{Place, File}
+use Rattle.syntax.specs.declared.node.BinaryOperator.TheVariants as ops
+use Rattle.syntax.specs.Tree.{Expression, Place, Increment, Decrement, Update, File}
+use Rattle.syntax.specs.Measures.{expression_size}
+use Rattle.bytecode.specs.declared.instr.Instr.TheVariants as instrs
 use Rattle.bytecode.specs.Code.{Function as CodeFunction, Code}
 use Rattle.bytecode.specs.Machine.{Frames as CodeFrames, code_next}
 use Rattle.word.specs.declared.panic.Panic.{Panic as Cause}
+use Rattle.word.specs.declared.value.Word.TheVariants.{Int}
 use Rattle.word.specs.Values.{Request, Panic}
 use Rattle.word.specs.Kinds.{Next, Slides}
 use Rattle.word.specs.Related.{Slips, here}
-use Rattle.type_table.specs.Types.{ValueType, BoolType, is_int_type, is_channel_type}
+use Rattle.type_table.specs.Types.{ValueType, IntType, BoolType, is_int_type, is_channel_type}
 use Rattle.type_table.specs.Containment.{fields_of}
 use Rattle.type_table.specs.Scopes.{Scope, Yield, is_blank}
 use Rattle.type_table.specs.Zeros.{zero_words}
 use Rattle.checker_base.specs.declared.flaw.Misuse.{Misuse}
 use Rattle.checker_base.specs.declared.flaw.Misuse.TheVariants as misuses
 use Rattle.checker_base.specs.Flaws.{Nodes}
-use Rattle.checker_base.specs.Worths.{Worth, Typed, Constant, Nil, is_int, is_equality, is_logical, made_type, is_wrong_right, fit_operator, binary_worth}
-use Rattle.checker_base.specs.Expressions.{ValueHas}
+use Rattle.checker_base.specs.Worths.{Worth, Typed, Constant, Nil, is_int, is_equality, is_logical, made_type, is_wrong_right, fit_operator, binary_worth, worth, type_of_field}
+use Rattle.checker_base.specs.Expressions.{nodes_of, ValueHas, ExpressionHas, default_type}
 use Rattle.checker_operation.specs.Operations.{selected, place_type, ReadPlaceHas, PlaceHas, PlacesHave}
-use Rattle.checker_simple.specs.Simples.{MadeHas, UpdatedHas}
+use Rattle.checker_simple.specs.Simples.{MadeHas, UpdatedHas, SimpleHas}
 use Rattle.meaning.specs.Values.{Value, Slot, slot, known, words_in, words_at, words_like}
-use Rattle.meaning.specs.Variables.{Blocks, value_of, lookup}
-use Rattle.meaning.specs.Expressions.{Worked}
+use Rattle.meaning.specs.Variables.{Blocks, value_of, lookup, scope_in}
+use Rattle.meaning.specs.Expressions.{Worked, binary}
 use Rattle.meaning.specs.Destinations.{placed}
 use Rattle.meaning.specs.Tasks.{Task, Store, Frames, frame}
-use Rattle.meaning.specs.Source.{globals, valued, value_at}
+use Rattle.meaning.specs.Source.{globals, valued, value_at, simple_next}
 use Rattle.codegen_base.specs.declared.element.Element.{Element}
-use Rattle.codegen_base.specs.Statements.{Spot, Dropped, Local, assigns, spot_of, place_spot, loads_spot, width}
-use Rattle.plan.specs.Plan.{Plan, Skip}
+use Rattle.codegen_base.specs.Pushes.{emits, operates, between as between_plan}
+use Rattle.codegen_base.specs.Statements.{Spot, Dropped, Local, assigns, spot_of, place_spot, loads_spot, width, simple_plan}
+use Rattle.plan.specs.Plan.{Plan, Skip, Do}
 use Rattle.plan.proofs.Words.{Words, part}
 use Rattle.plan.proofs.Steps.{spots as code_spots, loads}
-use Rattle.codegen_base.proofs.Evaluates.{range_part}
+use Rattle.codegen_base.proofs.Alike.{worth_alike}
+use Rattle.codegen_base.proofs.Evaluates.{range_part, pushed_int}
+use Rattle.codegen_base.proofs.Operators.{ints}
+use Rattle.codegen_base.proofs.Pushed.{emits_goes}
+use Rattle.codegen_base.proofs.Settled.{two_pushed, typed_goes}
+use Rattle.codegen_base.proofs.Splits.{right_operand}
+use Rattle.codegen_base.proofs.Static.{seen_alike}
 use Rattle.codegen_base.proofs.Fields.{AllWide, AllTyped, held_within, held_like}
 use Rattle.codegen_base.proofs.Likeness.{kinds_long, assignable_zeros}
 use Rattle.codegen_base.proofs.Seen.{seen, seen_one, seen_lookup, found_below}
 use Rattle.codegen_base.proofs.Assigned.{AreSpots}
-use Rattle.codegen_base.proofs.Typing.{Free, FieldsKnown, fits, broken, made}
+use Rattle.codegen_base.proofs.Typing.{Free, FieldsKnown, fits, broken, made, nodes_end, worth_there}
 use Rattle.codegen_base.proofs.Expressions.{found_like}
 use Rattle.codegen_follows.proofs.Paths.{AllKnown}
 use Rattle.codegen_follows.proofs.Stands.{Around, View, scope_of, variables, Together, IsOn, Fine, Storing, Sits}
@@ -192,3 +203,52 @@ module _ (file : File) (elements : List Element) (all : AllWide (globals file).s
           let k = typed_result operator p.kind b w.0 w.1 in
           let fit = fits (Typed k.0) p.kind nodes le (λ flaw x. good flaw (inr (subst (λ o. ValueHas o (Some p.kind) nodes flaw) (sym (ap result_ok w.1 ∙ ap Some k.1)) x))) in
           record { no_blank = no-blank; reached = p; kind = k.0; made_is = w.1 ∙ ap Ok k.1; zeros = assignable_zeros (globals file).structs k.0 p.kind fit ∙ ap (λ o. zero_words (globals file).structs (known o)) (sym p.checked_is) }
+
+    -- ---- the statements
+
+    abbrev Pushes' : Worked Value → ValueType → (Plan → Plan) → Type 0
+    Pushes' o kind push = (rest : Plan) (out : Option ℕ) (place : ℕ) (stack : Words) → IsOn file elements all code result f l (push rest) place out → E file elements all typed known_fields code result g f there ds R Asked panics ls l view fine room h.holding o kind rest out place stack stack
+
+    abbrev loads_place : Place → Plan → Plan
+    loads_place place rest = loads_spot (globals file) elements (scope_of view) (spot place) rest
+
+    same_worths : (e : Expression) → worth (globals file) (scope_in blocks) e ≡ worth (globals file) (scope_of view) e
+    same_worths e = worth_alike (scope_in blocks) (scope_of view) (seen_alike (globals file).structs ls (scope_of view) view.begins fine.placed) (globals file) e
+
+    -- the place's value, and one
+    stepped : (operator : BinaryOperator) (place : Place) (u : IsUpdated operator place (Constant (pos 1))) → Pushes' (binary operator (Ok (value_at file blocks k cs place)) (Ok (Int (pos 1) ∷ []))) u.kind (λ rest. between_plan operator IntType (loads_place place) (λ more. Do (instrs.Int (pos 1)) more) rest)
+    stepped operator place u rest out at' stack on =
+        let w = right_operand operator u.reached.kind (pos 1) u.kind u.made_is in
+        let o = binary operator (Ok (value_at file blocks k cs place)) (Ok (Int (pos 1) ∷ [])) in
+        subst (λ j. E file elements all typed known_fields code result g f there ds R Asked panics ls l view fine room h.holding o j rest out at' stack stack) w.gives
+        (two_pushed (globals file) elements (scope_of view) blocks same_worths code g f there ds ls l.leave l.again operator IntType IntType IntType (made_type operator) (Ok (value_at file blocks k cs place)) (Ok (Int (pos 1) ∷ [])) (loads_place place) (λ more. Do (instrs.Int (pos 1)) more) w.plain (ints (globals file).structs operator w.plain)
+        (λ rest out at' stack on. subst (λ j. E file elements all typed known_fields code result g f there ds R Asked panics ls l view fine room h.holding (Ok (value_at file blocks k cs place)) j rest out at' stack stack) w.int (place_value place u.reached rest out at' stack on))
+        (λ rest out at' stack on. pushed_int (globals file).structs code g f there ds ls l.leave l.again (pos 1) rest out at' stack on) rest out at' stack on)
+
+    pub increment_goes : (place : Place) (first at' : ℕ) → Free (SimpleHas (globals file) view.checked first (Increment place)) → On' (simple_plan (globals file) elements view.site.layout view.site.prints (Increment place)) at' → variables next ≡ variables view → (scope_of view).words ≤ length f.locals → G (simple_next file blocks k cs (Increment place)) (at at' ls [])
+    increment_goes place first at' free on same most =
+        let u = updated_there ops.Add place first (Constant (pos 1)) (record { first = first; end = first + 1 }) (first + 2) (omega arith) (omega arith) (λ flaw x. free flaw (inl x)) (λ flaw x. free flaw (inr x)) in
+        made_stored place first u.kind _ at' u.no_blank (λ flaw x. free flaw (inl (inl x))) u.zeros same most (stepped ops.Add place u (assigns (spot place ∷ []) Skip) mid at' [] on)
+
+    pub decrement_goes : (place : Place) (first at' : ℕ) → Free (SimpleHas (globals file) view.checked first (Decrement place)) → On' (simple_plan (globals file) elements view.site.layout view.site.prints (Decrement place)) at' → variables next ≡ variables view → (scope_of view).words ≤ length f.locals → G (simple_next file blocks k cs (Decrement place)) (at at' ls [])
+    decrement_goes place first at' free on same most =
+        let add = updated_there ops.Add place first (Constant (pos 1)) (record { first = first; end = first + 1 }) (first + 2) (omega arith) (omega arith) (λ flaw x. free flaw (inl x)) (λ flaw x. free flaw (inr x)) in
+        let int = right_operand ops.Add add.reached.kind (pos 1) add.kind add.made_is in
+        let u : IsUpdated ops.Subtract place (Constant (pos 1)) = record { no_blank = add.no_blank; reached = add.reached; kind = add.kind; made_is = ap (λ j. binary_worth ops.Subtract (Typed j) (Constant (pos 1))) int.int ∙ ap (λ j. Ok (Typed j)) int.gives; zeros = add.zeros } in
+        made_stored place first u.kind _ at' u.no_blank (λ flaw x. free flaw (inl (inl x))) u.zeros same most (stepped ops.Subtract place u (assigns (spot place ∷ []) Skip) mid at' [] on)
+
+    pub update_goes : (place : Place) (operator : BinaryOperator) (e : Expression) (first at' : ℕ) → Free (SimpleHas (globals file) view.checked first (Update place operator e)) → On' (simple_plan (globals file) elements view.site.layout view.site.prints (Update place operator e)) at' → variables next ≡ variables view → (scope_of view).words ≤ length f.locals → G (simple_next file blocks k cs (Update place operator e)) (at at' ls [])
+    update_goes place operator e first at' free on same most =
+        let good : Free (ExpressionHas (globals file) view.checked (first + 1) e) = λ flaw x. free flaw (inr (inl x)) in
+        let w = worth_there (globals file) view.checked (known_fields view.checked) e (first + 1) good in
+        let u = updated_there operator place first w.0 (nodes_of (first + 1) e) (first + 1 + expression_size e + 1) (nodes_end (first + 1) e) (omega arith) (λ flaw x. free flaw (inl x))
+        (λ flaw x. free flaw (inr (inr (subst (λ o. UpdatedHas operator (place_type (globals file) view.checked place) o (nodes_of (first + 1) e) (first + 1 + expression_size e + 1) flaw) (sym w.1) x)))) in
+        let here-worth : worth (globals file) (scope_of view) e ≡ Some w.0 = sym (worth_alike view.checked (scope_of view) fine.alike (globals file) e) ∙ w.1 in
+        let own : place_type (globals file) (scope_of view) place ≡ Some u.reached.kind = ap type_of_field u.reached.selected_is in
+        let rest = assigns (spot place ∷ []) Skip in
+        made_stored place first u.kind _ at' u.no_blank (λ flaw x. free flaw (inl (inl x))) u.zeros same most
+        (typed_goes (globals file) elements (scope_of view) blocks same_worths code g f there ds ls l.leave l.again operator (Ok (value_at file blocks k cs place)) (loads_place place) u.reached.kind e w.0 u.kind here-worth u.made_is
+        (λ rest out at' stack on. place_value place u.reached rest out at' stack on)
+        (λ t et. emits_goes (globals file) elements all typed code g f there ds ls l.leave l.again (scope_of view) view.begins fine.placed room h.holding view.checked fine.alike (known_fields view.checked) e (first + 1) good t (here-worth ∙ ap Some et)) rest mid at' []
+        (subst (λ o. On' (operates elements operator (Some (Typed (known o))) (Some w.0) (known o) (known (default_type (Some w.0))) (loads_place place) (emits (globals file) elements (scope_of view) e) rest) at') own
+        (subst (λ o. On' (operates elements operator (Some (Typed (known (place_type (globals file) (scope_of view) place)))) o (known (place_type (globals file) (scope_of view) place)) (known (default_type o)) (loads_place place) (emits (globals file) elements (scope_of view) e) rest) at') here-worth on)))
