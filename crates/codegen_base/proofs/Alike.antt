@@ -54,7 +54,7 @@ kinds_append vs ws v w name same e k =
     ∙ ap (λ o. later_kind o (kind_if (if_named name v))) same ∙ ap (later_kind (kind_if (last_named ws name))) (kind_named name v w e k)
     ∙ sym (kind_later (last_named ws name) (if_named name w)) ∙ sym (ap kind_if (last_append ws w name))
 
-drop_append : (n : ℕ) (vs : List Variable) (v : Variable) → n ≤ length vs → drop n (vs ++ v ∷ []) ≡ drop n vs ++ v ∷ []
+pub drop_append : (n : ℕ) (vs : List Variable) (v : Variable) → n ≤ length vs → drop n (vs ++ v ∷ []) ≡ drop n vs ++ v ∷ []
 drop_append zero vs v le = refl
 drop_append (suc n) [] v le = absurd (omega (arith, le))
 drop_append (suc n) (w ∷ vs) v le = drop_append n vs v (omega (arith, le))

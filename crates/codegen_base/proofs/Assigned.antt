@@ -222,7 +222,7 @@ module _ (structs : Structs) where
     behind_all [] scope = scope
     behind_all (d ∷ ds) scope = behind_all ds (behind_destination d scope)
 
-    spot_long : (scope : Scope) (d : Destination) (kind : ValueType) (spot : Spot) → IsSpot scope d kind spot → spot_words spot ≡ words_in structs kind
+    pub spot_long : (scope : Scope) (d : Destination) (kind : ValueType) (spot : Spot) → IsSpot scope d kind spot → spot_words spot ≡ words_in structs kind
     spot_long scope Nowhere kind spot is = ap spot_words is
     spot_long scope (New name k) kind spot (same, is) = ap spot_words is ∙ ap (words_in structs) same
     spot_long scope (Into name at) kind spot (x, found, held, same, is) = ap spot_words is ∙ ap length same
@@ -230,7 +230,7 @@ module _ (structs : Structs) where
     take_first : (v : Value) (rest : Words) (n : ℕ) → n ≡ length v → (take n (v ++ rest) ≡ v) × (drop n (v ++ rest) ≡ rest)
     take_first v rest n e = (ap (λ k. take k (v ++ rest)) e ∙ take-append_seam v rest, ap (λ k. drop k (v ++ rest)) e ∙ drop-append_seam v rest)
 
-    more_words : (ds : List Destination) (scope : Scope) → scope.words ≤ (behind_all ds scope).words
+    pub more_words : (ds : List Destination) (scope : Scope) → scope.words ≤ (behind_all ds scope).words
     more_words [] scope = omega arith
     more_words (d ∷ ds) scope = let m = more_words ds (behind_destination d scope) in let n = one_more d in omega (arith, m, n) where
       one_more : (d : Destination) → scope.words ≤ (behind_destination d scope).words

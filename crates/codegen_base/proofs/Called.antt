@@ -48,7 +48,7 @@ module _ (globals : Globals) (s : Scope) (known-fields : FieldsKnown globals s) 
     pub numbered : number_of globals function ≡ number
     pub fit : AllFit globals s values (map known (parameters_of globals number))
 
-  function_is : (o : Option ℕ) (other : Bool) (n : ℕ) → (if other then NoFunction else function_of o) ≡ IsFunction n → o ≡ Some n
+  pub function_is : (o : Option ℕ) (other : Bool) (n : ℕ) → (if other then NoFunction else function_of o) ≡ IsFunction n → o ≡ Some n
   function_is o true n e = absurd cc
   function_is None false n e = absurd cc
   function_is (Some m) false n e = ap number_in e where

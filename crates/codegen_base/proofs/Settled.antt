@@ -117,7 +117,7 @@ module _ (globals : Globals) (elements : List Element) (scope : Scope) (blocks :
         → E (compared_value operator (Some a) (Some b) (binary operator (value globals blocks l) (value globals blocks r))) k rest out place stack stack
 
     -- both operands are pushed, and then the operator is applied
-    two_pushed : (operator : BinaryOperator) (kind i j k : ValueType) (l r : Worked Value) (left right : Plan → Plan) → is_logical operator ≡ false → IsPlain globals.structs operator (operator_of operator kind) i j k → P l i left → P r j right
+    pub two_pushed : (operator : BinaryOperator) (kind i j k : ValueType) (l r : Worked Value) (left right : Plan → Plan) → is_logical operator ≡ false → IsPlain globals.structs operator (operator_of operator kind) i j k → P l i left → P r j right
         → P (binary operator l r) k (λ rest. between_plan operator kind left right rest)
     two_pushed operator kind i j k l r left right calm p el er rest out place stack on =
         plain globals.structs code g f there callers ls leave again operator (operator_of operator kind) i j k l r left right p (plain_beside operator calm) el er rest out place stack
@@ -187,6 +187,27 @@ module _ (globals : Globals) (elements : List Element) (scope : Scope) (blocks :
               (operated globals.structs code g f there callers ls leave again (Chan c ∷ (Chan None ∷ [])) (operator_of operator (ChannelType d u)) (applied (operator_of operator (ChannelType d u)) (Chan c) (Chan None)) (made_type operator) rest out at stack refl p.two
               (p.gives (Chan c) (Chan None) refl refl) (subst (λ j. S (Do (instrs.Apply (operator_of operator j)) rest) at out) is-channel on)))
 
+    -- a value that has a type, to the left of an operand
+    pub typed_goes : (operator : BinaryOperator) (lv : Worked Value) (left : Plan → Plan) (s : ValueType) (r : Expression) (b : Worth) (k : ValueType) → worth globals scope r ≡ Some b → binary_worth operator (Typed s) b ≡ Ok (Typed k) → P lv s left → IsEmitted r b
+        → P (binary operator lv (value globals blocks r)) k (λ rest. operates elements operator (Some (Typed s)) (Some b) s (known (default_type (Some b))) left (emits globals elements scope r) rest)
+    typed_goes operator lv left s r (Constant b) k ir made el er rest out place stack on =
+        let w = right_operand operator s b k made in
+        subst (λ j. E (binary operator lv (value globals blocks r)) j rest out place stack stack) w.gives
+        (two_pushed operator IntType IntType IntType (made_type operator) lv (value globals blocks r) left (λ rest. settled elements (Some (Constant b)) IntType (emits globals elements scope r rest) rest) w.plain (ints globals.structs operator w.plain)
+        (λ rest out place stack on. subst (λ j. E lv j rest out place stack stack) w.int (el rest out place stack on)) (pushes_by r (Constant b) IntType ir (refl, w.fits) er) rest out place stack
+        (subst (λ j. S (between_plan operator j left (λ rest. settled elements (Some (Constant b)) IntType (emits globals elements scope r rest) rest) rest) place out) w.int on))
+    typed_goes operator lv left s r (Typed t) k ir made el er rest out place stack on =
+        by_operands operator s t k lv (value globals blocks r) left (emits globals elements scope r) (typed_operands operator s t k made) el (er t refl) rest out place stack on
+    typed_goes operator lv left s r Nil k ir made el er rest out place stack on =
+        let n = nil_right operator s k made in
+        let right : Plan → Plan = λ rest. settled elements (Some Nil) s (emits globals elements scope r rest) rest in
+        subst (λ j. E (binary operator lv (value globals blocks r)) j rest out place stack stack) (equality_made operator k n.compares n.gives)
+        (two_pushed operator (ChannelType n.direction n.carried) (ChannelType n.direction n.carried) (ChannelType n.direction n.carried) (made_type operator) lv (value globals blocks r) left right (equality_plain operator n.compares)
+        (channels globals.structs operator n.direction n.direction n.carried n.carried n.compares)
+        (λ rest out place stack on. subst (λ j. E lv j rest out place stack stack) n.channel (el rest out place stack on))
+        (λ rest out place stack on. subst (λ j. E (value globals blocks r) j rest out place stack stack) n.channel (pushes_by r Nil s ir (ap is_channel_type n.channel) er rest out place stack on)) rest out place stack
+        (subst (λ j. S (between_plan operator j left right rest) place out) n.channel on))
+
     pub operator_goes : (operator : BinaryOperator) (l r : Expression) (a b : Worth) (k : ValueType) → worth globals scope l ≡ Some a → worth globals scope r ≡ Some b → binary_worth operator a b ≡ Ok (Typed k) → IsEmitted l a → IsEmitted r b → Whole operator l r a b k
     operator_goes operator l r (Constant a) (Constant b) k il ir made el er rest out place stack on = constants_goes operator l r a b k made rest out place stack on
     operator_goes operator l r (Constant a) (Typed t) k il ir made el er rest out place stack on =
@@ -195,23 +216,7 @@ module _ (globals : Globals) (elements : List Element) (scope : Scope) (blocks :
         (two_pushed operator IntType IntType IntType (made_type operator) (value globals blocks l) (value globals blocks r) (λ rest. settled elements (Some (Constant a)) IntType (emits globals elements scope l rest) rest) (λ rest. emits globals elements scope r rest) w.plain (ints globals.structs operator w.plain)
         (pushes_by l (Constant a) IntType il (refl, w.fits) el) (λ rest out place stack on. subst (λ j. E (value globals blocks r) j rest out place stack stack) w.int (er t refl rest out place stack on)) rest out place stack on)
     operator_goes operator l r (Constant a) Nil k il ir made el er rest out place stack on = absurd cc
-    operator_goes operator l r (Typed s) (Constant b) k il ir made el er rest out place stack on =
-        let w = right_operand operator s b k made in
-        subst (λ j. E (binary operator (value globals blocks l) (value globals blocks r)) j rest out place stack stack) w.gives
-        (two_pushed operator IntType IntType IntType (made_type operator) (value globals blocks l) (value globals blocks r) (λ rest. emits globals elements scope l rest) (λ rest. settled elements (Some (Constant b)) IntType (emits globals elements scope r rest) rest) w.plain (ints globals.structs operator w.plain)
-        (λ rest out place stack on. subst (λ j. E (value globals blocks l) j rest out place stack stack) w.int (el s refl rest out place stack on)) (pushes_by r (Constant b) IntType ir (refl, w.fits) er) rest out place stack
-        (subst (λ j. S (between_plan operator j (emits globals elements scope l) (λ rest. settled elements (Some (Constant b)) IntType (emits globals elements scope r rest) rest) rest) place out) w.int on))
-    operator_goes operator l r (Typed s) (Typed t) k il ir made el er rest out place stack on =
-        by_operands operator s t k (value globals blocks l) (value globals blocks r) (emits globals elements scope l) (emits globals elements scope r) (typed_operands operator s t k made) (el s refl) (er t refl) rest out place stack on
-    operator_goes operator l r (Typed s) Nil k il ir made el er rest out place stack on =
-        let n = nil_right operator s k made in
-        let right : Plan → Plan = λ rest. settled elements (Some Nil) s (emits globals elements scope r rest) rest in
-        subst (λ j. E (binary operator (value globals blocks l) (value globals blocks r)) j rest out place stack stack) (equality_made operator k n.compares n.gives)
-        (two_pushed operator (ChannelType n.direction n.carried) (ChannelType n.direction n.carried) (ChannelType n.direction n.carried) (made_type operator) (value globals blocks l) (value globals blocks r) (emits globals elements scope l) right (equality_plain operator n.compares)
-        (channels globals.structs operator n.direction n.direction n.carried n.carried n.compares)
-        (λ rest out place stack on. subst (λ j. E (value globals blocks l) j rest out place stack stack) n.channel (el s refl rest out place stack on))
-        (λ rest out place stack on. subst (λ j. E (value globals blocks r) j rest out place stack stack) n.channel (pushes_by r Nil s ir (ap is_channel_type n.channel) er rest out place stack on)) rest out place stack
-        (subst (λ j. S (between_plan operator j (emits globals elements scope l) right rest) place out) n.channel on))
+    operator_goes operator l r (Typed s) b k il ir made el er rest out place stack on = typed_goes operator (value globals blocks l) (emits globals elements scope l) s r b k ir made (el s refl) er rest out place stack on
     operator_goes operator l r Nil (Constant b) k il ir made el er rest out place stack on = absurd cc
     operator_goes operator l r Nil (Typed t) k il ir made el er rest out place stack on = nil_goes operator l r t k il made er rest out place stack on
     operator_goes operator l r Nil Nil k il ir made el er rest out place stack on = absurd cc

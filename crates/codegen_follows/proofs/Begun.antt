@@ -193,6 +193,7 @@ module _ (file : File) (elements : List Element) (all : AllWide (globals file).s
       record {
         placed = record { rising = p.rising; known = p.known; outer = refl; nested = (omega arith, p.nested) };
         alike = alike_entered view.checked (scope_of view) fine.alike;
+        noted = fine.noted;
       }
 
   pub inner_opened : (view last : View) → Together (opened view) last → Inner view last

@@ -69,10 +69,10 @@ module _ (file : File) (elements : List Element) (all : AllWide (globals file).s
 
   -- ---- what is held
 
-  held_same : (ls : Words) (view next : View) → variables next ≡ variables view → Held ls view → Held ls next
+  pub held_same : (ls : Words) (view next : View) → variables next ≡ variables view → Held ls view → Held ls next
   held_same ls view next same h = record { holding = subst (Holding (globals file).structs ls) (sym same) h.holding; full = h.full }
 
-  held_inner : (ls : Words) (outer view : View) → Inner outer view → Held ls view → Held ls outer
+  pub held_inner : (ls : Words) (outer view : View) → Inner outer view → Held ls view → Held ls outer
   held_inner ls outer view i h =
       record {
         holding = like_holding (globals file).structs ls (variables outer) outer.begins
@@ -80,36 +80,37 @@ module _ (file : File) (elements : List Element) (all : AllWide (globals file).s
         full = h.full;
       }
 
-  blocks_same : (ls : Words) (view next : View) → variables next ≡ variables view → next.begins ≡ view.begins → blocks ls next ≡ blocks ls view
+  pub blocks_same : (ls : Words) (view next : View) → variables next ≡ variables view → next.begins ≡ view.begins → blocks ls next ≡ blocks ls view
   blocks_same ls view next same begins = ap (λ vs. seen (globals file).structs ls vs next.begins) same ∙ ap (seen (globals file).structs ls (variables view)) begins
 
   -- ---- where jumps lead
 
-  lead_through : (place : ℕ) (mid to : Option ℕ) → Leads f.instrs place mid → LeadsOn file elements all code result f mid to → Leads f.instrs place to
+  pub lead_through : (place : ℕ) (mid to : Option ℕ) → Leads f.instrs place mid → LeadsOn file elements all code result f mid to → Leads f.instrs place to
   lead_through place None to lead on = absurd lead
   lead_through place (Some m) None lead on = absurd on
   lead_through place (Some m) (Some n) lead on = jumps_through f.instrs place m n lead on
 
-  with_stack : (mid to : Option ℕ) → LeadsOn file elements all code result f mid to → IfSome mid (λ p. (◌≡◌ {A = List Word} [] []) × Leads f.instrs p to)
+  pub with_stack : (mid to : Option ℕ) → LeadsOn file elements all code result f mid to → IfSome mid (λ p. (◌≡◌ {A = List Word} [] []) × Leads f.instrs p to)
   with_stack None to lead = tt
   with_stack (Some m) to lead = (refl, lead)
 
-  end_sits : (outer last : View) (l : Around) (mid to : Option ℕ) (k : List Task) → Inner outer last → LeadsOn file elements all code result f mid to → S outer l to [] k → S last l mid [] (EndBlock ∷ k)
+  pub end_sits : (outer last : View) (l : Around) (mid to : Option ℕ) (k : List Task) → Inner outer last → LeadsOn file elements all code result f mid to → S outer l to [] k → S last l mid [] (EndBlock ∷ k)
   end_sits outer last l mid to k inner lead sits = (outer, inner, to, with_stack mid to lead, sits)
 
-  inner_same : (view next last : View) → variables next ≡ variables view → next.begins ≡ view.begins → Inner view last → Inner next last
+  pub inner_same : (view next last : View) → variables next ≡ variables view → next.begins ≡ view.begins → Inner view last → Inner next last
   inner_same view next last same begins i = record { begin = i.begin; begins = i.begins ∙ ap (λ ns. i.begin ∷ ns) (sym begins); within = i.within ∙ sym same }
 
-  fine_body : (view : View) (body : Statements) → Fine file elements all code result f view → Fine file elements all code result f (behind_body file elements all code result f view body)
+  pub fine_body : (view : View) (body : Statements) → Fine file elements all code result f view → Fine file elements all code result f (behind_body file elements all code result f view body)
   fine_body view body fine =
       let p = fine.placed in
       let le = (grown_statements (globals file) elements result (inside view.site) body).words in
       record {
         placed = record { rising = rising_up (globals file).structs 0 (variables view) (scope_of view).words (scope_of (behind_body file elements all code result f view body)).words le p.rising; known = p.known; outer = p.outer; nested = p.nested };
         alike = alike_left view.checked (scope_of view) (after_all (globals file) (scope_entered view.checked) body) (made_body file elements all code result f view body).layout.scope fine.alike;
+        noted = fine.noted;
       }
 
-  map_reached : (o : Option ℕ) (A B : ℕ → Type 0) → ((n : ℕ) → A n → B n) → IfSome o A → IfSome o B
+  pub map_reached : (o : Option ℕ) (A B : ℕ → Type 0) → ((n : ℕ) → A n → B n) → IfSome o A → IfSome o B
   map_reached None A B go h = tt
   map_reached (Some n) A B go h = go n h
 
@@ -117,21 +118,21 @@ module _ (file : File) (elements : List Element) (all : AllWide (globals file).s
   pub branch_same : (site : Site) (branch : Branch) → (made_branch (globals file) elements result site branch).layout.scope.variables ≡ site.layout.scope.variables
   branch_same site (Conditional head condition body otherwise) = refl
 
-  room_of : (ls : Words) (view : View) (words : ℕ) → length ls ≡ length f.locals → (scope_of view).words ≤ words → words ≤ length f.locals → (scope_of view).words ≤ length ls
+  pub room_of : (ls : Words) (view : View) (words : ℕ) → length ls ≡ length f.locals → (scope_of view).words ≤ words → words ≤ length f.locals → (scope_of view).words ≤ length ls
   room_of ls view words full a b = omega (arith, full, a, b)
 
   module _ (fine_behind : FineBehind file elements all code result f) (sitting : Sitting) (back : Back) where
-    lands : (ls : Words) (view : View) (l : Around) (place : ℕ) (to : Option ℕ) (tasks : List Task) → Held ls view → Leads f.instrs place to → S view l to [] tasks → R (frame (blocks ls view) tasks ∷ cs) (at place ls [])
+    pub lands : (ls : Words) (view : View) (l : Around) (place : ℕ) (to : Option ℕ) (tasks : List Task) → Held ls view → Leads f.instrs place to → S view l to [] tasks → R (frame (blocks ls view) tasks ∷ cs) (at place ls [])
     lands ls view l place None tasks h lead sits = absurd lead
     lands ls view l place (Some n) tasks h lead sits = back (frame (blocks ls view) tasks ∷ cs) (at place ls []) (at n ls []) (passes code g f there ds place n ls [] lead) (sitting view l n ls [] tasks h sits)
 
     -- what is next has the same variables
-    lands_same : (ls : Words) (view next : View) (l : Around) (place : ℕ) (mid : Option ℕ) (k : List Task) → Held ls view → variables next ≡ variables view → next.begins ≡ view.begins → Leads f.instrs place mid → Rest next l mid k → R (frame (blocks ls view) k ∷ cs) (at place ls [])
+    pub lands_same : (ls : Words) (view next : View) (l : Around) (place : ℕ) (mid : Option ℕ) (k : List Task) → Held ls view → variables next ≡ variables view → next.begins ≡ view.begins → Leads f.instrs place mid → Rest next l mid k → R (frame (blocks ls view) k ∷ cs) (at place ls [])
     lands_same ls view next l place mid k h same begins lead r =
         subst (λ b. R (frame b k ∷ cs) (at place ls [])) (blocks_same ls view next same begins) (lands ls next l place r.0 k (held_same ls view next same h) (lead_through place mid r.0 lead r.1) r.2)
 
     -- a block begins
-    block_lands : (ls : Words) (view : View) (l : Around) (body : Statements) (place : ℕ) (out : Option ℕ) (k : List Task) → Held ls view → Live file elements all code result f (opened view) l body place out → ((last : View) → Inner view last → S last l out [] k)
+    pub block_lands : (ls : Words) (view : View) (l : Around) (body : Statements) (place : ℕ) (out : Option ℕ) (k : List Task) → Held ls view → Live file elements all code result f (opened view) l body place out → ((last : View) → Inner view last → S last l out [] k)
         → R (frame (entered (blocks ls view)) (all_of body ++ k) ∷ cs) (at place ls [])
     block_lands ls view l body place out k h live sits =
         let fine = live.fine in
@@ -407,7 +408,7 @@ module _ (file : File) (elements : List Element) (all : AllWide (globals file).s
 
     -- ---- an if
 
-    self_lead : (o : Option ℕ) → LeadsOn file elements all code result f o o
+    pub self_lead : (o : Option ℕ) → LeadsOn file elements all code result f o o
     self_lead None = tt
     self_lead (Some p) = at_once
 
@@ -477,7 +478,7 @@ module _ (file : File) (elements : List Element) (all : AllWide (globals file).s
     bare_lands ls view next l condition body otherwise place mid k h d same begins r =
         let fine = fine_opened file elements all code result f view d.fine in
         let v : View = record { site = past (inside view.site) (nothing (inside view.site)); begins = length (variables view) ∷ view.begins; checked = scope_entered view.checked } in
-        let fine' : Fine file elements all code result f v = record { placed = fine.placed; alike = fine.alike } in
+        let fine' : Fine file elements all code result f v = record { placed = fine.placed; alike = fine.alike; noted = fine.noted } in
         let so = ended v.site.layout (made_body file elements all code result f v body) in
         let other = made_otherwise (globals file) elements result v.site condition so otherwise in
         let deciding : (m : ℕ) → IsOn file elements all code result f l other.plan m mid → Deciding file elements all code result f l v condition body otherwise m mid = λ m on. record {

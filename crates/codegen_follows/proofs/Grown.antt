@@ -77,7 +77,7 @@ module _ (globals : Globals) (elements : List Element) where
       let w = t.words in
       omega (arith, w)
 
-  grown_post : (header : Layout) (site : Site) (post : Option Simple) → site.layout.scope.words ≤ (made_post globals elements header site post).layout.scope.words
+  pub grown_post : (header : Layout) (site : Site) (post : Option Simple) → site.layout.scope.words ≤ (made_post globals elements header site post).layout.scope.words
   grown_post header site None = omega arith
   grown_post header site (Some simple) = (grown_simple simple (entering site.layout)).words
 

@@ -1,26 +1,35 @@
 -- Where the code stands of what is still to be done.
-use Rattle.std.proofs.Common.{◌≡◌, ℕ, ◌+◌, ◌≤◌, Bool, true, List, [], ◌∷◌, ◌++◌, length, take, Option, Some, None, IfSome, slice_get}
+use Rattle.std.proofs.Common.{◌≡◌, ℕ, ◌+◌, ◌≤◌, Bool, true, List, [], ◌∷◌, ◌++◌, length, map, take, Option, Some, None, IfSome, slice_get}
 use Rattle.syntax.specs.Tree.{Expression, Simple, Statement, Statements, Otherwise, File}
 use Rattle.bytecode.specs.declared.instr.Instr.TheVariants as instrs
+use Rattle.bytecode.specs.declared.instr.Instr.{Instr}
 use Rattle.bytecode.specs.Code.{PrintTable, Function as CodeFunction, Code}
+use Rattle.bytecode.specs.Effects.{gives}
+use Rattle.bytecode.specs.Machine.{Frame as CodeFrame, Frames as CodeFrames, zero_of, is_told, instr_next, pops}
+use Rattle.word.specs.Values.{Request}
+use Rattle.word.specs.Values as requests
+use Rattle.word.specs.Kinds.{Asks}
 use Rattle.word.specs.declared.value.Word.{Word}
 use Rattle.type_table.specs.Types.{ValueType}
-use Rattle.type_table.specs.Scopes.{Variable, Scope, Yield, NoResult, Yields, entered, left}
+use Rattle.type_table.specs.Scopes.{Variable, Scope, Yield, entered, left}
 use Rattle.checker_base.specs.Expressions.{TestHas}
 use Rattle.checker_simple.specs.Simples.{SimpleHas}
 use Rattle.checker_statement.specs.Statements.{Setting, after, after_all, StatementHas, StatementsHave, OtherwiseHas}
-use Rattle.meaning.specs.Values.{Value, known}
+use Rattle.checker_operation.specs.Operations.{parameters_of}
+use Rattle.type_table.specs.Zeros.{zero_words}
+use Rattle.meaning.specs.Values.{Value, known, words_in, words_like}
+use Rattle.meaning.specs.Destinations.{zero_result}
 use Rattle.meaning.specs.Variables.{Destination}
-use Rattle.meaning.specs.Tasks.{Loop, Repeating, Ranging, Task, Do, EndBlock, Decide, Head, Again, Turn, EndSelect, Store, GiveBack}
+use Rattle.meaning.specs.Tasks.{Loop, Repeating, Ranging, Task, Do, EndBlock, Decide, Head, Again, Turn, EndSelect, Ask, Store, GiveBack, Purpose, Unused, Assigned, GivenBack}
 use Rattle.meaning.specs.Source.{globals}
 use Rattle.codegen_base.specs.declared.element.Element.{Element}
-use Rattle.codegen_base.specs.Pushes.{pushes_zeros}
+use Rattle.codegen_base.specs.Pushes.{pushes_zeros, drops}
 use Rattle.codegen_base.specs.Statements.{Spot, assigns}
 use Rattle.codegen_base.specs.Generated.{Site, Made, past, ended, inside, loop, test_plan, made_post, made, made_all, made_otherwise, result_kinds}
 use Rattle.plan.specs.Plan.{Plan, Skip, Stop}
 use Rattle.plan.proofs.Places.{At, On, Leads}
 use Rattle.codegen_base.proofs.Alike.{Alike}
-use Rattle.codegen_base.proofs.Seen.{Like}
+use Rattle.codegen_base.proofs.Known.{VariablesNoted}
 use Rattle.codegen_base.proofs.Static.{innermost_begins, IsPlaced}
 use Rattle.codegen_base.proofs.Typing.{Free}
 use Rattle.codegen_base.proofs.Fields.{AllWide}
@@ -77,10 +86,11 @@ module _ (file : File) (elements : List Element) (all : AllWide (globals file).s
   abbrev pub within : Bool → Bool → Setting
   within breaks continues = record { globals = globals file; result = result; breaks = breaks; continues = continues }
 
-  -- the variables lie where the layout says, and are those that the typing rules see
+  -- the variables lie where the layout says, and are those that the typing rules see; the elements of their types are noted
   pub record Fine (view : View) : Type 0 where
     pub placed : IsPlaced (globals file).structs (scope_of view) view.begins
     pub alike : Alike view.checked (scope_of view)
+    pub noted : VariablesNoted elements (globals file) (scope_of view)
 
   abbrev pub made_here : View → Statement → Made
   made_here view s = made (globals file) elements result view.site s
@@ -149,24 +159,60 @@ module _ (file : File) (elements : List Element) (all : AllWide (globals file).s
     pub post_fits : Fits (behind_body view body).site.prints (post_made view body post)
 
   -- a value that is returned is of the function's result
-  abbrev pub IsResult : Yield → Value → Type 0
-  IsResult NoResult v = v ≡ []
-  IsResult (Yields kind) v = Like (globals file).structs (known kind) v
+  abbrev pub IsResult : Value → Type 0
+  IsResult v = words_like (zero_result (globals file) result) v ≡ v
+
+  -- so many words values of these types take
+  abbrev pub all_wide : List ValueType → ℕ
+  all_wide [] = 0
+  all_wide (kind ∷ types) = words_in (globals file).structs kind + all_wide types
+
+  -- values of these types go to their destinations from the stack, behind so many words that are dropped
+  pub record Assigning (l : Around) (view : View) (dropped : ℕ) (types : List ValueType) (destinations : List Destination) (next : View) (place : ℕ) (mid : Option ℕ) : Type 0 where
+    pub spots : List Spot
+    pub fine : Fine view
+    pub spots_are : AreSpots (globals file).structs all (scope_of view) destinations types spots
+    pub room : (behind_all (globals file).structs all destinations (scope_of view)).words ≤ length f.locals
+    pub on : IsOn l (drops dropped (assigns spots Skip)) place mid
+    pub variables_are : variables next ≡ (behind_all (globals file).structs all destinations (scope_of view)).variables
 
   -- values that are stored: those that have a place lie on the stack
   pub record Storing (l : Around) (view : View) (stack : List Word) (destinations : List Destination) (values : List Value) (next : View) (place : ℕ) (mid : Option ℕ) : Type 0 where
     pub types : List ValueType
-    pub spots : List Spot
     pub kept : List Value
     pub others : List Value
-    pub fine : Fine view
     pub values_are : values ≡ kept ++ others
     pub stack_is : stack ≡ all_words_of (globals file).structs all kept
     pub like : AreLike (globals file).structs all types kept
-    pub spots_are : AreSpots (globals file).structs all (scope_of view) destinations types spots
-    pub room : (behind_all (globals file).structs all destinations (scope_of view)).words ≤ length f.locals
-    pub on : IsOn l (assigns spots Skip) place mid
-    pub variables_are : variables next ≡ (behind_all (globals file).structs all destinations (scope_of view)).variables
+    pub assigning : Assigning l view 0 types destinations next place mid
+
+  -- ---- calls and requests
+
+  -- what becomes of values of these types that lie on the stack; those that have no place are dropped
+  abbrev pub Taking : Around → View → List ValueType → Purpose → View → ℕ → Option ℕ → Type 0
+  Taking l view types Unused next place mid = IsOn l (drops (all_wide types) Skip) place mid × (variables next ≡ variables view)
+  Taking l view types (Assigned destinations) next place mid = (kept : List ValueType) × (others : List ValueType) × (types ≡ kept ++ others) × Assigning l view (all_wide others) kept destinations next place mid
+  Taking l view types GivenBack next place mid =
+      (first : ValueType) × (others : List ValueType) × (types ≡ first ∷ others) × IsOn l (drops (all_wide others) Stop) place mid × (zero_result (globals file) result ≡ zero_words (globals file).structs first)
+  Taking l view types purpose next place mid = ⊥
+
+  -- a goroutine that is started gets values of its function's parameters
+  abbrev pub Begins : Request → Type 0
+  Begins (requests.Go function arguments) = (values : List Value) × AreLike (globals file).structs all (map known (parameters_of (globals file) function)) values × (arguments ≡ all_words_of (globals file).structs all values)
+  Begins q = Unit {0}
+
+  -- an instruction that asks, its operands on the stack, and what becomes of the values that it is told
+  pub record Asking (l : Around) (view : View) (stack : List Word) (q : Request) (zeros : List Value) (purpose : Purpose) (next : View) (place : ℕ) (mid : Option ℕ) : Type 0 where
+    pub instr : Instr
+    pub there : At f.instrs place instr
+    pub pops_are : pops code f instr ≡ length stack
+    pub told : is_told instr ≡ true
+    pub asks : (c : CodeFrame) (callers : CodeFrames) → instr_next code c callers [] stack instr ≡ Asks q
+    pub starts : Begins q
+    pub types : List ValueType
+    pub zeros_are : zeros ≡ map (zero_words (globals file).structs) types
+    pub gives_are : map zero_of (gives code f instr []) ≡ all_words_of (globals file).structs all zeros
+    pub taking : Taking l view types purpose next (place + 1) mid
 
   -- what a loop's head does at a place
   abbrev pub Loops : Around → View → Loop → ℕ → Option ℕ → Type 0
@@ -180,7 +226,8 @@ module _ (file : File) (elements : List Element) (all : AllWide (globals file).s
   Does l view stack (Head loop) next place mid = (stack ≡ []) × Loops l view loop place mid × (variables next ≡ variables view)
   Does l view stack (Turn loop) next place mid = (stack ≡ []) × (head : ℕ) × At f.instrs place (instrs.Loop head) × Loops l view loop head mid × (variables next ≡ variables view)
   Does l view stack (Store destinations values) next place mid = Storing l view stack destinations values next place mid
-  Does l view stack (GiveBack v) next place mid = (stack ≡ v) × At f.instrs place instrs.Return × IsResult result v
+  Does l view stack (GiveBack v) next place mid = (stack ≡ v) × At f.instrs place instrs.Return × IsResult v
+  Does l view stack (Ask q zeros purpose) next place mid = Asking l view stack q zeros purpose next place mid
   Does l view stack task next place mid = ⊥
 
   -- where a loop's body ends

@@ -72,7 +72,7 @@ module _ (file : File) (elements : List Element) (all : AllWide (globals file).s
   valued_then (Ok a) h go = refl
 
   module _ (ls : Words) (l : Around) (view : View) (fine : Fine file elements all code result f view) (room : (scope_of view).words ≤ length ls) (holding : Holding (globals file).structs ls (variables view)) where
-    abbrev E : Worked Value → ValueType → Plan → Option ℕ → ℕ → List Word → List Word → Type 0
+    abbrev pub E : Worked Value → ValueType → Plan → Option ℕ → ℕ → List Word → List Word → Type 0
     E o kind rest out place stack base = EK (globals file) elements all typed code g f there ds ls l.leave l.again (scope_of view) view.begins fine.placed room holding view.checked fine.alike (known_fields view.checked) o kind rest out place stack base
 
     abbrev On' : Plan → ℕ → Option ℕ → Type 0
@@ -90,7 +90,7 @@ module _ (file : File) (elements : List Element) (all : AllWide (globals file).s
         (λ t et. emits_goes (globals file) elements all typed code g f there ds ls l.leave l.again (scope_of view) view.begins fine.placed room holding view.checked fine.alike (known_fields view.checked) e first free t (here-worth ∙ ap Some et)) rest out place stack
         (subst (λ o. On' (settled elements o kind (emits (globals file) elements (scope_of view) e rest) rest) place out) here-worth on)
 
-    valued_by : (o : Worked Value) (go : Value → Next Frames) (kind : ValueType) (rest : Plan) (out : Option ℕ) (place : ℕ) (stack : Words) → E o kind rest out place stack stack
+    pub valued_by : (o : Worked Value) (go : Value → Next Frames) (kind : ValueType) (rest : Plan) (out : Option ℕ) (place : ℕ) (stack : Words) → E o kind rest out place stack stack
         → ((v : Value) → Like (globals file).structs kind v → (to : ℕ) → On' rest to out → Goes (go v) (place_at to ls (stack ++ v))) → Goes (valued o go) (place_at place ls stack)
     valued_by (Err c) go kind rest out place stack e then' = (e.0, e.1, e.2, panics c e.0)
     valued_by (Ok v) go kind rest out place stack e then' = before (go v) (place_at place ls stack) (place_at e.0 ls (stack ++ v)) e.2 (then' v e.1 e.0 e.3)
@@ -100,6 +100,16 @@ module _ (file : File) (elements : List Element) (all : AllWide (globals file).s
         → On' (pushes (globals file) elements (scope_of view) kind e rest) place out
         → ((v : Value) → Like (globals file).structs kind v → (to : ℕ) → On' rest to out → Goes (go v) (place_at to ls (stack ++ v))) → Goes (valued (value_here e) go) (place_at place ls stack)
     value_goes e first w kind go rest out place stack free is fits on then' = valued_by (value_here e) go kind rest out place stack (evals e first w kind rest out place stack free is fits on) then'
+
+    -- a value of a type of its own, and then
+    pub own_goes : (e : Expression) (first : ℕ) (kind wanted : ValueType) (go : Value → Next Frames) (rest : Plan) (out : Option ℕ) (place : ℕ) (stack : Words) → Free (ExpressionHas (globals file) view.checked first e) → worth (globals file) view.checked e ≡ Some (Typed kind)
+        → On' (pushes (globals file) elements (scope_of view) wanted e rest) place out
+        → ((v : Value) → Like (globals file).structs kind v → (to : ℕ) → On' rest to out → Goes (go v) (place_at to ls (stack ++ v))) → Goes (valued (value_here e) go) (place_at place ls stack)
+    own_goes e first kind wanted go rest out place stack free is on then' =
+        let here-worth : worth (globals file) (scope_of view) e ≡ Some (Typed kind) = sym (checked (globals file) elements all typed code g f there ds ls l.leave l.again (scope_of view) view.begins fine.placed room holding view.checked fine.alike (known_fields view.checked) e) ∙ is in
+        valued_by (value_here e) go kind rest out place stack
+        (emits_goes (globals file) elements all typed code g f there ds ls l.leave l.again (scope_of view) view.begins fine.placed room holding view.checked fine.alike (known_fields view.checked) e first free kind here-worth rest out place stack
+        (subst (λ o. On' (settled elements o wanted (emits (globals file) elements (scope_of view) e rest) rest) place out) here-worth on)) then'
 
     -- a condition is a truth value, and then
     pub test_goes : (e : Expression) (first : ℕ) (go : Word → Next Frames) (rest : Plan) (out : Option ℕ) (place : ℕ) → Free (TestHas (globals file) view.checked first e) → On' (pushes (globals file) elements (scope_of view) BoolType e rest) place out

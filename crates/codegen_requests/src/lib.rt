@@ -1,0 +1,2 @@
+//! What the generated code does for requests, calls and assignments. It has lemmas alone.
+#![tactic(auto)]

@@ -1,0 +1,5 @@
+pub mod Printed
+pub mod Names
+pub mod Defined
+pub mod Untyped
+pub mod Updated

@@ -1,0 +1,2 @@
+//! What the generated code does for each statement and task. It has lemmas alone.
+#![tactic(auto)]
