@@ -1,0 +1,5 @@
+//! The instructions of operations, assignments and simple statements.
+#![tactic(auto)]
+
+pub mod operation;
+pub mod values;
