@@ -1,6 +1,7 @@
 -- A flaw's node is one of the simple statement's.
 use Rattle.std.proofs.Common.{ℕ, ◌+◌, ◌<◌, ◌≤◌, inl, inr, List, [], ◌∷◌, Option, Some, None, length, sum_by, arith, pos}
 use Rattle.std.specs.Option.{is_none}
+use Rattle.std.specs.Result.{result_ok}
 use Rattle.std.proofs.lemmas.List.Sums.{sum_by-cons}
 use Rattle.syntax.specs.declared.node.BinaryOperator.{BinaryOperator}
 use Rattle.syntax.specs.declared.node.BinaryOperator.TheVariants as ops
@@ -38,10 +39,13 @@ parts_within globals scope [] first flaw has = absurd has
 parts_within globals scope (p ∷ ps) first flaw (inl has) = omega (arith, part_within globals scope p first flaw has, sum_by-cons part_size p ps)
 parts_within globals scope (p ∷ ps) first flaw (inr has) = omega (arith, parts_within globals scope ps (first + part_size p) flaw has, sum_by-cons part_size p ps)
 
-updated_within : (operator : BinaryOperator) (kind : Option ValueType) (w : Option Worth) (nodes : Nodes) (end : ℕ) (flaw : Flaw) → nodes.first < end → nodes.end ≤ end → UpdatedHas operator kind w nodes end flaw → node_of flaw < end
+updated_within : (operator : BinaryOperator) (kind : Option ValueType) (w : Option Worth) (nodes : Nodes) (end : ℕ) (flaw : Flaw) → nodes.first < nodes.end → nodes.end ≤ end → UpdatedHas operator kind w nodes end flaw → node_of flaw < end
 updated_within operator None w nodes end flaw a b has = absurd has
 updated_within operator (Some kind) None nodes end flaw a b has = absurd has
-updated_within operator (Some kind) (Some w) nodes end flaw a b has = fails_within (binary_worth operator (Typed kind) w) nodes nodes end flaw a b a b has
+updated_within operator (Some kind) (Some w) nodes end flaw a b (inl has) =
+    let before : nodes.first < end = omega (arith, a, b) in fails_within (binary_worth operator (Typed kind) w) nodes nodes end flaw before b before b has
+updated_within operator (Some kind) (Some w) nodes end flaw a b (inr has) =
+    omega (arith, value_within (result_ok (binary_worth operator (Typed kind) w)) (Some kind) nodes flaw a has, b)
 
 step_within : (globals : Globals) (scope : Scope) (p : Place) (first : ℕ) (flaw : Flaw) → StepHas globals scope first p flaw → node_of flaw < first + 2
 step_within globals scope p first flaw (inl has) = omega (arith, read_place_within globals scope p first flaw has)
@@ -115,7 +119,7 @@ simple_within globals scope (Define names r) first flaw (inr (inr (inr has))) = 
 simple_within globals scope (Update place operator value) first flaw (inl has) = omega (arith, read_place_within globals scope place first flaw has)
 simple_within globals scope (Update place operator value) first flaw (inr (inl has)) = omega (arith, expression_within globals scope value (first + 1) flaw has)
 simple_within globals scope (Update place operator value) first flaw (inr (inr has)) =
-    let small = updated_within operator (place_type globals scope place) (worth globals scope value) (nodes_of (first + 1) value) (first + 1 + expression_size value + 1) flaw (omega arith) (omega arith) has in omega (arith, small)
+    let small = updated_within operator (place_type globals scope place) (worth globals scope value) (nodes_of (first + 1) value) (first + 1 + expression_size value + 1) flaw (omega (arith, expression_positive value)) (omega arith) has in omega (arith, small)
 
 -- what a clause of a select waits for has at least the nodes of the simple statement that it is
 pub comm_sized : (c : Comm) → simple_size (comm_simple c) ≤ comm_size c

@@ -1,5 +1,6 @@
 -- What is wrong with a simple statement or a declaration, and which variables are visible behind it.
-use Rattle.std.specs.Prelude.{◌≡◌, ℕ, ◌+◌, ◌⊎◌, Bool, true, false, not, ◌&&◌, ◌||◌, if◌then◌else◌, List, [], ◌∷◌, Option, Some, None, option_map, bytes_eq, pos, ℤ, length}
+use Rattle.std.specs.Prelude.{◌≡◌, ℕ, ◌+◌, ◌⊎◌, Bool, true, false, not, ◌&&◌, ◌||◌, if◌then◌else◌, List, [], ◌∷◌, Option, Some, None, Result, option_map, bytes_eq, pos, ℤ, length}
+use Rattle.std.specs.Result.{result_ok}
 use Rattle.std.specs.Option.{is_some, is_none}
 use Rattle.std.specs.List.{list_any}
 use Rattle.go_text.specs.declared.rule.Rule.TheVariants as rules
@@ -8,6 +9,7 @@ use Rattle.syntax.specs.declared.node.BinaryOperator.TheVariants as ops
 use Rattle.syntax.specs.Tree.{TypeExpression, Expression, Arguments, Operation, Receive, Right, RightOperation, Place, Part, Value, Text, Simple, CallAlone, Close, Print, ReceiveAlone, Send, Increment, Decrement, Assign, Define, Update, Comm, CommSend, CommReceive, CommDefine, CommAssign}
 use Rattle.syntax.specs.Measures.{if_any, type_size, expression_size, right_size, part_size, simple_size}
 use Rattle.checker_base.specs.declared.flaw.Flaw.{Flaw}
+use Rattle.checker_base.specs.declared.flaw.Misuse.{Misuse}
 use Rattle.checker_base.specs.Flaws.{Nodes, IsBroken, IsNilAt}
 use Rattle.type_table.specs.Types.{ValueType, IntType, BoolType, ChannelType, StructType}
 use Rattle.type_table.specs.Containment.{Structs}
@@ -29,11 +31,15 @@ PartsHave globals scope first (part ∷ rest) flaw = PartHas globals scope first
 
 -- ---- an assignment with an operator
 
+-- what the operator makes goes to a place of this type
+abbrev pub MadeHas : Result Worth Misuse → ValueType → Nodes → ℕ → Flaw → Type 0
+MadeHas made kind nodes end flaw = Fails made nodes nodes end flaw ⊎ ValueHas (result_ok made) (Some kind) nodes flaw
+
 -- the place is of this type, and the statement is the last node before a number
 abbrev pub UpdatedHas : BinaryOperator → Option ValueType → Option Worth → Nodes → ℕ → Flaw → Type 0
 UpdatedHas operator None w nodes end flaw = ⊥
 UpdatedHas operator (Some kind) None nodes end flaw = ⊥
-UpdatedHas operator (Some kind) (Some w) nodes end flaw = Fails (binary_worth operator (Typed kind) w) nodes nodes end flaw
+UpdatedHas operator (Some kind) (Some w) nodes end flaw = MadeHas (binary_worth operator (Typed kind) w) kind nodes end flaw
 
 -- x++ is x += 1
 abbrev pub StepHas : Globals → Scope → ℕ → Place → Flaw → Type 0

@@ -15,6 +15,7 @@ ghost use Rattle.checker_simple.specs.Simples.{UpdatedHas, StepHas, SimpleHas};
 
 use checker_base::flaw::{Flaw, Operator, misused};
 use checker_base::operand::{Operand, checked};
+use checker_base::value::value;
 use checker_base::worth::{Worth, binary_worth};
 use checker_operation::place::read_place;
 use go_text::Rule;
@@ -41,7 +42,8 @@ pub(crate) fn step(
     }
 }
 
-/// Checks that an operator goes with a place of a type and a value, whose statement's node is the next one.
+/// Checks that an operator goes with a place of a type and a value, and that what it makes goes to the place; the statement's
+/// node is the next one.
 fn updates<'a>(
     table: &TypeTable<'a>,
     operator: BinaryOperator,
@@ -54,7 +56,7 @@ fn updates<'a>(
     ensures one { IfErr result (λ flaw. (k : Option OneType) → k ≡ Some (kind_of (types_of table.now) kind.entry) → (w : Option OneWorth) → w ≡ Some (worth_of (types_of table.now) operand.entry.worth) → (nodes : Nodes) → nodes.first ≡ operand.entry.first → nodes.end ≡ operand.entry.node + 1 → (end : ℕ) → end ≡ operand.entry.node + 2 → UpdatedHas operator k w nodes end flaw) }
 {
     match binary_worth(table, operator, Worth::Typed(kind), operand.worth) {
-        Ok(_) => Ok(()),
+        Ok(worth) => value(table, Operand { worth, ..operand }, kind),
         Err(misuse) => Err(misused(
             misuse,
             Operator {

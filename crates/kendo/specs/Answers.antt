@@ -6,6 +6,7 @@ use Rattle.clap.specs.Simple.{subcommand_of}
 use Rattle.clap.specs.Words.{Text}
 use Rattle.clap.specs.declared.error.kind.ErrorKind.{ErrorKind}
 use Rattle.clap.specs.declared.error.kind.ErrorKind.TheVariants as kinds
+use Rattle.meaning.specs.Source.{source_kind as meaning}
 use Rattle.straight_checker.specs.Source.{source_kind}
 use Rattle.kendo.specs.CommandLine.{IsAsked, kendo}
 use Rattle.kendo.specs.declared.arguments.Subcommand.{Subcommand}
@@ -13,7 +14,8 @@ use Rattle.kendo.specs.declared.arguments.Subcommand.TheVariants as subcommands
 use Rattle.kendo.specs.declared.arguments.Invocation.{Invocation}
 use Rattle.kendo_base.specs.Outcome.{report_status}
 use Rattle.kendo_base.specs.Reading.{HasNoReading, IsUncompiled, IsWhy, Reads, ReadsCompiled}
-use Rattle.kendo_base.specs.Runs.{IsLimit, IsWorkers}
+use Rattle.kendo_base.specs.Runs.{IsWorkers}
+use Rattle.one_thread.specs.Worlds.{IsLimit}
 use Rattle.go_text.specs.declared.fault.Fault.{Fault}
 use Rattle.go_text.specs.declared.fault.Fault.TheVariants as faults
 use Rattle.syntax.specs.Tree.{File}
@@ -33,7 +35,11 @@ HasCode text = (file : File) × ReadsCompiled text file
 abbrev pub EndsAs : List ℕ → ℕ → End → Type 0
 EndsAs text limit end = (file : File) × (n : ℕ) × ReadsCompiled text file × (end_of (moment (source_kind file) limit n) ≡ Some end)
 
--- why the command finds no end: want of memory; a writer that refused bytes, of a text that has code; workers or a limit
+-- the one-thread run of its reading, as the source itself says, at this limit ends so
+abbrev pub MeansEnd : List ℕ → ℕ → End → Type 0
+MeansEnd text limit end = (file : File) × (n : ℕ) × Reads text file × (end_of (moment (meaning file) limit n) ≡ Some end)
+
+-- why the command finds no end: want of memory; a writer that refused bytes, of a text that has code, or a reading where no code is needed; workers or a limit
 -- out of their bounds; that not all of the program is compiled today; or, by this fault, why the text has no reading
 abbrev pub IsReason : Subcommand → List ℕ → Fault → Type 0
 IsReason subcommand text faults.Memory = Unit {0}
@@ -41,6 +47,10 @@ IsReason subcommands.Check text faults.Write = ⊥
 IsReason subcommands.Check text (faults.NotYet place) = ⊥
 IsReason subcommands.Check text faults.BadWorkers = ⊥
 IsReason subcommands.Check text faults.BadLimit = ⊥
+IsReason (subcommands.Reference limit) text faults.Write = HasReading text
+IsReason (subcommands.Reference limit) text (faults.NotYet place) = ⊥
+IsReason (subcommands.Reference limit) text faults.BadWorkers = ⊥
+IsReason (subcommands.Reference limit) text faults.BadLimit = IsLimit limit → ⊥
 IsReason subcommand text faults.Write = HasCode text
 IsReason subcommand text (faults.NotYet place) = IsUncompiled text
 IsReason subcommands.List text faults.BadWorkers = ⊥
@@ -55,6 +65,7 @@ IsReason subcommand text fault = HasNoReading text × IsWhy text fault
 abbrev pub Finds : Subcommand → List ℕ → Result End Fault → Type 0
 Finds subcommands.Check text (Ok end) = (end ≡ Finished) × HasReading text
 Finds subcommands.List text (Ok end) = (end ≡ Finished) × HasCode text
+Finds (subcommands.Reference limit) text (Ok end) = IsLimit limit × MeansEnd text limit end
 Finds (subcommands.Run workers limit) text (Ok end) = IsWorkers workers × IsLimit limit × EndsAs text limit end
 Finds subcommand text (Err fault) = IsReason subcommand text fault
 

@@ -31,15 +31,26 @@ check = with_rule (new_app (codes "check")) file
 abbrev pub list : App
 list = with_rule (new_app (codes "list")) file
 
+-- how many workers there are, and the last logical time
+abbrev pub workers : Rule
+workers = number (codes "workers") (codes "4")
+
+abbrev pub limit : Rule
+limit = number (codes "limit") (codes "1099511627776")
+
+-- kendo reference FILE [--limit L]
+abbrev pub reference : App
+reference = with_rule (with_rule (new_app (codes "reference")) file) limit
+
 -- kendo run FILE [--workers N] [--limit L]
 abbrev pub run : App
-run = with_rule (with_rule (with_rule (new_app (codes "run")) file) (number (codes "workers") (codes "4"))) (number (codes "limit") (codes "1099511627776"))
+run = with_rule (with_rule (with_rule (new_app (codes "run")) file) workers) limit
 
--- one of the three has to be there
+-- one of the four has to be there
 abbrev pub kendo : App
 kendo =
     let named = new_app (codes "kendo") in
-    with_subcommand (with_subcommand (with_subcommand (record named { top = record named.top { subcommand_required = true } }) check.top) list.top) run.top
+    with_subcommand (with_subcommand (with_subcommand (with_subcommand (record named { top = record named.top { subcommand_required = true } }) check.top) list.top) reference.top) run.top
 
 -- ---- what the words ask for
 
@@ -52,6 +63,7 @@ IsNumber (Some text) n = IsNumeral 10 (without_leading_plus text) × (digits_val
 abbrev pub Does : (name : Text) → List Row → Subcommand → Type 0
 Does name rows subcommands.Check = name ≡ codes "check"
 Does name rows subcommands.List = name ≡ codes "list"
+Does name rows (subcommands.Reference limit) = (name ≡ codes "reference") × IsNumber (one_of (codes "limit") rows) limit
 Does name rows (subcommands.Run workers limit) =
     (name ≡ codes "run") × IsNumber (one_of (codes "workers") rows) workers × IsNumber (one_of (codes "limit") rows) limit
 

@@ -2,7 +2,7 @@
 
 ghost use Rattle.std.specs.Prelude.{◌≡◌, false, codes, IfOk};
 ghost use Rattle.clap.specs.Words.{app_of, found_of, one_of, rows_of, rule_of, subcommand_rows_of};
-ghost use Rattle.kendo.specs.CommandLine.{IsAsked, IsDone, IsNumberThere, file, kendo, number};
+ghost use Rattle.kendo.specs.CommandLine.{IsAsked, IsDone, IsNumberThere, file, kendo, limit, number, workers};
 
 use clap::{Arg, ArgAction, ArgMatches, Command, value_parser};
 use std::alloc::{AllocError, Global};
@@ -23,6 +23,11 @@ pub enum Subcommand {
     Check,
     /// Its code is listed.
     List,
+    /// It is interpreted as it stands.
+    Reference {
+        /// The last logical time; the interpreter judges whether it is 1 to 2^62.
+        limit: u64,
+    },
     /// It is run.
     Run {
         /// How many workers; the run judges whether it is 1 to 64.
@@ -62,6 +67,34 @@ fn number_argument<'a>(
         .default_value(default)
 }
 
+/// The option that tells how many workers there are.
+fn workers_argument<'a>(alloc: Global) -> Arg<'a>
+    ensures rule { rule_of result ≡ workers }
+    ensures local { result.global ≡ false }
+{
+    number_argument(
+        alloc,
+        "workers",
+        "N",
+        "How many worker threads, 1 to 64",
+        "4",
+    )
+}
+
+/// The option that tells the last logical time.
+fn limit_argument<'a>(alloc: Global) -> Arg<'a>
+    ensures rule { rule_of result ≡ limit }
+    ensures local { result.global ≡ false }
+{
+    number_argument(
+        alloc,
+        "limit",
+        "L",
+        "The last logical time, 1 to 2^62",
+        "1099511627776",
+    )
+}
+
 /// The command that `main` reads its words with.
 pub(crate) fn command<'a>(alloc: Global) -> Result<Command<'a>, AllocError>
     ensures { IfOk result (λ c. app_of c ≡ kendo) }
@@ -72,30 +105,21 @@ pub(crate) fn command<'a>(alloc: Global) -> Result<Command<'a>, AllocError>
     let list = Command::new(alloc, "list")
         .about("Lists the code of a program")
         .arg(file_argument(alloc))?;
-    let workers = number_argument(
-        alloc,
-        "workers",
-        "N",
-        "How many worker threads, 1 to 64",
-        "4",
-    );
-    let limit = number_argument(
-        alloc,
-        "limit",
-        "L",
-        "The last logical time, 1 to 2^62",
-        "1099511627776",
-    );
+    let reference = Command::new(alloc, "reference")
+        .about("Interprets a program as it stands")
+        .arg(file_argument(alloc))?
+        .arg(limit_argument(alloc))?;
     let run = Command::new(alloc, "run")
         .about("Runs a program")
         .arg(file_argument(alloc))?
-        .arg(workers)?
-        .arg(limit)?;
+        .arg(workers_argument(alloc))?
+        .arg(limit_argument(alloc))?;
     Command::new(alloc, "kendo")
         .about("Compiles and runs programs of a Go subset")
         .subcommand_required(true)
         .subcommand(check)?
         .subcommand(list)?
+        .subcommand(reference)?
         .subcommand(run)
 }
 
@@ -113,6 +137,9 @@ fn subcommand_named(name: &str, matches: &ArgMatches<'_>) -> Option<Subcommand>
     match name {
         "check" => Some(Subcommand::Check),
         "list" => Some(Subcommand::List),
+        "reference" => Some(Subcommand::Reference {
+            limit: option_number(matches, "limit")?,
+        }),
         "run" => Some(Subcommand::Run {
             workers: option_number(matches, "workers")?,
             limit: option_number(matches, "limit")?,

@@ -3,9 +3,10 @@
 
 ghost use Rattle.std.specs.Prelude.{◌≡◌, ◌⊎◌, ◌↔◌, ◌≤◌, IsErr, IsErrOf, IfErr, IfOk, map, string_bytes};
 ghost use Rattle.clap.specs.Values.{kind_of};
-ghost use Rattle.kendo.specs.Answers.{EndsAs, Finds, HasCode, HasReading, IsStatus, Obeys, ShowsAs, Tells};
+ghost use Rattle.kendo.specs.Answers.{EndsAs, Finds, HasCode, HasReading, IsStatus, MeansEnd, Obeys, ShowsAs, Tells};
 ghost use Rattle.kendo_base.specs.Reading.{HasNoReading, IsNotYet, IsOfText, IsRefusal, IsUncompiled, IsWhy, fault_number};
-ghost use Rattle.kendo_base.specs.Runs.{IsLimit, IsWorkers};
+ghost use Rattle.kendo_base.specs.Runs.{IsWorkers};
+ghost use Rattle.one_thread.specs.Worlds.{IsLimit};
 
 mod arguments;
 #[cfg(test)]
@@ -15,7 +16,7 @@ use arguments::{Invocation, Subcommand, command, invocation_of};
 use clap::error::ErrorKind;
 use go_text::source::MAX_LENGTH;
 use go_text::{Fault, Memory};
-use kendo_base::{Gate, check_bytes, list_bytes, report, run_bytes};
+use kendo_base::{Gate, check_bytes, list_bytes, reference_bytes, report, run_bytes};
 use std::alloc::Global;
 use std::fs::File;
 use std::io::{BufWriter, Read as _, Write as _};
@@ -128,7 +129,7 @@ fn show(rt: &HostRuntime, error: &clap::Error) -> Result<u8, Memory>
     }
 }
 
-/// Checks, lists or runs the file, and tells how it ended.
+/// Checks, lists, interprets or runs the file, and tells how it ended.
 #[tactic(auto, using(crate::proofs::Findings::told))]
 fn perform(
     rt: &HostRuntime,
@@ -154,7 +155,7 @@ fn perform(
     Ok(status)
 }
 
-/// What the command finds in the text, which it checks, lists or runs.
+/// What the command finds in the text, which it checks, lists, interprets or runs.
 #[tactic(auto, using(crate::proofs::Findings::check_finds, crate::proofs::Findings::list_finds))]
 fn find(
     rt: &HostRuntime,
@@ -168,6 +169,7 @@ fn find(
     match subcommand {
         Subcommand::Check => check(alloc, bytes),
         Subcommand::List => list(rt, alloc, bytes),
+        Subcommand::Reference { limit } => interpret(rt, alloc, bytes, limit),
         Subcommand::Run { workers, limit } => run(rt, leave, alloc, bytes, workers, limit),
     }
 }
@@ -206,6 +208,22 @@ fn list(rt: &HostRuntime, alloc: Global, bytes: Vec<u8>) -> Result<End, Fault>
     list_bytes(alloc, bytes, &mut out)?;
     flush(out)?;
     Ok(End::Finished)
+}
+
+/// Interprets the text as it stands, with standard output behind a buffer.
+fn interpret(rt: &HostRuntime, alloc: Global, bytes: Vec<u8>, limit: u64) -> Result<End, Fault>
+    ensures ends { IfOk result (λ end. IsLimit limit × MeansEnd bytes.items limit end) }
+    ensures refused { IfErr result (λ fault. IsRefusal fault → HasNoReading bytes.items) }
+    ensures why { IfErr result (λ fault. IsRefusal fault → IsWhy bytes.items fault) }
+    ensures limit { IsErrOf result Fault.BadLimit → IsLimit limit → ⊥ }
+    ensures write { IsErrOf result Fault.Write → HasReading bytes.items }
+    ensures only { IfErr result (λ fault. IsRefusal fault ⊎ ((fault ≡ Fault.Memory) ⊎ ((fault ≡ Fault.Write) ⊎ (fault ≡ Fault.BadLimit)))) }
+{
+    let stdout = BufWriter::new(alloc, rt.stdout()).map_err(|_| Fault::Memory)?;
+    let mut out = Flagged::new(stdout);
+    let end = reference_bytes(alloc, bytes, limit, &mut out)?;
+    flush(out)?;
+    Ok(end)
 }
 
 /// Runs the text with standard output behind a buffer.

@@ -31,7 +31,16 @@ fn accepted_words(rt: HostRuntime) -> Result<(), Fail> {
 #[test]
 fn accepted_commands_of_a_file(rt: HostRuntime) -> Result<(), Fail> {
     let file = "a.go";
-    for (name, subcommand) in [("check", Subcommand::Check), ("list", Subcommand::List)] {
+    for (name, subcommand) in [
+        ("check", Subcommand::Check),
+        ("list", Subcommand::List),
+        (
+            "reference",
+            Subcommand::Reference {
+                limit: 1_099_511_627_776,
+            },
+        ),
+    ] {
         let words = ["kendo", name, file];
         let Ok(matches) = command(rt.alloc())?.try_get_matches_from(words.as_slice()) else {
             panic!(rt; "refused: {name}");

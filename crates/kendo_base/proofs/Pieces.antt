@@ -14,7 +14,8 @@ use Rattle.word.specs.declared.end.End.{End as Ending}
 use Rattle.word.specs.Kinds.{GoroutineKind}
 use Rattle.word.specs.Worlds.{Equal, moment}
 use Rattle.word.proofs.Outputs.{outputs_begin}
-use Rattle.kendo_base.specs.Runs.{BeginsOutput, IsSameRun, IsWhole, Written}
+use Rattle.kendo_base.specs.Runs.{IsSameRun, Written}
+use Rattle.one_thread.specs.Worlds.{BeginsOutput, IsWhole}
 
 pub appends_more : (old mid new : Option (List ℕ)) (xs ys : List ℕ) → Appends old mid xs → Appends mid new ys → Appends old new (xs ++ ys)
 appends_more None mid new xs ys a b = tt

@@ -3,6 +3,7 @@
 
 mod checking;
 pub mod gate;
+mod interpretation;
 mod listing;
 pub mod outcome;
 mod reading;
@@ -11,6 +12,7 @@ mod running;
 
 pub use checking::check_bytes;
 pub use gate::Gate;
+pub use interpretation::reference_bytes;
 pub use listing::list_bytes;
 pub use outcome::report;
 pub use run::run_bytes;

@@ -3,7 +3,8 @@
 ghost use Rattle.std.specs.Prelude.{◌≡◌, ◌≤◌, ◌⊎◌, ◌↔◌, IfErr, IfOk, IsErrOf, true};
 ghost use Rattle.straight_checker.specs.Source.{source_kind};
 ghost use Rattle.kendo_base.specs.Reading.{HasNoReading, IsNotYet, IsRefusal, IsUncompiled, IsWhy, ReadsCompiled, fault_number};
-ghost use Rattle.kendo_base.specs.Runs.{BeginsOutput, IsLimit, IsWhole, IsWorkers};
+ghost use Rattle.kendo_base.specs.Runs.{IsWorkers};
+ghost use Rattle.one_thread.specs.Worlds.{BeginsOutput, IsLimit, IsWhole};
 ghost use Rattle.syntax.specs.Tree.{File};
 
 use crate::gate::Gate;

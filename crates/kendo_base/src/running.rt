@@ -6,7 +6,8 @@ ghost use Rattle.straight_checker.specs.Source.{source_kind};
 ghost use Rattle.straight_checker.specs.Typed.{tree_in};
 ghost use Rattle.syntax.specs.Spans.{tree_of};
 ghost use Rattle.syntax.specs.Measures.{most_entries};
-ghost use Rattle.kendo_base.specs.Runs.{BeginsOutput, HasEnded, IsInStep, IsLimit, IsSameRun, IsWhole, Written};
+ghost use Rattle.kendo_base.specs.Runs.{HasEnded, IsInStep, IsSameRun, Written};
+ghost use Rattle.one_thread.specs.Worlds.{BeginsOutput, IsLimit, IsWhole};
 
 use book::{Book, Settled};
 use codegen::compile;

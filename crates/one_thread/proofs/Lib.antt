@@ -2,3 +2,4 @@ pub mod After
 pub mod Moves
 pub mod Orderly
 pub mod Standing
+pub mod Within

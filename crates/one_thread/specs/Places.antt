@@ -1,5 +1,6 @@
 -- Goroutines in memory, goroutine n at place n, and what changes of them.
-use Rattle.std.specs.Prelude.{◌≡◌, ◌≢◌, ℕ, ◌+◌, true, cond, List, [], ◌∷◌, map, Option, Some, None, option_map, slice_index_or, slice_set}
+use Rattle.std.specs.Prelude.{◌≡◌, ◌≢◌, ◌≤◌, ℕ, ◌+◌, true, cond, List, [], ◌∷◌, map, Option, Some, None, option_map, slice_index_or, slice_set}
+use Rattle.std.specs.List.{All}
 use Rattle.turn_rule.specs.Turns.{move_at}
 use Rattle.word.specs.Values.{Reply, Exhausted}
 use Rattle.word.specs.Kinds.{Clocked, GoroutineKind, asks, local, told}
@@ -13,6 +14,20 @@ use Rattle.one_thread.specs.declared.goroutine.Turn.TheVariants as turns
 abbrev pub clock_of : {S : Type 0} → Option (Goroutine S) → Option ℕ
 clock_of None = None
 clock_of (Some g) = cond g.asleep None (Some g.clock)
+
+-- no clock is beyond the limit
+abbrev pub IsWithin : {S : Type 0} → ℕ → Option (Goroutine S) → Type 0
+IsWithin limit None = Unit {0}
+IsWithin limit (Some g) = g.clock ≤ limit
+
+abbrev pub AreWithin : {S : Type 0} → ℕ → List (Option (Goroutine S)) → Type 0
+AreWithin limit places = All (IsWithin limit) places
+
+-- nor is that of who goes on
+abbrev pub IsSoon : ℕ → Turn → Type 0
+IsSoon limit turns.Stepped = Unit {0}
+IsSoon limit (turns.Asks request later) = later ≤ limit
+IsSoon limit turns.Exhausted = Unit {0}
 
 -- what stands at a place
 abbrev pub here : {A B : Type 0} → (Option A → Option B) → List (Option A) → ℕ → Option B

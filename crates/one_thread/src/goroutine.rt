@@ -1,15 +1,15 @@
 //! A goroutine with its clock.
 
-ghost use Rattle.std.specs.Prelude.{◌≡◌, ◌+◌, ◌==◌, IfOk, MatchOption, OnOk, false, true};
+ghost use Rattle.std.specs.Prelude.{◌≡◌, ◌+◌, ◌==◌, ◌^◌, ◌≤◌, IfOk, IfSome, MatchOption, OnOk, false, true};
 ghost use Rattle.word.specs.Kinds.{told};
 ghost use Rattle.word.specs.Related.{kind_of};
 ghost use Rattle.word.specs.Views.{reply_of};
 ghost use Rattle.one_thread.specs.Steps.{Advances, asking};
-ghost use Rattle.one_thread.specs.Places.{clocked};
+ghost use Rattle.one_thread.specs.Places.{IsSoon, clocked};
 
 use crate::interpreter::{Interpreter, Step};
 use go_text::Memory;
-use logical_clock::{Clock, LAST, tick};
+use logical_clock::{Clock, tick};
 use std::alloc::Global;
 use word::panic::Panic;
 use word::request::{Reply, Request};
@@ -41,10 +41,14 @@ pub(crate) fn advance<P: Interpreter>(
     goroutine: &mut Goroutine<P::State>,
     limit: u64,
 ) -> Result<Turn, Memory>
+    requires within { goroutine.old.clock ≤ limit }
+    requires limit { limit ≤ 2 ^ 62 }
+    ensures within { OnOk result (goroutine.new.clock ≤ limit) }
+    ensures soon { IfOk result (IsSoon limit) }
     ensures turn { IfOk result (λ turn. Advances (kind_of (P.parts program.now)) limit turn (clocked (P.held program.now) goroutine.old) (clocked (P.held program.now) goroutine.new)) }
     ensures asleep { OnOk result (goroutine.new.asleep ≡ goroutine.old.asleep) }
 {
-    let later = later(goroutine.clock, limit)?;
+    let later = later(goroutine.clock, limit);
     if goroutine.doomed {
         return Ok(asking(Request::Panic(Panic::SendOnClosed), later));
     }
@@ -62,21 +66,18 @@ pub(crate) fn advance<P: Interpreter>(
 }
 
 /// The clock one later; none at the limit, which no clock is beyond.
-fn later(clock: Clock, limit: u64) -> Result<Option<Clock>, Memory>
-    ensures { IfOk result (λ later. MatchOption later ((clock == limit) ≡ true) (λ next. ((clock == limit) ≡ false) × (next ≡ clock + 1))) }
+fn later(clock: Clock, limit: u64) -> Option<Clock>
+    requires clock { clock ≤ limit }
+    requires limit { limit ≤ 2 ^ 62 }
+    ensures { MatchOption result ((clock == limit) ≡ true) (λ later. ((clock == limit) ≡ false) × (later ≡ clock + 1) × (later ≤ limit)) }
 {
-    if clock.time() == limit {
-        return Ok(None);
-    }
-    match tick(clock, LAST) {
-        Some(next) => Ok(Some(next)),
-        None => Err(Memory),
-    }
+    tick(clock, limit)
 }
 
 /// Who asks at the limit is exhausted.
 fn asking(request: Request, later: Option<Clock>) -> Turn
-    ensures { result ≡ asking request later }
+    ensures turn { result ≡ asking request later }
+    ensures soon { (limit : _) → IfSome later (λ later. later ≤ limit) → IsSoon limit result }
 {
     match later {
         Some(later) => Turn::Asks(request, later),
@@ -94,6 +95,7 @@ pub(crate) fn tell<P: Interpreter>(
 ) -> Result<(), Memory>
     ensures told { OnOk result (clocked (P.held program.now) goroutine.new ≡ told (kind_of (P.parts program.now)) (clocked (P.held program.now) goroutine.old) clock (reply_of reply)) }
     ensures awake { OnOk result (goroutine.new.asleep ≡ false) }
+    ensures clock { OnOk result (goroutine.new.clock ≡ clock) }
 {
     goroutine.clock = clock;
     goroutine.asleep = false;

@@ -5,7 +5,7 @@ ghost use Rattle.logical_clock.specs.Order.{keys, least};
 ghost use Rattle.word.specs.Kinds.{Clocked, told};
 ghost use Rattle.word.specs.Related.{kind_of};
 ghost use Rattle.word.specs.Views.{reply_of};
-ghost use Rattle.one_thread.specs.Places.{AdvancesAt, IsLaid, Sets, Wakes, awake_of, bed_at, clock_of, here, woken_to};
+ghost use Rattle.one_thread.specs.Places.{AdvancesAt, AreWithin, IsLaid, IsSoon, Sets, Wakes, awake_of, bed_at, clock_of, here, woken_to};
 
 use crate::goroutine::{Goroutine, Turn, advance, tell};
 use crate::interpreter::Interpreter;
@@ -45,7 +45,11 @@ pub(crate) fn advance_at<P: Interpreter>(
     place: usize,
     limit: u64,
 ) -> Result<Turn, Memory>
-    ensures { IfOk result (λ turn. AdvancesAt (kind_of (P.parts program.now)) (P.held program.now) limit turn places.old place places.new) }
+    requires within { AreWithin limit places.old }
+    requires limit { limit ≤ 2 ^ 62 }
+    ensures within { OnOk result (AreWithin limit places.new) }
+    ensures soon { IfOk result (IsSoon limit) }
+    ensures turn { IfOk result (λ turn. AdvancesAt (kind_of (P.parts program.now)) (P.held program.now) limit turn places.old place places.new) }
 {
     if place >= places.len() {
         return Ok(Turn::Stepped);
@@ -69,7 +73,8 @@ pub(crate) fn tell_at<P: Interpreter>(
     clock: Clock,
     reply: Reply,
 ) -> Result<(), Memory>
-    ensures { OnOk result ((s : Clocked P.Held) → here (awake_of (P.held program.now)) places.old place ≡ Some s → Sets (P.held program.now) places.old places.new place (Some (told (kind_of (P.parts program.now)) s clock (reply_of reply))) None) }
+    ensures within { OnOk result ((limit : ℕ) → clock ≤ limit → AreWithin limit places.old → AreWithin limit places.new) }
+    ensures told { OnOk result ((s : Clocked P.Held) → here (awake_of (P.held program.now)) places.old place ≡ Some s → Sets (P.held program.now) places.old places.new place (Some (told (kind_of (P.parts program.now)) s clock (reply_of reply))) None) }
 {
     if place >= places.len() {
         return Ok(());
@@ -90,7 +95,8 @@ fn wake_at<P: Interpreter>(
     clock: Clock,
     reply: Reply,
 ) -> Result<(), Memory>
-    ensures { OnOk result (Sets (P.held program.now) places.old places.new place (woken_to (kind_of (P.parts program.now)) clock (reply_of reply) (bed_at (P.held program.now) places.old place)) None) }
+    ensures within { OnOk result ((limit : ℕ) → clock ≤ limit → AreWithin limit places.old → AreWithin limit places.new) }
+    ensures woken { OnOk result (Sets (P.held program.now) places.old places.new place (woken_to (kind_of (P.parts program.now)) clock (reply_of reply) (bed_at (P.held program.now) places.old place)) None) }
 {
     if place >= places.len() {
         return Ok(());
@@ -113,7 +119,8 @@ pub(crate) fn wake_all<P: Interpreter>(
     clock: Clock,
     woken: Vec<Woken>,
 ) -> Result<(), Memory>
-    ensures { OnOk result (Wakes (kind_of (P.parts program.now)) (P.held program.now) clock places.old woken.items places.new) }
+    ensures within { OnOk result ((limit : ℕ) → clock ≤ limit → AreWithin limit places.old → AreWithin limit places.new) }
+    ensures woken { OnOk result (Wakes (kind_of (P.parts program.now)) (P.held program.now) clock places.old woken.items places.new) }
 {
     for one in woken {
         wake_at(
@@ -131,7 +138,8 @@ pub(crate) fn wake_all<P: Interpreter>(
 /// The awake goroutine at this place falls asleep.
 #[tactic(auto, using(crate::proofs::Standing::laid, crate::proofs::Standing::beyond))]
 pub(crate) fn lay<S: Drop>(places: &mut [Option<Goroutine<S>>], place: usize)
-    ensures { IsLaid places.old place places.new }
+    ensures within { (limit : ℕ) → AreWithin limit places.old → AreWithin limit places.new }
+    ensures laid { IsLaid places.old place places.new }
 {
     if place >= places.len() {
         return;
@@ -144,7 +152,8 @@ pub(crate) fn lay<S: Drop>(places: &mut [Option<Goroutine<S>>], place: usize)
 
 /// The awake goroutine at this place has ended.
 pub(crate) fn end<S: Drop>(places: &mut [Option<Goroutine<S>>], place: usize)
-    ensures { places.new ≡ slice_set places.old place None }
+    ensures within { (limit : ℕ) → AreWithin limit places.old → AreWithin limit places.new }
+    ensures ended { places.new ≡ slice_set places.old place None }
 {
     if place < places.len() {
         places[place] = None;

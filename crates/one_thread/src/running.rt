@@ -6,7 +6,7 @@ ghost use Rattle.word.specs.Kinds.{Clocked};
 ghost use Rattle.word.specs.Related.{kind_of};
 ghost use Rattle.word.specs.Values.{Request as AnyRequest};
 ghost use Rattle.word.specs.Views.{request_of};
-ghost use Rattle.one_thread.specs.Places.{awake_of, here};
+ghost use Rattle.one_thread.specs.Places.{AreWithin, awake_of, here};
 ghost use Rattle.one_thread.specs.Worlds.{Applies, BeginsOutput, Goes, IsAsked, IsLimit, IsOpen, IsWhole, Stands, printed};
 
 use crate::goroutine::{Goroutine, Turn};
@@ -22,6 +22,8 @@ use word::{Write, write_all};
 
 /// Runs goroutine 1 at `main`, and all that come of it, up to the clock limit (1 to 2^62 steps), and answers how the run
 /// ended. What is written begins the output of the one-thread run; at an end it is all of it.
+///
+/// Errors: `BadLimit`; `Write`; `Memory`, as which 2^192 moves count, since no run makes so many.
 pub fn run<P: Interpreter, W: Write>(
     alloc: Global,
     program: &P,
@@ -49,6 +51,7 @@ fn run_below<P: Interpreter, W: Write>(
     limit: u64,
     output: &mut W,
 ) -> Result<End, Fault>
+    requires { limit ≤ 2 ^ 62 }
     ensures begins { BeginsOutput (kind_of (P.parts program.now)) limit (W.contents output.old) (W.contents output.new) }
     ensures whole { IfOk result (λ end. IsWhole (kind_of (P.parts program.now)) limit (W.contents output.old) (W.contents output.new) end) }
     ensures write { IsErrOf result Fault.Write → W.has_failed output.new ≡ true }
@@ -69,7 +72,8 @@ fn opening<P: Interpreter>(
     alloc: Global,
     program: &P,
 ) -> Result<Vec<Option<Goroutine<P::State>>>, Memory>
-    ensures { IfOk result (λ places. IsOpen (kind_of (P.parts program.now)) (P.held program.now) places.items) }
+    ensures within { (limit : ℕ) → IfOk result (λ places. AreWithin limit places.items) }
+    ensures open { IfOk result (λ places. IsOpen (kind_of (P.parts program.now)) (P.held program.now) places.items) }
 {
     let state = program.begin(alloc, program.main(), [].as_slice())?;
     let mut places = Vec::new(alloc);
@@ -92,7 +96,10 @@ fn most_moves<P: Interpreter, W: Write>(
     limit: u64,
     output: &mut W,
 ) -> Result<Option<End>, Fault>
-    requires { shared.old.ending ≡ None }
+    requires going { shared.old.ending ≡ None }
+    requires within { AreWithin limit places.old.items }
+    requires limit { limit ≤ 2 ^ 62 }
+    ensures within { OnOk result (AreWithin limit places.new.items) }
     ensures goes { IfOk result (λ ending. (known : Option (List ℕ)) → Stands (kind_of (P.parts program.now)) (P.held program.now) limit known (W.contents output.old) places.old.items shared.old → Goes (kind_of (P.parts program.now)) (P.held program.now) limit known (W.contents output.new) places.new.items shared.new ending) }
     ensures begins { (known : Option (List ℕ)) → Stands (kind_of (P.parts program.now)) (P.held program.now) limit known (W.contents output.old) places.old.items shared.old → BeginsOutput (kind_of (P.parts program.now)) limit known (W.contents output.new) }
     ensures going { IfOk result (λ ending. ending ≡ None → shared.new.ending ≡ None) }
@@ -116,7 +123,10 @@ fn moves<P: Interpreter, W: Write>(
     limit: u64,
     output: &mut W,
 ) -> Result<Option<End>, Fault>
-    requires { shared.old.ending ≡ None }
+    requires going { shared.old.ending ≡ None }
+    requires within { AreWithin limit places.old.items }
+    requires limit { limit ≤ 2 ^ 62 }
+    ensures within { OnOk result (AreWithin limit places.new.items) }
     ensures goes { IfOk result (λ ending. (known : Option (List ℕ)) → Stands (kind_of (P.parts program.now)) (P.held program.now) limit known (W.contents output.old) places.old.items shared.old → Goes (kind_of (P.parts program.now)) (P.held program.now) limit known (W.contents output.new) places.new.items shared.new ending) }
     ensures begins { (known : Option (List ℕ)) → Stands (kind_of (P.parts program.now)) (P.held program.now) limit known (W.contents output.old) places.old.items shared.old → BeginsOutput (kind_of (P.parts program.now)) limit known (W.contents output.new) }
     ensures going { IfOk result (λ ending. ending ≡ None → shared.new.ending ≡ None) }
@@ -140,7 +150,10 @@ fn one_move<P: Interpreter, W: Write>(
     limit: u64,
     output: &mut W,
 ) -> Result<Option<End>, Fault>
-    requires { shared.old.ending ≡ None }
+    requires going { shared.old.ending ≡ None }
+    requires within { AreWithin limit places.old.items }
+    requires limit { limit ≤ 2 ^ 62 }
+    ensures within { OnOk result (AreWithin limit places.new.items) }
     ensures goes { IfOk result (λ ending. (known : Option (List ℕ)) → Stands (kind_of (P.parts program.now)) (P.held program.now) limit known (W.contents output.old) places.old.items shared.old → Goes (kind_of (P.parts program.now)) (P.held program.now) limit known (W.contents output.new) places.new.items shared.new ending) }
     ensures begins { (known : Option (List ℕ)) → Stands (kind_of (P.parts program.now)) (P.held program.now) limit known (W.contents output.old) places.old.items shared.old → BeginsOutput (kind_of (P.parts program.now)) limit known (W.contents output.new) }
     ensures going { IfOk result (λ ending. ending ≡ None → shared.new.ending ≡ None) }
@@ -175,6 +188,7 @@ fn perform<P: Interpreter, W: Write>(
     output: &mut W,
 ) -> Result<Option<End>, Fault>
     requires { shared.old.ending ≡ None }
+    ensures within { OnOk result ((limit : ℕ) → later ≤ limit → AreWithin limit places.old.items → AreWithin limit places.new.items) }
     ensures goes { IfOk result (λ ending. (limit : ℕ) (known : Option (List ℕ)) → IsAsked (kind_of (P.parts program.now)) (P.held program.now) limit places.old.items place later (request_of request) → Stands (kind_of (P.parts program.now)) (P.held program.now) limit known (W.contents output.old) places.old.items shared.old → Goes (kind_of (P.parts program.now)) (P.held program.now) limit known (W.contents output.new) places.new.items shared.new ending) }
     ensures begins { (limit : ℕ) (known : Option (List ℕ)) → IsAsked (kind_of (P.parts program.now)) (P.held program.now) limit places.old.items place later (request_of request) → Stands (kind_of (P.parts program.now)) (P.held program.now) limit known (W.contents output.old) places.old.items shared.old → BeginsOutput (kind_of (P.parts program.now)) limit known (W.contents output.new) }
     ensures going { IfOk result (λ ending. ending ≡ None → shared.new.ending ≡ None) }
@@ -212,7 +226,8 @@ fn apply<P: Interpreter>(
     later: Clock,
     deed: Deed,
 ) -> Result<(), Memory>
-    ensures { OnOk result ((s : Clocked P.Held) → here (awake_of (P.held program.now)) places.old.items place ≡ Some s → Applies (kind_of (P.parts program.now)) (P.held program.now) later place s deed places.old.items places.new.items) }
+    ensures within { OnOk result ((limit : ℕ) → later ≤ limit → AreWithin limit places.old.items → AreWithin limit places.new.items) }
+    ensures applies { OnOk result ((s : Clocked P.Held) → here (awake_of (P.held program.now)) places.old.items place ≡ Some s → Applies (kind_of (P.parts program.now)) (P.held program.now) later place s deed places.old.items places.new.items) }
 {
     match deed {
         Deed::Done(reply, woken) => {

@@ -1,2 +1,3 @@
 pub mod Programs
 pub mod Calls
+pub mod Bodies

@@ -2,21 +2,18 @@
 use Rattle.std.specs.Prelude.{◌≡◌, ℕ, List, ◌∷◌}
 use Rattle.word.specs.Kinds.{Next, Slides, Ticks, Asks}
 use Rattle.word.specs.Values.{Panic}
-use Rattle.word.specs.Views.{request_of}
 use Rattle.meaning.specs.Tasks.{Frames}
 use Rattle.reference_value.specs.declared.fault.Stop.{Stop}
 use Rattle.reference_value.specs.declared.fault.Stop.TheVariants as stops
 use Rattle.reference_base.specs.Tasks.{frame_of, frames_of}
 use Rattle.reference_base.specs.declared.outcome.Move.{Move}
 use Rattle.reference_base.specs.declared.outcome.Move.TheVariants as moves
-use Rattle.reference_base.specs.declared.outcome.Step.{Step}
-use Rattle.reference_base.specs.declared.outcome.Step.TheVariants as steps
 use Rattle.reference_base.specs.declared.task.Frame.{Frame}
 
--- a panic is what is asked next; want of memory says nothing
-abbrev pub Panics : Next Frames → Stop → Type 0
-Panics next stops.Memory = Unit {0}
-Panics next (stops.Panics cause) = next ≡ Asks (Panic cause)
+-- a panic is what is asked next, and the function that runs stays as it was; want of memory says nothing
+abbrev pub Panics : Next Frames → List (List ℕ) → Frame → Frame → Stop → Type 0
+Panics next types new old stops.Memory = Unit {0}
+Panics next types new old (stops.Panics cause) = (next ≡ Asks (Panic cause)) × (frame_of types new ≡ frame_of types old)
 
 -- the function that runs and its callers go on so
 abbrev pub Goes : Next Frames → List (List ℕ) → Frame → List Frame → Type 0
@@ -29,9 +26,3 @@ went types (moves.Calls new) top callers = Ticks (frame_of types new ∷ (frame_
 
 abbrev pub Went : Next Frames → List (List ℕ) → Move → Frame → List Frame → Type 0
 Went next types move top callers = next ≡ went types move top callers
-
--- what was done of what comes next. One that asks stays as it is, and what it asks is a copy
-abbrev pub Moves : Next Frames → Step → Frames → Frames → Type 0
-Moves next steps.Slides new old = next ≡ Slides new
-Moves next steps.Ticks new old = next ≡ Ticks new
-Moves next (steps.Asks request) new old = (next ≡ Asks (request_of request)) × (new ≡ old)

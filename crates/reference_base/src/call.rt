@@ -165,18 +165,18 @@ pub fn called<'t>(
 fn function_in<'t>(tops: &'t [TopNode], number: usize) -> Option<&'t FunctionNode>
     ensures { option_map (λ f. function_of f.now) result ≡ slice_get (functions_in (map top_of tops.now)) number }
 {
-    let Some((first, rest)) = tops.split_first() else {
-        return None;
-    };
-    match first {
-        TopNode::Struct(_) => function_in(rest, number),
-        TopNode::Function(function) => {
-            if number == 0 {
+    let mut left = tops;
+    let mut before = number;
+    while let Some((first, rest)) = left.split_first() {
+        left = rest;
+        if let TopNode::Function(function) = first {
+            if before == 0 {
                 return Some(function);
             }
-            function_in(rest, number - 1)
+            before -= 1;
         }
     }
+    None
 }
 
 /// The function with this number.
@@ -209,7 +209,7 @@ fn enter<'t>(
     arguments: &[Vec<Word>],
 ) -> Result<Move<'t>, Stop>
     ensures ok { IfOk result (λ move. Went (calls (file_of program.now.file.now) (blocks_of (types_of program.now.table) top.old.scope) (tasks_of (types_of program.now.table) top.old.tasks.items) (frames_of (types_of program.now.table) callers.now) (purpose_of (types_of program.now.table) purpose.entry) number (values_of arguments.now)) (types_of program.now.table) move top.new callers.now) }
-    ensures err { IfErr result (Panics (calls (file_of program.now.file.now) (blocks_of (types_of program.now.table) top.old.scope) (tasks_of (types_of program.now.table) top.old.tasks.items) (frames_of (types_of program.now.table) callers.now) (purpose_of (types_of program.now.table) purpose.entry) number (values_of arguments.now))) }
+    ensures err { IfErr result (Panics (calls (file_of program.now.file.now) (blocks_of (types_of program.now.table) top.old.scope) (tasks_of (types_of program.now.table) top.old.tasks.items) (frames_of (types_of program.now.table) callers.now) (purpose_of (types_of program.now.table) purpose.entry) number (values_of arguments.now)) (types_of program.now.table) top.new top.old) }
 {
     let Some(function) = function_of(program, number) else {
         return Ok(Move::Slides);
@@ -236,7 +236,7 @@ pub fn call<'t>(
     purpose: Purpose<'t>,
 ) -> Result<Move<'t>, Stop>
     ensures ok { IfOk result (λ move. Went (operates (file_of program.now.file.now) (blocks_of (types_of program.now.table) top.old.scope) (tasks_of (types_of program.now.table) top.old.tasks.items) (frames_of (types_of program.now.table) callers.now) (Call (name_of name.now) (arguments_of arguments.now)) (purpose_of (types_of program.now.table) purpose.entry)) (types_of program.now.table) move top.new callers.now) }
-    ensures err { IfErr result (Panics (operates (file_of program.now.file.now) (blocks_of (types_of program.now.table) top.old.scope) (tasks_of (types_of program.now.table) top.old.tasks.items) (frames_of (types_of program.now.table) callers.now) (Call (name_of name.now) (arguments_of arguments.now)) (purpose_of (types_of program.now.table) purpose.entry))) }
+    ensures err { IfErr result (Panics (operates (file_of program.now.file.now) (blocks_of (types_of program.now.table) top.old.scope) (tasks_of (types_of program.now.table) top.old.tasks.items) (frames_of (types_of program.now.table) callers.now) (Call (name_of name.now) (arguments_of arguments.now)) (purpose_of (types_of program.now.table) purpose.entry)) (types_of program.now.table) top.new top.old) }
 {
     let all = values(
         alloc,

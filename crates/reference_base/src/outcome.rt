@@ -1,7 +1,6 @@
-//! What a task did, and what a step did.
+//! What a task did.
 
 use crate::task::Frame;
-use word::request::Request;
 
 /// What a task did.
 #[derive(Drop)]
@@ -10,15 +9,4 @@ pub enum Move<'t> {
     Slides,
     /// It waits for this one that it calls, which costs one.
     Calls(Frame<'t>),
-}
-
-/// What a step did.
-#[derive(Drop)]
-pub enum Step {
-    /// A step that costs nothing.
-    Slides,
-    /// A step that costs one.
-    Ticks,
-    /// None: the goroutine asks this.
-    Asks(Request),
 }

@@ -34,7 +34,7 @@ fn number_in(table: &TypeTable<'_>, name: &[u8]) -> Option<usize>
 impl<'t> Program<'t> {
     /// The number of the function of this name.
     #[tactic(auto, using(crate::proofs::Programs::number_meant))]
-    pub(crate) fn number_of(&self, name: &[u8]) -> u32
+    pub fn number_of(&self, name: &[u8]) -> u32
         ensures { result ≡ number_of (globals (file_of self.now.file.now)) name.now }
     {
         match number_in(&self.table, name) {

@@ -109,14 +109,15 @@ impl<'t> Frame<'t> {
     }
 
     /// These statements are to be done first.
+    #[tactic(auto, using(crate::proofs::Bodies::last_first))]
     pub fn push_all(&mut self, alloc: Global, body: &'t [StatementNode]) -> Result<(), AllocError>
         ensures { (types : List (List ℕ)) → OnOk result (frame_of types self.new ≡ frame (blocks_of types self.old.scope) (all_of (body_of body.now) ++ tasks_of types self.old.tasks.items)) }
     {
-        let Some((first, rest)) = body.split_first() else {
-            return Ok(());
-        };
-        self.push_all(alloc, rest)?;
-        self.push(Task::Do(Box::new(alloc, first)?))?;
+        let mut left = body;
+        while let Some((last, before)) = left.split_last() {
+            self.push(Task::Do(Box::new(alloc, last)?))?;
+            left = before;
+        }
         Ok(())
     }
 }

@@ -1,8 +1,8 @@
 //! The steps of goroutines as the source says: what each task does, and what becomes of replies.
 #![tactic(auto)]
 
-mod loops;
+pub mod loops;
 mod places;
-mod simple;
-mod statement;
-mod variables;
+pub mod simple;
+pub mod statement;
+pub mod variables;

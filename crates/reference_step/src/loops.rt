@@ -1,19 +1,20 @@
 //! What loops do.
 
-ghost use Rattle.std.specs.Prelude.{◌≡◌, ◌∷◌, [], Bool, ℕ, List, IfErr, IfOk, OnOk, None, Some, option_map};
+ghost use Rattle.std.specs.Prelude.{◌≡◌, ◌++◌, ◌∷◌, [], Bool, ℕ, List, IfErr, IfOk, OnOk, None, Some, option_map};
 ghost use Rattle.syntax.specs.Tree.{Range as RangeHead};
 ghost use Rattle.syntax.specs.View.{body_of, expression_of, file_of, for_head_of, simple_of, target_of};
 ghost use Rattle.type_table.specs.Views.{kind_of};
 ghost use Rattle.type_table.specs.Visible.{globals_in, types_of};
 ghost use Rattle.word.specs.declared.value.Word.TheVariants.{Bool as Truth, Chan};
 ghost use Rattle.meaning.specs.Expressions.{word_in};
-ghost use Rattle.meaning.specs.Source.{again_next, body_next, channel_in, for_next, globals, head_next, item_destinations, keeps};
-ghost use Rattle.meaning.specs.Tasks.{Head, Repeating, frame};
+ghost use Rattle.meaning.specs.Source.{again_next, channel_in, for_next, globals, head_next, item_destinations, keeps};
+ghost use Rattle.meaning.specs.Tasks.{Again, Head, Repeating, all_of, frame};
 ghost use Rattle.meaning.specs.Variables.{blank, declare, entered, holding, in_block, innermost, value_of};
 ghost use Rattle.reference_value.specs.Destinations.{destinations_of};
 ghost use Rattle.reference_value.specs.Scopes.{blocks_of};
 ghost use Rattle.reference_value.specs.Values.{values_of};
 ghost use Rattle.reference_base.specs.Steps.{Goes, Panics};
+ghost use Rattle.reference_base.specs.declared.task.Loop.TheVariants as loops;
 ghost use Rattle.reference_base.specs.Tasks.{expression_in, frame_of, frames_of, loop_of, simple_in, tasks_of};
 
 use reference_base::operand::{channel, channel_in, one, truth_in, zero_of};
@@ -103,7 +104,7 @@ fn ranges<'t>(
     body: &'t [StatementNode],
 ) -> Result<(), Stop>
     ensures ok { OnOk result (Goes (for_next (file_of program.now.file.now) (blocks_of (types_of program.now.table) top.old.scope) (tasks_of (types_of program.now.table) top.old.tasks.items) (frames_of (types_of program.now.table) callers.now) (RangeHead (target_of target.now) (expression_of from.now)) (body_of body.now)) (types_of program.now.table) top.new callers.now) }
-    ensures err { IfErr result (Panics (for_next (file_of program.now.file.now) (blocks_of (types_of program.now.table) top.old.scope) (tasks_of (types_of program.now.table) top.old.tasks.items) (frames_of (types_of program.now.table) callers.now) (RangeHead (target_of target.now) (expression_of from.now)) (body_of body.now))) }
+    ensures err { IfErr result (Panics (for_next (file_of program.now.file.now) (blocks_of (types_of program.now.table) top.old.scope) (tasks_of (types_of program.now.table) top.old.tasks.items) (frames_of (types_of program.now.table) callers.now) (RangeHead (target_of target.now) (expression_of from.now)) (body_of body.now)) (types_of program.now.table) top.new top.old) }
 {
     let _callers = callers;
     let c = channel(alloc, program, &top.scope, from)?;
@@ -142,7 +143,7 @@ fn repeats<'t>(
 }
 
 /// A for.
-pub(crate) fn for_loop<'t>(
+pub fn for_loop<'t>(
     alloc: Global,
     program: &Program<'t>,
     top: &mut Frame<'t>,
@@ -151,7 +152,7 @@ pub(crate) fn for_loop<'t>(
     body: &'t [StatementNode],
 ) -> Result<(), Stop>
     ensures ok { OnOk result (Goes (for_next (file_of program.now.file.now) (blocks_of (types_of program.now.table) top.old.scope) (tasks_of (types_of program.now.table) top.old.tasks.items) (frames_of (types_of program.now.table) callers.now) (for_head_of header.now) (body_of body.now)) (types_of program.now.table) top.new callers.now) }
-    ensures err { IfErr result (Panics (for_next (file_of program.now.file.now) (blocks_of (types_of program.now.table) top.old.scope) (tasks_of (types_of program.now.table) top.old.tasks.items) (frames_of (types_of program.now.table) callers.now) (for_head_of header.now) (body_of body.now))) }
+    ensures err { IfErr result (Panics (for_next (file_of program.now.file.now) (blocks_of (types_of program.now.table) top.old.scope) (tasks_of (types_of program.now.table) top.old.tasks.items) (frames_of (types_of program.now.table) callers.now) (for_head_of header.now) (body_of body.now)) (types_of program.now.table) top.new top.old) }
 {
     match header {
         ForHeader::Forever => {
@@ -191,68 +192,73 @@ fn next_zeros(alloc: Global, zero: &[Word]) -> Result<Vec<Vec<Word>>, AllocError
 }
 
 /// A loop goes into its body.
-pub(crate) fn turn<'t>(
+fn turn<'t>(
     alloc: Global,
-    program: &Program<'t>,
     top: &mut Frame<'t>,
-    callers: &[Frame<'t>],
     at: Loop<'t>,
     body: &'t [StatementNode],
-) -> Result<(), Stop>
-    ensures ok { OnOk result (Goes (body_next (file_of program.now.file.now) (blocks_of (types_of program.now.table) top.old.scope) (tasks_of (types_of program.now.table) top.old.tasks.items) (frames_of (types_of program.now.table) callers.now) (loop_of (types_of program.now.table) at.entry) (body_of body.now)) (types_of program.now.table) top.new callers.now) }
-    ensures err { IfErr result (Panics (body_next (file_of program.now.file.now) (blocks_of (types_of program.now.table) top.old.scope) (tasks_of (types_of program.now.table) top.old.tasks.items) (frames_of (types_of program.now.table) callers.now) (loop_of (types_of program.now.table) at.entry) (body_of body.now))) }
+) -> Result<(), AllocError>
+    ensures { (types : List (List ℕ)) → OnOk result (frame_of types top.new ≡ frame (entered (blocks_of types top.old.scope)) (all_of (body_of body.now) ++ Again (loop_of types at.entry) ∷ tasks_of types top.old.tasks.items)) }
 {
-    let _program = program;
-    let _callers = callers;
     top.scope.enter(alloc)?;
     top.push(Task::Again(at))?;
     top.push_all(alloc, body)?;
     Ok(())
 }
 
-/// A loop at its head.
-pub(crate) fn head<'t>(
+/// A loop over a channel at its head: it asks for the next item.
+pub fn next_item<'t>(
     alloc: Global,
     program: &Program<'t>,
     top: &mut Frame<'t>,
     callers: &[Frame<'t>],
-    at: Loop<'t>,
-) -> Result<(), Stop>
-    ensures ok { OnOk result (Goes (head_next (file_of program.now.file.now) (blocks_of (types_of program.now.table) top.old.scope) (tasks_of (types_of program.now.table) top.old.tasks.items) (frames_of (types_of program.now.table) callers.now) (loop_of (types_of program.now.table) at.entry)) (types_of program.now.table) top.new callers.now) }
-    ensures err { IfErr result (Panics (head_next (file_of program.now.file.now) (blocks_of (types_of program.now.table) top.old.scope) (tasks_of (types_of program.now.table) top.old.tasks.items) (frames_of (types_of program.now.table) callers.now) (loop_of (types_of program.now.table) at.entry))) }
+    at: Box<Range<'t>>,
+) -> Result<(), AllocError>
+    ensures { OnOk result (Goes (head_next (file_of program.now.file.now) (blocks_of (types_of program.now.table) top.old.scope) (tasks_of (types_of program.now.table) top.old.tasks.items) (frames_of (types_of program.now.table) callers.now) (loop_of (types_of program.now.table) (loops.Ranging at.entry))) (types_of program.now.table) top.new callers.now) }
 {
-    match at {
-        Loop::Ranging(range) => {
-            let c = kept(&top.scope);
-            let zeros = next_zeros(alloc, range.zero.as_slice())?;
-            let purpose = Purpose::NextItem(Loop::Ranging(range));
-            top.push(Task::Ask(Request::Receive(c), zeros, purpose))?;
-            Ok(())
-        }
-        Loop::Repeating(repeat) => {
-            let goes_on = match repeat.condition {
-                None => true,
-                Some(condition) => truth_in(one(alloc, program, &top.scope, condition)?),
-            };
-            if !goes_on {
-                return Ok(());
-            }
-            let body = repeat.body;
-            turn(alloc, program, top, callers, Loop::Repeating(repeat), body)
-        }
+    let _program = program;
+    let _callers = callers;
+    let c = kept(&top.scope);
+    let zeros = next_zeros(alloc, at.zero.as_slice())?;
+    let purpose = Purpose::NextItem(Loop::Ranging(at));
+    top.push(Task::Ask(Request::Receive(c), zeros, purpose))?;
+    Ok(())
+}
+
+/// A loop with a condition at its head.
+///
+/// Errors: the panic that is met first; want of memory.
+pub fn repeat<'t>(
+    alloc: Global,
+    program: &Program<'t>,
+    top: &mut Frame<'t>,
+    callers: &[Frame<'t>],
+    at: Box<Repeat<'t>>,
+) -> Result<(), Stop>
+    ensures ok { OnOk result (Goes (head_next (file_of program.now.file.now) (blocks_of (types_of program.now.table) top.old.scope) (tasks_of (types_of program.now.table) top.old.tasks.items) (frames_of (types_of program.now.table) callers.now) (loop_of (types_of program.now.table) (loops.Repeating at.entry))) (types_of program.now.table) top.new callers.now) }
+    ensures err { IfErr result (Panics (head_next (file_of program.now.file.now) (blocks_of (types_of program.now.table) top.old.scope) (tasks_of (types_of program.now.table) top.old.tasks.items) (frames_of (types_of program.now.table) callers.now) (loop_of (types_of program.now.table) (loops.Repeating at.entry))) (types_of program.now.table) top.new top.old) }
+{
+    let goes_on = match at.condition {
+        None => true,
+        Some(condition) => truth_in(one(alloc, program, &top.scope, condition)?),
+    };
+    if !goes_on {
+        return Ok(());
     }
+    let body = at.body;
+    turn(alloc, top, Loop::Repeating(at), body)?;
+    Ok(())
 }
 
 /// A loop at the end of its body.
-pub(crate) fn again<'t>(
+pub fn again<'t>(
     alloc: Global,
     program: &Program<'t>,
     top: &mut Frame<'t>,
     callers: &[Frame<'t>],
     at: Loop<'t>,
-) -> Result<(), Stop>
-    ensures ok { OnOk result (Goes (again_next (file_of program.now.file.now) (blocks_of (types_of program.now.table) top.old.scope) (tasks_of (types_of program.now.table) top.old.tasks.items) (frames_of (types_of program.now.table) callers.now) (loop_of (types_of program.now.table) at.entry)) (types_of program.now.table) top.new callers.now) }
-    ensures err { IfErr result (Panics (again_next (file_of program.now.file.now) (blocks_of (types_of program.now.table) top.old.scope) (tasks_of (types_of program.now.table) top.old.tasks.items) (frames_of (types_of program.now.table) callers.now) (loop_of (types_of program.now.table) at.entry))) }
+) -> Result<(), AllocError>
+    ensures { OnOk result (Goes (again_next (file_of program.now.file.now) (blocks_of (types_of program.now.table) top.old.scope) (tasks_of (types_of program.now.table) top.old.tasks.items) (frames_of (types_of program.now.table) callers.now) (loop_of (types_of program.now.table) at.entry)) (types_of program.now.table) top.new callers.now) }
 {
     let _program = program;
     let _callers = callers;

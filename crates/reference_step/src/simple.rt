@@ -59,7 +59,7 @@ fn makes<'t>(
     purpose: Purpose<'t>,
 ) -> Result<(), Stop>
     ensures ok { OnOk result (Goes (makes (file_of program.now.file.now) (blocks_of (types_of program.now.table) top.old.scope) (tasks_of (types_of program.now.table) top.old.tasks.items) (frames_of (types_of program.now.table) callers.now) (type_of kind.now) size (purpose_of (types_of program.now.table) purpose.entry)) (types_of program.now.table) top.new callers.now) }
-    ensures err { IfErr result (Panics (makes (file_of program.now.file.now) (blocks_of (types_of program.now.table) top.old.scope) (tasks_of (types_of program.now.table) top.old.tasks.items) (frames_of (types_of program.now.table) callers.now) (type_of kind.now) size (purpose_of (types_of program.now.table) purpose.entry))) }
+    ensures err { IfErr result (Panics (makes (file_of program.now.file.now) (blocks_of (types_of program.now.table) top.old.scope) (tasks_of (types_of program.now.table) top.old.tasks.items) (frames_of (types_of program.now.table) callers.now) (type_of kind.now) size (purpose_of (types_of program.now.table) purpose.entry)) (types_of program.now.table) top.new top.old) }
 {
     let _callers = callers;
     let zero = zero(alloc, &program.table, made_kind(program, kind))?;
@@ -80,7 +80,7 @@ pub(crate) fn operates<'t>(
     purpose: Purpose<'t>,
 ) -> Result<Move<'t>, Stop>
     ensures ok { IfOk result (λ move. Went (operates (file_of program.now.file.now) (blocks_of (types_of program.now.table) top.old.scope) (tasks_of (types_of program.now.table) top.old.tasks.items) (frames_of (types_of program.now.table) callers.now) (operation_of operation.now) (purpose_of (types_of program.now.table) purpose.entry)) (types_of program.now.table) move top.new callers.now) }
-    ensures err { IfErr result (Panics (operates (file_of program.now.file.now) (blocks_of (types_of program.now.table) top.old.scope) (tasks_of (types_of program.now.table) top.old.tasks.items) (frames_of (types_of program.now.table) callers.now) (operation_of operation.now) (purpose_of (types_of program.now.table) purpose.entry))) }
+    ensures err { IfErr result (Panics (operates (file_of program.now.file.now) (blocks_of (types_of program.now.table) top.old.scope) (tasks_of (types_of program.now.table) top.old.tasks.items) (frames_of (types_of program.now.table) callers.now) (operation_of operation.now) (purpose_of (types_of program.now.table) purpose.entry)) (types_of program.now.table) top.new top.old) }
 {
     match operation {
         OperationNode::Call(name, arguments) => {
@@ -129,7 +129,7 @@ pub(crate) fn gives<'t>(
     right: &'t RightNode,
 ) -> Result<Move<'t>, Stop>
     ensures ok { IfOk result (λ move. Went (gives (file_of program.now.file.now) (blocks_of (types_of program.now.table) top.old.scope) (tasks_of (types_of program.now.table) top.old.tasks.items) (frames_of (types_of program.now.table) callers.now) (destinations_of (types_of program.now.table) destinations.entry.items) (right_of right.now)) (types_of program.now.table) move top.new callers.now) }
-    ensures err { IfErr result (Panics (gives (file_of program.now.file.now) (blocks_of (types_of program.now.table) top.old.scope) (tasks_of (types_of program.now.table) top.old.tasks.items) (frames_of (types_of program.now.table) callers.now) (destinations_of (types_of program.now.table) destinations.entry.items) (right_of right.now))) }
+    ensures err { IfErr result (Panics (gives (file_of program.now.file.now) (blocks_of (types_of program.now.table) top.old.scope) (tasks_of (types_of program.now.table) top.old.tasks.items) (frames_of (types_of program.now.table) callers.now) (destinations_of (types_of program.now.table) destinations.entry.items) (right_of right.now)) (types_of program.now.table) top.new top.old) }
 {
     match right {
         RightNode::Operation(operation) => {
@@ -159,7 +159,7 @@ fn close<'t>(
     from: &'t ExpressionNode,
 ) -> Result<(), Stop>
     ensures ok { OnOk result (Goes (simple_next (file_of program.now.file.now) (blocks_of (types_of program.now.table) top.old.scope) (tasks_of (types_of program.now.table) top.old.tasks.items) (frames_of (types_of program.now.table) callers.now) (Close (expression_of from.now))) (types_of program.now.table) top.new callers.now) }
-    ensures err { IfErr result (Panics (simple_next (file_of program.now.file.now) (blocks_of (types_of program.now.table) top.old.scope) (tasks_of (types_of program.now.table) top.old.tasks.items) (frames_of (types_of program.now.table) callers.now) (Close (expression_of from.now)))) }
+    ensures err { IfErr result (Panics (simple_next (file_of program.now.file.now) (blocks_of (types_of program.now.table) top.old.scope) (tasks_of (types_of program.now.table) top.old.tasks.items) (frames_of (types_of program.now.table) callers.now) (Close (expression_of from.now))) (types_of program.now.table) top.new top.old) }
 {
     let _callers = callers;
     let c = channel(alloc, program, &top.scope, from)?;
@@ -178,7 +178,7 @@ fn print<'t>(
     trailing: bool,
 ) -> Result<(), Stop>
     ensures ok { OnOk result (Goes (simple_next (file_of program.now.file.now) (blocks_of (types_of program.now.table) top.old.scope) (tasks_of (types_of program.now.table) top.old.tasks.items) (frames_of (types_of program.now.table) callers.now) (Print line (map part_of parts.now) trailing)) (types_of program.now.table) top.new callers.now) }
-    ensures err { IfErr result (Panics (simple_next (file_of program.now.file.now) (blocks_of (types_of program.now.table) top.old.scope) (tasks_of (types_of program.now.table) top.old.tasks.items) (frames_of (types_of program.now.table) callers.now) (Print line (map part_of parts.now) trailing))) }
+    ensures err { IfErr result (Panics (simple_next (file_of program.now.file.now) (blocks_of (types_of program.now.table) top.old.scope) (tasks_of (types_of program.now.table) top.old.tasks.items) (frames_of (types_of program.now.table) callers.now) (Print line (map part_of parts.now) trailing)) (types_of program.now.table) top.new top.old) }
 {
     let _callers = callers;
     let _trailing = trailing;
@@ -198,7 +198,7 @@ fn send<'t>(
     item: &'t ExpressionNode,
 ) -> Result<(), Stop>
     ensures ok { OnOk result (Goes (simple_next (file_of program.now.file.now) (blocks_of (types_of program.now.table) top.old.scope) (tasks_of (types_of program.now.table) top.old.tasks.items) (frames_of (types_of program.now.table) callers.now) (Send (expression_of to.now) (expression_of item.now))) (types_of program.now.table) top.new callers.now) }
-    ensures err { IfErr result (Panics (simple_next (file_of program.now.file.now) (blocks_of (types_of program.now.table) top.old.scope) (tasks_of (types_of program.now.table) top.old.tasks.items) (frames_of (types_of program.now.table) callers.now) (Send (expression_of to.now) (expression_of item.now)))) }
+    ensures err { IfErr result (Panics (simple_next (file_of program.now.file.now) (blocks_of (types_of program.now.table) top.old.scope) (tasks_of (types_of program.now.table) top.old.tasks.items) (frames_of (types_of program.now.table) callers.now) (Send (expression_of to.now) (expression_of item.now))) (types_of program.now.table) top.new top.old) }
 {
     let _callers = callers;
     let c = channel(alloc, program, &top.scope, to)?;
@@ -248,7 +248,7 @@ fn counts<'t>(
     by: Word,
 ) -> Result<(), Stop>
     ensures ok { OnOk result (Goes (updates (file_of program.now.file.now) (blocks_of (types_of program.now.table) top.old.scope) (tasks_of (types_of program.now.table) top.old.tasks.items) (frames_of (types_of program.now.table) callers.now) (place_of place.now) operator (Ok (by ∷ []))) (types_of program.now.table) top.new callers.now) }
-    ensures err { IfErr result (Panics (updates (file_of program.now.file.now) (blocks_of (types_of program.now.table) top.old.scope) (tasks_of (types_of program.now.table) top.old.tasks.items) (frames_of (types_of program.now.table) callers.now) (place_of place.now) operator (Ok (by ∷ [])))) }
+    ensures err { IfErr result (Panics (updates (file_of program.now.file.now) (blocks_of (types_of program.now.table) top.old.scope) (tasks_of (types_of program.now.table) top.old.tasks.items) (frames_of (types_of program.now.table) callers.now) (place_of place.now) operator (Ok (by ∷ []))) (types_of program.now.table) top.new top.old) }
 {
     let _callers = callers;
     let a = held(alloc, program, top, place)?;
@@ -272,7 +272,7 @@ fn updates<'t>(
     operand: &'t ExpressionNode,
 ) -> Result<(), Stop>
     ensures ok { OnOk result (Goes (simple_next (file_of program.now.file.now) (blocks_of (types_of program.now.table) top.old.scope) (tasks_of (types_of program.now.table) top.old.tasks.items) (frames_of (types_of program.now.table) callers.now) (Update (place_of place.now) operator (expression_of operand.now))) (types_of program.now.table) top.new callers.now) }
-    ensures err { IfErr result (Panics (simple_next (file_of program.now.file.now) (blocks_of (types_of program.now.table) top.old.scope) (tasks_of (types_of program.now.table) top.old.tasks.items) (frames_of (types_of program.now.table) callers.now) (Update (place_of place.now) operator (expression_of operand.now)))) }
+    ensures err { IfErr result (Panics (simple_next (file_of program.now.file.now) (blocks_of (types_of program.now.table) top.old.scope) (tasks_of (types_of program.now.table) top.old.tasks.items) (frames_of (types_of program.now.table) callers.now) (Update (place_of place.now) operator (expression_of operand.now))) (types_of program.now.table) top.new top.old) }
 {
     let _callers = callers;
     let a = held(alloc, program, top, place)?;
@@ -296,7 +296,7 @@ fn assign<'t>(
     right: &'t RightNode,
 ) -> Result<Move<'t>, Stop>
     ensures ok { IfOk result (λ move. Went (simple_next (file_of program.now.file.now) (blocks_of (types_of program.now.table) top.old.scope) (tasks_of (types_of program.now.table) top.old.tasks.items) (frames_of (types_of program.now.table) callers.now) (Assign (map place_of places.now) (right_of right.now))) (types_of program.now.table) move top.new callers.now) }
-    ensures err { IfErr result (Panics (simple_next (file_of program.now.file.now) (blocks_of (types_of program.now.table) top.old.scope) (tasks_of (types_of program.now.table) top.old.tasks.items) (frames_of (types_of program.now.table) callers.now) (Assign (map place_of places.now) (right_of right.now)))) }
+    ensures err { IfErr result (Panics (simple_next (file_of program.now.file.now) (blocks_of (types_of program.now.table) top.old.scope) (tasks_of (types_of program.now.table) top.old.tasks.items) (frames_of (types_of program.now.table) callers.now) (Assign (map place_of places.now) (right_of right.now))) (types_of program.now.table) top.new top.old) }
 {
     let destinations = assigned(alloc, program, &top.scope, places)?;
     gives(alloc, program, top, callers, destinations, right)
@@ -312,7 +312,7 @@ fn define<'t>(
     right: &'t RightNode,
 ) -> Result<Move<'t>, Stop>
     ensures ok { IfOk result (λ move. Went (simple_next (file_of program.now.file.now) (blocks_of (types_of program.now.table) top.old.scope) (tasks_of (types_of program.now.table) top.old.tasks.items) (frames_of (types_of program.now.table) callers.now) (Define (map name_of names.now) (right_of right.now))) (types_of program.now.table) move top.new callers.now) }
-    ensures err { IfErr result (Panics (simple_next (file_of program.now.file.now) (blocks_of (types_of program.now.table) top.old.scope) (tasks_of (types_of program.now.table) top.old.tasks.items) (frames_of (types_of program.now.table) callers.now) (Define (map name_of names.now) (right_of right.now)))) }
+    ensures err { IfErr result (Panics (simple_next (file_of program.now.file.now) (blocks_of (types_of program.now.table) top.old.scope) (tasks_of (types_of program.now.table) top.old.tasks.items) (frames_of (types_of program.now.table) callers.now) (Define (map name_of names.now) (right_of right.now))) (types_of program.now.table) top.new top.old) }
 {
     let destinations = defined(alloc, program, &top.scope, names, right)?;
     gives(alloc, program, top, callers, destinations, right)
@@ -321,7 +321,7 @@ fn define<'t>(
 /// A simple statement.
 ///
 /// Errors: the panic that is met first; want of memory.
-pub(crate) fn simple<'t>(
+pub fn simple<'t>(
     alloc: Global,
     program: &Program<'t>,
     top: &mut Frame<'t>,
@@ -329,7 +329,7 @@ pub(crate) fn simple<'t>(
     simple: &'t SimpleNode,
 ) -> Result<Move<'t>, Stop>
     ensures ok { IfOk result (λ move. Went (simple_next (file_of program.now.file.now) (blocks_of (types_of program.now.table) top.old.scope) (tasks_of (types_of program.now.table) top.old.tasks.items) (frames_of (types_of program.now.table) callers.now) (simple_of simple.now)) (types_of program.now.table) move top.new callers.now) }
-    ensures err { IfErr result (Panics (simple_next (file_of program.now.file.now) (blocks_of (types_of program.now.table) top.old.scope) (tasks_of (types_of program.now.table) top.old.tasks.items) (frames_of (types_of program.now.table) callers.now) (simple_of simple.now))) }
+    ensures err { IfErr result (Panics (simple_next (file_of program.now.file.now) (blocks_of (types_of program.now.table) top.old.scope) (tasks_of (types_of program.now.table) top.old.tasks.items) (frames_of (types_of program.now.table) callers.now) (simple_of simple.now)) (types_of program.now.table) top.new top.old) }
 {
     match simple {
         SimpleNode::Call(name, arguments) => {

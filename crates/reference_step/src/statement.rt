@@ -3,7 +3,7 @@
 ghost use Rattle.std.specs.Prelude.{◌≡◌, ℕ, List, IfErr, OnOk, IfOk};
 ghost use Rattle.syntax.specs.View.{body_of, branch_of, file_of, otherwise_of, returned_of};
 ghost use Rattle.type_table.specs.Visible.{types_of};
-ghost use Rattle.meaning.specs.Source.{branch_next, enters_block, otherwise_next, return_next, task_next};
+ghost use Rattle.meaning.specs.Source.{branch_next, decides, enters_block, otherwise_next, return_next, task_next};
 ghost use Rattle.meaning.specs.Tasks.{all_of, broken, continued};
 ghost use Rattle.reference_value.specs.Scopes.{blocks_of};
 ghost use Rattle.reference_base.specs.Steps.{Goes, Panics, Went};
@@ -19,56 +19,52 @@ use reference_value::value::value;
 use std::alloc::{AllocError, Global};
 use syntax::node::IfHeader;
 use syntax::{ElseNode, IfNode, ReturnNode, StatementNode};
+use word::value::Word;
 
 /// Leaves a loop or a select.
 #[tactic(auto, using(reference_value::proofs::Lasts::shown_last))]
-pub(crate) fn leave(top: &mut Frame<'_>)
+pub fn leave(top: &mut Frame<'_>)
     ensures { (types : List (List ℕ)) → frame_of types top.new ≡ broken (blocks_of types top.old.scope) (tasks_of types top.old.tasks.items) }
 {
-    match top.tasks.pop() {
-        None => {}
-        Some(Task::EndBlock) => {
-            top.scope.leave();
-            leave(top);
+    while let Some(task) = top.tasks.pop() {
+        match task {
+            Task::EndBlock => top.scope.leave(),
+            Task::Again(_) | Task::EndSelect => {
+                top.scope.leave();
+                return;
+            }
+            _ => {}
         }
-        Some(Task::Again(_) | Task::EndSelect) => top.scope.leave(),
-        Some(_) => leave(top),
     }
 }
 
 /// Goes to the end of a loop's body.
 #[tactic(auto, using(reference_value::proofs::Lasts::shown_last))]
-pub(crate) fn go_on(top: &mut Frame<'_>) -> Result<(), AllocError>
+pub fn go_on(top: &mut Frame<'_>) -> Result<(), AllocError>
     ensures { (types : List (List ℕ)) → OnOk result (frame_of types top.new ≡ continued (blocks_of types top.old.scope) (tasks_of types top.old.tasks.items)) }
 {
-    match top.tasks.pop() {
-        None => Ok(()),
-        Some(Task::EndBlock | Task::EndSelect) => {
-            top.scope.leave();
-            go_on(top)?;
-            Ok(())
-        }
-        Some(Task::Again(again)) => {
-            top.push(Task::Again(again))?;
-            Ok(())
-        }
-        Some(_) => {
-            go_on(top)?;
-            Ok(())
+    while let Some(task) = top.tasks.pop() {
+        match task {
+            Task::EndBlock | Task::EndSelect => top.scope.leave(),
+            Task::Again(again) => {
+                top.push(Task::Again(again))?;
+                return Ok(());
+            }
+            _ => {}
         }
     }
+    Ok(())
 }
 
 /// Goes into a block of these statements.
-pub(crate) fn block<'t>(
+pub fn block<'t>(
     alloc: Global,
     program: &Program<'t>,
     top: &mut Frame<'t>,
     callers: &[Frame<'t>],
     body: &'t [StatementNode],
-) -> Result<(), Stop>
-    ensures ok { OnOk result (Goes (enters_block (file_of program.now.file.now) (blocks_of (types_of program.now.table) top.old.scope) (tasks_of (types_of program.now.table) top.old.tasks.items) (frames_of (types_of program.now.table) callers.now) (all_of (body_of body.now))) (types_of program.now.table) top.new callers.now) }
-    ensures err { IfErr result (Panics (enters_block (file_of program.now.file.now) (blocks_of (types_of program.now.table) top.old.scope) (tasks_of (types_of program.now.table) top.old.tasks.items) (frames_of (types_of program.now.table) callers.now) (all_of (body_of body.now)))) }
+) -> Result<(), AllocError>
+    ensures { OnOk result (Goes (enters_block (file_of program.now.file.now) (blocks_of (types_of program.now.table) top.old.scope) (tasks_of (types_of program.now.table) top.old.tasks.items) (frames_of (types_of program.now.table) callers.now) (all_of (body_of body.now))) (types_of program.now.table) top.new callers.now) }
 {
     let _program = program;
     let _callers = callers;
@@ -79,15 +75,14 @@ pub(crate) fn block<'t>(
 }
 
 /// An if.
-pub(crate) fn branch<'t>(
+pub fn branch<'t>(
     alloc: Global,
     program: &Program<'t>,
     top: &mut Frame<'t>,
     callers: &[Frame<'t>],
     branch: &'t IfNode,
-) -> Result<(), Stop>
-    ensures ok { OnOk result (Goes (branch_next (file_of program.now.file.now) (blocks_of (types_of program.now.table) top.old.scope) (tasks_of (types_of program.now.table) top.old.tasks.items) (frames_of (types_of program.now.table) callers.now) (branch_of branch.now)) (types_of program.now.table) top.new callers.now) }
-    ensures err { IfErr result (Panics (branch_next (file_of program.now.file.now) (blocks_of (types_of program.now.table) top.old.scope) (tasks_of (types_of program.now.table) top.old.tasks.items) (frames_of (types_of program.now.table) callers.now) (branch_of branch.now))) }
+) -> Result<(), AllocError>
+    ensures { OnOk result (Goes (branch_next (file_of program.now.file.now) (blocks_of (types_of program.now.table) top.old.scope) (tasks_of (types_of program.now.table) top.old.tasks.items) (frames_of (types_of program.now.table) callers.now) (branch_of branch.now)) (types_of program.now.table) top.new callers.now) }
 {
     let _program = program;
     let _callers = callers;
@@ -109,9 +104,8 @@ fn otherwise<'t>(
     top: &mut Frame<'t>,
     callers: &[Frame<'t>],
     otherwise: &'t ElseNode,
-) -> Result<(), Stop>
-    ensures ok { OnOk result (Goes (otherwise_next (file_of program.now.file.now) (blocks_of (types_of program.now.table) top.old.scope) (tasks_of (types_of program.now.table) top.old.tasks.items) (frames_of (types_of program.now.table) callers.now) (otherwise_of otherwise.now)) (types_of program.now.table) top.new callers.now) }
-    ensures err { IfErr result (Panics (otherwise_next (file_of program.now.file.now) (blocks_of (types_of program.now.table) top.old.scope) (tasks_of (types_of program.now.table) top.old.tasks.items) (frames_of (types_of program.now.table) callers.now) (otherwise_of otherwise.now))) }
+) -> Result<(), AllocError>
+    ensures { OnOk result (Goes (otherwise_next (file_of program.now.file.now) (blocks_of (types_of program.now.table) top.old.scope) (tasks_of (types_of program.now.table) top.old.tasks.items) (frames_of (types_of program.now.table) callers.now) (otherwise_of otherwise.now)) (types_of program.now.table) top.new callers.now) }
 {
     match otherwise {
         ElseNode::Nothing => Ok(()),
@@ -124,8 +118,25 @@ fn otherwise<'t>(
     }
 }
 
+/// An if whose condition is this word.
+fn decides<'t>(
+    alloc: Global,
+    program: &Program<'t>,
+    top: &mut Frame<'t>,
+    callers: &[Frame<'t>],
+    branch: &'t IfNode,
+    word: Word,
+) -> Result<(), AllocError>
+    ensures { OnOk result (Goes (decides (file_of program.now.file.now) (blocks_of (types_of program.now.table) top.old.scope) (tasks_of (types_of program.now.table) top.old.tasks.items) (frames_of (types_of program.now.table) callers.now) (body_of branch.now.body.items) (otherwise_of branch.now.otherwise) word) (types_of program.now.table) top.new callers.now) }
+{
+    if truth_in(word) {
+        return block(alloc, program, top, callers, branch.body.as_slice());
+    }
+    otherwise(alloc, program, top, callers, &branch.otherwise)
+}
+
 /// An if, behind its first statement.
-pub(crate) fn decide<'t>(
+pub fn decide<'t>(
     alloc: Global,
     program: &Program<'t>,
     top: &mut Frame<'t>,
@@ -133,17 +144,15 @@ pub(crate) fn decide<'t>(
     branch: &'t IfNode,
 ) -> Result<(), Stop>
     ensures ok { OnOk result (Goes (task_next (file_of program.now.file.now) (blocks_of (types_of program.now.table) top.old.scope) (tasks_of (types_of program.now.table) top.old.tasks.items) (frames_of (types_of program.now.table) callers.now) (decided (branch_of branch.now))) (types_of program.now.table) top.new callers.now) }
-    ensures err { IfErr result (Panics (task_next (file_of program.now.file.now) (blocks_of (types_of program.now.table) top.old.scope) (tasks_of (types_of program.now.table) top.old.tasks.items) (frames_of (types_of program.now.table) callers.now) (decided (branch_of branch.now)))) }
+    ensures err { IfErr result (Panics (task_next (file_of program.now.file.now) (blocks_of (types_of program.now.table) top.old.scope) (tasks_of (types_of program.now.table) top.old.tasks.items) (frames_of (types_of program.now.table) callers.now) (decided (branch_of branch.now))) (types_of program.now.table) top.new top.old) }
 {
     let word = one(alloc, program, &top.scope, &branch.condition)?;
-    if truth_in(word) {
-        return block(alloc, program, top, callers, branch.body.as_slice());
-    }
-    otherwise(alloc, program, top, callers, &branch.otherwise)
+    decides(alloc, program, top, callers, branch, word)?;
+    Ok(())
 }
 
 /// A return.
-pub(crate) fn back<'t>(
+pub fn back<'t>(
     alloc: Global,
     program: &Program<'t>,
     top: &mut Frame<'t>,
@@ -151,7 +160,7 @@ pub(crate) fn back<'t>(
     returned: &'t ReturnNode,
 ) -> Result<Move<'t>, Stop>
     ensures ok { IfOk result (λ move. Went (return_next (file_of program.now.file.now) (blocks_of (types_of program.now.table) top.old.scope) (tasks_of (types_of program.now.table) top.old.tasks.items) (frames_of (types_of program.now.table) callers.now) (returned_of returned.now)) (types_of program.now.table) move top.new callers.now) }
-    ensures err { IfErr result (Panics (return_next (file_of program.now.file.now) (blocks_of (types_of program.now.table) top.old.scope) (tasks_of (types_of program.now.table) top.old.tasks.items) (frames_of (types_of program.now.table) callers.now) (returned_of returned.now))) }
+    ensures err { IfErr result (Panics (return_next (file_of program.now.file.now) (blocks_of (types_of program.now.table) top.old.scope) (tasks_of (types_of program.now.table) top.old.tasks.items) (frames_of (types_of program.now.table) callers.now) (returned_of returned.now)) (types_of program.now.table) top.new top.old) }
 {
     match returned {
         ReturnNode::Nothing => {

@@ -54,16 +54,15 @@ fn zeros<'t>(
 }
 
 /// A `var` with a type alone.
-pub(crate) fn zeroed<'t>(
+pub fn zeroed<'t>(
     alloc: Global,
     program: &Program<'t>,
     top: &mut Frame<'t>,
     callers: &[Frame<'t>],
     names: &'t [Name],
     kind: &'t TypeNode,
-) -> Result<(), Stop>
-    ensures ok { OnOk result (Goes (statement_next (file_of program.now.file.now) (blocks_of (types_of program.now.table) top.old.scope) (tasks_of (types_of program.now.table) top.old.tasks.items) (frames_of (types_of program.now.table) callers.now) (VarTyped (map name_of names.now) (type_of kind.now) None)) (types_of program.now.table) top.new callers.now) }
-    ensures err { IfErr result (Panics (statement_next (file_of program.now.file.now) (blocks_of (types_of program.now.table) top.old.scope) (tasks_of (types_of program.now.table) top.old.tasks.items) (frames_of (types_of program.now.table) callers.now) (VarTyped (map name_of names.now) (type_of kind.now) None))) }
+) -> Result<(), AllocError>
+    ensures { OnOk result (Goes (statement_next (file_of program.now.file.now) (blocks_of (types_of program.now.table) top.old.scope) (tasks_of (types_of program.now.table) top.old.tasks.items) (frames_of (types_of program.now.table) callers.now) (VarTyped (map name_of names.now) (type_of kind.now) None)) (types_of program.now.table) top.new callers.now) }
 {
     let _callers = callers;
     let destinations = typed(alloc, program, &top.scope, names, kind)?;
@@ -73,7 +72,7 @@ pub(crate) fn zeroed<'t>(
 }
 
 /// A `var` with a type and values.
-pub(crate) fn typed_values<'t>(
+pub fn typed_values<'t>(
     alloc: Global,
     program: &Program<'t>,
     top: &mut Frame<'t>,
@@ -83,14 +82,14 @@ pub(crate) fn typed_values<'t>(
     right: &'t RightNode,
 ) -> Result<Move<'t>, Stop>
     ensures ok { IfOk result (λ move. Went (statement_next (file_of program.now.file.now) (blocks_of (types_of program.now.table) top.old.scope) (tasks_of (types_of program.now.table) top.old.tasks.items) (frames_of (types_of program.now.table) callers.now) (VarTyped (map name_of names.now) (type_of kind.now) (Some (right_of right.now)))) (types_of program.now.table) move top.new callers.now) }
-    ensures err { IfErr result (Panics (statement_next (file_of program.now.file.now) (blocks_of (types_of program.now.table) top.old.scope) (tasks_of (types_of program.now.table) top.old.tasks.items) (frames_of (types_of program.now.table) callers.now) (VarTyped (map name_of names.now) (type_of kind.now) (Some (right_of right.now))))) }
+    ensures err { IfErr result (Panics (statement_next (file_of program.now.file.now) (blocks_of (types_of program.now.table) top.old.scope) (tasks_of (types_of program.now.table) top.old.tasks.items) (frames_of (types_of program.now.table) callers.now) (VarTyped (map name_of names.now) (type_of kind.now) (Some (right_of right.now)))) (types_of program.now.table) top.new top.old) }
 {
     let destinations = typed(alloc, program, &top.scope, names, kind)?;
     gives(alloc, program, top, callers, destinations, right)
 }
 
 /// A `var` with values alone.
-pub(crate) fn untyped_values<'t>(
+pub fn untyped_values<'t>(
     alloc: Global,
     program: &Program<'t>,
     top: &mut Frame<'t>,
@@ -99,7 +98,7 @@ pub(crate) fn untyped_values<'t>(
     right: &'t RightNode,
 ) -> Result<Move<'t>, Stop>
     ensures ok { IfOk result (λ move. Went (statement_next (file_of program.now.file.now) (blocks_of (types_of program.now.table) top.old.scope) (tasks_of (types_of program.now.table) top.old.tasks.items) (frames_of (types_of program.now.table) callers.now) (VarUntyped (map name_of names.now) (right_of right.now))) (types_of program.now.table) move top.new callers.now) }
-    ensures err { IfErr result (Panics (statement_next (file_of program.now.file.now) (blocks_of (types_of program.now.table) top.old.scope) (tasks_of (types_of program.now.table) top.old.tasks.items) (frames_of (types_of program.now.table) callers.now) (VarUntyped (map name_of names.now) (right_of right.now)))) }
+    ensures err { IfErr result (Panics (statement_next (file_of program.now.file.now) (blocks_of (types_of program.now.table) top.old.scope) (tasks_of (types_of program.now.table) top.old.tasks.items) (frames_of (types_of program.now.table) callers.now) (VarUntyped (map name_of names.now) (right_of right.now))) (types_of program.now.table) top.new top.old) }
 {
     let destinations = untyped(alloc, program, &top.scope, names, right)?;
     gives(alloc, program, top, callers, destinations, right)

@@ -1,4 +1,5 @@
 pub mod Lasts
+pub mod Newer
 pub mod Parts
 pub mod Names
 pub mod Types

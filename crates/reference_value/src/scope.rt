@@ -1,7 +1,7 @@
 //! The variables of a function, by name and in blocks.
 
 ghost use Rattle.std.specs.Option.{is_some, option_copied};
-ghost use Rattle.std.specs.Prelude.{◌≡◌, ℕ, List, OnOk, IfOk, option_map};
+ghost use Rattle.std.specs.Prelude.{◌≡◌, ◌++◌, ℕ, List, OnOk, IfOk, map, option_map};
 ghost use Rattle.meaning.specs.Variables.{in_block, innermost, lookup, entered, left, declare, assign, assign_in};
 ghost use Rattle.meaning.specs.Values.{written};
 ghost use Rattle.reference_value.specs.Scopes.{binding_of, newest_first, innermost_first, blocks_of};
@@ -31,20 +31,18 @@ pub struct Scope<'t> {
 }
 
 /// The variable of this name, the newest one of more.
-#[tactic(auto, using(crate::proofs::Lasts::shown_last))]
+#[tactic(auto, using(crate::proofs::Newer::shown_take))]
 fn find<'a, 't>(variables: &'a [Variable<'t>], name: &[u8]) -> Option<&'a Variable<'t>>
     ensures { (types : List (List ℕ)) → option_map (binding_of types) (option_copied result) ≡ in_block (newest_first types variables.now) name.now }
 {
-    match variables.split_last() {
-        None => None,
-        Some((last, others)) => {
-            if last.name == name {
-                Some(last)
-            } else {
-                find(others, name)
-            }
+    let mut left = variables.len();
+    while left > 0 {
+        left -= 1;
+        if variables[left].name == name {
+            return Some(&variables[left]);
         }
     }
+    None
 }
 
 /// The variable of this name in the innermost of these blocks that has one.
@@ -79,8 +77,22 @@ fn written(alloc: Global, from: usize, new: &[Word], old: &[Word]) -> Result<Vec
     Ok(words)
 }
 
+/// Puts variables back, the last one first.
+#[tactic(auto, using(crate::proofs::Lasts::shown_last, crate::proofs::Newer::shown_before))]
+fn put_back<'t>(
+    variables: &mut Vec<Variable<'t>>,
+    mut newer: Vec<Variable<'t>>,
+) -> Result<(), AllocError>
+    ensures { (types : List (List ℕ)) → OnOk result (newest_first types variables.new.items ≡ map (binding_of types) newer.entry.items ++ newest_first types variables.old.items) }
+{
+    while let Some(variable) = newer.pop() {
+        variables.push(variable)?;
+    }
+    Ok(())
+}
+
 /// Gives the variable of this name, the newest one of more, these words from a place on.
-#[tactic(auto, using(crate::proofs::Lasts::shown_last))]
+#[tactic(auto, using(crate::proofs::Lasts::shown_last, crate::proofs::Newer::shown_before))]
 fn put_in(
     alloc: Global,
     variables: &mut Vec<Variable<'_>>,
@@ -90,15 +102,17 @@ fn put_in(
 ) -> Result<(), AllocError>
     ensures { (types : List (List ℕ)) → OnOk result (newest_first types variables.new.items ≡ assign_in name.now from words.now (newest_first types variables.old.items)) }
 {
-    let Some(mut variable) = variables.pop() else {
-        return Ok(());
-    };
-    if variable.name == name {
-        variable.words = written(alloc, from, words, variable.words.as_slice())?;
-    } else {
-        put_in(alloc, variables, name, from, words)?;
+    let mut newer = Vec::new(alloc);
+    while let Some(mut variable) = variables.pop() {
+        if variable.name == name {
+            variable.words = written(alloc, from, words, variable.words.as_slice())?;
+            variables.push(variable)?;
+            put_back(variables, newer)?;
+            return Ok(());
+        }
+        newer.push(variable)?;
     }
-    variables.push(variable)?;
+    put_back(variables, newer)?;
     Ok(())
 }
 

@@ -3,7 +3,7 @@
 use crate::flaw::{Flaw, same};
 use crate::row::Row;
 use go_text::Fault;
-use kendo_base::{Gate, check_bytes, report, run_bytes};
+use kendo_base::{Gate, check_bytes, reference_bytes, report, run_bytes};
 use std::alloc::Global;
 use std::sync::Wait;
 use word::Flagged;
@@ -47,22 +47,35 @@ impl Ran {
         let outcome = run_bytes(
             rt, alloc, bytes, limit, workers, &Open, &mut out, &mut trace,
         );
+        Ran::told(alloc, outcome, out.into_inner())
+    }
+
+    /// The run of a text by the interpreter.
+    fn interpreted(alloc: Global, text: &[u8], limit: u64) -> Result<Ran, Flaw> {
+        let bytes = Vec::from_slice(alloc, text)?;
+        let mut out = Flagged::new(Vec::new(alloc));
+        let outcome = reference_bytes(alloc, bytes, limit, &mut out);
+        Ran::told(alloc, outcome, out.into_inner())
+    }
+
+    /// What came of a run, with the line and the status that tell it.
+    fn told(alloc: Global, outcome: Result<End, Fault>, output: Vec<u8>) -> Result<Ran, Flaw> {
         let (line, status) = report(alloc, &outcome).map_err(Fault::from)?;
         Ok(Ran {
             outcome,
             line,
             status,
-            output: out.into_inner(),
+            output,
         })
     }
 
     /// Compares the run with what a row tells, and its output with what was wanted.
-    fn check(&self, alloc: Global, row: &Row, output: &[u8], workers: u64) -> Result<(), Flaw> {
-        let what = format!(in alloc; "the line on standard error (--workers {workers})")?;
+    fn check(&self, alloc: Global, row: &Row, output: &[u8], how: &str) -> Result<(), Flaw> {
+        let what = format!(in alloc; "the line on standard error ({how})")?;
         self.check_line(alloc, &what, row.error.as_str())?;
-        let what = format!(in alloc; "the output (--workers {workers})")?;
+        let what = format!(in alloc; "the output ({how})")?;
         same(alloc, &what, output, &self.output)?;
-        let what = format!(in alloc; "the exit status (--workers {workers})")?;
+        let what = format!(in alloc; "the exit status ({how})")?;
         let (wanted, came) = (row.status.to_string(alloc)?, self.status.to_string(alloc)?);
         same(alloc, &what, wanted.as_bytes(), came.as_bytes())
     }
@@ -100,12 +113,28 @@ pub(crate) fn check_runs<R: Wait>(
     row: &Row,
     output: &[u8],
 ) -> Result<(), Flaw> {
+    check_interpreted(alloc, text, row, output)?;
+    if row.interpreted {
+        return Ok(());
+    }
     for workers in row.workers.iter() {
         let ran = Ran::of(rt, alloc, text, row.limit, *workers)?;
-        ran.check(alloc, row, output, *workers)?;
+        let how = format!(in alloc; "--workers {workers}")?;
+        ran.check(alloc, row, output, &how)?;
         ran.check_found(alloc, text)?;
     }
     Ok(())
+}
+
+/// Runs a text by the interpreter too, and compares what comes of it. It has no workers, and knows the whole language.
+fn check_interpreted(alloc: Global, text: &[u8], row: &Row, output: &[u8]) -> Result<(), Flaw> {
+    let error = row.error.as_str();
+    if error.starts_with("kendo: 15 ") || error.starts_with("kendo: 17 ") {
+        return Ok(());
+    }
+    let ran = Ran::interpreted(alloc, text, row.limit)?;
+    ran.check(alloc, row, output, "reference")?;
+    ran.check_found(alloc, text)
 }
 
 /// The line on standard error, with its newline, where a text is checked; nothing where it is a program.

@@ -19,6 +19,8 @@ enum Told<'a> {
     Typed,
     /// It finishes, and writes this.
     Prints(&'a str),
+    /// It is not compiled yet; by the interpreter it finishes, and writes this.
+    Interprets(&'a str),
     /// It is refused with this line, behind `kendo: `.
     Refused(&'a str),
 }
@@ -79,22 +81,28 @@ impl Table {
                     &line,
                 )
             }
-            Told::Prints(output) => {
-                let output = bytes_of(alloc, output)?;
-                check_runs(
-                    rt,
-                    alloc,
-                    text.as_slice(),
-                    &Row::new(alloc)?,
-                    output.as_slice(),
-                )
-            }
+            Told::Prints(output) => check_output(rt, alloc, text.as_slice(), output, false),
+            Told::Interprets(output) => check_output(rt, alloc, text.as_slice(), output, true),
             Told::Refused(told) => {
                 let row = refused(alloc, told)?;
                 check_runs(rt, alloc, text.as_slice(), &row, b"".as_slice())
             }
         }
     }
+}
+
+/// Sees whether a text finishes, and writes this.
+fn check_output<R: Wait>(
+    rt: &R,
+    alloc: Global,
+    text: &[u8],
+    output: &str,
+    interpreted: bool,
+) -> Result<(), Flaw> {
+    let output = bytes_of(alloc, output)?;
+    let mut row = Row::new(alloc)?;
+    row.interpreted = interpreted;
+    check_runs(rt, alloc, text, &row, output.as_slice())
 }
 
 /// What the words before a text tell.
@@ -104,6 +112,7 @@ fn told_of(words: &str) -> Told<'_> {
         ("cuts", _) => Told::Cuts,
         ("typed", _) => Told::Typed,
         ("prints", output) => Told::Prints(output),
+        ("interprets", output) => Told::Interprets(output),
         _ => Told::Refused(words),
     }
 }

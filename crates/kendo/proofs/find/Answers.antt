@@ -1,7 +1,7 @@
 use Rattle.std.proofs.Common.{sym, subst}
 use Rattle.kendo.specs.Answers.{Finds}
 use Rattle.kendo.specs.declared.arguments.Subcommand.{Subcommand}
-use Rattle.kendo.proofs.Findings.{run_finds}
+use Rattle.kendo.proofs.Findings.{reference_finds, run_finds}
 use Rattle.kendo.proofs.find.Goals as goal
 
 pub returns-in-Run : goal.returns-in-Run
@@ -9,3 +9,9 @@ returns-in-Run g c =
     let r = c.run.ensures in
     let text = c.args.bytes.items in
     subst (λ (s : Subcommand). Finds s text c.run.result) (sym c.in-Run.is) (run_finds c.in-Run.workers c.in-Run.limit text c.run.result r.ends r.only r.refused r.why r.not_yet r.write r.workers r.limit)
+
+pub returns-in-Reference : goal.returns-in-Reference
+returns-in-Reference g c =
+    let r = c.interpret.ensures in
+    let text = c.args.bytes.items in
+    subst (λ (s : Subcommand). Finds s text c.interpret.result) (sym c.in-Reference.is) (reference_finds c.in-Reference.limit text c.interpret.result r.ends r.only r.refused r.why r.write r.limit)

@@ -3,17 +3,17 @@ use Rattle.std.proofs.lemmas.List.{get_or_past}
 use Rattle.one_thread.proofs.Standing.{read_at}
 use Rattle.one_thread.proofs.places.lay.Goals as goal
 
-pub returns-then-place-places : goal.returns-then-place-places
-returns-then-place-places g c = λ one at. let none = get_or_past c.args.places.now c.args.place None (omega arith) in cc
+pub returns-then-place-places-clause-laid : goal.returns-then-place-places-clause-laid
+returns-then-place-places-clause-laid g c = λ one at. let none = get_or_past c.args.places.now c.args.place None (omega arith) in cc
 
-pub returns-in_default : goal.returns-in_default
-returns-in_default g c = λ one at.
+pub returns-in_default-clause-laid : goal.returns-in_default-clause-laid
+returns-in_default-clause-laid g c = λ one at.
     let read = read_at c.args.places.now c.args.place c.index-places-place.result None (omega arith) c.index-places-place.is in
     let no = c.in_default.is in
     cc
 
-pub returns : goal.returns
-returns g c = λ one at.
+pub returns-clause-laid : goal.returns-clause-laid
+returns-clause-laid g c = λ one at.
     let read = read_at c.args.places.now c.args.place c.index-places-place.result None (omega arith) c.index-places-place.is in
     let some = c.in-Some.is in
     cc

@@ -4,7 +4,7 @@ use Rattle.word.specs.Views.{reply_of}
 use Rattle.one_thread.proofs.Standing.{read_as, told_ok}
 use Rattle.one_thread.proofs.places.tell_at.Goals as goal
 
-pub returns : goal.returns
-returns g c =
+pub returns-clause-told : goal.returns-clause-told
+returns-clause-told g c =
     let read = read_as c.args.places.now c.args.place c.index-places-place.result None (Some c.in-Some.goroutine) (omega arith) c.in-Some.is in
     told_ok (kind_of (g.P.Interpreter.parts c.args.program.now)) (g.P.Interpreter.held c.args.program.now) c.tell.result c.args.places.now c.args.place c.in-Some.goroutine c.tell.new.goroutine c.args.clock (reply_of c.args.reply) read (omega arith) c.tell.ensures.told c.tell.ensures.awake

@@ -4,16 +4,16 @@ use Rattle.word.specs.Views.{reply_of}
 use Rattle.one_thread.proofs.Standing.{awake_woken, none_stays, read_as, woken_ok}
 use Rattle.one_thread.proofs.places.wake_at.Goals as goal
 
-pub returns : goal.returns
-returns g c =
+pub returns-clause-woken : goal.returns-clause-woken
+returns-clause-woken g c =
     let read = read_as c.args.places.now c.args.place c.index-places-place.result None (Some c.in-Some.goroutine) (omega arith) c.in-Some.is in
     woken_ok (kind_of (g.P.Interpreter.parts c.args.program.now)) (g.P.Interpreter.held c.args.program.now) c.tell.result c.args.places.now c.args.place c.in-Some.goroutine c.tell.new.goroutine c.args.clock (reply_of c.args.reply) read (omega arith) c.if-not-goroutine.false c.tell.ensures.told c.tell.ensures.awake
 
-pub returns-in_default : goal.returns-in_default
-returns-in_default g c =
+pub returns-in_default-clause-woken : goal.returns-in_default-clause-woken
+returns-in_default-clause-woken g c =
     none_stays (kind_of (g.P.Interpreter.parts c.args.program.now)) (g.P.Interpreter.held c.args.program.now) c.args.places.now c.args.place c.index-places-place.result c.args.clock (reply_of c.args.reply) (omega arith) c.index-places-place.is (c.index-places-place.is ∙ c.in_default.is)
 
-pub returns-then-not-goroutine : goal.returns-then-not-goroutine
-returns-then-not-goroutine g c =
+pub returns-then-not-goroutine-clause-woken : goal.returns-then-not-goroutine-clause-woken
+returns-then-not-goroutine-clause-woken g c =
     let read = read_as c.args.places.now c.args.place c.index-places-place.result None (Some c.in-Some.goroutine) (omega arith) c.in-Some.is in
     awake_woken (kind_of (g.P.Interpreter.parts c.args.program.now)) (g.P.Interpreter.held c.args.program.now) c.args.places.now c.args.place c.in-Some.goroutine c.args.clock (reply_of c.args.reply) (omega arith) read c.if-not-goroutine.true

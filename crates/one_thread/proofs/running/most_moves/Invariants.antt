@@ -1,10 +1,12 @@
 use Rattle.std.proofs.Common.{◌≡◌, ℕ, List, Option, None}
 use Rattle.word.specs.Related.{kind_of}
+use Rattle.one_thread.specs.Places.{AreWithin}
 use Rattle.one_thread.specs.Worlds.{Stands}
 use Rattle.one_thread.proofs.running.most_moves.Given as goal
 
 abbrev pub invariant-loop : goal.invariant-loop
 invariant-loop g l = record {
   going : l.shared.ending ≡ None;
+  within : AreWithin l.limit l.places.items;
   kept : (known : Option (List ℕ)) → Stands (kind_of (g.P.Interpreter.parts l.program)) (g.P.Interpreter.held l.program) l.limit known (g.W.Write.contents l.initial.output) l.initial.places.items l.initial.shared → Stands (kind_of (g.P.Interpreter.parts l.program)) (g.P.Interpreter.held l.program) l.limit known (g.W.Write.contents l.output) l.places.items l.shared;
 }

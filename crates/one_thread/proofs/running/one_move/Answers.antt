@@ -27,7 +27,7 @@ pub returns-in-Stepped-clause-goes : goal.returns-in-Stepped-clause-goes
 returns-in-Stepped-clause-goes g c = λ known st.
     let value = c.as_mut_slice.ensures.value in
     let back = written_back c.args.places.now.len c.args.places.now.items c.advance_at.new.places c.args.places.now.ok.0 (let kept = c.advance_at.auto.places in let same = ap length value in omega (arith, kept, same)) in
-    let turn = subst (λ (t : Turn). AdvancesAt (kind_of (g.P.Interpreter.parts c.args.program.now)) (g.P.Interpreter.held c.args.program.now) c.args.limit t c.as_mut_slice.result.now c.in-Some.key.number c.advance_at.new.places) c.in-Stepped.is c.in_ok-advance_at.ensures in
+    let turn = subst (λ (t : Turn). AdvancesAt (kind_of (g.P.Interpreter.parts c.args.program.now)) (g.P.Interpreter.held c.args.program.now) c.args.limit t c.as_mut_slice.result.now c.in-Some.key.number c.advance_at.new.places) c.in-Stepped.is c.in_ok-advance_at.ensures.turn in
     let there = subst (λ (x : List (Option (Goroutine g.row.P-State.Denot))). AdvancesAt (kind_of (g.P.Interpreter.parts c.args.program.now)) (g.P.Interpreter.held c.args.program.now) c.args.limit (turns.Stepped) x c.in-Some.key.number c.advance_at.new.places) value turn in
     let h = subst (λ (x : List (Option (Goroutine g.row.P-State.Denot))). AdvancesAt (kind_of (g.P.Interpreter.parts c.args.program.now)) (g.P.Interpreter.held c.args.program.now) c.args.limit (turns.Stepped) c.args.places.now.items c.in-Some.key.number x) (sym back) there in
     let key = rw c.as_slice.ensures.value at (sym c.least.ensures ∙ c.in-Some.is) in
@@ -37,7 +37,7 @@ pub returns-in-Exhausted-clause-goes : goal.returns-in-Exhausted-clause-goes
 returns-in-Exhausted-clause-goes g c = λ known st.
     let value = c.as_mut_slice.ensures.value in
     let back = written_back c.args.places.now.len c.args.places.now.items c.advance_at.new.places c.args.places.now.ok.0 (let kept = c.advance_at.auto.places in let same = ap length value in omega (arith, kept, same)) in
-    let turn = subst (λ (t : Turn). AdvancesAt (kind_of (g.P.Interpreter.parts c.args.program.now)) (g.P.Interpreter.held c.args.program.now) c.args.limit t c.as_mut_slice.result.now c.in-Some.key.number c.advance_at.new.places) c.in-Exhausted.is c.in_ok-advance_at.ensures in
+    let turn = subst (λ (t : Turn). AdvancesAt (kind_of (g.P.Interpreter.parts c.args.program.now)) (g.P.Interpreter.held c.args.program.now) c.args.limit t c.as_mut_slice.result.now c.in-Some.key.number c.advance_at.new.places) c.in-Exhausted.is c.in_ok-advance_at.ensures.turn in
     let there = subst (λ (x : List (Option (Goroutine g.row.P-State.Denot))). AdvancesAt (kind_of (g.P.Interpreter.parts c.args.program.now)) (g.P.Interpreter.held c.args.program.now) c.args.limit (turns.Exhausted) x c.in-Some.key.number c.advance_at.new.places) value turn in
     let h = subst (λ (x : List (Option (Goroutine g.row.P-State.Denot))). AdvancesAt (kind_of (g.P.Interpreter.parts c.args.program.now)) (g.P.Interpreter.held c.args.program.now) c.args.limit (turns.Exhausted) c.args.places.now.items c.in-Some.key.number x) (sym back) there in
     let key = rw c.as_slice.ensures.value at (sym c.least.ensures ∙ c.in-Some.is) in
@@ -48,7 +48,7 @@ returns-in-Asks-clause-goes g c =
     ok_more c.perform.result c.perform.ensures.goes (λ ending more known st.
     let value = c.as_mut_slice.ensures.value in
     let back = written_back c.args.places.now.len c.args.places.now.items c.advance_at.new.places c.args.places.now.ok.0 (let kept = c.advance_at.auto.places in let same = ap length value in omega (arith, kept, same)) in
-    let turn = subst (λ (t : Turn). AdvancesAt (kind_of (g.P.Interpreter.parts c.args.program.now)) (g.P.Interpreter.held c.args.program.now) c.args.limit t c.as_mut_slice.result.now c.in-Some.key.number c.advance_at.new.places) c.in-Asks.is c.in_ok-advance_at.ensures in
+    let turn = subst (λ (t : Turn). AdvancesAt (kind_of (g.P.Interpreter.parts c.args.program.now)) (g.P.Interpreter.held c.args.program.now) c.args.limit t c.as_mut_slice.result.now c.in-Some.key.number c.advance_at.new.places) c.in-Asks.is c.in_ok-advance_at.ensures.turn in
     let there = subst (λ (x : List (Option (Goroutine g.row.P-State.Denot))). AdvancesAt (kind_of (g.P.Interpreter.parts c.args.program.now)) (g.P.Interpreter.held c.args.program.now) c.args.limit (turns.Asks c.in-Asks.request c.in-Asks.later) x c.in-Some.key.number c.advance_at.new.places) value turn in
     let h = subst (λ (x : List (Option (Goroutine g.row.P-State.Denot))). AdvancesAt (kind_of (g.P.Interpreter.parts c.args.program.now)) (g.P.Interpreter.held c.args.program.now) c.args.limit (turns.Asks c.in-Asks.request c.in-Asks.later) c.args.places.now.items c.in-Some.key.number x) (sym back) there in
     let key = rw c.as_slice.ensures.value at (sym c.least.ensures ∙ c.in-Some.is) in
@@ -59,7 +59,7 @@ pub returns-in-Asks-clause-begins : goal.returns-in-Asks-clause-begins
 returns-in-Asks-clause-begins g c = λ known st.
     let value = c.as_mut_slice.ensures.value in
     let back = written_back c.args.places.now.len c.args.places.now.items c.advance_at.new.places c.args.places.now.ok.0 (let kept = c.advance_at.auto.places in let same = ap length value in omega (arith, kept, same)) in
-    let turn = subst (λ (t : Turn). AdvancesAt (kind_of (g.P.Interpreter.parts c.args.program.now)) (g.P.Interpreter.held c.args.program.now) c.args.limit t c.as_mut_slice.result.now c.in-Some.key.number c.advance_at.new.places) c.in-Asks.is c.in_ok-advance_at.ensures in
+    let turn = subst (λ (t : Turn). AdvancesAt (kind_of (g.P.Interpreter.parts c.args.program.now)) (g.P.Interpreter.held c.args.program.now) c.args.limit t c.as_mut_slice.result.now c.in-Some.key.number c.advance_at.new.places) c.in-Asks.is c.in_ok-advance_at.ensures.turn in
     let there = subst (λ (x : List (Option (Goroutine g.row.P-State.Denot))). AdvancesAt (kind_of (g.P.Interpreter.parts c.args.program.now)) (g.P.Interpreter.held c.args.program.now) c.args.limit (turns.Asks c.in-Asks.request c.in-Asks.later) x c.in-Some.key.number c.advance_at.new.places) value turn in
     let h = subst (λ (x : List (Option (Goroutine g.row.P-State.Denot))). AdvancesAt (kind_of (g.P.Interpreter.parts c.args.program.now)) (g.P.Interpreter.held c.args.program.now) c.args.limit (turns.Asks c.in-Asks.request c.in-Asks.later) c.args.places.now.items c.in-Some.key.number x) (sym back) there in
     let key = rw c.as_slice.ensures.value at (sym c.least.ensures ∙ c.in-Some.is) in

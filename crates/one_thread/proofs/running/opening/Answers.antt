@@ -2,8 +2,8 @@ use Rattle.std.proofs.Common.{ℕ, false, refl, ap, ◌∙◌}
 use Rattle.word.specs.Kinds.{at}
 use Rattle.one_thread.proofs.running.opening.Goals as goal
 
-pub returns : goal.returns
-returns g c =
+pub returns-clause-open : goal.returns-clause-open
+returns-clause-open g c =
     let items = c.in_ok-push.ensures.items in
     let more = c.in_ok-push-2.ensures.items in
     let empty = c.new-places.ensures.items in

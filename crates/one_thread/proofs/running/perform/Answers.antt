@@ -29,4 +29,4 @@ returns-clause-begins g c = λ limit known ask st.
 pub returns-clause-goes : goal.returns-clause-goes
 returns-clause-goes g c = λ limit known ask st.
     subst (λ (o : Option End). Goes (kind_of (g.P.Interpreter.parts c.args.program.now)) (g.P.Interpreter.held c.args.program.now) limit known (g.W.Write.contents c.print.new.output) c.apply.new.places.items c.perform.new.self o) (sym c.ending.ensures)
-    (goes_after (kind_of (g.P.Interpreter.parts c.args.program.now)) (g.P.Interpreter.held c.args.program.now) limit known (g.W.Write.contents c.args.output.now) c.args.places.now.items c.args.shared.now st c.args.place c.args.later (request_of c.args.request) c.in_ok-deed.deed c.perform.new.self ask c.in_ok-deed.ensures (g.W.Write.contents c.print.new.output) c.apply.new.places.items c.in_ok-print.ensures.ok (c.in_ok-apply.ensures ask.state ask.at.here))
+    (goes_after (kind_of (g.P.Interpreter.parts c.args.program.now)) (g.P.Interpreter.held c.args.program.now) limit known (g.W.Write.contents c.args.output.now) c.args.places.now.items c.args.shared.now st c.args.place c.args.later (request_of c.args.request) c.in_ok-deed.deed c.perform.new.self ask c.in_ok-deed.ensures (g.W.Write.contents c.print.new.output) c.apply.new.places.items c.in_ok-print.ensures.ok (c.in_ok-apply.ensures.applies ask.state ask.at.here))

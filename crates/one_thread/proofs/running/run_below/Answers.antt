@@ -7,8 +7,8 @@ returns-in_err-shared-clause-begins g c = (0, 0, appends_none (g.W.Write.content
 
 pub loop-init : goal.loop-init
 loop-init g c =
-    let stands = opened_stands (kind_of (g.P.Interpreter.parts c.args.program.now)) (g.P.Interpreter.held c.args.program.now) c.args.limit (g.W.Write.contents c.args.output.now) c.in_ok-places.places.items c.in_ok-shared.shared c.in_ok-places.ensures c.in_ok-shared.ensures in
-    record { going = stands.goes_on; stands = stands }
+    let stands = opened_stands (kind_of (g.P.Interpreter.parts c.args.program.now)) (g.P.Interpreter.held c.args.program.now) c.args.limit (g.W.Write.contents c.args.output.now) c.in_ok-places.places.items c.in_ok-shared.shared c.in_ok-places.ensures.open c.in_ok-shared.ensures in
+    record { going = stands.goes_on; within = c.in_ok-places.ensures.within c.args.limit; stands = stands }
 
 pub returns-in_err-end-clause-begins : goal.returns-in_err-end-clause-begins
 returns-in_err-end-clause-begins g c = c.most_moves.ensures.begins (g.W.Write.contents c.args.output.now) c.loop.invariant.stands

@@ -1,0 +1,13 @@
+use Rattle.std.proofs.Common.{IfOk, subst}
+use Rattle.syntax.specs.Tree.{File}
+use Rattle.meaning.specs.Source.{source_kind}
+use Rattle.one_thread.specs.Worlds.{BeginsOutput, IsWhole}
+use Rattle.reference.proofs.run.run_source.Goals as goal
+
+pub returns-clause-begins : goal.returns-clause-begins
+returns-clause-begins g c =
+    subst (λ (file : File). BeginsOutput (source_kind file) c.args.limit (g.O.Write.contents c.args.out.now) (g.O.Write.contents c.run.new.output)) c.in_ok-program.ensures c.run.ensures.begins
+
+pub returns-clause-whole : goal.returns-clause-whole
+returns-clause-whole g c =
+    subst (λ (file : File). IfOk c.run.result (λ end. IsWhole (source_kind file) c.args.limit (g.O.Write.contents c.args.out.now) (g.O.Write.contents c.run.new.output) end)) c.in_ok-program.ensures c.run.ensures.whole

@@ -1,0 +1,79 @@
+//! Goroutines at their beginning.
+
+ghost use Rattle.std.specs.Prelude.{◌≡◌, IfOk, drop, slice_get, take};
+ghost use Rattle.syntax.specs.View.{file_of, function_of};
+ghost use Rattle.type_table.specs.Visible.{types_of};
+ghost use Rattle.meaning.specs.Source.{begun, functions, globals, parameters_of, split};
+ghost use Rattle.reference_base.specs.Calls.{parameters_in};
+ghost use Rattle.reference_base.specs.Tasks.{frames_of};
+ghost use Rattle.reference_value.specs.Values.{values_of};
+
+use reference_base::call::{Parameter, called, function_of, parameters};
+use reference_base::program::Program;
+use reference_base::task::Frame;
+use reference_value::part::words_in;
+use std::alloc::{AllocError, Global};
+use syntax::FunctionNode;
+use word::value::Word;
+
+/// The first so many words, and those behind them.
+fn parted(words: &[Word], count: usize) -> (&[Word], &[Word])
+    ensures first { result.0.now ≡ take count words.now }
+    ensures rest { result.1.now ≡ drop count words.now }
+{
+    if count < words.len() {
+        words.split_at(count)
+    } else {
+        (words, &[])
+    }
+}
+
+/// Words as the values of these parameters.
+fn split<'a, 't>(
+    alloc: Global,
+    program: &'a Program<'t>,
+    parameters: &'a [Parameter<'t>],
+    words: &'a [Word],
+) -> Result<Vec<Vec<Word>>, AllocError>
+    ensures { IfOk result (λ v. values_of v.items ≡ split (file_of program.now.file.now) (parameters_in (types_of program.now.table) parameters.now) words.now) }
+{
+    let Some((parameter, parameters)) = parameters.split_first() else {
+        return Ok(Vec::new(alloc));
+    };
+    let (value, words) = parted(words, words_in(&program.table, parameter.kind));
+    let mut all = split(alloc, program, parameters, words)?;
+    all.insert(0, Vec::from_slice(alloc, value)?)?;
+    Ok(all)
+}
+
+/// The values that a function's parameters take from the words of its arguments.
+#[tactic(auto, using(crate::proofs::Functions::split_settled))]
+fn arguments_of<'t>(
+    alloc: Global,
+    program: &Program<'t>,
+    function: &'t FunctionNode,
+    words: &[Word],
+) -> Result<Vec<Vec<Word>>, AllocError>
+    ensures { IfOk result (λ v. values_of v.items ≡ split (file_of program.now.file.now) (parameters_of (globals (file_of program.now.file.now)) (function_of function.now)) words.now) }
+{
+    let all = parameters(alloc, &program.table, function.parameters.as_slice())?;
+    split(alloc, program, all.as_slice(), words)
+}
+
+/// A goroutine at the beginning of the function of this number.
+pub(crate) fn begun<'t>(
+    alloc: Global,
+    program: &Program<'t>,
+    number: u32,
+    arguments: &[Word],
+) -> Result<Vec<Frame<'t>>, AllocError>
+    ensures { IfOk result (λ frames. frames_of (types_of program.now.table) frames.items ≡ begun (file_of program.now.file.now) (slice_get (functions (file_of program.now.file.now)) number) arguments.now) }
+{
+    let mut frames = Vec::new(alloc);
+    let Some(function) = function_of(program, number) else {
+        return Ok(frames);
+    };
+    let values = arguments_of(alloc, program, function, arguments)?;
+    frames.push(called(alloc, program, function, values.as_slice())?)?;
+    Ok(frames)
+}

@@ -1,0 +1,9 @@
+//! The reference interpreter: runs a program as its source says, all goroutines in one thread.
+#![tactic(auto)]
+
+mod begin;
+mod program;
+mod run;
+mod source;
+
+pub use run::run_source;

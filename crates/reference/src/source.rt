@@ -1,0 +1,57 @@
+//! The source of a program as a kind of goroutine.
+
+use crate::begin::begun;
+use go_text::Memory;
+use one_thread::{Interpreter, Step};
+use reference_base::program::Program;
+use reference_base::start::main_number;
+use reference_base::task::Frame;
+use reference_reply::reply::answer;
+use reference_task::step::step;
+use std::alloc::Global;
+use word::request::Reply;
+use word::value::Word;
+
+/// A program, interpreted.
+#[derive(Drop)]
+pub(crate) struct Source<'t> {
+    pub(crate) program: Program<'t>,
+}
+
+impl<'t> Interpreter for Source<'t> {
+    ghost use Rattle.syntax.specs.View.{file_of};
+    ghost use Rattle.type_table.specs.Visible.{types_of};
+    ghost use Rattle.meaning.specs.Tasks.{Frames};
+    ghost use Rattle.reference_base.specs.Tasks.{frames_of};
+    ghost use Rattle.reference.specs.Kinds.{source_parts};
+
+    type State = Vec<Frame<'t>>;
+
+    ghost Held = { Frames };
+
+    ghost parts = { λ source. source_parts (file_of source.program.file.now) };
+
+    ghost held = { λ source frames. frames_of (types_of source.program.table) frames.items };
+
+    fn step(&self, alloc: Global, state: &mut Self::State) -> Result<Step, Memory> {
+        step(alloc, &self.program, state)
+    }
+
+    fn answer(&self, alloc: Global, state: &mut Self::State, reply: Reply) -> Result<(), Memory> {
+        answer(alloc, state, reply)
+    }
+
+    fn begin(
+        &self,
+        alloc: Global,
+        function: u32,
+        arguments: &[Word],
+    ) -> Result<Self::State, Memory> {
+        let frames = begun(alloc, &self.program, function, arguments)?;
+        Ok(frames)
+    }
+
+    fn main(&self) -> u32 {
+        main_number(&self.program)
+    }
+}

@@ -1,0 +1,5 @@
+//! Goroutines as the source says: what becomes of the values that calls and requests give.
+#![tactic(auto)]
+
+pub mod reply;
+mod values;

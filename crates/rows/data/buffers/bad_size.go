@@ -1,0 +1,1 @@
+package main; func main() { n := -1; c := make(chan int, n); close(c) }

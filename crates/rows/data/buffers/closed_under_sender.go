@@ -1,0 +1,1 @@
+package main; func main() { c := make(chan int); go f(c); x := 0; close(c); <-c }; func f(c chan int) { c <- 7 }

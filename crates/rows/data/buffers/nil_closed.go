@@ -1,0 +1,1 @@
+package main; func main() { var c chan int; close(c) }

@@ -1,0 +1,1 @@
+package main; func main() { c := make(chan int, 1); go f(c); x := 0; x = 1; x = 2; for v := range c { println(v) } }; func f(c chan int) { c <- 1; c <- 2; close(c) }

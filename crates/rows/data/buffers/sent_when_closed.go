@@ -1,0 +1,1 @@
+package main; func main() { c := make(chan int); close(c); c <- 1 }

@@ -1,0 +1,1 @@
+package main; func main() { c := make(chan int, 2); c <- 1; c <- 2; close(c); for v := range c { println(v) }; v, ok := <-c; println(v, ok) }

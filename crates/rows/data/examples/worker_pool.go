@@ -1,0 +1,55 @@
+package main
+
+// A job brings the channel on which its answer is awaited.
+type job struct {
+	number int
+	answer chan<- int
+}
+
+// Three workers share the jobs, and whoever is free takes the next one. The answers are printed in the order of the jobs:
+// the channels on which they are awaited stand in a queue.
+func main() {
+	jobs := make(chan job)
+	awaited := make(chan chan int, 12)
+	for i := 0; i < 3; i++ {
+		go work(jobs)
+	}
+	go submit(jobs, awaited)
+	number := 1
+	for answer := range awaited {
+		steps := <-answer
+		println("from", number, "to 1 in", steps, "steps")
+		number++
+	}
+}
+
+func submit(jobs chan<- job, awaited chan<- chan int) {
+	for i := 1; i <= 12; i++ {
+		answer := make(chan int, 1)
+		awaited <- answer
+		jobs <- job{i, answer}
+	}
+	close(jobs)
+	close(awaited)
+}
+
+func work(jobs <-chan job) {
+	for it := range jobs {
+		steps := collatz(it.number)
+		it.answer <- steps
+	}
+}
+
+// How many times a number is halved, or tripled and incremented, until it is 1.
+func collatz(number int) int {
+	steps := 0
+	for number != 1 {
+		if number%2 == 0 {
+			number /= 2
+		} else {
+			number = 3*number + 1
+		}
+		steps++
+	}
+	return steps
+}

@@ -1,0 +1,1 @@
+package main; func main() { go a(0); go b(); select {} }; func a(z int) { x := 1 / z; println(x) }; func b() { println(5) }

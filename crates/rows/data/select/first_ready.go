@@ -1,0 +1,1 @@
+package main; func main() { a := make(chan int, 1); b := make(chan int, 1); b <- 2; a <- 1; select { case x := <-b: println(x); case y := <-a: println(y, y); default: println(0) } }

@@ -1,0 +1,1 @@
+package main; func main() { var c chan int; a := len(c); b := cap(c); println(a, b); select { case <-c: println(1); default: println(2) } }

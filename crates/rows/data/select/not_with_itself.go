@@ -1,0 +1,1 @@
+package main; func main() { c := make(chan int); select { case c <- 1: case <-c: } }

@@ -1,0 +1,1 @@
+package main; func main() { a := make(chan int); b := make(chan int); go f(a, b); x := 0; x = <-a; println(x); y := <-b; println(y) }; func f(a chan int, b chan int) { select { case a <- 1: case b <- 2: }; b <- 3 }

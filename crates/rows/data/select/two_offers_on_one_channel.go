@@ -1,0 +1,1 @@
+package main; func main() { c := make(chan int); go f(c); select { case x := <-c: println(x); case y := <-c: println(y, y) } }; func f(c chan int) { c <- 7 }

@@ -1,0 +1,1 @@
+package main; func main() { s := 0; for i := 0; i < 3; i++ { s += i }; println(s) }

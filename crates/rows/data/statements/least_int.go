@@ -1,0 +1,1 @@
+package main; func main() { x := -9223372036854775808; println(x / -1, x % -1) }

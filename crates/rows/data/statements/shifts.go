@@ -1,0 +1,1 @@
+package main; func main() { x := -7; println("a", x / 2, x % 2, x >> 1, x >> 64) }

@@ -1,0 +1,1 @@
+package main; func main() { x, y := 1, 2; x, y = y, x; println(x, y) }

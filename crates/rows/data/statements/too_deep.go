@@ -1,0 +1,1 @@
+package main; func main() { f(0) }; func f(n int) int { return f(n) }

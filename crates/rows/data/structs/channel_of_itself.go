@@ -1,0 +1,1 @@
+package main; type T struct { c chan T }; func main() { d := make(chan T, 1); d <- T{d}; v := <-d; n := len(v.c); println(n) }

@@ -1,0 +1,1 @@
+package main; type T struct { a int; c chan<- int }; func main() { q := make(chan T); go s(q); r := make(chan int); q <- T{20, r}; x := <-r; println(x) }; func s(q <-chan T) { m := <-q; y := m.a + 1; m.c <- y }

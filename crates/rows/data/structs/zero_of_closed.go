@@ -1,0 +1,1 @@
+package main; type T struct { a int; b bool }; func main() { c := make(chan T); close(c); v, ok := <-c; println(v.a, v.b, ok) }

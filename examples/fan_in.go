@@ -1,0 +1,40 @@
+package main
+
+// Two sources and one select, which takes whatever comes first, up to the end of both. Which of them that is changes
+// nothing that is printed: the sums don't depend on the order.
+func main() {
+	evens := make(chan int)
+	threes := make(chan int)
+	go multiples(2, 10, evens)
+	go multiples(3, 7, threes)
+	total, ofEvens, ofThrees := 0, 0, 0
+	for open := 2; open > 0; {
+		select {
+		case it, ok := <-evens:
+			if !ok {
+				// nothing ever comes from nil, so this clause is out of the way
+				evens = nil
+				open--
+				break
+			}
+			ofEvens++
+			total += it
+		case it, ok := <-threes:
+			if !ok {
+				threes = nil
+				open--
+				break
+			}
+			ofThrees++
+			total += it
+		}
+	}
+	println(ofEvens, "multiples of 2 and", ofThrees, "of 3, in all", total)
+}
+
+func multiples(of, count int, out chan<- int) {
+	for i := 1; i <= count; i++ {
+		out <- i * of
+	}
+	close(out)
+}
