@@ -1,2 +1,4 @@
 pub mod Pushed
 pub mod Operating
+pub mod Storing
+pub mod Placing

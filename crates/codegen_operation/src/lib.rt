@@ -1,5 +1,9 @@
 //! The instructions of operations, assignments and simple statements.
 #![tactic(auto)]
 
+pub mod assignment;
+pub mod layout;
 pub mod operation;
+pub mod place;
+pub mod spot;
 pub mod values;
