@@ -2,3 +2,4 @@ pub mod Pushed
 pub mod Operating
 pub mod Storing
 pub mod Placing
+pub mod Giving

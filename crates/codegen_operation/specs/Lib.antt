@@ -1,3 +1,4 @@
 pub mod Operations
 pub mod Spots
 pub mod Layouts
+pub mod Given

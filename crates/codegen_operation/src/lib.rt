@@ -2,6 +2,7 @@
 #![tactic(auto)]
 
 pub mod assignment;
+pub mod given;
 pub mod layout;
 pub mod operation;
 pub mod place;

@@ -204,7 +204,7 @@ pub fn push_operation(
 }
 
 /// Whether the operation is a receive.
-fn is_receive(operation: &OperationNode) -> bool
+pub(crate) fn is_receive(operation: &OperationNode) -> bool
     ensures { result ≡ is_receive (operation_of operation.now) }
 {
     matches!(operation, OperationNode::Receive(_))

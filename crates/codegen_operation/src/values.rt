@@ -42,7 +42,7 @@ pub fn push(
 }
 
 /// The type of an operand.
-fn kind_in<'t>(worth: Worth<'t>) -> ValueType<'t>
+pub(crate) fn kind_in<'t>(worth: Worth<'t>) -> ValueType<'t>
     ensures { (types : _) → kind_of types result ≡ kind_in (worth_of types worth.entry) }
 {
     match worth {
