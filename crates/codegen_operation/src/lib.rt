@@ -2,6 +2,7 @@
 #![tactic(auto)]
 
 pub mod assignment;
+pub mod define;
 pub mod given;
 pub mod layout;
 pub mod operation;
