@@ -1,10 +1,11 @@
 //! Names that are declared, and take values ("Short variable declarations", "Variable declarations" of the Go specification).
 
-ghost use Rattle.std.specs.Prelude.{◌≡◌, IfOk, OnOk, map};
+ghost use Rattle.std.specs.Prelude.{◌≡◌, IfOk, List, OnOk, map};
 ghost use Rattle.syntax.specs.View.{name_of};
 ghost use Rattle.type_table.specs.Scopes.{own_variable};
 ghost use Rattle.type_table.specs.Views.{kind_of};
 ghost use Rattle.type_table.specs.Visible.{Keeps, globals_in, scope_of, types_of};
+ghost use Rattle.codegen_base.specs.declared.element.Element.{Element};
 ghost use Rattle.codegen_base.specs.Layouts.{declaring_all};
 ghost use Rattle.codegen_base.specs.Statements.{name_spot, name_spots, name_type, name_types, own_spot};
 ghost use Rattle.codegen_operation.specs.Layouts.{layout_of};
@@ -95,7 +96,7 @@ fn name_type<'a>(
     name: &Name,
     kind: ValueType<'a>,
 ) -> ValueType<'a>
-    ensures { kind_of (types_of table.now) result ≡ name_type (kind_of (types_of table.now) kind.entry) (own_variable (scope_of table.now visible.now) (name_of name.now)) }
+    ensures { (elements : List Element) → kind_of (types_of table.now) result ≡ name_type (globals_in table.now) elements (kind_of (types_of table.now) kind.entry) (own_variable (scope_of table.now visible.now) (name_of name.now)) }
 {
     match own_variable(table, visible, name.bytes.as_slice()) {
         Some(entry) => entry.kind,
@@ -113,7 +114,7 @@ pub fn name_types<'t, 'l, 'n, 'k, 'a>(
     names: &'n [Name],
     kinds: &'k [ValueType<'a>],
 ) -> Result<Vec<ValueType<'a>>, Halt>
-    ensures { IfOk result (λ taken. map (kind_of (types_of table.now)) taken.items ≡ name_types (layout_of table.now layout.now) (map name_of names.now) (map (kind_of (types_of table.now)) kinds.now)) }
+    ensures { IfOk result (λ taken. (elements : List Element) → map (kind_of (types_of table.now)) taken.items ≡ name_types (globals_in table.now) elements (layout_of table.now layout.now) (map name_of names.now) (map (kind_of (types_of table.now)) kinds.now)) }
 {
     let Some((name, names)) = names.split_first() else {
         return Ok(Vec::new(alloc));
