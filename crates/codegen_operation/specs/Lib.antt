@@ -2,3 +2,4 @@ pub mod Operations
 pub mod Spots
 pub mod Layouts
 pub mod Given
+pub mod Simples

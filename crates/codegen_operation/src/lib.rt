@@ -7,5 +7,7 @@ pub mod given;
 pub mod layout;
 pub mod operation;
 pub mod place;
+pub mod print;
 pub mod spot;
+pub mod update;
 pub mod values;
