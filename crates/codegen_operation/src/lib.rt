@@ -8,6 +8,7 @@ pub mod layout;
 pub mod operation;
 pub mod place;
 pub mod print;
+pub mod simple;
 pub mod spot;
 pub mod update;
 pub mod values;

@@ -1,9 +1,11 @@
 //! Assignments with an operator ("Assignment statements", "IncDec statements" of the Go specification).
 
-ghost use Rattle.std.specs.Prelude.{◌≡◌, OnOk};
+ghost use Rattle.std.specs.Prelude.{◌≡◌, List, OnOk};
 ghost use Rattle.syntax.specs.View.{expression_of, place_of};
 ghost use Rattle.checker_base.specs.Worths.{is_logical, worth};
+ghost use Rattle.type_table.specs.Scopes.{Globals, Scope};
 ghost use Rattle.type_table.specs.Visible.{globals_in, scope_of};
+ghost use Rattle.codegen_base.specs.declared.element.Element.{Element};
 ghost use Rattle.codegen_base.specs.Layouts.{type_of};
 ghost use Rattle.codegen_base.specs.Pushes.{emits};
 ghost use Rattle.codegen_base.specs.Statements.{loads_spot, steps, updates};
@@ -26,7 +28,7 @@ use type_table::value_type::ValueType;
 
 /// Pushes the value that lies at a spot.
 fn load(spot: Spot, code: &mut Vec<Instr>) -> Result<(), Halt>
-    ensures { OnOk result (Puts code.old.items code.new.items (loads_spot (spot_in spot))) }
+    ensures { (globals : Globals) (elements : List Element) (scope : Scope) → OnOk result (Puts code.old.items code.new.items (loads_spot globals elements scope (spot_in spot))) }
 {
     if let Spot::Local(place, words) = spot {
         code.push(Instr::Load(place, words))?;
