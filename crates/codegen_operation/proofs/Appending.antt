@@ -1,9 +1,12 @@
 -- Parts that make whole plans.
-use Rattle.std.proofs.Common.{◌≡◌, ℕ, ℤ, false, List, [], ◌∷◌, ◌++◌, sym, ◌∙◌}
-use Rattle.std.proofs.lemmas.List.{append-nil}
-use Rattle.syntax.specs.declared.node.BinaryOperator.{BinaryOperator}
+use Rattle.std.proofs.Common.{◌≡◌, ℕ, List, [], ◌∷◌, ◌++◌, length, subst}
+use Rattle.syntax.specs.Tree.{Place, Right}
 use Rattle.bytecode.specs.declared.instr.Instr.{Instr}
-use Rattle.bytecode.specs.declared.instr.Instr.TheVariants as instrs
+use Rattle.type_table.specs.Types.{ValueType}
+use Rattle.type_table.specs.Scopes.{Globals, Scope}
+use Rattle.codegen_base.specs.declared.element.Element.{Element}
+use Rattle.codegen_base.specs.Layouts.{Layout}
+use Rattle.codegen_base.specs.Statements.{Spot, assigns, defines, name_spots, name_types, place_spots, pushes_right, right_types, sets, taken_types}
 use Rattle.plan.specs.Plan.{Plan, Do, Skip}
 use Rattle.codegen_expression.specs.Emission.{Puts}
 use Rattle.codegen_expression.proofs.Emitting.{puts_both, puts_do, puts_alone}
@@ -31,3 +34,20 @@ ends_update i0 i1 i2 i3 i4 i5 left right more i j p q is m last =
     let two = puts_both i0 i1 i2 left right p q in
     let three = puts_both i0 i2 i3 (λ rest. left (right rest)) (Do i) two (puts_do i2 i3 i is) in
     ends_send i0 i3 i4 i5 (λ rest. left (right (Do i rest))) more j three m last
+
+-- ---- what a right side gives goes to places or names
+
+module _ (globals : Globals) (elements : List Element) (right : Right) (count : ℕ) (given taken : List ValueType) (spots : List Spot) (i0 i1 i2 : List Instr) where
+  pub appends_set : (scope : Scope) (places : List Place) → count ≡ length places → given ≡ right_types globals elements scope count right → taken ≡ taken_types globals elements scope places given → spots ≡ place_spots globals elements scope places given
+      → Puts i0 i1 (pushes_right globals elements scope count taken right) → Puts i1 i2 (assigns spots) → Appends i0 i2 (sets globals elements scope places (right_types globals elements scope (length places) right) right)
+  appends_set scope places n g t s p q =
+      let types = right_types globals elements scope (length places) right in
+      let e : pushes_right globals elements scope count taken right (assigns spots Skip) ≡ pushes_right globals elements scope (length places) (taken_types globals elements scope places types) right (assigns (place_spots globals elements scope places types) Skip) = cc in
+      subst (Appends i0 i2) e (ends_two i0 i1 i2 (pushes_right globals elements scope count taken right) (assigns spots) p q)
+
+  pub appends_define : (layout : Layout) (names : List (List ℕ)) → count ≡ length names → given ≡ right_types globals elements layout.scope count right → taken ≡ name_types globals elements layout names given → spots ≡ name_spots globals elements layout names given
+      → Puts i0 i1 (pushes_right globals elements layout.scope count taken right) → Puts i1 i2 (assigns spots) → Appends i0 i2 (defines globals elements layout names (right_types globals elements layout.scope (length names) right) right)
+  appends_define layout names n g t s p q =
+      let types = right_types globals elements layout.scope (length names) right in
+      let e : pushes_right globals elements layout.scope count taken right (assigns spots Skip) ≡ pushes_right globals elements layout.scope (length names) (name_types globals elements layout names types) right (assigns (name_spots globals elements layout names types) Skip) = cc in
+      subst (Appends i0 i2) e (ends_two i0 i1 i2 (pushes_right globals elements layout.scope count taken right) (assigns spots) p q)

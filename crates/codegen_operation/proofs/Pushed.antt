@@ -1,5 +1,5 @@
 -- Values that are pushed as values of a type.
-use Rattle.std.proofs.Common.{◌≡◌, ℕ, List, [], ◌∷◌, ◌++◌, map, Option, Some, sym, subst}
+use Rattle.std.proofs.Common.{◌≡◌, List, ◌∷◌, ◌++◌, Some, sym, subst}
 use Rattle.syntax.specs.Tree.{Expression}
 use Rattle.bytecode.specs.declared.instr.Instr.{Instr}
 use Rattle.type_table.specs.Types.{ValueType}
@@ -10,7 +10,7 @@ use Rattle.meaning.specs.Values.{known}
 use Rattle.codegen_base.specs.declared.element.Element.{Element}
 use Rattle.codegen_base.specs.Pushes.{emits, pushes, pushes_all, pushes_own, settled}
 use Rattle.codegen_expression.specs.Emission.{Emits, Puts, kind_in, settling}
-use Rattle.codegen_expression.proofs.Emitting.{puts_both, puts_none}
+use Rattle.codegen_expression.proofs.Emitting.{puts_both}
 use Rattle.codegen_expression.proofs.Operating.{puts_settled}
 
 module _ (globals : Globals) (elements : List Element) (scope : Scope) where

@@ -1,16 +1,14 @@
 -- Words that go to their spots, the last one first.
-use Rattle.std.proofs.Common.{◌≡◌, ◌<◌, ◌≤◌, ℕ, zero, suc, ◌+◌, ◌-◌, Bool, true, false, cond, arith, List, [], ◌∷◌, ◌++◌, map, length, get_or, refl, sym, ap, ◌∙◌, subst}
-use Rattle.std.specs.Prelude.{if◌then◌else◌, nat_eq}
-use Rattle.std.proofs.lemmas.List.{append-nil}
+use Rattle.std.proofs.Common.{◌≡◌, ◌<◌, ◌≤◌, ℕ, zero, suc, ◌+◌, ◌-◌, arith, List, [], ◌∷◌, ◌++◌, map, length, get_or, refl, sym, ap, ◌∙◌}
 use Rattle.bytecode.specs.declared.instr.Instr.{Instr}
 use Rattle.bytecode.specs.declared.instr.Instr.TheVariants as instrs
 use Rattle.codegen_base.specs.Pushes.{drops}
-use Rattle.codegen_base.specs.Statements.{Spot, Dropped, Local, assigns, has_place, last_counts, single_spots, singles, stores, stores_all}
-use Rattle.plan.specs.Plan.{Plan, Do}
+use Rattle.codegen_base.specs.Statements.{Spot, Local, assigns, last_counts, single_spots, singles, stores, stores_all}
+use Rattle.plan.specs.Plan.{Plan}
 use Rattle.codegen_expression.specs.Emission.{Puts}
 use Rattle.codegen_operation.specs.declared.spot.Spot.{Spot as InMemory}
 use Rattle.codegen_operation.specs.Spots.{spot_in, stores_each}
-use Rattle.codegen_expression.proofs.Emitting.{puts_both, puts_do, puts_none}
+use Rattle.codegen_expression.proofs.Emitting.{puts_do, puts_none}
 use Rattle.codegen_operation.proofs.Operating.{puts_then}
 
 pub puts_no_drop : (count : ℕ) (old : List Instr) → count ≡ 0 → Puts old old (drops count)

@@ -1,5 +1,5 @@
 -- Assignments with an operator.
-use Rattle.std.proofs.Common.{◌≡◌, ℕ, false, List, [], ◌∷◌, ◌++◌, Option, Some, pos, refl, sym, ap, ◌∙◌, subst}
+use Rattle.std.proofs.Common.{◌≡◌, false, List, [], ◌∷◌, ◌++◌, Some, pos, sym, ap, ◌∙◌, subst}
 use Rattle.syntax.specs.declared.node.BinaryOperator.{BinaryOperator}
 use Rattle.syntax.specs.Tree.{Expression, Place}
 use Rattle.word.specs.declared.apply.Op.{Op}
@@ -13,10 +13,10 @@ use Rattle.checker_operation.specs.Operations.{selected}
 use Rattle.meaning.specs.Values.{known}
 use Rattle.codegen_base.specs.declared.element.Element.{Element}
 use Rattle.codegen_base.specs.Layouts.{type_of}
-use Rattle.codegen_base.specs.Pushes.{between, emits, operates, operator_of, pushes, settled}
+use Rattle.codegen_base.specs.Pushes.{emits, operates, operator_of, pushes}
 use Rattle.codegen_base.specs.Statements.{Spot, loads_spot, spot_of, steps, stores, updates}
 use Rattle.checker_base.specs.Worths.{Typed}
-use Rattle.plan.specs.Plan.{Plan, Do, Skip, flat}
+use Rattle.plan.specs.Plan.{Do, Skip}
 use Rattle.codegen_expression.specs.Emission.{Puts}
 use Rattle.codegen_expression.proofs.Emitting.{puts_do}
 use Rattle.codegen_expression.proofs.Operating.{plain}
@@ -24,7 +24,7 @@ use Rattle.codegen_operation.specs.Simples.{Appends}
 use Rattle.codegen_operation.proofs.Appending.{ends_update}
 
 module _ (globals : Globals) (elements : List Element) (scope : Scope) (operator : BinaryOperator) (place : Place) (part : Selected) (spot : Spot) (op : Op) (i0 i1 i2 i3 i4 i5 : List Instr)
-  (to : selected globals scope place ≡ Some part) (at : spot ≡ spot_of globals elements scope (Some part)) (load : Puts i0 i1 (loads_spot globals elements scope spot)) (apply : i3 ≡ i2 ++ instrs.Apply op ∷ []) (stored : Puts i3 i4 (stores spot)) (last : i5 ≡ i4 ++ instrs.Tick ∷ []) where
+    (to : selected globals scope place ≡ Some part) (at : spot ≡ spot_of globals elements scope (Some part)) (load : Puts i0 i1 (loads_spot globals elements scope spot)) (apply : i3 ≡ i2 ++ instrs.Apply op ∷ []) (stored : Puts i3 i4 (stores spot)) (last : i5 ≡ i4 ++ instrs.Tick ∷ []) where
   spot_there : spot_of globals elements scope (selected globals scope place) ≡ spot
   spot_there = ap (spot_of globals elements scope) to ∙ sym at
 

@@ -1,5 +1,5 @@
 -- The types of what a right side gives.
-use Rattle.std.specs.Prelude.{ℕ, ◌==◌, ◌&&◌, List, [], ◌∷◌, map, Some, option_map, if◌then◌else◌}
+use Rattle.std.specs.Prelude.{ℕ, ◌==◌, ◌&&◌, List, [], ◌∷◌, if◌then◌else◌}
 use Rattle.syntax.specs.Tree.{Expression, Operation}
 use Rattle.type_table.specs.Types.{ValueType, BoolType}
 use Rattle.type_table.specs.Scopes.{Globals, Scope}

@@ -1,6 +1,6 @@
 //! Simple statements ("Statements" of the Go specification).
 
-ghost use Rattle.std.specs.Prelude.{◌≡◌, ◌+◌, ℕ, OnOk, length, map};
+ghost use Rattle.std.specs.Prelude.{◌≡◌, ◌+◌, OnOk, length, map};
 ghost use Rattle.bytecode.specs.declared.instr.Instr.TheVariants as instrs;
 ghost use Rattle.syntax.specs.View.{expression_of, name_of, part_of, place_of, right_of, simple_of};
 ghost use Rattle.type_table.specs.Scopes.{Scope};
@@ -8,7 +8,7 @@ ghost use Rattle.type_table.specs.Visible.{Keeps, globals_in, scope_of};
 ghost use Rattle.meaning.specs.Destinations.{number_of};
 ghost use Rattle.checker_operation.specs.Operations.{result_of};
 ghost use Rattle.codegen_base.specs.Elements.{shape_of};
-ghost use Rattle.codegen_base.specs.Layouts.{Layout as OneLayout, behind_simple, carried, declaring_all};
+ghost use Rattle.codegen_base.specs.Layouts.{behind_simple, carried, declaring_all};
 ghost use Rattle.codegen_base.specs.Pushes.{drops, pushes, pushes_own};
 ghost use Rattle.codegen_base.specs.Statements.{defines, pushes_arguments, pushes_parts, pushes_received, result_words, right_types, sets, simple_plan, width};
 ghost use Rattle.plan.specs.Plan.{Do, Skip};
@@ -63,7 +63,7 @@ fn call(
     arguments: &ArgumentsNode,
     code: &mut Vec<Instr>,
 ) -> Result<(), Halt>
-    ensures { (function : ℕ) → function ≡ number_of (globals_in table.now) (name_of name.now) → OnOk result (Appends code.old.items code.new.items (pushes_arguments (globals_in table.now) elements.now (scope_of table.now visible.now) function (map expression_of arguments.now.values.items) (Do (instrs.Call function) (drops (result_words (globals_in table.now) elements.now (scope_of table.now visible.now) (result_of (globals_in table.now) function)) Skip)))) }
+    ensures { OnOk result (Appends code.old.items code.new.items (pushes_arguments (globals_in table.now) elements.now (scope_of table.now visible.now) (number_of (globals_in table.now) (name_of name.now)) (map expression_of arguments.now.values.items) (Do (instrs.Call (number_of (globals_in table.now) (name_of name.now))) (drops (result_words (globals_in table.now) elements.now (scope_of table.now visible.now) (result_of (globals_in table.now) (number_of (globals_in table.now) (name_of name.now)))) Skip)))) }
 {
     let function = push_arguments(alloc, table, elements, visible, name, arguments, code)?;
     code.push(Instr::Call(function))?;
@@ -183,7 +183,16 @@ fn define<'a>(
     let given = given.as_slice();
     let taken = name_types(alloc, table, layout, names, given)?;
     let kinds = taken.as_slice();
-    push_right(alloc, table, elements, &layout.visible, kinds, count, right, code)?;
+    push_right(
+        alloc,
+        table,
+        elements,
+        &layout.visible,
+        kinds,
+        count,
+        right,
+        code,
+    )?;
     let spots = define_names(alloc, table, elements, layout, names, given)?;
     assign(alloc, spots.as_slice(), code)?;
     Ok(())
@@ -194,13 +203,14 @@ fn emit_plain<'a>(
     alloc: Global,
     table: &TypeTable<'a>,
     elements: &ElementList,
-    visible: &Visible<'a>,
+    layout: &Layout<'a>,
     number: u32,
     simple: &'a SimpleNode,
     code: &mut Vec<Instr>,
 ) -> Result<(), Halt>
-    ensures { (layout : OneLayout) → layout.scope ≡ scope_of table.now visible.now → OnOk result (Appends code.old.items code.new.items (simple_plan (globals_in table.now) elements.now layout number (simple_of simple.now))) }
+    ensures { OnOk result (Appends code.old.items code.new.items (simple_plan (globals_in table.now) elements.now (layout_of table.now layout.now) number (simple_of simple.now))) }
 {
+    let visible = &layout.visible;
     match simple {
         SimpleNode::Call(name, arguments) => {
             call(alloc, table, elements, visible, name, arguments, code)?;
@@ -209,7 +219,15 @@ fn emit_plain<'a>(
             close(alloc, table, elements, visible, channel, code)?;
         }
         SimpleNode::Print(_, parts, _) => {
-            print(alloc, table, elements, visible, number, parts.as_slice(), code)?;
+            print(
+                alloc,
+                table,
+                elements,
+                visible,
+                number,
+                parts.as_slice(),
+                code,
+            )?;
         }
         SimpleNode::Receive(channel) => {
             receive(alloc, table, elements, visible, channel, code)?;
@@ -221,13 +239,30 @@ fn emit_plain<'a>(
             step(table, elements, visible, BinaryOperator::Add, place, code)?;
         }
         SimpleNode::Decrement(place) => {
-            step(table, elements, visible, BinaryOperator::Subtract, place, code)?;
+            step(
+                table,
+                elements,
+                visible,
+                BinaryOperator::Subtract,
+                place,
+                code,
+            )?;
         }
         SimpleNode::Assign(places, right) => {
-            set(alloc, table, elements, visible, places.as_slice(), right, code)?;
+            set(
+                alloc,
+                table,
+                elements,
+                visible,
+                places.as_slice(),
+                right,
+                code,
+            )?;
         }
         SimpleNode::Update(place, operator, value) => {
-            update(alloc, table, elements, visible, place, *operator, value, code)?;
+            update(
+                alloc, table, elements, visible, place, *operator, value, code,
+            )?;
         }
         SimpleNode::Define(_, _) => return Err(Halt::Flawed),
     }
@@ -252,11 +287,19 @@ pub fn emit_simple<'a>(
 {
     match simple {
         SimpleNode::Define(names, right) => {
-            define(alloc, table, elements, layout, names.as_slice(), right, code)?;
+            define(
+                alloc,
+                table,
+                elements,
+                layout,
+                names.as_slice(),
+                right,
+                code,
+            )?;
             Ok(())
         }
         _ => {
-            emit_plain(alloc, table, elements, &layout.visible, number, simple, code)?;
+            emit_plain(alloc, table, elements, layout, number, simple, code)?;
             Ok(())
         }
     }

@@ -63,7 +63,10 @@ pub fn step(
 fn is_logical(operator: BinaryOperator) -> bool
     ensures { result ≡ is_logical operator }
 {
-    matches!(operator, BinaryOperator::LogicalAnd | BinaryOperator::LogicalOr)
+    matches!(
+        operator,
+        BinaryOperator::LogicalAnd | BinaryOperator::LogicalOr
+    )
 }
 
 /// A place takes what an operator makes of it and a value.

@@ -7,4 +7,4 @@ pub returns : goal.returns
 returns t c =
     let is : c.args.spots.now ≡ c.in-Some.spot.now ∷ c.in-Some.spots.now = search rules in
     λ first h. subst (λ l. Stored first (singles (map spot_in l)) c.store_spot.new.places c.store_spot.new.code.items) (sym is)
-        (c.in_ok-store_spot.ensures first (map spot_in c.in-Some.spots.now) (c.in_ok-store_spots.ensures first h))
+    (c.in_ok-store_spot.ensures first (map spot_in c.in-Some.spots.now) (c.in_ok-store_spots.ensures first h))

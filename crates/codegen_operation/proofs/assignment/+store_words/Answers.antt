@@ -10,4 +10,4 @@ returns t c =
     let next : c.in-Some.next ≡ c.args.place + 1 = search rules in
     let is : single_spots c.args.place c.args.words ≡ Local c.args.place 1 ∷ single_spots c.in-Some.next (c.args.words - 1) = first_word c.args.place c.args.words c.in-Some.next some next in
     λ first later h. subst (λ l. Stored first (l ++ later) c.store_word.new.places c.store_word.new.code.items) (sym is)
-        (c.in_ok-store_word.ensures first (single_spots c.in-Some.next (c.args.words - 1) ++ later) (c.in_ok-store_words.ensures first later h))
+    (c.in_ok-store_word.ensures first (single_spots c.in-Some.next (c.args.words - 1) ++ later) (c.in_ok-store_words.ensures first later h))

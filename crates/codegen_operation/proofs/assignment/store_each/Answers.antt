@@ -1,4 +1,4 @@
-use Rattle.std.proofs.Common.{rules, ◌≡◌, ℕ, ◌∷◌, [], false, map, get_or, ap}
+use Rattle.std.proofs.Common.{[], map, get_or, ap}
 use Rattle.std.specs.Prelude.{nat_eq}
 use Rattle.std.specs.List.{list_any}
 use Rattle.codegen_base.specs.Statements.{last_counts, singles, stores, stores_all}

@@ -1,9 +1,8 @@
-use Rattle.std.proofs.Common.{rules, ◌≡◌, ◌∙◌, true, ap}
+use Rattle.std.proofs.Common.{rules, ◌≡◌, true}
 use Rattle.syntax.specs.View.{name_of}
 use Rattle.type_table.specs.Views.{kind_of}
-use Rattle.type_table.specs.Visible.{globals_in, scope_of, types_of}
+use Rattle.type_table.specs.Visible.{globals_in, types_of}
 use Rattle.checker_simple.specs.Simples.{is_declarable}
-use Rattle.codegen_base.specs.Statements.{Local, width}
 use Rattle.codegen_operation.specs.Layouts.{layout_of}
 use Rattle.codegen_operation.proofs.Placing.{new_spot}
 use Rattle.codegen_operation.proofs.define.name_spot.Goals as goal

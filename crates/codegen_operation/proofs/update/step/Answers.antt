@@ -1,4 +1,3 @@
-use Rattle.std.proofs.Common.{rules, ◌≡◌, ap, ◌∙◌, ◌++◌, ◌∷◌, []}
 use Rattle.syntax.specs.View.{place_of}
 use Rattle.type_table.specs.Visible.{globals_in, scope_of, selected_of, types_of}
 use Rattle.codegen_operation.specs.Spots.{spot_in}
