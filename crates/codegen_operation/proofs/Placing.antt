@@ -4,12 +4,10 @@ use Rattle.std.specs.Prelude.{if◌then◌else◌}
 use Rattle.syntax.specs.Tree.{Place}
 use Rattle.type_table.specs.Types.{ValueType}
 use Rattle.type_table.specs.Containment.{Selected}
-use Rattle.type_table.specs.Scopes.{Globals, Scope, is_blank, own_variable}
-use Rattle.checker_simple.specs.Simples.{is_declarable}
-use Rattle.codegen_base.specs.Layouts.{Layout}
+use Rattle.type_table.specs.Scopes.{Globals, Scope, is_blank}
 use Rattle.checker_operation.specs.Operations.{selected}
 use Rattle.codegen_base.specs.declared.element.Element.{Element}
-use Rattle.codegen_base.specs.Statements.{Spot, Dropped, Local, name_spot, own_spot, place_spot, spot_of, width}
+use Rattle.codegen_base.specs.Statements.{Spot, Dropped, place_spot, spot_of, width}
 
 module _ (globals : Globals) (elements : List Element) (scope : Scope) (place : Place) (kind : ValueType) where
   pub blank_spot : (words : ℕ) → is_blank place.name ≡ true → words ≡ width globals elements scope kind → Dropped words ≡ place_spot globals elements scope place kind
@@ -18,10 +16,3 @@ module _ (globals : Globals) (elements : List Element) (scope : Scope) (place : 
   pub led_spot : (part : Selected) (spot : Spot) → is_blank place.name ≡ false → selected globals scope place ≡ Some part → spot ≡ spot_of globals elements scope (Some part) → spot ≡ place_spot globals elements scope place kind
   led_spot part spot is to s =
       s ∙ sym (ap (λ o. spot_of globals elements scope o) to) ∙ sym (ap (λ b. if b then Dropped (width globals elements scope kind) else spot_of globals elements scope (selected globals scope place)) is)
-
--- a name that is declared anew takes the next locals
-pub new_spot : (globals : Globals) (elements : List Element) (layout : Layout) (name : List ℕ) (kind : ValueType) (place words : ℕ) → is_declarable layout.scope name ≡ true → place ≡ layout.scope.words → words ≡ width globals elements layout.scope kind
-    → Local place words ≡ name_spot globals elements layout name kind
-new_spot globals elements layout name kind place words is p w =
-    ap (λ n. Local n words) p ∙ ap (Local layout.scope.words) w
-    ∙ sym (ap (λ b. if b then Local layout.scope.words (width globals elements layout.scope kind) else own_spot globals elements layout.scope kind (own_variable layout.scope name)) is)

@@ -1,14 +1,9 @@
-//! The instructions of operations, assignments and simple statements.
+//! The instructions of operations and assignments.
 #![tactic(auto)]
 
 pub mod assignment;
-pub mod define;
 pub mod given;
-pub mod layout;
 pub mod operation;
 pub mod place;
-pub mod print;
-pub mod simple;
 pub mod spot;
-pub mod update;
 pub mod values;

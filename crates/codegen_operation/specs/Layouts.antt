@@ -1,8 +1,0 @@
--- Layouts as they are in memory.
-use Rattle.type_table.specs.declared.table.TypeTable.{TypeTable}
-use Rattle.type_table.specs.Visible.{scope_of}
-use Rattle.codegen_base.specs.Layouts.{Layout}
-use Rattle.codegen_operation.specs.declared.layout.Layout.{Layout as InMemory}
-
-abbrev pub layout_of : TypeTable → InMemory → Layout
-layout_of table layout = record { scope = scope_of table layout.visible; locals = layout.locals.items }
