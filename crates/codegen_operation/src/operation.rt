@@ -256,12 +256,12 @@ pub fn push_right<'t>(
     ensures { OnOk result (Puts code.old.items code.new.items (pushes_right (globals_in table.now) elements.now (scope_of table.now visible.now) count (map (kind_of (types_of table.now)) kinds.now) (right_of right.now))) }
 {
     match right {
-        RightNode::Operation(operation) => {
-            push_operation(alloc, table, elements, visible, operation, code)?;
+        RightNode::Operation(one) => {
+            push_operation(alloc, table, elements, visible, one, code)?;
             if count == 2 {
                 return Ok(());
             }
-            drop_sent(operation, code)?;
+            drop_sent(one, code)?;
             Ok(())
         }
         RightNode::Values(values) => {

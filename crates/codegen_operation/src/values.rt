@@ -66,9 +66,9 @@ pub fn push_own<'t>(
     ensures kind { IfOk result (λ kind. type_of (globals_in table.now) elements.now (scope_of table.now visible.now) (expression_of expression.now) ≡ kind_of (types_of table.now) kind) }
     ensures pushed { OnOk result (Puts code.old.items code.new.items (pushes_own (globals_in table.now) elements.now (scope_of table.now visible.now) (expression_of expression.now))) }
 {
-    let worth = emit(alloc, table, elements, visible, expression, code)?;
-    let kind = kind_in(worth);
-    settle(table, elements, worth, kind, code)?;
+    let operand = emit(alloc, table, elements, visible, expression, code)?;
+    let kind = kind_in(operand);
+    settle(table, elements, operand, kind, code)?;
     Ok(kind)
 }
 

@@ -198,6 +198,47 @@ fn define<'a>(
     Ok(())
 }
 
+/// Emits an assignment.
+fn emit_assignment<'a>(
+    alloc: Global,
+    table: &TypeTable<'a>,
+    elements: &ElementList,
+    layout: &Layout<'a>,
+    number: u32,
+    simple: &'a SimpleNode,
+    code: &mut Vec<Instr>,
+) -> Result<(), Halt>
+    ensures { OnOk result (Appends code.old.items code.new.items (simple_plan (globals_in table.now) elements.now (layout_of table.now layout.now) number (simple_of simple.now))) }
+{
+    let visible = &layout.visible;
+    match simple {
+        SimpleNode::Increment(place) => {
+            step(table, elements, visible, BinaryOperator::Add, place, code)?;
+        }
+        SimpleNode::Decrement(place) => {
+            step(
+                table,
+                elements,
+                visible,
+                BinaryOperator::Subtract,
+                place,
+                code,
+            )?;
+        }
+        SimpleNode::Assign(places, right) => {
+            let places = places.as_slice();
+            set(alloc, table, elements, visible, places, right, code)?;
+        }
+        SimpleNode::Update(place, operator, value) => {
+            update(
+                alloc, table, elements, visible, place, *operator, value, code,
+            )?;
+        }
+        _ => return Err(Halt::Flawed),
+    }
+    Ok(())
+}
+
 /// Emits a simple statement that declares nothing. The print table of a print has this number.
 fn emit_plain<'a>(
     alloc: Global,
@@ -219,15 +260,8 @@ fn emit_plain<'a>(
             close(alloc, table, elements, visible, channel, code)?;
         }
         SimpleNode::Print(_, parts, _) => {
-            print(
-                alloc,
-                table,
-                elements,
-                visible,
-                number,
-                parts.as_slice(),
-                code,
-            )?;
+            let parts = parts.as_slice();
+            print(alloc, table, elements, visible, number, parts, code)?;
         }
         SimpleNode::Receive(channel) => {
             receive(alloc, table, elements, visible, channel, code)?;
@@ -235,36 +269,9 @@ fn emit_plain<'a>(
         SimpleNode::Send(channel, value) => {
             send(alloc, table, elements, visible, channel, value, code)?;
         }
-        SimpleNode::Increment(place) => {
-            step(table, elements, visible, BinaryOperator::Add, place, code)?;
+        _ => {
+            emit_assignment(alloc, table, elements, layout, number, simple, code)?;
         }
-        SimpleNode::Decrement(place) => {
-            step(
-                table,
-                elements,
-                visible,
-                BinaryOperator::Subtract,
-                place,
-                code,
-            )?;
-        }
-        SimpleNode::Assign(places, right) => {
-            set(
-                alloc,
-                table,
-                elements,
-                visible,
-                places.as_slice(),
-                right,
-                code,
-            )?;
-        }
-        SimpleNode::Update(place, operator, value) => {
-            update(
-                alloc, table, elements, visible, place, *operator, value, code,
-            )?;
-        }
-        SimpleNode::Define(_, _) => return Err(Halt::Flawed),
     }
     Ok(())
 }
@@ -287,15 +294,8 @@ pub fn emit_simple<'a>(
 {
     match simple {
         SimpleNode::Define(names, right) => {
-            define(
-                alloc,
-                table,
-                elements,
-                layout,
-                names.as_slice(),
-                right,
-                code,
-            )?;
+            let names = names.as_slice();
+            define(alloc, table, elements, layout, names, right, code)?;
             Ok(())
         }
         _ => {
