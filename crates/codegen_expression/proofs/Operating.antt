@@ -112,7 +112,7 @@ pub emits_typed : (made : Worth) → IsTyped made → (old new : List Instr) (pa
 emits_typed made typed old new part p = subst (λ m. Emits (Some m) old new part) (sym typed.1) p
 
 -- of an operator that is no && or || both operands are pushed
-plain : (operator : BinaryOperator) (kind : ValueType) (l r : Plan → Plan) (rest : Plan) → is_logical operator ≡ false → between operator kind l r rest ≡ l (r (Do (instrs.Apply (operator_of operator kind)) rest))
+pub plain : (operator : BinaryOperator) (kind : ValueType) (l r : Plan → Plan) (rest : Plan) → is_logical operator ≡ false → between operator kind l r rest ≡ l (r (Do (instrs.Apply (operator_of operator kind)) rest))
 plain symbols.LogicalAnd kind l r rest is = absurd cc
 plain symbols.LogicalOr kind l r rest is = absurd cc
 plain symbols.Add kind l r rest is = refl
@@ -134,7 +134,7 @@ plain symbols.Greater kind l r rest is = refl
 plain symbols.GreaterEqual kind l r rest is = refl
 
 -- the same part, said otherwise
-re_put : (old new : List Instr) (p q : Plan → Plan) → ((rest : Plan) → p rest ≡ q rest) → Puts old new p → Puts old new q
+pub re_put : (old new : List Instr) (p q : Plan → Plan) → ((rest : Plan) → p rest ≡ q rest) → Puts old new p → Puts old new q
 re_put old new p q same has leave again rest = has leave again rest ∙ ap (λ x. old ++ flat leave again (length old) x) (same rest)
 
 module _ (elements : List Element) (operator : BinaryOperator) (no : is_logical operator ≡ false) where

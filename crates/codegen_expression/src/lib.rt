@@ -6,5 +6,5 @@ pub mod emission;
 pub mod halt;
 pub mod noting;
 pub mod operand;
-pub(crate) mod operator;
+pub mod operator;
 pub mod shape;

@@ -34,7 +34,7 @@ fn inequality(kind: ValueType<'_>) -> Op
 }
 
 /// The operator between two values of this type.
-pub(crate) fn operator_of(operator: BinaryOperator, kind: ValueType<'_>) -> Op
+pub fn operator_of(operator: BinaryOperator, kind: ValueType<'_>) -> Op
     ensures { (types : List (List ℕ)) → result ≡ operator_of operator (kind_of types kind.entry) }
 {
     match operator {

@@ -1,0 +1,22 @@
+use Rattle.std.proofs.Common.{[], map, get_or, ap}
+use Rattle.std.specs.Prelude.{nat_eq}
+use Rattle.std.specs.List.{list_any}
+use Rattle.codegen_base.specs.Statements.{last_counts, singles, stores, stores_all}
+use Rattle.codegen_operation.specs.declared.spot.Spot.TheVariants as spots
+use Rattle.codegen_operation.specs.Spots.{Stored, spot_in, stores_each}
+use Rattle.codegen_expression.proofs.Emitting.{puts_none}
+use Rattle.codegen_expression.proofs.Operating.{re_put}
+use Rattle.codegen_operation.proofs.Storing.{one_spot, more_spots}
+use Rattle.codegen_operation.proofs.assignment.store_each.Goals as goal
+
+pub returns-in_ok-store-in-len1 : goal.returns-in_ok-store-in-len1
+returns-in_ok-store-in-len1 c =
+    let all = c.args.spots.now in
+    re_put c.args.code.now.items c.store.new.code.items (stores (spot_in (get_or all 0 (spots.Dropped 0)))) (stores_each (map spot_in all)) (λ rest. one_spot all (spots.Dropped 0) rest c.in-len1.len_at_least c.in-len1.len_below) c.in_ok-store-in-len1.ensures
+
+pub returns-in_ok-store_spots-in-len2-up : goal.returns-in_ok-store_spots-in-len2-up
+returns-in_ok-store_spots-in-len2-up c =
+    let all = map spot_in c.args.spots.now in
+    let none : Stored c.args.code.now.items [] c.new-places.result c.args.code.now.items = (λ place. ap (λ keys. list_any (nat_eq place) keys) c.new-places.ensures.empty, puts_none c.args.code.now.items) in
+    let stored = c.in_ok-store_spots-in-len2-up.ensures c.args.code.now.items none in
+    re_put c.args.code.now.items c.store_spots.new.code.items (stores_all (last_counts (singles all))) (stores_each all) (λ rest. more_spots c.args.spots.now rest c.in-len2-up.len_at_least) stored.1

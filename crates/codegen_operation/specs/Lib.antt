@@ -1,0 +1,3 @@
+pub mod Operations
+pub mod Spots
+pub mod Given

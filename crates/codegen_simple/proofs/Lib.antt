@@ -1,0 +1,4 @@
+pub mod Appending
+pub mod Naming
+pub mod Printing
+pub mod Updating

@@ -1,0 +1,16 @@
+use Rattle.std.proofs.Common.{rules, ◌≡◌, true}
+use Rattle.syntax.specs.View.{name_of}
+use Rattle.type_table.specs.Views.{kind_of}
+use Rattle.type_table.specs.Visible.{globals_in, types_of}
+use Rattle.checker_simple.specs.Simples.{is_declarable}
+use Rattle.codegen_simple.specs.Layouts.{layout_of}
+use Rattle.codegen_simple.proofs.Naming.{new_spot}
+use Rattle.codegen_simple.proofs.define.name_spot.Goals as goal
+
+pub returns-then-is_declarable : goal.returns-then-is_declarable
+returns-then-is_declarable c =
+    let globals = globals_in c.args.table.now in
+    let layout = layout_of c.args.table.now c.args.layout.now in
+    let kind = kind_of (types_of c.args.table.now) c.args.kind in
+    let is : is_declarable layout.scope (name_of c.args.name.now) ≡ true = search rules in
+    new_spot globals c.args.elements.now layout (name_of c.args.name.now) kind c.in_ok-place.place c.words_of.result is c.in_ok-place.ensures (c.words_of.ensures layout.scope)

@@ -1,0 +1,12 @@
+use Rattle.std.proofs.Common.{map}
+use Rattle.bytecode.specs.declared.instr.Instr.TheVariants as instrs
+use Rattle.syntax.specs.View.{part_of}
+use Rattle.type_table.specs.Visible.{globals_in, scope_of}
+use Rattle.codegen_base.specs.Statements.{pushes_parts}
+use Rattle.codegen_simple.proofs.Appending.{ends}
+use Rattle.codegen_simple.proofs.simple.print.Goals as goal
+
+pub returns : goal.returns
+returns c =
+    ends c.args.code.now.items c.push_parts.new.code.items c.push.new.self.items (pushes_parts (globals_in c.args.table.now) c.args.elements.now (scope_of c.args.table.now c.args.visible.now) (map part_of c.args.parts.now)) (instrs.Print c.args.number)
+    c.in_ok-push_parts.ensures c.in_ok-push.ensures.items

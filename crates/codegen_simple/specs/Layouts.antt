@@ -1,0 +1,8 @@
+-- Layouts as they are in memory.
+use Rattle.type_table.specs.declared.table.TypeTable.{TypeTable}
+use Rattle.type_table.specs.Visible.{scope_of}
+use Rattle.codegen_base.specs.Layouts.{Layout}
+use Rattle.codegen_simple.specs.declared.layout.Layout.{Layout as InMemory}
+
+abbrev pub layout_of : TypeTable → InMemory → Layout
+layout_of table layout = record { scope = scope_of table layout.visible; locals = layout.locals.items }

@@ -1,0 +1,117 @@
+//! Where the variables of a function lie among its locals.
+
+ghost use Rattle.std.specs.Prelude.{◌≡◌, [], length, take, OnOk};
+ghost use Rattle.syntax.specs.View.{name_of};
+ghost use Rattle.type_table.specs.declared.table.TypeTable.{TypeTable as OneTable};
+ghost use Rattle.type_table.specs.Views.{kind_of};
+ghost use Rattle.type_table.specs.Visible.{Keeps, Leaves, globals_in, scope_of, types_of};
+ghost use Rattle.checker_simple.specs.Simples.{is_declarable};
+ghost use Rattle.codegen_base.specs.Layouts.{declaring, declaring_new, empty, entering, leaving};
+ghost use Rattle.codegen_simple.specs.Layouts.{layout_of};
+
+use bytecode::WordKind;
+use codegen_expression::element_list::ElementList;
+use codegen_expression::halt::Halt;
+use codegen_expression::shape::put_kinds;
+use std::alloc::Global;
+use syntax::Name;
+use type_table::scope::{self, Visible, is_blank, own_variable};
+use type_table::table::TypeTable;
+use type_table::value_type::ValueType;
+
+/// The variables that are visible, and the kinds of all locals, also of variables of blocks that have ended.
+#[derive(Drop)]
+pub struct Layout<'a> {
+    pub visible: Visible<'a>,
+    pub locals: Vec<WordKind>,
+}
+
+/// Where a block began: how many variables were visible before it, and how many of them outside of the block around it.
+#[derive(Clone, Copy)]
+pub struct Mark {
+    count: usize,
+    outer: usize,
+}
+
+impl<'a> Layout<'a> {
+    /// No variables.
+    pub fn new(alloc: Global) -> Layout<'a>
+        ensures { (table : OneTable) → layout_of table result ≡ empty }
+    {
+        Layout {
+            visible: Visible::new(alloc),
+            locals: Vec::new(alloc),
+        }
+    }
+}
+
+/// Declares a variable, behind all locals.
+///
+/// Errors: want of memory.
+pub fn declare<'a>(
+    alloc: Global,
+    table: &TypeTable<'a>,
+    elements: &ElementList,
+    layout: &mut Layout<'a>,
+    kind: ValueType<'a>,
+    name: &'a Name,
+) -> Result<(), Halt>
+    ensures after { OnOk result (layout_of table.now layout.new ≡ declaring (globals_in table.now) elements.now (kind_of (types_of table.now) kind.entry) (name_of name.now) (layout_of table.now layout.old)) }
+    ensures kept { OnOk result (Keeps layout.old.visible layout.new.visible) }
+{
+    scope::declare(table, &mut layout.visible, kind, name)?;
+    put_kinds(alloc, table, elements, kind, &mut layout.locals)?;
+    Ok(())
+}
+
+/// Whether a name is new in its block, and not `_`.
+pub fn is_declarable(table: &TypeTable<'_>, visible: &Visible<'_>, name: &[u8]) -> bool
+    ensures { result ≡ is_declarable (scope_of table.now visible.now) name.now }
+{
+    !is_blank(name) && own_variable(table, visible, name).is_none()
+}
+
+/// Declares a variable where its name is new in its block, and not `_`.
+///
+/// Errors: want of memory.
+pub fn declare_new<'a>(
+    alloc: Global,
+    table: &TypeTable<'a>,
+    elements: &ElementList,
+    layout: &mut Layout<'a>,
+    kind: ValueType<'a>,
+    name: &'a Name,
+) -> Result<(), Halt>
+    ensures after { OnOk result (layout_of table.now layout.new ≡ declaring_new (globals_in table.now) elements.now (kind_of (types_of table.now) kind.entry) (name_of name.now) (layout_of table.now layout.old)) }
+    ensures kept { OnOk result (Keeps layout.old.visible layout.new.visible) }
+{
+    if is_declarable(table, &layout.visible, name.bytes.as_slice()) {
+        declare(alloc, table, elements, layout, kind, name)?;
+    }
+    Ok(())
+}
+
+/// A block begins; answers where.
+pub fn enter(layout: &mut Layout<'_>) -> Mark
+    ensures layout { (table : OneTable) → layout_of table layout.new ≡ entering (layout_of table layout.old) }
+    ensures count { result.count ≡ length layout.old.visible.entries.items }
+    ensures outer { result.outer ≡ layout.old.visible.outer }
+    ensures kept { layout.new.visible.entries.items ≡ layout.old.visible.entries.items }
+{
+    let mark = Mark {
+        count: layout.visible.entries.len(),
+        outer: layout.visible.outer,
+    };
+    scope::enter(&mut layout.visible);
+    mark
+}
+
+/// A block that began there has ended: what it declared is visible no more.
+pub fn leave(layout: &mut Layout<'_>, mark: Mark)
+    ensures entries { layout.new.visible.entries.items ≡ take mark.count layout.old.visible.entries.items }
+    ensures outer { layout.new.visible.outer ≡ mark.outer }
+    ensures words { layout.new.visible.words ≡ layout.old.visible.words }
+    ensures locals { layout.new.locals.items ≡ layout.old.locals.items }
+{
+    scope::leave(&mut layout.visible, mark.count, mark.outer);
+}

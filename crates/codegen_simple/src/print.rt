@@ -1,0 +1,134 @@
+//! What is printed ("Bootstrapping" of the Go specification).
+
+ghost use Rattle.std.specs.Prelude.{◌≡◌, ◌++◌, ◌∷◌, [], IfOk, List, OnOk, Some, map};
+ghost use Rattle.syntax.specs.View.{part_of, simple_of};
+ghost use Rattle.type_table.specs.Visible.{globals_in, scope_of, types_of};
+ghost use Rattle.checker_base.specs.Views.{worth_of};
+ghost use Rattle.codegen_base.specs.declared.element.Element.{Element};
+ghost use Rattle.codegen_base.specs.Statements.{printed_as, printed_part, pushes_parts, simple_prints};
+ghost use Rattle.codegen_expression.specs.Emission.{Puts};
+
+use bytecode::{Instr, Part, PrintTable, Text};
+use checker_base::operand::worth;
+use checker_base::worth::Worth;
+use codegen_expression::element_list::ElementList;
+use codegen_expression::halt::Halt;
+use codegen_operation::values::push_own;
+use std::alloc::Global;
+use syntax::{PartNode, SimpleNode};
+use type_table::scope::Visible;
+use type_table::table::TypeTable;
+use type_table::value_type::ValueType;
+
+/// How a value of this worth is printed.
+fn printed_as(worth: Worth<'_>) -> Part
+    ensures { (types : _) → result ≡ printed_as (Some (worth_of types worth.entry)) }
+{
+    match worth {
+        Worth::Typed(ValueType::Bool) => Part::Bool,
+        _ => Part::Int,
+    }
+}
+
+/// How a part is printed.
+fn printed_part(
+    alloc: Global,
+    table: &TypeTable<'_>,
+    visible: &Visible<'_>,
+    part: &PartNode,
+) -> Result<Part, Halt>
+    ensures { IfOk result (λ made. (elements : List Element) → made ≡ printed_part (globals_in table.now) elements (scope_of table.now visible.now) (part_of part.now)) }
+{
+    match part {
+        PartNode::Value(value) => match worth(table, visible, value) {
+            Some(worth) => Ok(printed_as(worth)),
+            None => Err(Halt::Flawed),
+        },
+        PartNode::Text(bytes) => {
+            let bytes = Vec::from_slice(alloc, bytes.as_slice())?;
+            Ok(Part::Text(Text::new(bytes)))
+        }
+    }
+}
+
+/// How parts are printed, in order.
+fn printed_parts<'t, 'v, 'p, 'k>(
+    alloc: Global,
+    table: &'t TypeTable<'k>,
+    visible: &'v Visible<'k>,
+    parts: &'p [PartNode],
+) -> Result<Vec<Part>, Halt>
+    ensures { IfOk result (λ made. (elements : List Element) → made.items ≡ map (printed_part (globals_in table.now) elements (scope_of table.now visible.now)) (map part_of parts.now)) }
+{
+    let Some((part, parts)) = parts.split_first() else {
+        return Ok(Vec::new(alloc));
+    };
+    let first = printed_part(alloc, table, visible, part)?;
+    let mut made = printed_parts(alloc, table, visible, parts)?;
+    made.insert(0, first)?;
+    Ok(made)
+}
+
+/// Puts the print table of a statement behind others, where it prints.
+///
+/// Errors: something is wrong with a value; want of memory.
+pub fn put_prints(
+    alloc: Global,
+    table: &TypeTable<'_>,
+    visible: &Visible<'_>,
+    simple: &SimpleNode,
+    prints: &mut Vec<PrintTable>,
+) -> Result<(), Halt>
+    ensures { (elements : List Element) → OnOk result (prints.new.items ≡ prints.old.items ++ simple_prints (globals_in table.now) elements (scope_of table.now visible.now) (simple_of simple.now)) }
+{
+    match simple {
+        SimpleNode::Print(line, parts, _) => {
+            let parts = printed_parts(alloc, table, visible, parts.as_slice())?;
+            prints.push(PrintTable::new(parts, *line))?;
+            Ok(())
+        }
+        _ => Ok(()),
+    }
+}
+
+/// Pushes what is printed of a part.
+fn push_part(
+    alloc: Global,
+    table: &TypeTable<'_>,
+    elements: &ElementList,
+    visible: &Visible<'_>,
+    part: &PartNode,
+    code: &mut Vec<Instr>,
+) -> Result<(), Halt>
+    ensures { OnOk result (Puts code.old.items code.new.items (pushes_parts (globals_in table.now) elements.now (scope_of table.now visible.now) (part_of part.now ∷ []))) }
+{
+    match part {
+        PartNode::Value(value) => {
+            push_own(alloc, table, elements, visible, value, code)?;
+            Ok(())
+        }
+        PartNode::Text(_) => Ok(()),
+    }
+}
+
+/// Pushes what is printed, in order.
+///
+/// Errors: something is wrong with a value; want of memory.
+#[tactic(auto, using(crate::proofs::Printing::puts_part))]
+pub fn push_parts<'t, 'l, 'v, 'p, 'm, 'k>(
+    alloc: Global,
+    table: &'t TypeTable<'k>,
+    elements: &'l ElementList,
+    visible: &'v Visible<'k>,
+    parts: &'p [PartNode],
+    code: &'m mut Vec<Instr>,
+) -> Result<(), Halt>
+    ensures { OnOk result (Puts code.old.items code.new.items (pushes_parts (globals_in table.now) elements.now (scope_of table.now visible.now) (map part_of parts.now))) }
+{
+    let Some((part, parts)) = parts.split_first() else {
+        return Ok(());
+    };
+    push_part(alloc, table, elements, visible, part, code)?;
+    push_parts(alloc, table, elements, visible, parts, code)?;
+    Ok(())
+}

@@ -1,0 +1,98 @@
+//! Assignments with an operator ("Assignment statements", "IncDec statements" of the Go specification).
+
+ghost use Rattle.std.specs.Prelude.{◌≡◌, List, OnOk};
+ghost use Rattle.syntax.specs.View.{expression_of, place_of};
+ghost use Rattle.checker_base.specs.Worths.{is_logical, worth};
+ghost use Rattle.type_table.specs.Scopes.{Globals, Scope};
+ghost use Rattle.type_table.specs.Visible.{globals_in, scope_of};
+ghost use Rattle.codegen_base.specs.declared.element.Element.{Element};
+ghost use Rattle.codegen_base.specs.Layouts.{type_of};
+ghost use Rattle.codegen_base.specs.Pushes.{emits};
+ghost use Rattle.codegen_base.specs.Statements.{loads_spot, steps, updates};
+ghost use Rattle.codegen_expression.specs.Emission.{Puts};
+ghost use Rattle.codegen_simple.specs.Simples.{Appends};
+ghost use Rattle.codegen_operation.specs.Spots.{spot_in};
+
+use bytecode::Instr;
+use codegen_expression::element_list::ElementList;
+use codegen_expression::halt::Halt;
+use codegen_expression::operator::operator_of;
+use codegen_operation::place::{selected, spot_of};
+use codegen_operation::spot::{Spot, store};
+use codegen_operation::values::push;
+use std::alloc::Global;
+use syntax::{BinaryOperator, ExpressionNode, PlaceNode};
+use type_table::scope::Visible;
+use type_table::table::TypeTable;
+use type_table::value_type::ValueType;
+
+/// Pushes the value that lies at a spot.
+fn load(spot: Spot, code: &mut Vec<Instr>) -> Result<(), Halt>
+    ensures { (globals : Globals) (elements : List Element) (scope : Scope) → OnOk result (Puts code.old.items code.new.items (loads_spot globals elements scope (spot_in spot))) }
+{
+    if let Spot::Local(place, words) = spot {
+        code.push(Instr::Load(place, words))?;
+    }
+    Ok(())
+}
+
+/// A place grows or becomes smaller by 1.
+///
+/// Errors: something is wrong with the place; want of memory.
+pub fn step(
+    table: &TypeTable<'_>,
+    elements: &ElementList,
+    visible: &Visible<'_>,
+    operator: BinaryOperator,
+    place: &PlaceNode,
+    code: &mut Vec<Instr>,
+) -> Result<(), Halt>
+    ensures { OnOk result (Appends code.old.items code.new.items (steps (globals_in table.now) elements.now (scope_of table.now visible.now) operator (place_of place.now))) }
+{
+    let part = selected(table, visible, place)?;
+    let spot = spot_of(table, elements, part)?;
+    load(spot, code)?;
+    code.push(Instr::Int(1))?;
+    code.push(Instr::Apply(operator_of(operator, ValueType::Int)))?;
+    store(spot, code)?;
+    code.push(Instr::Tick)?;
+    Ok(())
+}
+
+/// Whether the operator is `&&` or `||`.
+fn is_logical(operator: BinaryOperator) -> bool
+    ensures { result ≡ is_logical operator }
+{
+    matches!(
+        operator,
+        BinaryOperator::LogicalAnd | BinaryOperator::LogicalOr
+    )
+}
+
+/// A place takes what an operator makes of it and a value.
+///
+/// Errors: something is wrong with the place or the value, or the operator is `&&` or `||`; want of memory.
+pub fn update(
+    alloc: Global,
+    table: &TypeTable<'_>,
+    elements: &ElementList,
+    visible: &Visible<'_>,
+    place: &PlaceNode,
+    operator: BinaryOperator,
+    value: &ExpressionNode,
+    code: &mut Vec<Instr>,
+) -> Result<(), Halt>
+    ensures { OnOk result (Appends code.old.items code.new.items (updates (globals_in table.now) elements.now (scope_of table.now visible.now) (place_of place.now) operator (worth (globals_in table.now) (scope_of table.now visible.now) (expression_of value.now)) (type_of (globals_in table.now) elements.now (scope_of table.now visible.now) (expression_of value.now)) (emits (globals_in table.now) elements.now (scope_of table.now visible.now) (expression_of value.now)))) }
+{
+    if is_logical(operator) {
+        return Err(Halt::Flawed);
+    }
+    let part = selected(table, visible, place)?;
+    let spot = spot_of(table, elements, part)?;
+    load(spot, code)?;
+    push(alloc, table, elements, visible, part.kind, value, code)?;
+    code.push(Instr::Apply(operator_of(operator, part.kind)))?;
+    store(spot, code)?;
+    code.push(Instr::Tick)?;
+    Ok(())
+}
