@@ -1,6 +1,6 @@
 //! Simple statements ("Statements" of the Go specification).
 
-ghost use Rattle.std.specs.Prelude.{◌≡◌, ◌+◌, OnOk, length, map};
+ghost use Rattle.std.specs.Prelude.{◌≡◌, ◌+◌, ℕ, OnOk, length, map};
 ghost use Rattle.bytecode.specs.declared.instr.Instr.TheVariants as instrs;
 ghost use Rattle.syntax.specs.View.{expression_of, name_of, part_of, place_of, right_of, simple_of};
 ghost use Rattle.type_table.specs.Scopes.{Scope};
@@ -204,11 +204,10 @@ fn emit_assignment<'a>(
     table: &TypeTable<'a>,
     elements: &ElementList,
     layout: &Layout<'a>,
-    number: u32,
     simple: &'a SimpleNode,
     code: &mut Vec<Instr>,
 ) -> Result<(), Halt>
-    ensures { OnOk result (Appends code.old.items code.new.items (simple_plan (globals_in table.now) elements.now (layout_of table.now layout.now) number (simple_of simple.now))) }
+    ensures { (number : ℕ) → OnOk result (Appends code.old.items code.new.items (simple_plan (globals_in table.now) elements.now (layout_of table.now layout.now) number (simple_of simple.now))) }
 {
     let visible = &layout.visible;
     match simple {
@@ -270,7 +269,7 @@ fn emit_plain<'a>(
             send(alloc, table, elements, visible, channel, value, code)?;
         }
         _ => {
-            emit_assignment(alloc, table, elements, layout, number, simple, code)?;
+            emit_assignment(alloc, table, elements, layout, simple, code)?;
         }
     }
     Ok(())
