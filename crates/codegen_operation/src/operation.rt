@@ -1,7 +1,7 @@
 //! Calls and operations on channels ("Calls", "Receive operator" and others of the Go specification).
 
 ghost use Rattle.std.specs.Prelude.{◌≡◌, ◌++◌, IfOk, OnOk, map, option_copied, option_map, slice_get};
-ghost use Rattle.syntax.specs.View.{arguments_of, expression_of, name_of, operation_of, right_of, type_of as written_of};
+ghost use Rattle.syntax.specs.View.{expression_of, name_of, operation_of, right_of, type_of as written_of};
 ghost use Rattle.type_table.specs.Types.{element_type};
 ghost use Rattle.type_table.specs.Views.{kind_of};
 ghost use Rattle.type_table.specs.Visible.{globals_in, scope_of, types_of};

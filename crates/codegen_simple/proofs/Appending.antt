@@ -45,9 +45,9 @@ module _ (globals : Globals) (elements : List Element) (right : Right) (count : 
       let e : pushes_right globals elements scope count taken right (assigns spots Skip) ≡ pushes_right globals elements scope (length places) (taken_types globals elements scope places types) right (assigns (place_spots globals elements scope places types) Skip) = cc in
       subst (Appends i0 i2) e (ends_two i0 i1 i2 (pushes_right globals elements scope count taken right) (assigns spots) p q)
 
-  pub appends_define : (layout : Layout) (names : List (List ℕ)) → count ≡ length names → given ≡ right_types globals elements layout.scope count right → taken ≡ name_types globals elements layout names given → spots ≡ name_spots globals elements layout names given
-      → Puts i0 i1 (pushes_right globals elements layout.scope count taken right) → Puts i1 i2 (assigns spots) → Appends i0 i2 (defines globals elements layout names (right_types globals elements layout.scope (length names) right) right)
-  appends_define layout names n g t s p q =
-      let types = right_types globals elements layout.scope (length names) right in
-      let e : pushes_right globals elements layout.scope count taken right (assigns spots Skip) ≡ pushes_right globals elements layout.scope (length names) (name_types globals elements layout names types) right (assigns (name_spots globals elements layout names types) Skip) = cc in
-      subst (Appends i0 i2) e (ends_two i0 i1 i2 (pushes_right globals elements layout.scope count taken right) (assigns spots) p q)
+pub appends_define : (globals : Globals) (elements : List Element) (layout : Layout) (names : List (List ℕ)) (kinds : List ValueType) (right : Right) (count : ℕ) (taken : List ValueType) (spots : List Spot) (i0 i1 i2 : List Instr) → count ≡ length names
+    → taken ≡ name_types globals elements layout names kinds → spots ≡ name_spots globals elements layout names kinds
+    → Puts i0 i1 (pushes_right globals elements layout.scope count taken right) → Puts i1 i2 (assigns spots) → Appends i0 i2 (defines globals elements layout names kinds right)
+appends_define globals elements layout names kinds right count taken spots i0 i1 i2 n t s p q =
+    let e : pushes_right globals elements layout.scope count taken right (assigns spots Skip) ≡ pushes_right globals elements layout.scope (length names) (name_types globals elements layout names kinds) right (assigns (name_spots globals elements layout names kinds) Skip) = cc in
+    subst (Appends i0 i2) e (ends_two i0 i1 i2 (pushes_right globals elements layout.scope count taken right) (assigns spots) p q)

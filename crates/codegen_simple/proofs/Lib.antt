@@ -2,3 +2,4 @@ pub mod Appending
 pub mod Naming
 pub mod Printing
 pub mod Updating
+pub mod Leaving

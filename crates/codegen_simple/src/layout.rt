@@ -1,12 +1,12 @@
 //! Where the variables of a function lie among its locals.
 
-ghost use Rattle.std.specs.Prelude.{◌≡◌, [], length, take, OnOk};
+ghost use Rattle.std.specs.Prelude.{◌≡◌, length, take, OnOk};
 ghost use Rattle.syntax.specs.View.{name_of};
 ghost use Rattle.type_table.specs.declared.table.TypeTable.{TypeTable as OneTable};
 ghost use Rattle.type_table.specs.Views.{kind_of};
-ghost use Rattle.type_table.specs.Visible.{Keeps, Leaves, globals_in, scope_of, types_of};
+ghost use Rattle.type_table.specs.Visible.{Keeps, globals_in, scope_of, types_of};
 ghost use Rattle.checker_simple.specs.Simples.{is_declarable};
-ghost use Rattle.codegen_base.specs.Layouts.{declaring, declaring_new, empty, entering, leaving};
+ghost use Rattle.codegen_base.specs.Layouts.{declaring, declaring_new, empty, entering};
 ghost use Rattle.codegen_simple.specs.Layouts.{layout_of};
 
 use bytecode::WordKind;

@@ -2,7 +2,7 @@
 
 ghost use Rattle.std.specs.Prelude.{◌≡◌, ◌++◌, ◌∷◌, [], IfOk, List, OnOk, Some, map};
 ghost use Rattle.syntax.specs.View.{part_of, simple_of};
-ghost use Rattle.type_table.specs.Visible.{globals_in, scope_of, types_of};
+ghost use Rattle.type_table.specs.Visible.{globals_in, scope_of};
 ghost use Rattle.checker_base.specs.Views.{worth_of};
 ghost use Rattle.codegen_base.specs.declared.element.Element.{Element};
 ghost use Rattle.codegen_base.specs.Statements.{printed_as, printed_part, pushes_parts, simple_prints};

@@ -1,10 +1,11 @@
 //! Simple statements ("Statements" of the Go specification).
 
-ghost use Rattle.std.specs.Prelude.{◌≡◌, ◌+◌, OnOk, length, map};
+ghost use Rattle.std.specs.Prelude.{◌≡◌, ◌+◌, ℕ, OnOk, length, map};
 ghost use Rattle.bytecode.specs.declared.instr.Instr.TheVariants as instrs;
 ghost use Rattle.syntax.specs.View.{expression_of, name_of, part_of, place_of, right_of, simple_of};
 ghost use Rattle.type_table.specs.Scopes.{Scope};
-ghost use Rattle.type_table.specs.Visible.{Keeps, globals_in, scope_of};
+ghost use Rattle.type_table.specs.Views.{kind_of};
+ghost use Rattle.type_table.specs.Visible.{Keeps, globals_in, scope_of, types_of};
 ghost use Rattle.meaning.specs.Destinations.{number_of};
 ghost use Rattle.checker_operation.specs.Operations.{result_of};
 ghost use Rattle.codegen_base.specs.Elements.{shape_of};
@@ -37,6 +38,7 @@ use syntax::{
 };
 use type_table::scope::Visible;
 use type_table::table::TypeTable;
+use type_table::value_type::ValueType;
 
 /// Drops the result of the function with this number, if it has one.
 fn drop_result(
@@ -164,6 +166,33 @@ fn set<'a>(
     Ok(())
 }
 
+/// Names, those that are new in their block declared anew with these types, take what a right side gives.
+///
+/// Errors: something is wrong with the right side; want of memory.
+pub fn define_as<'a>(
+    alloc: Global,
+    table: &TypeTable<'a>,
+    elements: &ElementList,
+    layout: &mut Layout<'a>,
+    names: &'a [Name],
+    kinds: &[ValueType<'a>],
+    right: &'a RightNode,
+    code: &mut Vec<Instr>,
+) -> Result<(), Halt>
+    ensures emitted { OnOk result (Appends code.old.items code.new.items (defines (globals_in table.now) elements.now (layout_of table.now layout.old) (map name_of names.now) (map (kind_of (types_of table.now)) kinds.now) (right_of right.now))) }
+    ensures after { OnOk result (layout_of table.now layout.new ≡ declaring_all (globals_in table.now) elements.now (map name_of names.now) (map (kind_of (types_of table.now)) kinds.now) (layout_of table.now layout.old)) }
+    ensures kept { OnOk result (Keeps layout.old.visible layout.new.visible) }
+{
+    let count = names.len();
+    let taken = name_types(alloc, table, layout, names, kinds)?;
+    let taken = taken.as_slice();
+    let visible = &layout.visible;
+    push_right(alloc, table, elements, visible, taken, count, right, code)?;
+    let spots = define_names(alloc, table, elements, layout, names, kinds)?;
+    assign(alloc, spots.as_slice(), code)?;
+    Ok(())
+}
+
 /// Names, those that are new in their block declared anew, take what a right side gives.
 fn define<'a>(
     alloc: Global,
@@ -178,23 +207,9 @@ fn define<'a>(
     ensures after { OnOk result (layout_of table.now layout.new ≡ declaring_all (globals_in table.now) elements.now (map name_of names.now) (right_types (globals_in table.now) elements.now (scope_of table.now layout.old.visible) (length (map name_of names.now)) (right_of right.now)) (layout_of table.now layout.old)) }
     ensures kept { OnOk result (Keeps layout.old.visible layout.new.visible) }
 {
-    let count = names.len();
-    let given = right_kinds(alloc, table, &layout.visible, count, right)?;
-    let given = given.as_slice();
-    let taken = name_types(alloc, table, layout, names, given)?;
-    let kinds = taken.as_slice();
-    push_right(
-        alloc,
-        table,
-        elements,
-        &layout.visible,
-        kinds,
-        count,
-        right,
-        code,
-    )?;
-    let spots = define_names(alloc, table, elements, layout, names, given)?;
-    assign(alloc, spots.as_slice(), code)?;
+    let given = right_kinds(alloc, table, &layout.visible, names.len(), right)?;
+    let kinds = given.as_slice();
+    define_as(alloc, table, elements, layout, names, kinds, right, code)?;
     Ok(())
 }
 
@@ -204,11 +219,10 @@ fn emit_assignment<'a>(
     table: &TypeTable<'a>,
     elements: &ElementList,
     layout: &Layout<'a>,
-    number: u32,
     simple: &'a SimpleNode,
     code: &mut Vec<Instr>,
 ) -> Result<(), Halt>
-    ensures { OnOk result (Appends code.old.items code.new.items (simple_plan (globals_in table.now) elements.now (layout_of table.now layout.now) number (simple_of simple.now))) }
+    ensures { (number : ℕ) → OnOk result (Appends code.old.items code.new.items (simple_plan (globals_in table.now) elements.now (layout_of table.now layout.now) number (simple_of simple.now))) }
 {
     let visible = &layout.visible;
     match simple {
@@ -270,7 +284,7 @@ fn emit_plain<'a>(
             send(alloc, table, elements, visible, channel, value, code)?;
         }
         _ => {
-            emit_assignment(alloc, table, elements, layout, number, simple, code)?;
+            emit_assignment(alloc, table, elements, layout, simple, code)?;
         }
     }
     Ok(())
