@@ -32,3 +32,4 @@ pub mod Selects
 pub mod Statements
 pub mod Ranges
 pub mod Finished
+pub mod Wholes
