@@ -33,3 +33,4 @@ pub mod Statements
 pub mod Ranges
 pub mod Finished
 pub mod Wholes
+pub mod Programs
