@@ -34,3 +34,4 @@ pub mod Ranges
 pub mod Finished
 pub mod Wholes
 pub mod Programs
+pub mod Heads

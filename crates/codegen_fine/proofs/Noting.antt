@@ -86,7 +86,7 @@ module _ (types : List (List ℕ)) where
   declared_grow [] all = grows_no all
   declared_grow (group ∷ rest) all = let one = noting types group.type_expression all in grows_on all one (noting_declared types rest one) (kind_grows group.type_expression all) (declared_grow rest one)
 
-  any_grows : (kind : Option TypeExpression) (all : List Element) → Grows all (noting_any types kind all)
+  pub any_grows : (kind : Option TypeExpression) (all : List Element) → Grows all (noting_any types kind all)
   any_grows None all = grows_no all
   any_grows (Some kind) all = kind_grows kind all
 
