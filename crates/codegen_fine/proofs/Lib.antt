@@ -35,3 +35,4 @@ pub mod Finished
 pub mod Wholes
 pub mod Programs
 pub mod Heads
+pub mod Signatures
