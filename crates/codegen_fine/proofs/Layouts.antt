@@ -96,7 +96,7 @@ twice_parts name names e =
 -- ---- locals
 
 -- shapes that two lists name are there
-there_append : (code : Code) (xs ys : List WordKind) → AreThere code xs → AreThere code ys → AreThere code (xs ++ ys)
+pub there_append : (code : Code) (xs ys : List WordKind) → AreThere code xs → AreThere code ys → AreThere code (xs ++ ys)
 there_append code [] ys a b n k e = b n k e
 there_append code (x ∷ xs) ys a b zero k e = a zero k e
 there_append code (x ∷ xs) ys a b (suc n) k e = there_append code xs ys (λ m j h. a (suc m) j h) b n k e

@@ -36,3 +36,4 @@ pub mod Wholes
 pub mod Programs
 pub mod Heads
 pub mod Signatures
+pub mod Structs
