@@ -37,3 +37,4 @@ pub mod Programs
 pub mod Heads
 pub mod Signatures
 pub mod Structs
+pub mod Main
