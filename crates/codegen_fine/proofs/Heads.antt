@@ -1,7 +1,7 @@
 -- What is so of the heads of functions in a file with which nothing is wrong.
-use Rattle.std.proofs.Common.{◌≡◌, ℕ, ◌+◌, List, [], ◌∷◌, ◌++◌, map, Option, Some, None, refl, sym, ap, ◌∙◌, subst, arith, slice_get, inl, inr}
+use Rattle.std.proofs.Common.{◌≡◌, ℕ, ◌+◌, List, [], ◌∷◌, ◌++◌, Option, Some, None, refl, sym, ap, ◌∙◌, subst, arith, slice_get, inl, inr}
 use Rattle.go_text.specs.declared.rule.Rule.TheVariants as rules
-use Rattle.syntax.specs.Tree.{TypeExpression, Declared, Function, Top, StructTop, FunctionTop, File}
+use Rattle.syntax.specs.Tree.{TypeExpression, Declared, Top, StructTop, FunctionTop, File}
 use Rattle.syntax.specs.Measures.{declared_size, top_size}
 use Rattle.bytecode.specs.Code.{Function as CodeFunction, Code}
 use Rattle.bytecode.specs.Rules.{Holds}
@@ -24,7 +24,7 @@ use Rattle.codegen_fine.proofs.Operations.{Functions}
 use Rattle.codegen_fine.proofs.Makes.{written_noted}
 use Rattle.codegen_fine.proofs.Noting.{declared_grow, any_grows, statements_grow, tops_grow}
 use Rattle.codegen_fine.proofs.Statements.{PostsAll}
-use Rattle.codegen_fine.proofs.Wholes.{ParametersFine, IsFine}
+use Rattle.codegen_fine.proofs.Wholes.{ParametersFine}
 use Rattle.codegen_fine.proofs.Programs.{AllFine, file_functions}
 
 -- a type that is written outside of functions

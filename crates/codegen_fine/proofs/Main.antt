@@ -1,5 +1,5 @@
 -- A file that the checker takes has a main function, which takes and gives nothing.
-use Rattle.std.proofs.Common.{◌≡◌, ℕ, zero, suc, ◌+◌, ◌<◌, ◌≤◌, Bool, true, false, cond, not, ◌&&◌, List, [], ◌∷◌, ◌++◌, length, map, Option, Some, None, option_map, refl, sym, ap, ◌∙◌, subst, arith, slice_get, nat_lt, inl, inr, bytes_eq}
+use Rattle.std.proofs.Common.{◌≡◌, ℕ, zero, suc, ◌+◌, ◌<◌, ◌≤◌, Bool, true, false, cond, not, List, [], ◌∷◌, length, Option, Some, None, option_map, refl, sym, ap, ◌∙◌, subst, arith, slice_get, nat_lt, inl, inr, bytes_eq}
 use Rattle.std.specs.Prelude.{All, if◌then◌else◌, codes, position}
 use Rattle.std.proofs.lemmas.Str.{is_utf8-from_IsUtf8, IsUtf8-from_ascii}
 use Rattle.std.proofs.lemmas.Str.Ascii.{IsAscii-from_all}
@@ -9,10 +9,11 @@ use Rattle.std.proofs.lemmas.Bool.{and_parts}
 use Rattle.std.proofs.lemmas.Bool.Decides.{nat_tests}
 use Rattle.std.proofs.lemmas.Slice.Eq.{bytes_eq-Decides}
 use Rattle.go_text.specs.declared.rule.Rule.TheVariants as rules
-use Rattle.syntax.specs.Tree.{Function, Top, StructTop, FunctionTop, File}
+use Rattle.syntax.specs.Tree.{Top, StructTop, FunctionTop, File}
 use Rattle.syntax.specs.Measures.{size as file_size}
-use Rattle.bytecode.specs.Code.{Function as CodeFunction, Code}
-use Rattle.bytecode.specs.Rules.{HasMain, Holds}
+use Rattle.bytecode.specs.declared.instr.WordKind.{WordKind}
+use Rattle.bytecode.specs.Code.{Function as CodeFunction, PrintTable, SelectTable}
+use Rattle.bytecode.specs.Rules.{HasMain, IsShaped, IsShort, IsSelect, IsVerified}
 use Rattle.type_table.specs.Containment.{Field}
 use Rattle.type_table.specs.Scopes.{Globals, Yield, NoResult, Yields}
 use Rattle.checker_base.specs.declared.flaw.Flaw.TheVariants.{Broken, Exceeded}
@@ -21,7 +22,7 @@ use Rattle.checker_declaration.specs.Declarations.{is_nothing}
 use Rattle.checker_declaration.specs.Kinds.{fields_declared, kinds_in, signature, signatures, globals_of}
 use Rattle.codegen_base.specs.declared.element.Element.{Element}
 use Rattle.codegen_base.specs.Layouts.{empty, with_parameters}
-use Rattle.codegen_base.specs.Program.{label, result_of, first_layout, made_function, function_code, functions_code, elements_of, code_of}
+use Rattle.codegen_base.specs.Program.{label, result_of, made_function, function_code, functions_code, elements_of, code_of}
 use Rattle.codegen_base.specs.Generated.{result_kinds}
 use Rattle.codegen_base.proofs.Fields.{AllWide}
 use Rattle.codegen_base.proofs.Typing.{Free, broken, not_false}
@@ -143,6 +144,9 @@ main_of_file file le free =
     let m = main_at (globals_of file.tops) (elements_of file) file.tops 0 0 (not_false (has_main (globals_of file.tops).functions) (λ e. free b.0 (inr (inl (e, b.1))))) in
     record { number = m.number; function = m.function; first = position_is (λ (f : CodeFunction). bytes_eq f.name (codes "main")) (code_of file).functions ∙ m.first; there = m.there; params = m.params; results = m.results }
 
--- V1 to V6 and V8, of a file that the checker takes
-pub typed_file : (file : File) → AllWide (globals_of file.tops).structs → PostsTops file.tops → 1 ≤ file_size file → IsTyped file → ((g : ℕ) (f : CodeFunction) → slice_get (code_of file).functions g ≡ Some f → Holds (code_of file) f) × HasMain (code_of file)
-typed_file file wide still le typed = (file_verified file wide still (free_of file typed), main_of_file file le (free_of file typed))
+-- the code of a file that the checker takes keeps the verifier's rules, where the words of each struct are known, no post statement declares anything, and
+-- its shapes and tables are as V7 asks
+pub typed_file : (file : File) → AllWide (globals_of file.tops).structs → PostsTops file.tops → IsTyped file → ((n : ℕ) (ks : List WordKind) → slice_get (code_of file).shapes n ≡ Some ks → IsShaped (code_of file) ks)
+    → ((q : ℕ) (table : PrintTable) → slice_get (code_of file).prints q ≡ Some table → IsShort table) → ((q : ℕ) (table : SelectTable) → slice_get (code_of file).selects q ≡ Some table → IsSelect (code_of file) table) → IsVerified (code_of file)
+typed_file file wide still typed shapes prints selects =
+    let free = free_of file typed in record { shapes = shapes; prints = prints; selects = selects; functions = file_verified file wide still free; main = main_of_file file (omega arith) free }

@@ -1,9 +1,9 @@
 -- All functions of a file with which nothing is wrong keep the verifier's rules V1 to V6.
-use Rattle.std.proofs.Common.{◌≡◌, ℕ, zero, suc, ◌+◌, cond, List, [], ◌∷◌, ◌++◌, length, drop, Option, Some, None, refl, sym, ap, ◌∙◌, subst, arith, length-append, slice_get, inl, inr}
+use Rattle.std.proofs.Common.{◌≡◌, ℕ, zero, suc, ◌+◌, cond, List, [], ◌∷◌, ◌++◌, length, drop, Some, refl, sym, ap, ◌∙◌, subst, arith, length-append, slice_get, inl, inr}
 use Rattle.std.proofs.lemmas.Option.{same_Some}
-use Rattle.syntax.specs.Tree.{Function, Top, StructTop, FunctionTop, File}
+use Rattle.syntax.specs.Tree.{Top, StructTop, FunctionTop, File}
 use Rattle.syntax.specs.Measures.{top_size}
-use Rattle.bytecode.specs.Code.{Function as CodeFunction, Code, PrintTable, SelectTable}
+use Rattle.bytecode.specs.Code.{Function as CodeFunction, Code}
 use Rattle.bytecode.specs.Rules.{Holds}
 use Rattle.type_table.specs.Scopes.{Globals}
 use Rattle.checker.specs.Files.{BodiesHave, FileHas}

@@ -1,18 +1,17 @@
 -- The functions of the code of a file have the kinds of the parameters and results that the file declares.
-use Rattle.std.proofs.Common.{◌≡◌, ℕ, zero, suc, ◌+◌, ◌<◌, Bool, true, false, List, [], ◌∷◌, ◌++◌, length, take, map, Option, Some, None, option_map, refl, sym, ap, ◌∙◌, subst, arith, slice_get, append_assoc, inl, inr, bytes_eq}
+use Rattle.std.proofs.Common.{◌≡◌, ℕ, zero, suc, ◌+◌, ◌<◌, Bool, true, false, List, [], ◌∷◌, ◌++◌, length, take, map, Option, Some, None, option_map, refl, sym, ap, ◌∙◌, arith, slice_get, append_assoc, inl, inr, bytes_eq}
 use Rattle.std.specs.Prelude.{if◌then◌else◌}
 use Rattle.std.proofs.Math.Seq.{take-append_seam}
 use Rattle.std.proofs.lemmas.Option.{same_Some}
 use Rattle.std.proofs.lemmas.List.{append-nil}
 use Rattle.syntax.specs.Tree.{Function, Top, StructTop, FunctionTop, File}
-use Rattle.syntax.specs.Measures.{declared_size, top_size}
-use Rattle.bytecode.specs.declared.instr.WordKind.{WordKind}
-use Rattle.bytecode.specs.Code.{Function as CodeFunction, Code}
+use Rattle.syntax.specs.Measures.{top_size}
+use Rattle.bytecode.specs.Code.{Function as CodeFunction}
 use Rattle.bytecode.specs.Effects.{params_in, results_in}
 use Rattle.bytecode.specs.Rules.{Holds}
 use Rattle.type_table.specs.Types.{ValueType}
 use Rattle.type_table.specs.Containment.{Field}
-use Rattle.type_table.specs.Scopes.{Globals, Signature, Yield, NoResult, Yields, function_number}
+use Rattle.type_table.specs.Scopes.{Globals, Signature, Yields, function_number}
 use Rattle.checker.specs.Files.{FileHas}
 use Rattle.checker_declaration.specs.declared.group.Role.TheVariants as roles
 use Rattle.checker_declaration.specs.Declarations.{HeadersHave, counting_function}
@@ -24,7 +23,7 @@ use Rattle.codegen_base.specs.Elements.{kinds_of}
 use Rattle.codegen_base.specs.Layouts.{Layout, declaring, with_parameters}
 use Rattle.codegen_base.specs.Pushes.{pushes_zeros}
 use Rattle.codegen_base.specs.Program.{noting_any, noting_declared, noting_statements, noting_top, noting_tops, result_of, first_layout, made_function, function_code, functions_code, elements_of, code_of}
-use Rattle.codegen_base.specs.Generated.{Site, Made, made_of, made_all, result_kinds}
+use Rattle.codegen_base.specs.Generated.{Site, made_of, made_all, result_kinds}
 use Rattle.codegen_base.proofs.Called.{KindsKnown}
 use Rattle.codegen_base.proofs.Noted.{Noted, Grows, grows_no, grows_on}
 use Rattle.codegen_base.proofs.Typing.{Free}
@@ -32,7 +31,7 @@ use Rattle.plan.specs.Plan.{Stop, table_count}
 use Rattle.codegen_fine.proofs.Operands.{Grounds}
 use Rattle.codegen_fine.proofs.Emitted.{all_kinds, AllNoted}
 use Rattle.codegen_fine.proofs.Operations.{Functions}
-use Rattle.codegen_fine.proofs.Layouts.{Longer, longer_no}
+use Rattle.codegen_fine.proofs.Layouts.{longer_no}
 use Rattle.codegen_fine.proofs.Growing.{longer_statements, longer_unless}
 use Rattle.codegen_fine.proofs.Noting.{any_grows, statements_grow, tops_grow}
 use Rattle.codegen_fine.proofs.Wholes.{ParametersFine}

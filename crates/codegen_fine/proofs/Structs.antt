@@ -1,5 +1,5 @@
 -- What is so of the struct types of a file with which nothing is wrong.
-use Rattle.std.proofs.Common.{◌≡◌, ℕ, zero, suc, ◌+◌, ◌<◌, Bool, true, false, List, [], ◌∷◌, ◌++◌, length, map, Option, Some, None, option_map, refl, sym, ap, ◌∙◌, subst, slice_get, inl, inr, bytes_eq}
+use Rattle.std.proofs.Common.{◌≡◌, ℕ, zero, suc, ◌+◌, ◌<◌, Bool, true, false, List, [], ◌∷◌, length, map, Option, Some, None, option_map, refl, sym, subst, slice_get, inl, inr, bytes_eq}
 use Rattle.std.specs.Prelude.{if◌then◌else◌}
 use Rattle.std.proofs.lemmas.Option.{slice_get_within, same_Some}
 use Rattle.std.proofs.lemmas.List.{map-append}
@@ -10,7 +10,7 @@ use Rattle.bytecode.specs.declared.instr.WordKind.TheVariants as kinds
 use Rattle.bytecode.specs.Code.{Function as CodeFunction, Code}
 use Rattle.bytecode.specs.Rules.{IsThere, AreThere, Holds}
 use Rattle.type_table.specs.Types.{ValueType, IntType, BoolType, StructType, ChannelType}
-use Rattle.type_table.specs.Containment.{Field, Structs, Selected, fields_in, fields_of, behind, variable_words, field_among, field_of, kind_parts, fields_parts, parts_within}
+use Rattle.type_table.specs.Containment.{Field, Selected, fields_in, fields_of, behind, variable_words, field_among, kind_parts, fields_parts, parts_within}
 use Rattle.type_table.specs.Scopes.{Globals}
 use Rattle.checker.specs.Files.{FileHas}
 use Rattle.checker_declaration.specs.declared.group.Role.TheVariants as roles

@@ -1,27 +1,24 @@
 -- A whole function with which nothing is wrong keeps the verifier's rules V1 to V6.
-use Rattle.std.proofs.Common.{◌≡◌, ℕ, zero, suc, ◌+◌, ◌≤◌, cond, Bool, List, [], ◌∷◌, ◌++◌, length, drop, Option, Some, None, refl, sym, ap, ◌∙◌, subst, arith, length-append, slice_get, inl, inr}
+use Rattle.std.proofs.Common.{◌≡◌, ℕ, List, [], ◌∷◌, ◌++◌, length, drop, Option, Some, refl, sym, ap, subst, arith, length-append, inl}
 use Rattle.std.proofs.lemmas.List.{append-nil}
-use Rattle.syntax.specs.Tree.{Function, Top, StructTop, FunctionTop}
-use Rattle.syntax.specs.Measures.{if_any, type_size, declared_size, function_size, top_size}
-use Rattle.bytecode.specs.declared.instr.WordKind.{WordKind}
-use Rattle.bytecode.specs.Code.{Function as CodeFunction, Code, PrintTable, SelectTable}
+use Rattle.syntax.specs.Tree.{Function}
+use Rattle.bytecode.specs.Code.{Function as CodeFunction, Code, SelectTable}
 use Rattle.bytecode.specs.Rules.{Holds}
 use Rattle.type_table.specs.Types.{ValueType}
 use Rattle.type_table.specs.Containment.{Field}
-use Rattle.type_table.specs.Scopes.{Globals, Scope, Yield, Yields, nothing_declared, declared}
-use Rattle.checker.specs.Files.{BodyHas, TopBodyHas, BodiesHave}
+use Rattle.type_table.specs.Scopes.{Globals, Scope, Yields, nothing_declared, declared}
+use Rattle.checker.specs.Files.{BodyHas}
 use Rattle.checker_declaration.specs.Kinds.{fields_declared, with_fields, parameters}
 use Rattle.meaning.specs.Values.{known}
 use Rattle.codegen_base.specs.declared.element.Element.{Element}
 use Rattle.codegen_base.specs.Layouts.{Layout, empty, declaring, with_parameters}
 use Rattle.codegen_base.specs.Pushes.{pushes_zeros}
-use Rattle.codegen_base.specs.Program.{noting_statements, noting_any, noting_declared, noting_top, noting_tops, result_of, first_layout, made_function, function_code, functions_code, all_prints, all_selects}
-use Rattle.codegen_base.specs.Generated.{Site, Made, made_of, made_all, result_kinds}
+use Rattle.codegen_base.specs.Program.{noting_statements, result_of, first_layout, made_function, function_code}
+use Rattle.codegen_base.specs.Generated.{Site, made_of, made_all, result_kinds}
 use Rattle.codegen_base.proofs.Alike.{Alike, alike_refl, alike_declared}
-use Rattle.codegen_base.proofs.Noted.{Noted, Grows, grows_on}
+use Rattle.codegen_base.proofs.Noted.{Noted, Grows}
 use Rattle.codegen_base.proofs.Typing.{Free}
-use Rattle.plan.specs.Plan.{Plan, Skip, Do, Seq, IfElse, IfThen, Cycle, Endless, Choose, Way, LastWay, Stop, Leave, Again, reaches_end, turns, jump_size, size, tables, table_count}
-use Rattle.plan.proofs.Lists.{length_if, behind}
+use Rattle.plan.specs.Plan.{Stop, tables}
 use Rattle.plan.proofs.Stacks.{holds_by}
 use Rattle.plan.proofs.Tables.{tabled}
 use Rattle.codegen_fine.proofs.Operands.{Grounds}
@@ -29,9 +26,7 @@ use Rattle.codegen_fine.proofs.Operations.{Functions}
 use Rattle.codegen_fine.proofs.Layouts.{Longer, longer_no, longer_on, longer_declaring, Begins, begins_before, Room, room_declaring}
 use Rattle.codegen_fine.proofs.Simples.{Prints}
 use Rattle.codegen_fine.proofs.Growing.{longer_statements, longer_unless}
-use Rattle.codegen_fine.proofs.Noting.{tops_grow}
 use Rattle.codegen_fine.proofs.Numbering.{numbered_body}
-use Rattle.codegen_fine.proofs.Bodies.{prints_front, prints_back}
 use Rattle.codegen_fine.proofs.Returns.{IsResult}
 use Rattle.codegen_fine.proofs.Statements.{PostsAll}
 use Rattle.codegen_fine.proofs.Finished.{typed_body, result_there}
