@@ -37,4 +37,6 @@ pub mod Programs
 pub mod Heads
 pub mod Signatures
 pub mod Structs
+pub mod Keeping
+pub mod Shapes
 pub mod Main
