@@ -13,7 +13,7 @@ use Rattle.syntax.specs.Tree.{Top, StructTop, FunctionTop, File}
 use Rattle.syntax.specs.Measures.{size as file_size}
 use Rattle.bytecode.specs.declared.instr.WordKind.{WordKind}
 use Rattle.bytecode.specs.Code.{Function as CodeFunction, PrintTable, SelectTable}
-use Rattle.bytecode.specs.Rules.{HasMain, IsShaped, IsShort, IsSelect, IsVerified}
+use Rattle.bytecode.specs.Rules.{HasMain, IsShort, IsSelect, IsVerified}
 use Rattle.type_table.specs.Containment.{Field}
 use Rattle.type_table.specs.Scopes.{Globals, Yield, NoResult, Yields}
 use Rattle.checker_base.specs.declared.flaw.Flaw.TheVariants.{Broken, Exceeded}
@@ -28,7 +28,8 @@ use Rattle.codegen_base.proofs.Fields.{AllWide}
 use Rattle.codegen_base.proofs.Typing.{Free, broken, not_false}
 use Rattle.plan.specs.Plan.{table_count}
 use Rattle.codegen_fine.proofs.Heads.{PostsTops}
-use Rattle.codegen_fine.proofs.Structs.{file_verified}
+use Rattle.codegen_fine.proofs.Structs.{grounds_of, file_verified}
+use Rattle.codegen_fine.proofs.Shapes.{shapes_there, shapes_short}
 
 abbrev first_place : {A : Type 0} → (A → Bool) → List A → Option ℕ
 first_place p [] = None
@@ -145,8 +146,9 @@ main_of_file file le free =
     record { number = m.number; function = m.function; first = position_is (λ (f : CodeFunction). bytes_eq f.name (codes "main")) (code_of file).functions ∙ m.first; there = m.there; params = m.params; results = m.results }
 
 -- the code of a file that the checker takes keeps the verifier's rules, where the words of each struct are known, no post statement declares anything, and
--- its shapes and tables are as V7 asks
-pub typed_file : (file : File) → AllWide (globals_of file.tops).structs → PostsTops file.tops → IsTyped file → ((n : ℕ) (ks : List WordKind) → slice_get (code_of file).shapes n ≡ Some ks → IsShaped (code_of file) ks)
+-- no shape is empty, and its tables are as V7 asks
+pub typed_file : (file : File) → AllWide (globals_of file.tops).structs → PostsTops file.tops → IsTyped file → ((n : ℕ) (ks : List WordKind) → slice_get (code_of file).shapes n ≡ Some ks → 0 < length ks)
     → ((q : ℕ) (table : PrintTable) → slice_get (code_of file).prints q ≡ Some table → IsShort table) → ((q : ℕ) (table : SelectTable) → slice_get (code_of file).selects q ≡ Some table → IsSelect (code_of file) table) → IsVerified (code_of file)
 typed_file file wide still typed shapes prints selects =
-    let free = free_of file typed in record { shapes = shapes; prints = prints; selects = selects; functions = file_verified file wide still free; main = main_of_file file (omega arith) free }
+    let free = free_of file typed in
+    record { shapes = λ n ks e. record { some = shapes n ks e; most = shapes_short file wide free n ks e; there = shapes_there file (grounds_of file wide free) n ks e }; prints = prints; selects = selects; functions = file_verified file wide still free; main = main_of_file file (omega arith) free }

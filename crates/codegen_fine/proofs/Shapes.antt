@@ -1,20 +1,27 @@
 -- The shapes that a file's shapes name are there.
-use Rattle.std.proofs.Common.{◌≡◌, ℕ, zero, suc, ◌+◌, ◌<◌, Bool, true, false, List, [], ◌∷◌, ◌++◌, length, map, Option, Some, None, refl, sym, ap, ◌∙◌, subst, arith, length-append, slice_get}
-use Rattle.std.specs.Prelude.{if◌then◌else◌}
+use Rattle.std.proofs.Common.{◌≡◌, ℕ, zero, suc, ◌+◌, ◌<◌, Bool, true, false, List, [], ◌∷◌, ◌++◌, length, map, Option, Some, None, refl, sym, ap, ◌∙◌, subst, arith, length-append, slice_get, inl, inr, ◌≤◌}
+use Rattle.std.specs.Prelude.{if◌then◌else◌, nat_le}
+use Rattle.std.proofs.lemmas.Bool.Decides.{nat_tests}
 use Rattle.std.specs.Option.{is_some}
 use Rattle.std.proofs.lemmas.Option.{slice_get_within, same_Some}
 use Rattle.std.proofs.lemmas.List.{length-map}
-use Rattle.syntax.specs.Tree.{File}
+use Rattle.go_text.specs.declared.rule.LimitKind.TheVariants as limits
+use Rattle.syntax.specs.Tree.{Top, StructTop, FunctionTop, File}
+use Rattle.syntax.specs.Measures.{top_size}
 use Rattle.bytecode.specs.declared.instr.WordKind.{WordKind}
 use Rattle.bytecode.specs.declared.instr.WordKind.TheVariants as kinds
-use Rattle.bytecode.specs.Code.{Code}
 use Rattle.bytecode.specs.Rules.{IsThere, AreThere}
 use Rattle.type_table.specs.Types.{ValueType, IntType, BoolType, StructType, ChannelType}
-use Rattle.type_table.specs.Containment.{Structs}
-use Rattle.checker_declaration.specs.Kinds.{globals_of}
+use Rattle.type_table.specs.Containment.{Structs, fields_in, fields_width, width_within, width, parts}
+use Rattle.type_table.proofs.Fields.{parts-count}
+use Rattle.checker.specs.Files.{FileHas}
+use Rattle.checker_declaration.specs.Declarations.{WidthHas, struct_node}
+use Rattle.checker_declaration.specs.Kinds.{structs_with, globals_of}
+use Rattle.codegen_base.proofs.Fields.{AllWide}
+use Rattle.codegen_base.proofs.Typing.{Free, exceeded}
 use Rattle.codegen_base.specs.declared.element.Element.{Element}
 use Rattle.codegen_base.specs.declared.element.Element.TheVariants as elements
-use Rattle.codegen_base.specs.Elements.{found_at, element_of, shape_of, with_element, with_type, kinds_of, element_kinds, shapes_of}
+use Rattle.codegen_base.specs.Elements.{word_kind, found_at, element_of, shape_of, with_type, kinds_of, element_kinds, shapes_of}
 use Rattle.codegen_base.specs.Program.{elements_of, code_of}
 use Rattle.codegen_base.proofs.Noted.{Noted, type_noted, shape_there}
 use Rattle.codegen_fine.proofs.Operands.{Grounds}
@@ -84,3 +91,44 @@ shapes_there file grounds n ks e =
       go elements.Bool w = single kinds.Bool tt
       go (elements.Struct m) w = grounds.structs_there m
       go (elements.Channel m) w = single (kinds.Chan m) (subst (λ k. m < k) (sym (length-map (elements_of file) (element_kinds (globals_of file.tops).structs (elements_of file)))) w)
+
+-- ---- no shape has more than 16 words
+
+none_node : (types : List (List ℕ)) (tops : List Top) (first m : ℕ) → struct_node first tops m ≡ None → fields_in (slice_get (structs_with types tops) m) ≡ []
+none_node types [] first m e = refl
+none_node types (FunctionTop function ∷ rest) first m e = none_node types rest (first + top_size (FunctionTop function)) m e
+none_node types (StructTop struct ∷ rest) first zero e = absurd cc
+none_node types (StructTop struct ∷ rest) first (suc m) e = none_node types rest (first + top_size (StructTop struct)) m e
+
+narrow : (v end : ℕ) → 1 ≤ end → Free (WidthHas (Some v) end) → v ≤ 16
+narrow v end le free = go (nat_le v 16) refl where
+  go : (t : Bool) → nat_le v 16 ≡ t → v ≤ 16
+  go true e = grind (arith, nat_tests, e)
+  go false e = let x = exceeded limits.StructWidth end le in let lt : 16 < v = grind (arith, nat_tests, e) in absurd (free x.0 (lt, x.1))
+
+struct_narrow : (file : File) → AllWide (globals_of file.tops).structs → Free (FileHas file) → (m : ℕ) → length (kinds_of (globals_of file.tops).structs (elements_of file) (StructType m)) ≤ 16
+struct_narrow file wide free m =
+    let structs = (globals_of file.tops).structs in
+    let (v, is) = wide m in
+    let many : length (kinds_of structs (elements_of file) (StructType m)) ≡ v = length-map (parts structs (StructType m)) (word_kind (elements_of file)) ∙ parts-count structs (StructType m) v is in
+    let least = go v is (struct_node 0 file.tops m) refl in
+    omega (arith, many, least) where
+      go : (v : ℕ) → width (globals_of file.tops).structs (StructType m) ≡ Some v → (o : Option ℕ) → struct_node 0 file.tops m ≡ o → v ≤ 16
+      go v is None none =
+          let structs = (globals_of file.tops).structs in
+          let empty : Some 0 ≡ Some v = sym (ap (fields_width (width_within structs (length structs))) (none_node (globals_of file.tops).types file.tops 0 m none)) ∙ is in
+          let z = same_Some 0 v empty in
+          omega (arith, z)
+      go v is (Some node) some = narrow v (node + 1) (omega arith) (λ flaw h. free flaw (inl (inl (inr (m, node, some, inr (subst (λ o. WidthHas o (node + 1) flaw) (sym is) h))))))
+
+pub shapes_short : (file : File) → AllWide (globals_of file.tops).structs → Free (FileHas file) → (n : ℕ) (ks : List WordKind) → slice_get (code_of file).shapes n ≡ Some ks → length ks ≤ 16
+shapes_short file wide free n ks e =
+    let structs = (globals_of file.tops).structs in
+    let all = elements_of file in
+    let (x, is, same) = mapped_from (element_kinds structs all) all n ks e in
+    subst (λ (l : List WordKind). length l ≤ 16) same (go x) where
+      go : (x : Element) → length (element_kinds (globals_of file.tops).structs (elements_of file) x) ≤ 16
+      go elements.Int = omega arith
+      go elements.Bool = omega arith
+      go (elements.Struct m) = struct_narrow file wide free m
+      go (elements.Channel m) = omega arith
