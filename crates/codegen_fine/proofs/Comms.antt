@@ -1,33 +1,32 @@
 -- What clauses of a select wait for, with which nothing is wrong.
-use Rattle.std.proofs.Common.{◌≡◌, ℕ, ◌+◌, ◌≤◌, Bool, true, false, not, ◌&&◌, ◌||◌, List, [], ◌∷◌, ◌++◌, length, map, Option, Some, None, option_map, refl, sym, ap, ◌∙◌, subst, arith, append_assoc, length-append, inl, inr}
+use Rattle.std.proofs.Common.{◌≡◌, ℕ, ◌+◌, Bool, true, false, not, ◌||◌, List, [], ◌∷◌, ◌++◌, length, map, Option, Some, None, refl, sym, ap, ◌∙◌, subst, arith, length-append, inl, inr}
 use Rattle.std.specs.List.{list_any}
 use Rattle.std.proofs.lemmas.Bool.{or_parts}
 use Rattle.std.proofs.lemmas.List.{append-nil, length-map}
 use Rattle.go_text.specs.declared.rule.Rule.TheVariants as rules
-use Rattle.syntax.specs.Tree.{Expression, Place, Receive, RightOperation, Simple, Define, Assign, Send, ReceiveAlone, Comm, CommSend, CommReceive, CommDefine, CommAssign}
+use Rattle.syntax.specs.Tree.{Expression, Place, Receive, RightOperation, Define, Assign, Comm, CommSend, CommReceive, CommDefine, CommAssign}
 use Rattle.syntax.specs.Measures.{expression_size, right_size, simple_size}
 use Rattle.bytecode.specs.declared.instr.WordKind.{WordKind}
 use Rattle.bytecode.specs.declared.instr.WordKind.TheVariants as kinds
-use Rattle.bytecode.specs.declared.instr.Instr.TheVariants as instrs
 use Rattle.bytecode.specs.Code.{Function as CodeFunction, Code}
 use Rattle.bytecode.specs.Effects.{shape_kinds, clause_kinds, clause_gives}
 use Rattle.type_table.specs.Types.{ValueType, BoolType}
 use Rattle.type_table.specs.Scopes.{Globals, Scope, Yield, own_variable}
-use Rattle.checker_base.specs.Worths.{Typed as TypedWorth, worth}
-use Rattle.checker_base.specs.Expressions.{nodes_of, ValueHas, default_type, element_of, ExpressionHas, ChannelHas}
-use Rattle.checker_operation.specs.Operations.{Given, given, and_also, PlacesHave}
+use Rattle.checker_base.specs.Worths.{worth}
+use Rattle.checker_base.specs.Expressions.{nodes_of, ValueHas, element_of, ExpressionHas, ChannelHas}
+use Rattle.checker_operation.specs.Operations.{given, and_also, PlacesHave}
 use Rattle.checker_simple.specs.Simples.{is_declarable, has_twice, SimpleHas, after_simple, comm_simple}
 use Rattle.meaning.specs.Values.{known}
 use Rattle.codegen_base.specs.declared.element.Element.{Element}
 use Rattle.codegen_base.specs.Elements.{kinds_of, shape_of}
-use Rattle.codegen_base.specs.Layouts.{Layout, carried, declaring_all, given_types, behind_simple}
+use Rattle.codegen_base.specs.Layouts.{Layout, carried, declaring_all, given_types}
 use Rattle.codegen_base.specs.Generated.{pushes_comm, table_clause, comm_kinds, comm_plan, one_or_two, unless_two, behind_comm}
 use Rattle.codegen_base.specs.Pushes.{pushes, pushes_own}
 use Rattle.codegen_base.specs.Statements.{Spot, assigns, place_spots, taken_types, name_spots, name_types, right_types}
 use Rattle.codegen_base.proofs.Alike.{Alike}
 use Rattle.codegen_base.proofs.Noted.{Noted}
 use Rattle.codegen_base.proofs.Typing.{Free, broken, fits, nodes_end, worth_there}
-use Rattle.plan.specs.Plan.{Plan, Skip, Do}
+use Rattle.plan.specs.Plan.{Skip}
 use Rattle.plan.proofs.Typed.{Allowed, Typed}
 use Rattle.codegen_fine.proofs.Sees.{Sees, worth_sees}
 use Rattle.codegen_fine.proofs.Pushing.{Puts, puts_both}
@@ -38,9 +37,8 @@ use Rattle.codegen_fine.proofs.Requests.{shape_is}
 use Rattle.codegen_fine.proofs.Simple.{discards_typed}
 use Rattle.codegen_fine.proofs.Spots.{joined, SpotsFit, assigns_typed}
 use Rattle.codegen_fine.proofs.Places.{housed_of}
-use Rattle.codegen_fine.proofs.Givens.{taken_all}
 use Rattle.codegen_fine.proofs.Rights.{default_typed, typed_given}
-use Rattle.codegen_fine.proofs.Layouts.{Begins, Room, kinds_each}
+use Rattle.codegen_fine.proofs.Layouts.{Begins, Room}
 use Rattle.codegen_fine.proofs.Assigns.{joined_kinds, place_want, places_want, places_taken, names_want, names_taken, want_of, places_fit, places_fail, places_noted, names_fail, names_noted, defines_fit, defined_alike}
 
 not_true : (b : Bool) → (b ≡ true → ⊥) → b ≡ false

@@ -6,24 +6,21 @@ use Rattle.syntax.specs.Tree.{Comm, CommSend, CommReceive, CommDefine, CommAssig
 use Rattle.syntax.specs.Measures.{if_any, comm_size, statements_size}
 use Rattle.bytecode.specs.declared.instr.WordKind.{WordKind}
 use Rattle.bytecode.specs.declared.instr.WordKind.TheVariants as kinds
-use Rattle.bytecode.specs.declared.instr.Instr.TheVariants as instrs
 use Rattle.bytecode.specs.declared.table.Clause.{Clause as TableClause}
-use Rattle.bytecode.specs.Code.{Function as CodeFunction, Code, SelectTable}
-use Rattle.bytecode.specs.Effects.{all_clause_kinds, clause_gives, clauses_in, clause_target, default_targets, targets, below, leaves, top_of, Fits as FitsStack, afterwards}
+use Rattle.bytecode.specs.Code.{Function as CodeFunction, Code}
+use Rattle.bytecode.specs.Effects.{all_clause_kinds, clause_gives, clauses_in, clause_target, default_targets}
 use Rattle.type_table.specs.Scopes.{Globals, Scope, Yield, entered, left}
-use Rattle.checker_base.specs.Worths.{worth}
 use Rattle.checker_base.specs.Expressions.{element_of}
 use Rattle.checker_simple.specs.Simples.{comm_simple}
 use Rattle.checker_statement.specs.Statements.{Setting, ClausesHave, after_all, after_any, after_clauses}
 use Rattle.meaning.specs.Values.{known}
 use Rattle.codegen_base.specs.declared.element.Element.{Element}
 use Rattle.codegen_base.specs.Elements.{kinds_of}
-use Rattle.codegen_base.specs.Layouts.{Layout, carried}
-use Rattle.codegen_base.specs.Pushes.{pushes, pushes_own}
+use Rattle.codegen_base.specs.Layouts.{Layout}
 use Rattle.codegen_base.specs.Generated.{Site, Made, made_of, default_at, with_way, pushes_comm, pushes_clauses, table_clause, table_clauses, default_places, select_table, comm_kinds, made_select}
 use Rattle.codegen_base.proofs.Alike.{Alike}
 use Rattle.codegen_base.proofs.Typing.{Free}
-use Rattle.plan.specs.Plan.{Plan, Skip, Choose, Way, LastWay, starts, entries}
+use Rattle.plan.specs.Plan.{Skip, Choose, starts, entries}
 use Rattle.plan.proofs.Steps.{below_of, top_of_is}
 use Rattle.plan.proofs.Tables.{Tabled}
 use Rattle.plan.proofs.Typed.{Allowed, in_select, Typed}
@@ -31,10 +28,10 @@ use Rattle.codegen_fine.proofs.Sees.{Sees, worth_sees}
 use Rattle.codegen_fine.proofs.Pushing.{Puts, puts_both}
 use Rattle.codegen_fine.proofs.Operands.{Grounds}
 use Rattle.codegen_fine.proofs.Operations.{Functions}
-use Rattle.codegen_fine.proofs.Layouts.{Longer, Begins, begins_before, Room}
-use Rattle.codegen_fine.proofs.Comms.{comm_channel, comm_fine}
-use Rattle.codegen_fine.proofs.Before.{Before, Here, before_on, before_tabled, clauses_before}
-use Rattle.codegen_fine.proofs.Bodies.{prints_front, prints_back, IsMade, Fits}
+use Rattle.codegen_fine.proofs.Layouts.{Room}
+use Rattle.codegen_fine.proofs.Comms.{comm_fine}
+use Rattle.codegen_fine.proofs.Before.{before_tabled, clauses_before}
+use Rattle.codegen_fine.proofs.Bodies.{IsMade}
 
 abbrev pub comm_count : Clauses → ℕ
 comm_count NoClause = 0
