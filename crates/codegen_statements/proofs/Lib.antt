@@ -3,3 +3,4 @@ pub mod Names
 pub mod Defined
 pub mod Untyped
 pub mod Updated
+pub mod Alone
