@@ -159,7 +159,7 @@ module _ (file : File) (elements : List Element) (all : AllWide (globals file).s
       at place ls [],
       here,
       block_lands ls view l body place mid (EndBlock ∷ k) h
-          (record { first = d.first; breaks = d.breaks; continues = d.continues; fine = fine_opened file elements all code result f view d.fine; good = d.good; on = d.on; fits = record { tables = d.fits.tables; room = d.fits.room } })
+          (record { first = d.first; breaks = d.breaks; continues = d.continues; fine = fine_opened file elements all code result f view d.fine; good = d.good; makes = d.makes; on = d.on; fits = record { tables = d.fits.tables; room = d.fits.room } })
           (λ last i. end_sits next last l mid r.0 k (inner_same view next last same begins i) r.1 r.2),
     )
 
@@ -174,7 +174,7 @@ module _ (file : File) (elements : List Element) (all : AllWide (globals file).s
         (decides file (blocks ls view) k cs body NoElse) _ mid place d.test d.on
         (λ b to on. go b to on.0 on.1
         (block_lands ls view l body (to + 1) mid (EndBlock ∷ k) h
-        (record { first = d.second; breaks = d.breaks; continues = d.continues; fine = fine_opened file elements all code result f view d.fine; good = d.good; on = on.2; fits = record { tables = fits.tables; room = fits.room } })
+        (record { first = d.second; breaks = d.breaks; continues = d.continues; fine = fine_opened file elements all code result f view d.fine; good = d.good; makes = d.makes; on = on.2; fits = record { tables = fits.tables; room = fits.room } })
         (λ last i. end_sits next last l mid r.0 k (inner_same view next last same begins i) r.1 r.2))
         (lands_same ls view next l on.0 mid k h same begins on.3 r)) where
           go : (b : Bool) (to other : ℕ) → At f.instrs to (instrs.Unless other) → R (frame (entered (blocks ls view)) (all_of body ++ EndBlock ∷ k) ∷ cs) (at (to + 1) ls []) → R (frame (blocks ls view) k ∷ cs) (at other ls [])
@@ -198,6 +198,7 @@ module _ (file : File) (elements : List Element) (all : AllWide (globals file).s
           continues = d.continues;
           fine = fine_opened file elements all code result f view d.fine;
           good = d.good;
+          makes = d.makes;
           on = on.2;
           fits = record { tables = prints_front code view.site.prints so.prints (made_all (globals file) elements result (inside second.site) others).prints fits.tables; room = most };
         })
@@ -209,6 +210,7 @@ module _ (file : File) (elements : List Element) (all : AllWide (globals file).s
           continues = d.continues;
           fine = fine_opened file elements all code result f second (fine_body view body d.fine);
           good = d.other;
+          makes = d.other_makes;
           on = on.3;
           fits = record { tables = prints_back code view.site.prints so.prints (made_all (globals file) elements result (inside second.site) others).prints fits.tables; room = fits.room };
         })
@@ -235,6 +237,7 @@ module _ (file : File) (elements : List Element) (all : AllWide (globals file).s
           continues = d.continues;
           fine = fine_opened file elements all code result f view d.fine;
           good = d.good;
+          makes = d.makes;
           on = on.2;
           fits = record { tables = prints_front code view.site.prints so.prints (made_branch (globals file) elements result second.site branch).prints fits.tables; room = most };
         })
@@ -251,6 +254,7 @@ module _ (file : File) (elements : List Element) (all : AllWide (globals file).s
               continues = d.continues;
               fine = fine;
               good = d.other;
+              makes = d.other_makes;
               on = on.3;
               fits = record { tables = prints_back code view.site.prints so.prints (made_branch (globals file) elements result second.site branch).prints fits.tables; room = fits.room };
             },
@@ -278,7 +282,7 @@ module _ (file : File) (elements : List Element) (all : AllWide (globals file).s
         → Together view next → variables next ≡ variables view → Rest next l mid k → R (frame (entered (blocks ls view)) (all_of body ++ Again (Repeating condition post body) ∷ k) ∷ cs) (at place ls [])
     body_lands ls view next l condition post body head mid k place post_at h d on turns' t same r =
         block_lands ls view (record { leave = mid; again = post_at }) body place post_at (Again (Repeating condition post body) ∷ k) h
-        (record { first = d.second; breaks = true; continues = true; fine = fine_opened file elements all code result f view d.fine; good = d.good; on = on; fits = record { tables = d.fits.tables; room = d.fits.room } })
+        (record { first = d.second; breaks = true; continues = true; fine = fine_opened file elements all code result f view d.fine; good = d.good; makes = d.makes; on = on; fits = record { tables = d.fits.tables; room = d.fits.room } })
         (λ last i. (view, i, l, next, t, same, head, mid, refl, (d, turns'), again_place post_at, r.0, r.1, r.2))
 
     pub head_goes : (ls : Words) (view next : View) (l : Around) (condition : Option Expression) (post : Option Simple) (body : Statements) (place : ℕ) (mid : Option ℕ) (k : List Task) → Held ls view → Looping file elements all code result f l view condition post body place mid → Together view next → variables next ≡ variables view → Rest next l mid k
@@ -328,7 +332,7 @@ module _ (file : File) (elements : List Element) (all : AllWide (globals file).s
           last,
           u,
           Some m.0,
-          (refl, record { first = d.third; breaks = true; continues = true; fine = fine; good = d.after_good; on = m.1; fits = record { tables = d.post_fits.tables; room = d.post_fits.room } }, refl),
+          (refl, record { first = d.third; breaks = true; continues = true; fine = fine; good = d.after_good; makes = d.post_makes; on = m.1; fits = record { tables = d.post_fits.tables; room = d.post_fits.room } }, refl),
           Some m.0,
           at_once,
           end_sits outer last around (Some m.0) (Some m.0) (Turn (Repeating condition (Some post) body) ∷ k) (inner_opened file elements all code result f outer last u) at_once tail,
@@ -439,6 +443,7 @@ module _ (file : File) (elements : List Element) (all : AllWide (globals file).s
           continues = d.continues;
           fine = fine;
           good = λ flaw x. d.good flaw (inl (inl x));
+          makes = d.makes.0;
           on = d.on.1;
           fits = record { tables = prints_front code view.site.prints first.prints other.prints d.fits.tables; room = omega (arith, a, b, most) };
         } in
@@ -453,6 +458,8 @@ module _ (file : File) (elements : List Element) (all : AllWide (globals file).s
           test = λ flaw x. d.good flaw (inl (inr x));
           good = λ flaw x. d.good flaw (inr (inl x));
           other = λ flaw x. d.good flaw (inr (inr x));
+          makes = d.makes.1;
+          other_makes = d.makes.2;
           on = on;
           fits = record { tables = prints_back code view.site.prints first.prints other.prints d.fits.tables; room = most };
         } in
@@ -491,6 +498,8 @@ module _ (file : File) (elements : List Element) (all : AllWide (globals file).s
           test = λ flaw x. d.good flaw (inl (inr x));
           good = λ flaw x. d.good flaw (inr (inl x));
           other = λ flaw x. d.good flaw (inr (inr x));
+          makes = d.makes.1;
+          other_makes = d.makes.2;
           on = on;
           fits = record { tables = prints_back code view.site.prints [] other.prints d.fits.tables; room = d.fits.room };
         } in
@@ -504,4 +513,4 @@ module _ (file : File) (elements : List Element) (all : AllWide (globals file).s
         → variables next ≡ variables view → next.begins ≡ view.begins → Rest next l mid k → G (statement_next file (blocks ls view) k cs (If (Conditional head condition body otherwise))) (at place ls [])
     if_goes ls view next l (First simple) condition body otherwise place mid k h d same begins r = if_first_goes ls view next l simple condition body otherwise place mid k h d same begins r
     if_goes ls view next l Bare condition body otherwise place mid k h d same begins r = (at place ls [], here, bare_lands ls view next l condition body otherwise place mid k h d same begins r)
-    if_goes ls view next l Semicolon condition body otherwise place mid k h d same begins r = (at place ls [], here, bare_lands ls view next l condition body otherwise place mid k h (record { first = d.first; breaks = d.breaks; continues = d.continues; fine = d.fine; good = d.good; on = d.on; fits = record { tables = d.fits.tables; room = d.fits.room } }) same begins r)
+    if_goes ls view next l Semicolon condition body otherwise place mid k h d same begins r = (at place ls [], here, bare_lands ls view next l condition body otherwise place mid k h (record { first = d.first; breaks = d.breaks; continues = d.continues; fine = d.fine; good = d.good; makes = d.makes; on = d.on; fits = record { tables = d.fits.tables; room = d.fits.room } }) same begins r)

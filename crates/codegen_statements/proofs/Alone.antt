@@ -1,14 +1,13 @@
 -- Simple statements: the code does what the source does.
 use Rattle.std.proofs.Common.{◌≡◌, ℕ, ◌+◌, ◌≤◌, List, [], length, map, Option, Some, refl, subst, arith, slice_get, inl}
-use Rattle.syntax.specs.Tree.{Simple, CallAlone, Close, Print, ReceiveAlone, Send, Increment, Decrement, Assign, Define, Update, Alone, Make, Right, RightOperation, File}
+use Rattle.syntax.specs.Tree.{Simple, CallAlone, Close, Print, ReceiveAlone, Send, Increment, Decrement, Assign, Define, Update, Alone, File}
 use Rattle.bytecode.specs.Code.{Function as CodeFunction, Code}
 use Rattle.bytecode.specs.Machine.{Frames as CodeFrames}
 use Rattle.word.specs.declared.panic.Panic.{Panic as Cause}
 use Rattle.word.specs.Values.{Request, Panic}
 use Rattle.word.specs.Kinds.{Next}
 use Rattle.type_table.specs.Containment.{fields_of}
-use Rattle.type_table.specs.Scopes.{Scope, Yield, nothing_declared, type_in}
-use Rattle.meaning.specs.Values.{known}
+use Rattle.type_table.specs.Scopes.{Scope, Yield}
 use Rattle.meaning.specs.Tasks.{Task, Frames}
 use Rattle.meaning.specs.Source.{globals, statement_next}
 use Rattle.codegen_base.specs.declared.element.Element.{Element}
@@ -16,7 +15,6 @@ use Rattle.codegen_base.specs.Statements.{printed_part}
 use Rattle.plan.proofs.Words.{Words}
 use Rattle.plan.proofs.Steps.{spots}
 use Rattle.codegen_base.proofs.Fields.{AllWide, AllTyped}
-use Rattle.codegen_base.proofs.Noted.{Noted}
 use Rattle.codegen_base.proofs.Seen.{seen}
 use Rattle.codegen_base.proofs.Typing.{FieldsKnown}
 use Rattle.codegen_follows.proofs.Grown.{grown}
@@ -39,16 +37,6 @@ plus_none n = omega arith
 
 module _ (file : File) (elements : List Element) (all : AllWide (globals file).structs) (typed : (n : ℕ) → AllTyped (globals file).structs (fields_of (globals file).structs n)) (known_fields : (s : Scope) → FieldsKnown (globals file) s) (code : Code)
     (result : Yield) (g : ℕ) (f : CodeFunction) (there : slice_get code.functions g ≡ Some f) (cs : Frames) (ds : CodeFrames) (R : Frames → CodeFrames → Type 0) (Asked : Request → CodeFrames → Type 0) (panics : (cause : Cause) (d : CodeFrames) → Asked (Panic cause) d) where
-  -- the elements of the channel types that a simple statement makes are noted
-  abbrev pub RightMakes : Right → Type 0
-  RightMakes (RightOperation (Make kind size)) = Noted elements (known (type_in (globals file).types nothing_declared kind))
-  RightMakes right = Unit {0}
-
-  abbrev pub SimpleMakes : Simple → Type 0
-  SimpleMakes (Assign places right) = RightMakes right
-  SimpleMakes (Define names right) = RightMakes right
-  SimpleMakes simple = Unit {0}
-
   module _ (sitting : Sitting file elements all typed known_fields code result g f there cs ds R Asked panics) (grounds : Grounds file elements code) (fields_known : AllKnown (globals file).structs)
       (all_there : AllThere file elements all typed known_fields code) (starting : Starting file elements all typed known_fields code R) (has : Gives file elements all typed known_fields code result f) (wait : Wait file elements all typed known_fields code result cs ds) where
     abbrev G : Next Frames → CodeFrames → Type 0
@@ -63,15 +51,15 @@ module _ (file : File) (elements : List Element) (all : AllWide (globals file).s
           let full = h.full in
           omega (arith, a, b, full)
 
-      pub alone_goes : (simple : Simple) (place : ℕ) → SimpleMakes simple → (d : Doing file elements all code result f l view (Alone simple) place mid) → variables next ≡ variables (behind file elements all code result f view (Alone simple))
+      pub alone_goes : (simple : Simple) (place : ℕ) → (d : Doing file elements all code result f l view (Alone simple) place mid) → variables next ≡ variables (behind file elements all code result f view (Alone simple))
           → G (statement_next file (seen (globals file).structs ls (variables view) view.begins) k cs (Alone simple)) (spots code g f there ds place ls [])
-      alone_goes (CallAlone function arguments) place noted d same = let room = room_there (CallAlone function arguments) place d in call_alone_goes file elements all typed known_fields code result g f there cs ds R Asked panics sitting grounds ls l view next mid k d.fine room h t r all_there starting has wait function arguments d.first place d.good d.on same
-      alone_goes (Close e) place noted d same = let room = room_there (Close e) place d in close_goes file elements all typed known_fields code result g f there cs ds R Asked panics sitting grounds ls l view next mid k d.fine room h t r e d.first place (λ flaw x. d.good flaw (inl x)) d.on same
-      alone_goes (Print line parts trailing) place noted d same = let room = room_there (Print line parts trailing) place d in print_goes file elements all typed known_fields code result g f there cs ds R Asked panics sitting grounds ls l view next mid k d.fine room h t r line trailing parts d.first place d.good (subst (λ n. slice_get code.prints n ≡ Some (record { parts = map (printed_part (globals file) elements (scope_of view)) parts; line = line })) (plus_none view.site.prints) (d.fits.tables 0 (record { parts = map (printed_part (globals file) elements (scope_of view)) parts; line = line }) refl)) d.on same
-      alone_goes (ReceiveAlone e) place noted d same = let room = room_there (ReceiveAlone e) place d in receive_alone_goes file elements all typed known_fields code result g f there cs ds R Asked panics sitting grounds ls l view next mid k d.fine room h t r e d.first place d.good d.on same
-      alone_goes (Send e value) place noted d same = let room = room_there (Send e value) place d in send_goes file elements all typed known_fields code result g f there cs ds R Asked panics sitting grounds ls l view next mid k d.fine room h t r e value d.first place d.good d.on same
-      alone_goes (Increment to) place noted d same = let room = room_there (Increment to) place d in increment_goes file elements all typed known_fields code result g f there cs ds R Asked panics sitting fields_known ls l view next mid k d.fine room h t r to d.first place d.good d.on same d.fits.room
-      alone_goes (Decrement to) place noted d same = let room = room_there (Decrement to) place d in decrement_goes file elements all typed known_fields code result g f there cs ds R Asked panics sitting fields_known ls l view next mid k d.fine room h t r to d.first place d.good d.on same d.fits.room
-      alone_goes (Assign places right) place noted d same = let room = room_there (Assign places right) place d in assign_goes file elements all typed known_fields code result g f there cs ds R Asked panics sitting grounds ls l view next mid k d.fine room h t r all_there starting has wait fields_known places right d.first place noted d.good d.on same d.fits.room
-      alone_goes (Define names right) place noted d same = let room = room_there (Define names right) place d in define_goes file elements all typed known_fields code result g f there cs ds R Asked panics sitting grounds ls l view next mid k d.fine room h t r all_there starting has wait names right d.first place noted d.good d.on same d.fits.room
-      alone_goes (Update to operator e) place noted d same = let room = room_there (Update to operator e) place d in update_goes file elements all typed known_fields code result g f there cs ds R Asked panics sitting fields_known ls l view next mid k d.fine room h t r to operator e d.first place d.good d.on same d.fits.room
+      alone_goes (CallAlone function arguments) place d same = let room = room_there (CallAlone function arguments) place d in call_alone_goes file elements all typed known_fields code result g f there cs ds R Asked panics sitting grounds ls l view next mid k d.fine room h t r all_there starting has wait function arguments d.first place d.good d.on same
+      alone_goes (Close e) place d same = let room = room_there (Close e) place d in close_goes file elements all typed known_fields code result g f there cs ds R Asked panics sitting grounds ls l view next mid k d.fine room h t r e d.first place (λ flaw x. d.good flaw (inl x)) d.on same
+      alone_goes (Print line parts trailing) place d same = let room = room_there (Print line parts trailing) place d in print_goes file elements all typed known_fields code result g f there cs ds R Asked panics sitting grounds ls l view next mid k d.fine room h t r line trailing parts d.first place d.good (subst (λ n. slice_get code.prints n ≡ Some (record { parts = map (printed_part (globals file) elements (scope_of view)) parts; line = line })) (plus_none view.site.prints) (d.fits.tables 0 (record { parts = map (printed_part (globals file) elements (scope_of view)) parts; line = line }) refl)) d.on same
+      alone_goes (ReceiveAlone e) place d same = let room = room_there (ReceiveAlone e) place d in receive_alone_goes file elements all typed known_fields code result g f there cs ds R Asked panics sitting grounds ls l view next mid k d.fine room h t r e d.first place d.good d.on same
+      alone_goes (Send e value) place d same = let room = room_there (Send e value) place d in send_goes file elements all typed known_fields code result g f there cs ds R Asked panics sitting grounds ls l view next mid k d.fine room h t r e value d.first place d.good d.on same
+      alone_goes (Increment to) place d same = let room = room_there (Increment to) place d in increment_goes file elements all typed known_fields code result g f there cs ds R Asked panics sitting fields_known ls l view next mid k d.fine room h t r to d.first place d.good d.on same d.fits.room
+      alone_goes (Decrement to) place d same = let room = room_there (Decrement to) place d in decrement_goes file elements all typed known_fields code result g f there cs ds R Asked panics sitting fields_known ls l view next mid k d.fine room h t r to d.first place d.good d.on same d.fits.room
+      alone_goes (Assign places right) place d same = let room = room_there (Assign places right) place d in assign_goes file elements all typed known_fields code result g f there cs ds R Asked panics sitting grounds ls l view next mid k d.fine room h t r all_there starting has wait fields_known places right d.first place d.makes d.good d.on same d.fits.room
+      alone_goes (Define names right) place d same = let room = room_there (Define names right) place d in define_goes file elements all typed known_fields code result g f there cs ds R Asked panics sitting grounds ls l view next mid k d.fine room h t r all_there starting has wait names right d.first place d.makes d.good d.on same d.fits.room
+      alone_goes (Update to operator e) place d same = let room = room_there (Update to operator e) place d in update_goes file elements all typed known_fields code result g f there cs ds R Asked panics sitting fields_known ls l view next mid k d.fine room h t r to operator e d.first place d.good d.on same d.fits.room

@@ -4,3 +4,4 @@ pub mod Defined
 pub mod Untyped
 pub mod Updated
 pub mod Alone
+pub mod Statements
