@@ -5,3 +5,4 @@ pub mod Untyped
 pub mod Updated
 pub mod Alone
 pub mod Statements
+pub mod Step
