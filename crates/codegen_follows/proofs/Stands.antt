@@ -255,10 +255,11 @@ module _ (file : File) (elements : List Element) (all : AllWide (globals file).s
 
   -- ---- calls and requests
 
-  -- what becomes of values of these types that lie on the stack; those that have no place are dropped
+  -- what becomes of values of these types that lie on the stack: those that have no place are dropped, and the others are stored as ones
+  -- of types with the same zeros
   abbrev pub Taking : Around → View → List ValueType → Purpose → View → ℕ → Option ℕ → Type 0
   Taking l view types Unused next place mid = IsOn l (drops (all_wide types) Skip) place mid × (variables next ≡ variables view)
-  Taking l view types (Assigned destinations) next place mid = (kept : List ValueType) × (others : List ValueType) × (types ≡ kept ++ others) × Assigning l view (all_wide others) kept destinations next place mid
+  Taking l view types (Assigned destinations) next place mid = (kept : List ValueType) × (others : List ValueType) × (map (zero_words (globals file).structs) types ≡ map (zero_words (globals file).structs) (kept ++ others)) × Assigning l view (all_wide others) kept destinations next place mid
   Taking l view types GivenBack next place mid =
       (first : ValueType) × (others : List ValueType) × (types ≡ first ∷ others) × IsOn l (drops (all_wide others) Stop) place mid × (zero_result (globals file) result ≡ zero_words (globals file).structs first)
   Taking l view types purpose next place mid = ⊥
