@@ -21,7 +21,8 @@ use Rattle.codegen_follows.proofs.Paths.{AllKnown}
 use Rattle.codegen_follows.proofs.Stands.{Around, View, scope_of, variables, Together, behind, Doing}
 use Rattle.codegen_follows.proofs.Begun.{FineBehind}
 use Rattle.codegen_follows.proofs.Valued.{Goes}
-use Rattle.codegen_follows.proofs.Follows.{Held, Sitting, Back, Rest, empty_goes, block_goes, if_goes, break_goes, continue_goes}
+use Rattle.codegen_follows.proofs.Follows.{Held, Sitting, Back, Rest, empty_goes, block_goes, break_goes, continue_goes}
+use Rattle.codegen_steps.proofs.Branches.{if_goes}
 use Rattle.codegen_steps.proofs.Returned.{Gives}
 use Rattle.codegen_steps.proofs.Loops.{forever_goes, while_goes, clauses_first_goes, clauses_bare_goes}
 use Rattle.codegen_requests.proofs.Channels.{YieldKnown, Grounds}
