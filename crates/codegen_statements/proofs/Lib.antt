@@ -6,3 +6,4 @@ pub mod Updated
 pub mod Alone
 pub mod Statements
 pub mod Step
+pub mod Typed
