@@ -1,41 +1,48 @@
 -- Variables of a type that are given values.
-use Rattle.std.proofs.Common.{◌≡◌, ℕ, suc, ◌+◌, ◌≤◌, Bool, true, false, List, [], ◌∷◌, length, map, Option, Some, None, refl, sym, ap, ◌∙◌, subst, arith, slice_get, inl, inr}
+use Rattle.std.proofs.Common.{◌≡◌, ℕ, suc, ◌+◌, ◌≤◌, Bool, true, false, List, [], ◌∷◌, length, map, Option, Some, None, refl, sym, ap, ◌∙◌, subst, arith, slice_get, inl, inr, ◌++◌, append_assoc}
+use Rattle.std.proofs.lemmas.List.{append-nil}
 use Rattle.std.specs.Option.{is_some}
 use Rattle.std.specs.List.{list_any}
 use Rattle.go_text.specs.declared.rule.Rule.TheVariants as rules
 use Rattle.syntax.specs.Tree.{TypeExpression, Expression, expressions, Values, VarTyped, File}
 use Rattle.syntax.specs.Measures.{type_size, expression_size, if_any, right_size}
 use Rattle.bytecode.specs.Code.{Function as CodeFunction, Code}
-use Rattle.bytecode.specs.Machine.{Frames as CodeFrames}
+use Rattle.bytecode.specs.Machine.{Frames as CodeFrames, code_next}
 use Rattle.word.specs.declared.panic.Panic.{Panic as Cause}
 use Rattle.word.specs.Values.{Request, Panic}
-use Rattle.word.specs.Kinds.{Next}
+use Rattle.word.specs.Kinds.{Next, Slides}
+use Rattle.word.specs.Related.{Slips, here as slips_here}
 use Rattle.type_table.specs.Types.{ValueType}
 use Rattle.type_table.specs.Containment.{fields_of}
 use Rattle.type_table.specs.Scopes.{Variable, Scope, Yield, own_variable, type_in}
 use Rattle.checker_base.specs.Expressions.{nodes_of, ValueHas, ExpressionsHave}
 use Rattle.checker_operation.specs.Operations.{given_values, TypeHas}
 use Rattle.checker_simple.specs.Simples.{AllFail, TypedVariablesHave}
-use Rattle.meaning.specs.Values.{known}
+use Rattle.type_table.specs.Zeros.{zero_words}
+use Rattle.meaning.specs.Values.{Value, known}
 use Rattle.meaning.specs.Variables.{Blocks, Destination}
 use Rattle.meaning.specs.Destinations.{new, written_kind, all_new, all_defined}
-use Rattle.meaning.specs.Tasks.{Task, Frames}
+use Rattle.meaning.specs.Tasks.{Task, Store, Frames, frame}
 use Rattle.meaning.specs.Source.{globals, gives, statement_next}
 use Rattle.codegen_base.specs.declared.element.Element.{Element}
-use Rattle.codegen_base.specs.Generated.{same_types, variables_plan}
+use Rattle.codegen_base.specs.Generated.{same_types, variables_plan, zero_values}
+use Rattle.codegen_base.specs.Elements.{kinds_of}
 use Rattle.codegen_base.specs.Layouts.{Layout, declaring_new, declaring_each, declaring_all}
 use Rattle.codegen_base.specs.Pushes.{pushes_all}
 use Rattle.codegen_base.specs.Statements.{assigns, name_spots, name_type, name_types}
-use Rattle.plan.specs.Plan.{Skip}
+use Rattle.plan.specs.Plan.{Plan, Skip}
 use Rattle.plan.proofs.Words.{Words}
-use Rattle.plan.proofs.Steps.{spots as code_spots}
+use Rattle.plan.proofs.Steps.{spots as code_spots, slips_more}
 use Rattle.codegen_base.proofs.Alike.{there_alike, own_alike, type_alike}
 use Rattle.codegen_base.proofs.Called.{same_count}
 use Rattle.codegen_base.proofs.Fields.{AllWide, AllTyped}
 use Rattle.codegen_base.proofs.Passed.{AllFit}
+use Rattle.codegen_base.proofs.Likeness.{kinds_zeros, zeros_like}
+use Rattle.codegen_base.proofs.Assigned.{AreLike, all_words_of}
+use Rattle.codegen_base.proofs.Expressions.{zeros_goes}
 use Rattle.codegen_base.proofs.Seen.{seen}
 use Rattle.codegen_base.proofs.Typing.{Free, FieldsKnown, fits, broken, nodes_end, worth_there}
-use Rattle.codegen_follows.proofs.Stands.{Around, View, scope_of, variables, Together, IsOn, Fine}
+use Rattle.codegen_follows.proofs.Stands.{Around, View, scope_of, variables, Together, IsOn, Fine, Storing, Sits}
 use Rattle.codegen_follows.proofs.Valued.{Goes}
 use Rattle.codegen_follows.proofs.Follows.{Held, Sitting, Rest}
 use Rattle.codegen_requests.proofs.Channels.{Grounds}
@@ -148,3 +155,66 @@ module _ (file : File) (elements : List Element) (all : AllWide (globals file).s
         }) (λ flaw x. free flaw (inr (inl (inl x)))) fit
         (subst (λ (ts : List ValueType). IsOn file elements all code result f l (pushes_all (globals file) elements (scope_of view) ts es (assigns (name_spots (globals file) elements view.site.layout names (each names K)) Skip)) place mid) suit.1
         (subst (λ j. IsOn file elements all code result f l (variables_plan (globals file) elements view.site.layout names j (Some (Values es))) place mid) is on)))
+
+    -- ---- variables without values are zero
+
+    abbrev at : ℕ → Words → CodeFrames
+    at place stack = code_spots code g f there ds place ls stack
+
+    abbrev zeros : List (List ℕ) → ValueType → List Value
+    zeros names kind = map (λ name. zero_words (globals file).structs kind) names
+
+    zeros_push : (names : List (List ℕ)) (kind : ValueType) (rest : Plan) (place : ℕ) (stack : Words) → IsOn file elements all code result f l (zero_values (globals file) elements 0 names kind rest) place mid
+        → (to : ℕ) × Slips (code_next code) (at place stack) (at to (stack ++ all_words_of (globals file).structs all (zeros names kind))) × IsOn file elements all code result f l rest to mid
+    zeros_push [] kind rest place stack on = (place, subst (λ (s : Words). Slips (code_next code) (at place stack) (at place s)) (sym (append-nil stack)) slips_here, on)
+    zeros_push (name ∷ names) kind rest place stack on =
+        let structs = (globals file).structs in
+        let z = zeros_goes (globals file) elements all code g f there ds ls l.leave l.again (kinds_of structs elements kind) (zero_values (globals file) elements 0 names kind rest) mid place stack on in
+        let zero = zero_words structs kind in
+        let first = subst (λ (x : Words). Slips (code_next code) (at place stack) (at z.0 (stack ++ x))) (kinds_zeros structs elements kind) z.1 in
+        let more = zeros_push names kind rest z.0 (stack ++ zero) z.2 in
+        (more.0, slips_more (code_next code) (at place stack) (at z.0 (stack ++ zero)) _ first (subst (λ (x : Words). Slips (code_next code) (at z.0 (stack ++ zero)) (at more.0 x)) (append_assoc stack zero (all_words_of structs all (zeros names kind))) more.1), more.2)
+
+    zeros_alike : (names : List (List ℕ)) (kind : ValueType) → AreLike (globals file).structs all (each names kind) (zeros names kind)
+    zeros_alike [] kind = tt
+    zeros_alike (name ∷ names) kind = (zeros_like (globals file).structs kind, zeros_alike names kind)
+
+    pub typed_zeros_go : (names : List (List ℕ)) (kind : TypeExpression) (first place : ℕ) → Free (TypedVariablesHave (globals file) view.checked first names kind None)
+        → IsOn file elements all code result f l (variables_plan (globals file) elements view.site.layout names (known (type_in (globals file).types (scope_of view) kind)) None) place mid
+        → variables next ≡ (declaring_each (globals file) elements (known (type_in (globals file).types (scope_of view) kind)) names view.site.layout).scope.variables
+        → (declaring_each (globals file) elements (known (type_in (globals file).types (scope_of view) kind)) names view.site.layout).scope.words ≤ length f.locals
+        → G (statement_next file here k cs (VarTyped names kind None)) (at place [])
+    typed_zeros_go names kind first place free on same most =
+        let structs = (globals file).structs in
+        let w = written_there file elements all known_fields code result f ls view fine kind first (λ flaw x. free flaw (inl x)) in
+        let K = w.type in
+        let is : known (type_in (globals file).types (scope_of view) kind) ≡ K = ap known w.laid-out in
+        let d = declared_there view.checked names (first + type_size kind + if_any right_size None + 1) (omega arith) (λ flaw x. free flaw (inr (inr x))) in
+        let suit = new_suit file elements all known_fields code result f ls view fine names K d.are_new in
+        let are = names_are file elements all code result f ls view fine names (each names K) (each names K) d.single suit.0 in
+        let behind = are.1 ∙ ap (λ (x : Layout). x.scope) (each_is file elements all known_fields code result f ls view fine names K view.site.layout) in
+        let destinations-are = new_each file elements all known_fields code result f ls view fine names K ∙ new_names file elements all code result f ls view fine names (each names K) d.are_new in
+        let destinations = all_defined (globals file) here names (each names K) in
+        let spots = name_spots (globals file) elements view.site.layout names (each names K) in
+        let ws = all_words_of structs all (zeros names K) in
+        let p = zeros_push names K (assigns spots Skip) place [] (subst (λ j. IsOn file elements all code result f l (variables_plan (globals file) elements view.site.layout names j None) place mid) is on) in
+        let storing : Storing file elements all code result f l view ws destinations (zeros names K) next p.0 mid = record {
+          types = each names K;
+          kept = zeros names K;
+          others = [];
+          values_are = sym (append-nil (zeros names K));
+          stack_is = refl;
+          like = zeros_alike names K;
+          assigning = record {
+            spots = spots;
+            fine = fine;
+            spots_are = are.0;
+            room = subst (λ (s : Scope). s.words ≤ length f.locals) (sym behind) (subst (λ j. (declaring_each (globals file) elements j names view.site.layout).scope.words ≤ length f.locals) is most);
+            on = p.2;
+            variables_are = subst (λ j. variables next ≡ (declaring_each (globals file) elements j names view.site.layout).scope.variables) is same ∙ ap (λ (s : Scope). s.variables) (sym behind);
+          };
+        } in
+        let sits : Sits file elements all code result f view l (Some p.0) ws (Store destinations (zeros names K) ∷ k) = (next, t, mid, storing, r.0, r.1, r.2) in
+        subst (λ j. G (Slides (frame here (Store (map (λ name. new (globals file) here name j) names) (zeros names j) ∷ k) ∷ cs)) (at place [])) (sym w.written)
+        (subst (λ (to : List Destination). G (Slides (frame here (Store to (zeros names K) ∷ k) ∷ cs)) (at place [])) (sym destinations-are)
+        (at p.0 ws, p.1, sitting view l p.0 ls ws (Store destinations (zeros names K) ∷ k) h sits))
