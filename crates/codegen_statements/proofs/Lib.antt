@@ -4,6 +4,6 @@ pub mod Defined
 pub mod Untyped
 pub mod Updated
 pub mod Alone
+pub mod Typed
 pub mod Statements
 pub mod Step
-pub mod Typed
