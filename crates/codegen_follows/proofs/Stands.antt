@@ -1,6 +1,6 @@
 -- Where the code stands of what is still to be done.
 use Rattle.std.proofs.Common.{◌≡◌, ℕ, ◌+◌, ◌≤◌, Bool, true, List, [], ◌∷◌, ◌++◌, length, map, take, Option, Some, None, IfSome, slice_get}
-use Rattle.syntax.specs.Tree.{Expression, Simple, Statement, Statements, Otherwise, File}
+use Rattle.syntax.specs.Tree.{Expression, Operation, Make, Right, RightOperation, Values, Simple, Assign, Define, IfHead, First, ForHead, ForClauses, Returned, ReturnedOperation, Statement, Alone, VarTyped, VarUntyped, Block, If, For, Select, Return, Statements, NoStatement, Then, Branch, Conditional, Otherwise, NoElse, ElseBlock, ElseIf, Clauses, NoClause, Clause, File}
 use Rattle.bytecode.specs.declared.instr.Instr.TheVariants as instrs
 use Rattle.bytecode.specs.declared.instr.Instr.{Instr}
 use Rattle.bytecode.specs.Code.{PrintTable, Function as CodeFunction, Code}
@@ -11,7 +11,7 @@ use Rattle.word.specs.Values as requests
 use Rattle.word.specs.Kinds.{Asks}
 use Rattle.word.specs.declared.value.Word.{Word}
 use Rattle.type_table.specs.Types.{ValueType}
-use Rattle.type_table.specs.Scopes.{Variable, Scope, Yield, entered, left}
+use Rattle.type_table.specs.Scopes.{Variable, Scope, Yield, entered, left, nothing_declared, type_in}
 use Rattle.checker_base.specs.Expressions.{TestHas}
 use Rattle.checker_simple.specs.Simples.{SimpleHas}
 use Rattle.checker_statement.specs.Statements.{Setting, after, after_all, StatementHas, StatementsHave, OtherwiseHas}
@@ -30,6 +30,7 @@ use Rattle.plan.specs.Plan.{Plan, Skip, Stop}
 use Rattle.plan.proofs.Places.{At, On, Leads}
 use Rattle.codegen_base.proofs.Alike.{Alike}
 use Rattle.codegen_base.proofs.Known.{VariablesNoted}
+use Rattle.codegen_base.proofs.Noted.{Noted}
 use Rattle.codegen_base.proofs.Static.{innermost_begins, IsPlaced}
 use Rattle.codegen_base.proofs.Typing.{Free}
 use Rattle.codegen_base.proofs.Fields.{AllWide}
@@ -73,6 +74,11 @@ opened view = record { site = inside view.site; begins = length (variables view)
 -- print tables stand from a number on
 abbrev pub Prints : Code → ℕ → List PrintTable → Type 0
 Prints code first tables = (n : ℕ) (table : PrintTable) → slice_get tables n ≡ Some table → slice_get code.prints (first + n) ≡ Some table
+
+-- a statement that declares nothing, as a post statement is
+abbrev pub DeclaresNone : Simple → Type 0
+DeclaresNone (Define names right) = ⊥
+DeclaresNone simple = Unit {0}
 
 module _ (file : File) (elements : List Element) (all : AllWide (globals file).structs) (code : Code) (result : Yield) (f : CodeFunction) where
   abbrev pub IsOn : Around → Plan → ℕ → Option ℕ → Type 0
@@ -118,6 +124,62 @@ module _ (file : File) (elements : List Element) (all : AllWide (globals file).s
     pub tables : Prints code first one.prints
     pub room : one.layout.scope.words ≤ length f.locals
 
+  -- ---- what the typing rules don't say of statements
+
+  -- the elements of the channel types that are made are noted
+  abbrev pub OperationMakes : Operation → Type 0
+  OperationMakes (Make kind size) = Noted elements (known (type_in (globals file).types nothing_declared kind))
+  OperationMakes operation = Unit {0}
+
+  abbrev pub RightMakes : Right → Type 0
+  RightMakes (RightOperation operation) = OperationMakes operation
+  RightMakes (Values values) = Unit {0}
+
+  abbrev pub SimpleMakes : Simple → Type 0
+  SimpleMakes (Assign places right) = RightMakes right
+  SimpleMakes (Define names right) = RightMakes right
+  SimpleMakes simple = Unit {0}
+
+  abbrev pub ReturnedMakes : Returned → Type 0
+  ReturnedMakes (ReturnedOperation operation) = OperationMakes operation
+  ReturnedMakes returned = Unit {0}
+
+  abbrev pub IfHeadMakes : IfHead → Type 0
+  IfHeadMakes (First simple) = SimpleMakes simple
+  IfHeadMakes head = Unit {0}
+
+  abbrev pub ForHeadMakes : ForHead → Type 0
+  ForHeadMakes (ForClauses first condition post) = IfSome first SimpleMakes × IfSome post SimpleMakes × IfSome post DeclaresNone
+  ForHeadMakes head = Unit {0}
+
+  abbrev mutual
+    pub Makes : Statement → Type 0
+    Makes (Alone simple) = SimpleMakes simple
+    Makes (VarTyped names kind right) = IfSome right RightMakes
+    Makes (VarUntyped names right) = RightMakes right
+    Makes (Block body) = AllMake body
+    Makes (If branch) = BranchMakes branch
+    Makes (For head body) = ForHeadMakes head × AllMake body
+    Makes (Select clauses) = ClausesMake clauses
+    Makes (Return returned) = ReturnedMakes returned
+    Makes s = Unit {0}
+
+    pub AllMake : Statements → Type 0
+    AllMake NoStatement = Unit {0}
+    AllMake (Then first rest) = Makes first × AllMake rest
+
+    pub BranchMakes : Branch → Type 0
+    BranchMakes (Conditional head condition body otherwise) = IfHeadMakes head × AllMake body × OtherwiseMakes otherwise
+
+    pub OtherwiseMakes : Otherwise → Type 0
+    OtherwiseMakes NoElse = Unit {0}
+    OtherwiseMakes (ElseBlock body) = AllMake body
+    OtherwiseMakes (ElseIf branch) = BranchMakes branch
+
+    pub ClausesMake : Clauses → Type 0
+    ClausesMake NoClause = Unit {0}
+    ClausesMake (Clause comm body rest) = AllMake body × ClausesMake rest
+
   -- ---- tasks that are done at a place
 
   pub record Doing (l : Around) (view : View) (s : Statement) (place : ℕ) (mid : Option ℕ) : Type 0 where
@@ -126,6 +188,7 @@ module _ (file : File) (elements : List Element) (all : AllWide (globals file).s
     pub continues : Bool
     pub fine : Fine view
     pub good : Free (StatementHas (within breaks continues) view.checked first s)
+    pub makes : Makes s
     pub on : IsOn l (made_here view s).plan place mid
     pub fits : Fits view.site.prints (made_here view s)
 
@@ -139,6 +202,8 @@ module _ (file : File) (elements : List Element) (all : AllWide (globals file).s
     pub test : Free (TestHas (globals file) view.checked first condition)
     pub good : Free (StatementsHave (within breaks continues) (entered view.checked) second body)
     pub other : Free (OtherwiseHas (within breaks continues) (left view.checked (after_all (globals file) (entered view.checked) body)) third otherwise)
+    pub makes : AllMake body
+    pub other_makes : OtherwiseMakes otherwise
     pub on : IsOn l (made_other view condition body otherwise).plan place mid
     pub fits : Fits view.site.prints (made_other view condition body otherwise)
 
@@ -154,6 +219,8 @@ module _ (file : File) (elements : List Element) (all : AllWide (globals file).s
     pub test : IfSome condition (λ c. Free (TestHas (globals file) view.checked first c))
     pub good : Free (StatementsHave (within true true) (entered view.checked) second body)
     pub after_good : IfSome post (λ s. Free (SimpleHas (globals file) (entered (behind_body view body).checked) third s))
+    pub makes : AllMake body
+    pub post_makes : IfSome post SimpleMakes
     pub on : IsOn l (loop (test_plan (globals file) elements view.site.layout condition) (made_body view body).plan (post_made view body post).plan) head out
     pub fits : Fits view.site.prints (made_body view body)
     pub post_fits : Fits (behind_body view body).site.prints (post_made view body post)
@@ -188,10 +255,11 @@ module _ (file : File) (elements : List Element) (all : AllWide (globals file).s
 
   -- ---- calls and requests
 
-  -- what becomes of values of these types that lie on the stack; those that have no place are dropped
+  -- what becomes of values of these types that lie on the stack: those that have no place are dropped, and the others are stored as ones
+  -- of types with the same zeros
   abbrev pub Taking : Around → View → List ValueType → Purpose → View → ℕ → Option ℕ → Type 0
   Taking l view types Unused next place mid = IsOn l (drops (all_wide types) Skip) place mid × (variables next ≡ variables view)
-  Taking l view types (Assigned destinations) next place mid = (kept : List ValueType) × (others : List ValueType) × (types ≡ kept ++ others) × Assigning l view (all_wide others) kept destinations next place mid
+  Taking l view types (Assigned destinations) next place mid = (kept : List ValueType) × (others : List ValueType) × (map (zero_words (globals file).structs) types ≡ map (zero_words (globals file).structs) (kept ++ others)) × Assigning l view (all_wide others) kept destinations next place mid
   Taking l view types GivenBack next place mid =
       (first : ValueType) × (others : List ValueType) × (types ≡ first ∷ others) × IsOn l (drops (all_wide others) Stop) place mid × (zero_result (globals file) result ≡ zero_words (globals file).structs first)
   Taking l view types purpose next place mid = ⊥

@@ -5,3 +5,4 @@ pub mod Returned
 pub mod Outers
 pub mod Simples
 pub mod Loops
+pub mod Branches

@@ -71,6 +71,21 @@ module _ (structs : Structs) (all : AllWide structs) where
   words_append [] more = refl
   words_append (v ∷ vs) more = ap (λ (l : Words). v ++ l) (words_append vs more) ∙ sym (append_assoc v (words vs) (words more))
 
+  -- values are those of other types with the same zeros
+  pub recast_like : (types others : List ValueType) (vs : List Value) → map (zero_words structs) types ≡ map (zero_words structs) others → Likes types vs → Likes others vs
+  recast_like [] [] vs e l = l
+  recast_like [] (o ∷ others) vs e l = absurd cc
+  recast_like (kind ∷ types) [] vs e l = absurd cc
+  recast_like (kind ∷ types) (o ∷ others) [] e l = absurd l
+  recast_like (kind ∷ types) (o ∷ others) (v ∷ vs) e l = (subst (λ (z : Value). words_like z v ≡ v) (ap first e) l.0, recast_like types others vs (ap rest e) l.1) where
+    first : List Value → Value
+    first [] = zero_words structs kind
+    first (z ∷ zs) = z
+
+    rest : List Value → List Value
+    rest [] = []
+    rest (z ∷ zs) = zs
+
   -- values of these types and of those
   record Split (types others : List ValueType) (vs : List Value) : Type 0 where
     pub front : List Value
@@ -125,7 +140,7 @@ module _ (file : File) (elements : List Element) (all : AllWide (globals file).s
         (lands_same file elements all typed known_fields code result g f there cs ds R Asked panics fine_behind sitting back ls view next l m.0 mid k h same t.0 m.2 r)
     taken_lands ls view next l types vs (Assigned destinations) place mid k h like (kept, others, types-are, d) t r =
         let structs = (globals file).structs in
-        let s = split structs all kept others vs (subst (λ (ts : List ValueType). AreLike structs all ts vs) types-are like) in
+        let s = split structs all kept others vs (recast_like structs all types (kept ++ others) vs types-are like) in
         let front = all_words_of structs all s.front in
         let m = drops_goes code g f there ds l.leave l.again (all_wide file elements all code result f others) (all_words_of structs all s.back) front ls (assigns d.spots Skip) mid place (wide_words others s.back s.more) d.on in
         let words-are : all_words_of structs all vs ≡ front ++ all_words_of structs all s.back = ap (all_words_of structs all) s.is ∙ words_append structs all s.front s.back in
