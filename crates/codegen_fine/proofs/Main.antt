@@ -151,4 +151,4 @@ pub typed_file : (file : File) → AllWide (globals_of file.tops).structs → Po
     → ((q : ℕ) (table : PrintTable) → slice_get (code_of file).prints q ≡ Some table → IsShort table) → ((q : ℕ) (table : SelectTable) → slice_get (code_of file).selects q ≡ Some table → IsSelect (code_of file) table) → IsVerified (code_of file)
 typed_file file wide still typed shapes prints selects =
     let free = free_of file typed in
-    record { shapes = λ n ks e. record { some = shapes n ks e; most = shapes_short file wide free n ks e; there = shapes_there file (grounds_of file wide free) n ks e }; prints = prints; selects = selects; functions = file_verified file wide still free; main = main_of_file file (omega arith) free }
+    record { shapes = λ n ks e. record { some = shapes n ks e; most = shapes_short file wide free n ks e; there = shapes_there file (grounds_of file wide free) n ks e }; prints = prints; selects = selects; functions = (file_verified file wide still free).each; main = main_of_file file (omega arith) free }

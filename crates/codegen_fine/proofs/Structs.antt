@@ -7,8 +7,8 @@ use Rattle.syntax.specs.Tree.{Top, StructTop, FunctionTop, File}
 use Rattle.syntax.specs.Measures.{top_size}
 use Rattle.bytecode.specs.declared.instr.WordKind.{WordKind}
 use Rattle.bytecode.specs.declared.instr.WordKind.TheVariants as kinds
-use Rattle.bytecode.specs.Code.{Function as CodeFunction, Code}
-use Rattle.bytecode.specs.Rules.{IsThere, AreThere, Holds}
+use Rattle.bytecode.specs.Code.{Code}
+use Rattle.bytecode.specs.Rules.{IsThere, AreThere}
 use Rattle.type_table.specs.Types.{ValueType, IntType, BoolType, StructType, ChannelType}
 use Rattle.type_table.specs.Containment.{Field, Selected, fields_in, fields_of, behind, variable_words, field_among, kind_parts, fields_parts, parts_within}
 use Rattle.type_table.specs.Scopes.{Globals}
@@ -30,6 +30,7 @@ use Rattle.codegen_fine.proofs.Layouts.{there_append}
 use Rattle.codegen_fine.proofs.Noting.{tops_grow}
 use Rattle.codegen_fine.proofs.Wholes.{ParametersFine}
 use Rattle.codegen_fine.proofs.Heads.{PostsTops, groups_fine}
+use Rattle.codegen_fine.proofs.Programs.{AllHold}
 use Rattle.codegen_fine.proofs.Signatures.{file_keeps}
 
 module _ (globals : Globals) (elements : List Element) where
@@ -111,5 +112,5 @@ grounds_of file wide free =
     }
 
 -- the functions of the code of a file that the checker takes, where the words of each struct are known and no post statement declares anything
-pub file_verified : (file : File) → AllWide (globals_of file.tops).structs → PostsTops file.tops → Free (FileHas file) → (g : ℕ) (f : CodeFunction) → slice_get (code_of file).functions g ≡ Some f → Holds (code_of file) f
-file_verified file wide still free g f e = file_keeps file (grounds_of file wide free) still free g f e
+pub file_verified : (file : File) → AllWide (globals_of file.tops).structs → PostsTops file.tops → Free (FileHas file) → AllHold (code_of file) (code_of file).functions (code_of file).selects
+file_verified file wide still free = file_keeps file (grounds_of file wide free) still free
