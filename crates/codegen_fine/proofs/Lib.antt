@@ -39,4 +39,5 @@ pub mod Signatures
 pub mod Structs
 pub mod Keeping
 pub mod Shapes
+pub mod Limits
 pub mod Main
