@@ -40,4 +40,5 @@ pub mod Structs
 pub mod Keeping
 pub mod Shapes
 pub mod Limits
+pub mod Filled
 pub mod Main

@@ -12,7 +12,6 @@ use Rattle.std.proofs.lemmas.Slice.Eq.{bytes_eq-Decides}
 use Rattle.go_text.specs.declared.rule.Rule.TheVariants as rules
 use Rattle.syntax.specs.Tree.{Top, StructTop, FunctionTop, File}
 use Rattle.syntax.specs.Measures.{Entries, SelectClauses, longest, most_entries, most_clauses, size as file_size}
-use Rattle.bytecode.specs.declared.instr.WordKind.{WordKind}
 use Rattle.bytecode.specs.Code.{Function as CodeFunction}
 use Rattle.bytecode.specs.Rules.{HasMain, HasShapes, IsFew, IsShort, IsVerified}
 use Rattle.type_table.specs.Containment.{Field}
@@ -32,6 +31,7 @@ use Rattle.codegen_fine.proofs.Heads.{PostsTops}
 use Rattle.codegen_fine.proofs.Structs.{grounds_of, file_verified}
 use Rattle.codegen_fine.proofs.Shapes.{shapes_there, shapes_short}
 use Rattle.codegen_fine.proofs.Limits.{Small, short_tops}
+use Rattle.codegen_fine.proofs.Filled.{NamedTops, shapes_filled}
 
 abbrev first_place : {A : Type 0} → (A → Bool) → List A → Option ℕ
 first_place p [] = None
@@ -160,15 +160,15 @@ limited file most Entries = most.0
 limited file most SelectClauses = most.1
 
 -- the code of a file that the checker takes keeps the verifier's rules, where the words of each struct are known, no post statement declares anything, its
--- lists keep their limits, and no shape is empty
-pub typed_file : (file : File) → AllWide (globals_of file.tops).structs → PostsTops file.tops → IsLimited file → IsTyped file → ((n : ℕ) (ks : List WordKind) → slice_get (code_of file).shapes n ≡ Some ks → 0 < length ks) → IsVerified (code_of file)
-typed_file file wide still most typed shapes =
+-- lists keep their limits, and each group of fields declares a name
+pub typed_file : (file : File) → AllWide (globals_of file.tops).structs → PostsTops file.tops → NamedTops file.tops → IsLimited file → IsTyped file → IsVerified (code_of file)
+typed_file file wide still named most typed =
     let free = free_of file typed in
     let hold = file_verified file wide still free in
     let tables = short_tops (globals_of file.tops) (elements_of file) file.tops 0 0 (limited file most) in
     let code = code_of file in
     record {
-      shapes = λ n ks e. record { some = shapes n ks e; most = shapes_short file wide free n ks e; there = shapes_there file (grounds_of file wide free) n ks e };
+      shapes = λ n ks e. record { some = shapes_filled file wide named free n ks e; most = shapes_short file wide free n ks e; there = shapes_there file (grounds_of file wide free) n ks e };
       prints = all_at IsShort code.prints tables.0;
       selects = λ q table e. record { most = all_at IsFew code.selects tables.1 q table e; there = all_at (HasShapes code) code.selects hold.shapes q table e };
       functions = hold.each;
