@@ -36,6 +36,7 @@ pub mod Wholes
 pub mod Programs
 pub mod Heads
 pub mod Signatures
+pub mod Wide
 pub mod Structs
 pub mod Keeping
 pub mod Shapes
