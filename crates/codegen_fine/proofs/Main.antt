@@ -24,11 +24,10 @@ use Rattle.codegen_base.specs.declared.element.Element.{Element}
 use Rattle.codegen_base.specs.Layouts.{empty, with_parameters}
 use Rattle.codegen_base.specs.Program.{label, result_of, made_function, function_code, functions_code, elements_of, code_of}
 use Rattle.codegen_base.specs.Generated.{result_kinds}
-use Rattle.codegen_base.proofs.Fields.{AllWide}
 use Rattle.codegen_base.proofs.Typing.{Free, broken, not_false}
 use Rattle.plan.specs.Plan.{table_count}
 use Rattle.codegen_fine.proofs.Heads.{PostsTops}
-use Rattle.codegen_fine.proofs.Structs.{grounds_of, file_verified}
+use Rattle.codegen_fine.proofs.Structs.{wide_of, grounds_of, file_verified}
 use Rattle.codegen_fine.proofs.Shapes.{shapes_there, shapes_short}
 use Rattle.codegen_fine.proofs.Limits.{Small, short_tops}
 use Rattle.codegen_fine.proofs.Filled.{NamedTops, shapes_filled}
@@ -159,16 +158,17 @@ limited : (file : File) → IsLimited file → Small (λ l. longest l file)
 limited file most Entries = most.0
 limited file most SelectClauses = most.1
 
--- the code of a file that the checker takes keeps the verifier's rules, where the words of each struct are known, no post statement declares anything, its
--- lists keep their limits, and each group of fields declares a name
-pub typed_file : (file : File) → AllWide (globals_of file.tops).structs → PostsTops file.tops → NamedTops file.tops → IsLimited file → IsTyped file → IsVerified (code_of file)
-typed_file file wide still named most typed =
+-- the code of a file that the checker takes keeps the verifier's rules, where no post statement declares anything, each group of fields declares a name,
+-- and lists keep their limits
+pub typed_file : (file : File) → PostsTops file.tops → NamedTops file.tops → IsLimited file → IsTyped file → IsVerified (code_of file)
+typed_file file still named most typed =
     let free = free_of file typed in
-    let hold = file_verified file wide still free in
+    let wide = wide_of file free in
+    let hold = file_verified file still free in
     let tables = short_tops (globals_of file.tops) (elements_of file) file.tops 0 0 (limited file most) in
     let code = code_of file in
     record {
-      shapes = λ n ks e. record { some = shapes_filled file wide named free n ks e; most = shapes_short file wide free n ks e; there = shapes_there file (grounds_of file wide free) n ks e };
+      shapes = λ n ks e. record { some = shapes_filled file wide named free n ks e; most = shapes_short file wide free n ks e; there = shapes_there file (grounds_of file free) n ks e };
       prints = all_at IsShort code.prints tables.0;
       selects = λ q table e. record { most = all_at IsFew code.selects tables.1 q table e; there = all_at (HasShapes code) code.selects hold.shapes q table e };
       functions = hold.each;
