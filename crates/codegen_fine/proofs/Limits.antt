@@ -25,6 +25,7 @@ use Rattle.plan.proofs.Tables.{Makes, all_made}
 use Rattle.codegen_fine.proofs.Before.{Before, Here, Step, Choice, zeros_before, pushes_before, clauses_before}
 use Rattle.codegen_fine.proofs.Plain.{drops_before, then_step, arguments_before, one_before, defines_before, simple_before, variables_before, comm_plain}
 use Rattle.codegen_fine.proofs.Numbering.{takes_before}
+use Rattle.codegen_fine.proofs.Selects.{comm_count}
 
 -- ---- print tables and select tables of what is made
 
@@ -125,12 +126,7 @@ module _ (globals : Globals) (elements : List Element) (result : Yield) where
   defaults (Clause None body more) = suc (defaults more)
   defaults (Clause (Some comm) body more) = defaults more
 
-  abbrev comms : Clauses → ℕ
-  comms NoClause = 0
-  comms (Clause None body more) = comms more
-  comms (Clause (Some comm) body more) = suc (comms more)
-
-  counted : (clauses : Clauses) → comms clauses + defaults clauses ≤ clauses_count clauses
+  counted : (clauses : Clauses) → comm_count clauses + defaults clauses ≤ clauses_count clauses
   counted NoClause = omega arith
   counted (Clause None body more) = let h = counted more in omega (arith, h)
   counted (Clause (Some comm) body more) = let h = counted more in omega (arith, h)
@@ -214,7 +210,7 @@ module _ (globals : Globals) (elements : List Element) (result : Yield) where
         let b = short_branch branch (past site so) small in
         (All-append IsShort so.prints other.prints a.0 b.0, before_few (IfElse so.plan other.plan) _ (pushes_before globals elements site.layout.scope _ condition (IfElse so.plan other.plan)) (a.1, b.1))
 
-    short_ways : (clauses : Clauses) (site : Site) (default : Site → Option Made) (d : ℕ) → Small (λ l. clauses_longest l clauses) → ((behind : Site) → Ways d (default behind)) → (n : ℕ) → comms clauses + d ≤ n → Ways n (made_ways globals elements result site default clauses)
+    short_ways : (clauses : Clauses) (site : Site) (default : Site → Option Made) (d : ℕ) → Small (λ l. clauses_longest l clauses) → ((behind : Site) → Ways d (default behind)) → (n : ℕ) → comm_count clauses + d ≤ n → Ways n (made_ways globals elements result site default clauses)
     short_ways NoClause site default d small w n le = more_ways d n (default site) (omega (arith, le)) (w site)
     short_ways (Clause None body more) site default d small w n le = short_ways more site default d (λ l. omega (arith, small l)) w n le
     short_ways (Clause (Some comm) body more) site default d small w n le =
@@ -222,7 +218,7 @@ module _ (globals : Globals) (elements : List Element) (result : Yield) where
         let inner = made_all globals elements result (past (inside site) begun) body in
         let one = ended site.layout (followed begun inner) in
         let rest = made_ways globals elements result (past site one) default more in
-        let many = comms more + d in
+        let many = comm_count more + d in
         more_ways (suc many) n (Some (with_way (comm_kinds globals elements result site.layout comm) one rest)) (omega (arith, le))
         (way_more (comm_kinds globals elements result site.layout comm) many one rest
         (followed_short begun inner (plain_short _ begun.layout (comm_plain globals elements (inside site).layout result comm)) (short_all body (past (inside site) begun) (λ l. omega (arith, small l))))
