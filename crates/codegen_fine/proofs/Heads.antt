@@ -1,10 +1,9 @@
 -- What is so of the heads of functions in a file with which nothing is wrong.
-use Rattle.std.proofs.Common.{◌≡◌, ℕ, ◌+◌, List, [], ◌∷◌, ◌++◌, Option, Some, None, refl, sym, ap, ◌∙◌, subst, arith, slice_get, inl, inr}
+use Rattle.std.proofs.Common.{◌≡◌, ℕ, ◌+◌, List, [], ◌∷◌, ◌++◌, Option, Some, None, refl, sym, ap, ◌∙◌, subst, arith, inl, inr}
 use Rattle.go_text.specs.declared.rule.Rule.TheVariants as rules
 use Rattle.syntax.specs.Tree.{TypeExpression, Declared, Top, StructTop, FunctionTop, File}
 use Rattle.syntax.specs.Measures.{declared_size, top_size}
-use Rattle.bytecode.specs.Code.{Function as CodeFunction, Code}
-use Rattle.bytecode.specs.Rules.{Holds}
+use Rattle.bytecode.specs.Code.{Code}
 use Rattle.type_table.specs.Types.{ValueType}
 use Rattle.type_table.specs.Containment.{Field}
 use Rattle.type_table.specs.Scopes.{Globals, Yield, NoResult, Yields, nothing_declared, type_in}
@@ -25,7 +24,7 @@ use Rattle.codegen_fine.proofs.Makes.{written_noted}
 use Rattle.codegen_fine.proofs.Noting.{declared_grow, any_grows, statements_grow, tops_grow}
 use Rattle.codegen_fine.proofs.Statements.{PostsAll}
 use Rattle.codegen_fine.proofs.Wholes.{ParametersFine}
-use Rattle.codegen_fine.proofs.Programs.{AllFine, file_functions}
+use Rattle.codegen_fine.proofs.Programs.{AllFine, AllHold, file_functions}
 
 -- a type that is written outside of functions
 there : (types : List (List ℕ)) (kind : TypeExpression) (first : ℕ) → Free (TypeHas (type_in types nothing_declared kind) first) → (t : ValueType) × (type_in types nothing_declared kind ≡ Some t)
@@ -89,7 +88,7 @@ module _ (globals : Globals) (elements : List Element) where
 
 -- the functions of the code of a file that the checker takes, no post statement of which declares anything
 pub file_holds : (file : File) → Grounds (globals_of file.tops) (elements_of file) (code_of file) → Functions (globals_of file.tops) (elements_of file) (code_of file) → PostsTops file.tops → Free (FileHas file)
-    → (g : ℕ) (f : CodeFunction) → slice_get (code_of file).functions g ≡ Some f → Holds (code_of file) f
-file_holds file grounds functions still free g f e =
+    → AllHold (code_of file) (code_of file).functions (code_of file).selects
+file_holds file grounds functions still free =
     file_functions file grounds functions
-    (all_fine (globals_of file.tops) (elements_of file) (code_of file) grounds functions file.tops (function_names file.tops) 0 0 (λ flaw h. free flaw (inl (inr h))) still [] (grows_no (elements_of file))) free g f e
+    (all_fine (globals_of file.tops) (elements_of file) (code_of file) grounds functions file.tops (function_names file.tops) 0 0 (λ flaw h. free flaw (inl (inr h))) still [] (grows_no (elements_of file))) free

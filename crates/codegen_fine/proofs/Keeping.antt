@@ -1,15 +1,11 @@
--- What is so of the elements of channels, and stays so with each type that is noted, is so of those of a file.
+-- What is so of the elements of channels, and stays so with each type that is written, is so of those of a file.
 use Rattle.std.proofs.Common.{ℕ, List, [], ◌∷◌, Option, Some, None}
 use Rattle.syntax.specs.Tree.{TypeExpression, Call, Receive, Make, Length, Capacity, Right, RightOperation, Values, Simple, CallAlone, Close, Print, ReceiveAlone, Send, Increment, Decrement, Assign, Define, Update, ForHead, Forever, While, ForClauses, Range, NoValue, ReturnedOperation, ReturnedValue, Statement, Empty, Alone, VarTyped, VarUntyped, Block, If, For, Select, Go, Return, Break, Continue, Statements, NoStatement, Then, Branch, Conditional, Otherwise, NoElse, ElseBlock, ElseIf, Clauses, NoClause, Clause, Declared, Top, StructTop, FunctionTop}
 use Rattle.checker_statement.specs.Statements.{head_simple}
-use Rattle.type_table.specs.Scopes.{nothing_declared, type_in}
-use Rattle.meaning.specs.Values.{known}
 use Rattle.codegen_base.specs.declared.element.Element.{Element}
-use Rattle.type_table.specs.Types.{ValueType}
-use Rattle.codegen_base.specs.Elements.{with_type}
 use Rattle.codegen_base.specs.Program.{noting, noting_any, noting_right, noting_given, noting_simple, noting_first, noting_head, noting_statement, noting_statements, noting_branch, noting_otherwise, noting_clauses, noting_declared, noting_top, noting_tops}
 
-module _ (types : List (List ℕ)) (P : List Element → Type 0) (step : (all : List Element) (kind : ValueType) → P all → P (with_type all kind)) where
+module _ (types : List (List ℕ)) (P : List Element → Type 0) (step : (all : List Element) (kind : TypeExpression) → P all → P (noting types kind all)) where
   abbrev Keeps : List Element → List Element → Type 0
   Keeps a b = P a → P b
 
@@ -20,7 +16,7 @@ module _ (types : List (List ℕ)) (P : List Element → Type 0) (step : (all : 
   keeps_on a b c x y p = y (x p)
 
   kind_keeps : (kind : TypeExpression) (all : List Element) → Keeps all (noting types kind all)
-  kind_keeps kind all = step all (known (type_in types nothing_declared kind))
+  kind_keeps kind all = step all kind
 
   right_keeps : (right : Right) (all : List Element) → Keeps all (noting_right types right all)
   right_keeps (Values values) all = keeps_no all

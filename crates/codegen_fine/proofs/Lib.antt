@@ -36,7 +36,10 @@ pub mod Wholes
 pub mod Programs
 pub mod Heads
 pub mod Signatures
+pub mod Wide
 pub mod Structs
 pub mod Keeping
 pub mod Shapes
+pub mod Limits
+pub mod Filled
 pub mod Main

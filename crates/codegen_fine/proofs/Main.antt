@@ -5,15 +5,15 @@ use Rattle.std.proofs.lemmas.Str.{is_utf8-from_IsUtf8, IsUtf8-from_ascii}
 use Rattle.std.proofs.lemmas.Str.Ascii.{IsAscii-from_all}
 use Rattle.std.specs.Str.{is_utf8}
 use Rattle.std.specs.List.{position_or_len}
+use Rattle.std.proofs.lemmas.Option.{get_or_from_slice_get, slice_get_within}
 use Rattle.std.proofs.lemmas.Bool.{and_parts}
 use Rattle.std.proofs.lemmas.Bool.Decides.{nat_tests}
 use Rattle.std.proofs.lemmas.Slice.Eq.{bytes_eq-Decides}
 use Rattle.go_text.specs.declared.rule.Rule.TheVariants as rules
 use Rattle.syntax.specs.Tree.{Top, StructTop, FunctionTop, File}
-use Rattle.syntax.specs.Measures.{size as file_size}
-use Rattle.bytecode.specs.declared.instr.WordKind.{WordKind}
-use Rattle.bytecode.specs.Code.{Function as CodeFunction, PrintTable, SelectTable}
-use Rattle.bytecode.specs.Rules.{HasMain, IsShort, IsSelect, IsVerified}
+use Rattle.syntax.specs.Measures.{Entries, SelectClauses, longest, most_entries, most_clauses, size as file_size}
+use Rattle.bytecode.specs.Code.{Function as CodeFunction}
+use Rattle.bytecode.specs.Rules.{HasMain, HasShapes, IsFew, IsShort, IsVerified}
 use Rattle.type_table.specs.Containment.{Field}
 use Rattle.type_table.specs.Scopes.{Globals, Yield, NoResult, Yields}
 use Rattle.checker_base.specs.declared.flaw.Flaw.TheVariants.{Broken, Exceeded}
@@ -24,12 +24,13 @@ use Rattle.codegen_base.specs.declared.element.Element.{Element}
 use Rattle.codegen_base.specs.Layouts.{empty, with_parameters}
 use Rattle.codegen_base.specs.Program.{label, result_of, made_function, function_code, functions_code, elements_of, code_of}
 use Rattle.codegen_base.specs.Generated.{result_kinds}
-use Rattle.codegen_base.proofs.Fields.{AllWide}
 use Rattle.codegen_base.proofs.Typing.{Free, broken, not_false}
 use Rattle.plan.specs.Plan.{table_count}
 use Rattle.codegen_fine.proofs.Heads.{PostsTops}
-use Rattle.codegen_fine.proofs.Structs.{grounds_of, file_verified}
+use Rattle.codegen_fine.proofs.Structs.{wide_of, grounds_of, file_verified}
 use Rattle.codegen_fine.proofs.Shapes.{shapes_there, shapes_short}
+use Rattle.codegen_fine.proofs.Limits.{Small, short_tops}
+use Rattle.codegen_fine.proofs.Filled.{NamedTops, shapes_filled}
 
 abbrev first_place : {A : Type 0} → (A → Bool) → List A → Option ℕ
 first_place p [] = None
@@ -145,10 +146,31 @@ main_of_file file le free =
     let m = main_at (globals_of file.tops) (elements_of file) file.tops 0 0 (not_false (has_main (globals_of file.tops).functions) (λ e. free b.0 (inr (inl (e, b.1))))) in
     record { number = m.number; function = m.function; first = position_is (λ (f : CodeFunction). bytes_eq f.name (codes "main")) (code_of file).functions ∙ m.first; there = m.there; params = m.params; results = m.results }
 
--- the code of a file that the checker takes keeps the verifier's rules, where the words of each struct are known, no post statement declares anything, and
--- no shape is empty, and its tables are as V7 asks
-pub typed_file : (file : File) → AllWide (globals_of file.tops).structs → PostsTops file.tops → IsTyped file → ((n : ℕ) (ks : List WordKind) → slice_get (code_of file).shapes n ≡ Some ks → 0 < length ks)
-    → ((q : ℕ) (table : PrintTable) → slice_get (code_of file).prints q ≡ Some table → IsShort table) → ((q : ℕ) (table : SelectTable) → slice_get (code_of file).selects q ≡ Some table → IsSelect (code_of file) table) → IsVerified (code_of file)
-typed_file file wide still typed shapes prints selects =
+-- what is so of each entry of a list
+all_at : {A : Type 0} (P : A → Type 0) (xs : List A) → All P xs → (n : ℕ) (x : A) → slice_get xs n ≡ Some x → P x
+all_at P xs all n x e = subst P (get_or_from_slice_get xs n x x e) (all n x (slice_get_within xs n x e))
+
+-- the lists of a file are no longer than the parser lets them be
+abbrev pub IsLimited : File → Type 0
+IsLimited file = (most_entries file ≤ 64) × (most_clauses file ≤ 64)
+
+limited : (file : File) → IsLimited file → Small (λ l. longest l file)
+limited file most Entries = most.0
+limited file most SelectClauses = most.1
+
+-- the code of a file that the checker takes keeps the verifier's rules, where no post statement declares anything, each group of fields declares a name,
+-- and lists keep their limits
+pub typed_file : (file : File) → PostsTops file.tops → NamedTops file.tops → IsLimited file → IsTyped file → IsVerified (code_of file)
+typed_file file still named most typed =
     let free = free_of file typed in
-    record { shapes = λ n ks e. record { some = shapes n ks e; most = shapes_short file wide free n ks e; there = shapes_there file (grounds_of file wide free) n ks e }; prints = prints; selects = selects; functions = file_verified file wide still free; main = main_of_file file (omega arith) free }
+    let wide = wide_of file free in
+    let hold = file_verified file still free in
+    let tables = short_tops (globals_of file.tops) (elements_of file) file.tops 0 0 (limited file most) in
+    let code = code_of file in
+    record {
+      shapes = λ n ks e. record { some = shapes_filled file wide named free n ks e; most = shapes_short file wide free n ks e; there = shapes_there file (grounds_of file free) n ks e };
+      prints = all_at IsShort code.prints tables.0;
+      selects = λ q table e. record { most = all_at IsFew code.selects tables.1 q table e; there = all_at (HasShapes code) code.selects hold.shapes q table e };
+      functions = hold.each;
+      main = main_of_file file (omega arith) free;
+    }

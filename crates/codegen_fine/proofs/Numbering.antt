@@ -56,7 +56,7 @@ module _ (globals : Globals) (elements : List Element) (result : Yield) where
   returned_numbered r layout (ReturnedOperation operation) n = before_numbered Stop (return_plan globals elements r layout (ReturnedOperation operation)) n (one_before globals elements layout.scope operation Stop) tt
   returned_numbered r layout (ReturnedValue value) n = before_numbered Stop (return_plan globals elements r layout (ReturnedValue value)) n (pushes_before globals elements layout.scope (result_type globals elements r) value Stop) tt
 
-  takes_before : (layout : Layout) (kind : ValueType) (target : Target) → Before Skip (takes globals elements result layout kind target)
+  pub takes_before : (layout : Layout) (kind : ValueType) (target : Target) → Before Skip (takes globals elements result layout kind target)
   takes_before layout kind NoTarget = drops_before _ Skip
   takes_before layout kind (DefineTarget name) = then_step (stores (name_spot globals elements layout name kind)) instrs.Tick (stores_before (name_spot globals elements layout name kind)) Skip
   takes_before layout kind (AssignTarget place) = then_step (stores (place_spot globals elements layout.scope place kind)) instrs.Tick (stores_before (place_spot globals elements layout.scope place kind)) Skip

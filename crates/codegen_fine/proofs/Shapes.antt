@@ -14,6 +14,8 @@ use Rattle.bytecode.specs.Rules.{IsThere, AreThere}
 use Rattle.type_table.specs.Types.{ValueType, IntType, BoolType, StructType, ChannelType}
 use Rattle.type_table.specs.Containment.{Structs, fields_in, fields_width, width_within, width, parts}
 use Rattle.type_table.proofs.Fields.{parts-count}
+use Rattle.type_table.specs.Scopes.{nothing_declared, type_in}
+use Rattle.meaning.specs.Values.{known}
 use Rattle.checker.specs.Files.{FileHas}
 use Rattle.checker_declaration.specs.Declarations.{WidthHas, struct_node}
 use Rattle.checker_declaration.specs.Kinds.{structs_with, globals_of}
@@ -41,7 +43,7 @@ within_more m n (elements.Channel k) w = omega (arith, w)
 abbrev Closed : List Element → Type 0
 Closed all = (n : ℕ) (e : Element) → slice_get all n ≡ Some e → Within (length all) e
 
-last_or_old : (all : List Element) (new : Element) (P : Element → Type 0) → ((n : ℕ) (e : Element) → slice_get all n ≡ Some e → P e) → P new → (n : ℕ) (e : Element) → slice_get (all ++ new ∷ []) n ≡ Some e → P e
+pub last_or_old : (all : List Element) (new : Element) (P : Element → Type 0) → ((n : ℕ) (e : Element) → slice_get all n ≡ Some e → P e) → P new → (n : ℕ) (e : Element) → slice_get (all ++ new ∷ []) n ≡ Some e → P e
 last_or_old [] new P old is zero e h = subst P (same_Some new e h) is
 last_or_old [] new P old is (suc n) e h = absurd cc
 last_or_old (x ∷ all) new P old is zero e h = old zero e h
@@ -69,7 +71,7 @@ module _ (structs : Structs) where
     go true inner = inner
     go false inner = closed_more (with_type all c) (element_of (with_type all c) c) inner (element_within (with_type all c) c (type_noted all c))
 
-mapped_from : {A B : Type 0} (f : A → B) (xs : List A) (n : ℕ) (y : B) → slice_get (map f xs) n ≡ Some y → (x : A) × (slice_get xs n ≡ Some x) × (f x ≡ y)
+pub mapped_from : {A B : Type 0} (f : A → B) (xs : List A) (n : ℕ) (y : B) → slice_get (map f xs) n ≡ Some y → (x : A) × (slice_get xs n ≡ Some x) × (f x ≡ y)
 mapped_from f [] n y e = absurd cc
 mapped_from f (x ∷ xs) zero y e = (x, refl, same_Some (f x) y e)
 mapped_from f (x ∷ xs) (suc n) y e = mapped_from f xs n y e
@@ -79,7 +81,7 @@ pub shapes_there : (file : File) → Grounds (globals_of file.tops) (elements_of
 shapes_there file grounds n ks e =
     let structs = (globals_of file.tops).structs in
     let all = elements_of file in
-    let closed : Closed all = tops_keeps (globals_of file.tops).types Closed (closed_type structs) file.tops [] (λ m x h. absurd cc) in
+    let closed : Closed all = tops_keeps (globals_of file.tops).types Closed (λ found kind. closed_type structs found (known (type_in (globals_of file.tops).types nothing_declared kind))) file.tops [] (λ m x h. absurd cc) in
     let (x, is, same) = mapped_from (element_kinds structs all) all n ks e in
     subst (AreThere (code_of file)) same (go x (closed n x is)) where
       single : (k : WordKind) → IsThere (code_of file) k → AreThere (code_of file) (k ∷ [])

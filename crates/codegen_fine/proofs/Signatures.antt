@@ -8,7 +8,6 @@ use Rattle.syntax.specs.Tree.{Function, Top, StructTop, FunctionTop, File}
 use Rattle.syntax.specs.Measures.{top_size}
 use Rattle.bytecode.specs.Code.{Function as CodeFunction}
 use Rattle.bytecode.specs.Effects.{params_in, results_in}
-use Rattle.bytecode.specs.Rules.{Holds}
 use Rattle.type_table.specs.Types.{ValueType}
 use Rattle.type_table.specs.Containment.{Field}
 use Rattle.type_table.specs.Scopes.{Globals, Signature, Yields, function_number}
@@ -36,6 +35,7 @@ use Rattle.codegen_fine.proofs.Growing.{longer_statements, longer_unless}
 use Rattle.codegen_fine.proofs.Noting.{any_grows, statements_grow, tops_grow}
 use Rattle.codegen_fine.proofs.Wholes.{ParametersFine}
 use Rattle.codegen_fine.proofs.Heads.{PostsTops, groups_fine, result_fine, file_holds}
+use Rattle.codegen_fine.proofs.Programs.{AllHold}
 
 number_within : (fs : List Signature) (name : List ℕ) (n : ℕ) → function_number fs name ≡ Some n → n < length fs
 number_within [] name n e = absurd cc
@@ -124,5 +124,5 @@ functions_of file free =
       at n = heads_are (globals_of file.tops) (elements_of file) file.tops (function_names file.tops) 0 0 0 0 (λ flaw h. free flaw (inl (inr h))) [] (grows_no (elements_of file)) n
 
 -- the functions of the code of a file that the checker takes, no post statement of which declares anything
-pub file_keeps : (file : File) → Grounds (globals_of file.tops) (elements_of file) (code_of file) → PostsTops file.tops → Free (FileHas file) → (g : ℕ) (f : CodeFunction) → slice_get (code_of file).functions g ≡ Some f → Holds (code_of file) f
-file_keeps file grounds still free g f e = file_holds file grounds (functions_of file free) still free g f e
+pub file_keeps : (file : File) → Grounds (globals_of file.tops) (elements_of file) (code_of file) → PostsTops file.tops → Free (FileHas file) → AllHold (code_of file) (code_of file).functions (code_of file).selects
+file_keeps file grounds still free = file_holds file grounds (functions_of file free) still free

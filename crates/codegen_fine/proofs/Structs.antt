@@ -7,8 +7,8 @@ use Rattle.syntax.specs.Tree.{Top, StructTop, FunctionTop, File}
 use Rattle.syntax.specs.Measures.{top_size}
 use Rattle.bytecode.specs.declared.instr.WordKind.{WordKind}
 use Rattle.bytecode.specs.declared.instr.WordKind.TheVariants as kinds
-use Rattle.bytecode.specs.Code.{Function as CodeFunction, Code}
-use Rattle.bytecode.specs.Rules.{IsThere, AreThere, Holds}
+use Rattle.bytecode.specs.Code.{Code}
+use Rattle.bytecode.specs.Rules.{IsThere, AreThere}
 use Rattle.type_table.specs.Types.{ValueType, IntType, BoolType, StructType, ChannelType}
 use Rattle.type_table.specs.Containment.{Field, Selected, fields_in, fields_of, behind, variable_words, field_among, kind_parts, fields_parts, parts_within}
 use Rattle.type_table.specs.Scopes.{Globals}
@@ -30,6 +30,8 @@ use Rattle.codegen_fine.proofs.Layouts.{there_append}
 use Rattle.codegen_fine.proofs.Noting.{tops_grow}
 use Rattle.codegen_fine.proofs.Wholes.{ParametersFine}
 use Rattle.codegen_fine.proofs.Heads.{PostsTops, groups_fine}
+use Rattle.codegen_fine.proofs.Wide.{wide_all, none_endless}
+use Rattle.codegen_fine.proofs.Programs.{AllHold}
 use Rattle.codegen_fine.proofs.Signatures.{file_keeps}
 
 module _ (globals : Globals) (elements : List Element) where
@@ -93,23 +95,35 @@ module _ (globals : Globals) (elements : List Element) where
     parts_there fine zero n = none_there
     parts_there fine (suc deep) n = fields_there (parts_within globals.structs deep) (parts_there fine deep) (fields_of globals.structs n) (fine n)
 
--- what is asked of a file's code, where the words of each struct are known
-pub grounds_of : (file : File) → AllWide (globals_of file.tops).structs → Free (FileHas file) → Grounds (globals_of file.tops) (elements_of file) (code_of file)
-grounds_of file wide free =
+-- ---- files with which nothing is wrong
+
+fields_fine : (file : File) → Free (FileHas file) → (n : ℕ) → ParametersFine (globals_of file.tops) (elements_of file) (fields_of (globals_of file.tops).structs n)
+fields_fine file free = structs_fine (globals_of file.tops) (elements_of file) file.tops 0 0 (λ flaw h. free flaw (inl (inl (inl h)))) [] (grows_no (elements_of file))
+
+-- the types of all fields are known
+fields_typed : (file : File) → Free (FileHas file) → (n : ℕ) → AllTyped (globals_of file.tops).structs (fields_of (globals_of file.tops).structs n)
+fields_typed file free n = typed_fields (globals_of file.tops) (elements_of file) (fields_of (globals_of file.tops).structs n) (fields_fine file free n)
+
+-- the words of each struct are known
+pub wide_of : (file : File) → Free (FileHas file) → AllWide (globals_of file.tops).structs
+wide_of file free = wide_all (globals_of file.tops).structs (fields_typed file free) (none_endless file free)
+
+-- what is asked of a file's code
+pub grounds_of : (file : File) → Free (FileHas file) → Grounds (globals_of file.tops) (elements_of file) (code_of file)
+grounds_of file free =
     let globals = globals_of file.tops in
     let elements = elements_of file in
-    let fine = structs_fine globals elements file.tops 0 0 (λ flaw h. free flaw (inl (inl (inl h)))) [] (grows_no elements) in
-    let typed : (n : ℕ) → AllTyped globals.structs (fields_of globals.structs n) = λ n. typed_fields globals elements (fields_of globals.structs n) (fine n) in
+    let fine = fields_fine file free in
     record {
-      wide = wide;
-      typed = typed;
-      fields_known = λ s. fields_known globals s typed;
+      wide = wide_of file free;
+      typed = fields_typed file free;
+      fields_known = λ s. fields_known globals s (fields_typed file free);
       fields_noted = noted_of globals elements fine;
       literals_noted = λ n m field e. noted_field globals elements (fields_of globals.structs n) (fine n) m field e;
       shapes = refl;
       structs_there = λ n. parts_there globals elements (code_of file) refl fine (suc (length globals.structs)) n;
     }
 
--- the functions of the code of a file that the checker takes, where the words of each struct are known and no post statement declares anything
-pub file_verified : (file : File) → AllWide (globals_of file.tops).structs → PostsTops file.tops → Free (FileHas file) → (g : ℕ) (f : CodeFunction) → slice_get (code_of file).functions g ≡ Some f → Holds (code_of file) f
-file_verified file wide still free g f e = file_keeps file (grounds_of file wide free) still free g f e
+-- the functions of the code of a file that the checker takes, where no post statement declares anything
+pub file_verified : (file : File) → PostsTops file.tops → Free (FileHas file) → AllHold (code_of file) (code_of file).functions (code_of file).selects
+file_verified file still free = file_keeps file (grounds_of file free) still free

@@ -1,9 +1,9 @@
--- A whole function with which nothing is wrong keeps the verifier's rules V1 to V6.
+-- A whole function with which nothing is wrong keeps the verifier's rules V1 to V6, and its selects name shapes that are there.
 use Rattle.std.proofs.Common.{◌≡◌, ℕ, List, [], ◌∷◌, ◌++◌, length, drop, Option, Some, refl, sym, ap, subst, arith, length-append, inl}
 use Rattle.std.proofs.lemmas.List.{append-nil}
 use Rattle.syntax.specs.Tree.{Function}
 use Rattle.bytecode.specs.Code.{Function as CodeFunction, Code, SelectTable}
-use Rattle.bytecode.specs.Rules.{Holds}
+use Rattle.bytecode.specs.Rules.{Holds, HasShapes}
 use Rattle.type_table.specs.Types.{ValueType}
 use Rattle.type_table.specs.Containment.{Field}
 use Rattle.type_table.specs.Scopes.{Globals, Scope, Yields, nothing_declared, declared}
@@ -20,7 +20,8 @@ use Rattle.codegen_base.proofs.Noted.{Noted, Grows}
 use Rattle.codegen_base.proofs.Typing.{Free}
 use Rattle.plan.specs.Plan.{Stop, tables}
 use Rattle.plan.proofs.Stacks.{holds_by}
-use Rattle.plan.proofs.Tables.{tabled}
+use Rattle.plan.proofs.Tables.{Makes, tabled}
+use Rattle.plan.proofs.Typed.{outside, typed_makes}
 use Rattle.codegen_fine.proofs.Operands.{Grounds}
 use Rattle.codegen_fine.proofs.Operations.{Functions}
 use Rattle.codegen_fine.proofs.Layouts.{Longer, longer_no, longer_on, longer_declaring, Begins, begins_before, Room, room_declaring}
@@ -63,7 +64,7 @@ module _ (globals : Globals) (elements : List Element) where
 
       pub typed_function : (function : Function) → IsFine function → (prints selects first : ℕ) → Free (BodyHas globals first function) → (all : List Element) → Grows (noting_statements globals.types function.body all) elements
           → Prints code prints (made_function globals elements prints selects function).prints → (rest : List SelectTable) → drop selects code.selects ≡ tables 0 (made_function globals elements prints selects function).plan ++ rest
-          → Holds code (function_code globals elements function (made_function globals elements prints selects function))
+          → Holds code (function_code globals elements function (made_function globals elements prints selects function)) × Makes (HasShapes code) (made_function globals elements prints selects function).plan
       typed_function function fine prints selects first free all g tables-of rest selects-of =
           let m = made_function globals elements prints selects function in
           let f = function_code globals elements function m in
@@ -78,4 +79,4 @@ module _ (globals : Globals) (elements : List Element) where
           let b = typed_body globals elements code f grounds functions result yields function.body site (parameters globals function) _ room alike fine.still (λ flaw h. free flaw (inl h)) all g (record { begins = whole; prints = tables-of }) in
           let tab = tabled code.selects m.plan 0 selects rest (numbered_body globals elements result function.body site) selects-of in
           let long = longer.is in
-          holds_by code f m.plan [] tab refl (b.runs 0 tab) b.ends (omega (arith, ap length long, length-append start.locals longer.more)) b.room.there (result_there globals elements code f grounds functions result yields)
+          (holds_by code f m.plan [] tab refl (b.runs 0 tab) b.ends (omega (arith, ap length long, length-append start.locals longer.more)) b.room.there (result_there globals elements code f grounds functions result yields), typed_makes code f outside [] m.plan [] (b.runs 0 tab))
