@@ -1,17 +1,18 @@
 -- Where the code stands of what is still to be done.
-use Rattle.std.proofs.Common.{◌≡◌, ℕ, ◌+◌, ◌≤◌, Bool, true, List, [], ◌∷◌, ◌++◌, length, map, take, Option, Some, None, IfSome, slice_get}
+use Rattle.std.proofs.Common.{◌≡◌, ℕ, ◌+◌, ◌≤◌, Bool, true, List, [], ◌∷◌, ◌++◌, length, map, take, drop, Option, Some, None, IfSome, slice_get}
+use Rattle.syntax.specs.declared.node.Direction.{Direction}
 use Rattle.syntax.specs.Tree.{Expression, Operation, Make, Right, RightOperation, Values, Simple, Assign, Define, IfHead, First, ForHead, ForClauses, Returned, ReturnedOperation, Statement, Alone, VarTyped, VarUntyped, Block, If, For, Select, Return, Statements, NoStatement, Then, Branch, Conditional, Otherwise, NoElse, ElseBlock, ElseIf, Clauses, NoClause, Clause, File}
 use Rattle.bytecode.specs.declared.instr.Instr.TheVariants as instrs
 use Rattle.bytecode.specs.declared.instr.Instr.{Instr}
 use Rattle.bytecode.specs.Code.{PrintTable, Function as CodeFunction, Code}
-use Rattle.bytecode.specs.Effects.{gives}
+use Rattle.bytecode.specs.Effects.{gives, shape_kinds}
 use Rattle.bytecode.specs.Machine.{Frame as CodeFrame, Frames as CodeFrames, zero_of, is_told, instr_next, pops}
 use Rattle.word.specs.Values.{Request}
 use Rattle.word.specs.Values as requests
 use Rattle.word.specs.Kinds.{Asks}
 use Rattle.word.specs.declared.value.Word.{Word}
-use Rattle.type_table.specs.Types.{ValueType}
-use Rattle.type_table.specs.Scopes.{Variable, Scope, Yield, entered, left, nothing_declared, type_in}
+use Rattle.type_table.specs.Types.{ValueType, BoolType, ChannelType}
+use Rattle.type_table.specs.Scopes.{Variable, Scope, Yield, entered, left, nothing_declared, type_in, last_named}
 use Rattle.checker_base.specs.Expressions.{TestHas}
 use Rattle.checker_simple.specs.Simples.{SimpleHas}
 use Rattle.checker_statement.specs.Statements.{Setting, after, after_all, StatementHas, StatementsHave, OtherwiseHas}
@@ -19,12 +20,13 @@ use Rattle.checker_operation.specs.Operations.{parameters_of}
 use Rattle.type_table.specs.Zeros.{zero_words}
 use Rattle.meaning.specs.Values.{Value, known, words_in, words_like}
 use Rattle.meaning.specs.Destinations.{zero_result}
-use Rattle.meaning.specs.Variables.{Destination}
-use Rattle.meaning.specs.Tasks.{Loop, Repeating, Ranging, Task, Do, EndBlock, Decide, Head, Again, Turn, EndSelect, Ask, Store, GiveBack, Purpose, Unused, Assigned, GivenBack}
+use Rattle.meaning.specs.Variables.{Destination, blank}
+use Rattle.meaning.specs.Tasks.{Loop, Repeating, Ranging, Task, Do, EndBlock, Decide, Head, Again, Turn, EndSelect, Ask, Store, GiveBack, Purpose, Unused, Assigned, GivenBack, NextItem}
 use Rattle.meaning.specs.Source.{globals}
 use Rattle.codegen_base.specs.declared.element.Element.{Element}
 use Rattle.codegen_base.specs.Pushes.{pushes_zeros, drops}
 use Rattle.codegen_base.specs.Statements.{Spot, assigns}
+use Rattle.codegen_base.specs.Elements.{kinds_of}
 use Rattle.codegen_base.specs.Generated.{Site, Made, past, ended, inside, loop, test_plan, made_post, made, made_all, made_otherwise, result_kinds}
 use Rattle.plan.specs.Plan.{Plan, Skip, Stop}
 use Rattle.plan.proofs.Places.{At, On, Leads}
@@ -253,6 +255,45 @@ module _ (file : File) (elements : List Element) (all : AllWide (globals file).s
     pub like : AreLike (globals file).structs all types kept
     pub assigning : Assigning l view 0 types destinations next place mid
 
+  -- ---- loops over a channel
+
+  -- what becomes of an item on the stack: it is dropped, or stored as a value of a type with the same zero
+  abbrev pub Items : Around → View → ValueType → List Destination → View → ℕ → Option ℕ → Type 0
+  Items l view kind [] next place mid = IsOn l (drops (words_in (globals file).structs kind) Skip) place mid × (variables next ≡ variables view)
+  Items l view kind (first ∷ more) next place mid = (other : ValueType) × (zero_words (globals file).structs kind ≡ zero_words (globals file).structs other) × Assigning l view 0 (other ∷ []) (first ∷ more) next place mid
+
+  -- the block of an item, in which the typing rules see this
+  abbrev pub item_view : View → Scope → View
+  item_view view checked = record { site = inside view.site; begins = length (variables view) ∷ view.begins; checked = checked }
+
+  -- a loop over a channel, which is the variable `_` of the block round the items
+  pub record RangingAt (l : Around) (view : View) (destinations : List Destination) (zero : Value) (body : Statements) (head : ℕ) (out : Option ℕ) : Type 0 where
+    pub direction : Direction
+    pub kind : ValueType
+    pub channel : Variable
+    pub channel_is : last_named (drop (innermost_begins view.begins) (variables view)) blank ≡ Some channel
+    pub carries : known channel.kind ≡ ChannelType direction kind
+    pub below : channel.place + 1 ≤ (scope_of view).words
+    pub room : (scope_of view).words ≤ length f.locals
+    pub zero_is : zero ≡ zero_words (globals file).structs kind
+    pub shape : ℕ
+    pub shape_is : shape_kinds code shape ≡ kinds_of (globals file).structs elements kind
+    pub check : ℕ
+    pub again : Option ℕ
+    pub exit : ℕ
+    pub loads : At f.instrs head (instrs.Load channel.place 1)
+    pub receives : At f.instrs (head + 1) (instrs.Receive shape)
+    pub checks : Leads f.instrs (head + 1 + 1) (Some check)
+    pub unless : At f.instrs check (instrs.Unless exit)
+    pub checked : Scope
+    pub next : View
+    pub together : Together (item_view view checked) next
+    pub mid : Option ℕ
+    pub item : Items (record { leave = out; again = again }) (item_view view checked) kind destinations next (check + 1) mid
+    pub goes : IfSome mid (λ p. Doing (record { leave = out; again = again }) next (Block body) p again)
+    pub turns : IfSome again (λ m. (turn : ℕ) × Leads f.instrs m (Some turn) × At f.instrs turn (instrs.Loop head))
+    pub ends : IsOn l (drops (words_in (globals file).structs kind) Skip) exit out
+
   -- ---- calls and requests
 
   -- what becomes of values of these types that lie on the stack: those that have no place are dropped, and the others are stored as ones
@@ -262,6 +303,8 @@ module _ (file : File) (elements : List Element) (all : AllWide (globals file).s
   Taking l view types (Assigned destinations) next place mid = (kept : List ValueType) × (others : List ValueType) × (map (zero_words (globals file).structs) types ≡ map (zero_words (globals file).structs) (kept ++ others)) × Assigning l view (all_wide others) kept destinations next place mid
   Taking l view types GivenBack next place mid =
       (first : ValueType) × (others : List ValueType) × (types ≡ first ∷ others) × IsOn l (drops (all_wide others) Stop) place mid × (zero_result (globals file) result ≡ zero_words (globals file).structs first)
+  Taking l view types (NextItem (Ranging destinations zero body)) next place mid =
+      (head : ℕ) × (place ≡ head + 1 + 1) × (d : RangingAt l view destinations zero body head mid) × (types ≡ d.kind ∷ BoolType ∷ []) × (variables next ≡ variables view)
   Taking l view types purpose next place mid = ⊥
 
   -- a goroutine that is started gets values of its function's parameters
@@ -285,7 +328,7 @@ module _ (file : File) (elements : List Element) (all : AllWide (globals file).s
   -- what a loop's head does at a place
   abbrev pub Loops : Around → View → Loop → ℕ → Option ℕ → Type 0
   Loops l view (Repeating condition post body) head out = Looping l view condition post body head out
-  Loops l view (Ranging destinations zero body) head out = ⊥
+  Loops l view (Ranging destinations zero body) head out = RangingAt l view destinations zero body head out
 
   -- a task at a place, with this stack: its code leads to `mid`, where what is next has its variables
   abbrev pub Does : Around → View → List Word → Task → View → ℕ → Option ℕ → Type 0
@@ -300,7 +343,7 @@ module _ (file : File) (elements : List Element) (all : AllWide (globals file).s
 
   -- where a loop's body ends
   abbrev pub Turns : Loop → Around → View → ℕ → Option ℕ → Option ℕ → Type 0
-  Turns (Ranging destinations zero body) l view head out post_at = ⊥
+  Turns (Ranging destinations zero body) l view head out post_at = (d : RangingAt l view destinations zero body head out) × (d.again ≡ post_at)
   Turns (Repeating condition post body) l view head out post_at =
       Looping l view condition post body head out
       × IfSome post_at (λ m. (turn : ℕ) × IsOn l (post_made view body post).plan m (Some turn) × At f.instrs turn (instrs.Loop head))

@@ -29,12 +29,11 @@ use Rattle.codegen_requests.proofs.Channels.{YieldKnown, Grounds}
 use Rattle.codegen_requests.proofs.Calling.{Wait, AllThere, Starting, go_goes}
 use Rattle.codegen_requests.proofs.Returns.{return_goes}
 use Rattle.codegen_statements.proofs.Untyped.{untyped_goes}
-use Rattle.codegen_statements.proofs.Typed.{typed_values_go, typed_zeros_go}
+use Rattle.codegen_statements.proofs.Typed.{typed_values_go, typed_zeros_go, typed_operation_goes}
 use Rattle.codegen_statements.proofs.Alone.{alone_goes}
 
--- the statements that are proved so far: all but variables with a type that get what an operation gives, ranges and selects
+-- the statements that are proved so far: all but ranges and selects
 abbrev pub IsCovered : Statement → Type 0
-IsCovered (VarTyped names kind (Some (RightOperation operation))) = ⊥
 IsCovered (For (Range to channel) body) = ⊥
 IsCovered (Select clauses) = ⊥
 IsCovered s = Unit {0}
@@ -61,7 +60,7 @@ module _ (file : File) (elements : List Element) (all : AllWide (globals file).s
       statement_goes (Alone simple) place covered d same = alone_goes file elements all typed known_fields code result g f there cs ds R Asked panics sitting grounds fields_known all_there starting has wait ls l view next mid k h t r simple place d same
       statement_goes (VarTyped names kind None) place covered d same = let room = room_there (VarTyped names kind None) place d in typed_zeros_go file elements all typed known_fields code result g f there cs ds R Asked panics sitting grounds ls l view next mid k d.fine room h t r names kind d.first place d.good d.on same d.fits.room
       statement_goes (VarTyped names kind (Some (Values es))) place covered d same = let room = room_there (VarTyped names kind (Some (Values es))) place d in typed_values_go file elements all typed known_fields code result g f there cs ds R Asked panics sitting grounds ls l view next mid k d.fine room h t r names kind es d.first place d.good d.on same d.fits.room
-      statement_goes (VarTyped names kind (Some (RightOperation operation))) place covered d same = absurd covered
+      statement_goes (VarTyped names kind (Some (RightOperation operation))) place covered d same = let room = room_there (VarTyped names kind (Some (RightOperation operation))) place d in typed_operation_goes file elements all typed known_fields code result g f there cs ds R Asked panics sitting grounds ls l view next mid k d.fine room h t r all_there starting has wait names kind operation d.first place d.makes d.good d.on same d.fits.room
       statement_goes (VarUntyped names right) place covered d same = let room = room_there (VarUntyped names right) place d in untyped_goes file elements all typed known_fields code result g f there cs ds R Asked panics sitting grounds ls l view next mid k d.fine room h t r all_there starting has wait names right d.first place d.makes d.good d.on same d.fits.room
       statement_goes (Block body) place covered d same = block_goes file elements all typed known_fields code result g f there cs ds R Asked panics fine_behind sitting back ls view next l body place mid k h d same t.0 r
       statement_goes (If (Conditional head condition body otherwise)) place covered d same = if_goes file elements all typed known_fields code result g f there cs ds R Asked panics fine_behind sitting back ls view next l head condition body otherwise place mid k h d same t.0 r

@@ -26,6 +26,7 @@ use Rattle.codegen_follows.proofs.Valued.{Goes}
 use Rattle.codegen_follows.proofs.Follows.{Held, end_block_goes, decide_goes, head_goes, turn_goes, again_goes, end_select_goes}
 use Rattle.codegen_steps.proofs.Stored.{store_goes}
 use Rattle.codegen_steps.proofs.Taken.{ask_goes}
+use Rattle.codegen_steps.proofs.Ranged.{next_goes, round_goes, item_ends}
 use Rattle.codegen_steps.proofs.Returned.{Gives, AllWait, AllSitting, give_goes, end_goes}
 use Rattle.codegen_requests.proofs.Channels.{YieldKnown, Grounds}
 use Rattle.codegen_requests.proofs.Calling.{AllThere, Starting}
@@ -69,15 +70,21 @@ module _ (file : File) (elements : List Element) (all : AllWide (globals file).s
       step_goes (Head (Repeating condition post body) ∷ k) ls view l place stack is told h (next, t, mid, (empty, d, same), to, lead, sits) =
           let sitting-here = sitting result g f there has cs ds wait in
           subst (λ (x : Words). G (frame_next file (blocks ls view) (Head (Repeating condition post body) ∷ k) cs) (at place ls x)) (sym empty) (head_goes file elements all typed known_fields code result g f there cs ds R Asked panics (fine_behind result f) sitting-here back ls view next l condition post body place mid k h d t same (to, lead, sits))
-      step_goes (Head (Ranging a b c) ∷ k) ls view l place stack is told h (next, t, mid, (empty, d, same), to, lead, sits) = absurd d
+      step_goes (Head (Ranging destinations zero body) ∷ k) ls view l place stack is told h (next, t, mid, (empty, d, same), to, lead, sits) =
+          let sitting-here = sitting result g f there has cs ds wait in
+          subst (λ (x : Words). G (frame_next file (blocks ls view) (Head (Ranging destinations zero body) ∷ k) cs) (at place ls x)) (sym empty) (next_goes file elements all typed known_fields code result g f there cs ds R Asked panics (fine_behind result f) sitting-here back ls view next l destinations zero body place mid k h d t same (to, lead, sits))
       step_goes (Again (Repeating condition post body) ∷ k) ls view l place stack is told h sits =
           let sitting-here = sitting result g f there has cs ds wait in
           again_goes file elements all typed known_fields code result g f there cs ds R Asked panics (fine_behind result f) sitting-here back ls view l condition post body place stack k h sits
-      step_goes (Again (Ranging a b c) ∷ k) ls view l place stack is told h (outer, inner, around, next, beside, same, head, out, leave, turns, here, to, lead, sits) = absurd turns
+      step_goes (Again (Ranging destinations zero body) ∷ k) ls view l place stack is told h sits =
+          let sitting-here = sitting result g f there has cs ds wait in
+          item_ends file elements all typed known_fields code result g f there cs ds R Asked panics (fine_behind result f) sitting-here back ls view l destinations zero body place stack k h sits
       step_goes (Turn (Repeating condition post body) ∷ k) ls view l place stack is told h (next, t, mid, (empty, head, i, d, same), to, lead, sits) =
           let sitting-here = sitting result g f there has cs ds wait in
           subst (λ (x : Words). G (frame_next file (blocks ls view) (Turn (Repeating condition post body) ∷ k) cs) (at place ls x)) (sym empty) (turn_goes file elements all typed known_fields code result g f there cs ds R Asked panics (fine_behind result f) sitting-here back ls view next l condition post body head place mid k h i d t same (to, lead, sits))
-      step_goes (Turn (Ranging a b c) ∷ k) ls view l place stack is told h (next, t, mid, (empty, head, i, d, same), to, lead, sits) = absurd d
+      step_goes (Turn (Ranging destinations zero body) ∷ k) ls view l place stack is told h (next, t, mid, (empty, head, i, d, same), to, lead, sits) =
+          let sitting-here = sitting result g f there has cs ds wait in
+          subst (λ (x : Words). G (frame_next file (blocks ls view) (Turn (Ranging destinations zero body) ∷ k) cs) (at place ls x)) (sym empty) (round_goes file elements all typed known_fields code result g f there cs ds R Asked panics (fine_behind result f) sitting-here back ls view next l destinations zero body head place mid k h i d t same (to, lead, sits))
       step_goes (EndSelect ∷ k) ls view l place stack is told h sits =
           let sitting-here = sitting result g f there has cs ds wait in
           end_select_goes file elements all typed known_fields code result g f there cs ds R Asked panics (fine_behind result f) sitting-here back ls view l place stack k h sits

@@ -4,7 +4,7 @@ use Rattle.std.proofs.lemmas.List.{append-nil}
 use Rattle.std.specs.Option.{is_some}
 use Rattle.std.specs.List.{list_any}
 use Rattle.go_text.specs.declared.rule.Rule.TheVariants as rules
-use Rattle.syntax.specs.Tree.{TypeExpression, Expression, expressions, Values, VarTyped, File}
+use Rattle.syntax.specs.Tree.{TypeExpression, Expression, expressions, Operation, RightOperation, Values, VarTyped, File}
 use Rattle.syntax.specs.Measures.{type_size, expression_size, if_any, right_size}
 use Rattle.bytecode.specs.Code.{Function as CodeFunction, Code}
 use Rattle.bytecode.specs.Machine.{Frames as CodeFrames, code_next}
@@ -16,7 +16,8 @@ use Rattle.type_table.specs.Types.{ValueType}
 use Rattle.type_table.specs.Containment.{fields_of}
 use Rattle.type_table.specs.Scopes.{Variable, Scope, Yield, own_variable, type_in}
 use Rattle.checker_base.specs.Expressions.{nodes_of, ValueHas, ExpressionsHave}
-use Rattle.checker_operation.specs.Operations.{given_values, TypeHas}
+use Rattle.checker_base.specs.Worths.{Typed}
+use Rattle.checker_operation.specs.Operations.{Given, given, given_values, TypeHas, OperationHas}
 use Rattle.checker_simple.specs.Simples.{AllFail, TypedVariablesHave}
 use Rattle.type_table.specs.Zeros.{zero_words}
 use Rattle.meaning.specs.Values.{Value, known}
@@ -37,7 +38,7 @@ use Rattle.codegen_base.proofs.Alike.{there_alike, own_alike, type_alike}
 use Rattle.codegen_base.proofs.Called.{same_count}
 use Rattle.codegen_base.proofs.Fields.{AllWide, AllTyped}
 use Rattle.codegen_base.proofs.Passed.{AllFit}
-use Rattle.codegen_base.proofs.Likeness.{kinds_zeros, zeros_like}
+use Rattle.codegen_base.proofs.Likeness.{kinds_zeros, zeros_like, assignable_zeros}
 use Rattle.codegen_base.proofs.Assigned.{AreLike, all_words_of}
 use Rattle.codegen_base.proofs.Expressions.{zeros_goes}
 use Rattle.codegen_base.proofs.Seen.{seen}
@@ -47,8 +48,10 @@ use Rattle.codegen_follows.proofs.Valued.{Goes}
 use Rattle.codegen_follows.proofs.Follows.{Held, Sitting, Rest}
 use Rattle.codegen_requests.proofs.Channels.{Grounds}
 use Rattle.codegen_requests.proofs.Requests.{type_anywhere}
-use Rattle.codegen_requests.proofs.Assigns.{values_go}
-use Rattle.codegen_requests.proofs.Sets.{given_long}
+use Rattle.codegen_steps.proofs.Returned.{Gives}
+use Rattle.codegen_requests.proofs.Calling.{Wait, AllThere, Starting}
+use Rattle.codegen_requests.proofs.Assigns.{values_go, kept_types, operation_go}
+use Rattle.codegen_requests.proofs.Sets.{AreTyped, RightNoted, given_long, given_typed}
 use Rattle.codegen_statements.proofs.Names.{neither, AllNamesSuit, NameSuits, names_are}
 use Rattle.codegen_statements.proofs.Untyped.{AreNew, declared_there, new_names}
 
@@ -99,6 +102,19 @@ module _ (file : File) (elements : List Element) (all : AllWide (globals file).s
       let fit = fits w.0 kind (nodes_of first e) (nodes_end first e) (λ flaw x. fail flaw (inl (subst (λ o. ValueHas o (Some kind) (nodes_of first e) flaw) (sym w.1) x))) in
       let left : suc (length es) ≡ suc (length names) = many in
       ((w.0, w.1, fit), each_fits names es kind (first + expression_size e) (omega (arith, left)) (λ flaw x. good flaw (inr x)) (λ flaw x. fail flaw (inr x)))
+
+  -- what an operation gives has the words of the type
+  each_zeros : (names : List (List ℕ)) (vs : List Given) (kinds : List ValueType) (kind : ValueType) → AreTyped vs kinds → length vs ≡ length names → Free (AllFail (Some kind) vs) → map (zero_words (globals file).structs) (same names kind) ≡ map (zero_words (globals file).structs) kinds
+  each_zeros [] [] [] kind typed many fail = refl
+  each_zeros [] [] (j ∷ kinds) kind typed many fail = absurd typed
+  each_zeros [] (v ∷ vs) kinds kind typed many fail = absurd cc
+  each_zeros (name ∷ names) [] kinds kind typed many fail = absurd cc
+  each_zeros (name ∷ names) (v ∷ vs) [] kind typed many fail = absurd typed
+  each_zeros (name ∷ names) (v ∷ vs) (j ∷ kinds) kind (is, positive, typed) many fail =
+      let zero = zero_words (globals file).structs in
+      let fit = fits (Typed j) kind v.nodes positive (λ flaw x. fail flaw (inl (subst (λ o. ValueHas o (Some kind) v.nodes flaw) (sym is) x))) in
+      let left : suc (length vs) ≡ suc (length names) = many in
+      ap (λ (x : Value). x ∷ map zero (same names kind)) (sym (assignable_zeros (globals file).structs j kind fit)) ∙ ap (λ (l : List Value). zero j ∷ l) (each_zeros names vs kinds kind typed (omega (arith, left)) (λ flaw x. fail flaw (inr x)))
 
   -- the type is written in any block alike
   pub record IsWritten (kind : TypeExpression) : Type 0 where
@@ -218,3 +234,40 @@ module _ (file : File) (elements : List Element) (all : AllWide (globals file).s
         subst (λ j. G (Slides (frame here (Store (map (λ name. new (globals file) here name j) names) (zeros names j) ∷ k) ∷ cs)) (at place [])) (sym w.written)
         (subst (λ (to : List Destination). G (Slides (frame here (Store to (zeros names K) ∷ k) ∷ cs)) (at place [])) (sym destinations-are)
         (at p.0 ws, p.1, sitting view l p.0 ls ws (Store destinations (zeros names K) ∷ k) h sits))
+
+    -- ---- variables that are given what an operation gives
+
+    module _ (all_there : AllThere file elements all typed known_fields code) (starting : Starting file elements all typed known_fields code R) (has : Gives file elements all typed known_fields code result f) (wait : Wait file elements all typed known_fields code result cs ds) where
+      pub typed_operation_goes : (names : List (List ℕ)) (kind : TypeExpression) (operation : Operation) (first place : ℕ) → RightNoted file elements all typed known_fields code result g f there cs ds R Asked panics sitting grounds ls l view next mid k fine room h t r all_there starting has wait (RightOperation operation)
+          → Free (TypedVariablesHave (globals file) view.checked first names kind (Some (RightOperation operation)))
+          → IsOn file elements all code result f l (variables_plan (globals file) elements view.site.layout names (known (type_in (globals file).types (scope_of view) kind)) (Some (RightOperation operation))) place mid
+          → variables next ≡ (declaring_each (globals file) elements (known (type_in (globals file).types (scope_of view) kind)) names view.site.layout).scope.variables
+          → (declaring_each (globals file) elements (known (type_in (globals file).types (scope_of view) kind)) names view.site.layout).scope.words ≤ length f.locals
+          → G (statement_next file here k cs (VarTyped names kind (Some (RightOperation operation)))) (at place [])
+      typed_operation_goes names kind operation first place noted free on same most =
+          let right = RightOperation operation in
+          let count = length names in
+          let w = written_there file elements all known_fields code result f ls view fine kind first (λ flaw x. free flaw (inl x)) in
+          let K = w.type in
+          let is : known (type_in (globals file).types (scope_of view) kind) ≡ K = ap known w.laid-out in
+          let second = first + type_size kind in
+          let end = second + right_size right + 1 in
+          let vs = given (globals file) view.checked count second right in
+          let good : Free (OperationHas (globals file) view.checked second operation) = λ flaw x. free flaw (inr (inl (inl x))) in
+          let d = declared_there view.checked names (first + type_size kind + if_any right_size (Some right) + 1) (omega arith) (λ flaw x. free flaw (inr (inr x))) in
+          let many = same_count (length vs) count end (omega arith) (λ flaw x. free flaw (inr (inl (inr (inl x))))) in
+          let typed-there = given_typed file elements all typed known_fields code result g f there cs ds R Asked panics sitting grounds ls l view next mid k fine room h t r all_there starting has wait count second operation good in
+          let kept = kept_types file elements all typed known_fields code result g f there cs ds R Asked panics sitting grounds ls l view next mid k fine room h t r all_there starting has wait count operation in
+          let zeros-are = each_zeros file elements all known_fields code result f ls view fine names vs kept K typed-there many (λ flaw x. free flaw (inr (inl (inr (inr (subst (λ o. AllFail o vs flaw) (sym w.checked) x)))))) in
+          let suit = new_suit file elements all known_fields code result f ls view fine names K d.are_new in
+          let are = names_are file elements all code result f ls view fine names (each names K) (each names K) d.single suit.0 in
+          let behind = are.1 ∙ ap (λ (x : Layout). x.scope) (each_is file elements all known_fields code result f ls view fine names K view.site.layout) in
+          let destinations-are = ap (λ j. map (λ name. new (globals file) here name j) names) w.written ∙ new_each file elements all known_fields code result f ls view fine names K ∙ new_names file elements all code result f ls view fine names (each names K) d.are_new in
+          subst (λ (to : List Destination). G (gives file here k cs to right) (at place [])) (sym destinations-are)
+          (operation_go file elements all typed known_fields code result g f there cs ds R Asked panics sitting grounds ls l view next mid k fine room h t r all_there starting has wait (all_defined (globals file) here names (each names K)) (name_spots (globals file) elements view.site.layout names (each names K)) count
+          (name_types (globals file) elements view.site.layout names (each names K)) (each names K) operation second place zeros-are
+          (record {
+            are = are.0;
+            fit = subst (λ (s : Scope). s.words ≤ length f.locals) (sym behind) (subst (λ j. (declaring_each (globals file) elements j names view.site.layout).scope.words ≤ length f.locals) is most);
+            variables_are = subst (λ j. variables next ≡ (declaring_each (globals file) elements j names view.site.layout).scope.variables) is same ∙ ap (λ (s : Scope). s.variables) (sym behind);
+          }) good noted (subst (λ j. IsOn file elements all code result f l (variables_plan (globals file) elements view.site.layout names j (Some right)) place mid) is on))

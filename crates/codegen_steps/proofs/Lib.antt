@@ -1,6 +1,7 @@
 pub mod Spots
 pub mod Stored
 pub mod Taken
+pub mod Ranged
 pub mod Returned
 pub mod Outers
 pub mod Simples
