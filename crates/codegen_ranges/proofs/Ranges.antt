@@ -20,18 +20,18 @@ use Rattle.type_table.specs.Containment.{fields_of}
 use Rattle.type_table.specs.Zeros.{zero_words}
 use Rattle.type_table.specs.Scopes.{Variable, Scope, Yield, entered, is_blank, later, last_named}
 use Rattle.meaning.specs.Values.{words_in, known}
-use Rattle.meaning.specs.Variables.{Blocks, New, blank, declare, holding, entered as entered_blocks}
+use Rattle.meaning.specs.Variables.{Blocks, Destination, New, blank, declare, holding, entered as entered_blocks}
 use Rattle.meaning.specs.Expressions.{type_of as type_of'}
 use Rattle.meaning.specs.Tasks.{Ranging, Task, Head, EndBlock, Frame, Frames, frame}
 use Rattle.meaning.specs.Source.{globals, ranges, statement_next}
 use Rattle.meaning.specs.Destinations.{element_kind}
 use Rattle.codegen_base.specs.declared.element.Element.{Element}
-use Rattle.codegen_base.specs.Layouts.{entering, keeping, carried, type_of}
+use Rattle.codegen_base.specs.Layouts.{keeping, carried, type_of}
 use Rattle.codegen_base.specs.Pushes.{drops}
 use Rattle.codegen_base.specs.Statements.{Local, width}
 use Rattle.codegen_base.specs.Elements.{shape_of}
-use Rattle.codegen_base.specs.Generated.{at, inside, receives, takes, made_all}
-use Rattle.plan.specs.Plan.{Skip, Seq, Cycle}
+use Rattle.codegen_base.specs.Generated.{at, inside, receives, made_all}
+use Rattle.plan.specs.Plan.{Plan, Skip, Seq, Cycle}
 use Rattle.bytecode.specs.Machine.{put_at}
 use Rattle.plan.proofs.Words.{Words}
 use Rattle.plan.proofs.Places.{at_once}
@@ -41,7 +41,7 @@ use Rattle.codegen_base.proofs.Fields.{AllWide, AllTyped}
 use Rattle.codegen_base.proofs.Likeness.{kinds_long}
 use Rattle.codegen_base.proofs.Seen.{Like, seen}
 use Rattle.codegen_base.proofs.Typing.{Free, FieldsKnown}
-use Rattle.codegen_follows.proofs.Stands.{Around, View, scope_of, variables, Together, Inner, Doing, Fine, IsOn, LeadsOn, RangingAt, Sits, opened, item_view}
+use Rattle.codegen_follows.proofs.Stands.{Around, View, scope_of, variables, Together, Inner, Doing, Fine, IsOn, LeadsOn, Items, RangingAt, Sits, opened, item_view}
 use Rattle.codegen_follows.proofs.Begun.{FineBehind, take_front, inner_opened, fine_opened, seen_opened}
 use Rattle.codegen_follows.proofs.Grown.{grown_statements}
 use Rattle.codegen_follows.proofs.Valued.{Goes}
@@ -124,30 +124,28 @@ module _ (file : File) (elements : List Element) (all : AllWide (globals file).s
     abbrev Channel' : Expression → Type 0
     Channel' e = IsChannel file elements code grounds ls view e
 
-    -- the loop behind its channel's value
-    bare_loop : (e : Expression) (body : Statements) (place : ℕ) (c : Channel' e) → Doing file elements all code result f l view (For (Range NoTarget e) body) place mid → (head : ℕ)
-        → IsOn file elements all code result f l (Cycle (receives (globals file) elements result view.site.layout e) (Seq (takes (globals file) elements result (entering (keeping (globals file) elements e view.site.layout)) (carried (globals file) elements (scope_of view) e) NoTarget) (made_all (globals file) elements result (inside (item_view file elements all code result f (kept e) (entered view.checked)).site) body).plan) Skip (drops (width (globals file) elements (scope_of view) (carried (globals file) elements (scope_of view) e)) Skip)) head mid
-        → RangingAt file elements all code result f l (kept e) [] (zero_words (globals file).structs (element_kind (globals file) here e)) body head mid
-    bare_loop e body place c d head (check, again, exit, (loads, behind), unless, (m, taken, goes), turns, ends) =
+    abbrev item : Expression → View
+    item e = item_view file elements all code result f (kept e) (entered view.checked)
+
+    abbrev within_loop : Option ℕ → Around
+    within_loop again = record { leave = mid; again = again }
+
+    abbrev wide_item : Expression → ℕ
+    wide_item e = width (globals file) elements (scope_of view) (carried (globals file) elements (scope_of view) e)
+
+    item_words : (e : Expression) (c : Channel' e) → wide_item e ≡ words_in (globals file).structs c.element
+    item_words e c = kinds_long (globals file).structs elements (carried (globals file) elements (scope_of view) e) ∙ ap (words_in (globals file).structs) c.carries
+
+    -- the loop behind its channel's value, where items go to destinations
+    pub loop_at : (e : Expression) (body : Statements) (c : Channel' e) (destinations : List Destination) (taken within : Plan) (last : View) → Together (item e) last → (scope_of (kept e)).words ≤ length f.locals
+        → ((again m : Option ℕ) (p : ℕ) → IsOn file elements all code result f (within_loop again) taken p m → Items file elements all code result f (within_loop again) (item e) c.element destinations last p m)
+        → ((again : Option ℕ) (p : ℕ) → IsOn file elements all code result f (within_loop again) within p again → Doing file elements all code result f (within_loop again) last (Block body) p again) → (head : ℕ)
+        → IsOn file elements all code result f l (Cycle (receives (globals file) elements result view.site.layout e) (Seq taken within) Skip (drops (wide_item e) Skip)) head mid → RangingAt file elements all code result f l (kept e) destinations (zero_words (globals file).structs (element_kind (globals file) here e)) body head mid
+    loop_at e body c destinations taken within last u most items doing head (check, again, exit, (loads, behind), unless, (m, on, goes), turns, ends) =
         let structs = (globals file).structs in
         let K = type_of (globals file) elements (scope_of view) e in
-        let many = kinds_long structs elements (carried (globals file) elements (scope_of view) e) ∙ ap (words_in structs) c.carries in
         let own-words : words_in structs K ≡ 1 = ap (words_in structs) c.own in
         let counted = counted_words structs all K in
-        let item = item_view file elements all code result f (kept e) (entered view.checked) in
-        let more = (grown_statements (globals file) elements result (inside item.site) body).words in
-        let most = d.fits.room in
-        let inner : Around = record { leave = mid; again = again } in
-        let doing : (p : ℕ) → IsOn file elements all code result f inner (made_all (globals file) elements result (inside item.site) body).plan p again → Doing file elements all code result f inner item (Block body) p again = λ p on. record {
-          first = _;
-          breaks = true;
-          continues = true;
-          fine = fine_item file elements all code result f view fine e;
-          good = λ flaw x. d.good flaw (inr x);
-          makes = d.makes.1;
-          on = on;
-          fits = record { tables = d.fits.tables; room = most };
-        } in
         record {
           direction = c.direction;
           kind = c.element;
@@ -155,7 +153,7 @@ module _ (file : File) (elements : List Element) (all : AllWide (globals file).s
           channel_is = channel_found file elements all code result f view fine e;
           carries = c.own;
           below = omega (arith, own-words, counted);
-          room = omega (arith, more, most);
+          room = most;
           zero_is = ap (zero_words structs) c.runs;
           shape = shape_of elements (carried (globals file) elements (scope_of view) e);
           shape_is = ap (λ kind. shape_kinds code (shape_of elements kind)) c.carries ∙ ap kinds_in (shape_is file elements code grounds c.direction c.element c.noted);
@@ -167,14 +165,34 @@ module _ (file : File) (elements : List Element) (all : AllWide (globals file).s
           checks = behind.1;
           unless = unless;
           checked = entered view.checked;
-          next = item;
-          together = (refl, refl);
+          next = last;
+          together = u;
           mid = m;
-          item = (subst (λ n. IsOn file elements all code result f inner (drops n Skip) (check + 1) m) many taken, refl);
-          goes = map_reached file elements all typed known_fields code result g f there cs ds R Asked panics m _ (λ p. Doing file elements all code result f inner item (Block body) p again) doing goes;
+          item = items again m (check + 1) on;
+          goes = map_reached file elements all typed known_fields code result g f there cs ds R Asked panics m (λ p. IsOn file elements all code result f (within_loop again) within p again) (λ p. Doing file elements all code result f (within_loop again) last (Block body) p again) (doing again) goes;
           turns = turns;
-          ends = subst (λ n. IsOn file elements all code result f l (drops n Skip) exit mid) many ends;
+          ends = subst (λ n. IsOn file elements all code result f l (drops n Skip) exit mid) (item_words e c) ends;
         }
+
+    -- a loop whose items go nowhere
+    bare_loop : (e : Expression) (body : Statements) (place : ℕ) (c : Channel' e) → Doing file elements all code result f l view (For (Range NoTarget e) body) place mid → (head : ℕ)
+        → IsOn file elements all code result f l (Cycle (receives (globals file) elements result view.site.layout e) (Seq (drops (wide_item e) Skip) (made_all (globals file) elements result (inside (item e).site) body).plan) Skip (drops (wide_item e) Skip)) head mid
+        → RangingAt file elements all code result f l (kept e) [] (zero_words (globals file).structs (element_kind (globals file) here e)) body head mid
+    bare_loop e body place c d head on =
+        let more = (grown_statements (globals file) elements result (inside (item e).site) body).words in
+        let most = d.fits.room in
+        loop_at e body c [] (drops (wide_item e) Skip) (made_all (globals file) elements result (inside (item e).site) body).plan (item e) (refl, refl) (omega (arith, more, most))
+        (λ again m p on. (subst (λ n. IsOn file elements all code result f (within_loop again) (drops n Skip) p m) (item_words e c) on, refl))
+        (λ again p on. record {
+          first = _;
+          breaks = true;
+          continues = true;
+          fine = fine_item file elements all code result f view fine e;
+          good = λ flaw x. d.good flaw (inr x);
+          makes = d.makes.1;
+          on = on;
+          fits = record { tables = d.fits.tables; room = most };
+        }) head on
 
     -- a loop over a channel whose items go nowhere
     pub bare_range_goes : (e : Expression) (body : Statements) (place : ℕ) → Doing file elements all code result f l view (For (Range NoTarget e) body) place mid → variables next ≡ variables view → G (statement_next file here k cs (For (Range NoTarget e) body)) (spots' place ls [])
