@@ -1,5 +1,5 @@
 -- Loops over channels begin.
-use Rattle.std.proofs.Common.{◌≡◌, ℕ, ◌+◌, ◌≤◌, Bool, true, false, List, [], ◌∷◌, ◌++◌, length, drop, Option, Some, None, refl, sym, ap, ◌∙◌, subst, arith, slice_get, inl, inr, bytes_eq}
+use Rattle.std.proofs.Common.{◌≡◌, ℕ, ◌+◌, ◌≤◌, Bool, true, false, List, [], ◌∷◌, ◌++◌, length, drop, Option, Some, None, IfSome, refl, sym, ap, ◌∙◌, subst, arith, slice_get, inl, inr, bytes_eq}
 use Rattle.std.specs.Bool.{Decides}
 use Rattle.std.proofs.lemmas.Slice.Eq.{bytes_eq-Decides}
 use Rattle.codegen_base.proofs.Assigned.{placed_new, stores_one, counted_words}
@@ -23,14 +23,14 @@ use Rattle.meaning.specs.Values.{words_in, known}
 use Rattle.meaning.specs.Variables.{Blocks, Destination, New, blank, declare, holding, entered as entered_blocks}
 use Rattle.meaning.specs.Expressions.{type_of as type_of'}
 use Rattle.meaning.specs.Tasks.{Ranging, Task, Head, EndBlock, Frame, Frames, frame}
-use Rattle.meaning.specs.Source.{globals, ranges, statement_next}
+use Rattle.meaning.specs.Source.{globals, channel as channel_value, valued, ranges, statement_next}
 use Rattle.meaning.specs.Destinations.{element_kind}
 use Rattle.codegen_base.specs.declared.element.Element.{Element}
 use Rattle.codegen_base.specs.Layouts.{keeping, carried, type_of}
 use Rattle.codegen_base.specs.Pushes.{drops}
 use Rattle.codegen_base.specs.Statements.{Local, width}
 use Rattle.codegen_base.specs.Elements.{shape_of}
-use Rattle.codegen_base.specs.Generated.{at, inside, receives, made_all}
+use Rattle.codegen_base.specs.Generated.{at, inside, keeps, receives, made_all}
 use Rattle.plan.specs.Plan.{Plan, Skip, Seq, Cycle}
 use Rattle.bytecode.specs.Machine.{put_at}
 use Rattle.plan.proofs.Words.{Words}
@@ -194,40 +194,48 @@ module _ (file : File) (elements : List Element) (all : AllWide (globals file).s
           fits = record { tables = d.fits.tables; room = most };
         }) head on
 
-    -- a loop over a channel whose items go nowhere
-    pub bare_range_goes : (e : Expression) (body : Statements) (place : ℕ) → Doing file elements all code result f l view (For (Range NoTarget e) body) place mid → variables next ≡ variables view → G (statement_next file here k cs (For (Range NoTarget e) body)) (spots' place ls [])
-    bare_range_goes e body place d same =
+    -- a range's channel is valued and kept
+    pub kept_goes : (e : Expression) (body : Statements) (destinations : List Destination) (first : ℕ) → Free (ExpressionHas (globals file) view.checked first e) → (c : Channel' e) → (scope_of (kept e)).words ≤ length f.locals → (place : ℕ) (o : Option ℕ) → IsOn file elements all code result f l (keeps (globals file) elements result view.site.layout e) place o
+        → IfSome o (λ p. RangingAt file elements all code result f l (kept e) destinations (zero_words (globals file).structs (element_kind (globals file) here e)) body p mid) → variables next ≡ variables view
+        → G (valued (channel_value file here k cs e) (ranges file here k cs destinations (element_kind (globals file) here e) body e)) (spots' place ls [])
+    kept_goes e body destinations first free c most place o on loop same =
         let structs = (globals file).structs in
         let K = type_of (globals file) elements (scope_of view) e in
-        let first = d.first + target_size NoTarget in
-        let s = view.checked in
-        let free : Free (ExpressionHas (globals file) s first e) = λ flaw x. d.good flaw (inl (inr (inl (inl (has_same (globals file) s.variables s.outer (length s.variables) s.words s.words e first flaw x))))) in
-        let c = channel_there file elements all typed known_fields code result g f there ds R Asked panics grounds ls l view fine e first free (λ flaw x. d.good flaw (inl (inr (inl (inr (inl (subst (λ o. ChannelHas o (nodes_of first e) flaw) (worth_same (globals file) s.variables s.outer (length s.variables) s.words s.words e) x))))))) in
         let v = kept e in
         let open' = fine_opened file elements all code result f view fine in
-        let tail : List Task = Head (Ranging [] (zero_words structs (element_kind (globals file) here e)) body) ∷ (EndBlock ∷ k) in
-        let sits : Sits file elements all code result f v l d.on.0 [] tail = (
+        let tail : List Task = Head (Ranging destinations (zero_words structs (element_kind (globals file) here e)) body) ∷ (EndBlock ∷ k) in
+        let sits : Sits file elements all code result f v l o [] tail = (
           v,
           (refl, refl),
           mid,
-          map_reached file elements all typed known_fields code result g f there cs ds R Asked panics d.on.0 _ (λ p. (◌≡◌ {A = List Word} [] []) × RangingAt file elements all code result f l v [] (zero_words structs (element_kind (globals file) here e)) body p mid × (variables v ≡ variables v)) (λ p on. (refl, bare_loop e body place c d p on, refl)) d.on.2,
+          map_reached file elements all typed known_fields code result g f there cs ds R Asked panics o _ (λ p. (◌≡◌ {A = List Word} [] []) × RangingAt file elements all code result f l v destinations (zero_words structs (element_kind (globals file) here e)) body p mid × (variables v ≡ variables v)) (λ p x. (refl, x, refl)) loop,
           mid,
           self_lead mid,
           end_sits file elements all typed known_fields code result g f there cs ds R Asked panics next v l mid r.0 k (inner_same file elements all typed known_fields code result g f there cs ds R Asked panics view next v same t.0 (inner_kept file elements all code result f view fine e)) r.1 r.2,
         ) in
-        channel_goes file elements all typed known_fields code result g f there ds R Asked panics grounds ls l view fine room h.holding e first free c k cs (ranges file here k cs [] (element_kind (globals file) here e) body e) _ d.on.0 place [] d.on.1
-        (λ w to on.
-        let more = (grown_statements (globals file) elements result (inside (inside v.site)) body).words in
-        let most = d.fits.room in
+        channel_goes file elements all typed known_fields code result g f there ds R Asked panics grounds ls l view fine room h.holding e first free c k cs (ranges file here k cs destinations (element_kind (globals file) here e) body e) _ o place [] on
+        (λ w to here-on.
         let full = h.full in
         let own-words : words_in structs K ≡ 1 = ap (words_in structs) c.own in
         let counted = counted_words structs all K in
         let ms = put_at (scope_of view).words (Chan w ∷ []) ls in
         let like : Like structs K (Chan w ∷ []) = subst (λ kind. Like structs kind (Chan w ∷ [])) (sym c.own) refl in
-        let stored = stores_one structs all (New blank K) K (Local (scope_of view).words (words_in structs K)) (Chan w ∷ []) (scope_of (opened view)) v.begins ls open'.placed h.holding (omega (arith, more, most, full)) (refl, refl) like in
+        let stored = stores_one structs all (New blank K) K (Local (scope_of view).words (words_in structs K)) (Chan w ∷ []) (scope_of (opened view)) v.begins ls open'.placed h.holding (omega (arith, most, full)) (refl, refl) like in
         let held : Held file elements all typed known_fields code result g f there cs ds R Asked panics ms v = record { holding = stored.holding; full = stored.many ∙ full } in
         let asked-is : frame (seen structs ms (variables v) v.begins) tail ≡ frame (declare (holding structs blank (type_of' (globals file) here e) (Chan w ∷ [])) (entered_blocks here)) tail =
         ap (λ (b : Blocks). frame b tail) (stored.seen_is ∙ ap (λ (b : Blocks). declare (holding structs blank K (Chan w ∷ [])) b) (seen_opened file elements all code result f ls view)
         ∙ ap (λ kind. declare (holding structs blank kind (Chan w ∷ [])) (entered_blocks here)) (sym (ap (λ o. known (default_type o)) (runs file elements all typed known_fields code result g f there ds R Asked panics grounds ls l view fine e)))) in
         subst (λ (a : Frame). G (Slides (a ∷ cs)) (spots' to ls (Chan w ∷ []))) asked-is
-        (spots' (to + 1) ms [], stores code g f there ds to ls [] (Chan w ∷ []) (scope_of view).words 1 on.0 refl (omega (arith, more, most, counted, own-words)) full, lands file elements all typed known_fields code result g f there cs ds R Asked panics fine_behind sitting back ms v l (to + 1) d.on.0 tail held on.1 sits))
+        (spots' (to + 1) ms [], stores code g f there ds to ls [] (Chan w ∷ []) (scope_of view).words 1 here-on.0 refl (omega (arith, most, counted, own-words)) full, lands file elements all typed known_fields code result g f there cs ds R Asked panics fine_behind sitting back ms v l (to + 1) o tail held here-on.1 sits))
+
+    -- a loop over a channel whose items go nowhere
+    pub bare_range_goes : (e : Expression) (body : Statements) (place : ℕ) → Doing file elements all code result f l view (For (Range NoTarget e) body) place mid → variables next ≡ variables view → G (statement_next file here k cs (For (Range NoTarget e) body)) (spots' place ls [])
+    bare_range_goes e body place d same =
+        let first = d.first + target_size NoTarget in
+        let s = view.checked in
+        let free : Free (ExpressionHas (globals file) s first e) = λ flaw x. d.good flaw (inl (inr (inl (inl (has_same (globals file) s.variables s.outer (length s.variables) s.words s.words e first flaw x))))) in
+        let c = channel_there file elements all typed known_fields code result g f there ds R Asked panics grounds ls l view fine e first free (λ flaw x. d.good flaw (inl (inr (inl (inr (inl (subst (λ o. ChannelHas o (nodes_of first e) flaw) (worth_same (globals file) s.variables s.outer (length s.variables) s.words s.words e) x))))))) in
+        let more = (grown_statements (globals file) elements result (inside (item e).site) body).words in
+        let most = d.fits.room in
+        kept_goes e body [] first free c (omega (arith, more, most)) place d.on.0 d.on.1
+        (map_reached file elements all typed known_fields code result g f there cs ds R Asked panics d.on.0 _ (λ p. RangingAt file elements all code result f l (kept e) [] (zero_words (globals file).structs (element_kind (globals file) here e)) body p mid) (λ p x. bare_loop e body place c d p x) d.on.2) same
