@@ -25,7 +25,7 @@ use Rattle.codegen_follows.proofs.Grown.{grown, grown_statements}
 use Rattle.codegen_follows.proofs.Narrowed.{unreached}
 use Rattle.codegen_follows.proofs.Unwound.{together_refl, together_on}
 
-take_front : (n : ℕ) (vs more : List Variable) → n ≤ length vs → take n (vs ++ more) ≡ take n vs
+pub take_front : (n : ℕ) (vs more : List Variable) → n ≤ length vs → take n (vs ++ more) ≡ take n vs
 take_front zero vs more le = refl
 take_front (suc n) [] more le = absurd (omega (arith, le))
 take_front (suc n) (v ∷ vs) more le = ap (λ (l : List Variable). v ∷ l) (take_front n vs more (omega (arith, le)))

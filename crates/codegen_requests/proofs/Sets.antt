@@ -35,7 +35,7 @@ use Rattle.codegen_base.proofs.Likeness.{assignable_zeros}
 use Rattle.codegen_base.proofs.Passed.{AllFit}
 use Rattle.codegen_base.proofs.Seen.{seen}
 use Rattle.codegen_base.proofs.Typing.{Free, FieldsKnown, Fits, fits, nodes_end, worth_there}
-use Rattle.codegen_follows.proofs.Paths.{AllKnown}
+use Rattle.codegen_steps.proofs.Paths.{AllKnown}
 use Rattle.codegen_follows.proofs.Stands.{Around, View, scope_of, variables, Together, IsOn, Fine}
 use Rattle.codegen_follows.proofs.Valued.{Goes}
 use Rattle.codegen_follows.proofs.Follows.{Held, Sitting, Rest}

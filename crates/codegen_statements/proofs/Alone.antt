@@ -18,7 +18,7 @@ use Rattle.codegen_base.proofs.Fields.{AllWide, AllTyped}
 use Rattle.codegen_base.proofs.Seen.{seen}
 use Rattle.codegen_base.proofs.Typing.{FieldsKnown}
 use Rattle.codegen_follows.proofs.Grown.{grown}
-use Rattle.codegen_follows.proofs.Paths.{AllKnown}
+use Rattle.codegen_steps.proofs.Paths.{AllKnown}
 use Rattle.codegen_follows.proofs.Stands.{Around, View, scope_of, variables, Together, behind, Doing}
 use Rattle.codegen_follows.proofs.Valued.{Goes}
 use Rattle.codegen_follows.proofs.Follows.{Held, Sitting, Rest}

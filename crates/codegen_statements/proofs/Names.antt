@@ -22,7 +22,7 @@ use Rattle.codegen_base.proofs.Fields.{AllWide}
 use Rattle.codegen_base.proofs.Likeness.{kinds_long}
 use Rattle.codegen_base.proofs.Seen.{seen_one, seen, last_split}
 use Rattle.codegen_base.proofs.Assigned.{IsSpot, behind_destination, behind_all, AreSpots}
-use Rattle.codegen_follows.proofs.Paths.{held_whole}
+use Rattle.codegen_steps.proofs.Paths.{held_whole}
 use Rattle.codegen_steps.proofs.Ranged.{own_block}
 use Rattle.codegen_follows.proofs.Stands.{View, scope_of, variables, Fine}
 

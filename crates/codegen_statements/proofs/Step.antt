@@ -19,7 +19,7 @@ use Rattle.plan.proofs.Steps.{spots}
 use Rattle.codegen_base.proofs.Fields.{AllWide, AllTyped}
 use Rattle.codegen_base.proofs.Seen.{seen}
 use Rattle.codegen_base.proofs.Typing.{FieldsKnown}
-use Rattle.codegen_follows.proofs.Paths.{AllKnown}
+use Rattle.codegen_steps.proofs.Paths.{AllKnown}
 use Rattle.codegen_follows.proofs.Stands.{Around, View, variables, Begins, Sits}
 use Rattle.codegen_follows.proofs.Begun.{FineBehind}
 use Rattle.codegen_follows.proofs.Valued.{Goes}

@@ -1,3 +1,4 @@
+pub mod Paths
 pub mod Spots
 pub mod Stored
 pub mod Taken
