@@ -12,6 +12,7 @@ use Rattle.codegen_base.specs.declared.element.Element.{Element}
 use Rattle.codegen_base.specs.Layouts.{Layout, entering, leaving, behind_simple}
 use Rattle.codegen_base.specs.Program.{noting_first}
 use Rattle.codegen_base.specs.Generated.{Site, Made, followed, ended, loop, tests, test_plan, made_any, made_post, made_if, made_else}
+use Rattle.codegen_base.specs.Grammar.{IsStill, StillAny}
 use Rattle.codegen_base.proofs.Alike.{Alike}
 use Rattle.codegen_base.proofs.Noted.{Grows}
 use Rattle.codegen_base.proofs.Typing.{Free, nodes_end, worth_there}
@@ -24,7 +25,7 @@ use Rattle.codegen_fine.proofs.Operations.{Functions}
 use Rattle.codegen_fine.proofs.Branches.{typed_test}
 use Rattle.codegen_fine.proofs.Places.{housed_of}
 use Rattle.codegen_fine.proofs.Layouts.{Longer, Begins, begins_before, Room, room_entering, room_leaving}
-use Rattle.codegen_fine.proofs.Simples.{Prints, IsStill, typed_still, typed_simple}
+use Rattle.codegen_fine.proofs.Simples.{Prints, typed_still, typed_simple}
 use Rattle.codegen_fine.proofs.Conditions.{condition_fits}
 use Rattle.codegen_fine.proofs.Before.{before_tabled, pushes_before}
 
@@ -125,11 +126,6 @@ module _ (globals : Globals) (elements : List Element) (code : Code) (f : CodeFu
     typed_any (Some simple) first a alike free all g fits =
         let d = typed_simple globals elements code f grounds functions site.layout room s alike site.prints simple first free all g fits.begins fits.prints in
         (record { runs = λ place tabled. d.leaves a [] [] refl; room = d.room }, d.alike)
-
--- a post statement declares nothing
-abbrev pub StillAny : Option Simple → Type 0
-StillAny None = Unit {0}
-StillAny (Some simple) = IsStill simple
 
 module _ (globals : Globals) (elements : List Element) (code : Code) (f : CodeFunction) (grounds : Grounds globals elements code) (functions : Functions globals elements code) where
   still_behind : (simple : Simple) (layout : Layout) → IsStill simple → behind_simple globals elements simple layout ≡ layout

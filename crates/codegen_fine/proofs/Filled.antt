@@ -22,20 +22,11 @@ use Rattle.codegen_base.specs.declared.element.Element.{Element}
 use Rattle.codegen_base.specs.declared.element.Element.TheVariants as elements
 use Rattle.codegen_base.specs.Elements.{word_kind, found_at, element_of, with_type, kinds_of, element_kinds}
 use Rattle.codegen_base.specs.Program.{elements_of, code_of}
+use Rattle.codegen_base.specs.Grammar.{AllNamed, NamedTops}
 use Rattle.codegen_base.proofs.Fields.{AllWide}
 use Rattle.codegen_base.proofs.Typing.{Free, broken}
 use Rattle.codegen_fine.proofs.Keeping.{tops_keeps}
 use Rattle.codegen_fine.proofs.Shapes.{last_or_old, mapped_from}
-
--- each group of fields declares a name
-abbrev pub AllNamed : List Declared → Type 0
-AllNamed [] = Unit {0}
-AllNamed (group ∷ rest) = (0 < length group.names) × AllNamed rest
-
-abbrev pub NamedTops : List Top → Type 0
-NamedTops [] = Unit {0}
-NamedTops (StructTop struct ∷ rest) = AllNamed struct.fields × NamedTops rest
-NamedTops (FunctionTop function ∷ rest) = NamedTops rest
 
 -- ---- structs that are named have numbers that are there
 

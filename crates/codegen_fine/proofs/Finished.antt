@@ -11,6 +11,7 @@ use Rattle.codegen_base.specs.declared.element.Element.{Element}
 use Rattle.codegen_base.specs.Program.{noting_statements}
 use Rattle.codegen_base.specs.Pushes.{pushes_zeros}
 use Rattle.codegen_base.specs.Generated.{Site, Made, made_of, followed, result_kinds, finished, made_all, made_body}
+use Rattle.codegen_base.specs.Grammar.{PostsAll}
 use Rattle.codegen_base.proofs.Alike.{Alike}
 use Rattle.codegen_base.proofs.Noted.{Grows}
 use Rattle.codegen_base.proofs.Typing.{Free}
@@ -24,7 +25,7 @@ use Rattle.codegen_fine.proofs.Makes.{noted_there}
 use Rattle.codegen_fine.proofs.Before.{before_ends, zeros_before}
 use Rattle.codegen_fine.proofs.Bodies.{Runs, IsMade, Fits, fits_first, runs_seq}
 use Rattle.codegen_fine.proofs.Returns.{IsResult}
-use Rattle.codegen_fine.proofs.Statements.{PostsAll, typed_statements}
+use Rattle.codegen_fine.proofs.Statements.{typed_statements}
 use Rattle.codegen_fine.proofs.Ranges.{typed_ranges}
 
 never_ends : (a b : Bool) → b ≡ false → (a && b) ≡ false

@@ -16,13 +16,13 @@ use Rattle.checker_operation.specs.Operations.{TypeHas}
 use Rattle.meaning.specs.Values.{known}
 use Rattle.codegen_base.specs.declared.element.Element.{Element}
 use Rattle.codegen_base.specs.Program.{noting, noting_any, noting_declared, noting_statements, noting_top, noting_tops, elements_of, code_of}
+use Rattle.codegen_base.specs.Grammar.{PostsTops}
 use Rattle.codegen_base.proofs.Noted.{Noted, Grows, grows_no, grows_on}
 use Rattle.codegen_base.proofs.Typing.{Free, broken}
 use Rattle.codegen_fine.proofs.Operands.{Grounds}
 use Rattle.codegen_fine.proofs.Operations.{Functions}
 use Rattle.codegen_fine.proofs.Makes.{written_noted}
 use Rattle.codegen_fine.proofs.Noting.{declared_grow, any_grows, statements_grow, tops_grow}
-use Rattle.codegen_fine.proofs.Statements.{PostsAll}
 use Rattle.codegen_fine.proofs.Wholes.{ParametersFine}
 use Rattle.codegen_fine.proofs.Programs.{AllFine, AllHold, file_functions}
 
@@ -32,12 +32,6 @@ there types kind first free = go (type_in types nothing_declared kind) refl wher
   go : (o : Option ValueType) → type_in types nothing_declared kind ≡ o → (t : ValueType) × (type_in types nothing_declared kind ≡ Some t)
   go None is = let b = broken rules.Visible (first + 1) (omega arith) in absurd (free b.0 (subst (λ o. TypeHas o first b.0) (sym is) b.1))
   go (Some t) is = (t, is)
-
--- no post statement of a file declares anything
-abbrev pub PostsTops : List Top → Type 0
-PostsTops [] = Unit {0}
-PostsTops (StructTop struct ∷ rest) = PostsTops rest
-PostsTops (FunctionTop function ∷ rest) = PostsAll function.body × PostsTops rest
 
 abbrev yielded : Yield → Option ValueType → Option ValueType
 yielded NoResult other = other

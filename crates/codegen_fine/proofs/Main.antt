@@ -24,13 +24,13 @@ use Rattle.codegen_base.specs.declared.element.Element.{Element}
 use Rattle.codegen_base.specs.Layouts.{empty, with_parameters}
 use Rattle.codegen_base.specs.Program.{label, result_of, made_function, function_code, functions_code, elements_of, code_of}
 use Rattle.codegen_base.specs.Generated.{result_kinds}
+use Rattle.codegen_base.specs.Grammar.{IsGrammatical, IsLimited}
 use Rattle.codegen_base.proofs.Typing.{Free, broken, not_false}
 use Rattle.plan.specs.Plan.{table_count}
-use Rattle.codegen_fine.proofs.Heads.{PostsTops}
 use Rattle.codegen_fine.proofs.Structs.{wide_of, grounds_of, file_verified}
 use Rattle.codegen_fine.proofs.Shapes.{shapes_there, shapes_short}
 use Rattle.codegen_fine.proofs.Limits.{Small, short_tops}
-use Rattle.codegen_fine.proofs.Filled.{NamedTops, shapes_filled}
+use Rattle.codegen_fine.proofs.Filled.{shapes_filled}
 
 abbrev first_place : {A : Type 0} → (A → Bool) → List A → Option ℕ
 first_place p [] = None
@@ -150,18 +150,15 @@ main_of_file file le free =
 all_at : {A : Type 0} (P : A → Type 0) (xs : List A) → All P xs → (n : ℕ) (x : A) → slice_get xs n ≡ Some x → P x
 all_at P xs all n x e = subst P (get_or_from_slice_get xs n x x e) (all n x (slice_get_within xs n x e))
 
--- the lists of a file are no longer than the parser lets them be
-abbrev pub IsLimited : File → Type 0
-IsLimited file = (most_entries file ≤ 64) × (most_clauses file ≤ 64)
-
 limited : (file : File) → IsLimited file → Small (λ l. longest l file)
 limited file most Entries = most.0
 limited file most SelectClauses = most.1
 
--- the code of a file that the checker takes keeps the verifier's rules, where no post statement declares anything, each group of fields declares a name,
--- and lists keep their limits
-pub typed_file : (file : File) → PostsTops file.tops → NamedTops file.tops → IsLimited file → IsTyped file → IsVerified (code_of file)
-typed_file file still named most typed =
+-- the code of a file that the checker takes keeps the verifier's rules
+pub typed_file : (file : File) → IsGrammatical file → IsLimited file → IsTyped file → IsVerified (code_of file)
+typed_file file grammatical most typed =
+    let still = grammatical.posts in
+    let named = grammatical.named in
     let free = free_of file typed in
     let wide = wide_of file free in
     let hold = file_verified file still free in

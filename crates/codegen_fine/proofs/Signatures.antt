@@ -23,6 +23,7 @@ use Rattle.codegen_base.specs.Layouts.{Layout, declaring, with_parameters}
 use Rattle.codegen_base.specs.Pushes.{pushes_zeros}
 use Rattle.codegen_base.specs.Program.{noting_any, noting_declared, noting_statements, noting_top, noting_tops, result_of, first_layout, made_function, function_code, functions_code, elements_of, code_of}
 use Rattle.codegen_base.specs.Generated.{Site, made_of, made_all, result_kinds}
+use Rattle.codegen_base.specs.Grammar.{PostsTops}
 use Rattle.codegen_base.proofs.Called.{KindsKnown}
 use Rattle.codegen_base.proofs.Noted.{Noted, Grows, grows_no, grows_on}
 use Rattle.codegen_base.proofs.Typing.{Free}
@@ -34,7 +35,7 @@ use Rattle.codegen_fine.proofs.Layouts.{longer_no}
 use Rattle.codegen_fine.proofs.Growing.{longer_statements, longer_unless}
 use Rattle.codegen_fine.proofs.Noting.{any_grows, statements_grow, tops_grow}
 use Rattle.codegen_fine.proofs.Wholes.{ParametersFine}
-use Rattle.codegen_fine.proofs.Heads.{PostsTops, groups_fine, result_fine, file_holds}
+use Rattle.codegen_fine.proofs.Heads.{groups_fine, result_fine, file_holds}
 use Rattle.codegen_fine.proofs.Programs.{AllHold}
 
 number_within : (fs : List Signature) (name : List ℕ) (n : ℕ) → function_number fs name ≡ Some n → n < length fs

@@ -9,6 +9,7 @@ use Rattle.codegen_base.specs.declared.element.Element.{Element}
 use Rattle.codegen_base.specs.Layouts.{Layout, behind_simple}
 use Rattle.codegen_base.specs.Program.{noting_simple}
 use Rattle.codegen_base.specs.Statements.{printed_part, simple_prints, simple_plan}
+use Rattle.codegen_base.specs.Grammar.{IsStill}
 use Rattle.codegen_base.proofs.Alike.{Alike}
 use Rattle.codegen_base.proofs.Noted.{Grows}
 use Rattle.codegen_base.proofs.Typing.{Free}
@@ -26,11 +27,6 @@ use Rattle.codegen_fine.proofs.Makes.{right_noted}
 -- print tables stand in the code from a number on
 abbrev pub Prints : Code → ℕ → List PrintTable → Type 0
 Prints code first xs = (n : ℕ) (x : PrintTable) → slice_get xs n ≡ Some x → slice_get code.prints (first + n) ≡ Some x
-
--- a statement that declares nothing
-abbrev pub IsStill : Simple → Type 0
-IsStill (Define names right) = ⊥
-IsStill simple = Unit {0}
 
 module _ (globals : Globals) (elements : List Element) (code : Code) (f : CodeFunction) (grounds : Grounds globals elements code) (functions : Functions globals elements code) where
   pub typed_still : (layout : Layout) (room : Room globals elements code f layout) (s : Scope) (sees : Sees s layout.scope) (q : ℕ) (simple : Simple) (first : ℕ) → IsStill simple → Free (SimpleHas globals s first simple) → (all : List Element) → Grows (noting_simple globals.types simple all) elements → Prints code q (simple_prints globals elements layout.scope simple)

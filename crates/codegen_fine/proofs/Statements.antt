@@ -18,6 +18,7 @@ use Rattle.codegen_base.specs.declared.element.Element.{Element}
 use Rattle.codegen_base.specs.Layouts.{Layout}
 use Rattle.codegen_base.specs.Program.{noting, noting_given, noting_first, noting_statement, noting_statements, noting_branch, noting_otherwise, noting_clauses}
 use Rattle.codegen_base.specs.Generated.{Site, Made, at, past, made_of, followed, ended, inside, loop, test_plan, made_any, made_post, made_else, item_site, with_way, comm_kinds, made_comm, made_select, made_ways, made_default, within_select, unless_ended, made, made_all, made_branch, made_otherwise}
+use Rattle.codegen_base.specs.Grammar.{PostsStill, PostsAll, PostsBranch, PostsOtherwise, PostsClauses, StillAny}
 use Rattle.codegen_base.proofs.Alike.{Alike, alike_entered, alike_left, type_alike}
 use Rattle.codegen_base.proofs.Noted.{Noted, Grows, grows_on}
 use Rattle.codegen_base.proofs.Typing.{Free, broken, not_false}
@@ -34,37 +35,11 @@ use Rattle.codegen_fine.proofs.Variables.{typed_typed, typed_untyped}
 use Rattle.codegen_fine.proofs.Simples.{typed_simple}
 use Rattle.codegen_fine.proofs.Growing.{longer_post, longer, longer_statements, longer_otherwise, longer_ways, longer_default, longer_as, longer_kept}
 use Rattle.codegen_fine.proofs.Noting.{given_grows, first_grows, statements_grow, otherwise_grows, clauses_grow}
-use Rattle.codegen_fine.proofs.Bodies.{prints_front, prints_back, StillAny, IsMade, IsMadeAlike, Fits, fits_first, fits_rest, fits_as, made_followed, made_ended, runs_if, runs_else, runs_loop, typed_any, typed_post}
+use Rattle.codegen_fine.proofs.Bodies.{prints_front, prints_back, IsMade, IsMadeAlike, Fits, fits_first, fits_rest, fits_as, made_followed, made_ended, runs_if, runs_else, runs_loop, typed_any, typed_post}
 use Rattle.codegen_fine.proofs.Sees.{Sees}
 use Rattle.codegen_fine.proofs.Comms.{comm_fine, comm_made}
 use Rattle.codegen_fine.proofs.Selects.{alike_step, alike_right, alike_clauses, comm_same, WaysOf, join_way, last_way, typed_choice}
 use Rattle.codegen_fine.proofs.Returns.{IsResult, typed_returned}
-
--- no post statement declares anything, as none does that a file can have
-abbrev mutual
-  pub PostsStill : Statement → Type 0
-  PostsStill (Block body) = PostsAll body
-  PostsStill (If branch) = PostsBranch branch
-  PostsStill (For (ForClauses first condition post) body) = StillAny post × PostsAll body
-  PostsStill (For head body) = PostsAll body
-  PostsStill (Select clauses) = PostsClauses clauses
-  PostsStill statement = Unit {0}
-
-  pub PostsAll : Statements → Type 0
-  PostsAll NoStatement = Unit {0}
-  PostsAll (Then first rest) = PostsStill first × PostsAll rest
-
-  pub PostsBranch : Branch → Type 0
-  PostsBranch (Conditional head condition body otherwise) = PostsAll body × PostsOtherwise otherwise
-
-  pub PostsOtherwise : Otherwise → Type 0
-  PostsOtherwise NoElse = Unit {0}
-  PostsOtherwise (ElseBlock body) = PostsAll body
-  PostsOtherwise (ElseIf branch) = PostsBranch branch
-
-  pub PostsClauses : Clauses → Type 0
-  PostsClauses NoClause = Unit {0}
-  PostsClauses (Clause comm body rest) = PostsAll body × PostsClauses rest
 
 abbrev allowed : Bool → Bool → Allowed
 allowed breaks continues = record { break = breaks; continue = continues }

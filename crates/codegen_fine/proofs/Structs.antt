@@ -20,6 +20,7 @@ use Rattle.meaning.specs.Values.{known}
 use Rattle.codegen_base.specs.declared.element.Element.{Element}
 use Rattle.codegen_base.specs.Elements.{word_kind, kinds_of, shape_of, shapes_of}
 use Rattle.codegen_base.specs.Program.{noting_top, noting_tops, elements_of, code_of}
+use Rattle.codegen_base.specs.Grammar.{PostsTops}
 use Rattle.codegen_base.proofs.Fields.{AllWide, AllTyped}
 use Rattle.codegen_base.proofs.Known.{FieldsNoted}
 use Rattle.codegen_base.proofs.Noted.{Noted, Grows, grows_no, grows_on, shape_there}
@@ -29,7 +30,7 @@ use Rattle.codegen_fine.proofs.Operands.{Grounds}
 use Rattle.codegen_fine.proofs.Layouts.{there_append}
 use Rattle.codegen_fine.proofs.Noting.{tops_grow}
 use Rattle.codegen_fine.proofs.Wholes.{ParametersFine}
-use Rattle.codegen_fine.proofs.Heads.{PostsTops, groups_fine}
+use Rattle.codegen_fine.proofs.Heads.{groups_fine}
 use Rattle.codegen_fine.proofs.Wide.{wide_all, none_endless}
 use Rattle.codegen_fine.proofs.Programs.{AllHold}
 use Rattle.codegen_fine.proofs.Signatures.{file_keeps}

@@ -15,6 +15,7 @@ use Rattle.codegen_base.specs.Layouts.{Layout, empty, declaring, with_parameters
 use Rattle.codegen_base.specs.Pushes.{pushes_zeros}
 use Rattle.codegen_base.specs.Program.{noting_statements, result_of, first_layout, made_function, function_code}
 use Rattle.codegen_base.specs.Generated.{Site, made_of, made_all, result_kinds}
+use Rattle.codegen_base.specs.Grammar.{PostsAll}
 use Rattle.codegen_base.proofs.Alike.{Alike, alike_refl, alike_declared}
 use Rattle.codegen_base.proofs.Noted.{Noted, Grows}
 use Rattle.codegen_base.proofs.Typing.{Free}
@@ -29,7 +30,6 @@ use Rattle.codegen_fine.proofs.Simples.{Prints}
 use Rattle.codegen_fine.proofs.Growing.{longer_statements, longer_unless}
 use Rattle.codegen_fine.proofs.Numbering.{numbered_body}
 use Rattle.codegen_fine.proofs.Returns.{IsResult}
-use Rattle.codegen_fine.proofs.Statements.{PostsAll}
 use Rattle.codegen_fine.proofs.Finished.{typed_body, result_there}
 
 module _ (globals : Globals) (elements : List Element) where
