@@ -1,10 +1,10 @@
 -- What a command finds in a text, and the exit status that tells it.
 use Rattle.std.proofs.Common.{◌≡◌, ℕ, ◌≤◌, ◌⊎◌, inl, inr, List, Result, Ok, Err, IfOk, IfErr, IsErrOf, refl, sym, ap, subst, arith}
-use Rattle.kendo.specs.Answers.{EndsAs, Finds, HasCode, HasReading, IsReason, IsStatus, MeansEnd, Tells}
+use Rattle.kendo.specs.Answers.{EndsAs, Finds, HasReading, IsReason, IsStatus, Tells}
 use Rattle.kendo.specs.declared.arguments.Subcommand.{Subcommand}
 use Rattle.kendo.specs.declared.arguments.Subcommand.TheVariants as subcommands
 use Rattle.kendo_base.specs.Outcome.{fault_status, report_status}
-use Rattle.kendo_base.specs.Reading.{HasNoReading, IsNotYet, IsOfText, IsRefusal, IsUncompiled, IsWhy, fault_number}
+use Rattle.kendo_base.specs.Reading.{HasNoReading, IsOfText, IsRefusal, IsWhy}
 use Rattle.kendo_base.specs.Runs.{IsWorkers}
 use Rattle.one_thread.specs.Worlds.{IsLimit}
 use Rattle.go_text.specs.declared.fault.Fault.{Fault}
@@ -32,11 +32,6 @@ unreadable subcommand text faults.BadLimit is none why = absurd (omega (arith, i
 unreadable subcommand text faults.Memory is none why = tt
 unreadable subcommand text faults.Write is none why = absurd (omega (arith, is))
 
--- why a program has no code
-list_not_compiled : (text : List ℕ) (fault : Fault) → IsNotYet fault → IsUncompiled text → IsReason subcommands.List text fault
-list_not_compiled text (faults.NotYet place) is beyond = beyond
-list_not_compiled text fault is beyond = absurd (omega (arith, is))
-
 pub check_finds : (text : List ℕ) (result : Result End Fault) → IfOk result (λ end. (end ≡ Finished) × HasReading text)
     → IfErr result IsOfText → IfErr result (λ fault. IsRefusal fault → HasNoReading text)
     → IfErr result (λ fault. IsRefusal fault → IsWhy text fault) → Finds subcommands.Check text result
@@ -44,14 +39,13 @@ check_finds text (Ok end) checked only refused why = checked
 check_finds text (Err fault) checked (inl is) refused why = unreadable subcommands.Check text fault is (refused is) (why is)
 check_finds text (Err fault) checked (inr is) refused why = subst (IsReason subcommands.Check text) (sym is) tt
 
-pub list_finds : (text : List ℕ) (result : Result End Fault) → IfOk result (λ end. (end ≡ Finished) × HasCode text)
-    → IfErr result (λ fault. IsRefusal fault ⊎ (IsNotYet fault ⊎ ((fault ≡ faults.Memory) ⊎ (fault ≡ faults.Write)))) → IfErr result (λ fault. IsRefusal fault → HasNoReading text)
-    → IfErr result (λ fault. IsRefusal fault → IsWhy text fault) → IfErr result (λ fault. IsNotYet fault → IsUncompiled text) → (IsErrOf result faults.Write → HasCode text) → Finds subcommands.List text result
-list_finds text (Ok end) listed only refused why not_yet write = listed
-list_finds text (Err fault) listed (inl is) refused why not_yet write = unreadable subcommands.List text fault is (refused is) (why is)
-list_finds text (Err fault) listed (inr (inl is)) refused why not_yet write = list_not_compiled text fault is (not_yet is)
-list_finds text (Err fault) listed (inr (inr (inl is))) refused why not_yet write = subst (IsReason subcommands.List text) (sym is) tt
-list_finds text (Err fault) listed (inr (inr (inr is))) refused why not_yet write = subst (IsReason subcommands.List text) (sym is) (write (ap (λ (f : Fault). Err f) is))
+pub list_finds : (text : List ℕ) (result : Result End Fault) → IfOk result (λ end. (end ≡ Finished) × HasReading text)
+    → IfErr result (λ fault. IsRefusal fault ⊎ ((fault ≡ faults.Memory) ⊎ (fault ≡ faults.Write))) → IfErr result (λ fault. IsRefusal fault → HasNoReading text)
+    → IfErr result (λ fault. IsRefusal fault → IsWhy text fault) → (IsErrOf result faults.Write → HasReading text) → Finds subcommands.List text result
+list_finds text (Ok end) listed only refused why write = listed
+list_finds text (Err fault) listed (inl is) refused why write = unreadable subcommands.List text fault is (refused is) (why is)
+list_finds text (Err fault) listed (inr (inl is)) refused why write = subst (IsReason subcommands.List text) (sym is) tt
+list_finds text (Err fault) listed (inr (inr is)) refused why write = subst (IsReason subcommands.List text) (sym is) (write (ap (λ (f : Fault). Err f) is))
 
 -- a fault of the interpreter that is no refusal of the text
 reference_reason : (limit : ℕ) (text : List ℕ) (fault : Fault) → (fault ≡ faults.Memory) ⊎ ((fault ≡ faults.Write) ⊎ (fault ≡ faults.BadLimit)) → (IsErrOf {T = End} (Err fault) faults.Write → HasReading text)
@@ -60,30 +54,28 @@ reference_reason limit text fault (inl is) write bad_limit = subst (IsReason (su
 reference_reason limit text fault (inr (inl is)) write bad_limit = subst (IsReason (subcommands.Reference limit) text) (sym is) (write (ap (λ (f : Fault). Err f) is))
 reference_reason limit text fault (inr (inr is)) write bad_limit = subst (IsReason (subcommands.Reference limit) text) (sym is) (bad_limit (ap (λ (f : Fault). Err f) is))
 
-pub reference_finds : (limit : ℕ) (text : List ℕ) (result : Result End Fault) → IfOk result (λ end. IsLimit limit × MeansEnd text limit end)
+pub reference_finds : (limit : ℕ) (text : List ℕ) (result : Result End Fault) → IfOk result (λ end. IsLimit limit × EndsAs text limit end)
     → IfErr result (λ fault. IsRefusal fault ⊎ ((fault ≡ faults.Memory) ⊎ ((fault ≡ faults.Write) ⊎ (fault ≡ faults.BadLimit)))) → IfErr result (λ fault. IsRefusal fault → HasNoReading text)
     → IfErr result (λ fault. IsRefusal fault → IsWhy text fault) → (IsErrOf result faults.Write → HasReading text) → (IsErrOf result faults.BadLimit → IsLimit limit → ⊥) → Finds (subcommands.Reference limit) text result
 reference_finds limit text (Ok end) ends only refused why write bad_limit = ends
 reference_finds limit text (Err fault) ends (inl is) refused why write bad_limit = unreadable (subcommands.Reference limit) text fault is (refused is) (why is)
 reference_finds limit text (Err fault) ends (inr is) refused why write bad_limit = reference_reason limit text fault is write bad_limit
 
--- a fault that is no refusal of the text
-run_reason : (workers limit : ℕ) (text : List ℕ) (fault : Fault) → 13 ≤ fault_number fault → (IsNotYet fault → IsUncompiled text) → (IsErrOf {T = End} (Err fault) faults.Write → HasCode text)
+-- a fault of a run that is no refusal of the text
+run_reason : (workers limit : ℕ) (text : List ℕ) (fault : Fault) → (fault ≡ faults.Memory) ⊎ ((fault ≡ faults.Write) ⊎ ((fault ≡ faults.BadWorkers) ⊎ (fault ≡ faults.BadLimit))) → (IsErrOf {T = End} (Err fault) faults.Write → HasReading text)
     → (IsErrOf {T = End} (Err fault) faults.BadWorkers → IsWorkers workers → ⊥) → (IsErrOf {T = End} (Err fault) faults.BadLimit → IsWorkers workers × (IsLimit limit → ⊥)) → IsReason (subcommands.Run workers limit) text fault
-run_reason workers limit text faults.Memory is not_yet write bad_workers bad_limit = tt
-run_reason workers limit text faults.Write is not_yet write bad_workers bad_limit = write refl
-run_reason workers limit text faults.BadWorkers is not_yet write bad_workers bad_limit = bad_workers refl
-run_reason workers limit text faults.BadLimit is not_yet write bad_workers bad_limit = bad_limit refl
-run_reason workers limit text (faults.NotYet place) is not_yet write bad_workers bad_limit = not_yet refl
-run_reason workers limit text fault is not_yet write bad_workers bad_limit = absurd (omega (arith, is))
+run_reason workers limit text fault (inl is) write bad_workers bad_limit = subst (IsReason (subcommands.Run workers limit) text) (sym is) tt
+run_reason workers limit text fault (inr (inl is)) write bad_workers bad_limit = subst (IsReason (subcommands.Run workers limit) text) (sym is) (write (ap (λ (f : Fault). Err f) is))
+run_reason workers limit text fault (inr (inr (inl is))) write bad_workers bad_limit = subst (IsReason (subcommands.Run workers limit) text) (sym is) (bad_workers (ap (λ (f : Fault). Err f) is))
+run_reason workers limit text fault (inr (inr (inr is))) write bad_workers bad_limit = subst (IsReason (subcommands.Run workers limit) text) (sym is) (bad_limit (ap (λ (f : Fault). Err f) is))
 
 pub run_finds : (workers limit : ℕ) (text : List ℕ) (result : Result End Fault) → IfOk result (λ end. IsWorkers workers × IsLimit limit × EndsAs text limit end)
-    → IfErr result (λ fault. IsRefusal fault ⊎ (13 ≤ fault_number fault)) → IfErr result (λ fault. IsRefusal fault → HasNoReading text)
-    → IfErr result (λ fault. IsRefusal fault → IsWhy text fault) → IfErr result (λ fault. IsNotYet fault → IsUncompiled text) → (IsErrOf result faults.Write → HasCode text)
+    → IfErr result (λ fault. IsRefusal fault ⊎ ((fault ≡ faults.Memory) ⊎ ((fault ≡ faults.Write) ⊎ ((fault ≡ faults.BadWorkers) ⊎ (fault ≡ faults.BadLimit))))) → IfErr result (λ fault. IsRefusal fault → HasNoReading text)
+    → IfErr result (λ fault. IsRefusal fault → IsWhy text fault) → (IsErrOf result faults.Write → HasReading text)
     → (IsErrOf result faults.BadWorkers → IsWorkers workers → ⊥) → (IsErrOf result faults.BadLimit → IsWorkers workers × (IsLimit limit → ⊥)) → Finds (subcommands.Run workers limit) text result
-run_finds workers limit text (Ok end) ends only refused why not_yet write bad_workers bad_limit = ends
-run_finds workers limit text (Err fault) ends (inl is) refused why not_yet write bad_workers bad_limit = unreadable (subcommands.Run workers limit) text fault is (refused is) (why is)
-run_finds workers limit text (Err fault) ends (inr is) refused why not_yet write bad_workers bad_limit = run_reason workers limit text fault is not_yet write bad_workers bad_limit
+run_finds workers limit text (Ok end) ends only refused why write bad_workers bad_limit = ends
+run_finds workers limit text (Err fault) ends (inl is) refused why write bad_workers bad_limit = unreadable (subcommands.Run workers limit) text fault is (refused is) (why is)
+run_finds workers limit text (Err fault) ends (inr is) refused why write bad_workers bad_limit = run_reason workers limit text fault is write bad_workers bad_limit
 
 pub told : (subcommand : Subcommand) (text : List ℕ) (outcome : Result End Fault) (status : ℕ) → Finds subcommand text outcome → status ≡ report_status outcome
     → (status ≡ 64) ⊎ Tells subcommand status

@@ -6,14 +6,13 @@ use Rattle.clap.specs.Simple.{subcommand_of}
 use Rattle.clap.specs.Words.{Text}
 use Rattle.clap.specs.declared.error.kind.ErrorKind.{ErrorKind}
 use Rattle.clap.specs.declared.error.kind.ErrorKind.TheVariants as kinds
-use Rattle.meaning.specs.Source.{source_kind as meaning}
-use Rattle.straight_checker.specs.Source.{source_kind}
+use Rattle.meaning.specs.Source.{source_kind}
 use Rattle.kendo.specs.CommandLine.{IsAsked, kendo}
 use Rattle.kendo.specs.declared.arguments.Subcommand.{Subcommand}
 use Rattle.kendo.specs.declared.arguments.Subcommand.TheVariants as subcommands
 use Rattle.kendo.specs.declared.arguments.Invocation.{Invocation}
 use Rattle.kendo_base.specs.Outcome.{report_status}
-use Rattle.kendo_base.specs.Reading.{HasNoReading, IsUncompiled, IsWhy, Reads, ReadsCompiled}
+use Rattle.kendo_base.specs.Reading.{HasNoReading, IsWhy, Reads}
 use Rattle.kendo_base.specs.Runs.{IsWorkers}
 use Rattle.one_thread.specs.Worlds.{IsLimit}
 use Rattle.go_text.specs.declared.fault.Fault.{Fault}
@@ -27,32 +26,21 @@ use Rattle.word.specs.Worlds.{end_of, moment}
 abbrev pub HasReading : List ℕ → Type 0
 HasReading text = (file : File) × Reads text file
 
--- the text has a reading, all of which is compiled today
-abbrev pub HasCode : List ℕ → Type 0
-HasCode text = (file : File) × ReadsCompiled text file
-
 -- the one-thread run of its reading at this limit ends so
 abbrev pub EndsAs : List ℕ → ℕ → End → Type 0
-EndsAs text limit end = (file : File) × (n : ℕ) × ReadsCompiled text file × (end_of (moment (source_kind file) limit n) ≡ Some end)
+EndsAs text limit end = (file : File) × (n : ℕ) × Reads text file × (end_of (moment (source_kind file) limit n) ≡ Some end)
 
--- the one-thread run of its reading, as the source itself says, at this limit ends so
-abbrev pub MeansEnd : List ℕ → ℕ → End → Type 0
-MeansEnd text limit end = (file : File) × (n : ℕ) × Reads text file × (end_of (moment (meaning file) limit n) ≡ Some end)
-
--- why the command finds no end: want of memory; a writer that refused bytes, of a text that has code, or a reading where no code is needed; workers or a limit
--- out of their bounds; that not all of the program is compiled today; or, by this fault, why the text has no reading
+-- why the command finds no end: want of memory; a writer that refused bytes, of a text that has a reading; workers or a limit out of their bounds; or, by
+-- this fault, why the text has no reading
 abbrev pub IsReason : Subcommand → List ℕ → Fault → Type 0
 IsReason subcommand text faults.Memory = Unit {0}
 IsReason subcommands.Check text faults.Write = ⊥
-IsReason subcommands.Check text (faults.NotYet place) = ⊥
 IsReason subcommands.Check text faults.BadWorkers = ⊥
 IsReason subcommands.Check text faults.BadLimit = ⊥
-IsReason (subcommands.Reference limit) text faults.Write = HasReading text
-IsReason (subcommands.Reference limit) text (faults.NotYet place) = ⊥
 IsReason (subcommands.Reference limit) text faults.BadWorkers = ⊥
 IsReason (subcommands.Reference limit) text faults.BadLimit = IsLimit limit → ⊥
-IsReason subcommand text faults.Write = HasCode text
-IsReason subcommand text (faults.NotYet place) = IsUncompiled text
+IsReason subcommand text faults.Write = HasReading text
+IsReason subcommand text (faults.NotYet place) = ⊥
 IsReason subcommands.List text faults.BadWorkers = ⊥
 IsReason subcommands.List text faults.BadLimit = ⊥
 IsReason (subcommands.Run workers limit) text faults.BadWorkers = IsWorkers workers → ⊥
@@ -61,11 +49,11 @@ IsReason subcommand text (faults.Unverified rule function place) = ⊥
 IsReason subcommand text faults.NotYours = ⊥
 IsReason subcommand text fault = HasNoReading text × IsWhy text fault
 
--- what the command finds in the text: that it has a reading, or code, or how its run ends, or why none of these
+-- what the command finds in the text: that it has a reading, or how its run ends, or why neither
 abbrev pub Finds : Subcommand → List ℕ → Result End Fault → Type 0
 Finds subcommands.Check text (Ok end) = (end ≡ Finished) × HasReading text
-Finds subcommands.List text (Ok end) = (end ≡ Finished) × HasCode text
-Finds (subcommands.Reference limit) text (Ok end) = IsLimit limit × MeansEnd text limit end
+Finds subcommands.List text (Ok end) = (end ≡ Finished) × HasReading text
+Finds (subcommands.Reference limit) text (Ok end) = IsLimit limit × EndsAs text limit end
 Finds (subcommands.Run workers limit) text (Ok end) = IsWorkers workers × IsLimit limit × EndsAs text limit end
 Finds subcommand text (Err fault) = IsReason subcommand text fault
 

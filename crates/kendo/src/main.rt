@@ -3,8 +3,8 @@
 
 ghost use Rattle.std.specs.Prelude.{◌≡◌, ◌⊎◌, ◌↔◌, ◌≤◌, IsErr, IsErrOf, IfErr, IfOk, map, string_bytes};
 ghost use Rattle.clap.specs.Values.{kind_of};
-ghost use Rattle.kendo.specs.Answers.{EndsAs, Finds, HasCode, HasReading, IsStatus, MeansEnd, Obeys, ShowsAs, Tells};
-ghost use Rattle.kendo_base.specs.Reading.{HasNoReading, IsNotYet, IsOfText, IsRefusal, IsUncompiled, IsWhy, fault_number};
+ghost use Rattle.kendo.specs.Answers.{EndsAs, Finds, HasReading, IsStatus, Obeys, ShowsAs, Tells};
+ghost use Rattle.kendo_base.specs.Reading.{HasNoReading, IsOfText, IsRefusal, IsWhy};
 ghost use Rattle.kendo_base.specs.Runs.{IsWorkers};
 ghost use Rattle.one_thread.specs.Worlds.{IsLimit};
 
@@ -196,12 +196,11 @@ fn check(alloc: Global, bytes: Vec<u8>) -> Result<End, Fault>
 
 /// Lists the code of the text on standard output, behind a buffer.
 fn list(rt: &HostRuntime, alloc: Global, bytes: Vec<u8>) -> Result<End, Fault>
-    ensures listed { IfOk result (λ end. (end ≡ End.Finished) × HasCode bytes.items) }
+    ensures listed { IfOk result (λ end. (end ≡ End.Finished) × HasReading bytes.items) }
     ensures refused { IfErr result (λ fault. IsRefusal fault → HasNoReading bytes.items) }
     ensures why { IfErr result (λ fault. IsRefusal fault → IsWhy bytes.items fault) }
-    ensures not_yet { IfErr result (λ fault. IsNotYet fault → IsUncompiled bytes.items) }
-    ensures write { IsErrOf result Fault.Write → HasCode bytes.items }
-    ensures only { IfErr result (λ fault. IsRefusal fault ⊎ (IsNotYet fault ⊎ ((fault ≡ Fault.Memory) ⊎ (fault ≡ Fault.Write)))) }
+    ensures write { IsErrOf result Fault.Write → HasReading bytes.items }
+    ensures only { IfErr result (λ fault. IsRefusal fault ⊎ ((fault ≡ Fault.Memory) ⊎ (fault ≡ Fault.Write))) }
 {
     let stdout = BufWriter::new(alloc, rt.stdout()).map_err(|_| Fault::Memory)?;
     let mut out = Flagged::new(stdout);
@@ -212,7 +211,7 @@ fn list(rt: &HostRuntime, alloc: Global, bytes: Vec<u8>) -> Result<End, Fault>
 
 /// Interprets the text as it stands, with standard output behind a buffer.
 fn interpret(rt: &HostRuntime, alloc: Global, bytes: Vec<u8>, limit: u64) -> Result<End, Fault>
-    ensures ends { IfOk result (λ end. IsLimit limit × MeansEnd bytes.items limit end) }
+    ensures ends { IfOk result (λ end. IsLimit limit × EndsAs bytes.items limit end) }
     ensures refused { IfErr result (λ fault. IsRefusal fault → HasNoReading bytes.items) }
     ensures why { IfErr result (λ fault. IsRefusal fault → IsWhy bytes.items fault) }
     ensures limit { IsErrOf result Fault.BadLimit → IsLimit limit → ⊥ }
@@ -240,9 +239,8 @@ fn run(
     ensures why { IfErr result (λ fault. IsRefusal fault → IsWhy bytes.items fault) }
     ensures workers { IsErrOf result Fault.BadWorkers → IsWorkers workers → ⊥ }
     ensures limit { IsErrOf result Fault.BadLimit → IsWorkers workers × (IsLimit limit → ⊥) }
-    ensures not_yet { IfErr result (λ fault. IsNotYet fault → IsUncompiled bytes.items) }
-    ensures write { IsErrOf result Fault.Write → HasCode bytes.items }
-    ensures only { IfErr result (λ fault. IsRefusal fault ⊎ (13 ≤ fault_number fault)) }
+    ensures write { IsErrOf result Fault.Write → HasReading bytes.items }
+    ensures only { IfErr result (λ fault. IsRefusal fault ⊎ ((fault ≡ Fault.Memory) ⊎ ((fault ≡ Fault.Write) ⊎ ((fault ≡ Fault.BadWorkers) ⊎ (fault ≡ Fault.BadLimit))))) }
 {
     let stdout = BufWriter::new(alloc, rt.stdout()).map_err(|_| Fault::Memory)?;
     let mut out = Flagged::new(stdout);

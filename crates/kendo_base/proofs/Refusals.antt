@@ -16,7 +16,7 @@ use Rattle.spans.specs.Places.{file_spans}
 use Rattle.syntax.specs.Spans.{tree_of, spans_of}
 use Rattle.syntax.specs.Tree.{File}
 use Rattle.syntax.specs.Measures.{height, most_entries, most_clauses}
-use Rattle.kendo_base.specs.Reading.{Reads, IsCompiled, IsUncompiled, HasNoReading, HasNoTree, IsUnspelt, IsUnread, IsWrong, IsWhy, located_in}
+use Rattle.kendo_base.specs.Reading.{Reads, HasNoReading, HasNoTree, IsUnspelt, IsUnread, IsWrong, IsWhy, located_in}
 
 same_tokens : {E : Type 0} (r : Result (List Token) E) (ts us : List Token) → r ≡ Ok ts → r ≡ Ok us → ts ≡ us
 same_tokens (Ok vs) ts us a b = cc
@@ -55,6 +55,3 @@ Wrong text tree told = (told ≡ faults.Memory) ⊎ ((fault : Fault) × Tells tr
 pub wrong : (bytes text : List ℕ) (ts : List Token) (tree : Tree) {told : Fault} → text ≡ bytes → length text ≤ MAX_LENGTH → IsUtf8 text → tokens_of text ≡ Ok ts → Spells (lexemes text ts) (tree_of tree) → spans_of tree ≡ file_spans ts (tree_of tree) → height (tree_of tree) ≤ 200 → most_entries (tree_of tree) ≤ 64 → most_clauses (tree_of tree) ≤ 64 → Wrong text tree told → Explained bytes told
 wrong bytes text ts tree same short utf8 scanned spelt placed low few clauses (inl memory) = inl memory
 wrong bytes text ts tree same short utf8 scanned spelt placed low few clauses (inr w) = explains bytes text same (inr (w.0, IsWrong short utf8 tree (record { tokens = ts; scanned = scanned; spelt = spelt; placed = placed; low = low; few = few; clauses = clauses }) w.1, w.2))
-
-pub uncompiled : (text : List ℕ) (file : File) → Reads text file → ¬ (IsCompiled file) → IsUncompiled text
-uncompiled text file reads beyond = record { file = file; reads = reads; beyond = beyond }

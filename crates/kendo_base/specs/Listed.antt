@@ -5,7 +5,7 @@ use Rattle.bytecode.specs.Code.{Code}
 use Rattle.bytecode.specs.Listing.{listing}
 use Rattle.bytecode.specs.Machine.{code_kind}
 use Rattle.bytecode.specs.Rules.{IsVerified}
-use Rattle.straight_checker.specs.Source.{source_kind}
+use Rattle.meaning.specs.Source.{source_kind}
 use Rattle.syntax.specs.Tree.{File}
 use Rattle.word.specs.Worlds.{Equal}
 

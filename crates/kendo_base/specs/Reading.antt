@@ -17,8 +17,6 @@ use Rattle.spans.specs.Places.{file_spans}
 use Rattle.syntax.specs.Spans.{tree_of, spans_of}
 use Rattle.syntax.specs.Tree.{File}
 use Rattle.syntax.specs.Measures.{height, most_entries, most_clauses}
-use Rattle.straight_checker.specs.Built.{IsBuilt}
-use Rattle.straight_checker.specs.Rules.{IsTyped as IsStraight}
 
 -- the file spells the tokens of the text, within all limits, and no typing rule is broken
 pub record Reads (text : List ℕ) (file : File) : Type 0 where
@@ -31,22 +29,6 @@ pub record Reads (text : List ℕ) (file : File) : Type 0 where
   pub few : most_entries file ≤ 64
   pub clauses : most_clauses file ≤ 64
   pub typed : IsTyped file
-
--- all of the file is compiled today: its forms are those of straight-line programs, and it keeps their rules
-pub record IsCompiled (file : File) : Type 0 where
-  pub built : IsBuilt file
-  pub straight : IsStraight file
-
--- the file is the program that the text is, and all of it is compiled today
-pub record ReadsCompiled (text : List ℕ) (file : File) : Type 0 where
-  pub reads : Reads text file
-  pub compiled : IsCompiled file
-
--- the text is a program not all of which is compiled today
-pub record IsUncompiled (text : List ℕ) : Type 0 where
-  pub file : File
-  pub reads : Reads text file
-  pub beyond : ¬ (IsCompiled file)
 
 -- the text has no reading
 abbrev pub HasNoReading : List ℕ → Type 0
@@ -75,10 +57,6 @@ fault_number (faults.NotYet place) = 17
 -- a text without a reading is refused by the numbers 1 to 10
 abbrev pub IsRefusal : Fault → Type 0
 IsRefusal fault = fault_number fault ≤ 10
-
--- a program not all of which is compiled today is refused by 17
-abbrev pub IsNotYet : Fault → Type 0
-IsNotYet fault = fault_number fault ≡ 17
 
 -- a refusal of the text, or want of memory
 abbrev pub IsOfText : Fault → Type 0

@@ -13,9 +13,7 @@ ghost use Rattle.syntax.specs.declared.tree.Tree.{Tree as OneTree};
 ghost use Rattle.spans.specs.Places.{file_spans};
 ghost use Rattle.syntax.specs.Spans.{tree_of, spans_of};
 ghost use Rattle.syntax.specs.Measures.{height, most_entries, most_clauses};
-ghost use Rattle.straight_checker.specs.Program.{Tells as TellsStraight};
-ghost use Rattle.straight_checker.specs.Typed.{tree_in as straight_tree};
-ghost use Rattle.kendo_base.specs.Reading.{HasNoReading, HasNoTokens, HasNoTree, IsCompiled, IsNotYet, IsOfText, IsRefusal, IsUncompiled, IsUnspelt, IsWhy, Reads, ReadsCompiled, located_in};
+ghost use Rattle.kendo_base.specs.Reading.{HasNoReading, HasNoTokens, HasNoTree, IsOfText, IsRefusal, IsUnspelt, IsWhy, Reads, located_in};
 
 use checker::{Typed, check};
 use go_text::source::MAX_LENGTH;
@@ -23,7 +21,6 @@ use go_text::{Fault, Place, Source};
 use parser::parse;
 use scanner::{Token, scan};
 use std::alloc::Global;
-use straight_checker as straight;
 use syntax::Tree;
 
 /// The text, and the checked program that it is, or why it is none, with line and column.
@@ -42,49 +39,6 @@ pub(crate) fn read(alloc: Global, bytes: Vec<u8>) -> Result<(Source, Typed), Fau
     let tree = tree(alloc, &source, tokens.as_slice())?;
     let typed = checked(alloc, &source, tree)?;
     Ok((source, typed))
-}
-
-/// The program that a text is, all of which is compiled today, or why it is none, with line and column.
-///
-/// Errors: those of a text without a reading; `NotYet` where a part of the program is not compiled yet; `Memory`.
-#[tactic(auto, using(crate::proofs::Refusals::uncompiled))]
-pub(crate) fn read_compiled(alloc: Global, bytes: Vec<u8>) -> Result<straight::Typed, Fault>
-    ensures reads { IfOk result (λ typed. ReadsCompiled bytes.items (tree_of (straight_tree typed))) }
-    ensures refused { IfErr result (λ fault. IsRefusal fault → HasNoReading bytes.items) }
-    ensures why { IfErr result (λ fault. IsRefusal fault → IsWhy bytes.items fault) }
-    ensures not_yet { IfErr result (λ fault. IsNotYet fault → IsUncompiled bytes.items) }
-    ensures only { IfErr result (λ fault. IsOfText fault ⊎ IsNotYet fault) }
-{
-    let (source, typed) = read(alloc, bytes)?;
-    let straight = compiled(alloc, &source, typed.into_tree())?;
-    Ok(straight)
-}
-
-/// The tree, if all of it is compiled today.
-fn compiled(alloc: Global, source: &Source, tree: Tree) -> Result<straight::Typed, Fault>
-    ensures tree { IfOk result (λ typed. straight_tree typed ≡ tree) }
-    ensures compiled { IfOk result (λ _. IsCompiled (tree_of tree)) }
-    ensures beyond { IfErr result (λ fault. (fault ≡ Fault.Memory) ⊎ (IsNotYet fault × ¬ (IsCompiled (tree_of tree)))) }
-{
-    match straight::check(alloc, tree) {
-        Ok(typed) => Ok(typed),
-        Err(fault) => Err(not_yet(source, fault)),
-    }
-}
-
-/// The refusal of a program for what is not compiled yet, at the same place, with line and column.
-fn not_yet(source: &Source, fault: Fault) -> Fault
-    requires told { (fault ≡ Fault.Memory) ⊎ ((tree : OneTree) × TellsStraight tree fault) }
-    ensures memory { fault ≡ Fault.Memory → result ≡ Fault.Memory }
-    ensures other { (fault ≡ Fault.Memory → ⊥) → IsNotYet result }
-{
-    match fault {
-        Fault::Memory => Fault::Memory,
-        Fault::NotYet(place) | Fault::Typing { place, .. } | Fault::Limit { place, .. } => {
-            located(source, Fault::NotYet(place))
-        }
-        _ => unreachable!(),
-    }
 }
 
 /// The tokens of a text.

@@ -1,14 +1,14 @@
 //! From bytes to bytes.
 
 ghost use Rattle.std.specs.Prelude.{◌≡◌, ◌≤◌, ◌⊎◌, ◌↔◌, IfErr, IfOk, IsErrOf, true};
-ghost use Rattle.straight_checker.specs.Source.{source_kind};
-ghost use Rattle.kendo_base.specs.Reading.{HasNoReading, IsNotYet, IsRefusal, IsUncompiled, IsWhy, ReadsCompiled, fault_number};
+ghost use Rattle.meaning.specs.Source.{source_kind};
+ghost use Rattle.kendo_base.specs.Reading.{HasNoReading, IsRefusal, IsWhy, Reads};
 ghost use Rattle.kendo_base.specs.Runs.{IsWorkers};
 ghost use Rattle.one_thread.specs.Worlds.{BeginsOutput, IsLimit, IsWhole};
 ghost use Rattle.syntax.specs.Tree.{File};
 
 use crate::gate::Gate;
-use crate::reading::read_compiled;
+use crate::reading::read;
 use crate::running::run_typed;
 use go_text::Fault;
 use std::alloc::Global;
@@ -18,8 +18,10 @@ use word::end::End;
 
 /// Runs the program that a text is, up to the clock limit (1 to 2^62 steps) on 1 to 64 workers,
 /// and answers how it ended. What is written begins the output of the one-thread run; at an end
-/// it is all of it. A text without a reading, and a program not all of which is compiled yet, is refused before anything is
-/// written.
+/// it is all of it. A text without a reading is refused before anything is written.
+///
+/// Errors: by the numbers 1 to 10 why it is none, with line and column; `Memory`; `Write`; `BadWorkers`; `BadLimit`.
+#[tactic(auto, using(crate::proofs::Spelled::grammatical, crate::proofs::Spelled::limited))]
 pub fn run_bytes<R: Wait, G: Gate, O: Write, T: Write>(
     rt: &R,
     alloc: Global,
@@ -34,13 +36,12 @@ pub fn run_bytes<R: Wait, G: Gate, O: Write, T: Write>(
     ensures limit { IsErrOf result Fault.BadLimit ↔ (IsWorkers workers × (IsLimit limit → ⊥)) }
     ensures refused { IfErr result (λ fault. IsRefusal fault → HasNoReading bytes.items) }
     ensures why { IfErr result (λ fault. IsRefusal fault → IsWhy bytes.items fault) }
-    ensures not_yet { IfErr result (λ fault. IsNotYet fault → IsUncompiled bytes.items) }
-    ensures only { IfErr result (λ fault. IsRefusal fault ⊎ (13 ≤ fault_number fault)) }
-    ensures begins { (O.contents out.new ≡ O.contents out.old) ⊎ ((file : File) × ReadsCompiled bytes.items file × BeginsOutput (source_kind file) limit (O.contents out.old) (O.contents out.new)) }
+    ensures only { IfErr result (λ fault. IsRefusal fault ⊎ ((fault ≡ Fault.Memory) ⊎ ((fault ≡ Fault.Write) ⊎ ((fault ≡ Fault.BadWorkers) ⊎ (fault ≡ Fault.BadLimit))))) }
+    ensures begins { (O.contents out.new ≡ O.contents out.old) ⊎ ((file : File) × Reads bytes.items file × BeginsOutput (source_kind file) limit (O.contents out.old) (O.contents out.new)) }
     ensures nothing { IfErr result (λ fault. (fault ≡ Fault.Memory → ⊥) → (fault ≡ Fault.Write → ⊥) → O.contents out.new ≡ O.contents out.old) }
-    ensures whole { IfOk result (λ end. (file : File) × ReadsCompiled bytes.items file × IsWhole (source_kind file) limit (O.contents out.old) (O.contents out.new) end) }
+    ensures whole { IfOk result (λ end. (file : File) × Reads bytes.items file × IsWhole (source_kind file) limit (O.contents out.old) (O.contents out.new) end) }
     ensures write { IsErrOf result Fault.Write → O.has_failed out.new ≡ true }
-    ensures reading { IsErrOf result Fault.Write → (file : File) × ReadsCompiled bytes.items file }
+    ensures reading { IsErrOf result Fault.Write → (file : File) × Reads bytes.items file }
     ensures trace { _trace.new ≡ _trace.old }
 {
     if workers < 1 || workers > 64 {
@@ -49,7 +50,7 @@ pub fn run_bytes<R: Wait, G: Gate, O: Write, T: Write>(
     if limit < 1 || limit > 1 << 62 {
         return Err(Fault::BadLimit);
     }
-    let typed = read_compiled(alloc, bytes)?;
+    let (_source, typed) = read(alloc, bytes)?;
     let end = run_typed(rt, alloc, &typed, limit, out)?;
     Ok(end)
 }

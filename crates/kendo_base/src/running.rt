@@ -1,21 +1,21 @@
 //! A run of a program on the calling thread.
 
-ghost use Rattle.std.specs.Prelude.{◌≡◌, ◌+◌, ◌≤◌, ◌⊎◌, [], ℕ, IfErr, IfOk, IfSome, IsErrOf, List, OnOk, Option, length, true};
+ghost use Rattle.std.specs.Prelude.{◌≡◌, ◌+◌, ◌⊎◌, [], ℕ, IfErr, IfOk, IfSome, IsErrOf, List, OnOk, Option, length, true};
 ghost use Rattle.bytecode.specs.Machine.{code_kind};
-ghost use Rattle.straight_checker.specs.Source.{source_kind};
-ghost use Rattle.straight_checker.specs.Typed.{tree_in};
+ghost use Rattle.checker.specs.Trees.{tree_in};
+ghost use Rattle.codegen_base.specs.Grammar.{IsGrammatical, IsLimited};
+ghost use Rattle.meaning.specs.Source.{source_kind};
 ghost use Rattle.syntax.specs.Spans.{tree_of};
-ghost use Rattle.syntax.specs.Measures.{most_entries};
 ghost use Rattle.kendo_base.specs.Runs.{HasEnded, IsInStep, IsSameRun, Written};
 ghost use Rattle.one_thread.specs.Worlds.{BeginsOutput, IsLimit, IsWhole};
 
 use book::{Book, Settled};
+use checker::Typed;
 use codegen::compile;
 use go_text::Fault;
 use output::{Kind, Progress, drain_next};
 use std::alloc::Global;
 use std::sync::{Arc, Wait};
-use straight_checker::Typed;
 use verifier::{Verified, verify};
 use word::Write;
 use word::end::End;
@@ -32,7 +32,8 @@ pub(crate) fn run_typed<R: Wait, O: Write>(
     out: &mut O,
 ) -> Result<End, Fault>
     requires limit { IsLimit limit }
-    requires entries { most_entries (tree_of (tree_in typed.now)) ≤ 64 }
+    requires grammatical { IsGrammatical (tree_of (tree_in typed.now)) }
+    requires lists { IsLimited (tree_of (tree_in typed.now)) }
     ensures begins { BeginsOutput (source_kind (tree_of (tree_in typed.now))) limit (O.contents out.old) (O.contents out.new) }
     ensures whole { IfOk result (λ end. IsWhole (source_kind (tree_of (tree_in typed.now))) limit (O.contents out.old) (O.contents out.new) end) }
     ensures write { IsErrOf result Fault.Write → O.has_failed out.new ≡ true }

@@ -1,17 +1,17 @@
 //! What is made of a text before it runs: its tokens, its tree, its code.
 
-ghost use Rattle.std.specs.Prelude.{◌≤◌, IfOk};
-ghost use Rattle.syntax.specs.Measures.{most_entries};
+ghost use Rattle.std.specs.Prelude.{IfOk};
+ghost use Rattle.codegen_base.specs.Grammar.{IsGrammatical, IsLimited};
 ghost use Rattle.syntax.specs.Spans.{tree_of};
 
 use crate::flaw::{Flaw, shown};
+use checker::check;
 use codegen::compile;
 use go_text::{Fault, Source, Span};
 use kendo_base::list_bytes;
 use parser::parse;
 use scanner::{Token, scan};
 use std::alloc::Global;
-use straight_checker::check;
 use syntax::Tree;
 use verifier::{Verified, verify};
 use word::Flagged;
@@ -62,8 +62,10 @@ pub(crate) fn program(alloc: Global, text: &[u8]) -> Result<Verified, Fault> {
 }
 
 /// The tree of a text.
+#[tactic(auto, using(kendo_base::proofs::Spelled::spelled))]
 fn tree(alloc: Global, text: &[u8]) -> Result<Tree, Fault>
-    ensures few { IfOk result (λ tree. most_entries (tree_of tree) ≤ 64) }
+    ensures grammatical { IfOk result (λ tree. IsGrammatical (tree_of tree)) }
+    ensures limited { IfOk result (λ tree. IsLimited (tree_of tree)) }
 {
     let source = Source::new(Vec::from_slice(alloc, text)?)?;
     let tokens = scan(alloc, &source)?;

@@ -17,8 +17,6 @@ pub(crate) struct Row {
     pub status: u8,
     /// The line on standard error; where it ends in `..`, what stands before that begins it.
     pub error: String,
-    /// Whether the program is not compiled yet: then the interpreter alone runs it.
-    pub interpreted: bool,
 }
 
 impl Row {
@@ -29,7 +27,6 @@ impl Row {
             workers: Vec::from_slice(alloc, &[1, 2, 64])?,
             status: 0,
             error: String::new(alloc),
-            interpreted: false,
         })
     }
 
@@ -47,10 +44,6 @@ impl Row {
     /// Takes a line: a word, a space and its value, or a comment. False where it has no such form.
     fn take(&mut self, alloc: Global, line: &str) -> Result<bool, AllocError> {
         if line.is_empty() || line.starts_with('#') {
-            return Ok(true);
-        }
-        if line == "interpreted" {
-            self.interpreted = true;
             return Ok(true);
         }
         match line.split_once(' ') {

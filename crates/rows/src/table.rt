@@ -13,14 +13,12 @@ use word::end::End;
 enum Told<'a> {
     /// The scanner and the parser take it, whatever the checker says of it.
     Read,
-    /// Each of its beginnings is refused: as 7, 9 or 17.
+    /// Each of its beginnings is refused: as 7 or 9.
     Cuts,
-    /// The checker takes it, whether or not all of it is compiled.
+    /// The checker takes it.
     Typed,
     /// It finishes, and writes this.
     Prints(&'a str),
-    /// It is not compiled yet; by the interpreter it finishes, and writes this.
-    Interprets(&'a str),
     /// It is refused with this line, behind `kendo: `.
     Refused(&'a str),
 }
@@ -81,8 +79,7 @@ impl Table {
                     &line,
                 )
             }
-            Told::Prints(output) => check_output(rt, alloc, text.as_slice(), output, false),
-            Told::Interprets(output) => check_output(rt, alloc, text.as_slice(), output, true),
+            Told::Prints(output) => check_output(rt, alloc, text.as_slice(), output),
             Told::Refused(told) => {
                 let row = refused(alloc, told)?;
                 check_runs(rt, alloc, text.as_slice(), &row, b"".as_slice())
@@ -97,11 +94,9 @@ fn check_output<R: Wait>(
     alloc: Global,
     text: &[u8],
     output: &str,
-    interpreted: bool,
 ) -> Result<(), Flaw> {
     let output = bytes_of(alloc, output)?;
-    let mut row = Row::new(alloc)?;
-    row.interpreted = interpreted;
+    let row = Row::new(alloc)?;
     check_runs(rt, alloc, text, &row, output.as_slice())
 }
 
@@ -112,7 +107,6 @@ fn told_of(words: &str) -> Told<'_> {
         ("cuts", _) => Told::Cuts,
         ("typed", _) => Told::Typed,
         ("prints", output) => Told::Prints(output),
-        ("interprets", output) => Told::Interprets(output),
         _ => Told::Refused(words),
     }
 }
@@ -128,7 +122,7 @@ fn refused(alloc: Global, told: &str) -> Result<Row, AllocError> {
 /// Whether the scanner and the parser took the text of a run.
 fn was_read(outcome: &Result<End, Fault>) -> bool {
     match outcome {
-        Ok(_) | Err(Fault::NotYet(_) | Fault::Typing { .. }) => true,
+        Ok(_) | Err(Fault::Typing { .. }) => true,
         Err(Fault::Limit { kind, .. }) => !matches!(
             kind,
             LimitKind::ListEntries | LimitKind::SelectClauses
@@ -155,12 +149,12 @@ fn check_cuts<R: Wait>(rt: &R, alloc: Global, text: &[u8]) -> Result<(), Flaw> {
         let ran = Ran::of(rt, alloc, &text[..length], LIMIT, 1)?;
         let is_refused = matches!(
             &ran.outcome,
-            Err(Fault::Syntax(_) | Fault::NotYet(_) | Fault::Typing { .. })
+            Err(Fault::Syntax(_) | Fault::Typing { .. })
         );
         if !is_refused {
             let line = shown(alloc, &ran.line, 0)?;
             return Err(Flaw::Outcome {
-                wanted: "a refusal 7, 9 or 17 of each beginning",
+                wanted: "a refusal 7 or 9 of each beginning",
                 came: format!(in alloc; "{line} of {length} bytes")?,
             });
         }

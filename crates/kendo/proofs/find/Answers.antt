@@ -8,7 +8,7 @@ pub returns-in-Run : goal.returns-in-Run
 returns-in-Run g c =
     let r = c.run.ensures in
     let text = c.args.bytes.items in
-    subst (λ (s : Subcommand). Finds s text c.run.result) (sym c.in-Run.is) (run_finds c.in-Run.workers c.in-Run.limit text c.run.result r.ends r.only r.refused r.why r.not_yet r.write r.workers r.limit)
+    subst (λ (s : Subcommand). Finds s text c.run.result) (sym c.in-Run.is) (run_finds c.in-Run.workers c.in-Run.limit text c.run.result r.ends r.only r.refused r.why r.write r.workers r.limit)
 
 pub returns-in-Reference : goal.returns-in-Reference
 returns-in-Reference g c =

@@ -5,8 +5,3 @@ pub returns-in_err-list_bytes-clause-refused : goal.returns-in_err-list_bytes-cl
 returns-in_err-list_bytes-clause-refused c =
     let p = err_from_is_err_and c.from_residual-in_err-list_bytes.result c.from_residual-in_err-list_bytes.ensures.1 in
     rw (p.1, p.2) c.in_err-list_bytes.ensures.refused
-
-pub returns-in_err-list_bytes-clause-not_yet : goal.returns-in_err-list_bytes-clause-not_yet
-returns-in_err-list_bytes-clause-not_yet c =
-    let p = err_from_is_err_and c.from_residual-in_err-list_bytes.result c.from_residual-in_err-list_bytes.ensures.1 in
-    rw (p.1, p.2) c.in_err-list_bytes.ensures.not_yet

@@ -10,8 +10,3 @@ pub returns-in_err-end-clause-why : goal.returns-in_err-end-clause-why
 returns-in_err-end-clause-why g c =
     let p = err_from_is_err_and c.from_residual-in_err-end.result c.from_residual-in_err-end.ensures.1 in
     rw (p.1, p.2) c.in_err-end.ensures.why
-
-pub returns-in_err-end-clause-not_yet : goal.returns-in_err-end-clause-not_yet
-returns-in_err-end-clause-not_yet g c =
-    let p = err_from_is_err_and c.from_residual-in_err-end.result c.from_residual-in_err-end.ensures.1 in
-    rw (p.1, p.2) c.in_err-end.ensures.not_yet

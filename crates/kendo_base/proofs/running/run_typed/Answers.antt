@@ -1,5 +1,5 @@
-use Rattle.straight_checker.specs.Source.{source_kind}
-use Rattle.straight_checker.specs.Typed.{tree_in}
+use Rattle.checker.specs.Trees.{tree_in}
+use Rattle.meaning.specs.Source.{source_kind}
 use Rattle.syntax.specs.Spans.{tree_of}
 use Rattle.kendo_base.proofs.Pieces.{begins_code, whole_code}
 use Rattle.kendo_base.proofs.running.run_typed.Goals as goal

@@ -1,5 +1,0 @@
-use Rattle.std.proofs.Common.{length}
-use Rattle.codegen.proofs.expression.+push_parts.Given as goal
-
-abbrev pub decreases-push_parts : goal.decreases-push_parts
-decreases-push_parts l = length l.parts.now

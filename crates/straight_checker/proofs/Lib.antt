@@ -1,5 +1,0 @@
-pub mod Sizes
-pub mod Bodies
-pub mod Nodes
-pub mod Fits
-pub mod Rows
