@@ -22,7 +22,7 @@ same_tokens : {E : Type 0} (r : Result (List Token) E) (ts us : List Token) → 
 same_tokens (Ok vs) ts us a b = cc
 same_tokens (Err e) ts us a b = absurd cc
 
-spelt_by : (text : List ℕ) (ts : List Token) (file : File) → tokens_of text ≡ Ok ts → Reads text file → Spells (lexemes text ts) file
+pub spelt_by : (text : List ℕ) (ts : List Token) (file : File) → tokens_of text ≡ Ok ts → Reads text file → Spells (lexemes text ts) file
 spelt_by text ts file scanned r = subst (λ us. Spells (lexemes text us) file) (same_tokens (tokens_of text) r.tokens ts r.scanned scanned) r.spelt
 
 pub treeless : (text : List ℕ) (ts : List Token) → tokens_of text ≡ Ok ts → HasNoTree (lexemes text ts) → HasNoReading text
