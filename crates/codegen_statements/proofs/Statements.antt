@@ -29,14 +29,13 @@ use Rattle.codegen_requests.proofs.Channels.{YieldKnown, Grounds}
 use Rattle.codegen_requests.proofs.Calling.{Wait, AllThere, Starting, go_goes}
 use Rattle.codegen_requests.proofs.Returns.{return_goes}
 use Rattle.codegen_ranges.proofs.Ranges.{bare_range_goes}
+use Rattle.codegen_ranges.proofs.Targets.{define_range_goes, assign_range_goes}
 use Rattle.codegen_statements.proofs.Untyped.{untyped_goes}
 use Rattle.codegen_statements.proofs.Typed.{typed_values_go, typed_zeros_go, typed_operation_goes}
 use Rattle.codegen_statements.proofs.Alone.{alone_goes}
 
--- the statements that are proved so far: all but ranges whose items go somewhere, and selects
+-- the statements that are proved so far: all but selects
 abbrev pub IsCovered : Statement → Type 0
-IsCovered (For (Range (DefineTarget name) channel) body) = ⊥
-IsCovered (For (Range (AssignTarget to) channel) body) = ⊥
 IsCovered (Select clauses) = ⊥
 IsCovered s = Unit {0}
 
@@ -71,8 +70,8 @@ module _ (file : File) (elements : List Element) (all : AllWide (globals file).s
       statement_goes (For (ForClauses None condition post) body) place covered d same = clauses_bare_goes file elements all typed known_fields code result g f there cs ds R Asked panics fine_behind sitting back ls view next l condition post body place mid k h d same t.0 r
       statement_goes (For (ForClauses (Some simple) condition post) body) place covered d same = clauses_first_goes file elements all typed known_fields code result g f there cs ds R Asked panics fine_behind sitting back ls view next l simple condition post body place mid k h d same t.0 r
       statement_goes (For (Range NoTarget channel) body) place covered d same = let room = room_there (For (Range NoTarget channel) body) place d in bare_range_goes file elements all typed known_fields code result g f there cs ds R Asked panics fine_behind sitting back grounds ls l view next mid k d.fine room h t r channel body place d same
-      statement_goes (For (Range (DefineTarget name) channel) body) place covered d same = absurd covered
-      statement_goes (For (Range (AssignTarget to) channel) body) place covered d same = absurd covered
+      statement_goes (For (Range (DefineTarget name) channel) body) place covered d same = let room = room_there (For (Range (DefineTarget name) channel) body) place d in define_range_goes file elements all typed known_fields code result g f there cs ds R Asked panics fine_behind sitting back grounds ls l view next mid k d.fine room h t r name channel body place d same
+      statement_goes (For (Range (AssignTarget to) channel) body) place covered d same = let room = room_there (For (Range (AssignTarget to) channel) body) place d in assign_range_goes file elements all typed known_fields code result g f there cs ds R Asked panics fine_behind sitting back grounds ls l view next mid k d.fine room h t r fields_known to channel body place d same
       statement_goes (Select clauses) place covered d same = absurd covered
       statement_goes (Go function arguments) place covered d same = let room = room_there (Go function arguments) place d in go_goes file elements all typed known_fields code result g f there cs ds R Asked panics sitting grounds ls l view next mid k d.fine room h t r all_there function arguments d.first place d.good d.on same
       statement_goes (Return returned) place covered d same = let room = room_there (Return returned) place d in return_goes file elements all typed known_fields code result g f there cs ds R Asked panics sitting grounds ls l view next mid k d.fine room h t r all_there starting has wait returned d.first place result_known d.makes d.good d.on
