@@ -1,10 +1,10 @@
 -- Loops over channels whose items go somewhere.
-use Rattle.std.proofs.Common.{◌≡◌, ℕ, ◌+◌, ◌≤◌, Bool, true, false, List, [], ◌∷◌, length, take, drop, Option, Some, None, option_map, refl, sym, ap, ◌∙◌, subst, arith, slice_get, length-append, inl, inr}
-use Rattle.std.specs.Prelude.{if◌then◌else◌, ◌⊎◌, ◌&&◌, ◌||◌, not}
+use Rattle.std.proofs.Common.{◌≡◌, ℕ, ◌+◌, ◌≤◌, Bool, true, false, List, [], ◌∷◌, length, take, drop, Option, Some, None, option_map, refl, sym, ap, ◌∙◌, subst, arith, slice_get, inl, inr}
+use Rattle.std.specs.Prelude.{if◌then◌else◌, ◌&&◌, ◌||◌, not}
 use Rattle.std.specs.Option.{is_none}
 use Rattle.std.specs.List.{list_any}
 use Rattle.go_text.specs.declared.rule.Rule.TheVariants as rules
-use Rattle.syntax.specs.Tree.{Expression, Target, DefineTarget, AssignTarget, Place, For, Range, Block, Statements, File}
+use Rattle.syntax.specs.Tree.{Expression, Target, DefineTarget, AssignTarget, Place, For, Range, Statements, File}
 use Rattle.syntax.specs.Measures.{target_size}
 use Rattle.bytecode.specs.Code.{Function as CodeFunction, Code}
 use Rattle.bytecode.specs.Machine.{Frames as CodeFrames}
@@ -14,11 +14,10 @@ use Rattle.word.specs.Kinds.{Next}
 use Rattle.type_table.specs.Types.{ValueType}
 use Rattle.type_table.specs.Containment.{Structs, fields_of}
 use Rattle.type_table.specs.Zeros.{zero_words}
-use Rattle.type_table.specs.Scopes.{Variable, Scope, Yield, entered, declared, is_blank, own_variable, last_named}
+use Rattle.type_table.specs.Scopes.{Scope, Yield, entered, declared, is_blank, own_variable, last_named}
 use Rattle.checker_base.specs.Worths.{Typed, worth}
 use Rattle.checker_base.specs.Expressions.{ExpressionHas, ChannelHas, nodes_of, element_of}
-use Rattle.checker_base.specs.declared.flaw.Flaw.{Flaw}
-use Rattle.checker_operation.specs.Operations.{PlaceHas, PlacesHave, PlacesFail}
+use Rattle.checker_operation.specs.Operations.{PlacesHave, PlacesFail}
 use Rattle.checker_simple.specs.Simples.{has_twice, is_declarable, DefinedHave}
 use Rattle.checker_statement.specs.Statements.{item_given, after_for_head}
 use Rattle.meaning.specs.Values.{words_in, whole, slot_along}
@@ -27,14 +26,13 @@ use Rattle.meaning.specs.Tasks.{Task, Frames}
 use Rattle.meaning.specs.Source.{globals, statement_next, item_destinations}
 use Rattle.meaning.specs.Destinations.{element_kind, placed, place_slot}
 use Rattle.codegen_base.specs.declared.element.Element.{Element}
-use Rattle.codegen_base.specs.Layouts.{Layout, entering, keeping, carried, declaring, declaring_new}
-use Rattle.codegen_base.specs.Statements.{Spot, Local, width, stores, assigns, name_spot, own_spot, place_spot}
+use Rattle.codegen_base.specs.Layouts.{Layout, entering, keeping, carried, declaring}
+use Rattle.codegen_base.specs.Statements.{Spot, Local, width, assigns, name_spot, own_spot, place_spot}
 use Rattle.codegen_base.specs.Generated.{at, inside, takes, item_site, made_all}
 use Rattle.plan.specs.Plan.{Plan, Skip}
 use Rattle.plan.proofs.Words.{Words}
 use Rattle.plan.proofs.Steps.{spots}
 use Rattle.codegen_base.proofs.Alike.{drop_all}
-use Rattle.codegen_base.proofs.Assigned.{IsSpot, behind_destination, behind_all}
 use Rattle.codegen_base.proofs.Fields.{AllWide, AllTyped}
 use Rattle.codegen_base.proofs.Likeness.{kinds_long}
 use Rattle.codegen_base.proofs.Seen.{seen, seen_one, seen_lookup}
@@ -43,13 +41,13 @@ use Rattle.codegen_steps.proofs.Outers.{has_same, worth_same}
 use Rattle.codegen_steps.proofs.Paths.{AllKnown}
 use Rattle.codegen_requests.proofs.Channels.{Grounds, IsChannel, channel_there}
 use Rattle.codegen_requests.proofs.Places.{places_are, places_stay}
-use Rattle.codegen_requests.proofs.Sets.{AreTyped, typed_suit}
+use Rattle.codegen_requests.proofs.Sets.{typed_suit}
 use Rattle.codegen_follows.proofs.Stands.{Around, View, scope_of, variables, Together, Doing, Fine, IsOn, Items, Assigning, RangingAt, item_view}
 use Rattle.codegen_follows.proofs.Begun.{FineBehind, take_front}
 use Rattle.codegen_follows.proofs.Grown.{grown_statements}
 use Rattle.codegen_follows.proofs.Valued.{Goes}
 use Rattle.codegen_follows.proofs.Follows.{Held, Sitting, Back, Rest, map_reached}
-use Rattle.codegen_ranges.proofs.Declared.{declared_view, fine_declared}
+use Rattle.codegen_ranges.proofs.Declared.{fine_declared}
 use Rattle.codegen_ranges.proofs.Ranges.{unfound, other_than_blank, kept_view, channel, fine_item, loop_at, kept_goes}
 
 -- a single name that a `:=` may have is not `_`
