@@ -9,7 +9,7 @@ use Rattle.syntax.specs.Measures.{if_any, type_size, right_size}
 use Rattle.bytecode.specs.Code.{Function as CodeFunction, Code}
 use Rattle.type_table.specs.Types.{ValueType}
 use Rattle.type_table.specs.Containment.{fields_of}
-use Rattle.type_table.specs.Scopes.{Globals, Scope, Yield, Yields, left, is_blank, is_reserved, last_named, own_variable, nothing_declared, type_in}
+use Rattle.type_table.specs.Scopes.{Globals, Scope, Yield, Yields, is_blank, is_reserved, last_named, own_variable, nothing_declared, type_in}
 use Rattle.checker_operation.specs.Operations.{Given, given, result_of}
 use Rattle.checker_simple.specs.Simples.{SimpleHas, TypedVariablesHave, UntypedVariablesHave, comm_simple, has_twice, after_simple, with_defined, with_variables}
 use Rattle.checker_statement.specs.Statements.{StatementHas, after, after_all, after_any, after_clauses}
@@ -18,7 +18,7 @@ use Rattle.meaning.specs.Source.{globals}
 use Rattle.codegen_base.specs.declared.element.Element.{Element}
 use Rattle.codegen_base.specs.Layouts.{Layout, declaring_all, declaring_each, given_types}
 use Rattle.codegen_base.specs.Generated.{Site, Made, past, followed, inside, ended, with_way, within_select, made, made_all, made_comm, made_ways, made_default, made_select, comm_kinds}
-use Rattle.codegen_base.proofs.Alike.{Alike, kind_if, alike_left, type_alike}
+use Rattle.codegen_base.proofs.Alike.{Alike, kind_if, alike_sym, type_alike}
 use Rattle.codegen_base.proofs.Fields.{AllWide, AllTyped}
 use Rattle.codegen_base.proofs.Known.{FieldsNoted, VariablesNoted}
 use Rattle.codegen_base.proofs.Noted.{Noted}
@@ -182,23 +182,25 @@ module _ (file : File) (elements : List Element) (all : AllWide (globals file).s
   simple_fine view (Update a b c) first fine free makes = same_fine view (past_one view (Alone (Update a b c))) refl refl refl fine
 
   -- a statement that is a block
-  block_fine : (view : View) (s : Statement) (i j : Scope) → after G view.checked s ≡ left view.checked i → (made G elements result view.site s).layout.scope ≡ left (scope_of view) j → IsFine view → IsFine (past_one view s)
-  block_fine view s i j checked scope fine =
+  block_fine : (view : View) (s : Statement) → (after G view.checked s).variables ≡ view.checked.variables → (after G view.checked s).outer ≡ view.checked.outer → (made G elements result view.site s).layout.scope.variables ≡ variables view → (made G elements result view.site s).layout.scope.outer ≡ (scope_of view).outer
+      → IsFine view → IsFine (past_one view s)
+  block_fine view s checked checked-outer same outer fine =
       let next = past_one view s in
-      fine_left view next refl (ap (λ (x : Scope). x.variables) scope) (ap (λ (x : Scope). x.outer) scope) ((grown G elements result view.site s).words)
-      (subst (λ x. Alike x (scope_of next)) (sym checked) (subst (Alike (left view.checked i)) (sym scope) (alike_left view.checked (scope_of view) i j fine.alike))) fine
+      let a = alike_kept view.checked (scope_of view) (scope_of next) same outer fine.alike in
+      let b = alike_kept (scope_of next) view.checked next.checked checked checked-outer (alike_sym view.checked (scope_of next) a) in
+      fine_left view next refl same outer ((grown G elements result view.site s).words) (alike_sym (scope_of next) next.checked b) fine
 
   pub fine_after : FineBehind file elements all code result f
   fine_after view Empty first b c fine free makes = same_fine view (past_one view Empty) refl refl refl fine
   fine_after view (Alone simple) first b c fine free makes = simple_fine view simple first fine free makes
   fine_after view (VarTyped names kind right) first b c fine free makes = typed_fine view names kind right first fine free makes.0
   fine_after view (VarUntyped names right) first b c fine free makes = untyped_fine view names right first fine free makes
-  fine_after view (Block body) first b c fine free makes = block_fine view (Block body) _ _ refl refl fine
-  fine_after view (If (Conditional head condition body otherwise)) first b c fine free makes = block_fine view (If (Conditional head condition body otherwise)) _ _ refl refl fine
-  fine_after view (For Forever body) first b c fine free makes = block_fine view (For Forever body) _ _ refl refl fine
-  fine_after view (For (While condition) body) first b c fine free makes = block_fine view (For (While condition) body) _ _ refl refl fine
-  fine_after view (For (ForClauses one condition post) body) first b c fine free makes = block_fine view (For (ForClauses one condition post) body) _ _ refl refl fine
-  fine_after view (For (Range target channel) body) first b c fine free makes = block_fine view (For (Range target channel) body) _ _ refl refl fine
+  fine_after view (Block body) first b c fine free makes = block_fine view (Block body) refl refl refl refl fine
+  fine_after view (If (Conditional head condition body otherwise)) first b c fine free makes = block_fine view (If (Conditional head condition body otherwise)) refl refl refl refl fine
+  fine_after view (For Forever body) first b c fine free makes = block_fine view (For Forever body) refl refl refl refl fine
+  fine_after view (For (While condition) body) first b c fine free makes = block_fine view (For (While condition) body) refl refl refl refl fine
+  fine_after view (For (ForClauses one condition post) body) first b c fine free makes = block_fine view (For (ForClauses one condition post) body) refl refl refl refl fine
+  fine_after view (For (Range target channel) body) first b c fine free makes = block_fine view (For (Range target channel) body) refl refl refl refl fine
   fine_after view (Select clauses) first b c fine free makes =
       let next = past_one view (Select clauses) in
       let k = kept_select G elements result view.site clauses in

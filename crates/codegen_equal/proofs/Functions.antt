@@ -122,24 +122,25 @@ module _ (file : File) (free : Free (FileHas file)) (still : PostsTops file.tops
   go_near n made there vs like =
       let lt = slice_get_within code.functions n made there in
       let L : At n = located file free still n lt in
-      let F = function_at n lt in
+      let own = subst (λ o. AreLike (globals file).structs all (map known (parameters_in o)) vs) L.head_is like in
+      let near = begins_near file elements all typed known_fields code fine_grounds heads fine_behind (slice_get (functions file) n) (slice_get code.functions n) (slice_get (globals file).functions n) L n L.made_is vs own [] [] tt in
       let same : begun file (slice_get (functions file) n) (words vs) ≡ called (globals file) L.function vs ∷ [] =
       ap (λ o. begun file o (words vs)) L.source_is
-      ∙ ap (λ (a : List Value). called (globals file) L.function a ∷ []) (split_words file all (fields_declared (globals file).types L.function.parameters) vs (subst (λ o. AreLike (globals file).structs all (map known (parameters_in o)) vs) L.head_is like)) in
+      ∙ ap (λ (a : List Value). called (globals file) L.function a ∷ []) (split_words file all (fields_declared (globals file).types L.function.parameters) vs own) in
       subst (λ (x : Frames). Near' x (code_begin code n (words vs))) (sym same)
-      (subst (λ o. Near' (called (globals file) L.function vs ∷ []) (code_begun (locals_in o) n (words vs) ∷ [])) (sym L.made_is) (starting n F vs like [] [] tt))
+      (subst (λ o. Near' (called (globals file) L.function vs ∷ []) (code_begun (locals_in o) n (words vs) ∷ [])) (sym L.made_is) near)
 
   pub all_start : AllStart file elements all typed known_fields code
-  all_start result f (Go n args) (made, there, vs, like, is) = subst (λ (ws : List Word). Near' (begun file (slice_get (functions file) n) ws) (code_begin code n ws)) (sym is) (go_near n made there vs like)
-  all_start result f (Make size zero) b = tt
-  all_start result f (Send c item) b = tt
-  all_start result f (Receive c) b = tt
-  all_start result f (Close c) b = tt
-  all_start result f (Select cases default) b = tt
-  all_start result f (Len c) b = tt
-  all_start result f (Cap c) b = tt
-  all_start result f (Print bytes) b = tt
-  all_start result f End b = tt
-  all_start result f Exit b = tt
-  all_start result f (Panic p) b = tt
-  all_start result f Exhausted b = tt
+  all_start given f (Go n args) (made, there, vs, like, is) = subst (λ (ws : List Word). Near' (begun file (slice_get (functions file) n) ws) (code_begin code n ws)) (sym is) (go_near n made there vs like)
+  all_start given f (Make size zero) b = tt
+  all_start given f (Send c item) b = tt
+  all_start given f (Receive c) b = tt
+  all_start given f (Close c) b = tt
+  all_start given f (Select cases default) b = tt
+  all_start given f (Len c) b = tt
+  all_start given f (Cap c) b = tt
+  all_start given f (Print bytes) b = tt
+  all_start given f End b = tt
+  all_start given f Exit b = tt
+  all_start given f (Panic p) b = tt
+  all_start given f Exhausted b = tt

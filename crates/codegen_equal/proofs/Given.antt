@@ -10,7 +10,7 @@ use Rattle.type_table.specs.Types.{ValueType, IntType, BoolType, StructType, Cha
 use Rattle.type_table.specs.Scopes.{Globals, Scope, Yield, NoResult, Yields, Variable, is_blank, own_variable, nothing_declared, type_in}
 use Rattle.checker_base.specs.Worths.{Worth, Typed, Constant, Nil, is_int, worth, kind_of}
 use Rattle.checker_base.specs.Expressions.{nodes_of, ChannelHas, DefaultHas, ExpressionHas, ExpressionsHave, NumbersHave, default_type, element_of}
-use Rattle.checker_operation.specs.Operations.{NotDeclared, NoFunction, IsFunction, Callee, TypeHas, CalleeHas, ResultHas, YieldHas, MadeHas, made_of, result_of, result_type, callee, OperationHas, operation_type, is_receive, Given, given, given_values, given_by, RightHas, GoesHas}
+use Rattle.checker_operation.specs.Operations.{NotDeclared, NoFunction, IsFunction, Callee, TypeHas, CalleeHas, ResultHas, YieldHas, MadeHas, made_of, result_of, yielded, result_type, callee, OperationHas, operation_type, is_receive, Given, given, given_values, given_by, RightHas, GoesHas}
 use Rattle.checker_simple.specs.Simples.{is_declarable, NamesFail}
 use Rattle.meaning.specs.Values.{known}
 use Rattle.codegen_base.specs.declared.element.Element.{Element}
@@ -74,10 +74,7 @@ module _ (elements : List Element) where
 
       two : (n : ℕ) (result : Yield) → callee globals s function ≡ IsFunction n → result_of globals n ≡ result → Well (result_type globals (IsFunction n))
       two n NoResult is gives = let b = broken rules.Called end (omega arith) in absurd (free b.0 (inr (subst (λ c. ResultHas globals c end b.0) (sym is) (subst (λ y. YieldHas y end b.0) (sym gives) b.1))))
-      two n (Yields kind) is gives = subst (λ y. Well (result_type_of y)) (sym gives) (results_known n kind gives) where
-        result_type_of : Yield → Option ValueType
-        result_type_of NoResult = None
-        result_type_of (Yields k) = k
+      two n (Yields kind) is gives = subst (λ y. Well (yielded y)) (sym gives) (results_known n kind gives)
 
       go : (c : Callee) → callee globals s function ≡ c → Well (result_type globals (callee globals s function))
       go NotDeclared is = let b = broken rules.Visible end (omega arith) in absurd (free b.0 (inl (inr (subst (λ c. CalleeHas globals s c first arguments.values end b.0) (sym is) b.1))))
@@ -157,7 +154,7 @@ module _ (elements : List Element) where
           both [] false many well = absurd cc
           both (a ∷ []) true many well = absurd cc
           both (a ∷ []) false many well = (λ d. well, tt)
-          both (a ∷ b ∷ []) true many well = (λ d. well, λ d. (refl, tt), tt)
+          both (a ∷ b ∷ []) true many well = (λ d. well, (λ d. (refl, tt), tt))
           both (a ∷ b ∷ []) false many well = absurd cc
           both (a ∷ b ∷ c ∷ rest) true many well = absurd cc
           both (a ∷ b ∷ c ∷ rest) false many well = absurd cc

@@ -89,7 +89,7 @@ module _ (file : File) (elements : List Element) (all : AllWide (globals file).s
     statement_makes (For (While condition) body) some still g = (tt, all_make body some still g)
     statement_makes (For (ForClauses first condition post) body) some still g =
         let one = noting_head types (ForClauses first condition post) some in (clauses_make_head first post some still.0 (grows_on one (noting_statements types body one) elements (statements_grow types body one) g), all_make body one still.1 g)
-    statement_makes (For (Range target channel) body) some still g = (tt, all_make body some still g)
+    statement_makes (For (Range to channel) body) some still g = (tt, all_make body some still g)
     statement_makes (Select clauses) some still g = clauses_make clauses some still g
     statement_makes (Go a b) some still g = tt
     statement_makes (Return NoValue) some still g = tt

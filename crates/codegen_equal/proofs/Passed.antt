@@ -45,7 +45,7 @@ put_same a done v rest ls is e =
     let front : take a ls ≡ done = ap (λ (l : Words). take a l) is ∙ ap (λ n. take n (done ++ (v ++ rest))) e ∙ take-append_seam done (v ++ rest) in
     let many : a + length v ≡ length (done ++ v) = omega (arith, e, length-append done v) in
     let back : drop (a + length v) ls ≡ rest = ap (λ (l : Words). drop (a + length v) l) (is ∙ sym (append_assoc done v rest)) ∙ ap (λ n. drop n ((done ++ v) ++ rest)) many ∙ drop-append_seam (done ++ v) rest in
-    ap (λ (l : Words). l ++ (v ++ drop (a + length v) ls)) front ∙ ap (λ (l : Words). done ++ (v ++ l)) back ∙ sym is
+    ap (λ (l : Words). l ++ v ++ drop (a + length v) ls) front ∙ ap (λ (l : Words). done ++ v ++ l) back ∙ append_assoc done v rest ∙ sym is
 
 module _ (structs : Structs) (elements : List Element) (all : AllWide structs) where
   abbrev words : List Value → Words

@@ -72,10 +72,10 @@ module _ (file : File) (elements : List Element) (all : AllWide (globals file).s
   Told s result f q d = Answers (source_kind file) (code_kind code) Near q s d × Begins file elements all code result f q
 
   told_panic : (s : Frames) (result : Yield) (f : CodeFunction) (cause : Cause) (d : CodeFrames) → Told s result f (Panic cause) d
-  told_panic s result f cause d = (λ reply suits. absurd suits, tt)
+  told_panic s given f cause d = (λ reply suits. absurd suits, tt)
 
   told_end : (s : Frames) (result : Yield) (f : CodeFunction) (d : CodeFrames) → Told s result f End d
-  told_end s result f d = (λ reply suits. absurd suits, tt)
+  told_end s given f d = (λ reply suits. absurd suits, tt)
 
   -- a goroutine that is started begins alike
   abbrev pub AllStart : Type 0
@@ -90,7 +90,7 @@ module _ (file : File) (elements : List Element) (all : AllWide (globals file).s
       matched_by : (s : Frames) (x : Next Frames) (c : CodeFrames) → Goes file elements all typed known_fields code result g f there ds Near (Told s result f) (told_panic s result f) x c → Matched s x c
       matched_by s (Slides a) c m = m
       matched_by s (Ticks a) c m = m
-      matched_by s (Asks q) c (d, slips, is, answers, begins) = (d, slips, is, answers, all_start result f q begins)
+      matched_by s (Asks q) c (d, slips, is, told) = (d, slips, is, told.0, all_start result f q told.1)
       matched_by s Stuck c m = m
 
       sits_matched : (view : View) (l : Around) (place : ℕ) (ls stack : Words) (tasks : List Task) → Holding (globals file).structs ls (variables view) → length ls ≡ length f.locals → Sits file elements all code result f view l (Some place) stack tasks
