@@ -1,31 +1,30 @@
 -- Behind each statement in which nothing is wrong, the layout has the variables that the typing rules see.
-use Rattle.std.proofs.Common.{◌≡◌, ℕ, ◌+◌, ◌≤◌, Bool, true, false, ◌||◌, List, [], ◌∷◌, ◌++◌, length, drop, Option, Some, None, IfSome, refl, sym, ap, ◌∙◌, subst, arith, inl, inr}
+use Rattle.std.proofs.Common.{◌≡◌, ℕ, ◌+◌, ◌≤◌, ◌||◌, List, [], ◌∷◌, length, drop, Option, Some, None, IfSome, refl, sym, ap, ◌∙◌, subst, arith, inl, inr}
 use Rattle.std.specs.Prelude.{if◌then◌else◌}
 use Rattle.std.specs.Option.{is_some}
 use Rattle.std.specs.List.{list_any}
 use Rattle.go_text.specs.declared.rule.Rule.TheVariants as rules
-use Rattle.syntax.specs.Tree.{TypeExpression, Call, Receive, Make, Length, Capacity, Right, RightOperation, Values, Simple, CallAlone, Close, Print, ReceiveAlone, Send, Increment, Decrement, Assign, Define, Update, Forever, While, ForClauses, Range, Comm, Statement, Empty, Alone, VarTyped, VarUntyped, Block, If, For, Select, Go, Return, Break, Continue, Statements, Branch, Conditional, Clauses, NoClause, Clause, File}
+use Rattle.syntax.specs.Tree.{TypeExpression, Call, Receive, Make, Length, Capacity, Right, RightOperation, Values, Simple, CallAlone, Close, Print, ReceiveAlone, Send, Increment, Decrement, Assign, Define, Update, Forever, While, ForClauses, Range, Statement, Empty, Alone, VarTyped, VarUntyped, Block, If, For, Select, Go, Return, Break, Continue, Conditional, Clauses, NoClause, Clause, File}
 use Rattle.syntax.specs.Measures.{if_any, type_size, right_size}
 use Rattle.bytecode.specs.Code.{Function as CodeFunction, Code}
 use Rattle.type_table.specs.Types.{ValueType}
-use Rattle.type_table.specs.Containment.{fields_of}
 use Rattle.type_table.specs.Scopes.{Globals, Scope, Yield, Yields, is_blank, is_reserved, last_named, own_variable, nothing_declared, type_in}
-use Rattle.checker_operation.specs.Operations.{Given, given, result_of}
-use Rattle.checker_simple.specs.Simples.{SimpleHas, TypedVariablesHave, UntypedVariablesHave, comm_simple, has_twice, after_simple, with_defined, with_variables}
-use Rattle.checker_statement.specs.Statements.{StatementHas, after, after_all, after_any, after_clauses}
+use Rattle.checker_operation.specs.Operations.{given, result_of}
+use Rattle.checker_simple.specs.Simples.{SimpleHas, TypedVariablesHave, UntypedVariablesHave, has_twice, with_defined, with_variables}
+use Rattle.checker_statement.specs.Statements.{after, after_clauses}
 use Rattle.meaning.specs.Values.{known}
 use Rattle.meaning.specs.Source.{globals}
 use Rattle.codegen_base.specs.declared.element.Element.{Element}
 use Rattle.codegen_base.specs.Layouts.{Layout, declaring_all, declaring_each, given_types}
 use Rattle.codegen_base.specs.Generated.{Site, Made, past, followed, inside, ended, with_way, within_select, made, made_all, made_comm, made_ways, made_default, made_select, comm_kinds}
 use Rattle.codegen_base.proofs.Alike.{Alike, kind_if, alike_sym, type_alike}
-use Rattle.codegen_base.proofs.Fields.{AllWide, AllTyped}
+use Rattle.codegen_base.proofs.Fields.{AllWide}
 use Rattle.codegen_base.proofs.Known.{FieldsNoted, VariablesNoted}
 use Rattle.codegen_base.proofs.Noted.{Noted}
 use Rattle.codegen_base.proofs.Seen.{Rising, rising_up}
 use Rattle.codegen_base.proofs.Static.{AllKnown, Nested, IsPlaced}
 use Rattle.codegen_base.proofs.Typing.{Free, FieldsKnown, broken}
-use Rattle.codegen_follows.proofs.Stands.{View, scope_of, variables, within, Fine, Makes, SimpleMakes, RightMakes}
+use Rattle.codegen_follows.proofs.Stands.{View, scope_of, variables, Fine, SimpleMakes, RightMakes}
 use Rattle.codegen_follows.proofs.Grown.{grown}
 use Rattle.codegen_follows.proofs.Begun.{FineBehind}
 use Rattle.codegen_statements.proofs.Defined.{given_same}

@@ -1,5 +1,5 @@
 -- A function that begins sits at the first instruction of its code.
-use Rattle.std.proofs.Common.{◌≡◌, ℕ, ◌+◌, ◌≤◌, false, List, [], ◌∷◌, ◌++◌, length, map, Option, Some, None, IfSome, refl, sym, ap, ◌∙◌, arith, slice_get, inl}
+use Rattle.std.proofs.Common.{◌≡◌, ℕ, ◌+◌, false, List, [], ◌∷◌, ◌++◌, length, map, Option, Some, None, IfSome, refl, sym, ap, ◌∙◌, arith, slice_get, inl}
 use Rattle.std.proofs.lemmas.List.{append-nil}
 use Rattle.syntax.specs.Tree.{Function, File}
 use Rattle.bytecode.specs.declared.instr.WordKind.{WordKind}
@@ -14,7 +14,7 @@ use Rattle.meaning.specs.Variables.{Blocks, entered}
 use Rattle.meaning.specs.Tasks.{Task, Frames, frame, all_of}
 use Rattle.meaning.specs.Source.{globals, bound, called}
 use Rattle.codegen_base.specs.declared.element.Element.{Element}
-use Rattle.codegen_base.specs.Layouts.{Layout, empty, with_parameters}
+use Rattle.codegen_base.specs.Layouts.{Layout, empty}
 use Rattle.codegen_base.specs.Pushes.{pushes_zeros}
 use Rattle.codegen_base.specs.Program.{result_of, first_layout, made_function, function_code}
 use Rattle.codegen_base.specs.Generated.{Site, Made, made_of, made_all, result_kinds}
@@ -29,10 +29,9 @@ use Rattle.codegen_base.proofs.Expressions.{Holding}
 use Rattle.codegen_base.proofs.Fields.{AllWide, AllTyped}
 use Rattle.codegen_base.proofs.Seen.{seen}
 use Rattle.codegen_base.proofs.Typing.{FieldsKnown}
-use Rattle.codegen_follows.proofs.Stands.{Around, nowhere, View, variables, Fine, IsOn, LeadsOn, Fits, Sits}
-use Rattle.codegen_follows.proofs.Begun.{FineBehind, Live, Parts, parts, sits_all, SitsSoon}
+use Rattle.codegen_follows.proofs.Stands.{nowhere, View, variables, Fine, IsOn, LeadsOn, Fits, Sits}
+use Rattle.codegen_follows.proofs.Begun.{FineBehind, Live, parts, sits_all, SitsSoon}
 use Rattle.codegen_steps.proofs.Returned.{YieldKnown, Gives, AllWait}
-use Rattle.codegen_fine.proofs.Emitted.{all_kinds}
 use Rattle.codegen_fine.proofs.Operands.{Grounds}
 use Rattle.codegen_fine.proofs.Operations.{Functions}
 use Rattle.codegen_fine.proofs.Places.{housed_of}
@@ -46,7 +45,7 @@ use Rattle.codegen_fine.proofs.Signatures.{parameters_locals}
 use Rattle.codegen_equal.proofs.Making.{all_make}
 use Rattle.codegen_equal.proofs.Located.{Located}
 use Rattle.codegen_equal.proofs.Passed.{arguments_fitted, fitted_length, passed}
-use Rattle.codegen_equal.proofs.Standing.{Standing, Near}
+use Rattle.codegen_equal.proofs.Standing.{Near}
 
 pub yield_known : (result : Yield) → ((kind : Option ValueType) → result ≡ Yields kind → kind ≡ Some (known kind)) → YieldKnown result
 yield_known NoResult is = tt

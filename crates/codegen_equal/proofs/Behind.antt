@@ -1,11 +1,11 @@
 -- Behind a statement in which nothing is wrong, the layout has the variables that the typing rules see.
-use Rattle.std.proofs.Common.{◌≡◌, ℕ, ◌+◌, ◌≤◌, Bool, true, false, ◌&&◌, List, [], ◌∷◌, ◌++◌, length, drop, Option, Some, None, IfSome, refl, sym, ap, ◌∙◌, subst, arith, inl, inr, bytes_eq}
+use Rattle.std.proofs.Common.{◌≡◌, ℕ, ◌+◌, ◌≤◌, Bool, true, false, ◌&&◌, List, [], ◌∷◌, ◌++◌, length, drop, Option, Some, None, refl, sym, ap, ◌∙◌, subst, bytes_eq}
 use Rattle.std.specs.Prelude.{if◌then◌else◌, not}
 use Rattle.std.specs.Option.{is_none}
 use Rattle.std.proofs.lemmas.Option.{same_Some}
 use Rattle.type_table.specs.Types.{ValueType}
 use Rattle.type_table.specs.Containment.{Structs}
-use Rattle.type_table.specs.Scopes.{Globals, Scope, Variable, is_blank, later, if_named, last_named, variable_named, own_variable, declared}
+use Rattle.type_table.specs.Scopes.{Globals, Scope, Variable, is_blank, later, if_named, last_named, own_variable, declared}
 use Rattle.checker_base.specs.Expressions.{default_type}
 use Rattle.checker_operation.specs.Operations.{Given}
 use Rattle.checker_simple.specs.Simples.{is_declarable, after_name, with_defined}

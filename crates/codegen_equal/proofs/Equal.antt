@@ -1,5 +1,5 @@
 -- The code of a file that the checker takes does what the file does: events, clocks, output and end are the same at every limit.
-use Rattle.std.proofs.Common.{◌≡◌, ℕ, suc, ◌+◌, Bool, true, false, List, [], ◌∷◌, length, map, Option, Some, option_map, refl, sym, ap, ◌∙◌, subst, arith, slice_get, inl, inr, bytes_eq}
+use Rattle.std.proofs.Common.{◌≡◌, ℕ, suc, ◌+◌, Bool, true, false, List, [], ◌∷◌, length, map, Some, option_map, refl, sym, ap, ◌∙◌, subst, arith, slice_get, inl, inr}
 use Rattle.std.specs.Prelude.{if◌then◌else◌, unwrap_or, codes}
 use Rattle.std.proofs.lemmas.Bool.{and_parts}
 use Rattle.go_text.specs.declared.rule.Rule.TheVariants as rules
@@ -13,7 +13,7 @@ use Rattle.word.proofs.Equal.{equal}
 use Rattle.type_table.specs.Scopes.{Globals, Signature, nothing_declared, function_number}
 use Rattle.checker.specs.Files.{has_no_result, is_plain, has_main, FileHas, IsTyped}
 use Rattle.checker_declaration.specs.Declarations.{is_nothing}
-use Rattle.checker_declaration.specs.Kinds.{signatures, globals_of}
+use Rattle.checker_declaration.specs.Kinds.{signatures}
 use Rattle.checker_operation.specs.Operations.{parameters_in, parameters_of, result_of}
 use Rattle.meaning.specs.Values.{known}
 use Rattle.meaning.specs.Destinations.{number_of}
@@ -21,7 +21,7 @@ use Rattle.meaning.specs.Tasks.{Task}
 use Rattle.meaning.specs.Source.{globals, functions, begun, source_kind}
 use Rattle.meaning.proofs.Ends.{weight, source_falls}
 use Rattle.codegen_base.specs.declared.element.Element.{Element}
-use Rattle.codegen_base.specs.Program.{label, made_function, functions_code, elements_of, code_of}
+use Rattle.codegen_base.specs.Program.{made_function, functions_code, elements_of, code_of}
 use Rattle.codegen_base.proofs.Assigned.{AreLike}
 use Rattle.codegen_base.proofs.Typing.{Free, broken, not_false}
 use Rattle.plan.specs.Plan.{table_count}

@@ -4,26 +4,24 @@ use Rattle.std.proofs.lemmas.Option.{slice_get_within, same_Some}
 use Rattle.syntax.specs.Tree.{Function, File}
 use Rattle.bytecode.specs.Code.{Function as CodeFunction, Code}
 use Rattle.bytecode.specs.Effects.{params_in, locals_in}
-use Rattle.bytecode.specs.Machine.{Frames as CodeFrames, begun as code_begun, code_begin, code_kind}
+use Rattle.bytecode.specs.Machine.{Frames as CodeFrames, begun as code_begun, code_begin}
 use Rattle.word.specs.declared.value.Word.{Word}
 use Rattle.word.specs.Values.{Make, Go, Send, Receive, Close, Select, Len, Cap, Print, End, Exit, Panic, Exhausted}
-use Rattle.word.specs.Related.{Starts}
 use Rattle.type_table.specs.Types.{ValueType, IntType, BoolType, StructType, ChannelType}
 use Rattle.type_table.specs.Containment.{fields_of}
-use Rattle.type_table.specs.Scopes.{Globals, Scope, Yield, Yields}
+use Rattle.type_table.specs.Scopes.{Scope, Yield}
 use Rattle.checker.specs.Files.{FileHas}
-use Rattle.checker_declaration.specs.Kinds.{kinds_in, fields_declared}
+use Rattle.checker_declaration.specs.Kinds.{fields_declared}
 use Rattle.checker_operation.specs.Operations.{parameters_in, parameters_of, result_in, result_of}
 use Rattle.meaning.specs.Values.{Value, known, words_in}
 use Rattle.meaning.specs.Tasks.{Frames}
-use Rattle.meaning.specs.Source.{globals, functions, called, begun, source_kind}
+use Rattle.meaning.specs.Source.{globals, functions, called, begun}
 use Rattle.codegen_base.specs.declared.element.Element.{Element}
 use Rattle.codegen_base.specs.Program.{elements_of, code_of}
 use Rattle.codegen_base.proofs.Assigned.{AreLike, all_words_of}
 use Rattle.codegen_base.proofs.Fields.{AllWide, AllTyped}
 use Rattle.codegen_base.proofs.Likeness.{kinds_long}
 use Rattle.codegen_base.proofs.Typing.{Free, FieldsKnown}
-use Rattle.codegen_follows.proofs.Stands.{Begins}
 use Rattle.codegen_follows.proofs.Begun.{FineBehind}
 use Rattle.codegen_steps.proofs.Returned.{AllWait}
 use Rattle.codegen_requests.proofs.Channels.{Grounds}
@@ -34,7 +32,6 @@ use Rattle.codegen_fine.proofs.Heads.{PostsTops}
 use Rattle.codegen_fine.proofs.Shapes.{struct_narrow}
 use Rattle.codegen_fine.proofs.Structs.{grounds_of}
 use Rattle.codegen_fine.proofs.Signatures.{functions_of}
-use Rattle.codegen_equal.proofs.Given.{Well}
 use Rattle.codegen_equal.proofs.After.{fine_after}
 use Rattle.codegen_equal.proofs.Located.{Located, located}
 use Rattle.codegen_equal.proofs.Passed.{kinds_size, split_words}

@@ -3,12 +3,11 @@ use Rattle.std.proofs.Common.{◌≡◌, ℕ, suc, ◌+◌, ◌==◌, ◌≤◌,
 use Rattle.std.specs.Prelude.{if◌then◌else◌}
 use Rattle.std.specs.Option.{is_none}
 use Rattle.go_text.specs.declared.rule.Rule.TheVariants as rules
-use Rattle.syntax.specs.declared.node.Direction.{Direction}
 use Rattle.syntax.specs.Tree.{Expression, expressions, Arguments, Operation, Call, Receive, Make, Length, Capacity, Right, RightOperation, Values, TypeExpression}
 use Rattle.syntax.specs.Measures.{expression_size, arguments_size, operation_size}
-use Rattle.type_table.specs.Types.{ValueType, IntType, BoolType, StructType, ChannelType, is_channel_type, element_type}
-use Rattle.type_table.specs.Scopes.{Globals, Scope, Yield, NoResult, Yields, Variable, is_blank, own_variable, nothing_declared, type_in}
-use Rattle.checker_base.specs.Worths.{Worth, Typed, Constant, Nil, is_int, worth, kind_of}
+use Rattle.type_table.specs.Types.{ValueType, BoolType, ChannelType, is_channel_type, element_type}
+use Rattle.type_table.specs.Scopes.{Globals, Scope, Yield, NoResult, Yields, Variable, own_variable, nothing_declared, type_in}
+use Rattle.checker_base.specs.Worths.{Worth, Typed, Constant, Nil, worth, kind_of}
 use Rattle.checker_base.specs.Expressions.{nodes_of, ChannelHas, DefaultHas, ExpressionHas, ExpressionsHave, NumbersHave, default_type, element_of}
 use Rattle.checker_operation.specs.Operations.{NotDeclared, NoFunction, IsFunction, Callee, TypeHas, CalleeHas, ResultHas, YieldHas, MadeHas, made_of, result_of, yielded, result_type, callee, OperationHas, operation_type, is_receive, Given, given, given_values, given_by, RightHas, GoesHas}
 use Rattle.checker_simple.specs.Simples.{is_declarable, NamesFail}
@@ -19,14 +18,15 @@ use Rattle.codegen_base.proofs.Known.{FieldsNoted, VariablesNoted, worth_noted}
 use Rattle.codegen_base.proofs.Noted.{Noted}
 use Rattle.codegen_base.proofs.Typing.{Free, FieldsKnown, broken, nodes_end, worth_there, not_false}
 use Rattle.codegen_base.proofs.Called.{same_count}
+use Rattle.codegen_requests.proofs.Channels.{channel_of}
+use Rattle.codegen_requests.proofs.Sets.{given_long}
 use Rattle.codegen_fine.proofs.Layouts.{declarable_parts}
 use Rattle.codegen_fine.proofs.Makes.{type_outside}
 
-channel_of : (t : ValueType) (o : Option ValueType) → element_type t ≡ o → (o ≡ None → ⊥) → (d : Direction) × (c : ValueType) × (t ≡ ChannelType d c)
-channel_of (ChannelType d c) o is never = (d, c, refl)
-channel_of IntType o is never = absurd (never (sym is))
-channel_of BoolType o is never = absurd (never (sym is))
-channel_of (StructType n) o is never = absurd (never (sym is))
+-- the type that a value of a type takes
+typed_default : (o : Option ValueType) → default_type (option_map Typed o) ≡ o
+typed_default None = refl
+typed_default (Some t) = refl
 
 module _ (elements : List Element) where
   -- a type that is known, and noted
@@ -128,19 +128,11 @@ module _ (elements : List Element) where
           values_well names es (second + expression_size e) (n + expression_size e) (omega (arith, left)) (λ flaw h. free flaw (inr h)) (λ flaw h. goes flaw (inr h)),
         )
 
-    typed_default : (o : Option ValueType) → default_type (option_map Typed o) ≡ o
-    typed_default None = refl
-    typed_default (Some t) = refl
-
-    long_values : (es : List Expression) (first : ℕ) → length (given_values globals s first es) ≡ length es
-    long_values [] first = refl
-    long_values (e ∷ es) first = ap suc (long_values es (first + expression_size e))
-
     -- what is given to names
     pub right_well : (names : List (List ℕ)) (right : Right) (first end : ℕ) → 1 ≤ end → AreMade globals.types right → Free (RightHas globals s first right) → Free (NumbersHave (length (given globals s (length names) first right)) (length names) end) → Free (NamesFail s names (given globals s (length names) first right))
         → AllWell s names (given globals s (length names) 0 right)
     right_well names (Values es) first end le made free numbers goes =
-        let many = same_count (length (given_values globals s first es)) (length names) end le numbers in values_well names es first 0 (sym (long_values es first) ∙ many) free goes
+        let many = same_count (length (given_values globals s first es)) (length names) end le numbers in values_well names es first 0 (sym (given_long globals s first es) ∙ many) free goes
     right_well names (RightOperation operation) first end le made free numbers goes =
         let kind = operation_type globals s operation in
         let many = same_count (length (given globals s (length names) first (RightOperation operation))) (length names) end le numbers in

@@ -1,6 +1,6 @@
 -- The elements of all channel types that the statements of a file make are noted, and no post statement declares anything.
 use Rattle.std.proofs.Common.{ℕ, List, Option, Some, None, IfSome}
-use Rattle.syntax.specs.Tree.{TypeExpression, Call, Receive, Make, Length, Capacity, Right, RightOperation, Values, Simple, CallAlone, Close, Print, ReceiveAlone, Send, Increment, Decrement, Assign, Define, Update, IfHead, First, Bare, Semicolon, ForHead, Forever, While, ForClauses, Range, NoValue, ReturnedOperation, ReturnedValue, Statement, Empty, Alone, VarTyped, VarUntyped, Block, If, For, Select, Go, Return, Break, Continue, Statements, NoStatement, Then, Branch, Conditional, Otherwise, NoElse, ElseBlock, ElseIf, Clauses, NoClause, Clause, File}
+use Rattle.syntax.specs.Tree.{TypeExpression, Call, Receive, Make, Length, Capacity, Right, RightOperation, Values, Simple, CallAlone, Close, Print, ReceiveAlone, Send, Increment, Decrement, Assign, Define, Update, IfHead, First, Bare, Semicolon, Forever, While, ForClauses, Range, NoValue, ReturnedOperation, ReturnedValue, Statement, Empty, Alone, VarTyped, VarUntyped, Block, If, For, Select, Go, Return, Break, Continue, Statements, NoStatement, Then, Branch, Conditional, Otherwise, NoElse, ElseBlock, ElseIf, Clauses, NoClause, Clause, File}
 use Rattle.bytecode.specs.Code.{Function as CodeFunction, Code}
 use Rattle.type_table.specs.Scopes.{Yield, nothing_declared, type_in}
 use Rattle.checker_statement.specs.Statements.{head_simple}
@@ -10,7 +10,7 @@ use Rattle.codegen_base.specs.declared.element.Element.{Element}
 use Rattle.codegen_base.specs.Program.{noting, noting_right, noting_given, noting_simple, noting_first, noting_head, noting_statement, noting_statements, noting_branch, noting_otherwise, noting_clauses}
 use Rattle.codegen_base.proofs.Fields.{AllWide}
 use Rattle.codegen_base.proofs.Noted.{Noted, Grows, grows_on, noted_grows, type_noted}
-use Rattle.codegen_follows.proofs.Stands.{DeclaresNone, RightMakes, SimpleMakes, IfHeadMakes, ForHeadMakes, Makes, AllMake, BranchMakes, OtherwiseMakes, ClausesMake}
+use Rattle.codegen_follows.proofs.Stands.{DeclaresNone, RightMakes, SimpleMakes, IfHeadMakes, Makes, AllMake, BranchMakes, OtherwiseMakes, ClausesMake}
 use Rattle.codegen_fine.proofs.Bodies.{StillAny}
 use Rattle.codegen_fine.proofs.Noting.{given_grows, first_grows, statements_grow, otherwise_grows, clauses_grow}
 use Rattle.codegen_fine.proofs.Statements.{PostsStill, PostsAll, PostsBranch, PostsOtherwise, PostsClauses}

@@ -1,18 +1,17 @@
 -- The locals of a function that begins hold its arguments, as the variables of its parameters.
-use Rattle.std.proofs.Common.{◌≡◌, ℕ, suc, ◌+◌, ◌≤◌, List, [], ◌∷◌, ◌++◌, length, map, take, drop, Some, refl, sym, ap, ◌∙◌, subst, arith, append_assoc, length-append}
+use Rattle.std.proofs.Common.{◌≡◌, ℕ, suc, ◌+◌, ◌≤◌, List, [], ◌∷◌, ◌++◌, length, map, take, drop, refl, sym, ap, ◌∙◌, subst, arith, append_assoc, length-append}
 use Rattle.std.proofs.Math.Seq.{drop-append_seam, take-append_seam}
-use Rattle.std.proofs.lemmas.List.{append-nil, length-map, map-append}
+use Rattle.std.proofs.lemmas.List.{length-map, map-append}
 use Rattle.syntax.specs.Tree.{File}
 use Rattle.bytecode.specs.declared.instr.WordKind.{WordKind}
 use Rattle.bytecode.specs.Machine.{zero_of, fitted, put_at}
-use Rattle.word.specs.declared.value.Word.{Word}
 use Rattle.type_table.specs.Types.{ValueType}
 use Rattle.type_table.specs.Containment.{Field, Structs}
-use Rattle.type_table.specs.Scopes.{Globals, Scope}
+use Rattle.type_table.specs.Scopes.{Globals}
 use Rattle.type_table.specs.Zeros.{zero_words}
 use Rattle.checker_declaration.specs.Kinds.{kinds_in}
 use Rattle.meaning.specs.Values.{Value, known, word_like, words_like, words_in}
-use Rattle.meaning.specs.Variables.{Blocks, declare, holding, New}
+use Rattle.meaning.specs.Variables.{declare, holding, New}
 use Rattle.meaning.specs.Source.{globals, bound, split}
 use Rattle.codegen_base.specs.declared.element.Element.{Element}
 use Rattle.codegen_base.specs.Elements.{kinds_of}
@@ -25,13 +24,10 @@ use Rattle.codegen_base.proofs.Fields.{AllWide}
 use Rattle.codegen_base.proofs.Likeness.{like_length, like_long, fitted_like, kinds_zeros, kinds_long}
 use Rattle.codegen_base.proofs.Seen.{seen}
 use Rattle.codegen_base.proofs.Static.{IsPlaced}
+use Rattle.codegen_steps.proofs.Returned.{like_none}
 use Rattle.codegen_fine.proofs.Emitted.{all_kinds}
 
 -- ---- words
-
-like_none : (zs : Words) → words_like zs [] ≡ zs
-like_none [] = refl
-like_none (z ∷ zs) = ap (λ (l : Words). z ∷ l) (like_none zs)
 
 like_both : (ys zs vs ws : Words) → length vs ≡ length ys → words_like (ys ++ zs) (vs ++ ws) ≡ words_like ys vs ++ words_like zs ws
 like_both [] zs [] ws e = refl

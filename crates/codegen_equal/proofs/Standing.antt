@@ -2,10 +2,10 @@
 use Rattle.std.proofs.Common.{◌≡◌, ℕ, List, ◌∷◌, length, Some, refl, sym, subst, slice_get}
 use Rattle.syntax.specs.Tree.{File}
 use Rattle.bytecode.specs.Code.{Function as CodeFunction, Code}
-use Rattle.bytecode.specs.Machine.{Frames as CodeFrames, code_next, code_answer, code_kind}
+use Rattle.bytecode.specs.Machine.{Frames as CodeFrames, code_next, code_kind}
 use Rattle.word.specs.declared.panic.Panic.{Panic as Cause}
-use Rattle.word.specs.Values.{Request, Reply, Panic, End}
-use Rattle.word.specs.Kinds.{Next, Slides, Ticks, Asks, Stuck, Suits}
+use Rattle.word.specs.Values.{Request, Panic, End}
+use Rattle.word.specs.Kinds.{Next, Slides, Ticks, Asks, Stuck}
 use Rattle.word.specs.Related.{Slips, here, Starts, Answers, Matches}
 use Rattle.type_table.specs.Containment.{fields_of}
 use Rattle.type_table.specs.Scopes.{Scope, Yield}

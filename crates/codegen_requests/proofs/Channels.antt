@@ -52,7 +52,7 @@ pub record Grounds (file : File) (elements : List Element) (code : Code) : Type 
   pub params_known : (n : ℕ) → KindsKnown (parameters_of (globals file) n)
   pub results_known : (n : ℕ) → YieldKnown (result_of (globals file) n)
 
-channel_of : (t : ValueType) (o : Option ValueType) → element_type t ≡ o → (o ≡ None → ⊥) → (d : Direction) × (c : ValueType) × (t ≡ ChannelType d c)
+pub channel_of : (t : ValueType) (o : Option ValueType) → element_type t ≡ o → (o ≡ None → ⊥) → (d : Direction) × (c : ValueType) × (t ≡ ChannelType d c)
 channel_of (ChannelType d c) o is never = (d, c, refl)
 channel_of IntType o is never = absurd (never (sym is))
 channel_of BoolType o is never = absurd (never (sym is))

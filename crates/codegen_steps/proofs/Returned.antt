@@ -42,7 +42,7 @@ abbrev pub YieldKnown : Yield → Type 0
 YieldKnown NoResult = Unit {0}
 YieldKnown (Yields kind) = kind ≡ Some (known kind)
 
-like_none : (zs : List Word) → words_like zs [] ≡ zs
+pub like_none : (zs : List Word) → words_like zs [] ≡ zs
 like_none [] = refl
 like_none (z ∷ zs) = ap (λ (l : List Word). z ∷ l) (like_none zs)
 
