@@ -20,7 +20,7 @@ use Rattle.codegen_base.proofs.Fields.{AllWide}
 use Rattle.codegen_base.proofs.Seen.{seen, seen_block}
 use Rattle.codegen_base.proofs.Static.{innermost_begins, Nested}
 use Rattle.codegen_base.proofs.Typing.{Free}
-use Rattle.codegen_follows.proofs.Stands.{Around, View, scope_of, variables, Together, Inner, opened, Prints, IsOn, LeadsOn, within, Fine, made_here, behind, Fits, Doing, Live, Sits}
+use Rattle.codegen_follows.proofs.Stands.{Around, View, scope_of, variables, Together, Inner, opened, Prints, IsOn, LeadsOn, within, Fine, made_here, behind, Fits, Makes, Doing, Live, Sits}
 use Rattle.codegen_follows.proofs.Grown.{grown, grown_statements}
 use Rattle.codegen_follows.proofs.Narrowed.{unreached}
 use Rattle.codegen_follows.proofs.Unwound.{together_refl, together_on}
@@ -115,7 +115,7 @@ module _ (file : File) (elements : List Element) (all : AllWide (globals file).s
     pub fits : Fits file elements all code result f first a
     pub others : IfSome mid (λ m. On' l b.plan m out × Fits file elements all code result f (first + length a.prints) b)
 
-  parts : (l : Around) (first : ℕ) (a b : Made) (place : ℕ) (out : Option ℕ) (t : Bool) → reaches_end a.plan ≡ t → a.layout.scope.words ≤ b.layout.scope.words → On' l (if t then followed a b else a).plan place out → Fits file elements all code result f first (if t then followed a b else a) → Parts l first a b place out
+  pub parts : (l : Around) (first : ℕ) (a b : Made) (place : ℕ) (out : Option ℕ) (t : Bool) → reaches_end a.plan ≡ t → a.layout.scope.words ≤ b.layout.scope.words → On' l (if t then followed a b else a).plan place out → Fits file elements all code result f first (if t then followed a b else a) → Parts l first a b place out
   parts l first a b place out true is le on h =
       let r = h.room in
       record {
@@ -131,7 +131,7 @@ module _ (file : File) (elements : List Element) (all : AllWide (globals file).s
 
   -- behind a statement in which nothing is wrong the layout has the variables that the typing rules see
   abbrev pub FineBehind : Type 0
-  FineBehind = (view : View) (s : Statement) (first : ℕ) (breaks continues : Bool) → Fine file elements all code result f view → Free (StatementHas (within file elements all code result f breaks continues) view.checked first s) → Fine file elements all code result f (past_one view s)
+  FineBehind = (view : View) (s : Statement) (first : ℕ) (breaks continues : Bool) → Fine file elements all code result f view → Free (StatementHas (within file elements all code result f breaks continues) view.checked first s) → Makes file elements all code result f s → Fine file elements all code result f (past_one view s)
 
   module _ (fine_behind : FineBehind) where
     -- the first statement's code, and the others' where they are reached
@@ -152,7 +152,7 @@ module _ (file : File) (elements : List Element) (all : AllWide (globals file).s
             first = h.first + statement_size s;
             breaks = h.breaks;
             continues = h.continues;
-            fine = fine_behind view s h.first h.breaks h.continues h.fine (λ flaw y. h.good flaw (inl y));
+            fine = fine_behind view s h.first h.breaks h.continues h.fine (λ flaw y. h.good flaw (inl y)) h.makes.0;
             good = λ flaw y. h.good flaw (inr y);
             makes = h.makes.1;
             on = x.0;

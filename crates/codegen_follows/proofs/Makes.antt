@@ -44,7 +44,7 @@ module _ (file : File) (elements : List Element) (all : AllWide (globals file).s
   abbrev mutual
     pub Makes : Statement → Type 0
     Makes (Alone simple) = SimpleMakes simple
-    Makes (VarTyped names kind right) = IfSome right RightMakes
+    Makes (VarTyped names kind right) = Noted elements (known (type_in (globals file).types nothing_declared kind)) × IfSome right RightMakes
     Makes (VarUntyped names right) = RightMakes right
     Makes (Block body) = AllMake body
     Makes (If branch) = BranchMakes branch

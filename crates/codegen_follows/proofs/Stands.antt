@@ -269,9 +269,9 @@ module _ (file : File) (elements : List Element) (all : AllWide (globals file).s
       (head : ℕ) × (place ≡ head + 1 + 1) × (d : RangingAt l view destinations zero body head mid) × (types ≡ d.kind ∷ BoolType ∷ []) × (variables next ≡ variables view)
   Taking l view types purpose next place mid = ⊥
 
-  -- a goroutine that is started gets values of its function's parameters
+  -- a goroutine that is started runs a function that is there, and gets values of its parameters
   abbrev pub Begins : Request → Type 0
-  Begins (requests.Go function arguments) = (values : List Value) × AreLike (globals file).structs all (map known (parameters_of (globals file) function)) values × (arguments ≡ all_words_of (globals file).structs all values)
+  Begins (requests.Go function arguments) = (made : CodeFunction) × (slice_get code.functions function ≡ Some made) × (values : List Value) × AreLike (globals file).structs all (map known (parameters_of (globals file) function)) values × (arguments ≡ all_words_of (globals file).structs all values)
   Begins q = Unit {0}
 
   -- an instruction that asks, its operands on the stack, and what becomes of the values that it is told

@@ -40,7 +40,7 @@ use Rattle.codegen_requests.proofs.Places.{places_are, places_stay}
 use Rattle.codegen_requests.proofs.Sets.{AreTyped, typed_default, typed_suit as places_suit}
 use Rattle.codegen_ranges.proofs.Names.{AreNew, new_names, names_are}
 use Rattle.codegen_ranges.proofs.Defined.{once, typed_suit as names_suit}
-use Rattle.codegen_follows.proofs.Stands.{Around, View, scope_of, variables, Together, Fine, IsOn, Assigning, Taking, all_wide, purpose_of, opened, behind}
+use Rattle.codegen_follows.proofs.Stands.{Around, View, scope_of, variables, Together, Makes, Fine, IsOn, Assigning, Taking, all_wide, purpose_of, opened, behind}
 use Rattle.codegen_follows.proofs.Begun.{FineBehind, fine_opened, take_front}
 use Rattle.codegen_follows.proofs.Grown.{grown_comm}
 
@@ -153,8 +153,15 @@ module _ (file : File) (elements : List Element) (all : AllWide (globals file).s
     received_layout item None e = ap (λ kind. (declaring_all (globals file) elements (item ∷ []) (kind ∷ []) site.layout).scope) (typed_default (element_of (worth (globals file) scope e)))
     received_layout item (Some other) e = ap (λ kind. (declaring_all (globals file) elements (item ∷ other ∷ []) (kind ∷ BoolType ∷ []) site.layout).scope) (typed_default (element_of (worth (globals file) scope e)))
 
+    -- it makes no channel
+    comm_makes : (comm : Comm) → Makes file elements all code result f (Alone (comm_simple comm))
+    comm_makes (CommSend to item) = tt
+    comm_makes (CommReceive e) = tt
+    comm_makes (CommDefine item ok e) = tt
+    comm_makes (CommAssign item ok e) = tt
+
     pub comm_fine : (comm : Comm) (first : ℕ) → Good comm first → Fine file elements all code result f (comm_view comm)
-    comm_fine comm first good = go comm (fine_behind clause_view (Alone (comm_simple comm)) first true true fine_clause good) where
+    comm_fine comm first good = go comm (fine_behind clause_view (Alone (comm_simple comm)) first true true fine_clause good (comm_makes comm)) where
       go : (comm : Comm) → Fine file elements all code result f (behind file elements all code result f clause_view (Alone (comm_simple comm))) → Fine file elements all code result f (comm_view comm)
       go (CommSend to item) h = record { placed = h.placed; alike = h.alike; noted = h.noted }
       go (CommReceive e) h = record { placed = h.placed; alike = h.alike; noted = h.noted }

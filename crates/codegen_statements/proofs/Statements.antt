@@ -23,9 +23,9 @@ use Rattle.codegen_follows.proofs.Begun.{FineBehind}
 use Rattle.codegen_follows.proofs.Valued.{Goes}
 use Rattle.codegen_follows.proofs.Follows.{Held, Sitting, Back, Rest, empty_goes, block_goes, break_goes, continue_goes}
 use Rattle.codegen_steps.proofs.Branches.{if_goes}
-use Rattle.codegen_steps.proofs.Returned.{Gives}
+use Rattle.codegen_steps.proofs.Returned.{YieldKnown, Gives}
 use Rattle.codegen_steps.proofs.Loops.{forever_goes, while_goes, clauses_first_goes, clauses_bare_goes}
-use Rattle.codegen_requests.proofs.Channels.{YieldKnown, Grounds}
+use Rattle.codegen_requests.proofs.Channels.{Grounds}
 use Rattle.codegen_requests.proofs.Calling.{Wait, AllThere, Starting, go_goes}
 use Rattle.codegen_requests.proofs.Returns.{return_goes}
 use Rattle.codegen_ranges.proofs.Ranges.{bare_range_goes}
@@ -57,7 +57,7 @@ module _ (file : File) (elements : List Element) (all : AllWide (globals file).s
       statement_goes (Alone simple) place d same = alone_goes file elements all typed known_fields code result g f there cs ds R Asked panics sitting grounds fields_known all_there starting has wait ls l view next mid k h t r simple place d same
       statement_goes (VarTyped names kind None) place d same = let room = room_there (VarTyped names kind None) place d in typed_zeros_go file elements all typed known_fields code result g f there cs ds R Asked panics sitting grounds ls l view next mid k d.fine room h t r names kind d.first place d.good d.on same d.fits.room
       statement_goes (VarTyped names kind (Some (Values es))) place d same = let room = room_there (VarTyped names kind (Some (Values es))) place d in typed_values_go file elements all typed known_fields code result g f there cs ds R Asked panics sitting grounds ls l view next mid k d.fine room h t r names kind es d.first place d.good d.on same d.fits.room
-      statement_goes (VarTyped names kind (Some (RightOperation operation))) place d same = let room = room_there (VarTyped names kind (Some (RightOperation operation))) place d in typed_operation_goes file elements all typed known_fields code result g f there cs ds R Asked panics sitting grounds ls l view next mid k d.fine room h t r all_there starting has wait names kind operation d.first place d.makes d.good d.on same d.fits.room
+      statement_goes (VarTyped names kind (Some (RightOperation operation))) place d same = let room = room_there (VarTyped names kind (Some (RightOperation operation))) place d in typed_operation_goes file elements all typed known_fields code result g f there cs ds R Asked panics sitting grounds ls l view next mid k d.fine room h t r all_there starting has wait names kind operation d.first place d.makes.1 d.good d.on same d.fits.room
       statement_goes (VarUntyped names right) place d same = let room = room_there (VarUntyped names right) place d in untyped_goes file elements all typed known_fields code result g f there cs ds R Asked panics sitting grounds ls l view next mid k d.fine room h t r all_there starting has wait names right d.first place d.makes d.good d.on same d.fits.room
       statement_goes (Block body) place d same = block_goes file elements all typed known_fields code result g f there cs ds R Asked panics fine_behind sitting back ls view next l body place mid k h d same t.0 r
       statement_goes (If (Conditional head condition body otherwise)) place d same = if_goes file elements all typed known_fields code result g f there cs ds R Asked panics fine_behind sitting back ls view next l head condition body otherwise place mid k h d same t.0 r

@@ -27,8 +27,8 @@ use Rattle.codegen_follows.proofs.Follows.{Held, end_block_goes, decide_goes, he
 use Rattle.codegen_steps.proofs.Stored.{store_goes}
 use Rattle.codegen_steps.proofs.Taken.{ask_goes}
 use Rattle.codegen_steps.proofs.Ranged.{next_goes, round_goes, item_ends}
-use Rattle.codegen_steps.proofs.Returned.{Gives, AllWait, AllSitting, give_goes, end_goes}
-use Rattle.codegen_requests.proofs.Channels.{YieldKnown, Grounds}
+use Rattle.codegen_steps.proofs.Returned.{YieldKnown, Gives, AllWait, AllSitting, give_goes, end_goes}
+use Rattle.codegen_requests.proofs.Channels.{Grounds}
 use Rattle.codegen_requests.proofs.Calling.{AllThere, Starting}
 use Rattle.codegen_selects.proofs.Chosen.{choose_goes}
 use Rattle.codegen_statements.proofs.Statements.{statement_goes}
