@@ -71,7 +71,7 @@ none_there None e = refl
 none_there (Some v) e = absurd cc
 
 -- a name that is declared is new, and not `_`
-declarable_parts : (scope : Scope) (name : List ℕ) → is_declarable scope name ≡ true → (is_blank name ≡ false) × (own_variable scope name ≡ None)
+pub declarable_parts : (scope : Scope) (name : List ℕ) → is_declarable scope name ≡ true → (is_blank name ≡ false) × (own_variable scope name ≡ None)
 declarable_parts scope name e = let w = and_parts (not (is_blank name)) (is_none (own_variable scope name)) e in (go (is_blank name) w.0, none_there (own_variable scope name) w.1) where
   go : (b : Bool) → not b ≡ true → b ≡ false
   go false e = refl
@@ -83,7 +83,7 @@ none_alike None (Some w) e = absurd cc
 none_alike (Some v) None e = absurd cc
 none_alike (Some v) (Some w) e = refl
 
-declarable_alike : (s t : Scope) → Alike s t → (name : List ℕ) → is_declarable s name ≡ is_declarable t name
+pub declarable_alike : (s t : Scope) → Alike s t → (name : List ℕ) → is_declarable s name ≡ is_declarable t name
 declarable_alike s t alike name = ap (λ b. not (is_blank name) && b) (none_alike (own_variable s name) (own_variable t name) (own_alike s t alike name))
 
 -- names none of which, but `_`, stands among them twice

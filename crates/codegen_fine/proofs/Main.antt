@@ -32,7 +32,7 @@ use Rattle.codegen_fine.proofs.Shapes.{shapes_there, shapes_short}
 use Rattle.codegen_fine.proofs.Limits.{Small, short_tops}
 use Rattle.codegen_fine.proofs.Filled.{shapes_filled}
 
-abbrev first_place : {A : Type 0} → (A → Bool) → List A → Option ℕ
+abbrev pub first_place : {A : Type 0} → (A → Bool) → List A → Option ℕ
 first_place p [] = None
 first_place p (x ∷ xs) = cond (p x) (Some 0) (option_map suc (first_place p xs))
 
@@ -44,7 +44,7 @@ lt_suc k n = go (nat_lt k n) refl (nat_lt (1 + k) (suc n)) refl where
   go true p false q = absurd (grind (arith, nat_tests))
   go false p true q = absurd (grind (arith, nat_tests))
 
-position_is : {A : Type 0} (p : A → Bool) (xs : List A) → position p xs ≡ first_place p xs
+pub position_is : {A : Type 0} (p : A → Bool) (xs : List A) → position p xs ≡ first_place p xs
 position_is p [] = refl
 position_is p (x ∷ xs) = go (p x) refl (nat_lt (position_or_len p xs) (length xs)) refl (position_is p xs) where
   go : (b : Bool) → p x ≡ b → (c : Bool) → nat_lt (position_or_len p xs) (length xs) ≡ c → position p xs ≡ first_place p xs → position p (x ∷ xs) ≡ cond (p x) (Some 0) (option_map suc (first_place p xs))
@@ -74,10 +74,10 @@ below (suc (suc (suc (suc k)))) d lt = absurd (omega (arith, lt))
 main_utf8 : is_utf8 (codes "main") ≡ true
 main_utf8 = is_utf8-from_IsUtf8 (codes "main") (IsUtf8-from_ascii (codes "main") (IsAscii-from_all (codes "main") below))
 
-abbrev named_main : List ℕ → Bool
+abbrev pub named_main : List ℕ → Bool
 named_main name = bytes_eq name (codes "main")
 
-label_same : (name : List ℕ) (t : Bool) → named_main name ≡ t → named_main (label name) ≡ t
+pub label_same : (name : List ℕ) (t : Bool) → named_main name ≡ t → named_main (label name) ≡ t
 label_same name true e = subst (λ n. named_main (label n) ≡ true) (sym ((bytes_eq-Decides name (codes "main")).0 e)) (ap (λ b. named_main (if b then codes "main" else [])) main_utf8)
 label_same name false e = go (is_utf8 name) where
   go : (b : Bool) → named_main (if b then name else []) ≡ false

@@ -108,7 +108,7 @@ narrow v end le free = go (nat_le v 16) refl where
   go true e = grind (arith, nat_tests, e)
   go false e = let x = exceeded limits.StructWidth end le in let lt : 16 < v = grind (arith, nat_tests, e) in absurd (free x.0 (lt, x.1))
 
-struct_narrow : (file : File) → AllWide (globals_of file.tops).structs → Free (FileHas file) → (m : ℕ) → length (kinds_of (globals_of file.tops).structs (elements_of file) (StructType m)) ≤ 16
+pub struct_narrow : (file : File) → AllWide (globals_of file.tops).structs → Free (FileHas file) → (m : ℕ) → length (kinds_of (globals_of file.tops).structs (elements_of file) (StructType m)) ≤ 16
 struct_narrow file wide free m =
     let structs = (globals_of file.tops).structs in
     let (v, is) = wide m in

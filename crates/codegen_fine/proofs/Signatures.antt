@@ -48,7 +48,7 @@ number_within (f ∷ fs) name n e = go (bytes_eq f.name name) (function_number f
 
 module _ (globals : Globals) (elements : List Element) where
   -- the locals of parameters
-  parameters_locals : (fields : List Field) (layout : Layout) → (with_parameters globals elements fields layout).locals ≡ layout.locals ++ all_kinds globals.structs elements (map known (kinds_in fields))
+  pub parameters_locals : (fields : List Field) (layout : Layout) → (with_parameters globals elements fields layout).locals ≡ layout.locals ++ all_kinds globals.structs elements (map known (kinds_in fields))
   parameters_locals [] layout = sym (append-nil layout.locals)
   parameters_locals (field ∷ rest) layout =
       parameters_locals rest (declaring globals elements (known field.kind) field.name layout) ∙ append_assoc layout.locals (kinds_of globals.structs elements (known field.kind)) (all_kinds globals.structs elements (map known (kinds_in rest)))

@@ -39,7 +39,7 @@ use Rattle.codegen_fine.proofs.Layouts.{OwnSame, own_same, own_declared, AllOthe
 use Rattle.codegen_fine.proofs.Makes.{noted_there}
 use Rattle.codegen_fine.proofs.Assigns.{Leaves, Declares, put_leaves, typed_defines}
 
-three_false : (a b c : Bool) → (a || b || c) ≡ false → (b ≡ false) × (c ≡ false)
+pub three_false : (a b c : Bool) → (a || b || c) ≡ false → (b ≡ false) × (c ≡ false)
 three_false false false false e = (refl, refl)
 three_false false false true e = absurd cc
 three_false false true false e = absurd cc
@@ -49,7 +49,7 @@ three_false true false true e = absurd cc
 three_false true true false e = absurd cc
 three_false true true true e = absurd cc
 
-not_true : (b : Bool) → (b ≡ true → ⊥) → b ≡ false
+pub not_true : (b : Bool) → (b ≡ true → ⊥) → b ≡ false
 not_true true never = absurd (never refl)
 not_true false never = refl
 
@@ -62,7 +62,7 @@ abbrev pub AllNew : Scope → List (List ℕ) → Type 0
 AllNew s [] = Unit {0}
 AllNew s (name ∷ names) = (own_variable s name ≡ None) × AllNew s names
 
-new_by : (s : Scope) (names : List (List ℕ)) → list_any (λ name. is_some (own_variable s name)) names ≡ false → AllNew s names
+pub new_by : (s : Scope) (names : List (List ℕ)) → list_any (λ name. is_some (own_variable s name)) names ≡ false → AllNew s names
 new_by s [] e = tt
 new_by s (name ∷ names) e = let w = or_parts (is_some (own_variable s name)) (list_any (λ name. is_some (own_variable s name)) names) e in (none_of (own_variable s name) w.0, new_by s names w.1)
 
@@ -83,7 +83,7 @@ module _ (globals : Globals) (elements : List Element) where
   values_types [] kind = refl
   values_types (name ∷ names) kind = ap (λ (l : List ValueType). kind ∷ l) (values_types names kind)
 
-  all_each : (names : List (List ℕ)) (kind : ValueType) (layout : Layout) → declaring_all globals elements names (given_types globals elements (alike_values names kind)) layout ≡ declaring_each globals elements kind names layout
+  pub all_each : (names : List (List ℕ)) (kind : ValueType) (layout : Layout) → declaring_all globals elements names (given_types globals elements (alike_values names kind)) layout ≡ declaring_each globals elements kind names layout
   all_each [] kind layout = refl
   all_each (name ∷ names) kind layout = all_each names kind (declaring_new globals elements kind name layout)
 

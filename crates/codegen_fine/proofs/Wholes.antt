@@ -44,7 +44,7 @@ module _ (globals : Globals) (elements : List Element) where
   ParametersFine (field ∷ rest) = (field.kind ≡ Some (known field.kind)) × Noted elements (known field.kind) × ParametersFine rest
 
   module _ (code : Code) (grounds : Grounds globals elements code) where
-    parameters_fit : (f : CodeFunction) (fields : List Field) (layout : Layout) (s : Scope) → ParametersFine fields → Room globals elements code f layout → Alike s layout.scope → Begins f (with_parameters globals elements fields layout)
+    pub parameters_fit : (f : CodeFunction) (fields : List Field) (layout : Layout) (s : Scope) → ParametersFine fields → Room globals elements code f layout → Alike s layout.scope → Begins f (with_parameters globals elements fields layout)
         → Room globals elements code f (with_parameters globals elements fields layout) × Alike (with_fields globals.structs s fields) (with_parameters globals elements fields layout).scope
     parameters_fit f [] layout s fine room alike begins = (room, alike)
     parameters_fit f (field ∷ rest) layout s fine room alike begins =

@@ -6,7 +6,7 @@ use Rattle.syntax.specs.Measures.{statement_size}
 use Rattle.bytecode.specs.Code.{PrintTable, Function as CodeFunction, Code}
 use Rattle.word.specs.declared.value.Word.{Word}
 use Rattle.type_table.specs.Scopes.{Variable, Yield}
-use Rattle.checker_statement.specs.Statements.{StatementHas, StatementsHave}
+use Rattle.checker_statement.specs.Statements.{StatementHas}
 use Rattle.meaning.specs.Variables.{entered}
 use Rattle.meaning.specs.Tasks.{Task, Do, EndBlock, Decide, Head, Again, Turn, EndSelect, Ask, Await, Store, GiveBack, all_of}
 use Rattle.meaning.specs.Source.{globals}
@@ -20,7 +20,7 @@ use Rattle.codegen_base.proofs.Fields.{AllWide}
 use Rattle.codegen_base.proofs.Seen.{seen, seen_block}
 use Rattle.codegen_base.proofs.Static.{innermost_begins, Nested}
 use Rattle.codegen_base.proofs.Typing.{Free}
-use Rattle.codegen_follows.proofs.Stands.{Around, View, scope_of, variables, Together, Inner, opened, Prints, IsOn, LeadsOn, within, Fine, made_here, behind, Fits, AllMake, Doing, Sits}
+use Rattle.codegen_follows.proofs.Stands.{Around, View, scope_of, variables, Together, Inner, opened, Prints, IsOn, LeadsOn, within, Fine, made_here, behind, Fits, Makes, Doing, Live, Sits}
 use Rattle.codegen_follows.proofs.Grown.{grown, grown_statements}
 use Rattle.codegen_follows.proofs.Narrowed.{unreached}
 use Rattle.codegen_follows.proofs.Unwound.{together_refl, together_on}
@@ -69,6 +69,9 @@ module _ (file : File) (elements : List Element) (all : AllWide (globals file).s
   abbrev LeadsOn' : Option ℕ → Option ℕ → Type 0
   LeadsOn' mid to = LeadsOn file elements all code result f mid to
 
+  abbrev L : View → Around → Statements → ℕ → Option ℕ → Type 0
+  L view l body place out = Live file elements all code result f view l body place out
+
   abbrev past_one : View → Statement → View
   past_one view s = behind file elements all code result f view s
 
@@ -105,17 +108,6 @@ module _ (file : File) (elements : List Element) (all : AllWide (globals file).s
 
   -- ---- the statements of a block
 
-  -- their code stands at a place, and nothing is wrong with them
-  pub record Live (view : View) (l : Around) (body : Statements) (place : ℕ) (out : Option ℕ) : Type 0 where
-    pub first : ℕ
-    pub breaks : Bool
-    pub continues : Bool
-    pub fine : Fine file elements all code result f view
-    pub good : Free (StatementsHave (within file elements all code result f breaks continues) view.checked first body)
-    pub makes : AllMake file elements all code result f body
-    pub on : On' l (made_all (globals file) elements result view.site body).plan place out
-    pub fits : Fits file elements all code result f view.site.prints (made_all (globals file) elements result view.site body)
-
   -- the first one, and the others where they are reached
   pub record Parts (l : Around) (first : ℕ) (a b : Made) (place : ℕ) (out : Option ℕ) : Type 0 where
     pub mid : Option ℕ
@@ -123,7 +115,7 @@ module _ (file : File) (elements : List Element) (all : AllWide (globals file).s
     pub fits : Fits file elements all code result f first a
     pub others : IfSome mid (λ m. On' l b.plan m out × Fits file elements all code result f (first + length a.prints) b)
 
-  parts : (l : Around) (first : ℕ) (a b : Made) (place : ℕ) (out : Option ℕ) (t : Bool) → reaches_end a.plan ≡ t → a.layout.scope.words ≤ b.layout.scope.words → On' l (if t then followed a b else a).plan place out → Fits file elements all code result f first (if t then followed a b else a) → Parts l first a b place out
+  pub parts : (l : Around) (first : ℕ) (a b : Made) (place : ℕ) (out : Option ℕ) (t : Bool) → reaches_end a.plan ≡ t → a.layout.scope.words ≤ b.layout.scope.words → On' l (if t then followed a b else a).plan place out → Fits file elements all code result f first (if t then followed a b else a) → Parts l first a b place out
   parts l first a b place out true is le on h =
       let r = h.room in
       record {
@@ -139,12 +131,12 @@ module _ (file : File) (elements : List Element) (all : AllWide (globals file).s
 
   -- behind a statement in which nothing is wrong the layout has the variables that the typing rules see
   abbrev pub FineBehind : Type 0
-  FineBehind = (view : View) (s : Statement) (first : ℕ) (breaks continues : Bool) → Fine file elements all code result f view → Free (StatementHas (within file elements all code result f breaks continues) view.checked first s) → Fine file elements all code result f (past_one view s)
+  FineBehind = (view : View) (s : Statement) (first : ℕ) (breaks continues : Bool) → Fine file elements all code result f view → Free (StatementHas (within file elements all code result f breaks continues) view.checked first s) → Makes file elements all code result f s → Fine file elements all code result f (past_one view s)
 
   module _ (fine_behind : FineBehind) where
     -- the first statement's code, and the others' where they are reached
-    live_parts : (view : View) (l : Around) (s : Statement) (rest : Statements) (place : ℕ) (out : Option ℕ) → Live view l (Then s rest) place out
-        → (mid : Option ℕ) × Doing file elements all code result f l view s place mid × IfSome mid (λ m. Live (past_one view s) l rest m out)
+    live_parts : (view : View) (l : Around) (s : Statement) (rest : Statements) (place : ℕ) (out : Option ℕ) → L view l (Then s rest) place out
+        → (mid : Option ℕ) × Doing file elements all code result f l view s place mid × IfSome mid (λ m. L (past_one view s) l rest m out)
     live_parts view l s rest place out h =
         let a = one view s in
         let b = made_all (globals file) elements result (past view.site a) rest in
@@ -154,13 +146,13 @@ module _ (file : File) (elements : List Element) (all : AllWide (globals file).s
           go p.mid p.others,
         ) where
           go : (mid : Option ℕ) → IfSome mid (λ m. On' l (made_all (globals file) elements result (past view.site (one view s)) rest).plan m out × Fits file elements all code result f (view.site.prints + length (one view s).prints) (made_all (globals file) elements result (past view.site (one view s)) rest))
-              → IfSome mid (λ m. Live (past_one view s) l rest m out)
+              → IfSome mid (λ m. L (past_one view s) l rest m out)
           go None x = tt
           go (Some m) x = record {
             first = h.first + statement_size s;
             breaks = h.breaks;
             continues = h.continues;
-            fine = fine_behind view s h.first h.breaks h.continues h.fine (λ flaw y. h.good flaw (inl y));
+            fine = fine_behind view s h.first h.breaks h.continues h.fine (λ flaw y. h.good flaw (inl y)) h.makes.0;
             good = λ flaw y. h.good flaw (inr y);
             makes = h.makes.1;
             on = x.0;
@@ -171,7 +163,7 @@ module _ (file : File) (elements : List Element) (all : AllWide (globals file).s
     abbrev pub SitsSoon : View → Around → Option ℕ → List Task → Type 0
     SitsSoon view l place tasks = (to : Option ℕ) × LeadsOn' place to × S view l to [] tasks
 
-    pub sits_all : (body : Statements) (view : View) (l : Around) (place out : Option ℕ) (k : List Task) → IfSome place (λ p. Live view l body p out) → Nested view.begins (length (variables view))
+    pub sits_all : (body : Statements) (view : View) (l : Around) (place out : Option ℕ) (k : List Task) → IfSome place (λ p. L view l body p out) → Nested view.begins (length (variables view))
         → ((last : View) → Together view last → S last l out [] k) → SitsSoon view l place (all_of body ++ k)
     sits_all NoStatement view l None out k live nested sits = (None, tt, dead k view l out [] [] (sits view (together_refl view)))
     sits_all NoStatement view l (Some p) out k live nested sits = (out, live.on, sits view (together_refl view))

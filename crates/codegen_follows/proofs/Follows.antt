@@ -30,10 +30,10 @@ use Rattle.codegen_base.proofs.Assigned.{AllLike, holding_like, like_holding}
 use Rattle.codegen_base.proofs.Static.{innermost_begins}
 use Rattle.codegen_base.proofs.Typing.{FieldsKnown}
 use Rattle.codegen_base.proofs.Expressions.{Holding}
-use Rattle.codegen_follows.proofs.Stands.{Around, View, scope_of, variables, Together, Inner, opened, IsOn, LeadsOn, Fine, made_body, behind, behind_body, Doing, Deciding, Looping, post_made, Sits}
+use Rattle.codegen_follows.proofs.Stands.{Around, View, scope_of, variables, Together, Inner, opened, IsOn, LeadsOn, Fine, made_body, behind, behind_body, Doing, Deciding, Looping, post_made, Live, Sits}
 use Rattle.codegen_follows.proofs.Grown.{grown_statements, grown_otherwise}
 use Rattle.codegen_follows.proofs.Unwound.{Left, inner_left, broken_sits, continued_sits}
-use Rattle.codegen_follows.proofs.Begun.{prints_front, prints_back, together_behind, Live, FineBehind, sits_all, fine_opened, inner_opened, seen_opened}
+use Rattle.codegen_follows.proofs.Begun.{prints_front, prints_back, together_behind, FineBehind, sits_all, fine_opened, inner_opened, seen_opened}
 use Rattle.codegen_follows.proofs.Valued.{Goes, before, test_goes}
 
 module _ (file : File) (elements : List Element) (all : AllWide (globals file).structs) (typed : (n : ℕ) → AllTyped (globals file).structs (fields_of (globals file).structs n)) (known_fields : (s : Scope) → FieldsKnown (globals file) s)

@@ -82,7 +82,7 @@ module _ (globals : Globals) (elements : List Element) where
   grown_post header site (Some simple) = (grown_simple simple (entering site.layout)).words
 
   module _ (result : Yield) where
-    grown_comm : (comm : Comm) (layout : Layout) → Grown layout (behind_comm globals elements result comm layout)
+    pub grown_comm : (comm : Comm) (layout : Layout) → Grown layout (behind_comm globals elements result comm layout)
     grown_comm (CommSend a b) layout = grown_no layout
     grown_comm (CommReceive a) layout = grown_no layout
     grown_comm (CommDefine a b c) layout = grown_all (one_or_two globals elements result a b) (carried globals elements layout.scope c ∷ BoolType ∷ []) layout
@@ -147,7 +147,7 @@ module _ (globals : Globals) (elements : List Element) where
       grown_otherwise site condition so (ElseBlock body) = (grown_statements (inside (past site so)) body).words
       grown_otherwise site condition so (ElseIf branch) = (grown_branch (past site so) branch).words
 
-      grown_ways : (site : Site) (default : Site → Option Made) (clauses : Clauses) → ((behind : Site) → IfSome (default behind) (λ m. Grown behind.layout m.layout)) → IfSome (made_ways globals elements result site default clauses) (λ m. Grown site.layout m.layout)
+      pub grown_ways : (site : Site) (default : Site → Option Made) (clauses : Clauses) → ((behind : Site) → IfSome (default behind) (λ m. Grown behind.layout m.layout)) → IfSome (made_ways globals elements result site default clauses) (λ m. Grown site.layout m.layout)
       grown_ways site default NoClause d = d site
       grown_ways site default (Clause None body more) d = grown_ways site default more d
       grown_ways site default (Clause (Some comm) body more) d =
@@ -162,7 +162,7 @@ module _ (globals : Globals) (elements : List Element) where
             go one g None h = g
             go one g (Some m) h = grown_on site.layout one.layout m.layout g h
 
-      grown_default : (site : Site) (clauses : Clauses) → IfSome (made_default globals elements result site clauses) (λ m. Grown site.layout m.layout)
+      pub grown_default : (site : Site) (clauses : Clauses) → IfSome (made_default globals elements result site clauses) (λ m. Grown site.layout m.layout)
       grown_default site NoClause = tt
       grown_default site (Clause None body more) = grown_kept site.layout _ refl ((grown_statements (inside site) body).words)
       grown_default site (Clause (Some comm) body more) = grown_default site more

@@ -1,3 +1,4 @@
+pub mod Makes
 pub mod Stands
 pub mod Unwound
 pub mod Grown

@@ -1,18 +1,21 @@
 -- Where the code stands of what is still to be done.
 use Rattle.std.proofs.Common.{◌≡◌, ℕ, ◌+◌, ◌≤◌, Bool, true, List, [], ◌∷◌, ◌++◌, length, map, take, drop, Option, Some, None, IfSome, slice_get}
+use Rattle.std.specs.Option.{is_some}
 use Rattle.syntax.specs.declared.node.Direction.{Direction}
-use Rattle.syntax.specs.Tree.{Expression, Operation, Make, Right, RightOperation, Values, Simple, Assign, Define, IfHead, First, ForHead, ForClauses, Returned, ReturnedOperation, Statement, Alone, VarTyped, VarUntyped, Block, If, For, Select, Return, Statements, NoStatement, Then, Branch, Conditional, Otherwise, NoElse, ElseBlock, ElseIf, Clauses, NoClause, Clause, File}
+use Rattle.syntax.specs.Tree.{Expression, Simple, Statement, Block, Statements, Otherwise, File}
 use Rattle.bytecode.specs.declared.instr.Instr.TheVariants as instrs
 use Rattle.bytecode.specs.declared.instr.Instr.{Instr}
-use Rattle.bytecode.specs.Code.{PrintTable, Function as CodeFunction, Code}
-use Rattle.bytecode.specs.Effects.{gives, shape_kinds}
-use Rattle.bytecode.specs.Machine.{Frame as CodeFrame, Frames as CodeFrames, zero_of, is_told, instr_next, pops}
+use Rattle.bytecode.specs.declared.table.Clause.{Clause as TableClause}
+use Rattle.bytecode.specs.Code.{PrintTable, SelectTable, Function as CodeFunction, Code}
+use Rattle.bytecode.specs.Effects.{gives, shape_kinds, clause_gives, clause_target}
+use Rattle.bytecode.specs.Machine.{Frame as CodeFrame, Frames as CodeFrames, zero_of, is_told, instr_next, pops, cases_of}
+use Rattle.word.specs.declared.request.Case.{Case}
 use Rattle.word.specs.Values.{Request}
 use Rattle.word.specs.Values as requests
 use Rattle.word.specs.Kinds.{Asks}
 use Rattle.word.specs.declared.value.Word.{Word}
 use Rattle.type_table.specs.Types.{ValueType, BoolType, ChannelType}
-use Rattle.type_table.specs.Scopes.{Variable, Scope, Yield, entered, left, nothing_declared, type_in, last_named}
+use Rattle.type_table.specs.Scopes.{Variable, Scope, Yield, entered, left, last_named}
 use Rattle.checker_base.specs.Expressions.{TestHas}
 use Rattle.checker_simple.specs.Simples.{SimpleHas}
 use Rattle.checker_statement.specs.Statements.{Setting, after, after_all, StatementHas, StatementsHave, OtherwiseHas}
@@ -21,18 +24,18 @@ use Rattle.type_table.specs.Zeros.{zero_words}
 use Rattle.meaning.specs.Values.{Value, known, words_in, words_like}
 use Rattle.meaning.specs.Destinations.{zero_result}
 use Rattle.meaning.specs.Variables.{Destination, blank}
-use Rattle.meaning.specs.Tasks.{Loop, Repeating, Ranging, Task, Do, EndBlock, Decide, Head, Again, Turn, EndSelect, Ask, Store, GiveBack, Purpose, Unused, Assigned, GivenBack, NextItem}
+use Rattle.meaning.specs.Tasks.{Loop, Repeating, Ranging, Way, Task, Do, EndBlock, Decide, Head, Again, Turn, EndSelect, Ask, Store, GiveBack, Purpose, Unused, Assigned, GivenBack, NextItem, Chosen}
 use Rattle.meaning.specs.Source.{globals}
 use Rattle.codegen_base.specs.declared.element.Element.{Element}
 use Rattle.codegen_base.specs.Pushes.{pushes_zeros, drops}
 use Rattle.codegen_base.specs.Statements.{Spot, assigns}
 use Rattle.codegen_base.specs.Elements.{kinds_of}
 use Rattle.codegen_base.specs.Generated.{Site, Made, past, ended, inside, loop, test_plan, made_post, made, made_all, made_otherwise, result_kinds}
+pub use Rattle.codegen_follows.proofs.Makes.{DeclaresNone, OperationMakes, RightMakes, SimpleMakes, ReturnedMakes, IfHeadMakes, ForHeadMakes, Makes, AllMake, BranchMakes, OtherwiseMakes, ClausesMake}
 use Rattle.plan.specs.Plan.{Plan, Skip, Stop}
 use Rattle.plan.proofs.Places.{At, On, Leads}
 use Rattle.codegen_base.proofs.Alike.{Alike}
 use Rattle.codegen_base.proofs.Known.{VariablesNoted}
-use Rattle.codegen_base.proofs.Noted.{Noted}
 use Rattle.codegen_base.proofs.Static.{innermost_begins, IsPlaced}
 use Rattle.codegen_base.proofs.Typing.{Free}
 use Rattle.codegen_base.proofs.Fields.{AllWide}
@@ -46,6 +49,15 @@ pub record Around : Type 0 where
 -- in no loop and no select
 abbrev pub nowhere : Around
 nowhere = record { leave = None; again = None }
+
+-- in a way of a select a break leads behind the select
+abbrev pub in_way : Around → Option ℕ → Around
+in_way l out = record { leave = out; again = l.again }
+
+-- values are assigned where there are destinations
+abbrev pub purpose_of : List Destination → Purpose
+purpose_of [] = Unused
+purpose_of (first ∷ more) = Assigned (first ∷ more)
 
 -- what is known of the variables at a place: where the layout has them, where each block begins, and what the typing rules see
 pub record View : Type 0 where
@@ -76,11 +88,6 @@ opened view = record { site = inside view.site; begins = length (variables view)
 -- print tables stand from a number on
 abbrev pub Prints : Code → ℕ → List PrintTable → Type 0
 Prints code first tables = (n : ℕ) (table : PrintTable) → slice_get tables n ≡ Some table → slice_get code.prints (first + n) ≡ Some table
-
--- a statement that declares nothing, as a post statement is
-abbrev pub DeclaresNone : Simple → Type 0
-DeclaresNone (Define names right) = ⊥
-DeclaresNone simple = Unit {0}
 
 module _ (file : File) (elements : List Element) (all : AllWide (globals file).structs) (code : Code) (result : Yield) (f : CodeFunction) where
   abbrev pub IsOn : Around → Plan → ℕ → Option ℕ → Type 0
@@ -126,62 +133,6 @@ module _ (file : File) (elements : List Element) (all : AllWide (globals file).s
     pub tables : Prints code first one.prints
     pub room : one.layout.scope.words ≤ length f.locals
 
-  -- ---- what the typing rules don't say of statements
-
-  -- the elements of the channel types that are made are noted
-  abbrev pub OperationMakes : Operation → Type 0
-  OperationMakes (Make kind size) = Noted elements (known (type_in (globals file).types nothing_declared kind))
-  OperationMakes operation = Unit {0}
-
-  abbrev pub RightMakes : Right → Type 0
-  RightMakes (RightOperation operation) = OperationMakes operation
-  RightMakes (Values values) = Unit {0}
-
-  abbrev pub SimpleMakes : Simple → Type 0
-  SimpleMakes (Assign places right) = RightMakes right
-  SimpleMakes (Define names right) = RightMakes right
-  SimpleMakes simple = Unit {0}
-
-  abbrev pub ReturnedMakes : Returned → Type 0
-  ReturnedMakes (ReturnedOperation operation) = OperationMakes operation
-  ReturnedMakes returned = Unit {0}
-
-  abbrev pub IfHeadMakes : IfHead → Type 0
-  IfHeadMakes (First simple) = SimpleMakes simple
-  IfHeadMakes head = Unit {0}
-
-  abbrev pub ForHeadMakes : ForHead → Type 0
-  ForHeadMakes (ForClauses first condition post) = IfSome first SimpleMakes × IfSome post SimpleMakes × IfSome post DeclaresNone
-  ForHeadMakes head = Unit {0}
-
-  abbrev mutual
-    pub Makes : Statement → Type 0
-    Makes (Alone simple) = SimpleMakes simple
-    Makes (VarTyped names kind right) = IfSome right RightMakes
-    Makes (VarUntyped names right) = RightMakes right
-    Makes (Block body) = AllMake body
-    Makes (If branch) = BranchMakes branch
-    Makes (For head body) = ForHeadMakes head × AllMake body
-    Makes (Select clauses) = ClausesMake clauses
-    Makes (Return returned) = ReturnedMakes returned
-    Makes s = Unit {0}
-
-    pub AllMake : Statements → Type 0
-    AllMake NoStatement = Unit {0}
-    AllMake (Then first rest) = Makes first × AllMake rest
-
-    pub BranchMakes : Branch → Type 0
-    BranchMakes (Conditional head condition body otherwise) = IfHeadMakes head × AllMake body × OtherwiseMakes otherwise
-
-    pub OtherwiseMakes : Otherwise → Type 0
-    OtherwiseMakes NoElse = Unit {0}
-    OtherwiseMakes (ElseBlock body) = AllMake body
-    OtherwiseMakes (ElseIf branch) = BranchMakes branch
-
-    pub ClausesMake : Clauses → Type 0
-    ClausesMake NoClause = Unit {0}
-    ClausesMake (Clause comm body rest) = AllMake body × ClausesMake rest
-
   -- ---- tasks that are done at a place
 
   pub record Doing (l : Around) (view : View) (s : Statement) (place : ℕ) (mid : Option ℕ) : Type 0 where
@@ -190,7 +141,7 @@ module _ (file : File) (elements : List Element) (all : AllWide (globals file).s
     pub continues : Bool
     pub fine : Fine view
     pub good : Free (StatementHas (within breaks continues) view.checked first s)
-    pub makes : Makes s
+    pub makes : Makes file elements all code result f s
     pub on : IsOn l (made_here view s).plan place mid
     pub fits : Fits view.site.prints (made_here view s)
 
@@ -204,10 +155,21 @@ module _ (file : File) (elements : List Element) (all : AllWide (globals file).s
     pub test : Free (TestHas (globals file) view.checked first condition)
     pub good : Free (StatementsHave (within breaks continues) (entered view.checked) second body)
     pub other : Free (OtherwiseHas (within breaks continues) (left view.checked (after_all (globals file) (entered view.checked) body)) third otherwise)
-    pub makes : AllMake body
-    pub other_makes : OtherwiseMakes otherwise
+    pub makes : AllMake file elements all code result f body
+    pub other_makes : OtherwiseMakes file elements all code result f otherwise
     pub on : IsOn l (made_other view condition body otherwise).plan place mid
     pub fits : Fits view.site.prints (made_other view condition body otherwise)
+
+  -- the statements of a block
+  pub record Live (view : View) (l : Around) (body : Statements) (place : ℕ) (out : Option ℕ) : Type 0 where
+    pub first : ℕ
+    pub breaks : Bool
+    pub continues : Bool
+    pub fine : Fine view
+    pub good : Free (StatementsHave (within breaks continues) view.checked first body)
+    pub makes : AllMake file elements all code result f body
+    pub on : IsOn l (made_all (globals file) elements result view.site body).plan place out
+    pub fits : Fits view.site.prints (made_all (globals file) elements result view.site body)
 
   abbrev pub post_made : View → Statements → Option Simple → Made
   post_made view body post = made_post (globals file) elements view.site.layout (behind_body view body).site post
@@ -221,8 +183,8 @@ module _ (file : File) (elements : List Element) (all : AllWide (globals file).s
     pub test : IfSome condition (λ c. Free (TestHas (globals file) view.checked first c))
     pub good : Free (StatementsHave (within true true) (entered view.checked) second body)
     pub after_good : IfSome post (λ s. Free (SimpleHas (globals file) (entered (behind_body view body).checked) third s))
-    pub makes : AllMake body
-    pub post_makes : IfSome post SimpleMakes
+    pub makes : AllMake file elements all code result f body
+    pub post_makes : IfSome post (SimpleMakes file elements all code result f)
     pub on : IsOn l (loop (test_plan (globals file) elements view.site.layout condition) (made_body view body).plan (post_made view body post).plan) head out
     pub fits : Fits view.site.prints (made_body view body)
     pub post_fits : Fits (behind_body view body).site.prints (post_made view body post)
@@ -307,9 +269,9 @@ module _ (file : File) (elements : List Element) (all : AllWide (globals file).s
       (head : ℕ) × (place ≡ head + 1 + 1) × (d : RangingAt l view destinations zero body head mid) × (types ≡ d.kind ∷ BoolType ∷ []) × (variables next ≡ variables view)
   Taking l view types purpose next place mid = ⊥
 
-  -- a goroutine that is started gets values of its function's parameters
+  -- a goroutine that is started runs a function that is there, and gets values of its parameters
   abbrev pub Begins : Request → Type 0
-  Begins (requests.Go function arguments) = (values : List Value) × AreLike (globals file).structs all (map known (parameters_of (globals file) function)) values × (arguments ≡ all_words_of (globals file).structs all values)
+  Begins (requests.Go function arguments) = (made : CodeFunction) × (slice_get code.functions function ≡ Some made) × (values : List Value) × AreLike (globals file).structs all (map known (parameters_of (globals file) function)) values × (arguments ≡ all_words_of (globals file).structs all values)
   Begins q = Unit {0}
 
   -- an instruction that asks, its operands on the stack, and what becomes of the values that it is told
@@ -325,6 +287,54 @@ module _ (file : File) (elements : List Element) (all : AllWide (globals file).s
     pub gives_are : map zero_of (gives code f instr []) ≡ all_words_of (globals file).structs all zeros
     pub taking : Taking l view types purpose next (place + 1) mid
 
+  -- ---- selects
+
+  -- a way of a select, which is a block: values of these types go to destinations, and then its statements are done
+  pub record WayAt (l : Around) (view : View) (types : List ValueType) (destinations : List Destination) (body : Statements) (place : ℕ) (out : Option ℕ) : Type 0 where
+    pub outer : View
+    pub begins_are : outer.begins ≡ view.begins
+    pub same : variables outer ≡ variables view
+    pub next : View
+    pub together : Together (opened outer) next
+    pub fine : Fine next
+    pub mid : Option ℕ
+    pub taking : Taking (in_way l out) (opened outer) types (purpose_of destinations) next place mid
+    pub live : IfSome mid (λ m. Live next (in_way l out) body m out)
+
+  -- the ways of the clauses of a table: what is received is told in the words of their zeros
+  abbrev pub WaysAt : Around → View → List Way → List TableClause → Option ℕ → Type 0
+  WaysAt l view [] [] out = Unit {0}
+  WaysAt l view (way ∷ ways) (clause ∷ clauses) out =
+      (types : List ValueType) × (way.zeros ≡ map (zero_words (globals file).structs) types) × (map zero_of (clause_gives code (Some clause)) ≡ all_words_of (globals file).structs all way.zeros)
+      × WayAt l view types way.destinations way.body (clause_target clause) out × WaysAt l view ways clauses out
+  WaysAt l view ways clauses out = ⊥
+
+  -- a select that asks, its operands on the stack, and its ways
+  pub record Choosing (l : Around) (view : View) (stack : List Word) (q : Request) (ways : List Way) (default : Statements) (next : View) (place : ℕ) (mid : Option ℕ) : Type 0 where
+    pub number : ℕ
+    pub table : SelectTable
+    pub cases : List Case
+    pub there : At f.instrs place (instrs.Select number)
+    pub table_is : slice_get code.selects number ≡ Some table
+    pub pops_are : pops code f (instrs.Select number) ≡ length stack
+    pub cases_are : cases_of code table.clauses stack ≡ Some cases
+    pub asks : q ≡ requests.Select cases (is_some table.default)
+    pub ways_are : WaysAt l view ways table.clauses mid
+    pub default_is : IfSome table.default (λ p. WayAt l view [] [] default p mid)
+    pub same : variables next ≡ variables view
+
+  -- a request, and what becomes of what it gives
+  abbrev pub Requesting : Around → View → List Word → Request → List Value → Purpose → View → ℕ → Option ℕ → Type 0
+  Requesting l view stack q zeros (Chosen ways default) next place mid = Choosing l view stack q ways default next place mid
+  Requesting l view stack q zeros purpose next place mid = Asking l view stack q zeros purpose next place mid
+
+  pub requesting : (l : Around) (view : View) (stack : List Word) (q : Request) (zeros : List Value) (purpose : Purpose) (next : View) (place : ℕ) (mid : Option ℕ) → Asking l view stack q zeros purpose next place mid → Requesting l view stack q zeros purpose next place mid
+  requesting l view stack q zeros Unused next place mid d = d
+  requesting l view stack q zeros (Assigned destinations) next place mid d = d
+  requesting l view stack q zeros GivenBack next place mid d = d
+  requesting l view stack q zeros (NextItem loop) next place mid d = d
+  requesting l view stack q zeros (Chosen ways default) next place mid d = absurd d.taking
+
   -- what a loop's head does at a place
   abbrev pub Loops : Around → View → Loop → ℕ → Option ℕ → Type 0
   Loops l view (Repeating condition post body) head out = Looping l view condition post body head out
@@ -338,7 +348,7 @@ module _ (file : File) (elements : List Element) (all : AllWide (globals file).s
   Does l view stack (Turn loop) next place mid = (stack ≡ []) × (head : ℕ) × At f.instrs place (instrs.Loop head) × Loops l view loop head mid × (variables next ≡ variables view)
   Does l view stack (Store destinations values) next place mid = Storing l view stack destinations values next place mid
   Does l view stack (GiveBack v) next place mid = (stack ≡ v) × At f.instrs place instrs.Return × IsResult v
-  Does l view stack (Ask q zeros purpose) next place mid = Asking l view stack q zeros purpose next place mid
+  Does l view stack (Ask q zeros purpose) next place mid = Requesting l view stack q zeros purpose next place mid
   Does l view stack task next place mid = ⊥
 
   -- where a loop's body ends

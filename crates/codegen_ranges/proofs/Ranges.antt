@@ -55,10 +55,10 @@ later_none : (o : Option Variable) → later o None ≡ o
 later_none None = refl
 later_none (Some v) = refl
 
-unfound : (vs : List Variable) (v : Variable) (name : List ℕ) → bytes_eq v.name name ≡ false → last_named (vs ++ v ∷ []) name ≡ last_named vs name
+pub unfound : (vs : List Variable) (v : Variable) (name : List ℕ) → bytes_eq v.name name ≡ false → last_named (vs ++ v ∷ []) name ≡ last_named vs name
 unfound vs v name apart = last_append vs v name ∙ ap (λ b. later (last_named vs name) (if b then Some v else None)) apart ∙ later_none (last_named vs name)
 
-other_than_blank : (name : List ℕ) → is_blank name ≡ false → bytes_eq blank name ≡ false
+pub other_than_blank : (name : List ℕ) → is_blank name ≡ false → bytes_eq blank name ≡ false
 other_than_blank name e = go (bytes_eq blank name) refl (bytes_eq-Decides blank name) where
   Holds : Bool → Type 0
   Holds true = Unit {0}

@@ -192,7 +192,7 @@ module _ (file : File) (elements : List Element) (all : AllWide (globals file).s
               pops_are = ap (λ o. length (params_in o)) F.code_there ∙ F.params vs like;
               told = refl;
               asks = λ d callers. ap (λ o. if_there o (λ callee. Asks (requests.Go n (words vs)))) F.code_there;
-              starts = (vs, like, refl);
+              starts = (F.made, F.code_there, vs, like, refl);
               types = [];
               zeros_are = refl;
               gives_are = refl;

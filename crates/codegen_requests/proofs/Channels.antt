@@ -13,7 +13,7 @@ use Rattle.word.specs.Values.{Request, Panic}
 use Rattle.word.specs.Kinds.{Next}
 use Rattle.type_table.specs.Types.{ValueType, IntType, BoolType, StructType, ChannelType, element_type}
 use Rattle.type_table.specs.Containment.{fields_of}
-use Rattle.type_table.specs.Scopes.{Scope, Yield, NoResult, Yields}
+use Rattle.type_table.specs.Scopes.{Scope, Yield}
 use Rattle.checker_base.specs.Worths.{Worth, Typed, Constant, Nil, worth}
 use Rattle.checker_base.specs.Expressions.{nodes_of, ExpressionHas, ChannelHas, element_of, default_type}
 use Rattle.checker_operation.specs.Operations.{parameters_of, result_of}
@@ -42,11 +42,7 @@ use Rattle.codegen_base.proofs.Typing.{Free, FieldsKnown, broken, nodes_end, wor
 use Rattle.codegen_base.proofs.Expressions.{Holding}
 use Rattle.codegen_follows.proofs.Stands.{Around, View, scope_of, variables, IsOn, Fine}
 use Rattle.codegen_follows.proofs.Valued.{Goes, value_here, valued_then, own_goes}
-
--- the type of a result is known
-abbrev pub YieldKnown : Yield → Type 0
-YieldKnown NoResult = Unit {0}
-YieldKnown (Yields kind) = kind ≡ Some (known kind)
+use Rattle.codegen_steps.proofs.Returned.{YieldKnown}
 
 -- what is so of a program: the elements of its channels are noted, and take few words
 pub record Grounds (file : File) (elements : List Element) (code : Code) : Type 0 where
@@ -56,7 +52,7 @@ pub record Grounds (file : File) (elements : List Element) (code : Code) : Type 
   pub params_known : (n : ℕ) → KindsKnown (parameters_of (globals file) n)
   pub results_known : (n : ℕ) → YieldKnown (result_of (globals file) n)
 
-channel_of : (t : ValueType) (o : Option ValueType) → element_type t ≡ o → (o ≡ None → ⊥) → (d : Direction) × (c : ValueType) × (t ≡ ChannelType d c)
+pub channel_of : (t : ValueType) (o : Option ValueType) → element_type t ≡ o → (o ≡ None → ⊥) → (d : Direction) × (c : ValueType) × (t ≡ ChannelType d c)
 channel_of (ChannelType d c) o is never = (d, c, refl)
 channel_of IntType o is never = absurd (never (sym is))
 channel_of BoolType o is never = absurd (never (sym is))

@@ -46,7 +46,7 @@ use Rattle.codegen_base.proofs.Likeness.{kinds_zeros, kinds_long, like_long, is_
 use Rattle.codegen_base.proofs.Noted.{Noted}
 use Rattle.codegen_base.proofs.Seen.{Like, seen}
 use Rattle.codegen_base.proofs.Typing.{Free, FieldsKnown, Fits, fits, broken, nodes_end, worth_there, int_type, not_false}
-use Rattle.codegen_follows.proofs.Stands.{Around, View, scope_of, variables, Together, IsOn, Fine, Taking, Asking}
+use Rattle.codegen_follows.proofs.Stands.{Around, View, scope_of, variables, Together, IsOn, Fine, Taking, Asking, requesting}
 use Rattle.codegen_follows.proofs.Valued.{Goes, before, value_here, valued_then, value_goes}
 use Rattle.codegen_follows.proofs.Follows.{Held, Sitting, Rest}
 use Rattle.codegen_requests.proofs.Channels.{Grounds, shape_is, IsChannel, channel_there, channel_goes}
@@ -99,7 +99,7 @@ module _ (file : File) (elements : List Element) (all : AllWide (globals file).s
     Takes types purpose rest = (to : ℕ) → On' rest to → Taking file elements all code result f l view types purpose next to mid
 
     pub asked : (q : Request) (zeros : List Value) (purpose : Purpose) (place : ℕ) (stack : Words) → Asking file elements all code result f l view stack q zeros purpose next place mid → G (Slides (frame blocks (Ask q zeros purpose ∷ k) ∷ cs)) (at place ls stack)
-    asked q zeros purpose place stack d = (at place ls stack, here, sitting view l place ls stack (Ask q zeros purpose ∷ k) h (next, t, mid, d, r.0, r.1, r.2))
+    asked q zeros purpose place stack d = (at place ls stack, here, sitting view l place ls stack (Ask q zeros purpose ∷ k) h (next, t, mid, requesting file elements all code result f l view stack q zeros purpose next place mid d, r.0, r.1, r.2))
 
     -- ---- operands that are channels
 

@@ -40,8 +40,8 @@ use Rattle.codegen_base.proofs.Typing.{Free, FieldsKnown, Fits, fits, broken, no
 use Rattle.codegen_follows.proofs.Stands.{Around, View, scope_of, variables, Together, IsOn, Fine, Taking, all_wide, Sits}
 use Rattle.codegen_follows.proofs.Valued.{Goes, value_goes}
 use Rattle.codegen_follows.proofs.Follows.{Held, Sitting, Rest}
-use Rattle.codegen_steps.proofs.Returned.{Gives, result_types}
-use Rattle.codegen_requests.proofs.Channels.{YieldKnown, Grounds}
+use Rattle.codegen_steps.proofs.Returned.{YieldKnown, Gives, result_types}
+use Rattle.codegen_requests.proofs.Channels.{Grounds}
 use Rattle.codegen_requests.proofs.Requests.{receive_goes}
 use Rattle.codegen_requests.proofs.Calling.{unused, Wait, AllThere, Starting, call_goes}
 use Rattle.codegen_requests.proofs.Operations.{MakesNoted, operation_there, operation_goes}

@@ -29,7 +29,7 @@ use Rattle.codegen_requests.proofs.Calling.{Wait, AllThere, Starting}
 use Rattle.codegen_requests.proofs.Returns.{call_alone_goes, receive_alone_goes}
 use Rattle.codegen_requests.proofs.Sets.{assign_goes}
 use Rattle.codegen_statements.proofs.Printed.{print_goes}
-use Rattle.codegen_statements.proofs.Defined.{define_goes}
+use Rattle.codegen_ranges.proofs.Defined.{define_goes}
 use Rattle.codegen_statements.proofs.Updated.{increment_goes, decrement_goes, update_goes}
 
 plus_none : (n : ℕ) → n + 0 ≡ n

@@ -1,6 +1,4 @@
 pub mod Printed
-pub mod Names
-pub mod Defined
 pub mod Untyped
 pub mod Updated
 pub mod Alone

@@ -52,8 +52,8 @@ use Rattle.codegen_steps.proofs.Returned.{Gives}
 use Rattle.codegen_requests.proofs.Calling.{Wait, AllThere, Starting}
 use Rattle.codegen_requests.proofs.Assigns.{values_go, kept_types, operation_go}
 use Rattle.codegen_requests.proofs.Sets.{AreTyped, RightNoted, given_long, given_typed}
-use Rattle.codegen_statements.proofs.Names.{neither, AllNamesSuit, NameSuits, names_are}
-use Rattle.codegen_statements.proofs.Untyped.{AreNew, declared_there, new_names}
+use Rattle.codegen_ranges.proofs.Names.{neither, AllNamesSuit, NameSuits, names_are, AreNew, new_names}
+use Rattle.codegen_statements.proofs.Untyped.{declared_there}
 
 module _ (file : File) (elements : List Element) (all : AllWide (globals file).structs) (known_fields : (s : Scope) → FieldsKnown (globals file) s) (code : Code) (result : Yield) (f : CodeFunction) (ls : Words) (view : View) (fine : Fine file elements all code result f view) where
   abbrev blocks : Blocks

@@ -1,6 +1,6 @@
 -- Variables without a type.
-use Rattle.std.proofs.Common.{◌≡◌, ℕ, ◌+◌, ◌≤◌, Bool, true, false, List, [], ◌∷◌, length, drop, Option, Some, None, option_map, refl, sym, ap, ◌∙◌, subst, arith, slice_get, inl, inr}
-use Rattle.std.specs.Prelude.{if◌then◌else◌, ◌||◌}
+use Rattle.std.proofs.Common.{◌≡◌, ℕ, ◌+◌, ◌≤◌, Bool, true, false, List, [], length, Option, Some, refl, sym, subst, arith, slice_get, inl, inr}
+use Rattle.std.specs.Prelude.{◌||◌}
 use Rattle.std.specs.Option.{is_some}
 use Rattle.std.specs.List.{list_any}
 use Rattle.go_text.specs.declared.rule.Rule.TheVariants as rules
@@ -11,13 +11,11 @@ use Rattle.bytecode.specs.Machine.{Frames as CodeFrames}
 use Rattle.word.specs.declared.panic.Panic.{Panic as Cause}
 use Rattle.word.specs.Values.{Request, Panic}
 use Rattle.word.specs.Kinds.{Next}
-use Rattle.type_table.specs.Types.{ValueType}
 use Rattle.type_table.specs.Containment.{fields_of}
-use Rattle.type_table.specs.Scopes.{Variable, Scope, Yield, is_blank, is_reserved, last_named, own_variable}
+use Rattle.type_table.specs.Scopes.{Scope, Yield, is_reserved, own_variable}
 use Rattle.checker_simple.specs.Simples.{has_twice, VariablesHave, UntypedVariablesHave}
-use Rattle.meaning.specs.Variables.{Binding, Blocks, in_block, innermost, kind_of, Destination, Nowhere, New, Into}
-use Rattle.meaning.specs.Values.{whole}
-use Rattle.meaning.specs.Destinations.{given_kinds, new, defined, all_new, all_defined}
+use Rattle.meaning.specs.Variables.{Blocks, Destination}
+use Rattle.meaning.specs.Destinations.{given_kinds}
 use Rattle.meaning.specs.Tasks.{Task, Frames}
 use Rattle.meaning.specs.Source.{globals, gives, statement_next}
 use Rattle.codegen_base.specs.declared.element.Element.{Element}
@@ -25,9 +23,8 @@ use Rattle.codegen_base.specs.Layouts.{declaring_all}
 use Rattle.codegen_base.specs.Statements.{right_types, defines}
 use Rattle.plan.proofs.Words.{Words}
 use Rattle.plan.proofs.Steps.{spots as code_spots}
-use Rattle.codegen_base.proofs.Alike.{there_alike, own_alike}
 use Rattle.codegen_base.proofs.Fields.{AllWide, AllTyped}
-use Rattle.codegen_base.proofs.Seen.{seen, seen_one}
+use Rattle.codegen_base.proofs.Seen.{seen}
 use Rattle.codegen_base.proofs.Typing.{Free, FieldsKnown, broken}
 use Rattle.codegen_follows.proofs.Stands.{Around, View, scope_of, variables, Together, IsOn, Fine}
 use Rattle.codegen_follows.proofs.Valued.{Goes}
@@ -36,13 +33,8 @@ use Rattle.codegen_steps.proofs.Returned.{Gives}
 use Rattle.codegen_requests.proofs.Channels.{Grounds}
 use Rattle.codegen_requests.proofs.Calling.{Wait, AllThere, Starting}
 use Rattle.codegen_requests.proofs.Sets.{RightNoted}
-use Rattle.codegen_steps.proofs.Ranged.{own_block}
-use Rattle.codegen_statements.proofs.Names.{neither}
-use Rattle.codegen_statements.proofs.Defined.{names_go}
-
--- the innermost block has none of these names
-abbrev pub AreNew : Scope → List (List ℕ) → Type 0
-AreNew s names = list_any (λ name. is_some (own_variable s name)) names ≡ false
+use Rattle.codegen_ranges.proofs.Names.{neither, AreNew, new_names}
+use Rattle.codegen_ranges.proofs.Defined.{names_go}
 
 -- names that a declaration may have
 pub record IsDeclared (s : Scope) (names : List (List ℕ)) : Type 0 where
@@ -56,29 +48,6 @@ declared_there s names end le free = go (list_any is_reserved names || has_twice
   go false e =
       let one = neither (list_any is_reserved names || has_twice names) (list_any (λ name. is_some (own_variable s name)) names) e in
       record { single = (neither (list_any is_reserved names) (has_twice names) one.0).1; are_new = one.1 }
-
-module _ (file : File) (elements : List Element) (all : AllWide (globals file).structs) (code : Code) (result : Yield) (f : CodeFunction) (ls : Words) (view : View) (fine : Fine file elements all code result f view) where
-  abbrev blocks : Blocks
-  blocks = seen (globals file).structs ls (variables view) view.begins
-
-  new_name : (name : List ℕ) (kind : ValueType) → is_some (own_variable view.checked name) ≡ false → new (globals file) blocks name kind ≡ defined (globals file) blocks name kind
-  new_name name kind none =
-      go (is_blank name) (own_variable (scope_of view) name) (in_block (innermost blocks) name) (sym (there_alike (own_variable view.checked name) (own_variable (scope_of view) name) (own_alike view.checked (scope_of view) fine.alike name)) ∙ none)
-      (λ no-blank. own_block (globals file).structs ls (variables view) view.begins name
-      ∙ ap (λ n. option_map (seen_one (globals file).structs ls) (last_named (drop n (variables view)) name)) (sym fine.placed.outer)
-      ∙ ap (option_map (seen_one (globals file).structs ls)) (sym (ap (λ b. if b then None else last_named (drop (scope_of view).outer (variables view)) name) no-blank))) where
-        go : (b : Bool) (o : Option Variable) (there : Option Binding) → is_some o ≡ false → (b ≡ false → there ≡ option_map (seen_one (globals file).structs ls) o)
-            → (if b then Nowhere else New name kind) ≡ (if b then Nowhere else (if is_some there then Into name (whole (kind_of there)) else New name kind))
-        go true o there none is = refl
-        go false None there none is = subst (λ (t : Option Binding). New name kind ≡ (if is_some t then Into name (whole (kind_of t)) else New name kind)) (sym (is refl)) refl
-        go false (Some v) there none is = absurd cc
-
-  pub new_names : (names : List (List ℕ)) (kinds : List ValueType) → AreNew view.checked names → all_new (globals file) blocks names kinds ≡ all_defined (globals file) blocks names kinds
-  new_names [] kinds none = refl
-  new_names (name ∷ names) [] none = refl
-  new_names (name ∷ names) (kind ∷ kinds) none =
-      let n = neither (is_some (own_variable view.checked name)) (list_any (λ name. is_some (own_variable view.checked name)) names) none in
-      ap (λ (d : Destination). d ∷ all_new (globals file) blocks names kinds) (new_name name kind n.0) ∙ ap (λ (l : List Destination). defined (globals file) blocks name kind ∷ l) (new_names names kinds n.1)
 
 module _ (file : File) (elements : List Element) (all : AllWide (globals file).structs) (typed : (n : ℕ) → AllTyped (globals file).structs (fields_of (globals file).structs n)) (known_fields : (s : Scope) → FieldsKnown (globals file) s) (code : Code)
     (result : Yield) (g : ℕ) (f : CodeFunction) (there : slice_get code.functions g ≡ Some f) (cs : Frames) (ds : CodeFrames) (R : Frames → CodeFrames → Type 0) (Asked : Request → CodeFrames → Type 0) (panics : (cause : Cause) (d : CodeFrames) → Asked (Panic cause) d) where

@@ -79,7 +79,7 @@ module _ (file : File) (elements : List Element) (all : AllWide (globals file).s
           on = d.on.1;
           fits = record { tables = prints_front code view.site.prints first.prints other.prints d.fits.tables; room = omega (arith, a, b, most) };
         } in
-        let fine' = fine_behind inside' (Alone simple) d.first d.breaks d.continues fine (λ flaw x. d.good flaw (inl (inl x))) in
+        let fine' = fine_behind inside' (Alone simple) d.first d.breaks d.continues fine (λ flaw x. d.good flaw (inl (inl x))) d.makes.0 in
         let deciding : (m : ℕ) → IsOn file elements all code result f l other.plan m mid → Deciding file elements all code result f l v condition body otherwise m mid = λ m on. record {
           first = _;
           second = _;

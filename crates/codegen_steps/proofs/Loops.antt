@@ -178,7 +178,7 @@ module _ (file : File) (elements : List Element) (all : AllWide (globals file).s
           on = d.on.1;
           fits = record { tables = prints_front code view.site.prints header.prints (one.prints ++ turn.prints) d.fits.tables; room = omega (arith, a, b, most) };
         } in
-        let fine' = fine_behind inside' (Alone simple) d.first d.breaks d.continues fine (λ flaw x. d.good flaw (inl (inl x))) in
+        let fine' = fine_behind inside' (Alone simple) d.first d.breaks d.continues fine (λ flaw x. d.good flaw (inl (inl x))) d.makes.0.0 in
         let looping : (m : ℕ) → IsOn file elements all code result f l (loop (test_plan (globals file) elements header.layout condition) one.plan turn.plan) m mid → Does l v condition post body m mid = λ m on.
         clauses_loop view l header condition post body _ _ _ m mid v.checked fine' (test_good v.checked condition _ (λ flaw x. d.good flaw (inl (inr (inl x))))) (λ flaw x. d.good flaw (inr x))
         (post_good v body post _ d.makes.0.2 (λ flaw x. d.good flaw (inl (inr (inr x))))) d.makes.1 d.makes.0.1 on d.fits.tables most in

@@ -37,14 +37,19 @@ use Rattle.codegen_follows.proofs.Valued.{Goes, before}
 use Rattle.codegen_follows.proofs.Follows.{Sitting}
 use Rattle.codegen_steps.proofs.Taken.{single_becomes, taken_lands}
 
-like_none : (zs : List Word) → words_like zs [] ≡ zs
+-- the type of a result is known
+abbrev pub YieldKnown : Yield → Type 0
+YieldKnown NoResult = Unit {0}
+YieldKnown (Yields kind) = kind ≡ Some (known kind)
+
+pub like_none : (zs : List Word) → words_like zs [] ≡ zs
 like_none [] = refl
 like_none (z ∷ zs) = ap (λ (l : List Word). z ∷ l) (like_none zs)
 
 module _ (file : File) (elements : List Element) (all : AllWide (globals file).structs) (typed : (n : ℕ) → AllTyped (globals file).structs (fields_of (globals file).structs n)) (known_fields : (s : Scope) → FieldsKnown (globals file) s) (code : Code) where
-  -- a function's code gives the words of its result
+  -- a function's code gives the words of its result, whose type is known
   abbrev pub Gives : Yield → CodeFunction → Type 0
-  Gives result f = f.results ≡ result_kinds (globals file) elements result
+  Gives result f = (f.results ≡ result_kinds (globals file) elements result) × YieldKnown result
 
   -- the types of what a call gives; nothing is given where there is no result
   abbrev pub result_types : Yield → List ValueType
@@ -131,7 +136,7 @@ module _ (file : File) (elements : List Element) (all : AllWide (globals file).s
         returned_goes : (cs : Frames) (ds : CodeFrames) → AllWait result cs ds → (ls : Words) (v : Value) (place : ℕ) → At f.instrs place instrs.Return → G ds (give_back v cs) (at ds place ls (words_like (zero_result (globals file) result) v))
         returned_goes [] [] wait ls v place is =
             let ws = words_like (zero_result (globals file) result) v in
-            (at [] place ls ws, here, returns code g f there [] place ls ws is (ap length gives ∙ result_long result v), ends (at [] place ls ws))
+            (at [] place ls ws, here, returns code g f there [] place ls ws is (ap length gives.0 ∙ result_long result v), ends (at [] place ls ws))
         returned_goes [] (d ∷ ds) wait ls v place is = absurd wait
         returned_goes (c ∷ cs) [] wait ls v place is = absurd wait
         returned_goes (c ∷ cs) (d ∷ ds) (w, wait) ls v place is =
@@ -140,7 +145,7 @@ module _ (file : File) (elements : List Element) (all : AllWide (globals file).s
             let handed : R (awaited c.blocks c.tasks v ∷ cs) (after ∷ ds) =
             subst (λ (x : Frame). R (awaited x.blocks x.tasks v ∷ cs) (after ∷ ds)) (sym w.source_is)
             (subst (λ (x : CodeFrame). R (used (seen (globals file).structs w.ls (variables w.view) w.view.begins) w.rest w.purpose (ws ∷ []) ∷ cs) (record x { stack = x.stack ++ ws } ∷ ds)) (sym w.code_is) (hands result v c d w cs ds wait)) in
-            (after ∷ ds, more (returns code g f there (d ∷ ds) place ls ws is (ap length gives ∙ result_long result v)) here, handed)
+            (after ∷ ds, more (returns code g f there (d ∷ ds) place ls ws is (ap length gives.0 ∙ result_long result v)) here, handed)
 
         module _ (cs : Frames) (ds : CodeFrames) (wait : AllWait result cs ds) where
           pub give_goes : (b : Blocks) (k : List Task) (ls : Words) (v : Value) (place : ℕ) (stack : Words) → stack ≡ v → At f.instrs place instrs.Return → IsResult file elements all code result f v → G ds (task_next file b k cs (GiveBack v)) (at ds place ls stack)

@@ -2,6 +2,7 @@
 use Rattle.std.proofs.Common.{◌≡◌, ℕ, ◌+◌, ◌≤◌, Bool, true, false, List, [], ◌∷◌, length, take, drop, Option, Some, None, option_map, refl, sym, ap, ◌∙◌, subst, arith, bytes_eq, length-append}
 use Rattle.std.specs.Prelude.{if◌then◌else◌, not, ◌&&◌, ◌||◌}
 use Rattle.std.specs.Option.{is_some, is_none}
+use Rattle.std.specs.List.{list_any}
 use Rattle.syntax.specs.Tree.{File}
 use Rattle.bytecode.specs.Code.{Function as CodeFunction, Code}
 use Rattle.type_table.specs.Types.{ValueType}
@@ -10,14 +11,14 @@ use Rattle.type_table.specs.Scopes.{Variable, Scope, Yield, is_blank, own_variab
 use Rattle.type_table.specs.Zeros.{zero_words}
 use Rattle.checker_simple.specs.Simples.{has_name, has_twice}
 use Rattle.meaning.specs.Values.{known, words_in, whole}
-use Rattle.meaning.specs.Variables.{Binding, Blocks, in_block, innermost, kind_of, Nowhere, New, Into}
-use Rattle.meaning.specs.Destinations.{defined, all_defined}
+use Rattle.meaning.specs.Variables.{Binding, Blocks, in_block, innermost, kind_of, Destination, Nowhere, New, Into}
+use Rattle.meaning.specs.Destinations.{new, defined, all_new, all_defined}
 use Rattle.meaning.specs.Source.{globals}
 use Rattle.codegen_base.specs.declared.element.Element.{Element}
 use Rattle.codegen_base.specs.Layouts.{Layout, declaring, declaring_new, declaring_all}
 use Rattle.codegen_base.specs.Statements.{Dropped, Local, width, own_spot, name_spot, name_spots}
 use Rattle.plan.proofs.Words.{Words}
-use Rattle.codegen_base.proofs.Alike.{last_append, drop_append}
+use Rattle.codegen_base.proofs.Alike.{last_append, drop_append, there_alike, own_alike}
 use Rattle.codegen_base.proofs.Fields.{AllWide}
 use Rattle.codegen_base.proofs.Likeness.{kinds_long}
 use Rattle.codegen_base.proofs.Seen.{seen_one, seen, last_split}
@@ -49,6 +50,10 @@ own_found structs s name v no-blank e =
 
 own_blank : (s : Scope) (name : List ℕ) → is_blank name ≡ true → own_variable s name ≡ None
 own_blank s name blank = ap (λ b. if b then None else last_named (drop s.outer s.variables) name) blank
+
+-- the innermost block has none of these names
+abbrev pub AreNew : Scope → List (List ℕ) → Type 0
+AreNew s names = list_any (λ name. is_some (own_variable s name)) names ≡ false
 
 module _ (file : File) (elements : List Element) (all : AllWide (globals file).structs) (code : Code) (result : Yield) (f : CodeFunction) (ls : Words) (view : View) (fine : Fine file elements all code result f view) where
   abbrev structs : Structs
@@ -153,3 +158,24 @@ module _ (file : File) (elements : List Element) (all : AllWide (globals file).s
       → AreSpots structs all (scope_of view) (all_defined (globals file) blocks names types) others (name_spots (globals file) elements view.site.layout names types)
       × (behind_all structs all (all_defined (globals file) blocks names types) (scope_of view) ≡ (declaring_all (globals file) elements names types view.site.layout).scope)
   names_are names types others once suit = names_from names view.site.layout types others fine.alike.fit (same_here names) once suit
+
+  -- ---- names that are new
+
+  new_name : (name : List ℕ) (kind : ValueType) → is_some (own_variable view.checked name) ≡ false → new (globals file) blocks name kind ≡ defined (globals file) blocks name kind
+  new_name name kind none =
+      go (is_blank name) (own_variable (scope_of view) name) (in_block (innermost blocks) name) (sym (there_alike (own_variable view.checked name) (own_variable (scope_of view) name) (own_alike view.checked (scope_of view) fine.alike name)) ∙ none)
+      (λ no-blank. own_block (globals file).structs ls (variables view) view.begins name
+      ∙ ap (λ n. option_map (seen_one (globals file).structs ls) (last_named (drop n (variables view)) name)) (sym fine.placed.outer)
+      ∙ ap (option_map (seen_one (globals file).structs ls)) (sym (ap (λ b. if b then None else last_named (drop (scope_of view).outer (variables view)) name) no-blank))) where
+        go : (b : Bool) (o : Option Variable) (there : Option Binding) → is_some o ≡ false → (b ≡ false → there ≡ option_map (seen_one (globals file).structs ls) o)
+            → (if b then Nowhere else New name kind) ≡ (if b then Nowhere else (if is_some there then Into name (whole (kind_of there)) else New name kind))
+        go true o there none is = refl
+        go false None there none is = subst (λ (t : Option Binding). New name kind ≡ (if is_some t then Into name (whole (kind_of t)) else New name kind)) (sym (is refl)) refl
+        go false (Some v) there none is = absurd cc
+
+  pub new_names : (names : List (List ℕ)) (kinds : List ValueType) → AreNew view.checked names → all_new (globals file) blocks names kinds ≡ all_defined (globals file) blocks names kinds
+  new_names [] kinds none = refl
+  new_names (name ∷ names) [] none = refl
+  new_names (name ∷ names) (kind ∷ kinds) none =
+      let n = neither (is_some (own_variable view.checked name)) (list_any (λ name. is_some (own_variable view.checked name)) names) none in
+      ap (λ (d : Destination). d ∷ all_new (globals file) blocks names kinds) (new_name name kind n.0) ∙ ap (λ (l : List Destination). defined (globals file) blocks name kind ∷ l) (new_names names kinds n.1)

@@ -46,7 +46,7 @@ use Rattle.codegen_requests.proofs.Calling.{Wait, AllThere, Starting}
 use Rattle.codegen_requests.proofs.Places.{known_named}
 use Rattle.codegen_requests.proofs.Assigns.{default_fits, values_go, kept_types, operation_go}
 use Rattle.codegen_requests.proofs.Sets.{AreTyped, given_long, RightNoted, right_is, given_typed}
-use Rattle.codegen_statements.proofs.Names.{own_found, NameSuits, AllNamesSuit, names_are}
+use Rattle.codegen_ranges.proofs.Names.{own_found, NameSuits, AllNamesSuit, names_are}
 
 -- ---- what right sides give where the same is seen
 
@@ -151,7 +151,7 @@ module _ (file : File) (elements : List Element) (all : AllWide (globals file).s
       ∙ ap (given_types (globals file) elements) (given_same (globals file) (scope_in b) (scope_of view) (seen_alike (globals file).structs ls (scope_of view) view.begins fine.placed) right count 0)
 
 -- no name stands twice in a declaration
-once : (s : Scope) (names : List (List ℕ)) (end : ℕ) → 1 ≤ end → Free (DefinedHave s names end) → has_twice names ≡ false
+pub once : (s : Scope) (names : List (List ℕ)) (end : ℕ) → 1 ≤ end → Free (DefinedHave s names end) → has_twice names ≡ false
 once s names end le free = go (has_twice names) refl where
   go : (b : Bool) → has_twice names ≡ b → has_twice names ≡ false
   go true e = let x = broken rules.NewName end le in absurd (free x.0 (inr (ap (λ b. b || not (list_any (is_declarable s) names)) e, x.1)))

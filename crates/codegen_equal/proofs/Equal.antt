@@ -1,0 +1,91 @@
+-- The code of a file that the checker takes does what the file does: events, clocks, output and end are the same at every limit.
+use Rattle.std.proofs.Common.{◌≡◌, ℕ, suc, ◌+◌, Bool, true, false, List, [], ◌∷◌, length, map, Some, option_map, refl, sym, ap, ◌∙◌, subst, arith, slice_get, inl, inr}
+use Rattle.std.specs.Prelude.{if◌then◌else◌, unwrap_or, codes}
+use Rattle.std.proofs.lemmas.Bool.{and_parts}
+use Rattle.go_text.specs.declared.rule.Rule.TheVariants as rules
+use Rattle.syntax.specs.Tree.{Top, StructTop, FunctionTop, File}
+use Rattle.syntax.specs.Measures.{size as file_size}
+use Rattle.bytecode.specs.Code.{Function as CodeFunction}
+use Rattle.bytecode.specs.Machine.{main_of, code_begin, code_kind}
+use Rattle.word.specs.Values.{Go}
+use Rattle.word.specs.Worlds.{Equal}
+use Rattle.word.proofs.Equal.{equal}
+use Rattle.type_table.specs.Scopes.{Globals, Signature, nothing_declared, function_number}
+use Rattle.checker.specs.Files.{has_no_result, is_plain, has_main, FileHas, IsTyped}
+use Rattle.checker_declaration.specs.Declarations.{is_nothing}
+use Rattle.checker_declaration.specs.Kinds.{signatures}
+use Rattle.checker_operation.specs.Operations.{parameters_in, parameters_of, result_of}
+use Rattle.meaning.specs.Values.{known}
+use Rattle.meaning.specs.Destinations.{number_of}
+use Rattle.meaning.specs.Source.{globals, functions, begun, source_kind}
+use Rattle.meaning.proofs.Ends.{weight, source_falls}
+use Rattle.codegen_base.specs.declared.element.Element.{Element}
+use Rattle.codegen_base.specs.Program.{made_function, functions_code, elements_of, code_of}
+use Rattle.codegen_base.proofs.Assigned.{AreLike}
+use Rattle.codegen_base.proofs.Typing.{Free, broken, not_false}
+use Rattle.plan.specs.Plan.{table_count}
+use Rattle.codegen_base.specs.Grammar.{PostsTops}
+use Rattle.codegen_fine.proofs.Main.{first_place, position_is, named_main, label_same, free_of}
+use Rattle.codegen_fine.proofs.Signatures.{functions_of}
+use Rattle.codegen_equal.proofs.Standing.{Near, near_follows}
+use Rattle.codegen_equal.proofs.Functions.{all, typed, known_fields, grounds, fine_behind, function_at, all_there, starting, all_start}
+
+-- ---- the main function
+
+-- the function `main`, which takes nothing
+record IsMain (fs : List Signature) : Type 0 where
+  number : ℕ
+  first : function_number fs (codes "main") ≡ Some number
+  plain : parameters_in (slice_get fs number) ≡ []
+
+nothing_in : {A : Type 0} (xs : List A) → is_nothing xs ≡ true → xs ≡ []
+nothing_in [] e = refl
+nothing_in (x ∷ xs) e = absurd cc
+
+main_there : (fs : List Signature) → has_main fs ≡ true → IsMain fs
+main_there [] e = absurd cc
+main_there (f ∷ fs) e = go (named_main f.name) refl e (λ h. main_there fs h) where
+  go : (t : Bool) → named_main f.name ≡ t → (if t then is_plain f else has_main fs) ≡ true → (has_main fs ≡ true → IsMain fs) → IsMain (f ∷ fs)
+  go true is e more = record { number = 0; first = ap (λ t. if t then Some 0 else option_map suc (function_number fs (codes "main"))) is; plain = nothing_in f.parameters (and_parts (is_nothing f.parameters) (has_no_result f.result) e).0 }
+  go false is e more = let r = more e in record { number = suc r.number; first = ap (λ t. if t then Some 0 else option_map suc (function_number fs (codes "main"))) is ∙ ap (option_map suc) r.first; plain = r.plain }
+
+module _ (globals : Globals) (elements : List Element) where
+  -- the first function of the name is the same in the code
+  same_main : (tops : List Top) (prints selects : ℕ) → first_place (λ (f : CodeFunction). named_main f.name) (functions_code globals elements prints selects tops) ≡ function_number (signatures globals.types tops) (codes "main")
+  same_main [] prints selects = refl
+  same_main (StructTop struct ∷ rest) prints selects = same_main rest prints selects
+  same_main (FunctionTop function ∷ rest) prints selects =
+      let m = made_function globals elements prints selects function in
+      let others = functions_code globals elements (prints + length m.prints) (selects + table_count m.plan) rest in
+      ap (λ t. if t then Some 0 else option_map suc (first_place (λ (f : CodeFunction). named_main f.name) others)) (label_same function.name (named_main function.name) refl)
+      ∙ ap (λ o. if named_main function.name then Some 0 else option_map suc o) (same_main rest (prints + length m.prints) (selects + table_count m.plan))
+
+code_main : (file : File) → main_of (code_of file).functions ≡ function_number (globals file).functions (codes "main")
+code_main file = position_is (λ (f : CodeFunction). named_main f.name) (code_of file).functions ∙ same_main (globals file) (elements_of file) file.tops 0 0
+
+-- ---- the theorem
+
+module _ (file : File) (free : Free (FileHas file)) (still : PostsTops file.tops) where
+  -- a goroutine that runs the function of this number begins alike
+  begins_alike : (n : ℕ) → function_number (globals file).functions (codes "main") ≡ Some n → parameters_of (globals file) n ≡ [] → Near file (elements_of file) (all file free still) (typed file free still) (known_fields file free still) (code_of file) (begun file (slice_get (functions file) n) []) (code_begin (code_of file) n [])
+  begins_alike n is plain =
+      let F = function_at file free still n ((functions_of file free).there (codes "main") n is) in
+      all_start file free still (result_of (globals file) n) F.made (Go n []) (F.made, F.code_there, [], subst (λ ks. AreLike (globals file).structs (all file free still) (map known ks) []) (sym plain) tt, refl)
+
+  free_equal : Equal (source_kind file) (code_kind (code_of file))
+  free_equal =
+      let b = broken rules.Main (file_size file) (omega arith) in
+      let main = main_there (globals file).functions (not_false (has_main (globals file).functions) (λ e. free b.0 (inr (inl (e, b.1))))) in
+      let n = main.number in
+      let source : number_of (globals file) (codes "main") ≡ n = ap (λ o. unwrap_or o 0) main.first in
+      let target : unwrap_or (main_of (code_of file).functions) 0 ≡ n = ap (λ o. unwrap_or o 0) (code_main file ∙ main.first) in
+      let R = Near file (elements_of file) (all file free still) (typed file free still) (known_fields file free still) (code_of file) in
+      equal (source_kind file) (code_kind (code_of file)) R weight
+      (near_follows file (elements_of file) (all file free still) (typed file free still) (known_fields file free still) (code_of file) (fine_behind file free still) (grounds file free still) (known_fields file free still nothing_declared) (all_there file free still) (starting file free still) (all_start file free still))
+      (source_falls file)
+      (subst (λ k. R (begun file (slice_get (functions file) k) []) (code_begin (code_of file) (unwrap_or (main_of (code_of file).functions) 0) [])) (sym source)
+      (subst (λ k. R (begun file (slice_get (functions file) n) []) (code_begin (code_of file) k [])) (sym target) (begins_alike n main.first main.plain)))
+
+-- the code of a file that the checker takes, where no post statement declares anything, is the same kind of goroutine
+pub is_equal : (file : File) → PostsTops file.tops → IsTyped file → Equal (source_kind file) (code_kind (code_of file))
+is_equal file still typed = free_equal file (free_of file typed) still

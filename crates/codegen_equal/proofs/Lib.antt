@@ -1,0 +1,10 @@
+pub mod Standing
+pub mod Making
+pub mod Given
+pub mod Behind
+pub mod After
+pub mod Located
+pub mod Passed
+pub mod Began
+pub mod Functions
+pub mod Equal
