@@ -9,7 +9,8 @@ use Rattle.bytecode.specs.Code.{SelectTable}
 use Rattle.plan.specs.Plan.{Plan, Skip, IfElse, Cycle, Endless, Choose, Way, LastWay, reaches_end, turns, jump_behind, jump_size, size, flat}
 use Rattle.plan.proofs.Places.{flat_size, jump_behind_size}
 use Rattle.plan.proofs.Appends.{round, round_size, appends_if_else, appends_cycle, appends_endless, appends_choose, appends_way}
-use Rattle.codegen_emission.specs.Waits.{Wait, jump, filled, settled, continues, AreWithin, Makes}
+use Rattle.codegen_emission.specs.declared.waits.Wait.{Wait}
+use Rattle.codegen_emission.specs.Waits.{jump, filled, settled, continues, AreWithin, Makes}
 use Rattle.codegen_emission.proofs.Filled.{filled_length, filled_before, filled_set, filled_both, within_wider, within_both, makes_length, behind_set}
 
 -- ---- two parts, with a jump over the second one

@@ -9,7 +9,8 @@ use Rattle.plan.proofs.Places.{flat_size}
 use Rattle.plan.proofs.Appends.{appends_if_then}
 use Rattle.codegen_expression.specs.Emission.{Puts}
 use Rattle.codegen_expression.proofs.Emitting.{puts_alone}
-use Rattle.codegen_emission.specs.Waits.{Wait, jump, filled, AreWithin, Makes}
+use Rattle.codegen_emission.specs.declared.waits.Wait.{Wait}
+use Rattle.codegen_emission.specs.Waits.{jump, filled, AreWithin, Makes}
 
 -- ---- jumps with targets
 
@@ -35,6 +36,11 @@ filled_set (w ∷ ws) leave again first end at code i in_range le =
 pub filled_both : (ws vs : List Wait) (leave again : ℕ) (code : List Instr) → filled (ws ++ vs) leave again code ≡ filled ws leave again (filled vs leave again code)
 filled_both [] vs leave again code = refl
 filled_both (w ∷ ws) vs leave again code = ap (λ (c : List Instr). slice_set c w.place (jump leave again w)) (filled_both ws vs leave again code)
+
+-- the last one first
+pub filled_last : (all ws : List Wait) (w : Wait) (leave again target : ℕ) (code next : List Instr) → all ≡ ws ++ w ∷ [] → target ≡ cond w.leaves leave again → next ≡ slice_set code w.place (instrs.Jump target) → filled ws leave again next ≡ filled all leave again code
+filled_last all ws w leave again target code next is to done =
+    ap (filled ws leave again) (done ∙ ap (λ t. slice_set code w.place (instrs.Jump t)) to) ∙ sym (filled_both ws (w ∷ []) leave again code) ∙ ap (λ l. filled l leave again code) (sym is)
 
 pub within_wider : (ws : List Wait) (first end first' end' : ℕ) → first' ≤ first → end ≤ end' → AreWithin first end ws → AreWithin first' end' ws
 within_wider [] first end first' end' a b in_range = tt

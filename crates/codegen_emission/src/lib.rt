@@ -1,2 +1,6 @@
-//! The instructions of statements. Lemmas alone so far.
+//! The instructions of statements.
 #![tactic(auto)]
+
+pub mod emitter;
+pub mod flow;
+pub mod waits;

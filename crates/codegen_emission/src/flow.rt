@@ -1,0 +1,44 @@
+//! Where control goes from what was emitted.
+
+ghost use Rattle.std.specs.Prelude.{◌≡◌, OnOk};
+ghost use Rattle.codegen_emission.specs.Emitted.{Joins, is_through};
+
+use crate::waits::Wait;
+use codegen_expression::halt::Halt;
+use std::alloc::Global;
+
+/// Where control goes from what was emitted: the jumps that wait, oldest first, and what can be reached.
+#[derive(Drop)]
+pub struct Flow {
+    pub waits: Vec<Wait>,
+    pub reaches_end: bool,
+    pub has_break: bool,
+    pub has_continue: bool,
+}
+
+impl Flow {
+    /// Only to what comes behind.
+    pub fn through(alloc: Global) -> Flow
+        ensures { is_through result }
+    {
+        Flow {
+            waits: Vec::new(alloc),
+            reaches_end: true,
+            has_break: false,
+            has_continue: false,
+        }
+    }
+}
+
+/// What comes behind is emitted too.
+///
+/// Errors: want of memory.
+pub fn join(flow: &mut Flow, mut behind: Flow) -> Result<(), Halt>
+    ensures { OnOk result (Joins flow.old behind flow.new) }
+{
+    flow.waits.append(&mut behind.waits)?;
+    flow.reaches_end = behind.reaches_end;
+    flow.has_break |= behind.has_break;
+    flow.has_continue |= behind.has_continue;
+    Ok(())
+}
