@@ -10,7 +10,7 @@ use Rattle.plan.proofs.Appends.{appends_if_then}
 use Rattle.codegen_expression.specs.Emission.{Puts}
 use Rattle.codegen_expression.proofs.Emitting.{puts_alone}
 use Rattle.codegen_emission.specs.declared.waits.Wait.{Wait}
-use Rattle.codegen_emission.specs.Waits.{jump, filled, AreWithin, Makes}
+use Rattle.codegen_emission.specs.Waits.{wait_at, jump, filled, AreWithin, Makes}
 
 -- ---- jumps with targets
 
@@ -74,9 +74,6 @@ makes_one old new i p is same = record { within = tt; is = λ leave again. is �
 
 pub makes_stop : (old new : List Instr) → new ≡ old ++ instrs.Return ∷ [] → Makes old new [] Stop
 makes_stop old new is = makes_one old new instrs.Return Stop is (λ leave again place. refl)
-
-abbrev wait_at : ℕ → Bool → List Wait
-wait_at place leaves = record { place = place; leaves = leaves } ∷ []
 
 waits : (old new : List Instr) (leaves : Bool) (p : Plan) → new ≡ old ++ instrs.Jump 0 ∷ [] → ((leave again place : ℕ) → flat leave again place p ≡ instrs.Jump (cond leaves leave again) ∷ []) → Makes old new (wait_at (length old) leaves) p
 waits old new leaves p is same = record {

@@ -1,2 +1,4 @@
 pub mod Filled
 pub mod Chosen
+pub mod Emitting
+pub mod Listing

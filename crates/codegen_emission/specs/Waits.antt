@@ -5,6 +5,10 @@ use Rattle.bytecode.specs.declared.instr.Instr.TheVariants as instrs
 use Rattle.plan.specs.Plan.{Plan, flat}
 use Rattle.codegen_emission.specs.declared.waits.Wait.{Wait}
 
+-- one jump that waits
+abbrev pub wait_at : ℕ → Bool → List Wait
+wait_at place leaves = record { place = place; leaves = leaves } ∷ []
+
 -- the jump, where breaks and continues lead to these places
 abbrev pub jump : ℕ → ℕ → Wait → Instr
 jump leave again wait = instrs.Jump (cond wait.leaves leave again)

@@ -1,7 +1,7 @@
 //! Where control goes from what was emitted.
 
-ghost use Rattle.std.specs.Prelude.{◌≡◌, OnOk};
-ghost use Rattle.codegen_emission.specs.Emitted.{Joins, is_through};
+ghost use Rattle.std.specs.Prelude.{◌≡◌, IfOk, OnOk};
+ghost use Rattle.codegen_emission.specs.Emitted.{control, joined, jumping, through};
 
 use crate::waits::Wait;
 use codegen_expression::halt::Halt;
@@ -17,9 +17,25 @@ pub struct Flow {
 }
 
 impl Flow {
+    /// Only to where a break, or a continue, leads.
+    ///
+    /// Errors: want of memory.
+    pub fn from_jump(alloc: Global, leaves: bool, place: usize) -> Result<Flow, Halt>
+        ensures { IfOk result (λ flow. control flow ≡ jumping place leaves) }
+    {
+        let mut waits = Vec::new(alloc);
+        waits.push(Wait { place, leaves })?;
+        Ok(Flow {
+            waits,
+            reaches_end: false,
+            has_break: leaves,
+            has_continue: !leaves,
+        })
+    }
+
     /// Only to what comes behind.
     pub fn through(alloc: Global) -> Flow
-        ensures { is_through result }
+        ensures { control result ≡ through }
     {
         Flow {
             waits: Vec::new(alloc),
@@ -34,7 +50,7 @@ impl Flow {
 ///
 /// Errors: want of memory.
 pub fn join(flow: &mut Flow, mut behind: Flow) -> Result<(), Halt>
-    ensures { OnOk result (Joins flow.old behind flow.new) }
+    ensures { OnOk result (control flow.new ≡ joined (control flow.old) (control behind)) }
 {
     flow.waits.append(&mut behind.waits)?;
     flow.reaches_end = behind.reaches_end;

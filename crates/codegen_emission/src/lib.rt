@@ -3,4 +3,5 @@
 
 pub mod emitter;
 pub mod flow;
+pub mod statement;
 pub mod waits;

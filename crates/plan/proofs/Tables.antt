@@ -25,7 +25,7 @@ Numbered n Stop = Unit {0}
 Numbered n Leave = Unit {0}
 Numbered n Again = Unit {0}
 
-tables_size : (p : Plan) (place : ℕ) → length (tables place p) ≡ table_count p
+pub tables_size : (p : Plan) (place : ℕ) → length (tables place p) ≡ table_count p
 tables_size Skip place = omega arith
 tables_size (Do i rest) place = tables_size rest (place + 1)
 tables_size (Seq first rest) place =
