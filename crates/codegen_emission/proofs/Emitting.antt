@@ -11,7 +11,10 @@ use Rattle.plan.proofs.Tables.{tables_size}
 use Rattle.type_table.specs.declared.table.TypeTable.{TypeTable}
 use Rattle.type_table.specs.Visible.{Keeps}
 use Rattle.codegen_base.specs.Layouts.{Layout, entering, leaving}
-use Rattle.codegen_base.specs.Generated.{Made, Site, made_of, nothing, past, followed, unless_ended, ended, inside}
+use Rattle.syntax.specs.Tree.{Break, Continue}
+use Rattle.type_table.specs.Scopes.{Globals, Yield}
+use Rattle.codegen_base.specs.declared.element.Element.{Element}
+use Rattle.codegen_base.specs.Generated.{Made, Site, made, made_of, nothing, past, followed, unless_ended, ended, inside}
 use Rattle.codegen_simple.specs.Layouts.{layout_of}
 use Rattle.codegen_simple.proofs.Leaving.{left_layout}
 use Rattle.codegen_emission.specs.declared.waits.Wait.{Wait}
@@ -45,6 +48,15 @@ module _ (table : TypeTable) where
   emits_jump false old new flow code is prints selects layout =
       subst (λ f. Emits table old new f (made_of Again [] (layout_of table old.layout))) (sym is)
           (emits_plain old new (jumping (length old.code.items) false) Again (makes_again old.code.items new.code.items code) (record { ends = refl; breaks = refl; continues = refl }) (λ place. refl) prints selects layout)
+
+  module _ (globals : Globals) (elements : List Element) (result : Yield) where
+    pub emits_break : (old new : Emitter) (flow : Control) → new.code.items ≡ old.code.items ++ instrs.Jump 0 ∷ [] → flow ≡ jumping (length old.code.items) true
+        → new.prints.items ≡ old.prints.items → new.selects.items ≡ old.selects.items → new.layout ≡ old.layout → Emits table old new flow (made globals elements result (site_of table old) Break)
+    emits_break = emits_jump true
+
+    pub emits_continue : (old new : Emitter) (flow : Control) → new.code.items ≡ old.code.items ++ instrs.Jump 0 ∷ [] → flow ≡ jumping (length old.code.items) false
+        → new.prints.items ≡ old.prints.items → new.selects.items ≡ old.selects.items → new.layout ≡ old.layout → Emits table old new flow (made globals elements result (site_of table old) Continue)
+    emits_continue = emits_jump false
 
   -- nothing
   pub emits_nothing : (now : Emitter) (flow : Control) → flow ≡ through → Emits table now now flow (nothing (site_of table now))

@@ -28,7 +28,7 @@ or_assoc : (a b c : Bool) → ((a || b) || c) ≡ (a || (b || c))
 or_assoc true b c = refl
 or_assoc false b c = refl
 
-led : List Wait → Bool → Bool → Bool → Control
+abbrev led : List Wait → Bool → Bool → Bool → Control
 led waits ends breaks continues = record { waits = waits; ends = ends; breaks = breaks; continues = continues }
 
 joined_through : (f : Control) → f.ends ≡ true → joined f through ≡ f
@@ -61,21 +61,23 @@ module _ (table : TypeTable) (globals : Globals) (elements : List Element) (resu
       let there = subst (λ site. Emits table now new (joined one g) (followed m1 (rests site))) (site_past table now next one m1 e) both in
       subst (λ b. Emits table now new (joined one g) (if b then followed m1 (rests (past (site_of table now) m1)) else m1)) (sym leads) there
 
-  pub begins_more : (old now next : Emitter) (flow one both : Control) (first : Statement) (rest all : Statements) → Begins old now flow (Then first rest) all → one.ends ≡ true → Emits table now next one (made globals elements result (site_of table now) first)
+  pub begins_more : (old now next : Emitter) (flow one both : Control) (first : Statement) (rest left all : Statements) → left ≡ Then first rest → Begins old now flow left all → one.ends ≡ true → Emits table now next one (made globals elements result (site_of table now) first)
       → both ≡ joined flow one → Begins old next both rest all
-  begins_more old now next flow one both first rest all b on e is = subst (λ f. Begins old next f rest all) (sym is) (record {
+  begins_more old now next flow one both first rest left all more begun on e is = let b = subst (λ l. Begins old now flow l all) more begun in subst (λ f. Begins old next f rest all) (sym is) (record {
     on = on;
     is = λ new g m. subst (λ f. Emits table old new f (made_all globals elements result (site_of table old) all)) (sym (joined_assoc flow one g)) (b.is new (joined one g) (one_more now next new one g first rest on e m));
   })
 
-  pub begins_all : (old now : Emitter) (flow : Control) (all : Statements) → Begins old now flow NoStatement all → Emits table old now flow (made_all globals elements result (site_of table old) all)
-  begins_all old now flow all b =
+  pub begins_all : (old now : Emitter) (flow : Control) (left all : Statements) → left ≡ NoStatement → Begins old now flow left all → Emits table old now flow (made_all globals elements result (site_of table old) all)
+  begins_all old now flow left all none begun =
+      let b = subst (λ l. Begins old now flow l all) none begun in
       subst (λ f. Emits table old now f (made_all globals elements result (site_of table old) all)) (joined_through flow b.on) (b.is now through (emits_nothing table now through refl))
 
   -- what comes behind can't be reached
-  pub begins_cut : (old now next : Emitter) (flow one both : Control) (first : Statement) (rest all : Statements) → Begins old now flow (Then first rest) all → one.ends ≡ false → Emits table now next one (made globals elements result (site_of table now) first)
+  pub begins_cut : (old now next : Emitter) (flow one both : Control) (first : Statement) (rest left all : Statements) → left ≡ Then first rest → Begins old now flow left all → one.ends ≡ false → Emits table now next one (made globals elements result (site_of table now) first)
       → both ≡ joined flow one → Emits table old next both (made_all globals elements result (site_of table old) all)
-  begins_cut old now next flow one both first rest all b off e is =
+  begins_cut old now next flow one both first rest left all more begun off e is =
+      let b = subst (λ l. Begins old now flow l all) more begun in
       let m1 = made globals elements result (site_of table now) first in
       let ends : reaches_end m1.plan ≡ false = sym e.flows.ends ∙ off in
       let cut = subst (λ b. Emits table now next one (if b then followed m1 (made_all globals elements result (past (site_of table now) m1) rest) else m1)) (sym ends) e in
@@ -106,3 +108,9 @@ module _ (table : TypeTable) where
         kept = (ap (take (length e0.layout.visible.entries.items)) again ∙ take-length e0.layout.visible.entries.items, out);
       } in
       subst (λ site. Emits table e0 e3 flow (ended (layout_of table e0.layout) (make site))) same made
+
+  pub emits_block : (globals : Globals) (elements : List Element) (result : Yield) (body : Statements) (e0 e1 e2 e3 : Emitter) (count outer : ℕ) (flow : Control) → e1.code.items ≡ e0.code.items → e1.prints.items ≡ e0.prints.items → e1.selects.items ≡ e0.selects.items → layout_of table e1.layout ≡ entering (layout_of table e0.layout)
+      → e1.layout.visible.entries.items ≡ e0.layout.visible.entries.items → count ≡ length e0.layout.visible.entries.items → outer ≡ e0.layout.visible.outer → Emits table e1 e2 flow (made_all globals elements result (site_of table e1) body)
+      → e3.code.items ≡ e2.code.items → e3.prints.items ≡ e2.prints.items → e3.selects.items ≡ e2.selects.items → e3.layout.visible.entries.items ≡ take count e2.layout.visible.entries.items → e3.layout.visible.outer ≡ outer → e3.layout.visible.words ≡ e2.layout.visible.words
+      → e3.layout.locals.items ≡ e2.layout.locals.items → Emits table e0 e3 flow (ended (layout_of table e0.layout) (made_all globals elements result (inside (site_of table e0)) body))
+  emits_block globals elements result body = emits_within (λ site. made_all globals elements result site body)

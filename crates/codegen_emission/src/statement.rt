@@ -1,14 +1,13 @@
 //! Statements ("Statements" of the Go specification).
 
-ghost use Rattle.std.specs.Prelude.{◌≡◌, [], IfOk, cond};
+ghost use Rattle.std.specs.Prelude.{◌≡◌, ◌++◌, ◌∷◌, [], IfOk, OnOk, length};
 ghost use Rattle.syntax.specs.View.{body_of, statement_of};
-ghost use Rattle.plan.specs.Plan.{Again, Leave};
-ghost use Rattle.type_table.specs.declared.table.TypeTable.{TypeTable as OneTable};
+ghost use Rattle.bytecode.specs.declared.instr.Instr.TheVariants as instrs;
 ghost use Rattle.type_table.specs.Views.{yield_of};
 ghost use Rattle.type_table.specs.Visible.{globals_in, types_of};
-ghost use Rattle.codegen_base.specs.Generated.{ended, inside, made, made_all, made_of, nothing};
+ghost use Rattle.codegen_base.specs.Generated.{ended, inside, made, made_all};
 ghost use Rattle.codegen_simple.specs.Layouts.{layout_of};
-ghost use Rattle.codegen_emission.specs.Emitted.{Emits, control, site_of};
+ghost use Rattle.codegen_emission.specs.Emitted.{Emits, control, jumping, site_of};
 
 use crate::emitter::Emitter;
 use crate::flow::{Flow, join};
@@ -22,12 +21,12 @@ use type_table::table::TypeTable;
 use type_table::value_type::ValueType;
 
 /// A break, or a continue.
-#[tactic(auto, using(crate::proofs::Emitting::emits_jump))]
-fn emit_jump(alloc: Global, leaves: bool, emitter: &mut Emitter<'_>) -> Result<Flow, Halt>
-    ensures { IfOk result (λ flow. (table : OneTable) → Emits table emitter.old emitter.new (control flow) (made_of (cond leaves Leave Again) [] (layout_of table emitter.old.layout))) }
+fn emit_jump(alloc: Global, leaves: bool, code: &mut Vec<Instr>) -> Result<Flow, Halt>
+    ensures emitted { OnOk result (code.new.items ≡ code.old.items ++ instrs.Jump 0 ∷ []) }
+    ensures flow { IfOk result (λ flow. control flow ≡ jumping (length code.old.items) leaves) }
 {
-    let flow = Flow::from_jump(alloc, leaves, emitter.code.len())?;
-    emitter.code.push(Instr::Jump(0))?;
+    let flow = Flow::from_jump(alloc, leaves, code.len())?;
+    code.push(Instr::Jump(0))?;
     Ok(flow)
 }
 
@@ -58,7 +57,7 @@ fn emit_statements<'t, 'l, 'm, 's, 'a>(
 
 /// A block.
 #[cycle(statement)]
-#[tactic(auto, using(crate::proofs::Listing::emits_within))]
+#[tactic(auto, using(crate::proofs::Listing::emits_block))]
 fn emit_block<'t, 'l, 'm, 's, 'a>(
     alloc: Global,
     table: &'t TypeTable<'a>,
@@ -77,7 +76,7 @@ fn emit_block<'t, 'l, 'm, 's, 'a>(
 
 /// A statement.
 #[cycle(statement)]
-#[tactic(auto, using(crate::proofs::Emitting::emits_nothing))]
+#[tactic(auto, using(crate::proofs::Emitting::emits_nothing, crate::proofs::Emitting::emits_break, crate::proofs::Emitting::emits_continue))]
 fn emit_statement<'t, 'l, 'm, 's, 'a>(
     alloc: Global,
     table: &'t TypeTable<'a>,
@@ -93,8 +92,14 @@ fn emit_statement<'t, 'l, 'm, 's, 'a>(
         StatementNode::Block(body) => {
             emit_block(alloc, table, elements, result_type, emitter, body.as_slice())
         }
-        StatementNode::Break => emit_jump(alloc, true, emitter),
-        StatementNode::Continue => emit_jump(alloc, false, emitter),
+        StatementNode::Break => {
+            let flow = emit_jump(alloc, true, &mut emitter.code)?;
+            Ok(flow)
+        }
+        StatementNode::Continue => {
+            let flow = emit_jump(alloc, false, &mut emitter.code)?;
+            Ok(flow)
+        }
         _ => Err(Halt::Flawed),
     }
 }
