@@ -20,7 +20,7 @@ use Rattle.codegen_simple.proofs.Leaving.{left_layout}
 use Rattle.codegen_emission.specs.declared.waits.Wait.{Wait}
 use Rattle.codegen_emission.specs.declared.emitter.Emitter.{Emitter}
 use Rattle.codegen_emission.specs.Waits.{Makes, wait_at}
-use Rattle.codegen_emission.specs.Emitted.{Control, Emits, Flows, joined, jumping, site_of, through}
+use Rattle.codegen_emission.specs.Emitted.{Control, Emits, Flows, Jumps, joined, jumping, site_of, through}
 use Rattle.codegen_emission.proofs.Filled.{makes_length, makes_leave, makes_again, makes_seq, makes_stop}
 
 module _ (table : TypeTable) where
@@ -40,7 +40,7 @@ module _ (table : TypeTable) where
   }
 
   -- a break or a continue
-  pub emits_jump : (leaves : Bool) (old new : Emitter) (flow : Control) → new.code.items ≡ old.code.items ++ instrs.Jump 0 ∷ [] → flow ≡ jumping (length old.code.items) leaves
+  emits_jump : (leaves : Bool) (old new : Emitter) (flow : Control) → new.code.items ≡ old.code.items ++ instrs.Jump 0 ∷ [] → flow ≡ jumping (length old.code.items) leaves
       → new.prints.items ≡ old.prints.items → new.selects.items ≡ old.selects.items → new.layout ≡ old.layout → Emits table old new flow (made_of (cond leaves Leave Again) [] (layout_of table old.layout))
   emits_jump true old new flow code is prints selects layout =
       subst (λ f. Emits table old new f (made_of Leave [] (layout_of table old.layout))) (sym is)
@@ -49,14 +49,11 @@ module _ (table : TypeTable) where
       subst (λ f. Emits table old new f (made_of Again [] (layout_of table old.layout))) (sym is)
           (emits_plain old new (jumping (length old.code.items) false) Again (makes_again old.code.items new.code.items code) (record { ends = refl; breaks = refl; continues = refl }) (λ place. refl) prints selects layout)
 
-  module _ (globals : Globals) (elements : List Element) (result : Yield) where
-    pub emits_break : (old new : Emitter) (flow : Control) → new.code.items ≡ old.code.items ++ instrs.Jump 0 ∷ [] → flow ≡ jumping (length old.code.items) true
-        → new.prints.items ≡ old.prints.items → new.selects.items ≡ old.selects.items → new.layout ≡ old.layout → Emits table old new flow (made globals elements result (site_of table old) Break)
-    emits_break = emits_jump true
+  pub emits_break : (old new : Emitter) (flow : Control) → Jumps true old new flow → Emits table old new flow (made_of Leave [] (layout_of table old.layout))
+  emits_break old new flow j = emits_jump true old new flow j.code j.waits j.prints j.selects j.layout
 
-    pub emits_continue : (old new : Emitter) (flow : Control) → new.code.items ≡ old.code.items ++ instrs.Jump 0 ∷ [] → flow ≡ jumping (length old.code.items) false
-        → new.prints.items ≡ old.prints.items → new.selects.items ≡ old.selects.items → new.layout ≡ old.layout → Emits table old new flow (made globals elements result (site_of table old) Continue)
-    emits_continue = emits_jump false
+  pub emits_continue : (old new : Emitter) (flow : Control) → Jumps false old new flow → Emits table old new flow (made_of Again [] (layout_of table old.layout))
+  emits_continue old new flow j = emits_jump false old new flow j.code j.waits j.prints j.selects j.layout
 
   -- nothing
   pub emits_nothing : (now : Emitter) (flow : Control) → flow ≡ through → Emits table now now flow (nothing (site_of table now))

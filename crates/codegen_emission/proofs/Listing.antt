@@ -1,8 +1,10 @@
 -- Statements that are emitted one behind the other, and blocks.
-use Rattle.std.proofs.Common.{◌≡◌, ℕ, ◌+◌, Bool, true, false, ◌||◌, List, [], ◌∷◌, ◌++◌, length, take, refl, sym, ap, ◌∙◌, subst, append_assoc}
+use Rattle.std.proofs.Common.{◌≡◌, ℕ, ◌+◌, Bool, true, false, ◌||◌, List, [], ◌∷◌, ◌++◌, length, take, drop, get_or, ◌<◌, refl, sym, ap, ◌∙◌, subst, append_assoc}
 use Rattle.std.specs.Prelude.{if◌then◌else◌}
-use Rattle.std.proofs.lemmas.List.{append-nil}
+use Rattle.std.proofs.lemmas.List.{append-nil, drop_more}
 use Rattle.std.proofs.Math.Seq.{take-length}
+use Rattle.syntax.specs.declared.node.StatementNode.{StatementNode}
+use Rattle.syntax.specs.View.{body_of, statement_of}
 use Rattle.syntax.specs.Tree.{Statement, Statements, NoStatement, Then}
 use Rattle.bytecode.specs.declared.instr.Instr.{Instr}
 use Rattle.bytecode.specs.Code.{PrintTable, SelectTable}
@@ -19,6 +21,10 @@ use Rattle.codegen_emission.specs.declared.emitter.Emitter.{Emitter}
 use Rattle.codegen_emission.specs.Waits.{Makes}
 use Rattle.codegen_emission.specs.Emitted.{Control, Emits, joined, site_of, through}
 use Rattle.codegen_emission.proofs.Emitting.{emits_both, emits_nothing, site_past}
+
+-- what is left of a list of statements
+pub next_statement : (i : ℕ) (one : StatementNode) (all : List StatementNode) → i < length all → one ≡ get_or all i one → body_of (drop i all) ≡ Then (statement_of one) (body_of (drop (i + 1) all))
+next_statement i one all there is = ap body_of (drop_more all i one there ∙ ap (λ x. x ∷ drop (i + 1) all) (sym is))
 
 or_none : (b : Bool) → (b || false) ≡ b
 or_none true = refl

@@ -1,5 +1,6 @@
 -- What is emitted of a statement, and where control goes from it.
-use Rattle.std.specs.Prelude.{◌≡◌, ℕ, Bool, not, true, false, ◌||◌, List, [], ◌++◌, length}
+use Rattle.std.specs.Prelude.{◌≡◌, ℕ, Bool, not, true, false, ◌||◌, List, [], ◌∷◌, ◌++◌, length}
+use Rattle.bytecode.specs.declared.instr.Instr.TheVariants as instrs
 use Rattle.plan.specs.Plan.{Plan, reaches_end, has_break, has_continue, tables}
 use Rattle.type_table.specs.declared.table.TypeTable.{TypeTable}
 use Rattle.type_table.specs.Visible.{Keeps}
@@ -59,3 +60,11 @@ pub record Emits (table : TypeTable) (old new : Emitter) (flow : Control) (made 
   pub selects : new.selects.items ≡ old.selects.items ++ tables (length old.code.items) made.plan
   pub layout : layout_of table new.layout ≡ made.layout
   pub kept : Keeps old.layout.visible new.layout.visible
+
+-- a jump that waits is emitted
+pub record Jumps (leaves : Bool) (old new : Emitter) (flow : Control) : Type 0 where
+  pub code : new.code.items ≡ old.code.items ++ instrs.Jump 0 ∷ []
+  pub waits : flow ≡ jumping (length old.code.items) leaves
+  pub prints : new.prints.items ≡ old.prints.items
+  pub selects : new.selects.items ≡ old.selects.items
+  pub layout : new.layout ≡ old.layout

@@ -1,13 +1,12 @@
 //! Statements ("Statements" of the Go specification).
 
-ghost use Rattle.std.specs.Prelude.{◌≡◌, ◌++◌, ◌∷◌, [], IfOk, OnOk, length};
+ghost use Rattle.std.specs.Prelude.{IfOk};
 ghost use Rattle.syntax.specs.View.{body_of, statement_of};
-ghost use Rattle.bytecode.specs.declared.instr.Instr.TheVariants as instrs;
 ghost use Rattle.type_table.specs.Views.{yield_of};
 ghost use Rattle.type_table.specs.Visible.{globals_in, types_of};
 ghost use Rattle.codegen_base.specs.Generated.{ended, inside, made, made_all};
 ghost use Rattle.codegen_simple.specs.Layouts.{layout_of};
-ghost use Rattle.codegen_emission.specs.Emitted.{Emits, control, jumping, site_of};
+ghost use Rattle.codegen_emission.specs.Emitted.{Emits, Jumps, control, site_of};
 
 use crate::emitter::Emitter;
 use crate::flow::{Flow, join};
@@ -21,12 +20,11 @@ use type_table::table::TypeTable;
 use type_table::value_type::ValueType;
 
 /// A break, or a continue.
-fn emit_jump(alloc: Global, leaves: bool, code: &mut Vec<Instr>) -> Result<Flow, Halt>
-    ensures emitted { OnOk result (code.new.items ≡ code.old.items ++ instrs.Jump 0 ∷ []) }
-    ensures flow { IfOk result (λ flow. control flow ≡ jumping (length code.old.items) leaves) }
+fn emit_jump(alloc: Global, leaves: bool, emitter: &mut Emitter<'_>) -> Result<Flow, Halt>
+    ensures { IfOk result (λ flow. Jumps leaves emitter.old emitter.new (control flow)) }
 {
-    let flow = Flow::from_jump(alloc, leaves, code.len())?;
-    code.push(Instr::Jump(0))?;
+    let flow = Flow::from_jump(alloc, leaves, emitter.code.len())?;
+    emitter.code.push(Instr::Jump(0))?;
     Ok(flow)
 }
 
@@ -76,7 +74,7 @@ fn emit_block<'t, 'l, 'm, 's, 'a>(
 
 /// A statement.
 #[cycle(statement)]
-#[tactic(auto, using(crate::proofs::Emitting::emits_nothing, crate::proofs::Emitting::emits_break, crate::proofs::Emitting::emits_continue))]
+#[tactic(auto, using(crate::proofs::Emitting::emits_nothing))]
 fn emit_statement<'t, 'l, 'm, 's, 'a>(
     alloc: Global,
     table: &'t TypeTable<'a>,
@@ -93,11 +91,11 @@ fn emit_statement<'t, 'l, 'm, 's, 'a>(
             emit_block(alloc, table, elements, result_type, emitter, body.as_slice())
         }
         StatementNode::Break => {
-            let flow = emit_jump(alloc, true, &mut emitter.code)?;
+            let flow = emit_jump(alloc, true, emitter)?;
             Ok(flow)
         }
         StatementNode::Continue => {
-            let flow = emit_jump(alloc, false, &mut emitter.code)?;
+            let flow = emit_jump(alloc, false, emitter)?;
             Ok(flow)
         }
         _ => Err(Halt::Flawed),
