@@ -44,10 +44,10 @@ module _ (table : TypeTable) where
       → new.prints.items ≡ old.prints.items → new.selects.items ≡ old.selects.items → new.layout ≡ old.layout → Emits table old new flow (made_of (cond leaves Leave Again) [] (layout_of table old.layout))
   emits_jump true old new flow code is prints selects layout =
       subst (λ f. Emits table old new f (made_of Leave [] (layout_of table old.layout))) (sym is)
-          (emits_plain old new (jumping (length old.code.items) true) Leave (makes_leave old.code.items new.code.items code) (record { ends = refl; breaks = refl; continues = refl }) (λ place. refl) prints selects layout)
+      (emits_plain old new (jumping (length old.code.items) true) Leave (makes_leave old.code.items new.code.items code) (record { ends = refl; breaks = refl; continues = refl }) (λ place. refl) prints selects layout)
   emits_jump false old new flow code is prints selects layout =
       subst (λ f. Emits table old new f (made_of Again [] (layout_of table old.layout))) (sym is)
-          (emits_plain old new (jumping (length old.code.items) false) Again (makes_again old.code.items new.code.items code) (record { ends = refl; breaks = refl; continues = refl }) (λ place. refl) prints selects layout)
+      (emits_plain old new (jumping (length old.code.items) false) Again (makes_again old.code.items new.code.items code) (record { ends = refl; breaks = refl; continues = refl }) (λ place. refl) prints selects layout)
 
   pub emits_break : (old new : Emitter) (flow : Control) → Jumps true old new flow → Emits table old new flow (made_of Leave [] (layout_of table old.layout))
   emits_break old new flow j = emits_jump true old new flow j.code j.waits j.prints j.selects j.layout
@@ -59,7 +59,7 @@ module _ (table : TypeTable) where
   pub emits_nothing : (now : Emitter) (flow : Control) → flow ≡ through → Emits table now now flow (nothing (site_of table now))
   emits_nothing now flow is =
       subst (λ f. Emits table now now f (nothing (site_of table now))) (sym is)
-          (emits_plain now now through Skip (record { within = tt; is = λ leave again. sym (append-nil now.code.items) }) (record { ends = refl; breaks = refl; continues = refl }) (λ place. refl) refl refl refl)
+      (emits_plain now now through Skip (record { within = tt; is = λ leave again. sym (append-nil now.code.items) }) (record { ends = refl; breaks = refl; continues = refl }) (λ place. refl) refl refl refl)
 
   -- ---- one behind the other
 

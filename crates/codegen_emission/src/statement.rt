@@ -88,7 +88,14 @@ fn emit_statement<'t, 'l, 'm, 's, 'a>(
     match statement {
         StatementNode::Empty => Ok(Flow::through(alloc)),
         StatementNode::Block(body) => {
-            emit_block(alloc, table, elements, result_type, emitter, body.as_slice())
+            emit_block(
+                alloc,
+                table,
+                elements,
+                result_type,
+                emitter,
+                body.as_slice(),
+            )
         }
         StatementNode::Break => {
             let flow = emit_jump(alloc, true, emitter)?;
