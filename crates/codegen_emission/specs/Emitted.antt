@@ -27,6 +27,10 @@ control flow = record { waits = flow.waits.items; ends = flow.reaches_end; break
 abbrev pub through : Control
 through = record { waits = []; ends = true; breaks = false; continues = false }
 
+-- to what comes behind, or nowhere
+abbrev pub leading : Bool → Control
+leading ends = record { waits = []; ends = ends; breaks = false; continues = false }
+
 -- to where a break, or a continue, leads
 abbrev pub jumping : ℕ → Bool → Control
 jumping place leaves = record { waits = wait_at place leaves; ends = false; breaks = leaves; continues = not leaves }

@@ -1,7 +1,7 @@
 //! Where control goes from what was emitted.
 
 ghost use Rattle.std.specs.Prelude.{◌≡◌, IfOk, OnOk};
-ghost use Rattle.codegen_emission.specs.Emitted.{control, joined, jumping, through};
+ghost use Rattle.codegen_emission.specs.Emitted.{control, joined, jumping, leading, through};
 
 use crate::waits::Wait;
 use codegen_expression::halt::Halt;
@@ -31,6 +31,18 @@ impl Flow {
             has_break: leaves,
             has_continue: !leaves,
         })
+    }
+
+    /// Only to what comes behind a loop, if a break leads there.
+    pub fn behind_loop(alloc: Global, reaches_end: bool) -> Flow
+        ensures { control result ≡ leading reaches_end }
+    {
+        Flow {
+            waits: Vec::new(alloc),
+            reaches_end,
+            has_break: false,
+            has_continue: false,
+        }
     }
 
     /// Only to what comes behind.

@@ -1,14 +1,19 @@
-use Rattle.std.proofs.Common.{rules, ◌≡◌, ◌+◌, refl, sym, ap, subst, drop}
+use Rattle.std.proofs.Common.{rules, arith, ◌≡◌, ◌+◌, List, None, length, refl, sym, ap, ◌∙◌, subst, drop}
 use Rattle.std.proofs.lemmas.List.{drop_all}
 use Rattle.syntax.specs.View.{body_of, statement_of}
 use Rattle.syntax.specs.declared.node.ElseNode.TheFolds.{the_lemmas}
 use Rattle.syntax.specs.Tree.{Break, Continue}
 use Rattle.type_table.specs.Views.{yield_of}
 use Rattle.type_table.specs.Visible.{globals_in, types_of}
-use Rattle.codegen_base.specs.Generated.{made}
+use Rattle.codegen_base.specs.Generated.{ended, inside, made, made_all, made_while}
+use Rattle.codegen_simple.specs.Layouts.{layout_of}
+use Rattle.codegen_emission.specs.declared.waits.Wait.{Wait}
+use Rattle.codegen_emission.specs.declared.emitter.Emitter.{Emitter}
+use Rattle.codegen_emission.specs.Waits.{filled}
 use Rattle.codegen_emission.specs.Emitted.{Emits, control, site_of}
 use Rattle.codegen_emission.proofs.Emitting.{emits_break, emits_continue}
 use Rattle.codegen_emission.proofs.Listing.{begins_all, begins_cut, begins_more, emits_block, next_statement}
+use Rattle.codegen_emission.proofs.Looping.{emits_endless}
 use Rattle.codegen_emission.proofs.statement.+statement.Goals as goal
 
 pub emit_block-returns : goal.emit_block-returns
@@ -53,3 +58,19 @@ emit_statement-returns-in_ok-flow-in-Continue t c =
     let is : statement_of c.args.statement.now ≡ Continue = search (rules, the_lemmas) in
     subst (λ s. Emits table c.args.emitter.now c.emit_jump-in-Continue.new.emitter (control c.in_ok-flow-in-Continue.flow) (made (globals_in table) c.args.elements.now (yield_of (types_of table) c.args.result_type) (site_of table c.args.emitter.now) s)) (sym is)
     (emits_continue table c.args.emitter.now c.emit_jump-in-Continue.new.emitter (control c.in_ok-flow-in-Continue.flow) c.in_ok-flow-in-Continue.ensures)
+
+pub emit_endless-returns : goal.emit_endless-returns
+emit_endless-returns t c =
+    let table = c.args.table.now in
+    let e0 = c.args.emitter.now in
+    let e1 = c.emit_block.new.emitter in
+    let e2 : Emitter = record { code = c.fill.new.code; prints = e1.prints; selects = e1.selects; layout = e1.layout } in
+    let flow = control c.in_ok-within.within in
+    let turned = c.come_round.new.code.items in
+    let within = ended (layout_of table e0.layout) (made_all (globals_in table) c.args.elements.now (yield_of (types_of table) c.args.result_type) (inside (site_of table e0)) (body_of c.args.body.now)) in
+    let head : c.in_ok-head.head ≡ length e0.code.items = omega (arith, c.in_ok-head.ensures, c.len.ensures) in
+    let again : c.in_ok-again.again ≡ length e1.code.items = omega (arith, c.in_ok-again.ensures, c.len-2.ensures) in
+    let stop : c.in_ok-stop.stop ≡ length turned = omega (arith, c.in_ok-stop.ensures, c.len-3.ensures) in
+    let done : e2.code.items ≡ filled flow.waits c.in_ok-stop.stop c.in_ok-again.again turned = c.fill.ensures ∙ ap (λ (ws : List Wait). filled ws c.in_ok-stop.stop c.in_ok-again.again turned) c.as_slice.ensures.value in
+    subst (λ f. Emits table e0 e2 f (made_while (globals_in table) c.args.elements.now (yield_of (types_of table) c.args.result_type) (site_of table e0) None within)) (sym c.behind_loop.ensures)
+        (emits_endless table e0 e1 e2 flow within turned c.in_ok-head.head c.in_ok-again.again c.in_ok-stop.stop c.in_ok-within.ensures head again c.in_ok-come_round.ensures stop done refl refl refl)
