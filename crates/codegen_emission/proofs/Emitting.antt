@@ -1,27 +1,20 @@
 -- What is emitted of statements, from what is emitted of their parts.
 use Rattle.std.proofs.Common.{◌≡◌, ℕ, ◌+◌, Bool, true, false, cond, ◌&&◌, ◌||◌, List, [], ◌∷◌, ◌++◌, length, take, refl, sym, ap, ◌∙◌, subst, arith, append_assoc, length-append}
-use Rattle.std.specs.Prelude.{min, not}
+use Rattle.std.specs.Prelude.{min}
 use Rattle.std.proofs.lemmas.List.{append-nil, length-take, take-take}
 use Rattle.std.proofs.Math.Seq.{take-length}
-use Rattle.bytecode.specs.declared.instr.Instr.{Instr}
 use Rattle.bytecode.specs.declared.instr.Instr.TheVariants as instrs
 use Rattle.bytecode.specs.Code.{PrintTable, SelectTable}
-use Rattle.plan.specs.Plan.{Plan, Skip, Seq, Stop, Leave, Again, reaches_end, has_break, has_continue, size, table_count, tables}
+use Rattle.plan.specs.Plan.{Plan, Skip, Leave, Again, reaches_end, has_break, has_continue, table_count, tables}
 use Rattle.plan.proofs.Tables.{tables_size}
 use Rattle.type_table.specs.declared.table.TypeTable.{TypeTable}
 use Rattle.type_table.specs.Visible.{Keeps}
-use Rattle.codegen_base.specs.Layouts.{Layout, entering, leaving}
-use Rattle.syntax.specs.Tree.{Break, Continue}
-use Rattle.type_table.specs.Scopes.{Globals, Yield}
-use Rattle.codegen_base.specs.declared.element.Element.{Element}
-use Rattle.codegen_base.specs.Generated.{Made, Site, made, made_of, nothing, past, followed, unless_ended, ended, inside}
+use Rattle.codegen_base.specs.Generated.{Made, made, made_of, nothing, past, followed}
 use Rattle.codegen_simple.specs.Layouts.{layout_of}
-use Rattle.codegen_simple.proofs.Leaving.{left_layout}
-use Rattle.codegen_emission.specs.declared.waits.Wait.{Wait}
 use Rattle.codegen_emission.specs.declared.emitter.Emitter.{Emitter}
-use Rattle.codegen_emission.specs.Waits.{Makes, wait_at}
+use Rattle.codegen_emission.specs.Waits.{Makes}
 use Rattle.codegen_emission.specs.Emitted.{Control, Emits, Flows, Jumps, joined, jumping, site_of, through}
-use Rattle.codegen_emission.proofs.Filled.{makes_length, makes_leave, makes_again, makes_seq, makes_stop}
+use Rattle.codegen_emission.proofs.Filled.{makes_length, makes_leave, makes_again, makes_seq}
 
 module _ (table : TypeTable) where
   same_kept : (old new : Emitter) → new.layout ≡ old.layout → Keeps old.layout.visible new.layout.visible

@@ -1,10 +1,10 @@
 -- Plans, whose jumps wait for their targets, one behind the other.
-use Rattle.std.proofs.Common.{◌≡◌, ℕ, ◌+◌, ◌≤◌, ◌<◌, Bool, true, false, cond, List, [], ◌∷◌, ◌++◌, length, refl, sym, ap, ◌∙◌, subst, arith, append_assoc, length-append}
+use Rattle.std.proofs.Common.{◌≡◌, ℕ, ◌+◌, ◌≤◌, ◌<◌, Bool, true, false, cond, List, [], ◌∷◌, ◌++◌, length, refl, sym, ap, ◌∙◌, arith, append_assoc, length-append}
 use Rattle.std.specs.Prelude.{slice_set}
 use Rattle.std.proofs.lemmas.List.{append-nil, length-set, set-append_left, set_at, set_comm}
 use Rattle.bytecode.specs.declared.instr.Instr.{Instr}
 use Rattle.bytecode.specs.declared.instr.Instr.TheVariants as instrs
-use Rattle.plan.specs.Plan.{Plan, Skip, Do, Seq, IfThen, Stop, Leave, Again, reaches_end, size, flat}
+use Rattle.plan.specs.Plan.{Plan, Skip, Seq, IfThen, Stop, Leave, Again, reaches_end, size, flat}
 use Rattle.plan.proofs.Places.{flat_size}
 use Rattle.plan.proofs.Appends.{appends_if_then}
 use Rattle.codegen_expression.specs.Emission.{Puts}

@@ -4,14 +4,13 @@ use Rattle.std.proofs.lemmas.List.{append-nil}
 use Rattle.bytecode.specs.declared.instr.Instr.{Instr}
 use Rattle.bytecode.specs.declared.instr.Instr.TheVariants as instrs
 use Rattle.bytecode.specs.Code.{SelectTable}
-use Rattle.plan.specs.Plan.{Plan, Skip, Endless, has_break, reaches_end, tables, turns}
-use Rattle.plan.proofs.Appends.{round}
+use Rattle.plan.specs.Plan.{Skip, Endless, reaches_end, tables, turns}
 use Rattle.type_table.specs.declared.table.TypeTable.{TypeTable}
 use Rattle.type_table.specs.Visible.{Keeps}
 use Rattle.codegen_base.specs.Generated.{Made, made_of}
 use Rattle.codegen_simple.specs.Layouts.{layout_of}
 use Rattle.codegen_emission.specs.declared.emitter.Emitter.{Emitter}
-use Rattle.codegen_emission.specs.Waits.{Makes, filled}
+use Rattle.codegen_emission.specs.Waits.{filled}
 use Rattle.codegen_emission.specs.Emitted.{Control, Emits, leading}
 use Rattle.codegen_emission.proofs.Chosen.{makes_endless}
 
@@ -31,7 +30,7 @@ module _ (table : TypeTable) where
   emits_endless e0 e1 e2 flow body turned head again stop e eh ea et es ef p s l =
       let comes : (flow.ends || flow.continues) ≡ turns body.plan = ap (λ b. b || flow.continues) e.flows.ends ∙ ap (λ b. reaches_end body.plan || b) e.flows.continues in
       let whole : turned ≡ e1.code.items ++ cond (turns body.plan) (instrs.Loop (length e0.code.items) ∷ []) [] =
-          et ∙ ap (λ h. e1.code.items ++ cond (flow.ends || flow.continues) (instrs.Loop h ∷ []) []) eh ∙ ap (λ b. e1.code.items ++ cond b (instrs.Loop (length e0.code.items) ∷ []) []) comes in
+      et ∙ ap (λ h. e1.code.items ++ cond (flow.ends || flow.continues) (instrs.Loop h ∷ []) []) eh ∙ ap (λ b. e1.code.items ++ cond b (instrs.Loop (length e0.code.items) ∷ []) []) comes in
       record {
         code = makes_endless e0.code.items e1.code.items turned e2.code.items flow.waits body.plan Skip stop e.code (λ leave again. whole) es (ef ∙ ap (λ a. filled flow.waits stop a turned) ea);
         flows = record { ends = e.flows.breaks; breaks = sym (and_false (turns body.plan)); continues = sym (and_false (turns body.plan)) };

@@ -121,9 +121,7 @@ fn emit_loop<'t, 'l, 'm, 's, 'a>(
     ensures { IfOk result (λ flow. Emits table.now emitter.old emitter.new (control flow) (made (globals_in table.now) elements.now (yield_of (types_of table.now) result_type.entry) (site_of table.now emitter.old) (For (for_head_of header.now) (body_of body.now)))) }
 {
     match header {
-        ForHeader::Forever => {
-            emit_endless(alloc, table, elements, result_type, emitter, body)
-        }
+        ForHeader::Forever => { emit_endless(alloc, table, elements, result_type, emitter, body) }
         _ => Err(Halt::Flawed),
     }
 }
@@ -154,7 +152,15 @@ fn emit_statement<'t, 'l, 'm, 's, 'a>(
             )
         }
         StatementNode::For(header, body) => {
-            emit_loop(alloc, table, elements, result_type, emitter, header, body.as_slice())
+            emit_loop(
+                alloc,
+                table,
+                elements,
+                result_type,
+                emitter,
+                header,
+                body.as_slice(),
+            )
         }
         StatementNode::Break => {
             let flow = emit_jump(alloc, true, emitter)?;

@@ -73,4 +73,4 @@ emit_endless-returns t c =
     let stop : c.in_ok-stop.stop ≡ length turned = omega (arith, c.in_ok-stop.ensures, c.len-3.ensures) in
     let done : e2.code.items ≡ filled flow.waits c.in_ok-stop.stop c.in_ok-again.again turned = c.fill.ensures ∙ ap (λ (ws : List Wait). filled ws c.in_ok-stop.stop c.in_ok-again.again turned) c.as_slice.ensures.value in
     subst (λ f. Emits table e0 e2 f (made_while (globals_in table) c.args.elements.now (yield_of (types_of table) c.args.result_type) (site_of table e0) None within)) (sym c.behind_loop.ensures)
-        (emits_endless table e0 e1 e2 flow within turned c.in_ok-head.head c.in_ok-again.again c.in_ok-stop.stop c.in_ok-within.ensures head again c.in_ok-come_round.ensures stop done refl refl refl)
+    (emits_endless table e0 e1 e2 flow within turned c.in_ok-head.head c.in_ok-again.again c.in_ok-stop.stop c.in_ok-within.ensures head again c.in_ok-come_round.ensures stop done refl refl refl)
