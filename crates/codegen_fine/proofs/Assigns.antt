@@ -1,27 +1,27 @@
 -- Assignments and declarations with which nothing is wrong leave the stack as it was.
-use Rattle.std.proofs.Common.{◌≡◌, ℕ, suc, ◌+◌, ◌≤◌, ◌⊎◌, Bool, true, false, not, ◌&&◌, ◌||◌, List, [], ◌∷◌, ◌++◌, length, map, drop, Option, Some, None, refl, sym, ap, ◌∙◌, subst, arith, inl, inr}
+use Rattle.std.proofs.Common.{◌≡◌, ℕ, ◌+◌, ◌≤◌, Bool, true, false, not, ◌||◌, List, [], ◌∷◌, ◌++◌, length, map, drop, Option, Some, None, refl, sym, ap, ◌∙◌, subst, arith, inl, inr}
 use Rattle.std.specs.Prelude.{if◌then◌else◌}
-use Rattle.std.specs.Option.{is_none, is_some}
+use Rattle.std.specs.Option.{is_none}
 use Rattle.std.specs.List.{list_any}
 use Rattle.std.proofs.lemmas.Bool.{or_parts}
 use Rattle.std.proofs.lemmas.List.{length-map}
 use Rattle.std.proofs.lemmas.Option.{same_Some}
 use Rattle.go_text.specs.declared.rule.Rule.TheVariants as rules
-use Rattle.syntax.specs.Tree.{Right, Place, Simple, Assign, Define}
+use Rattle.syntax.specs.Tree.{Right, Place, Assign, Define}
 use Rattle.syntax.specs.Measures.{right_size, simple_size}
 use Rattle.bytecode.specs.declared.instr.WordKind.{WordKind}
 use Rattle.bytecode.specs.Code.{Function as CodeFunction, Code}
 use Rattle.type_table.specs.Types.{ValueType}
-use Rattle.type_table.specs.Scopes.{Globals, Scope, Variable, is_blank, is_reserved, last_named, own_variable}
+use Rattle.type_table.specs.Scopes.{Globals, Scope, Variable, is_blank, last_named, own_variable}
 use Rattle.checker_base.specs.declared.flaw.Flaw.{Flaw}
 use Rattle.checker_base.specs.Worths.{Worth, kind_of, type_of_field}
 use Rattle.checker_base.specs.Expressions.{ValueHas, NumbersHave, default_type}
 use Rattle.checker_operation.specs.Operations.{selected, place_type, Given, given, RightHas, PlaceHas, GoesHas, PlacesFail, PlacesHave}
-use Rattle.checker_simple.specs.Simples.{has_twice, is_declarable, NamesFail, DefinedHave, after_name, with_defined, others, first_type, SimpleHas, after_simple}
+use Rattle.checker_simple.specs.Simples.{has_twice, is_declarable, NamesFail, after_name, with_defined, others, SimpleHas, after_simple}
 use Rattle.meaning.specs.Values.{known}
 use Rattle.codegen_base.specs.declared.element.Element.{Element}
 use Rattle.codegen_base.specs.Elements.{kinds_of}
-use Rattle.codegen_base.specs.Layouts.{Layout, declaring_all, given_types, behind_simple}
+use Rattle.codegen_base.specs.Layouts.{Layout, declaring_all, behind_simple}
 use Rattle.codegen_base.specs.Statements.{Spot, Dropped, Local, assigns, spot_of, place_spot, place_spots, taken_type, taken_types, pushes_right, right_types, name_type, name_spots, name_types, defines, sets}
 use Rattle.codegen_base.proofs.Alike.{kind_if, Alike, own_alike}
 use Rattle.codegen_base.proofs.Noted.{Noted}
@@ -34,10 +34,10 @@ use Rattle.codegen_fine.proofs.Operands.{Grounds}
 use Rattle.codegen_fine.proofs.Emitted.{all_kinds}
 use Rattle.codegen_fine.proofs.Operations.{Functions}
 use Rattle.codegen_fine.proofs.Spots.{joined, SpotFits, SpotsFit, assigns_typed}
-use Rattle.codegen_fine.proofs.Places.{IsHoused, AllHoused, found_housed, drop_housed, housed_of, Leads, place_leads, place_alike}
-use Rattle.codegen_fine.proofs.Givens.{WantHas, WantsFail, WantsNoted, WellTaken, HasDefault, taken, taken_all, worths, given_alike}
+use Rattle.codegen_fine.proofs.Places.{IsHoused, AllHoused, found_housed, drop_housed, housed_of, place_leads, place_alike}
+use Rattle.codegen_fine.proofs.Givens.{WantHas, WantsFail, WantsNoted, WellTaken, taken, taken_all, worths, given_alike}
 use Rattle.codegen_fine.proofs.Rights.{RightNoted, Takes, typed_right}
-use Rattle.codegen_fine.proofs.Layouts.{OwnSame, own_same, Begins, Room, AllTaken, kinds_each, NamesFit, names_fit}
+use Rattle.codegen_fine.proofs.Layouts.{own_same, Begins, Room, AllTaken, NamesFit, names_fit}
 
 pub joined_kinds : (globals : Globals) (elements : List Element) (types : List ValueType) → joined (map (kinds_of globals.structs elements) types) ≡ all_kinds globals.structs elements types
 joined_kinds globals elements [] = refl

@@ -1,24 +1,21 @@
 -- What is asked of what is made of statements, and what is so of it; sequences, conditions and loops by their parts.
-use Rattle.std.proofs.Common.{◌≡◌, ℕ, zero, suc, ◌+◌, ◌≤◌, Bool, true, false, cond, ◌||◌, List, [], ◌∷◌, ◌++◌, length, Option, Some, None, IsTrue, refl, sym, ap, ◌∙◌, subst, arith, slice_get, inl, inr}
-use Rattle.std.specs.Prelude.{if◌then◌else◌}
-use Rattle.std.specs.Bool.{OnTrue}
+use Rattle.std.proofs.Common.{◌≡◌, ℕ, zero, suc, ◌+◌, List, [], ◌∷◌, ◌++◌, length, Option, Some, None, IsTrue, refl, sym, ap, ◌∙◌, subst, arith, slice_get, inl, inr}
 use Rattle.std.proofs.lemmas.Bool.{OnTrue_from, OnTrue_at}
 use Rattle.syntax.specs.Tree.{Expression, Simple, CallAlone, Close, Print, ReceiveAlone, Send, Increment, Decrement, Assign, Define, Update}
 use Rattle.bytecode.specs.declared.instr.WordKind.{WordKind}
 use Rattle.bytecode.specs.declared.instr.WordKind.TheVariants as kinds
 use Rattle.bytecode.specs.Code.{Function as CodeFunction, Code, PrintTable}
-use Rattle.type_table.specs.Scopes.{Globals, Scope, Yield, entered, left}
-use Rattle.checker_base.specs.Worths.{worth}
+use Rattle.type_table.specs.Scopes.{Globals, Scope, Yield}
 use Rattle.checker_base.specs.Expressions.{nodes_of, ConditionHas, TestHas}
 use Rattle.checker_statement.specs.Statements.{IfSimpleHas, IfTestHas, after_any}
 use Rattle.codegen_base.specs.declared.element.Element.{Element}
 use Rattle.codegen_base.specs.Layouts.{Layout, entering, leaving, behind_simple}
 use Rattle.codegen_base.specs.Program.{noting_first}
-use Rattle.codegen_base.specs.Generated.{Site, Made, at, past, made_of, nothing, followed, ended, inside, loop, tests, test_plan, made_any, made_simple, made_post, made_while, made_clauses, made_if, made_else, unless_ended}
-use Rattle.codegen_base.proofs.Alike.{Alike, alike_left}
+use Rattle.codegen_base.specs.Generated.{Site, Made, followed, ended, loop, tests, test_plan, made_any, made_post, made_if, made_else}
+use Rattle.codegen_base.proofs.Alike.{Alike}
 use Rattle.codegen_base.proofs.Noted.{Grows}
 use Rattle.codegen_base.proofs.Typing.{Free, nodes_end, worth_there}
-use Rattle.plan.specs.Plan.{Plan, Skip, Seq, IfElse, IfThen, Cycle, Endless, reaches_end, turns}
+use Rattle.plan.specs.Plan.{Plan, Skip, Seq, IfElse, IfThen, reaches_end, turns}
 use Rattle.plan.proofs.Tables.{Tabled}
 use Rattle.plan.proofs.Typed.{Allowed, in_loop, Typed}
 use Rattle.codegen_fine.proofs.Sees.{Sees, worth_sees}

@@ -1,12 +1,11 @@
 -- `x++`, `x--` and assignments with an operator, with which nothing is wrong, leave the stack as it was.
-use Rattle.std.proofs.Common.{◌≡◌, ℕ, ℤ, pos, ◌+◌, ◌≤◌, Bool, true, false, not, ◌&&◌, ◌||◌, List, ◌++◌, length, Option, Some, None, Result, Ok, Err, refl, sym, ap, ◌∙◌, subst, arith, inl, inr}
+use Rattle.std.proofs.Common.{◌≡◌, ℕ, pos, ◌+◌, ◌≤◌, Bool, true, false, not, ◌&&◌, ◌||◌, List, ◌++◌, length, Some, Result, Ok, Err, refl, sym, ap, ◌∙◌, subst, arith, inl, inr}
 use Rattle.std.specs.Prelude.{if◌then◌else◌}
 use Rattle.std.specs.Result.{result_ok}
-use Rattle.std.proofs.lemmas.Option.{same_Some}
 use Rattle.go_text.specs.declared.rule.Rule.TheVariants as rules
 use Rattle.syntax.specs.declared.node.BinaryOperator.{BinaryOperator}
 use Rattle.syntax.specs.declared.node.BinaryOperator.TheVariants.{Add, Subtract}
-use Rattle.syntax.specs.Tree.{Expression, Place, Simple, Increment, Decrement, Update}
+use Rattle.syntax.specs.Tree.{Expression, Place, Increment, Decrement, Update}
 use Rattle.syntax.specs.Measures.{expression_size}
 use Rattle.bytecode.specs.declared.instr.WordKind.{WordKind}
 use Rattle.bytecode.specs.declared.instr.Instr.TheVariants as instrs
@@ -17,21 +16,20 @@ use Rattle.type_table.specs.Scopes.{Globals, Scope, is_blank}
 use Rattle.checker_base.specs.declared.flaw.Misuse.{Misuse}
 use Rattle.checker_base.specs.declared.flaw.Misuse.TheVariants as misuses
 use Rattle.checker_base.specs.Flaws.{Nodes}
-use Rattle.checker_base.specs.Worths.{Worth, Typed as TypedWorth, Constant, Nil, is_equality, is_order, is_logical, is_int, is_wrong_right, made_type, if_good, fit_operator, beside_nil, binary_worth, type_of_field, worth}
-use Rattle.checker_base.specs.Expressions.{nodes_of, FitHas, Fails, ValueHas, default_type, ExpressionHas}
+use Rattle.checker_base.specs.Worths.{Worth, Typed as TypedWorth, Constant, Nil, is_equality, is_order, is_logical, is_int, is_wrong_right, made_type, if_good, fit_operator, binary_worth, type_of_field, worth}
+use Rattle.checker_base.specs.Expressions.{nodes_of, ValueHas, default_type}
 use Rattle.checker_operation.specs.Operations.{ReadPlaceHas, selected, place_type}
 use Rattle.checker_simple.specs.Simples.{MadeHas, UpdatedHas, StepHas, SimpleHas}
 use Rattle.meaning.specs.Values.{known}
 use Rattle.codegen_base.specs.declared.element.Element.{Element}
 use Rattle.codegen_base.specs.Elements.{kinds_of}
-use Rattle.codegen_base.specs.Layouts.{Layout}
 use Rattle.codegen_base.specs.Pushes.{operator_of, emits, operates}
-use Rattle.codegen_base.specs.Statements.{Spot, Local, spot_of, stores, loads_spot, steps, updates}
+use Rattle.codegen_base.specs.Statements.{Local, spot_of, stores, loads_spot, steps, updates}
 use Rattle.codegen_fine.proofs.Sees.{Sees, worth_sees}
 use Rattle.codegen_base.proofs.Known.{worth_noted}
 use Rattle.codegen_base.proofs.Noted.{Noted}
 use Rattle.codegen_base.proofs.Splits.{right_operand}
-use Rattle.codegen_base.proofs.Typing.{Free, Fits, fits, broken, made, nodes_end, not_false, worth_there}
+use Rattle.codegen_base.proofs.Typing.{Free, Fits, fits, broken, made, nodes_end, worth_there}
 use Rattle.plan.specs.Plan.{Plan, Skip, Do}
 use Rattle.plan.proofs.Typed.{Allowed, Typed}
 use Rattle.codegen_fine.proofs.WordKinds.{identical_same}
@@ -39,7 +37,7 @@ use Rattle.codegen_fine.proofs.Pushing.{int_operates, puts_int, puts_operator}
 use Rattle.codegen_fine.proofs.Operands.{Grounds, P, IsEmitted}
 use Rattle.codegen_fine.proofs.Emitted.{typed_emits}
 use Rattle.codegen_fine.proofs.Spots.{SpotFits, stores_typed, ticks_typed}
-use Rattle.codegen_fine.proofs.Places.{IsHoused, AllHoused, housed_of, Leads, place_leads, place_alike}
+use Rattle.codegen_fine.proofs.Places.{AllHoused, housed_of, place_leads, place_alike}
 use Rattle.codegen_fine.proofs.Updates.{loaded, typed_update}
 
 not_true : (b : Bool) → (b ≡ true → ⊥) → b ≡ false

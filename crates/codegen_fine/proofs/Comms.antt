@@ -1,46 +1,44 @@
 -- What clauses of a select wait for, with which nothing is wrong.
-use Rattle.std.proofs.Common.{◌≡◌, ℕ, ◌+◌, ◌≤◌, Bool, true, false, not, ◌&&◌, ◌||◌, List, [], ◌∷◌, ◌++◌, length, map, Option, Some, None, option_map, refl, sym, ap, ◌∙◌, subst, arith, append_assoc, length-append, inl, inr}
+use Rattle.std.proofs.Common.{◌≡◌, ℕ, ◌+◌, ◌<◌, Bool, true, false, not, ◌||◌, List, [], ◌∷◌, ◌++◌, length, map, Option, Some, None, refl, sym, ap, ◌∙◌, subst, arith, length-append, inl, inr}
 use Rattle.std.specs.List.{list_any}
 use Rattle.std.proofs.lemmas.Bool.{or_parts}
 use Rattle.std.proofs.lemmas.List.{append-nil, length-map}
 use Rattle.go_text.specs.declared.rule.Rule.TheVariants as rules
-use Rattle.syntax.specs.Tree.{Expression, Place, Receive, RightOperation, Simple, Define, Assign, Send, ReceiveAlone, Comm, CommSend, CommReceive, CommDefine, CommAssign}
+use Rattle.syntax.specs.Tree.{Expression, Place, Receive, RightOperation, Define, Assign, Comm, CommSend, CommReceive, CommDefine, CommAssign}
 use Rattle.syntax.specs.Measures.{expression_size, right_size, simple_size}
 use Rattle.bytecode.specs.declared.instr.WordKind.{WordKind}
 use Rattle.bytecode.specs.declared.instr.WordKind.TheVariants as kinds
-use Rattle.bytecode.specs.declared.instr.Instr.TheVariants as instrs
 use Rattle.bytecode.specs.Code.{Function as CodeFunction, Code}
-use Rattle.bytecode.specs.Effects.{shape_kinds, clause_kinds, clause_gives}
+use Rattle.bytecode.specs.Effects.{shape_kinds, clause_kinds, clause_gives, clause_shape}
 use Rattle.type_table.specs.Types.{ValueType, BoolType}
 use Rattle.type_table.specs.Scopes.{Globals, Scope, Yield, own_variable}
-use Rattle.checker_base.specs.Worths.{Typed as TypedWorth, worth}
-use Rattle.checker_base.specs.Expressions.{nodes_of, ValueHas, default_type, element_of, ExpressionHas, ChannelHas}
-use Rattle.checker_operation.specs.Operations.{Given, given, and_also, PlacesHave}
+use Rattle.checker_base.specs.Worths.{worth}
+use Rattle.checker_base.specs.Expressions.{nodes_of, ValueHas, element_of, ExpressionHas, ChannelHas}
+use Rattle.checker_operation.specs.Operations.{given, and_also, PlacesHave}
 use Rattle.checker_simple.specs.Simples.{is_declarable, has_twice, SimpleHas, after_simple, comm_simple}
 use Rattle.meaning.specs.Values.{known}
 use Rattle.codegen_base.specs.declared.element.Element.{Element}
 use Rattle.codegen_base.specs.Elements.{kinds_of, shape_of}
-use Rattle.codegen_base.specs.Layouts.{Layout, carried, declaring_all, given_types, behind_simple}
+use Rattle.codegen_base.specs.Layouts.{Layout, carried, declaring_all, given_types}
 use Rattle.codegen_base.specs.Generated.{pushes_comm, table_clause, comm_kinds, comm_plan, one_or_two, unless_two, behind_comm}
 use Rattle.codegen_base.specs.Pushes.{pushes, pushes_own}
 use Rattle.codegen_base.specs.Statements.{Spot, assigns, place_spots, taken_types, name_spots, name_types, right_types}
 use Rattle.codegen_base.proofs.Alike.{Alike}
 use Rattle.codegen_base.proofs.Noted.{Noted}
 use Rattle.codegen_base.proofs.Typing.{Free, broken, fits, nodes_end, worth_there}
-use Rattle.plan.specs.Plan.{Plan, Skip, Do}
+use Rattle.plan.specs.Plan.{Skip}
 use Rattle.plan.proofs.Typed.{Allowed, Typed}
 use Rattle.codegen_fine.proofs.Sees.{Sees, worth_sees}
 use Rattle.codegen_fine.proofs.Pushing.{Puts, puts_both}
-use Rattle.codegen_fine.proofs.Operands.{Grounds}
+use Rattle.codegen_fine.proofs.Operands.{Grounds, shape_within}
 use Rattle.codegen_fine.proofs.Emitted.{all_kinds, typed_pushes}
 use Rattle.codegen_fine.proofs.Operations.{Functions, IsChannel, channel_there}
 use Rattle.codegen_fine.proofs.Requests.{shape_is}
 use Rattle.codegen_fine.proofs.Simple.{discards_typed}
 use Rattle.codegen_fine.proofs.Spots.{joined, SpotsFit, assigns_typed}
 use Rattle.codegen_fine.proofs.Places.{housed_of}
-use Rattle.codegen_fine.proofs.Givens.{taken_all}
 use Rattle.codegen_fine.proofs.Rights.{default_typed, typed_given}
-use Rattle.codegen_fine.proofs.Layouts.{Begins, Room, kinds_each}
+use Rattle.codegen_fine.proofs.Layouts.{Begins, Room}
 use Rattle.codegen_fine.proofs.Assigns.{joined_kinds, place_want, places_want, places_taken, names_want, names_taken, want_of, places_fit, places_fail, places_noted, names_fail, names_noted, defines_fit, defined_alike}
 
 not_true : (b : Bool) → (b ≡ true → ⊥) → b ≡ false
@@ -60,13 +58,18 @@ module _ (globals : Globals) (elements : List Element) (code : Code) (f : CodeFu
   -- ---- its operands
 
   module _ (layout : Layout) (room : Room globals elements code f layout) (s : Scope) (sees : Sees s layout.scope) where
-    -- what is pushed is what its clause of the table takes, and what the clause leaves is what its way begins with
+    -- what is pushed is what its clause of the table takes, and what the clause leaves is what its way begins with; the shape that the
+    -- clause names is there
     pub record CommFine (comm : Comm) : Type 0 where
       pub pushed : (to : ℕ) → Puts globals.structs elements code f (clause_kinds code (table_clause globals elements result layout comm to)) (pushes_comm globals elements result layout comm)
       pub gives : (to : ℕ) → clause_gives code (Some (table_clause globals elements result layout comm to)) ≡ comm_kinds globals elements result layout comm
+      pub there : (to : ℕ) → clause_shape (table_clause globals elements result layout comm to) < length code.shapes
 
     shapes_are : (channel : Expression) (c : IsChannel globals elements code f grounds layout.scope (housed_of globals elements f layout.scope room.housed) s sees functions channel) → shape_kinds code (shape_of elements (carried globals elements layout.scope channel)) ≡ kinds_in (carried globals elements layout.scope channel)
     shapes_are channel c = subst (λ j. shape_kinds code (shape_of elements j) ≡ kinds_in j) (sym c.carries) (shape_is globals elements code f grounds c.direction c.element c.noted)
+
+    shape_is_there : (channel : Expression) (c : IsChannel globals elements code f grounds layout.scope (housed_of globals elements f layout.scope room.housed) s sees functions channel) → shape_of elements (carried globals elements layout.scope channel) < length code.shapes
+    shape_is_there channel c = subst (λ j. shape_of elements j < length code.shapes) (sym c.carries) (shape_within globals elements code f grounds c.direction c.element c.noted)
 
     channel_pushed : (channel : Expression) (c : IsChannel globals elements code f grounds layout.scope (housed_of globals elements f layout.scope room.housed) s sees functions channel) → Puts globals.structs elements code f (kinds.Chan (shape_of elements (carried globals elements layout.scope channel)) ∷ []) (pushes_own globals elements layout.scope channel)
     channel_pushed channel c = subst (λ j. Puts globals.structs elements code f (kinds.Chan (shape_of elements j) ∷ []) (pushes_own globals elements layout.scope channel)) (sym c.carries) c.pushed
@@ -77,13 +80,13 @@ module _ (globals : Globals) (elements : List Element) (code : Code) (f : CodeFu
     pub comm_fine : (comm : Comm) (first : ℕ) → Free (SimpleHas globals s first (comm_simple comm)) → CommFine comm
     comm_fine (CommReceive channel) first free =
         let c = channel_is channel first (λ flaw h. free flaw (inl h)) (λ flaw h. free flaw (inr (inl h))) in
-        record { pushed = λ to. channel_pushed channel c; gives = λ to. ap (λ (l : List WordKind). l ++ kinds.Bool ∷ []) (shapes_are channel c) }
+        record { pushed = λ to. channel_pushed channel c; gives = λ to. ap (λ (l : List WordKind). l ++ kinds.Bool ∷ []) (shapes_are channel c); there = λ to. shape_is_there channel c }
     comm_fine (CommDefine item ok channel) first free =
         let c = channel_is channel first (λ flaw h. free flaw (inl (inl h))) (λ flaw h. free flaw (inl (inr (inl h)))) in
-        record { pushed = λ to. channel_pushed channel c; gives = λ to. ap (λ (l : List WordKind). l ++ kinds.Bool ∷ []) (shapes_are channel c) }
+        record { pushed = λ to. channel_pushed channel c; gives = λ to. ap (λ (l : List WordKind). l ++ kinds.Bool ∷ []) (shapes_are channel c); there = λ to. shape_is_there channel c }
     comm_fine (CommAssign item ok channel) first free =
         let c = channel_is channel (first + length (and_also item ok)) (λ flaw h. free flaw (inr (inl (inl h)))) (λ flaw h. free flaw (inr (inl (inr (inl h))))) in
-        record { pushed = λ to. channel_pushed channel c; gives = λ to. ap (λ (l : List WordKind). l ++ kinds.Bool ∷ []) (shapes_are channel c) }
+        record { pushed = λ to. channel_pushed channel c; gives = λ to. ap (λ (l : List WordKind). l ++ kinds.Bool ∷ []) (shapes_are channel c); there = λ to. shape_is_there channel c }
     comm_fine (CommSend channel value) first free =
         let housed = housed_of globals elements f layout.scope room.housed in
         let c = channel_is channel first (λ flaw h. free flaw (inl h)) (λ flaw h. free flaw (inr (inr (inl h)))) in
@@ -100,6 +103,7 @@ module _ (globals : Globals) (elements : List Element) (code : Code) (f : CodeFu
               subst (λ (l : List WordKind). Puts globals.structs elements code f (kinds.Chan (shape_of elements kind) ∷ l) (pushes_comm globals elements result layout (CommSend channel value))) (sym (shapes_are channel c))
               (puts_both globals.structs elements code f chan (kinds_in kind) (pushes_own globals elements layout.scope channel) (pushes globals elements layout.scope kind value) (channel_pushed channel c) item);
           gives = λ to. refl;
+          there = λ to. shape_is_there channel c;
         }
 
   -- ---- what was received goes where it is wanted

@@ -1,5 +1,5 @@
 -- A condition with which nothing is wrong is a bool.
-use Rattle.std.proofs.Common.{◌≡◌, ℕ, ◌+◌, ◌≤◌, true, arith, Some, refl, ap}
+use Rattle.std.proofs.Common.{◌≡◌, ◌+◌, ◌≤◌, true, arith, Some, refl, ap}
 use Rattle.go_text.specs.declared.rule.Rule.TheVariants as rules
 use Rattle.type_table.specs.Types.{ValueType, BoolType, IntType, StructType, ChannelType, is_bool_type, assignable}
 use Rattle.checker_base.specs.Flaws.{Nodes}

@@ -1,26 +1,21 @@
 -- The body of a function, at whose end it returns zeros.
-use Rattle.std.proofs.Common.{◌≡◌, ℕ, ◌+◌, Bool, true, false, ◌&&◌, List, [], ◌∷◌, ◌++◌, length, IsTrue, refl, sym, ap, ◌∙◌, subst, slice_get}
+use Rattle.std.proofs.Common.{◌≡◌, ℕ, Bool, true, false, ◌&&◌, List, [], refl, sym}
 use Rattle.std.specs.Prelude.{if◌then◌else◌}
-use Rattle.std.specs.Bool.{OnTrue}
-use Rattle.std.proofs.lemmas.Bool.{OnTrue_from}
 use Rattle.syntax.specs.Tree.{Statements}
-use Rattle.bytecode.specs.declared.instr.WordKind.{WordKind}
 use Rattle.bytecode.specs.Code.{Function as CodeFunction, Code}
 use Rattle.bytecode.specs.Rules.{AreThere}
 use Rattle.type_table.specs.Scopes.{Globals, Scope, Yield, NoResult, Yields}
 use Rattle.checker_statement.specs.Statements.{Setting, StatementsHave}
 use Rattle.meaning.specs.Values.{known}
 use Rattle.codegen_base.specs.declared.element.Element.{Element}
-use Rattle.codegen_base.specs.Layouts.{Layout}
 use Rattle.codegen_base.specs.Program.{noting_statements}
 use Rattle.codegen_base.specs.Pushes.{pushes_zeros}
-use Rattle.codegen_base.specs.Generated.{Site, Made, made_of, followed, unless_ended, result_kinds, finished, made_all, made_body}
+use Rattle.codegen_base.specs.Generated.{Site, Made, made_of, followed, result_kinds, finished, made_all, made_body}
 use Rattle.codegen_base.proofs.Alike.{Alike}
 use Rattle.codegen_base.proofs.Noted.{Grows}
 use Rattle.codegen_base.proofs.Typing.{Free}
-use Rattle.plan.specs.Plan.{Plan, Seq, Stop, reaches_end}
-use Rattle.plan.proofs.Tables.{Tabled}
-use Rattle.plan.proofs.Typed.{outside, Typed}
+use Rattle.plan.specs.Plan.{Plan, Stop, reaches_end}
+use Rattle.plan.proofs.Typed.{outside}
 use Rattle.codegen_fine.proofs.Pushing.{puts_zeros}
 use Rattle.codegen_fine.proofs.Operands.{Grounds}
 use Rattle.codegen_fine.proofs.Operations.{Functions}

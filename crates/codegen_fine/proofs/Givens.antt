@@ -2,9 +2,7 @@
 use Rattle.std.proofs.Common.{◌≡◌, ℕ, suc, ◌+◌, ◌==◌, ◌≤◌, ◌⊎◌, Bool, true, false, not, ◌&&◌, ◌||◌, List, [], ◌∷◌, ◌++◌, length, map, Option, Some, None, option_map, refl, sym, ap, ◌∙◌, subst, arith, inl, inr, bytes_eq, append_assoc}
 use Rattle.std.specs.Prelude.{if◌then◌else◌, unwrap_or, codes}
 use Rattle.std.specs.Option.{is_some}
-use Rattle.std.proofs.lemmas.Bool.{and_parts}
 use Rattle.std.proofs.lemmas.Bool.Decides.{nat_tests}
-use Rattle.std.proofs.lemmas.List.{append-nil}
 use Rattle.go_text.specs.declared.rule.Rule.TheVariants as rules
 use Rattle.syntax.specs.Tree.{TypeExpression, Expression, expressions, Arguments, Operation, Call, Receive, Make, Length, Capacity, Right, RightOperation, Values}
 use Rattle.syntax.specs.Measures.{expression_size, arguments_size, operation_size}
@@ -14,34 +12,33 @@ use Rattle.bytecode.specs.declared.instr.WordKind.{WordKind}
 use Rattle.bytecode.specs.declared.instr.WordKind.TheVariants as kinds
 use Rattle.bytecode.specs.declared.instr.Instr.TheVariants as instrs
 use Rattle.bytecode.specs.Code.{Function as CodeFunction, Code}
-use Rattle.type_table.specs.Types.{ValueType, IntType, BoolType, StructType, ChannelType, same_direction, identical, assignable, is_channel_type, element_type}
+use Rattle.type_table.specs.Types.{ValueType, IntType, BoolType, StructType, ChannelType, same_direction, identical, assignable, element_type}
 use Rattle.type_table.specs.Scopes.{Globals, Scope, Yield, NoResult, Yields, is_reserved, variable_named, number_of as number_of_type, function_number, type_in}
 use Rattle.checker_base.specs.declared.flaw.Flaw.{Flaw}
 use Rattle.checker_base.specs.Flaws.{Nodes}
 use Rattle.checker_base.specs.Worths.{Worth, Typed as TypedWorth, Constant, Nil, is_int, worth}
-use Rattle.checker_base.specs.Expressions.{nodes_of, ValueHas, DefaultHas, NumbersHave, default_type, element_of, ExpressionHas, ExpressionsHave}
-use Rattle.checker_operation.specs.Operations.{TypeHas, Callee, NotDeclared, NoFunction, IsFunction, function_of, is_other, callee, result_of, result_type, yielded, CalleeHas, YieldHas, ResultHas, made_of, OperationHas, operation_type, is_receive, Given, given_values, given_by, given, RightHas}
+use Rattle.checker_base.specs.Expressions.{nodes_of, ValueHas, DefaultHas, default_type, element_of, ExpressionsHave}
+use Rattle.checker_operation.specs.Operations.{TypeHas, Callee, NotDeclared, NoFunction, IsFunction, function_of, is_other, callee, result_of, result_type, yielded, CalleeHas, YieldHas, ResultHas, made_of, OperationHas, operation_type, is_receive, Given, given_values, given_by, given}
 use Rattle.meaning.specs.Values.{known}
 use Rattle.meaning.specs.Destinations.{number_of}
 use Rattle.codegen_base.specs.declared.element.Element.{Element}
 use Rattle.codegen_base.specs.Elements.{kinds_of, shape_of}
 use Rattle.codegen_base.specs.Generated.{result_kinds}
 use Rattle.codegen_base.specs.Layouts.{carried, given_types}
-use Rattle.codegen_base.specs.Statements.{pushes_operation, pushes_received, pushes_one, pushes_right}
+use Rattle.codegen_base.specs.Statements.{pushes_operation, pushes_one}
 use Rattle.codegen_base.proofs.Alike.{there_alike}
 use Rattle.codegen_fine.proofs.Sees.{Sees, variable_sees, worth_sees, type_sees}
-use Rattle.codegen_base.proofs.Called.{same_count}
 use Rattle.codegen_base.proofs.Known.{worth_noted}
 use Rattle.codegen_base.proofs.Noted.{Noted}
 use Rattle.codegen_base.proofs.Passed.{AllFit}
 use Rattle.codegen_base.proofs.Typing.{Free, Fits, fits, broken, nodes_end, not_false, worth_there}
-use Rattle.plan.specs.Plan.{Plan, Do}
+use Rattle.plan.specs.Plan.{Do}
 use Rattle.plan.proofs.Typed.{Typed}
 use Rattle.codegen_fine.proofs.WordKinds.{assignable_kinds}
 use Rattle.codegen_fine.proofs.Pushing.{Puts}
 use Rattle.codegen_fine.proofs.Operands.{Grounds, Housed, P}
-use Rattle.codegen_fine.proofs.Emitted.{all_kinds, AllNoted, typed_pushes_all}
-use Rattle.codegen_fine.proofs.Operations.{Functions, operation_kinds, MakesNoted, channel_there, typed_call, typed_received, typed_operation}
+use Rattle.codegen_fine.proofs.Emitted.{AllNoted}
+use Rattle.codegen_fine.proofs.Operations.{Functions, MakesNoted, channel_there, typed_call, typed_received, typed_operation}
 use Rattle.codegen_fine.proofs.Simple.{discards_typed}
 
 -- ---- what is wanted: a value of a type, or any that has one

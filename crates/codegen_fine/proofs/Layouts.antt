@@ -1,5 +1,5 @@
 -- Layouts grow behind the locals that are there, and their variables stay among them.
-use Rattle.std.proofs.Common.{◌≡◌, ℕ, zero, suc, ◌+◌, ◌≤◌, Bool, true, false, not, ◌&&◌, ◌||◌, List, [], ◌∷◌, ◌++◌, length, drop, map, Option, Some, None, refl, sym, ap, ◌∙◌, subst, arith, append_assoc, length-append, bytes_eq, slice_get}
+use Rattle.std.proofs.Common.{◌≡◌, ℕ, zero, suc, ◌+◌, ◌≤◌, Bool, true, false, not, ◌&&◌, List, [], ◌∷◌, ◌++◌, length, drop, map, Option, Some, None, refl, sym, ap, ◌∙◌, subst, arith, append_assoc, length-append, bytes_eq}
 use Rattle.std.specs.Prelude.{if◌then◌else◌}
 use Rattle.std.specs.Option.{is_none}
 use Rattle.std.specs.List.{list_any}
@@ -10,19 +10,18 @@ use Rattle.bytecode.specs.declared.instr.WordKind.{WordKind}
 use Rattle.bytecode.specs.Code.{Function as CodeFunction, Code}
 use Rattle.bytecode.specs.Rules.{AreThere}
 use Rattle.type_table.specs.Types.{ValueType}
-use Rattle.type_table.specs.Containment.{Structs, variable_words}
-use Rattle.type_table.specs.Scopes.{Globals, Scope, Variable, is_blank, later, if_named, last_named, own_variable, entered, left, declared, declared_unless_blank}
+use Rattle.type_table.specs.Containment.{Structs}
+use Rattle.type_table.specs.Scopes.{Globals, Scope, Variable, is_blank, later, last_named, own_variable, declared}
 use Rattle.checker_base.specs.Expressions.{default_type}
 use Rattle.checker_operation.specs.Operations.{Given}
-use Rattle.checker_simple.specs.Simples.{is_declarable, has_name, has_twice, after_name, with_defined, with_variables}
+use Rattle.checker_simple.specs.Simples.{is_declarable, has_name, has_twice, after_name, with_defined}
 use Rattle.meaning.specs.Values.{known}
 use Rattle.codegen_base.specs.declared.element.Element.{Element}
 use Rattle.codegen_base.specs.Elements.{kinds_of}
 use Rattle.codegen_base.specs.Layouts.{Layout, entering, leaving, declaring, declaring_new, declaring_all, declaring_each, given_types}
-use Rattle.codegen_base.specs.Statements.{Spot, Dropped, Local, own_spot, name_spot, name_spots, name_type, name_types}
-use Rattle.codegen_base.proofs.Alike.{kind_if, Alike, own_alike, kind_alike, there_alike, alike_declared, last_append}
+use Rattle.codegen_base.specs.Statements.{Local, own_spot, name_spot, name_spots, name_type, name_types}
+use Rattle.codegen_base.proofs.Alike.{kind_if, Alike, own_alike, alike_declared, last_append}
 use Rattle.codegen_base.proofs.Assigned.{counted_words}
-use Rattle.codegen_base.proofs.Fields.{AllWide}
 use Rattle.codegen_base.proofs.Likeness.{kinds_long}
 use Rattle.codegen_base.proofs.Noted.{Noted}
 use Rattle.plan.proofs.Lists.{Stand, whole, split}
@@ -96,7 +95,7 @@ twice_parts name names e =
 -- ---- locals
 
 -- shapes that two lists name are there
-there_append : (code : Code) (xs ys : List WordKind) → AreThere code xs → AreThere code ys → AreThere code (xs ++ ys)
+pub there_append : (code : Code) (xs ys : List WordKind) → AreThere code xs → AreThere code ys → AreThere code (xs ++ ys)
 there_append code [] ys a b n k e = b n k e
 there_append code (x ∷ xs) ys a b zero k e = a zero k e
 there_append code (x ∷ xs) ys a b (suc n) k e = there_append code xs ys (λ m j h. a (suc m) j h) b n k e

@@ -32,3 +32,14 @@ pub mod Selects
 pub mod Statements
 pub mod Ranges
 pub mod Finished
+pub mod Wholes
+pub mod Programs
+pub mod Heads
+pub mod Signatures
+pub mod Wide
+pub mod Structs
+pub mod Keeping
+pub mod Shapes
+pub mod Limits
+pub mod Filled
+pub mod Main

@@ -1,18 +1,17 @@
 -- The types that a file writes are noted.
-use Rattle.std.proofs.Common.{◌≡◌, ℕ, zero, suc, ◌+◌, ◌≤◌, Bool, true, false, List, [], ◌∷◌, Option, Some, None, option_map, refl, sym, ap, ◌∙◌, subst, arith, inl, inr, bytes_eq, slice_get}
+use Rattle.std.proofs.Common.{◌≡◌, ℕ, zero, suc, ◌+◌, Bool, true, false, List, [], ◌∷◌, Option, Some, None, option_map, refl, sym, ap, ◌∙◌, subst, arith, inl, inr, bytes_eq}
 use Rattle.std.specs.Prelude.{if◌then◌else◌, codes}
 use Rattle.std.specs.Option.{is_some}
 use Rattle.std.proofs.lemmas.Option.{same_Some}
 use Rattle.go_text.specs.declared.rule.Rule.TheVariants as rules
-use Rattle.syntax.specs.Tree.{TypeExpression, NamedType, ParenthesizedType, Channel, Expression, Operation, Call, Receive, Make, Length, Capacity, Right, RightOperation, Values}
+use Rattle.syntax.specs.Tree.{TypeExpression, NamedType, ParenthesizedType, Channel, Expression, Call, Receive, Make, Length, Capacity, Right, RightOperation, Values}
 use Rattle.syntax.specs.Measures.{operation_size}
-use Rattle.syntax.specs.declared.node.Direction.{Direction}
 use Rattle.bytecode.specs.declared.instr.WordKind.{WordKind}
 use Rattle.bytecode.specs.declared.instr.WordKind.TheVariants as kinds
 use Rattle.bytecode.specs.Code.{Function as CodeFunction, Code}
 use Rattle.bytecode.specs.Rules.{IsThere, AreThere}
 use Rattle.type_table.specs.Types.{ValueType, IntType, BoolType, StructType, ChannelType, is_channel_type}
-use Rattle.type_table.specs.Scopes.{Globals, Scope, nothing_declared, is_blank, variable_named, last_named, number_of, type_named, type_in}
+use Rattle.type_table.specs.Scopes.{Globals, Scope, nothing_declared, is_blank, variable_named, last_named, number_of, type_in}
 use Rattle.checker_operation.specs.Operations.{TypeHas, MadeHas, OperationHas, RightHas}
 use Rattle.meaning.specs.Values.{known}
 use Rattle.codegen_base.specs.declared.element.Element.{Element}

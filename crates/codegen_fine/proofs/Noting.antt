@@ -1,11 +1,11 @@
 -- What the channels of a file carry grows with each part of it.
 use Rattle.std.proofs.Common.{ℕ, List, [], ◌∷◌, Option, Some, None}
-use Rattle.syntax.specs.Tree.{TypeExpression, Operation, Call, Receive, Make, Length, Capacity, Right, RightOperation, Values, Simple, CallAlone, Close, Print, ReceiveAlone, Send, Increment, Decrement, Assign, Define, Update, ForHead, Forever, While, ForClauses, Range, Returned, NoValue, ReturnedOperation, ReturnedValue, Statement, Empty, Alone, VarTyped, VarUntyped, Block, If, For, Select, Go, Return, Break, Continue, Statements, NoStatement, Then, Branch, Conditional, Otherwise, NoElse, ElseBlock, ElseIf, Clauses, NoClause, Clause, Declared, Top, StructTop, FunctionTop, Function}
+use Rattle.syntax.specs.Tree.{TypeExpression, Call, Receive, Make, Length, Capacity, Right, RightOperation, Values, Simple, CallAlone, Close, Print, ReceiveAlone, Send, Increment, Decrement, Assign, Define, Update, ForHead, Forever, While, ForClauses, Range, NoValue, ReturnedOperation, ReturnedValue, Statement, Empty, Alone, VarTyped, VarUntyped, Block, If, For, Select, Go, Return, Break, Continue, Statements, NoStatement, Then, Branch, Conditional, Otherwise, NoElse, ElseBlock, ElseIf, Clauses, NoClause, Clause, Declared, Top, StructTop, FunctionTop}
 use Rattle.checker_statement.specs.Statements.{head_simple}
 use Rattle.type_table.specs.Scopes.{nothing_declared, type_in}
 use Rattle.meaning.specs.Values.{known}
 use Rattle.codegen_base.specs.declared.element.Element.{Element}
-use Rattle.codegen_base.specs.Program.{noting, noting_any, noting_right, noting_given, noting_simple, noting_first, noting_head, noting_returned, noting_statement, noting_statements, noting_branch, noting_otherwise, noting_clauses, noting_declared, noting_top, noting_tops}
+use Rattle.codegen_base.specs.Program.{noting, noting_any, noting_right, noting_given, noting_simple, noting_first, noting_head, noting_statement, noting_statements, noting_branch, noting_otherwise, noting_clauses, noting_declared, noting_top, noting_tops}
 use Rattle.codegen_base.proofs.Noted.{Grows, grows_no, grows_on, type_grows}
 
 module _ (types : List (List ℕ)) where
@@ -86,7 +86,7 @@ module _ (types : List (List ℕ)) where
   declared_grow [] all = grows_no all
   declared_grow (group ∷ rest) all = let one = noting types group.type_expression all in grows_on all one (noting_declared types rest one) (kind_grows group.type_expression all) (declared_grow rest one)
 
-  any_grows : (kind : Option TypeExpression) (all : List Element) → Grows all (noting_any types kind all)
+  pub any_grows : (kind : Option TypeExpression) (all : List Element) → Grows all (noting_any types kind all)
   any_grows None all = grows_no all
   any_grows (Some kind) all = kind_grows kind all
 

@@ -1,13 +1,12 @@
 -- The selects of what is made of statements have the numbers of their tables.
-use Rattle.std.proofs.Common.{◌≡◌, ℕ, ◌+◌, Bool, true, false, cond, List, [], ◌∷◌, ◌++◌, length, Option, Some, None, IfSome, refl, sym, ap, ◌∙◌, subst, arith}
+use Rattle.std.proofs.Common.{◌≡◌, ℕ, ◌+◌, Bool, true, false, List, [], length, Option, Some, None, IfSome, refl, subst, arith}
 use Rattle.std.specs.Prelude.{if◌then◌else◌}
-use Rattle.std.specs.Bool.{OnTrue}
 use Rattle.std.proofs.lemmas.Bool.{OnTrue_from}
-use Rattle.syntax.specs.Tree.{Expression, Simple, Right, Target, NoTarget, DefineTarget, AssignTarget, ForHead, Forever, While, ForClauses, Range, Comm, Returned, NoValue, ReturnedOperation, ReturnedValue, Statement, Empty, Alone, VarTyped, VarUntyped, Block, If, For, Select, Go, Return, Break, Continue, Statements, NoStatement, Then, Branch, Conditional, Otherwise, NoElse, ElseBlock, ElseIf, Clauses, NoClause, Clause}
+use Rattle.syntax.specs.Tree.{Expression, Simple, Target, NoTarget, DefineTarget, AssignTarget, Forever, While, ForClauses, Range, Returned, NoValue, ReturnedOperation, ReturnedValue, Statement, Empty, Alone, VarTyped, VarUntyped, Block, If, For, Select, Go, Return, Break, Continue, Statements, NoStatement, Then, Branch, Conditional, Otherwise, NoElse, ElseBlock, ElseIf, Clauses, NoClause, Clause}
 use Rattle.bytecode.specs.declared.instr.WordKind.{WordKind}
 use Rattle.bytecode.specs.declared.instr.Instr.TheVariants as instrs
 use Rattle.type_table.specs.Types.{ValueType}
-use Rattle.type_table.specs.Scopes.{Globals, Yield, NoResult, Yields, type_in}
+use Rattle.type_table.specs.Scopes.{Globals, Yield, type_in}
 use Rattle.checker_statement.specs.Statements.{head_simple}
 use Rattle.meaning.specs.Values.{known}
 use Rattle.meaning.specs.Destinations.{number_of}
@@ -16,11 +15,11 @@ use Rattle.codegen_base.specs.Elements.{kinds_of}
 use Rattle.codegen_base.specs.Layouts.{Layout, entering, keeping, carried}
 use Rattle.codegen_base.specs.Pushes.{drops, pushes_own, pushes_zeros}
 use Rattle.codegen_base.specs.Statements.{stores, name_spot, place_spot, right_types}
-use Rattle.codegen_base.specs.Generated.{Site, Made, past, made_of, followed, ended, inside, loop, tests, test_plan, made_any, made_post, made_comm, made_if, made_else, item_site, with_way, comm_kinds, made_select, made_ways, made_default, within_select, unless_ended, return_plan, result_type, result_kinds, keeps, receives, takes, made_range, select_table, made, made_all, made_branch, made_otherwise, finished, made_body}
-use Rattle.plan.specs.Plan.{Plan, Skip, Do, Seq, IfElse, IfThen, Cycle, Endless, Choose, Stop, reaches_end, turns, table_count}
+use Rattle.codegen_base.specs.Generated.{Site, Made, past, made_of, followed, ended, inside, loop, tests, test_plan, made_any, made_post, made_comm, item_site, with_way, comm_kinds, made_select, made_ways, made_default, within_select, unless_ended, return_plan, result_type, result_kinds, keeps, receives, takes, made_range, select_table, made, made_all, made_branch, made_otherwise, made_body}
+use Rattle.plan.specs.Plan.{Plan, Skip, Seq, IfElse, IfThen, Cycle, Choose, Stop, reaches_end, turns, table_count}
 use Rattle.plan.proofs.Tables.{Numbered}
-use Rattle.codegen_fine.proofs.Before.{Before, Here, Step, before_on, before_count, before_numbered, zeros_before, pushes_before, clauses_before}
-use Rattle.codegen_fine.proofs.Plain.{drops_before, stores_before, then_step, both_stand, arguments_before, one_before, defines_before, simple_before, variables_before, comm_plain}
+use Rattle.codegen_fine.proofs.Before.{Before, Here, before_count, before_numbered, zeros_before, pushes_before, clauses_before}
+use Rattle.codegen_fine.proofs.Plain.{drops_before, stores_before, then_step, arguments_before, one_before, defines_before, simple_before, variables_before, comm_plain}
 
 -- what stands before nothing
 plain_numbered : (p : Plan) (n : ℕ) → Before Skip p → Numbered n p
@@ -57,7 +56,7 @@ module _ (globals : Globals) (elements : List Element) (result : Yield) where
   returned_numbered r layout (ReturnedOperation operation) n = before_numbered Stop (return_plan globals elements r layout (ReturnedOperation operation)) n (one_before globals elements layout.scope operation Stop) tt
   returned_numbered r layout (ReturnedValue value) n = before_numbered Stop (return_plan globals elements r layout (ReturnedValue value)) n (pushes_before globals elements layout.scope (result_type globals elements r) value Stop) tt
 
-  takes_before : (layout : Layout) (kind : ValueType) (target : Target) → Before Skip (takes globals elements result layout kind target)
+  pub takes_before : (layout : Layout) (kind : ValueType) (target : Target) → Before Skip (takes globals elements result layout kind target)
   takes_before layout kind NoTarget = drops_before _ Skip
   takes_before layout kind (DefineTarget name) = then_step (stores (name_spot globals elements layout name kind)) instrs.Tick (stores_before (name_spot globals elements layout name kind)) Skip
   takes_before layout kind (AssignTarget place) = then_step (stores (place_spot globals elements layout.scope place kind)) instrs.Tick (stores_before (place_spot globals elements layout.scope place kind)) Skip

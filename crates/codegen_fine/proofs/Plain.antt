@@ -1,7 +1,7 @@
 -- The code of simple statements, declarations and what selects wait for has no selects.
-use Rattle.std.proofs.Common.{◌≡◌, ℕ, zero, suc, ◌==◌, Bool, true, false, ◌&&◌, List, [], ◌∷◌, ◌++◌, map, length, Option, Some, None}
-use Rattle.std.specs.Prelude.{if◌then◌else◌, pos}
-use Rattle.syntax.specs.Tree.{Expression, Operation, Call, Receive, Make, Length, Capacity, Right, RightOperation, Values, Part, Value as ValuePart, Text, Simple, CallAlone, Close, Print, ReceiveAlone, Send, Increment, Decrement, Assign, Define, Update, Comm, CommSend, CommReceive, CommDefine, CommAssign, Place}
+use Rattle.std.proofs.Common.{ℕ, zero, suc, ◌==◌, Bool, true, false, ◌&&◌, List, [], ◌∷◌, map, length, Option, Some, None}
+use Rattle.std.specs.Prelude.{if◌then◌else◌}
+use Rattle.syntax.specs.Tree.{Expression, Operation, Call, Receive, Make, Length, Capacity, Right, RightOperation, Values, Part, Value as ValuePart, Text, Simple, CallAlone, Close, Print, ReceiveAlone, Send, Increment, Decrement, Assign, Define, Update, Comm, CommSend, CommReceive, CommDefine, CommAssign}
 use Rattle.bytecode.specs.declared.instr.Instr.{Instr}
 use Rattle.bytecode.specs.declared.instr.Instr.TheVariants as instrs
 use Rattle.type_table.specs.Types.{ValueType, BoolType}
@@ -12,11 +12,11 @@ use Rattle.meaning.specs.Values.{known}
 use Rattle.meaning.specs.Destinations.{number_of}
 use Rattle.codegen_base.specs.declared.element.Element.{Element}
 use Rattle.codegen_base.specs.Elements.{kinds_of}
-use Rattle.codegen_base.specs.Generated.{zero_values, same_types, variables_plan, comm_plan, unless_two, one_or_two, return_plan}
+use Rattle.codegen_base.specs.Generated.{zero_values, same_types, variables_plan, comm_plan, unless_two, one_or_two}
 use Rattle.codegen_base.specs.Layouts.{Layout, type_of, carried}
-use Rattle.codegen_base.specs.Pushes.{pushes, pushes_own, pushes_all, pushes_zeros, drops, emits, operates}
-use Rattle.codegen_base.specs.Statements.{Spot, Dropped, Local, stores, stores_all, singles, last_counts, assigns, pushes_parts, pushes_arguments, pushes_size, pushes_received, pushes_operation, pushes_one, pushes_right, loads_spot, spot_of, updates, steps, result_words, defines, sets, name_spots, name_types, place_spots, taken_types, right_types, simple_plan}
-use Rattle.plan.specs.Plan.{Plan, Skip, Do, Stop}
+use Rattle.codegen_base.specs.Pushes.{pushes, pushes_own, pushes_zeros, drops, emits}
+use Rattle.codegen_base.specs.Statements.{Spot, Dropped, Local, stores, stores_all, singles, last_counts, assigns, pushes_parts, pushes_arguments, pushes_size, pushes_received, pushes_operation, pushes_one, pushes_right, loads_spot, spot_of, result_words, defines, name_spots, name_types, place_spots, taken_types, right_types, simple_plan}
+use Rattle.plan.specs.Plan.{Plan, Skip, Do}
 use Rattle.codegen_fine.proofs.Before.{Before, Here, Step, before_on, Stands, zeros_before, operates_before, emits_before, pushes_before, pushes_all_before}
 
 -- ---- stores

@@ -1,11 +1,10 @@
 -- A range with which nothing is wrong keeps the verifier's rules, where its body does.
-use Rattle.std.proofs.Common.{◌≡◌, ℕ, ◌+◌, ◌≤◌, Bool, true, false, not, ◌&&◌, ◌||◌, List, [], ◌∷◌, ◌++◌, length, drop, Option, Some, None, option_map, refl, sym, ap, ◌∙◌, subst, arith, inl, inr, ◌⊎◌, bytes_eq, length-append}
-use Rattle.std.specs.Prelude.{if◌then◌else◌, codes}
-use Rattle.std.specs.Bool.{OnTrue}
+use Rattle.std.proofs.Common.{◌≡◌, ℕ, ◌+◌, ◌≤◌, Bool, true, false, not, ◌&&◌, ◌||◌, List, [], ◌∷◌, ◌++◌, length, drop, Option, Some, None, option_map, refl, sym, ap, ◌∙◌, subst, arith, inl, inr, ◌⊎◌, bytes_eq}
+use Rattle.std.specs.Prelude.{if◌then◌else◌}
 use Rattle.std.proofs.lemmas.Bool.{OnTrue_from, OnTrue_at, true≢false}
 use Rattle.std.proofs.lemmas.Option.{same_Some}
 use Rattle.std.proofs.lemmas.Slice.Eq.{bytes_eq-Decides}
-use Rattle.syntax.specs.Tree.{Expression, Place, Target, NoTarget, DefineTarget, AssignTarget, Range, For, Statements}
+use Rattle.syntax.specs.Tree.{Place, Target, NoTarget, DefineTarget, AssignTarget, Range, For}
 use Rattle.syntax.specs.Measures.{target_size}
 use Rattle.bytecode.specs.declared.instr.WordKind.{WordKind}
 use Rattle.bytecode.specs.declared.instr.WordKind.TheVariants as kinds
@@ -15,37 +14,36 @@ use Rattle.type_table.specs.Types.{ValueType, ChannelType}
 use Rattle.type_table.specs.Containment.{Structs}
 use Rattle.type_table.specs.Scopes.{Globals, Scope, Variable, Yield, is_blank, later, last_named, own_variable, entered, declared}
 use Rattle.checker_base.specs.Worths.{Typed as TypedWorth, worth}
-use Rattle.checker_base.specs.Expressions.{nodes_of, default_type, element_of}
+use Rattle.checker_base.specs.Expressions.{default_type, element_of}
 use Rattle.checker_operation.specs.Operations.{Given, PlaceHas, PlacesHave, GoesHas, place_type}
-use Rattle.checker_simple.specs.Simples.{has_name, has_twice, with_defined}
-use Rattle.checker_statement.specs.Statements.{ForHeadHas, TargetHas, TakenHas, item_given, after_target, after_for_head}
+use Rattle.checker_simple.specs.Simples.{has_name, has_twice}
+use Rattle.checker_statement.specs.Statements.{TargetHas, TakenHas, item_given, after_target}
 use Rattle.meaning.specs.Values.{known}
 use Rattle.meaning.specs.Variables.{blank}
 use Rattle.codegen_base.specs.declared.element.Element.{Element}
 use Rattle.codegen_base.specs.Elements.{kinds_of, shape_of}
-use Rattle.codegen_base.specs.Layouts.{Layout, entering, leaving, type_of, carried, keeping, behind_target, with_item}
+use Rattle.codegen_base.specs.Layouts.{Layout, entering, leaving, type_of, carried, keeping, behind_target}
 use Rattle.codegen_base.specs.Pushes.{drops}
 use Rattle.codegen_base.specs.Statements.{Spot, Local, stores, place_spot, taken_type, name_spot, name_type}
-use Rattle.codegen_base.specs.Generated.{Site, Made, inside, item_site, made, made_all, keeps, receives, takes}
-use Rattle.codegen_base.proofs.Alike.{kind_if, Alike, alike_entered, last_append, drop_all}
+use Rattle.codegen_base.specs.Generated.{inside, item_site, made, made_all, keeps, receives, takes}
+use Rattle.codegen_base.proofs.Alike.{kind_if, Alike, last_append, drop_all}
 use Rattle.codegen_base.proofs.Noted.{Noted}
 use Rattle.codegen_base.proofs.Typing.{Free, nodes_end}
-use Rattle.plan.specs.Plan.{Plan, Skip, Do, Seq, Cycle, reaches_end, turns}
+use Rattle.plan.specs.Plan.{Skip, Do, Seq, Cycle, reaches_end, turns}
 use Rattle.plan.proofs.Tables.{Tabled}
-use Rattle.plan.proofs.Typed.{Allowed, in_loop, Typed}
-use Rattle.codegen_fine.proofs.Sees.{Sees, worth_sees}
+use Rattle.plan.proofs.Typed.{in_loop, Typed}
+use Rattle.codegen_fine.proofs.Sees.{worth_sees}
 use Rattle.codegen_fine.proofs.Pushing.{drops_typed, puts_locals}
 use Rattle.codegen_fine.proofs.Operands.{Grounds}
-use Rattle.codegen_fine.proofs.Operations.{Functions, IsChannel, channel_there}
+use Rattle.codegen_fine.proofs.Operations.{Functions, channel_there}
 use Rattle.codegen_fine.proofs.Requests.{receives_typed}
 use Rattle.codegen_fine.proofs.Spots.{SpotFits, stand_range, stores_typed, ticks_typed}
 use Rattle.codegen_fine.proofs.Places.{housed_of}
 use Rattle.codegen_fine.proofs.Givens.{taken, typed_taken}
-use Rattle.codegen_fine.proofs.Layouts.{own_same, Longer, longer_no, Begins, begins_before, Room, room_entering, room_leaving, new_housed, room_declaring, names_fit}
+use Rattle.codegen_fine.proofs.Layouts.{own_same, longer_no, Begins, begins_before, Room, room_entering, room_leaving, new_housed, room_declaring, names_fit}
 use Rattle.codegen_fine.proofs.Assigns.{place_want, places_fit, places_fail, places_noted}
-use Rattle.codegen_fine.proofs.Variables.{AllNew, alike_values, variables_are, taken_alike}
+use Rattle.codegen_fine.proofs.Variables.{alike_values, variables_are, taken_alike}
 use Rattle.codegen_fine.proofs.Growing.{longer_as, longer_target, longer_statements}
-use Rattle.codegen_fine.proofs.Bodies.{IsMade, Fits}
 use Rattle.codegen_fine.proofs.Returns.{IsResult}
 use Rattle.codegen_fine.proofs.Statements.{RangesHold}
 

@@ -1,7 +1,7 @@
 -- Returns with which nothing is wrong find the kinds of the function's result.
-use Rattle.std.proofs.Common.{◌≡◌, ℕ, ◌+◌, ◌≤◌, List, [], ◌∷◌, ◌++◌, Option, Some, None, option_map, refl, sym, ap, ◌∙◌, subst, arith, inl, inr}
+use Rattle.std.proofs.Common.{◌≡◌, ℕ, ◌+◌, List, [], Option, Some, option_map, refl, sym, ◌∙◌, subst, arith, inl, inr}
 use Rattle.go_text.specs.declared.rule.Rule.TheVariants as rules
-use Rattle.syntax.specs.Tree.{Expression, Operation, Returned, NoValue, ReturnedOperation, ReturnedValue, RightOperation}
+use Rattle.syntax.specs.Tree.{Returned, NoValue, ReturnedOperation, ReturnedValue, RightOperation}
 use Rattle.syntax.specs.Measures.{returned_size}
 use Rattle.bytecode.specs.declared.instr.WordKind.{WordKind}
 use Rattle.bytecode.specs.Code.{Function as CodeFunction, Code}
@@ -10,16 +10,15 @@ use Rattle.type_table.specs.Scopes.{Globals, Scope, Yield, NoResult, Yields}
 use Rattle.checker_base.specs.Worths.{Typed as TypedWorth, worth}
 use Rattle.checker_base.specs.Expressions.{nodes_of, ValueHas}
 use Rattle.checker_operation.specs.Operations.{operation_type, given_by}
-use Rattle.checker_statement.specs.Statements.{ReturnHas, returned_given, ReturnStatementHas}
+use Rattle.checker_statement.specs.Statements.{ReturnStatementHas}
 use Rattle.meaning.specs.Values.{known}
 use Rattle.codegen_base.specs.declared.element.Element.{Element}
-use Rattle.codegen_base.specs.Elements.{kinds_of}
 use Rattle.codegen_base.specs.Generated.{return_plan, result_kinds}
 use Rattle.codegen_base.specs.Layouts.{Layout}
 use Rattle.codegen_base.specs.Program.{noting_returned}
 use Rattle.codegen_base.proofs.Noted.{Noted, Grows}
-use Rattle.codegen_base.proofs.Typing.{Free, Fits, fits, broken, nodes_end, worth_there}
-use Rattle.plan.specs.Plan.{Plan, Stop}
+use Rattle.codegen_base.proofs.Typing.{Free, fits, broken, nodes_end, worth_there}
+use Rattle.plan.specs.Plan.{Stop}
 use Rattle.plan.proofs.Typed.{Allowed, Typed}
 use Rattle.codegen_fine.proofs.Sees.{Sees, worth_sees}
 use Rattle.codegen_fine.proofs.WordKinds.{assignable_kinds}

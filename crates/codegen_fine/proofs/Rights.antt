@@ -10,25 +10,24 @@ use Rattle.bytecode.specs.declared.instr.WordKind.TheVariants as kinds
 use Rattle.bytecode.specs.Code.{Function as CodeFunction, Code}
 use Rattle.type_table.specs.Types.{ValueType, BoolType}
 use Rattle.type_table.specs.Scopes.{Globals, Scope}
-use Rattle.checker_base.specs.Worths.{Typed as TypedWorth, worth}
+use Rattle.checker_base.specs.Worths.{Typed as TypedWorth}
 use Rattle.checker_base.specs.Expressions.{NumbersHave, default_type, element_of}
 use Rattle.checker_operation.specs.Operations.{OperationHas, operation_type, is_receive, Given, given_values, given_by, given, RightHas}
 use Rattle.meaning.specs.Values.{known}
 use Rattle.codegen_base.specs.declared.element.Element.{Element}
 use Rattle.codegen_base.specs.Elements.{kinds_of}
 use Rattle.codegen_base.specs.Layouts.{carried, given_types}
-use Rattle.codegen_base.specs.Statements.{pushes_operation, pushes_received, pushes_one, pushes_right}
+use Rattle.codegen_base.specs.Statements.{pushes_operation, pushes_one, pushes_right}
 use Rattle.codegen_fine.proofs.Sees.{Sees, worth_sees}
 use Rattle.codegen_base.proofs.Called.{same_count}
 use Rattle.codegen_base.proofs.Noted.{Noted}
 use Rattle.codegen_base.proofs.Typing.{Free}
 use Rattle.plan.specs.Plan.{Plan}
-use Rattle.plan.proofs.Typed.{Typed}
 use Rattle.codegen_fine.proofs.Pushing.{Puts}
-use Rattle.codegen_fine.proofs.Operands.{Grounds, Housed, P}
+use Rattle.codegen_fine.proofs.Operands.{Grounds, Housed}
 use Rattle.codegen_fine.proofs.Emitted.{all_kinds, typed_pushes_all}
 use Rattle.codegen_fine.proofs.Operations.{Functions, MakesNoted, channel_there, typed_received}
-use Rattle.codegen_fine.proofs.Givens.{HasDefault, WellTaken, WantsFail, WantsNoted, taken, taken_all, operation_alike, operation_end, Taken, typed_taken, first_noted, values_fit, GivesOne, typed_one}
+use Rattle.codegen_fine.proofs.Givens.{HasDefault, WellTaken, WantsFail, WantsNoted, taken, taken_all, operation_alike, operation_end, typed_taken, first_noted, values_fit, typed_one}
 
 pub default_typed : (o : Option ValueType) → default_type (option_map TypedWorth o) ≡ o
 default_typed None = refl

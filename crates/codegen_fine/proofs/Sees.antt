@@ -1,13 +1,13 @@
 -- By each name two scopes see a variable of the same type, or none.
-use Rattle.std.proofs.Common.{◌≡◌, ℕ, Bool, true, false, List, Option, Some, None, option_map, refl, ap, ◌∙◌}
+use Rattle.std.proofs.Common.{◌≡◌, ℕ, Bool, true, false, List, Some, None, option_map, refl, ap, ◌∙◌}
 use Rattle.std.specs.Prelude.{option_and_then, if◌then◌else◌}
 use Rattle.std.specs.Option.{is_some}
 use Rattle.std.specs.Result.{result_ok}
 use Rattle.syntax.specs.Tree.{TypeExpression, NamedType, ParenthesizedType, Channel, Expression, Integer, Named, Parenthesized, Selection, Composite, Unary, Binary}
-use Rattle.type_table.specs.Types.{ValueType, BoolType, StructType, ChannelType}
-use Rattle.type_table.specs.Scopes.{Variable, Scope, Globals, is_blank, is_truth, is_nil, last_named, variable_named, number_of, type_in}
-use Rattle.checker_base.specs.Worths.{Typed, Nil, named_worth, selected_worth, unary_worth, binary_worth, worth}
-use Rattle.codegen_base.proofs.Alike.{kind_if, Alike, there_alike, kind_alike}
+use Rattle.type_table.specs.Types.{BoolType, StructType, ChannelType}
+use Rattle.type_table.specs.Scopes.{Scope, Globals, is_blank, is_truth, is_nil, last_named, variable_named, number_of, type_in}
+use Rattle.checker_base.specs.Worths.{Typed, Nil, selected_worth, unary_worth, binary_worth, worth}
+use Rattle.codegen_base.proofs.Alike.{kind_if, there_alike, kind_alike}
 
 abbrev pub Sees : Scope → Scope → Type 0
 Sees s t = (name : List ℕ) → is_blank name ≡ false → kind_if (last_named s.variables name) ≡ kind_if (last_named t.variables name)

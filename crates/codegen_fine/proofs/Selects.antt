@@ -1,29 +1,27 @@
 -- A select keeps the verifier's rules, where its ways do.
-use Rattle.std.proofs.Common.{◌≡◌, ℕ, Bool, zero, suc, ◌+◌, ◌≤◌, List, [], ◌∷◌, ◌++◌, length, map, Option, Some, None, option_map, refl, sym, ap, ◌∙◌, subst, arith, slice_get, inl, inr}
+use Rattle.std.proofs.Common.{◌≡◌, ℕ, Bool, zero, suc, ◌+◌, ◌<◌, ◌≤◌, List, [], ◌∷◌, ◌++◌, length, map, Option, Some, None, option_map, refl, sym, ap, ◌∙◌, subst, arith, slice_get, inl, inr}
 use Rattle.std.proofs.lemmas.Option.{same_Some}
 use Rattle.std.proofs.lemmas.List.{append-nil}
 use Rattle.syntax.specs.Tree.{Comm, CommSend, CommReceive, CommDefine, CommAssign, Statements, Clauses, NoClause, Clause}
 use Rattle.syntax.specs.Measures.{if_any, comm_size, statements_size}
 use Rattle.bytecode.specs.declared.instr.WordKind.{WordKind}
 use Rattle.bytecode.specs.declared.instr.WordKind.TheVariants as kinds
-use Rattle.bytecode.specs.declared.instr.Instr.TheVariants as instrs
 use Rattle.bytecode.specs.declared.table.Clause.{Clause as TableClause}
-use Rattle.bytecode.specs.Code.{Function as CodeFunction, Code, SelectTable}
-use Rattle.bytecode.specs.Effects.{all_clause_kinds, clause_gives, clauses_in, clause_target, default_targets, targets, below, leaves, top_of, Fits as FitsStack, afterwards}
+use Rattle.bytecode.specs.Code.{Function as CodeFunction, Code}
+use Rattle.bytecode.specs.Rules.{HasShapes}
+use Rattle.bytecode.specs.Effects.{all_clause_kinds, clause_gives, clauses_in, clause_target, clause_shape, default_targets}
 use Rattle.type_table.specs.Scopes.{Globals, Scope, Yield, entered, left}
-use Rattle.checker_base.specs.Worths.{worth}
 use Rattle.checker_base.specs.Expressions.{element_of}
 use Rattle.checker_simple.specs.Simples.{comm_simple}
 use Rattle.checker_statement.specs.Statements.{Setting, ClausesHave, after_all, after_any, after_clauses}
 use Rattle.meaning.specs.Values.{known}
 use Rattle.codegen_base.specs.declared.element.Element.{Element}
 use Rattle.codegen_base.specs.Elements.{kinds_of}
-use Rattle.codegen_base.specs.Layouts.{Layout, carried}
-use Rattle.codegen_base.specs.Pushes.{pushes, pushes_own}
+use Rattle.codegen_base.specs.Layouts.{Layout}
 use Rattle.codegen_base.specs.Generated.{Site, Made, made_of, default_at, with_way, pushes_comm, pushes_clauses, table_clause, table_clauses, default_places, select_table, comm_kinds, made_select}
 use Rattle.codegen_base.proofs.Alike.{Alike}
 use Rattle.codegen_base.proofs.Typing.{Free}
-use Rattle.plan.specs.Plan.{Plan, Skip, Choose, Way, LastWay, starts, entries}
+use Rattle.plan.specs.Plan.{Skip, Choose, starts, entries}
 use Rattle.plan.proofs.Steps.{below_of, top_of_is}
 use Rattle.plan.proofs.Tables.{Tabled}
 use Rattle.plan.proofs.Typed.{Allowed, in_select, Typed}
@@ -31,10 +29,10 @@ use Rattle.codegen_fine.proofs.Sees.{Sees, worth_sees}
 use Rattle.codegen_fine.proofs.Pushing.{Puts, puts_both}
 use Rattle.codegen_fine.proofs.Operands.{Grounds}
 use Rattle.codegen_fine.proofs.Operations.{Functions}
-use Rattle.codegen_fine.proofs.Layouts.{Longer, Begins, begins_before, Room}
-use Rattle.codegen_fine.proofs.Comms.{comm_channel, comm_fine}
-use Rattle.codegen_fine.proofs.Before.{Before, Here, before_on, before_tabled, clauses_before}
-use Rattle.codegen_fine.proofs.Bodies.{prints_front, prints_back, IsMade, Fits}
+use Rattle.codegen_fine.proofs.Layouts.{Room}
+use Rattle.codegen_fine.proofs.Comms.{comm_fine}
+use Rattle.codegen_fine.proofs.Before.{before_tabled, clauses_before}
+use Rattle.codegen_fine.proofs.Bodies.{IsMade}
 
 abbrev pub comm_count : Clauses → ℕ
 comm_count NoClause = 0
@@ -82,6 +80,20 @@ module _ (globals : Globals) (elements : List Element) (code : Code) (f : CodeFu
         let one = comm_fine globals elements code f grounds functions result layout room (entered s) sees comm first (λ flaw h. free flaw (inl h)) in
         puts_both globals.structs elements code f _ (all_clause_kinds code (clauses_at layout more places)) (pushes_comm globals elements result layout comm) (pushes_clauses globals elements result layout more) (one.pushed to)
         (all_puts more (left s (after_all globals inner body)) sees b c (first + comm_size comm + statements_size body + 1) places (omega (arith, le)) (λ flaw h. free flaw (inr (inr h)))) a ks out rest t
+
+    -- the shapes that they name are there
+    shapes_named : (clauses : Clauses) (s : Scope) → Sees s layout.scope → (breaks continues : Bool) (first : ℕ) (places : List ℕ) → Free (ClausesHave (setting breaks continues) s first clauses)
+        → (n : ℕ) (x : TableClause) → slice_get (clauses_at layout clauses places) n ≡ Some x → clause_shape x < length code.shapes
+    shapes_named NoClause s sees b c first places free n x e = absurd cc
+    shapes_named (Clause None body more) s sees b c first places free n x e =
+        shapes_named more (left s (after_all globals (entered s) body)) sees b c (first + if_any comm_size None + statements_size body + 1) places (λ flaw h. free flaw (inr (inr h))) n x e
+    shapes_named (Clause (Some comm) body more) s sees b c first [] free n x e = absurd cc
+    shapes_named (Clause (Some comm) body more) s sees b c first (to ∷ places) free zero x e =
+        let one = comm_fine globals elements code f grounds functions result layout room (entered s) sees comm first (λ flaw h. free flaw (inl h)) in
+        subst (λ y. clause_shape y < length code.shapes) (same_Some (table_clause globals elements result layout comm to) x e) (one.there to)
+    shapes_named (Clause (Some comm) body more) s sees b c first (to ∷ places) free (suc n) x e =
+        let inner = after_any globals (entered s) (Some (comm_simple comm)) in
+        shapes_named more (left s (after_all globals inner body)) sees b c (first + comm_size comm + statements_size body + 1) places (λ flaw h. free flaw (inr (inr h))) n x e
 
     -- ---- where the ways begin
 
@@ -179,10 +191,10 @@ module _ (globals : Globals) (elements : List Element) (code : Code) (f : CodeFu
 
     -- ---- the select
 
-    chosen : (s : Scope) (clauses : Clauses) (a : Allowed) (q to : ℕ) (ways : Made) (w : WaysFine s clauses (in_select a) ways)
+    chosen : (s : Scope) (clauses : Clauses) (a : Allowed) (q to : ℕ) (ways : Made) (w : WaysFine s clauses (in_select a) ways) → ((places : List ℕ) → HasShapes code (select_table globals elements result layout clauses places))
         → slice_get code.selects q ≡ Some (select_table globals elements result layout clauses (starts (to + 1) ways.plan)) → Tabled code.selects (to + 1) ways.plan
         → Typed code f a (all_clause_kinds code (clauses_at layout clauses (starts (to + 1) ways.plan))) (Choose q (select_table globals elements result layout clauses) ways.plan) []
-    chosen s clauses a q to ways w at tabled =
+    chosen s clauses a q to ways w shapes at tabled =
         let places = starts (to + 1) ways.plan in
         let ks = all_clause_kinds code (clauses_at layout clauses places) in
         let is : clauses_in (slice_get code.selects q) ≡ clauses_at layout clauses places = ap clauses_in at in
@@ -195,7 +207,7 @@ module _ (globals : Globals) (elements : List Element) (code : Code) (f : CodeFu
           r.0,
           refl,
           (omega (arith, many), top_of_is [] ks n many ∙ sym want),
-          λ place. let b = w.begin place in targets_are clauses (starts place ways.plan) (omega (arith, b, least)) (omega (arith, b, most)),
+          λ place. let b = w.begin place in (targets_are clauses (starts place ways.plan) (omega (arith, b, least)) (omega (arith, b, most)), shapes (starts place ways.plan)),
           λ k js e. let b = w.begin (to + 1) in w.kinds_are places (omega (arith, b, least)) k js e ∙ ap (λ l. clause_gives code (slice_get l k)) (sym is) ∙ ap (λ (l : List WordKind). l ++ clause_gives code (slice_get (clauses_in (slice_get code.selects q)) k)) (sym (below_of [] ks n many)),
           r.1,
         )
@@ -207,7 +219,7 @@ module _ (globals : Globals) (elements : List Element) (code : Code) (f : CodeFu
       go place tabled =
           let plan = Choose site.selects (select_table globals elements result layout clauses) Skip in
           let t = before_tabled code.selects plan (pushes_clauses globals elements result layout clauses plan) place (clauses_before globals elements layout result clauses plan) tabled in
-          all_puts clauses s sees b c first [] (omega (arith, none)) free a [] [] plan (chosen s clauses a site.selects t.0 (made_of Skip [] layout) (no_way s clauses (in_select a) none alike) t.1.0 t.1.1)
+          all_puts clauses s sees b c first [] (omega (arith, none)) free a [] [] plan (chosen s clauses a site.selects t.0 (made_of Skip [] layout) (no_way s clauses (in_select a) none alike) (λ places. shapes_named clauses s sees b c first places free) t.1.0 t.1.1)
     typed_choice site same s sees clauses b c first a (Some ways) free alike w =
         let plan = Choose site.selects (select_table globals elements result layout clauses) ways.plan in (
           record {
@@ -215,7 +227,7 @@ module _ (globals : Globals) (elements : List Element) (code : Code) (f : CodeFu
                 let t = before_tabled code.selects plan (pushes_clauses globals elements result layout clauses plan) place (clauses_before globals elements layout result clauses plan) tabled in
                 let begin = w.begin (t.0 + 1) in
                 let least = w.least in
-                all_puts clauses s sees b c first (starts (t.0 + 1) ways.plan) (omega (arith, begin, least)) free a [] [] plan (chosen s clauses a site.selects t.0 ways w t.1.0 t.1.1);
+                all_puts clauses s sees b c first (starts (t.0 + 1) ways.plan) (omega (arith, begin, least)) free a [] [] plan (chosen s clauses a site.selects t.0 ways w (λ places. shapes_named clauses s sees b c first places free) t.1.0 t.1.1);
             room = w.behind;
           },
           w.seen,

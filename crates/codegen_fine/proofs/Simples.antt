@@ -1,5 +1,5 @@
 -- Each simple statement with which nothing is wrong leaves the stack as it was.
-use Rattle.std.proofs.Common.{◌≡◌, ℕ, ◌+◌, ◌<◌, List, [], ◌∷◌, map, Option, Some, None, refl, subst, arith, slice_get, inl, inr}
+use Rattle.std.proofs.Common.{◌≡◌, ℕ, ◌+◌, List, map, Some, refl, subst, arith, slice_get, inl, inr}
 use Rattle.std.proofs.lemmas.Option.{slice_get_within}
 use Rattle.syntax.specs.Tree.{Simple, CallAlone, Close, Print, ReceiveAlone, Send, Increment, Decrement, Assign, Define, Update}
 use Rattle.bytecode.specs.Code.{Function as CodeFunction, Code, PrintTable}

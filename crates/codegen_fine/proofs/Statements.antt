@@ -1,45 +1,43 @@
 -- The code of statements with which nothing is wrong keeps the verifier's rules.
-use Rattle.std.proofs.Common.{◌≡◌, ℕ, ◌+◌, ◌≤◌, Bool, true, false, List, [], ◌∷◌, ◌++◌, length, Option, Some, None, IfSome, IsTrue, refl, sym, ap, ◌∙◌, subst, arith, inl, inr}
+use Rattle.std.proofs.Common.{◌≡◌, ℕ, ◌+◌, ◌≤◌, Bool, true, false, List, [], ◌++◌, length, Option, Some, None, IfSome, refl, sym, ap, ◌∙◌, subst, arith, inl, inr}
 use Rattle.std.specs.Prelude.{if◌then◌else◌}
 use Rattle.go_text.specs.declared.rule.Rule.TheVariants as rules
-use Rattle.syntax.specs.Tree.{Expression, Simple, Right, ForHead, Target, Forever, While, ForClauses, Range, Comm, Statement, Empty, Alone, VarTyped, VarUntyped, Block, If, For, Select, Go, Return, Break, Continue, Statements, NoStatement, Then, Branch, Conditional, Otherwise, NoElse, ElseBlock, ElseIf, Clauses, NoClause, Clause}
+use Rattle.syntax.specs.Tree.{Expression, Right, Target, Forever, While, ForClauses, Range, Statement, Empty, Alone, VarTyped, VarUntyped, Block, If, For, Select, Go, Return, Break, Continue, Statements, NoStatement, Then, Branch, Conditional, Otherwise, NoElse, ElseBlock, ElseIf, Clauses, NoClause, Clause}
 use Rattle.syntax.specs.Measures.{comm_size, if_any, type_size, simple_size, expression_size, if_head_size, for_head_size, statement_size, statements_size}
-use Rattle.std.specs.Bool.{OnTrue}
 use Rattle.std.proofs.lemmas.Bool.{OnTrue_from, OnTrue_at}
 use Rattle.bytecode.specs.declared.instr.WordKind.{WordKind}
 use Rattle.bytecode.specs.Code.{Function as CodeFunction, Code}
 use Rattle.std.proofs.lemmas.Option.{same_Some}
 use Rattle.type_table.specs.Types.{ValueType}
 use Rattle.type_table.specs.Scopes.{Globals, Scope, Yield, entered, left, type_in}
-use Rattle.checker_base.specs.declared.flaw.Flaw.{Flaw}
 use Rattle.checker_base.specs.Expressions.{TestHas}
 use Rattle.checker_simple.specs.Simples.{IfRightHas, comm_simple}
-use Rattle.checker_statement.specs.Statements.{Setting, in_for, head_simple, after_any, ForHeadHas, after_for_head, after, after_all, after_branch, after_otherwise, ClausesHave, StatementHas, StatementsHave, BranchHas, OtherwiseHas}
+use Rattle.checker_statement.specs.Statements.{Setting, head_simple, after_any, ForHeadHas, after_for_head, after, after_all, after_branch, after_otherwise, ClausesHave, StatementHas, StatementsHave, BranchHas, OtherwiseHas}
 use Rattle.meaning.specs.Values.{known}
 use Rattle.codegen_base.specs.declared.element.Element.{Element}
-use Rattle.codegen_base.specs.Layouts.{Layout, entering, leaving}
-use Rattle.codegen_base.specs.Program.{noting, noting_given, noting_first, noting_head, noting_statement, noting_statements, noting_branch, noting_otherwise, noting_clauses}
-use Rattle.codegen_base.specs.Generated.{Site, Made, at, past, made_of, nothing, followed, ended, inside, loop, test_plan, made_any, made_post, made_while, made_clauses, made_else, item_site, with_way, comm_kinds, made_comm, made_select, made_ways, made_default, within_select, unless_ended, made, made_all, made_branch, made_otherwise}
+use Rattle.codegen_base.specs.Layouts.{Layout}
+use Rattle.codegen_base.specs.Program.{noting, noting_given, noting_first, noting_statement, noting_statements, noting_branch, noting_otherwise, noting_clauses}
+use Rattle.codegen_base.specs.Generated.{Site, Made, at, past, made_of, followed, ended, inside, loop, test_plan, made_any, made_post, made_else, item_site, with_way, comm_kinds, made_comm, made_select, made_ways, made_default, within_select, unless_ended, made, made_all, made_branch, made_otherwise}
 use Rattle.codegen_base.proofs.Alike.{Alike, alike_entered, alike_left, type_alike}
-use Rattle.codegen_base.proofs.Noted.{Noted, Grows, grows_on, noted_grows}
+use Rattle.codegen_base.proofs.Noted.{Noted, Grows, grows_on}
 use Rattle.codegen_base.proofs.Typing.{Free, broken, not_false}
-use Rattle.plan.specs.Plan.{Plan, Skip, Seq, reaches_end}
+use Rattle.plan.specs.Plan.{Skip, reaches_end}
 use Rattle.plan.proofs.Typed.{Allowed, in_loop, in_select, Typed}
 use Rattle.codegen_fine.proofs.Operands.{Grounds}
 use Rattle.codegen_fine.proofs.Operations.{Functions}
 use Rattle.codegen_fine.proofs.Branches.{typed_go}
 use Rattle.codegen_fine.proofs.Places.{housed_of}
-use Rattle.codegen_fine.proofs.Layouts.{Longer, longer_on, Begins, begins_before, Room, room_entering, room_leaving}
+use Rattle.codegen_fine.proofs.Layouts.{Longer, longer_on, begins_before, Room, room_entering, room_leaving}
 use Rattle.codegen_fine.proofs.Rights.{RightNoted}
 use Rattle.codegen_fine.proofs.Makes.{written, written_noted, right_noted}
 use Rattle.codegen_fine.proofs.Variables.{typed_typed, typed_untyped}
-use Rattle.codegen_fine.proofs.Simples.{Prints, typed_simple}
-use Rattle.codegen_fine.proofs.Growing.{longer_any, longer_post, longer, longer_statements, longer_branch, longer_otherwise, longer_ways, longer_default, longer_as, longer_kept}
-use Rattle.codegen_fine.proofs.Noting.{given_grows, simple_grows, first_grows, head_grows, statements_grow, branch_grows, otherwise_grows, clauses_grow}
-use Rattle.codegen_fine.proofs.Bodies.{prints_front, prints_back, StillAny, Runs, IsMade, IsMadeAlike, Fits, fits_first, fits_rest, fits_as, made_followed, made_ended, runs_if, runs_else, runs_loop, typed_any, typed_post}
+use Rattle.codegen_fine.proofs.Simples.{typed_simple}
+use Rattle.codegen_fine.proofs.Growing.{longer_post, longer, longer_statements, longer_otherwise, longer_ways, longer_default, longer_as, longer_kept}
+use Rattle.codegen_fine.proofs.Noting.{given_grows, first_grows, statements_grow, otherwise_grows, clauses_grow}
+use Rattle.codegen_fine.proofs.Bodies.{prints_front, prints_back, StillAny, IsMade, IsMadeAlike, Fits, fits_first, fits_rest, fits_as, made_followed, made_ended, runs_if, runs_else, runs_loop, typed_any, typed_post}
 use Rattle.codegen_fine.proofs.Sees.{Sees}
 use Rattle.codegen_fine.proofs.Comms.{comm_fine, comm_made}
-use Rattle.codegen_fine.proofs.Selects.{comm_count, alike_step, alike_right, alike_clauses, comm_same, WaysOf, join_way, last_way, typed_choice}
+use Rattle.codegen_fine.proofs.Selects.{alike_step, alike_right, alike_clauses, comm_same, WaysOf, join_way, last_way, typed_choice}
 use Rattle.codegen_fine.proofs.Returns.{IsResult, typed_returned}
 
 -- no post statement declares anything, as none does that a file can have

@@ -1,5 +1,5 @@
 -- Declarations of variables, with which nothing is wrong, leave the stack as it was.
-use Rattle.std.proofs.Common.{◌≡◌, ℕ, suc, ◌+◌, ◌≤◌, Bool, true, false, not, ◌&&◌, ◌||◌, List, [], ◌∷◌, ◌++◌, length, map, Option, Some, None, refl, sym, ap, ◌∙◌, subst, arith, inl, inr, length-append}
+use Rattle.std.proofs.Common.{◌≡◌, ℕ, suc, ◌+◌, ◌≤◌, Bool, true, false, not, ◌&&◌, ◌||◌, List, [], ◌∷◌, length, map, Option, Some, None, refl, sym, ap, ◌∙◌, subst, arith, inl, inr, length-append}
 use Rattle.std.specs.Prelude.{if◌then◌else◌}
 use Rattle.std.specs.Option.{is_none, is_some}
 use Rattle.std.specs.List.{list_any}
@@ -14,21 +14,19 @@ use Rattle.type_table.specs.Types.{ValueType}
 use Rattle.type_table.specs.Scopes.{Globals, Scope, Variable, is_blank, is_reserved, own_variable, declared, type_in}
 use Rattle.checker_base.specs.declared.flaw.Flaw.{Flaw}
 use Rattle.checker_base.specs.Worths.{Typed as TypedWorth}
-use Rattle.checker_base.specs.Expressions.{ValueHas, NumbersHave}
-use Rattle.checker_operation.specs.Operations.{Given, given, RightHas}
-use Rattle.checker_simple.specs.Simples.{is_declarable, has_twice, VariablesHave, after_name, with_defined, with_variables, AllFail, TypedHave, IfRightHas, TypedVariablesHave, UntypedVariablesHave}
-use Rattle.meaning.specs.Values.{known}
+use Rattle.checker_base.specs.Expressions.{ValueHas}
+use Rattle.checker_operation.specs.Operations.{Given, given}
+use Rattle.checker_simple.specs.Simples.{has_twice, with_defined, with_variables, AllFail, IfRightHas, TypedVariablesHave, UntypedVariablesHave}
 use Rattle.codegen_base.specs.declared.element.Element.{Element}
 use Rattle.codegen_base.specs.Elements.{kinds_of}
 use Rattle.codegen_base.specs.Generated.{zero_values, same_types, variables_plan}
 use Rattle.codegen_base.specs.Layouts.{Layout, declaring_new, declaring_all, declaring_each, given_types}
 use Rattle.codegen_base.specs.Pushes.{pushes_zeros}
-use Rattle.codegen_base.specs.Statements.{assigns, pushes_right, right_types, name_type, name_spots, name_types, defines}
-use Rattle.codegen_base.proofs.Alike.{kind_if, Alike, own_alike, type_alike}
+use Rattle.codegen_base.specs.Statements.{pushes_right, right_types, name_type, name_spots, name_types, defines}
+use Rattle.codegen_base.proofs.Alike.{kind_if, Alike, own_alike}
 use Rattle.codegen_base.proofs.Noted.{Noted}
 use Rattle.codegen_base.proofs.Typing.{Free, broken}
-use Rattle.plan.specs.Plan.{Plan, Skip}
-use Rattle.plan.proofs.Typed.{Allowed, Typed}
+use Rattle.plan.proofs.Typed.{Typed}
 use Rattle.codegen_fine.proofs.Pushing.{Puts, puts_both, puts_zeros}
 use Rattle.codegen_fine.proofs.Operands.{Grounds}
 use Rattle.codegen_fine.proofs.Emitted.{all_kinds}

@@ -20,12 +20,12 @@ use Rattle.codegen_base.proofs.Fields.{AllWide}
 use Rattle.codegen_base.proofs.Seen.{seen, seen_block}
 use Rattle.codegen_base.proofs.Static.{innermost_begins, Nested}
 use Rattle.codegen_base.proofs.Typing.{Free}
-use Rattle.codegen_follows.proofs.Stands.{Around, View, scope_of, variables, Together, Inner, opened, Prints, IsOn, LeadsOn, within, Fine, made_here, behind, Fits, Doing, Sits}
+use Rattle.codegen_follows.proofs.Stands.{Around, View, scope_of, variables, Together, Inner, opened, Prints, IsOn, LeadsOn, within, Fine, made_here, behind, Fits, AllMake, Doing, Sits}
 use Rattle.codegen_follows.proofs.Grown.{grown, grown_statements}
 use Rattle.codegen_follows.proofs.Narrowed.{unreached}
 use Rattle.codegen_follows.proofs.Unwound.{together_refl, together_on}
 
-take_front : (n : ℕ) (vs more : List Variable) → n ≤ length vs → take n (vs ++ more) ≡ take n vs
+pub take_front : (n : ℕ) (vs more : List Variable) → n ≤ length vs → take n (vs ++ more) ≡ take n vs
 take_front zero vs more le = refl
 take_front (suc n) [] more le = absurd (omega (arith, le))
 take_front (suc n) (v ∷ vs) more le = ap (λ (l : List Variable). v ∷ l) (take_front n vs more (omega (arith, le)))
@@ -112,6 +112,7 @@ module _ (file : File) (elements : List Element) (all : AllWide (globals file).s
     pub continues : Bool
     pub fine : Fine file elements all code result f view
     pub good : Free (StatementsHave (within file elements all code result f breaks continues) view.checked first body)
+    pub makes : AllMake file elements all code result f body
     pub on : On' l (made_all (globals file) elements result view.site body).plan place out
     pub fits : Fits file elements all code result f view.site.prints (made_all (globals file) elements result view.site body)
 
@@ -149,7 +150,7 @@ module _ (file : File) (elements : List Element) (all : AllWide (globals file).s
         let b = made_all (globals file) elements result (past view.site a) rest in
         let p = parts l view.site.prints a b place out (reaches_end a.plan) refl ((grown_statements (globals file) elements result (past view.site a) rest).words) h.on h.fits in (
           p.mid,
-          record { first = h.first; breaks = h.breaks; continues = h.continues; fine = h.fine; good = λ flaw x. h.good flaw (inl x); on = p.on; fits = p.fits },
+          record { first = h.first; breaks = h.breaks; continues = h.continues; fine = h.fine; good = λ flaw x. h.good flaw (inl x); makes = h.makes.0; on = p.on; fits = p.fits },
           go p.mid p.others,
         ) where
           go : (mid : Option ℕ) → IfSome mid (λ m. On' l (made_all (globals file) elements result (past view.site (one view s)) rest).plan m out × Fits file elements all code result f (view.site.prints + length (one view s).prints) (made_all (globals file) elements result (past view.site (one view s)) rest))
@@ -161,6 +162,7 @@ module _ (file : File) (elements : List Element) (all : AllWide (globals file).s
             continues = h.continues;
             fine = fine_behind view s h.first h.breaks h.continues h.fine (λ flaw y. h.good flaw (inl y));
             good = λ flaw y. h.good flaw (inr y);
+            makes = h.makes.1;
             on = x.0;
             fits = x.1;
           }

@@ -1,7 +1,7 @@
 -- Blocks, ifs and loops: the code does what the source does.
-use Rattle.std.proofs.Common.{◌≡◌, ℕ, ◌+◌, ◌≤◌, Bool, true, false, List, [], ◌∷◌, ◌++◌, length, take, Option, Some, None, IfSome, refl, sym, ap, ◌∙◌, subst, arith, slice_get, inl, inr}
+use Rattle.std.proofs.Common.{◌≡◌, ℕ, ◌+◌, ◌≤◌, Bool, true, false, List, [], ◌∷◌, ◌++◌, length, take, Option, Some, None, IfSome, refl, sym, ap, ◌∙◌, subst, arith, slice_get}
 use Rattle.std.specs.Prelude.{if◌then◌else◌}
-use Rattle.syntax.specs.Tree.{Expression, Simple, Empty, Alone, Block, If, IfHead, Bare, Semicolon, First, Statements, Branch, Conditional, Otherwise, NoElse, ElseBlock, ElseIf, File}
+use Rattle.syntax.specs.Tree.{Expression, Simple, Empty, Alone, Block, If, Statements, Branch, Conditional, Otherwise, NoElse, ElseBlock, ElseIf, File}
 use Rattle.bytecode.specs.declared.instr.Instr.TheVariants as instrs
 use Rattle.bytecode.specs.Code.{Function as CodeFunction, Code}
 use Rattle.bytecode.specs.Machine.{Frames as CodeFrames, code_next}
@@ -18,7 +18,7 @@ use Rattle.meaning.specs.Variables.{Blocks, entered, left}
 use Rattle.meaning.specs.Tasks.{Repeating, Task, Do, EndBlock, Decide, Head, Again, Turn, EndSelect, Ask, Await, Store, GiveBack, Frame, Frames, frame, all_of, broken, continued}
 use Rattle.meaning.specs.Source.{globals, truth_in, statement_next, task_next, decides, head_next, again_next, body_next}
 use Rattle.codegen_base.specs.declared.element.Element.{Element}
-use Rattle.codegen_base.specs.Generated.{Site, nothing, inside, ended, past, made_all, made_branch, made_simple, made_otherwise}
+use Rattle.codegen_base.specs.Generated.{Site, inside, ended, made_all, made_branch}
 use Rattle.plan.specs.Plan.{Skip}
 use Rattle.plan.proofs.Words.{Words}
 use Rattle.plan.proofs.Places.{At, JumpsTo, at_once, Leads, jumps_through}
@@ -159,7 +159,7 @@ module _ (file : File) (elements : List Element) (all : AllWide (globals file).s
       at place ls [],
       here,
       block_lands ls view l body place mid (EndBlock ∷ k) h
-          (record { first = d.first; breaks = d.breaks; continues = d.continues; fine = fine_opened file elements all code result f view d.fine; good = d.good; on = d.on; fits = record { tables = d.fits.tables; room = d.fits.room } })
+          (record { first = d.first; breaks = d.breaks; continues = d.continues; fine = fine_opened file elements all code result f view d.fine; good = d.good; makes = d.makes; on = d.on; fits = record { tables = d.fits.tables; room = d.fits.room } })
           (λ last i. end_sits next last l mid r.0 k (inner_same view next last same begins i) r.1 r.2),
     )
 
@@ -174,7 +174,7 @@ module _ (file : File) (elements : List Element) (all : AllWide (globals file).s
         (decides file (blocks ls view) k cs body NoElse) _ mid place d.test d.on
         (λ b to on. go b to on.0 on.1
         (block_lands ls view l body (to + 1) mid (EndBlock ∷ k) h
-        (record { first = d.second; breaks = d.breaks; continues = d.continues; fine = fine_opened file elements all code result f view d.fine; good = d.good; on = on.2; fits = record { tables = fits.tables; room = fits.room } })
+        (record { first = d.second; breaks = d.breaks; continues = d.continues; fine = fine_opened file elements all code result f view d.fine; good = d.good; makes = d.makes; on = on.2; fits = record { tables = fits.tables; room = fits.room } })
         (λ last i. end_sits next last l mid r.0 k (inner_same view next last same begins i) r.1 r.2))
         (lands_same ls view next l on.0 mid k h same begins on.3 r)) where
           go : (b : Bool) (to other : ℕ) → At f.instrs to (instrs.Unless other) → R (frame (entered (blocks ls view)) (all_of body ++ EndBlock ∷ k) ∷ cs) (at (to + 1) ls []) → R (frame (blocks ls view) k ∷ cs) (at other ls [])
@@ -198,6 +198,7 @@ module _ (file : File) (elements : List Element) (all : AllWide (globals file).s
           continues = d.continues;
           fine = fine_opened file elements all code result f view d.fine;
           good = d.good;
+          makes = d.makes;
           on = on.2;
           fits = record { tables = prints_front code view.site.prints so.prints (made_all (globals file) elements result (inside second.site) others).prints fits.tables; room = most };
         })
@@ -209,6 +210,7 @@ module _ (file : File) (elements : List Element) (all : AllWide (globals file).s
           continues = d.continues;
           fine = fine_opened file elements all code result f second (fine_body view body d.fine);
           good = d.other;
+          makes = d.other_makes;
           on = on.3;
           fits = record { tables = prints_back code view.site.prints so.prints (made_all (globals file) elements result (inside second.site) others).prints fits.tables; room = fits.room };
         })
@@ -235,6 +237,7 @@ module _ (file : File) (elements : List Element) (all : AllWide (globals file).s
           continues = d.continues;
           fine = fine_opened file elements all code result f view d.fine;
           good = d.good;
+          makes = d.makes;
           on = on.2;
           fits = record { tables = prints_front code view.site.prints so.prints (made_branch (globals file) elements result second.site branch).prints fits.tables; room = most };
         })
@@ -251,6 +254,7 @@ module _ (file : File) (elements : List Element) (all : AllWide (globals file).s
               continues = d.continues;
               fine = fine;
               good = d.other;
+              makes = d.other_makes;
               on = on.3;
               fits = record { tables = prints_back code view.site.prints so.prints (made_branch (globals file) elements result second.site branch).prints fits.tables; room = fits.room };
             },
@@ -278,7 +282,7 @@ module _ (file : File) (elements : List Element) (all : AllWide (globals file).s
         → Together view next → variables next ≡ variables view → Rest next l mid k → R (frame (entered (blocks ls view)) (all_of body ++ Again (Repeating condition post body) ∷ k) ∷ cs) (at place ls [])
     body_lands ls view next l condition post body head mid k place post_at h d on turns' t same r =
         block_lands ls view (record { leave = mid; again = post_at }) body place post_at (Again (Repeating condition post body) ∷ k) h
-        (record { first = d.second; breaks = true; continues = true; fine = fine_opened file elements all code result f view d.fine; good = d.good; on = on; fits = record { tables = d.fits.tables; room = d.fits.room } })
+        (record { first = d.second; breaks = true; continues = true; fine = fine_opened file elements all code result f view d.fine; good = d.good; makes = d.makes; on = on; fits = record { tables = d.fits.tables; room = d.fits.room } })
         (λ last i. (view, i, l, next, t, same, head, mid, refl, (d, turns'), again_place post_at, r.0, r.1, r.2))
 
     pub head_goes : (ls : Words) (view next : View) (l : Around) (condition : Option Expression) (post : Option Simple) (body : Statements) (place : ℕ) (mid : Option ℕ) (k : List Task) → Held ls view → Looping file elements all code result f l view condition post body place mid → Together view next → variables next ≡ variables view → Rest next l mid k
@@ -328,7 +332,7 @@ module _ (file : File) (elements : List Element) (all : AllWide (globals file).s
           last,
           u,
           Some m.0,
-          (refl, record { first = d.third; breaks = true; continues = true; fine = fine; good = d.after_good; on = m.1; fits = record { tables = d.post_fits.tables; room = d.post_fits.room } }, refl),
+          (refl, record { first = d.third; breaks = true; continues = true; fine = fine; good = d.after_good; makes = d.post_makes; on = m.1; fits = record { tables = d.post_fits.tables; room = d.post_fits.room } }, refl),
           Some m.0,
           at_once,
           end_sits outer last around (Some m.0) (Some m.0) (Turn (Repeating condition (Some post) body) ∷ k) (inner_opened file elements all code result f outer last u) at_once tail,
@@ -405,103 +409,3 @@ module _ (file : File) (elements : List Element) (all : AllWide (globals file).s
     end_select_goes ls view l place stack k h (outer, inner, around, again, to, out, (empty, lead), sits) =
         subst (λ (x : Words). G (task_next file (blocks ls view) k cs EndSelect) (at place ls x)) (sym empty)
         (at place ls [], here, subst (λ b. R (frame b k ∷ cs) (at place ls [])) (sym (inner_left (globals file).structs ls outer view inner)) (lands ls outer around place to k (held_inner ls outer view inner h) lead sits))
-
-    -- ---- an if
-
-    pub self_lead : (o : Option ℕ) → LeadsOn file elements all code result f o o
-    self_lead None = tt
-    self_lead (Some p) = at_once
-
-    -- what is decided behind the first statement of an if
-    decide_sits : (view next : View) (l : Around) (condition : Expression) (body : Statements) (otherwise : Otherwise) (place mid : Option ℕ) (k : List Task) → IfSome place (λ p. Deciding file elements all code result f l view condition body otherwise p mid) → Inner next view → Rest next l mid k
-        → S view l place [] (Decide condition body otherwise ∷ (EndBlock ∷ k))
-    decide_sits view next l condition body otherwise place mid k d inner r = (view, (refl, refl), mid, go place d, mid, self_lead mid, end_sits next view l mid r.0 k inner r.1 r.2) where
-      go : (place : Option ℕ) → IfSome place (λ p. Deciding file elements all code result f l view condition body otherwise p mid) → IfSome place (λ p. (◌≡◌ {A = List Word} [] []) × Deciding file elements all code result f l view condition body otherwise p mid × (variables view ≡ variables view))
-      go None d = tt
-      go (Some p) d = (refl, d, refl)
-
-    pub if_first_goes : (ls : Words) (view next : View) (l : Around) (simple : Simple) (condition : Expression) (body : Statements) (otherwise : Otherwise) (place : ℕ) (mid : Option ℕ) (k : List Task) → Held ls view → Doing file elements all code result f l view (If (Conditional (First simple) condition body otherwise)) place mid
-        → variables next ≡ variables view → next.begins ≡ view.begins → Rest next l mid k → G (statement_next file (blocks ls view) k cs (If (Conditional (First simple) condition body otherwise))) (at place ls [])
-    if_first_goes ls view next l simple condition body otherwise place mid k h d same begins r =
-        let inside' = opened view in
-        let fine = fine_opened file elements all code result f view d.fine in
-        let first = made_simple (globals file) elements inside'.site simple in
-        let v = behind file elements all code result f inside' (Alone simple) in
-        let u = together_behind file elements all code result f inside' (Alone simple) fine.placed.nested in
-        let so = ended v.site.layout (made_body file elements all code result f v body) in
-        let other = made_otherwise (globals file) elements result v.site condition so otherwise in
-        let a = (grown_statements (globals file) elements result (inside v.site) body).words in
-        let b = grown_otherwise (globals file) elements result v.site condition so otherwise in
-        let most = d.fits.room in
-        let doing : Doing file elements all code result f l inside' (Alone simple) place d.on.0 = record {
-          first = d.first;
-          breaks = d.breaks;
-          continues = d.continues;
-          fine = fine;
-          good = λ flaw x. d.good flaw (inl (inl x));
-          on = d.on.1;
-          fits = record { tables = prints_front code view.site.prints first.prints other.prints d.fits.tables; room = omega (arith, a, b, most) };
-        } in
-        let fine' = fine_behind inside' (Alone simple) d.first d.breaks d.continues fine (λ flaw x. d.good flaw (inl (inl x))) in
-        let deciding : (m : ℕ) → IsOn file elements all code result f l other.plan m mid → Deciding file elements all code result f l v condition body otherwise m mid = λ m on. record {
-          first = _;
-          second = _;
-          third = _;
-          breaks = d.breaks;
-          continues = d.continues;
-          fine = fine';
-          test = λ flaw x. d.good flaw (inl (inr x));
-          good = λ flaw x. d.good flaw (inr (inl x));
-          other = λ flaw x. d.good flaw (inr (inr x));
-          on = on;
-          fits = record { tables = prints_back code view.site.prints first.prints other.prints d.fits.tables; room = most };
-        } in
-        let k' : List Task = Decide condition body otherwise ∷ (EndBlock ∷ k) in (
-          at place ls [],
-          here,
-          subst (λ b. R (frame b (Do (Alone simple) ∷ k') ∷ cs) (at place ls [])) (seen_opened file elements all code result f ls view)
-              (sitting inside' l place ls [] (Do (Alone simple) ∷ k') (record { holding = h.holding; full = h.full }) (
-                v,
-                u,
-                d.on.0,
-                (refl, doing, refl),
-                d.on.0,
-                self_lead d.on.0,
-                decide_sits v next l condition body otherwise d.on.0 mid k (map_reached d.on.0 (λ m. IsOn file elements all code result f l other.plan m mid) (λ m. Deciding file elements all code result f l v condition body otherwise m mid) deciding d.on.2)
-                    (inner_same view next v same begins (inner_opened file elements all code result f view v u)) r,
-              )),
-        )
-
-    -- an if without a first statement
-    bare_lands : (ls : Words) (view next : View) (l : Around) (condition : Expression) (body : Statements) (otherwise : Otherwise) (place : ℕ) (mid : Option ℕ) (k : List Task) → Held ls view → Doing file elements all code result f l view (If (Conditional Bare condition body otherwise)) place mid
-        → variables next ≡ variables view → next.begins ≡ view.begins → Rest next l mid k → R (frame (entered (blocks ls view)) (Decide condition body otherwise ∷ (EndBlock ∷ k)) ∷ cs) (at place ls [])
-    bare_lands ls view next l condition body otherwise place mid k h d same begins r =
-        let fine = fine_opened file elements all code result f view d.fine in
-        let v : View = record { site = past (inside view.site) (nothing (inside view.site)); begins = length (variables view) ∷ view.begins; checked = scope_entered view.checked } in
-        let fine' : Fine file elements all code result f v = record { placed = fine.placed; alike = fine.alike; noted = fine.noted } in
-        let so = ended v.site.layout (made_body file elements all code result f v body) in
-        let other = made_otherwise (globals file) elements result v.site condition so otherwise in
-        let deciding : (m : ℕ) → IsOn file elements all code result f l other.plan m mid → Deciding file elements all code result f l v condition body otherwise m mid = λ m on. record {
-          first = _;
-          second = _;
-          third = _;
-          breaks = d.breaks;
-          continues = d.continues;
-          fine = fine';
-          test = λ flaw x. d.good flaw (inl (inr x));
-          good = λ flaw x. d.good flaw (inr (inl x));
-          other = λ flaw x. d.good flaw (inr (inr x));
-          on = on;
-          fits = record { tables = prints_back code view.site.prints [] other.prints d.fits.tables; room = d.fits.room };
-        } in
-        let k' : List Task = Decide condition body otherwise ∷ (EndBlock ∷ k) in
-        subst (λ b. R (frame b k' ∷ cs) (at place ls [])) (seen_opened file elements all code result f ls view)
-        (lands ls v l place d.on.0 k' (record { holding = h.holding; full = h.full }) d.on.1
-        (decide_sits v next l condition body otherwise d.on.0 mid k (map_reached d.on.0 (λ m. IsOn file elements all code result f l other.plan m mid) (λ m. Deciding file elements all code result f l v condition body otherwise m mid) deciding d.on.2)
-        (inner_same view next v same begins (inner_opened file elements all code result f view v (refl, refl))) r))
-
-    pub if_goes : (ls : Words) (view next : View) (l : Around) (head : IfHead) (condition : Expression) (body : Statements) (otherwise : Otherwise) (place : ℕ) (mid : Option ℕ) (k : List Task) → Held ls view → Doing file elements all code result f l view (If (Conditional head condition body otherwise)) place mid
-        → variables next ≡ variables view → next.begins ≡ view.begins → Rest next l mid k → G (statement_next file (blocks ls view) k cs (If (Conditional head condition body otherwise))) (at place ls [])
-    if_goes ls view next l (First simple) condition body otherwise place mid k h d same begins r = if_first_goes ls view next l simple condition body otherwise place mid k h d same begins r
-    if_goes ls view next l Bare condition body otherwise place mid k h d same begins r = (at place ls [], here, bare_lands ls view next l condition body otherwise place mid k h d same begins r)
-    if_goes ls view next l Semicolon condition body otherwise place mid k h d same begins r = (at place ls [], here, bare_lands ls view next l condition body otherwise place mid k h (record { first = d.first; breaks = d.breaks; continues = d.continues; fine = d.fine; good = d.good; on = d.on; fits = record { tables = d.fits.tables; room = d.fits.room } }) same begins r)

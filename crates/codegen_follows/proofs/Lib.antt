@@ -1,4 +1,3 @@
-pub mod Paths
 pub mod Stands
 pub mod Unwound
 pub mod Grown

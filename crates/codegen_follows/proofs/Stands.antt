@@ -1,17 +1,18 @@
 -- Where the code stands of what is still to be done.
-use Rattle.std.proofs.Common.{◌≡◌, ℕ, ◌+◌, ◌≤◌, Bool, true, List, [], ◌∷◌, ◌++◌, length, map, take, Option, Some, None, IfSome, slice_get}
-use Rattle.syntax.specs.Tree.{Expression, Simple, Statement, Statements, Otherwise, File}
+use Rattle.std.proofs.Common.{◌≡◌, ℕ, ◌+◌, ◌≤◌, Bool, true, List, [], ◌∷◌, ◌++◌, length, map, take, drop, Option, Some, None, IfSome, slice_get}
+use Rattle.syntax.specs.declared.node.Direction.{Direction}
+use Rattle.syntax.specs.Tree.{Expression, Operation, Make, Right, RightOperation, Values, Simple, Assign, Define, IfHead, First, ForHead, ForClauses, Returned, ReturnedOperation, Statement, Alone, VarTyped, VarUntyped, Block, If, For, Select, Return, Statements, NoStatement, Then, Branch, Conditional, Otherwise, NoElse, ElseBlock, ElseIf, Clauses, NoClause, Clause, File}
 use Rattle.bytecode.specs.declared.instr.Instr.TheVariants as instrs
 use Rattle.bytecode.specs.declared.instr.Instr.{Instr}
 use Rattle.bytecode.specs.Code.{PrintTable, Function as CodeFunction, Code}
-use Rattle.bytecode.specs.Effects.{gives}
+use Rattle.bytecode.specs.Effects.{gives, shape_kinds}
 use Rattle.bytecode.specs.Machine.{Frame as CodeFrame, Frames as CodeFrames, zero_of, is_told, instr_next, pops}
 use Rattle.word.specs.Values.{Request}
 use Rattle.word.specs.Values as requests
 use Rattle.word.specs.Kinds.{Asks}
 use Rattle.word.specs.declared.value.Word.{Word}
-use Rattle.type_table.specs.Types.{ValueType}
-use Rattle.type_table.specs.Scopes.{Variable, Scope, Yield, entered, left}
+use Rattle.type_table.specs.Types.{ValueType, BoolType, ChannelType}
+use Rattle.type_table.specs.Scopes.{Variable, Scope, Yield, entered, left, nothing_declared, type_in, last_named}
 use Rattle.checker_base.specs.Expressions.{TestHas}
 use Rattle.checker_simple.specs.Simples.{SimpleHas}
 use Rattle.checker_statement.specs.Statements.{Setting, after, after_all, StatementHas, StatementsHave, OtherwiseHas}
@@ -19,17 +20,19 @@ use Rattle.checker_operation.specs.Operations.{parameters_of}
 use Rattle.type_table.specs.Zeros.{zero_words}
 use Rattle.meaning.specs.Values.{Value, known, words_in, words_like}
 use Rattle.meaning.specs.Destinations.{zero_result}
-use Rattle.meaning.specs.Variables.{Destination}
-use Rattle.meaning.specs.Tasks.{Loop, Repeating, Ranging, Task, Do, EndBlock, Decide, Head, Again, Turn, EndSelect, Ask, Store, GiveBack, Purpose, Unused, Assigned, GivenBack}
+use Rattle.meaning.specs.Variables.{Destination, blank}
+use Rattle.meaning.specs.Tasks.{Loop, Repeating, Ranging, Task, Do, EndBlock, Decide, Head, Again, Turn, EndSelect, Ask, Store, GiveBack, Purpose, Unused, Assigned, GivenBack, NextItem}
 use Rattle.meaning.specs.Source.{globals}
 use Rattle.codegen_base.specs.declared.element.Element.{Element}
 use Rattle.codegen_base.specs.Pushes.{pushes_zeros, drops}
 use Rattle.codegen_base.specs.Statements.{Spot, assigns}
+use Rattle.codegen_base.specs.Elements.{kinds_of}
 use Rattle.codegen_base.specs.Generated.{Site, Made, past, ended, inside, loop, test_plan, made_post, made, made_all, made_otherwise, result_kinds}
 use Rattle.plan.specs.Plan.{Plan, Skip, Stop}
 use Rattle.plan.proofs.Places.{At, On, Leads}
 use Rattle.codegen_base.proofs.Alike.{Alike}
 use Rattle.codegen_base.proofs.Known.{VariablesNoted}
+use Rattle.codegen_base.proofs.Noted.{Noted}
 use Rattle.codegen_base.proofs.Static.{innermost_begins, IsPlaced}
 use Rattle.codegen_base.proofs.Typing.{Free}
 use Rattle.codegen_base.proofs.Fields.{AllWide}
@@ -73,6 +76,11 @@ opened view = record { site = inside view.site; begins = length (variables view)
 -- print tables stand from a number on
 abbrev pub Prints : Code → ℕ → List PrintTable → Type 0
 Prints code first tables = (n : ℕ) (table : PrintTable) → slice_get tables n ≡ Some table → slice_get code.prints (first + n) ≡ Some table
+
+-- a statement that declares nothing, as a post statement is
+abbrev pub DeclaresNone : Simple → Type 0
+DeclaresNone (Define names right) = ⊥
+DeclaresNone simple = Unit {0}
 
 module _ (file : File) (elements : List Element) (all : AllWide (globals file).structs) (code : Code) (result : Yield) (f : CodeFunction) where
   abbrev pub IsOn : Around → Plan → ℕ → Option ℕ → Type 0
@@ -118,6 +126,62 @@ module _ (file : File) (elements : List Element) (all : AllWide (globals file).s
     pub tables : Prints code first one.prints
     pub room : one.layout.scope.words ≤ length f.locals
 
+  -- ---- what the typing rules don't say of statements
+
+  -- the elements of the channel types that are made are noted
+  abbrev pub OperationMakes : Operation → Type 0
+  OperationMakes (Make kind size) = Noted elements (known (type_in (globals file).types nothing_declared kind))
+  OperationMakes operation = Unit {0}
+
+  abbrev pub RightMakes : Right → Type 0
+  RightMakes (RightOperation operation) = OperationMakes operation
+  RightMakes (Values values) = Unit {0}
+
+  abbrev pub SimpleMakes : Simple → Type 0
+  SimpleMakes (Assign places right) = RightMakes right
+  SimpleMakes (Define names right) = RightMakes right
+  SimpleMakes simple = Unit {0}
+
+  abbrev pub ReturnedMakes : Returned → Type 0
+  ReturnedMakes (ReturnedOperation operation) = OperationMakes operation
+  ReturnedMakes returned = Unit {0}
+
+  abbrev pub IfHeadMakes : IfHead → Type 0
+  IfHeadMakes (First simple) = SimpleMakes simple
+  IfHeadMakes head = Unit {0}
+
+  abbrev pub ForHeadMakes : ForHead → Type 0
+  ForHeadMakes (ForClauses first condition post) = IfSome first SimpleMakes × IfSome post SimpleMakes × IfSome post DeclaresNone
+  ForHeadMakes head = Unit {0}
+
+  abbrev mutual
+    pub Makes : Statement → Type 0
+    Makes (Alone simple) = SimpleMakes simple
+    Makes (VarTyped names kind right) = IfSome right RightMakes
+    Makes (VarUntyped names right) = RightMakes right
+    Makes (Block body) = AllMake body
+    Makes (If branch) = BranchMakes branch
+    Makes (For head body) = ForHeadMakes head × AllMake body
+    Makes (Select clauses) = ClausesMake clauses
+    Makes (Return returned) = ReturnedMakes returned
+    Makes s = Unit {0}
+
+    pub AllMake : Statements → Type 0
+    AllMake NoStatement = Unit {0}
+    AllMake (Then first rest) = Makes first × AllMake rest
+
+    pub BranchMakes : Branch → Type 0
+    BranchMakes (Conditional head condition body otherwise) = IfHeadMakes head × AllMake body × OtherwiseMakes otherwise
+
+    pub OtherwiseMakes : Otherwise → Type 0
+    OtherwiseMakes NoElse = Unit {0}
+    OtherwiseMakes (ElseBlock body) = AllMake body
+    OtherwiseMakes (ElseIf branch) = BranchMakes branch
+
+    pub ClausesMake : Clauses → Type 0
+    ClausesMake NoClause = Unit {0}
+    ClausesMake (Clause comm body rest) = AllMake body × ClausesMake rest
+
   -- ---- tasks that are done at a place
 
   pub record Doing (l : Around) (view : View) (s : Statement) (place : ℕ) (mid : Option ℕ) : Type 0 where
@@ -126,6 +190,7 @@ module _ (file : File) (elements : List Element) (all : AllWide (globals file).s
     pub continues : Bool
     pub fine : Fine view
     pub good : Free (StatementHas (within breaks continues) view.checked first s)
+    pub makes : Makes s
     pub on : IsOn l (made_here view s).plan place mid
     pub fits : Fits view.site.prints (made_here view s)
 
@@ -139,6 +204,8 @@ module _ (file : File) (elements : List Element) (all : AllWide (globals file).s
     pub test : Free (TestHas (globals file) view.checked first condition)
     pub good : Free (StatementsHave (within breaks continues) (entered view.checked) second body)
     pub other : Free (OtherwiseHas (within breaks continues) (left view.checked (after_all (globals file) (entered view.checked) body)) third otherwise)
+    pub makes : AllMake body
+    pub other_makes : OtherwiseMakes otherwise
     pub on : IsOn l (made_other view condition body otherwise).plan place mid
     pub fits : Fits view.site.prints (made_other view condition body otherwise)
 
@@ -154,6 +221,8 @@ module _ (file : File) (elements : List Element) (all : AllWide (globals file).s
     pub test : IfSome condition (λ c. Free (TestHas (globals file) view.checked first c))
     pub good : Free (StatementsHave (within true true) (entered view.checked) second body)
     pub after_good : IfSome post (λ s. Free (SimpleHas (globals file) (entered (behind_body view body).checked) third s))
+    pub makes : AllMake body
+    pub post_makes : IfSome post SimpleMakes
     pub on : IsOn l (loop (test_plan (globals file) elements view.site.layout condition) (made_body view body).plan (post_made view body post).plan) head out
     pub fits : Fits view.site.prints (made_body view body)
     pub post_fits : Fits (behind_body view body).site.prints (post_made view body post)
@@ -186,14 +255,56 @@ module _ (file : File) (elements : List Element) (all : AllWide (globals file).s
     pub like : AreLike (globals file).structs all types kept
     pub assigning : Assigning l view 0 types destinations next place mid
 
+  -- ---- loops over a channel
+
+  -- what becomes of an item on the stack: it is dropped, or stored as a value of a type with the same zero
+  abbrev pub Items : Around → View → ValueType → List Destination → View → ℕ → Option ℕ → Type 0
+  Items l view kind [] next place mid = IsOn l (drops (words_in (globals file).structs kind) Skip) place mid × (variables next ≡ variables view)
+  Items l view kind (first ∷ more) next place mid = (other : ValueType) × (zero_words (globals file).structs kind ≡ zero_words (globals file).structs other) × Assigning l view 0 (other ∷ []) (first ∷ more) next place mid
+
+  -- the block of an item, in which the typing rules see this
+  abbrev pub item_view : View → Scope → View
+  item_view view checked = record { site = inside view.site; begins = length (variables view) ∷ view.begins; checked = checked }
+
+  -- a loop over a channel, which is the variable `_` of the block round the items
+  pub record RangingAt (l : Around) (view : View) (destinations : List Destination) (zero : Value) (body : Statements) (head : ℕ) (out : Option ℕ) : Type 0 where
+    pub direction : Direction
+    pub kind : ValueType
+    pub channel : Variable
+    pub channel_is : last_named (drop (innermost_begins view.begins) (variables view)) blank ≡ Some channel
+    pub carries : known channel.kind ≡ ChannelType direction kind
+    pub below : channel.place + 1 ≤ (scope_of view).words
+    pub room : (scope_of view).words ≤ length f.locals
+    pub zero_is : zero ≡ zero_words (globals file).structs kind
+    pub shape : ℕ
+    pub shape_is : shape_kinds code shape ≡ kinds_of (globals file).structs elements kind
+    pub check : ℕ
+    pub again : Option ℕ
+    pub exit : ℕ
+    pub loads : At f.instrs head (instrs.Load channel.place 1)
+    pub receives : At f.instrs (head + 1) (instrs.Receive shape)
+    pub checks : Leads f.instrs (head + 1 + 1) (Some check)
+    pub unless : At f.instrs check (instrs.Unless exit)
+    pub checked : Scope
+    pub next : View
+    pub together : Together (item_view view checked) next
+    pub mid : Option ℕ
+    pub item : Items (record { leave = out; again = again }) (item_view view checked) kind destinations next (check + 1) mid
+    pub goes : IfSome mid (λ p. Doing (record { leave = out; again = again }) next (Block body) p again)
+    pub turns : IfSome again (λ m. (turn : ℕ) × Leads f.instrs m (Some turn) × At f.instrs turn (instrs.Loop head))
+    pub ends : IsOn l (drops (words_in (globals file).structs kind) Skip) exit out
+
   -- ---- calls and requests
 
-  -- what becomes of values of these types that lie on the stack; those that have no place are dropped
+  -- what becomes of values of these types that lie on the stack: those that have no place are dropped, and the others are stored as ones
+  -- of types with the same zeros
   abbrev pub Taking : Around → View → List ValueType → Purpose → View → ℕ → Option ℕ → Type 0
   Taking l view types Unused next place mid = IsOn l (drops (all_wide types) Skip) place mid × (variables next ≡ variables view)
-  Taking l view types (Assigned destinations) next place mid = (kept : List ValueType) × (others : List ValueType) × (types ≡ kept ++ others) × Assigning l view (all_wide others) kept destinations next place mid
+  Taking l view types (Assigned destinations) next place mid = (kept : List ValueType) × (others : List ValueType) × (map (zero_words (globals file).structs) types ≡ map (zero_words (globals file).structs) (kept ++ others)) × Assigning l view (all_wide others) kept destinations next place mid
   Taking l view types GivenBack next place mid =
       (first : ValueType) × (others : List ValueType) × (types ≡ first ∷ others) × IsOn l (drops (all_wide others) Stop) place mid × (zero_result (globals file) result ≡ zero_words (globals file).structs first)
+  Taking l view types (NextItem (Ranging destinations zero body)) next place mid =
+      (head : ℕ) × (place ≡ head + 1 + 1) × (d : RangingAt l view destinations zero body head mid) × (types ≡ d.kind ∷ BoolType ∷ []) × (variables next ≡ variables view)
   Taking l view types purpose next place mid = ⊥
 
   -- a goroutine that is started gets values of its function's parameters
@@ -217,7 +328,7 @@ module _ (file : File) (elements : List Element) (all : AllWide (globals file).s
   -- what a loop's head does at a place
   abbrev pub Loops : Around → View → Loop → ℕ → Option ℕ → Type 0
   Loops l view (Repeating condition post body) head out = Looping l view condition post body head out
-  Loops l view (Ranging destinations zero body) head out = ⊥
+  Loops l view (Ranging destinations zero body) head out = RangingAt l view destinations zero body head out
 
   -- a task at a place, with this stack: its code leads to `mid`, where what is next has its variables
   abbrev pub Does : Around → View → List Word → Task → View → ℕ → Option ℕ → Type 0
@@ -232,7 +343,7 @@ module _ (file : File) (elements : List Element) (all : AllWide (globals file).s
 
   -- where a loop's body ends
   abbrev pub Turns : Loop → Around → View → ℕ → Option ℕ → Option ℕ → Type 0
-  Turns (Ranging destinations zero body) l view head out post_at = ⊥
+  Turns (Ranging destinations zero body) l view head out post_at = (d : RangingAt l view destinations zero body head out) × (d.again ≡ post_at)
   Turns (Repeating condition post body) l view head out post_at =
       Looping l view condition post body head out
       × IfSome post_at (λ m. (turn : ℕ) × IsOn l (post_made view body post).plan m (Some turn) × At f.instrs turn (instrs.Loop head))

@@ -1,8 +1,8 @@
 -- Values that destinations are given, and assignments to places.
-use Rattle.std.proofs.Common.{◌≡◌, ℕ, ◌+◌, ◌==◌, ◌≤◌, Bool, true, false, List, [], ◌∷◌, length, Option, Some, refl, sym, subst, arith, slice_get}
+use Rattle.std.proofs.Common.{◌≡◌, ℕ, ◌+◌, ◌==◌, ◌≤◌, Bool, true, false, List, [], ◌∷◌, ◌++◌, length, map, Option, Some, refl, sym, ap, ◌∙◌, subst, arith, slice_get}
 use Rattle.std.specs.Prelude.{if◌then◌else◌, ◌&&◌}
 use Rattle.std.proofs.lemmas.Bool.Decides.{nat_tests}
-use Rattle.std.proofs.lemmas.List.{append-nil}
+use Rattle.std.proofs.lemmas.List.{append-nil, map-append}
 use Rattle.go_text.specs.declared.rule.Rule.TheVariants as rules
 use Rattle.syntax.specs.declared.node.Direction.TheVariants as directions
 use Rattle.syntax.specs.Tree.{Expression, expressions, Operation, RightOperation, Values, File}
@@ -15,12 +15,13 @@ use Rattle.word.specs.Kinds.{Next, Slides}
 use Rattle.word.specs.Related.{here}
 use Rattle.type_table.specs.Types.{ValueType, IntType, BoolType, StructType, ChannelType, identical, assignable}
 use Rattle.type_table.specs.Containment.{fields_of}
+use Rattle.type_table.specs.Zeros.{zero_words}
 use Rattle.type_table.specs.Scopes.{Scope, Yield}
 use Rattle.checker_base.specs.Flaws.{Nodes}
 use Rattle.checker_base.specs.Worths.{Worth, Typed, Constant, Nil, is_int}
 use Rattle.checker_base.specs.Expressions.{DefaultHas, ExpressionsHave, default_type}
 use Rattle.checker_operation.specs.Operations.{operation_type, is_receive, OperationHas}
-use Rattle.meaning.specs.Values.{known}
+use Rattle.meaning.specs.Values.{Value, known}
 use Rattle.meaning.specs.Variables.{Blocks, Destination}
 use Rattle.meaning.specs.Tasks.{Task, Store, Assigned, Frames, frame}
 use Rattle.meaning.specs.Source.{globals, operates, gives}
@@ -121,9 +122,9 @@ module _ (file : File) (elements : List Element) (all : AllWide (globals file).s
       Noted' operation = MakesNoted file elements all typed known_fields code result g f there cs ds R Asked panics operation
 
       -- what an operation gives is stored
-      pub operation_go : (destinations : List Destination) (spots : List Spot) (count : ℕ) (types : List ValueType) (operation : Operation) (first place : ℕ) → Targets destinations (kept_types count operation) spots → Free (OperationHas (globals file) view.checked first operation) → Noted' operation
+      pub operation_go : (destinations : List Destination) (spots : List Spot) (count : ℕ) (types kept : List ValueType) (operation : Operation) (first place : ℕ) → map (zero_words (globals file).structs) kept ≡ map (zero_words (globals file).structs) (kept_types count operation) → Targets destinations kept spots → Free (OperationHas (globals file) view.checked first operation) → Noted' operation
           → On' (pushes_right (globals file) elements (scope_of view) count types (RightOperation operation) (assigns spots Skip)) place → G (gives file blocks k cs destinations (RightOperation operation)) (at place ls [])
-      operation_go destinations spots count types operation first place d free noted on = go (count == 2) (is_receive operation) refl d on where
+      operation_go destinations spots count types kept operation first place zeros d free noted on = go (count == 2) (is_receive operation) refl zeros on where
         K : ValueType
         K = known (operation_type (globals file) (scope_of view) operation)
 
@@ -138,10 +139,19 @@ module _ (file : File) (elements : List Element) (all : AllWide (globals file).s
             operation_goes file elements all typed known_fields code result g f there cs ds R Asked panics sitting grounds ls l view next mid k fine room h t r all_there starting has wait operation first (Assigned destinations) plan place free noted on
             (subst (λ b. Takes' b plan) (sym is) takes)
 
-        go : (b c : Bool) → is_receive operation ≡ c → Targets destinations (K ∷ (if b && c then BoolType ∷ [] else [])) spots
+        whole : map (zero_words (globals file).structs) kept ≡ map (zero_words (globals file).structs) (kept ++ [])
+        whole = ap (map (zero_words (globals file).structs)) (sym (append-nil kept))
+
+        go : (b c : Bool) → is_receive operation ≡ c → map (zero_words (globals file).structs) kept ≡ map (zero_words (globals file).structs) (K ∷ (if b && c then BoolType ∷ [] else []))
             → On' (if b && c then pushes_operation (globals file) elements (scope_of view) operation rest else pushes_operation (globals file) elements (scope_of view) operation (if c then Do (instrs.Discard 1) rest else rest)) place
             → G (operates file blocks k cs operation (Assigned destinations)) (at place ls [])
-        go true true is d on = run true rest is on (λ to on1. (K ∷ BoolType ∷ [], [], refl, record { spots = spots; fine = fine; spots_are = d.are; room = d.fit; on = on1; variables_are = d.variables_are }))
-        go true false is d on = run false rest is on (λ to on1. (K ∷ [], [], refl, record { spots = spots; fine = fine; spots_are = d.are; room = d.fit; on = on1; variables_are = d.variables_are }))
-        go false true is d on = run true (Do (instrs.Discard 1) rest) is on (λ to on1. (K ∷ [], BoolType ∷ [], refl, record { spots = spots; fine = fine; spots_are = d.are; room = d.fit; on = on1; variables_are = d.variables_are }))
-        go false false is d on = run false rest is on (λ to on1. (K ∷ [], [], refl, record { spots = spots; fine = fine; spots_are = d.are; room = d.fit; on = on1; variables_are = d.variables_are }))
+        go true true is zeros on = run true rest is on (λ to on1. (kept, [], sym zeros ∙ whole, record { spots = spots; fine = fine; spots_are = d.are; room = d.fit; on = on1; variables_are = d.variables_are }))
+        go true false is zeros on = run false rest is on (λ to on1. (kept, [], sym zeros ∙ whole, record { spots = spots; fine = fine; spots_are = d.are; room = d.fit; on = on1; variables_are = d.variables_are }))
+        go false true is zeros on =
+            run true (Do (instrs.Discard 1) rest) is on (λ to on1. (
+              kept,
+              BoolType ∷ [],
+              ap (λ (l : List Value). l ++ zero_words (globals file).structs BoolType ∷ []) (sym zeros) ∙ sym (map-append (zero_words (globals file).structs) kept (BoolType ∷ [])),
+              record { spots = spots; fine = fine; spots_are = d.are; room = d.fit; on = on1; variables_are = d.variables_are },
+            ))
+        go false false is zeros on = run false rest is on (λ to on1. (kept, [], sym zeros ∙ whole, record { spots = spots; fine = fine; spots_are = d.are; room = d.fit; on = on1; variables_are = d.variables_are }))

@@ -35,7 +35,7 @@ use Rattle.codegen_base.proofs.Likeness.{assignable_zeros}
 use Rattle.codegen_base.proofs.Passed.{AllFit}
 use Rattle.codegen_base.proofs.Seen.{seen}
 use Rattle.codegen_base.proofs.Typing.{Free, FieldsKnown, Fits, fits, nodes_end, worth_there}
-use Rattle.codegen_follows.proofs.Paths.{AllKnown}
+use Rattle.codegen_steps.proofs.Paths.{AllKnown}
 use Rattle.codegen_follows.proofs.Stands.{Around, View, scope_of, variables, Together, IsOn, Fine}
 use Rattle.codegen_follows.proofs.Valued.{Goes}
 use Rattle.codegen_follows.proofs.Follows.{Held, Sitting, Rest}
@@ -184,7 +184,7 @@ module _ (file : File) (elements : List Element) (all : AllWide (globals file).s
           let suit = typed_suit file elements all known_fields fields_known code result f ls view fine places (given (globals file) view.checked (length places) second (RightOperation operation)) types first (given_typed (length places) second operation good) many (λ flaw x. free flaw (inl x)) (λ flaw x. free flaw (inr (inr (inr x)))) in
           let stay = places_stay file elements all fields_known code result f ls view fine places in
           operation_go file elements all typed known_fields code result g f there cs ds R Asked panics sitting grounds ls l view next mid k fine room h t r all_there starting has wait (map (placed (globals file) blocks) places) (place_spots (globals file) elements (scope_of view) places types) (length places)
-          (taken_types (globals file) elements (scope_of view) places types) operation second place
+          (taken_types (globals file) elements (scope_of view) places types) types operation second place refl
           (record {
             are = places_are file elements all fields_known code result f ls view fine places first types types (λ flaw x. free flaw (inl x)) suit;
             fit = subst (λ (s : Scope). s.words ≤ length f.locals) (sym stay) most;

@@ -203,7 +203,7 @@ module _ (file : File) (elements : List Element) (all : AllWide (globals file).s
           let to-kept = λ (P : List ValueType → Type 0) (x : P types). subst P is x in
           subst (λ (ts : List ValueType). G (gives file blocks k cs (all_defined (globals file) blocks names ts) (RightOperation operation)) (at place ls [])) (sym (kinds_are file elements all known_fields code result f ls view fine count (RightOperation operation) ∙ is))
           (operation_go file elements all typed known_fields code result g f there cs ds R Asked panics sitting grounds ls l view next mid k fine room h t r all_there starting has wait (all_defined (globals file) blocks names kept) (name_spots (globals file) elements view.site.layout names kept) count
-          (name_types (globals file) elements view.site.layout names kept) operation first place
+          (name_types (globals file) elements view.site.layout names kept) kept operation first place refl
           (record {
             are = are.0;
             fit = subst (λ (s : Scope). s.words ≤ length f.locals) (sym are.1) (to-kept (λ ts. (declaring_all (globals file) elements names ts view.site.layout).scope.words ≤ length f.locals) most);

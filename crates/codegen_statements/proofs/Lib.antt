@@ -3,3 +3,7 @@ pub mod Names
 pub mod Defined
 pub mod Untyped
 pub mod Updated
+pub mod Alone
+pub mod Typed
+pub mod Statements
+pub mod Step

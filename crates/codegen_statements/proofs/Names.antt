@@ -20,10 +20,10 @@ use Rattle.plan.proofs.Words.{Words}
 use Rattle.codegen_base.proofs.Alike.{last_append, drop_append}
 use Rattle.codegen_base.proofs.Fields.{AllWide}
 use Rattle.codegen_base.proofs.Likeness.{kinds_long}
-use Rattle.codegen_base.proofs.Seen.{seen_one, seen, seen_found, last_split}
-use Rattle.codegen_base.proofs.Static.{innermost_begins}
+use Rattle.codegen_base.proofs.Seen.{seen_one, seen, last_split}
 use Rattle.codegen_base.proofs.Assigned.{IsSpot, behind_destination, behind_all, AreSpots}
-use Rattle.codegen_follows.proofs.Paths.{held_whole}
+use Rattle.codegen_steps.proofs.Paths.{held_whole}
+use Rattle.codegen_steps.proofs.Ranged.{own_block}
 use Rattle.codegen_follows.proofs.Stands.{View, scope_of, variables, Fine}
 
 pub neither : (a b : Bool) → (a || b) ≡ false → (a ≡ false) × (b ≡ false)
@@ -40,11 +40,6 @@ own_stays structs s kind other name fits apart =
 
 fits_declared : (structs : Structs) (s : Scope) (kind : ValueType) (name : List ℕ) → s.outer ≤ length s.variables → s.outer ≤ length (declared structs s (Some kind) name).variables
 fits_declared structs s kind name fits = let v : Variable = record { name = name; kind = Some kind; place = s.words } in omega (arith, fits, length-append s.variables (v ∷ []))
-
--- the variables of the innermost block
-pub own_block : (structs : Structs) (ls : Words) (vs : List Variable) (ns : List ℕ) (name : List ℕ) → in_block (innermost (seen structs ls vs ns)) name ≡ option_map (seen_one structs ls) (last_named (drop (innermost_begins ns) vs) name)
-own_block structs ls vs [] name = seen_found structs ls vs name
-own_block structs ls vs (n ∷ ns) name = seen_found structs ls (drop n vs) name
 
 -- a variable of the innermost block is the one of its name
 pub own_found : (structs : Structs) (s : Scope) (name : List ℕ) (v : Variable) → is_blank name ≡ false → own_variable s name ≡ Some v → last_named s.variables name ≡ Some v

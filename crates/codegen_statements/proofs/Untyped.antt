@@ -36,7 +36,8 @@ use Rattle.codegen_steps.proofs.Returned.{Gives}
 use Rattle.codegen_requests.proofs.Channels.{Grounds}
 use Rattle.codegen_requests.proofs.Calling.{Wait, AllThere, Starting}
 use Rattle.codegen_requests.proofs.Sets.{RightNoted}
-use Rattle.codegen_statements.proofs.Names.{neither, own_block}
+use Rattle.codegen_steps.proofs.Ranged.{own_block}
+use Rattle.codegen_statements.proofs.Names.{neither}
 use Rattle.codegen_statements.proofs.Defined.{names_go}
 
 -- the innermost block has none of these names

@@ -1,7 +1,10 @@
+pub mod Paths
 pub mod Spots
 pub mod Stored
 pub mod Taken
+pub mod Ranged
 pub mod Returned
 pub mod Outers
 pub mod Simples
 pub mod Loops
+pub mod Branches

@@ -24,13 +24,13 @@ use Rattle.plan.proofs.Steps.{spots}
 use Rattle.codegen_base.proofs.Fields.{AllWide, AllTyped}
 use Rattle.codegen_base.proofs.Seen.{seen}
 use Rattle.codegen_base.proofs.Typing.{Free, FieldsKnown}
-use Rattle.codegen_follows.proofs.Stands.{Around, View, variables, Together, Inner, Prints, opened, within, IsOn, LeadsOn, Fine, made_body, behind, behind_body, post_made, Doing, Looping, Sits}
+use Rattle.codegen_follows.proofs.Stands.{Around, View, variables, Together, Inner, Prints, opened, within, IsOn, LeadsOn, Fine, made_body, behind, behind_body, post_made, DeclaresNone, SimpleMakes, AllMake, Doing, Looping, Sits}
 use Rattle.codegen_follows.proofs.Grown.{grown_statements, grown_post}
 use Rattle.codegen_follows.proofs.Begun.{prints_front, prints_back, together_behind, FineBehind, fine_opened, inner_opened, seen_opened}
 use Rattle.codegen_follows.proofs.Valued.{Goes}
 use Rattle.codegen_follows.proofs.Follows.{Held, Sitting, Back, Rest, lands, map_reached, end_sits, inner_same, repeats_goes}
 use Rattle.codegen_steps.proofs.Outers.{test_same}
-use Rattle.codegen_steps.proofs.Simples.{DeclaresNone, simple_same}
+use Rattle.codegen_steps.proofs.Simples.{simple_same}
 
 no_prints : (code : Code) (first n : ℕ) (table : PrintTable) → slice_get [] n ≡ Some table → slice_get code.prints (first + n) ≡ Some table
 no_prints code first n table e = absurd cc
@@ -87,10 +87,11 @@ module _ (file : File) (elements : List Element) (all : AllWide (globals file).s
   clauses_loop : (view : View) (l : Around) (header : Made) (condition : Option Expression) (post : Option Simple) (body : Statements) (first second third : ℕ) (m : ℕ) (mid : Option ℕ) (checked : Scope) → let v : View = record { site = past (inside view.site) header; begins = (opened view).begins; checked = checked } in Fine file elements all code result f v
       → IfSome condition (λ c. Free (TestHas (globals file) checked first c)) → Free (StatementsHave (within file elements all code result f true true) (scope_entered checked) second body)
       → IfSome post (λ s. Free (SimpleHas (globals file) (scope_entered (behind_body file elements all code result f v body).checked) third s))
+      → AllMake file elements all code result f body → IfSome post (λ s. SimpleMakes file elements all code result f s)
       → IsOn file elements all code result f l (loop (test_plan (globals file) elements header.layout condition) (made_body file elements all code result f v body).plan (post_made file elements all code result f v body post).plan) m mid
       → Prints code view.site.prints (header.prints ++ ((made_body file elements all code result f v body).prints ++ (post_made file elements all code result f v body post).prints)) → (post_made file elements all code result f v body post).layout.scope.words ≤ length f.locals
       → Does l v condition post body m mid
-  clauses_loop view l header condition post body first second third m mid checked fine test good after on tables room =
+  clauses_loop view l header condition post body first second third m mid checked fine test good after makes post-makes on tables room =
       let v : View = record { site = past (inside view.site) header; begins = (opened view).begins; checked = checked } in
       let one = made_body file elements all code result f v body in
       let turn = post_made file elements all code result f v body post in
@@ -104,6 +105,8 @@ module _ (file : File) (elements : List Element) (all : AllWide (globals file).s
         test = test;
         good = good;
         after_good = after;
+        makes = makes;
+        post_makes = post-makes;
         on = on;
         fits = record { tables = prints_front code v.site.prints one.prints turn.prints behind-tables; room = omega (arith, more, room) };
         post_fits = record { tables = prints_back code v.site.prints one.prints turn.prints behind-tables; room = room };
@@ -125,6 +128,8 @@ module _ (file : File) (elements : List Element) (all : AllWide (globals file).s
           test = tt;
           good = λ flaw x. d.good flaw (inr x);
           after_good = tt;
+          makes = d.makes.1;
+          post_makes = tt;
           on = d.on;
           fits = record { tables = d.fits.tables; room = d.fits.room };
           post_fits = record { tables = λ n table e. no_prints code _ n table e; room = d.fits.room };
@@ -143,14 +148,16 @@ module _ (file : File) (elements : List Element) (all : AllWide (globals file).s
           test = λ flaw x. d.good flaw (inl (test_same (globals file) s.variables s.outer (length s.variables) s.words s.words condition d.first flaw x));
           good = λ flaw x. d.good flaw (inr x);
           after_good = tt;
+          makes = d.makes.1;
+          post_makes = tt;
           on = d.on;
           fits = record { tables = d.fits.tables; room = d.fits.room };
           post_fits = record { tables = λ n table e. no_prints code _ n table e; room = d.fits.room };
         }) t same r
 
-    pub clauses_first_goes : (ls : Words) (view next : View) (l : Around) (simple : Simple) (condition : Option Expression) (post : Option Simple) (body : Statements) (place : ℕ) (mid : Option ℕ) (k : List Task) → IfSome post DeclaresNone → H ls view → Doing' l view (ForClauses (Some simple) condition post) body place mid
+    pub clauses_first_goes : (ls : Words) (view next : View) (l : Around) (simple : Simple) (condition : Option Expression) (post : Option Simple) (body : Statements) (place : ℕ) (mid : Option ℕ) (k : List Task) → H ls view → Doing' l view (ForClauses (Some simple) condition post) body place mid
         → variables next ≡ variables view → next.begins ≡ view.begins → Rest' next l mid k → G (statement_next file (blocks ls view) k cs (For (ForClauses (Some simple) condition post) body)) (at place ls)
-    clauses_first_goes ls view next l simple condition post body place mid k none h d same begins r =
+    clauses_first_goes ls view next l simple condition post body place mid k h d same begins r =
         let inside' = opened view in
         let fine = fine_opened file elements all code result f view d.fine in
         let header = made_simple (globals file) elements inside'.site simple in
@@ -167,13 +174,14 @@ module _ (file : File) (elements : List Element) (all : AllWide (globals file).s
           continues = d.continues;
           fine = fine;
           good = λ flaw x. d.good flaw (inl (inl x));
+          makes = d.makes.0.0;
           on = d.on.1;
           fits = record { tables = prints_front code view.site.prints header.prints (one.prints ++ turn.prints) d.fits.tables; room = omega (arith, a, b, most) };
         } in
         let fine' = fine_behind inside' (Alone simple) d.first d.breaks d.continues fine (λ flaw x. d.good flaw (inl (inl x))) in
         let looping : (m : ℕ) → IsOn file elements all code result f l (loop (test_plan (globals file) elements header.layout condition) one.plan turn.plan) m mid → Does l v condition post body m mid = λ m on.
         clauses_loop view l header condition post body _ _ _ m mid v.checked fine' (test_good v.checked condition _ (λ flaw x. d.good flaw (inl (inr (inl x))))) (λ flaw x. d.good flaw (inr x))
-        (post_good v body post _ none (λ flaw x. d.good flaw (inl (inr (inr x))))) on d.fits.tables most in
+        (post_good v body post _ d.makes.0.2 (λ flaw x. d.good flaw (inl (inr (inr x))))) d.makes.1 d.makes.0.1 on d.fits.tables most in
         let k' : List Task = Head (Repeating condition post body) ∷ (EndBlock ∷ k) in (
           at place ls,
           here,
@@ -190,9 +198,9 @@ module _ (file : File) (elements : List Element) (all : AllWide (globals file).s
               )),
         )
 
-    pub clauses_bare_goes : (ls : Words) (view next : View) (l : Around) (condition : Option Expression) (post : Option Simple) (body : Statements) (place : ℕ) (mid : Option ℕ) (k : List Task) → IfSome post DeclaresNone → H ls view → Doing' l view (ForClauses None condition post) body place mid
+    pub clauses_bare_goes : (ls : Words) (view next : View) (l : Around) (condition : Option Expression) (post : Option Simple) (body : Statements) (place : ℕ) (mid : Option ℕ) (k : List Task) → H ls view → Doing' l view (ForClauses None condition post) body place mid
         → variables next ≡ variables view → next.begins ≡ view.begins → Rest' next l mid k → G (statement_next file (blocks ls view) k cs (For (ForClauses None condition post) body)) (at place ls)
-    clauses_bare_goes ls view next l condition post body place mid k none h d same begins r =
+    clauses_bare_goes ls view next l condition post body place mid k h d same begins r =
         let fine = fine_opened file elements all code result f view d.fine in
         let header = nothing (inside view.site) in
         let v : View = record { site = past (inside view.site) header; begins = length (variables view) ∷ view.begins; checked = scope_entered view.checked } in
@@ -201,7 +209,7 @@ module _ (file : File) (elements : List Element) (all : AllWide (globals file).s
         let turn = post_made file elements all code result f v body post in
         let looping : (m : ℕ) → IsOn file elements all code result f l (loop (test_plan (globals file) elements header.layout condition) one.plan turn.plan) m mid → Does l v condition post body m mid = λ m on.
         clauses_loop view l header condition post body _ _ _ m mid v.checked fine' (test_good v.checked condition _ (λ flaw x. d.good flaw (inl (inr (inl x))))) (λ flaw x. d.good flaw (inr x))
-        (post_good v body post _ none (λ flaw x. d.good flaw (inl (inr (inr x))))) on d.fits.tables d.fits.room in
+        (post_good v body post _ d.makes.0.2 (λ flaw x. d.good flaw (inl (inr (inr x))))) d.makes.1 d.makes.0.1 on d.fits.tables d.fits.room in
         let k' : List Task = Head (Repeating condition post body) ∷ (EndBlock ∷ k) in (
           at place ls,
           here,

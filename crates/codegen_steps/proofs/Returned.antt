@@ -35,7 +35,7 @@ use Rattle.codegen_follows.proofs.Stands.{Around, View, variables, Together, Lea
 use Rattle.codegen_follows.proofs.Begun.{FineBehind}
 use Rattle.codegen_follows.proofs.Valued.{Goes, before}
 use Rattle.codegen_follows.proofs.Follows.{Sitting}
-use Rattle.codegen_steps.proofs.Taken.{taken_lands}
+use Rattle.codegen_steps.proofs.Taken.{single_becomes, taken_lands}
 
 like_none : (zs : List Word) → words_like zs [] ≡ zs
 like_none [] = refl
@@ -115,8 +115,10 @@ module _ (file : File) (elements : List Element) (all : AllWide (globals file).s
           let b = seen (globals file).structs w.ls (variables w.view) w.view.begins in
           let x = words_like (zero_words (globals file).structs (known kind)) v in
           subst (λ (s : Words). R (used b w.rest w.purpose (x ∷ []) ∷ cs) (spots code w.g w.f w.there ds w.place w.ls s)) (append-nil x)
+          (subst (λ (a : Frame). R (a ∷ cs) (spots code w.g w.f w.there ds w.place w.ls (x ++ [])))
+          (single_becomes file elements all typed known_fields code w.result w.g w.f w.there cs ds R Asked panics (fine_behind w.result w.f) (sitting w.result w.g w.f w.there w.gives cs ds wait) back b w.view w.next w.l (known kind) (x ∷ []) w.purpose w.place w.mid w.rest w.taking)
           (taken_lands file elements all typed known_fields code w.result w.g w.f w.there cs ds R Asked panics (fine_behind w.result w.f) (sitting w.result w.g w.f w.there w.gives cs ds wait) back w.ls w.view w.next w.l (known kind ∷ []) (x ∷ []) w.purpose w.place w.mid w.rest
-          (record { holding = w.holding; full = w.full }) (made_like (globals file).structs (known kind) v, tt) w.taking w.together (w.to, w.lead, w.sits))
+          (record { holding = w.holding; full = w.full }) (made_like (globals file).structs (known kind) v, tt) w.taking w.together (w.to, w.lead, w.sits)))
 
       module _ (result : Yield) (g : ℕ) (f : CodeFunction) (there : slice_get code.functions g ≡ Some f) (gives : Gives result f) where
         abbrev G : CodeFrames → Next Frames → CodeFrames → Type 0

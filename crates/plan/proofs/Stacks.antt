@@ -389,7 +389,7 @@ module _ (code : Code) (f : Function) where
           let by_end : IsTrue (reaches_end ways) → slice_get T mid ≡ Some [] = λ r. left (or_left _ _ r) in
           let at_ways = entry (in_select a) t.0 ways [] t.5 (place + 1) mid refl s.1 by_end in (
             select_good place q ks (make (starts (place + 1) ways)) tab.0 t.2 t.0 at_ways
-                (λ k to at. let w = entered (in_select a) t.0 ways [] t.5 (place + 1) mid refl s.1 by_end k to (sym (ap (λ (l : List ℕ). slice_get l k) (t.3 (place + 1))) ∙ at) in (w.2 ∙ ap Some (t.4 k w.0 w.1), omega (arith, w.3))),
+                (λ k to at. let w = entered (in_select a) t.0 ways [] t.5 (place + 1) mid refl s.1 by_end k to (sym (ap (λ (l : List ℕ). slice_get l k) (t.3 (place + 1)).0) ∙ at) in (w.2 ∙ ap Some (t.4 k w.0 w.1), omega (arith, w.3))),
             covers (in_select a) t.0 ways [] t.5 mid again (place + 1) mid tab.1 refl s.1 by_end
                 (record { by_break = λ l b. (omega arith, left (or_right _ _ b)); by_continue = λ l c. let h = loop.by_continue l c in (omega (arith, h.0, z), h.1) }),
           )

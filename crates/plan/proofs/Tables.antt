@@ -25,6 +25,7 @@ Numbered n Stop = Unit {0}
 Numbered n Leave = Unit {0}
 Numbered n Again = Unit {0}
 
+-- how many tables a plan has
 pub tables_size : (p : Plan) (place : ℕ) → length (tables place p) ≡ table_count p
 tables_size Skip place = omega arith
 tables_size (Do i rest) place = tables_size rest (place + 1)

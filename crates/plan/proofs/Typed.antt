@@ -1,7 +1,7 @@
 -- Plans whose instructions fit the kinds on the operand stack.
 use Rattle.std.proofs.Common.{◌≡◌, ℕ, ◌+◌, ◌<◌, ◌≤◌, Bool, true, false, ◌&&◌, ◌||◌, List, [], ◌∷◌, ◌++◌, length, Some, IsTrue, refl, sym, ap, ◌∙◌, subst, arith, slice_get, length-append, ⊎_elim}
 use Rattle.std.specs.Bool.{OnTrue}
-use Rattle.std.proofs.lemmas.Bool.{false≢true, and_parts, or_cases, OnTrue_at}
+use Rattle.std.proofs.lemmas.Bool.{false≢true, and_parts, or_cases, OnTrue_at, OnTrue_from}
 use Rattle.std.proofs.lemmas.List.{append-nil}
 use Rattle.bytecode.specs.declared.instr.WordKind.{WordKind}
 use Rattle.bytecode.specs.declared.instr.WordKind.TheVariants as kinds
@@ -9,9 +9,10 @@ use Rattle.bytecode.specs.declared.instr.Instr.{Instr}
 use Rattle.bytecode.specs.declared.instr.Instr.TheVariants as instrs
 use Rattle.bytecode.specs.Code.{Function, Code}
 use Rattle.bytecode.specs.Effects.{below, top_of, wants, gives, leaves, count, Enough, Meets, Fits, afterwards, targets}
-use Rattle.bytecode.specs.Rules.{ways, Named, Inside, Directed}
+use Rattle.bytecode.specs.Rules.{ways, Named, Inside, Directed, HasShapes}
 use Rattle.plan.specs.Plan.{Plan, Skip, Do, Seq, IfElse, IfThen, Cycle, Endless, Choose, Way, LastWay, Stop, Leave, Again, reaches_end, has_break, has_continue, turns, starts, entries}
 use Rattle.plan.proofs.Steps.{below_of, top_of_is}
+use Rattle.plan.proofs.Tables.{Makes}
 
 -- ---- instructions that lead to the next one alone
 
@@ -72,7 +73,7 @@ module _ (code : Code) (f : Function) where
       (mid : List WordKind) × (ks ≡ []) × (out ≡ []) × Typed a [] test (mid ++ kinds.Bool ∷ []) × Typed in_loop mid body [] × OnTrue (turns body) (Typed a [] post []) × Typed a mid exit []
   Typed a ks (Endless body post) out = (ks ≡ []) × (out ≡ []) × Typed in_loop [] body [] × OnTrue (turns body) (Typed a [] post [])
   Typed a ks (Choose q make ways) out =
-      (first : List WordKind) × (out ≡ []) × Fits code f (instrs.Select q) ks × ((place : ℕ) → targets (make (starts place ways)) ≡ starts place ways)
+      (first : List WordKind) × (out ≡ []) × Fits code f (instrs.Select q) ks × ((place : ℕ) → (targets (make (starts place ways)) ≡ starts place ways) × HasShapes code (make (starts place ways)))
       × ((k : ℕ) (js : List WordKind) → slice_get (entries ways) k ≡ Some js → js ≡ afterwards code f (instrs.Select q) k ks) × Typed (in_select a) first ways []
   Typed a ks (Way js body others) out = (next : List WordKind) × (ks ≡ js) × Typed a js body out × Typed a next others out
   Typed a ks (LastWay js body) out = (ks ≡ js) × Typed a js body out
@@ -137,3 +138,24 @@ module _ (code : Code) (f : Function) where
   continue_allowed a ks Stop out t e = absurd (false≢true e)
   continue_allowed a ks Leave out t e = absurd (false≢true e)
   continue_allowed a ks Again out t e = t.0
+
+  -- ---- the shapes that the tables of its selects name are there
+
+  abbrev Shaped : Plan → Type 0
+  Shaped p = Makes (HasShapes code) p
+
+  pub typed_makes : (a : Allowed) (ks : List WordKind) (p : Plan) (out : List WordKind) → Typed a ks p out → Shaped p
+  typed_makes a ks Skip out t = tt
+  typed_makes a ks (Do i rest) out t = typed_makes a (afterwards code f i 0 ks) rest out t.3
+  typed_makes a ks (Seq first rest) out t = (typed_makes a ks first t.0 t.1, OnTrue_from (reaches_end first) (Shaped rest) (λ e. typed_makes a t.0 rest out (OnTrue_at e t.2)))
+  typed_makes a ks (IfElse so other) out t = (typed_makes a t.0 so out t.2, typed_makes a t.0 other out t.3)
+  typed_makes a ks (IfThen so) out t = typed_makes a out so out t.1
+  typed_makes a ks (Cycle test body post exit) out t =
+      (typed_makes a [] test (t.0 ++ kinds.Bool ∷ []) t.3, typed_makes in_loop t.0 body [] t.4, OnTrue_from (turns body) (Shaped post) (λ e. typed_makes a [] post [] (OnTrue_at e t.5)), typed_makes a t.0 exit [] t.6)
+  typed_makes a ks (Endless body post) out t = (typed_makes in_loop [] body [] t.2, OnTrue_from (turns body) (Shaped post) (λ e. typed_makes a [] post [] (OnTrue_at e t.3)))
+  typed_makes a ks (Choose q make ways) out t = (λ place. (t.3 place).1, typed_makes (in_select a) t.0 ways [] t.5)
+  typed_makes a ks (Way js body others) out t = (typed_makes a js body out t.2, typed_makes a t.0 others out t.3)
+  typed_makes a ks (LastWay js body) out t = typed_makes a js body out t.1
+  typed_makes a ks Stop out t = tt
+  typed_makes a ks Leave out t = tt
+  typed_makes a ks Again out t = tt

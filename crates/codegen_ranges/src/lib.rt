@@ -1,0 +1,2 @@
+//! What the generated code does for loops over channels. It has lemmas alone.
+#![tactic(auto)]
