@@ -1,7 +1,7 @@
 -- What is emitted of a statement, and where control goes from it.
 use Rattle.std.specs.Prelude.{◌≡◌, ℕ, Bool, not, true, false, ◌||◌, List, [], ◌∷◌, ◌++◌, length}
 use Rattle.bytecode.specs.declared.instr.Instr.TheVariants as instrs
-use Rattle.plan.specs.Plan.{Plan, reaches_end, has_break, has_continue, tables}
+use Rattle.plan.specs.Plan.{Plan, reaches_end, has_break, has_continue, flat, tables}
 use Rattle.type_table.specs.declared.table.TypeTable.{TypeTable}
 use Rattle.type_table.specs.Visible.{Keeps}
 use Rattle.codegen_base.specs.Generated.{Made, Site}
@@ -72,3 +72,10 @@ pub record Jumps (leaves : Bool) (old new : Emitter) (flow : Control) : Type 0 w
   pub prints : new.prints.items ≡ old.prints.items
   pub selects : new.selects.items ≡ old.selects.items
   pub layout : new.layout ≡ old.layout
+
+-- what was made is emitted, and no jump of it waits
+pub record Finishes (table : TypeTable) (old new : Emitter) (made : Made) : Type 0 where
+  pub code : new.code.items ≡ old.code.items ++ flat 0 0 (length old.code.items) made.plan
+  pub prints : new.prints.items ≡ old.prints.items ++ made.prints
+  pub selects : new.selects.items ≡ old.selects.items ++ tables (length old.code.items) made.plan
+  pub layout : layout_of table new.layout ≡ made.layout
