@@ -54,6 +54,9 @@ module _ (table : TypeTable) where
       subst (λ f. Emits table now now f (nothing (site_of table now))) (sym is)
       (emits_plain now now through Skip (record { within = tt; is = λ leave again. sym (append-nil now.code.items) }) (record { ends = refl; breaks = refl; continues = refl }) (λ place. refl) refl refl refl)
 
+  pub emits_none : (now : Emitter) → Emits table now now through (nothing (site_of table now))
+  emits_none now = emits_nothing now through refl
+
   -- ---- one behind the other
 
   pub keeps_both : (e0 e1 e2 : Emitter) → Keeps e0.layout.visible e1.layout.visible → Keeps e1.layout.visible e2.layout.visible → Keeps e0.layout.visible e2.layout.visible

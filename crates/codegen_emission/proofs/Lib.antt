@@ -3,3 +3,11 @@ pub mod Chosen
 pub mod Emitting
 pub mod Listing
 pub mod Looping
+pub mod Behind
+pub mod Branching
+pub mod Alone
+pub mod Ending
+pub mod Blocks
+pub mod Turning
+pub mod Choosing
+pub mod Selecting

@@ -27,6 +27,10 @@ control flow = record { waits = flow.waits.items; ends = flow.reaches_end; break
 abbrev pub through : Control
 through = record { waits = []; ends = true; breaks = false; continues = false }
 
+-- nowhere
+abbrev pub never : Control
+never = record { waits = []; ends = false; breaks = false; continues = false }
+
 -- to what comes behind, or nowhere
 abbrev pub leading : Bool → Control
 leading ends = record { waits = []; ends = ends; breaks = false; continues = false }
@@ -43,6 +47,19 @@ joined first behind = record {
   breaks = first.breaks || behind.breaks;
   continues = first.continues || behind.continues;
 }
+
+-- from one of two parts
+abbrev pub either : Control → Control → Control
+either first other = record {
+  waits = first.waits ++ other.waits;
+  ends = first.ends || other.ends;
+  breaks = first.breaks || other.breaks;
+  continues = first.continues || other.continues;
+}
+
+-- from a part that may be left out
+abbrev pub may_end : Control → Control
+may_end flow = record { waits = flow.waits; ends = true; breaks = flow.breaks; continues = flow.continues }
 
 -- it goes where it goes from a plan
 pub record Flows (flow : Control) (plan : Plan) : Type 0 where

@@ -1,7 +1,7 @@
 //! Where control goes from what was emitted.
 
-ghost use Rattle.std.specs.Prelude.{◌≡◌, IfOk, OnOk};
-ghost use Rattle.codegen_emission.specs.Emitted.{control, joined, jumping, leading, through};
+ghost use Rattle.std.specs.Prelude.{◌≡◌, ◌||◌, IfOk, OnOk};
+ghost use Rattle.codegen_emission.specs.Emitted.{control, either, joined, jumping, leading, may_end, never, through};
 
 use crate::waits::Wait;
 use codegen_expression::halt::Halt;
@@ -45,6 +45,18 @@ impl Flow {
         }
     }
 
+    /// Nowhere.
+    pub fn never(alloc: Global) -> Flow
+        ensures { control result ≡ never }
+    {
+        Flow {
+            waits: Vec::new(alloc),
+            reaches_end: false,
+            has_break: false,
+            has_continue: false,
+        }
+    }
+
     /// Only to what comes behind.
     pub fn through(alloc: Global) -> Flow
         ensures { control result ≡ through }
@@ -55,6 +67,13 @@ impl Flow {
             has_break: false,
             has_continue: false,
         }
+    }
+
+    /// Whether the body of a loop comes round again, which goes there.
+    pub fn comes_round(&self) -> bool
+        ensures { result ≡ (self.now.reaches_end || self.now.has_continue) }
+    {
+        self.reaches_end || self.has_continue
     }
 }
 
@@ -69,4 +88,24 @@ pub fn join(flow: &mut Flow, mut behind: Flow) -> Result<(), Halt>
     flow.has_break |= behind.has_break;
     flow.has_continue |= behind.has_continue;
     Ok(())
+}
+
+/// There is another way beside it.
+///
+/// Errors: want of memory.
+pub fn join_way(flow: &mut Flow, mut other: Flow) -> Result<(), Halt>
+    ensures { OnOk result (control flow.new ≡ either (control flow.old) (control other)) }
+{
+    flow.waits.append(&mut other.waits)?;
+    flow.reaches_end |= other.reaches_end;
+    flow.has_break |= other.has_break;
+    flow.has_continue |= other.has_continue;
+    Ok(())
+}
+
+/// It may be left out.
+pub fn may_end(flow: &mut Flow)
+    ensures { control flow.new ≡ may_end (control flow.old) }
+{
+    flow.reaches_end = true;
 }
