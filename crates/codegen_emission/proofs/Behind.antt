@@ -76,7 +76,7 @@ module _ (table : TypeTable) where
         selects = e.selects ∙ ap (λ (l : List SelectTable). l ++ tables (length e1.code.items) rest.plan) selects
             ∙ ap (λ (l : List SelectTable). e0.selects.items ++ l) (sym (before_tables rest.plan (part rest.plan) (length e0.code.items) (length e1.code.items) before n));
         layout = e.layout;
-        kept = keeps_both e0 e1 e2 kept e.kept;
+        kept = keeps_both table e0 e1 e2 kept e.kept;
       }
 
   -- such code alone

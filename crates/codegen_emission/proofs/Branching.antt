@@ -65,7 +65,7 @@ module _ (table : TypeTable) where
         prints = b3.prints ∙ e.prints ∙ ap (λ (l : List PrintTable). l ++ so.prints) b1.prints;
         selects = b3.selects ∙ e.selects ∙ ap (λ (l : List SelectTable). l ++ tables (length e1.code.items) so.plan) b1.selects ∙ ap (λ x. e0.selects.items ++ tables x so.plan) n;
         layout = ap (layout_of table) b3.layout ∙ e.layout;
-        kept = keeps_both e0 e2 e3 (keeps_both e0 e1 e2 (beside_keeps e0 e1 b1) e.kept) (beside_keeps e2 e3 b3);
+        kept = keeps_both table e0 e2 e3 (keeps_both table e0 e1 e2 (beside_keeps e0 e1 b1) e.kept) (beside_keeps e2 e3 b3);
       })
 
   pub emits_if_else : (e0 e1 e2 e3 e4 e5 : Emitter) (f g h : Control) (so other : Made) → e1.code.items ≡ e0.code.items ++ instrs.Unless 0 ∷ [] → Beside e0 e1 → Emits table e1 e2 f so
@@ -92,7 +92,7 @@ module _ (table : TypeTable) where
         selects = b5.selects ∙ b.selects ∙ ap (λ (l : List SelectTable). l ++ t2) (b3.selects ∙ a.selects ∙ ap (λ (l : List SelectTable). l ++ t1) b1.selects) ∙ append_assoc e0.selects.items t1 t2
             ∙ ap (λ x. e0.selects.items ++ (tables x so.plan ++ t2)) n1 ∙ ap (λ x. e0.selects.items ++ (tables (length e0.code.items + 1) so.plan ++ tables x other.plan)) n3;
         layout = ap (layout_of table) b5.layout ∙ b.layout;
-        kept = keeps_both e0 e2 e5 (keeps_both e0 e1 e2 (beside_keeps e0 e1 b1) a.kept) (keeps_both e2 e4 e5 (keeps_both e2 e3 e4 (beside_keeps e2 e3 b3) b.kept) (beside_keeps e4 e5 b5));
+        kept = keeps_both table e0 e2 e5 (keeps_both table e0 e1 e2 (beside_keeps e0 e1 b1) a.kept) (keeps_both table e2 e4 e5 (keeps_both table e2 e3 e4 (beside_keeps e2 e3 b3) b.kept) (beside_keeps e4 e5 b5));
       })
 
   -- behind the test
@@ -116,12 +116,14 @@ module _ (table : TypeTable) where
         (emits_if_else e1 e2 e3 e4 e5 e6 f g h so o c2 b2 a c4 b4 (subst (λ site. Emits table e4 e5 g (make site)) other b) c6 b6 is)
 
     -- one way or two, as something stands behind `else` or not
-    pub with_other : (site : Site) (condition : Expression) (body : Statements) (otherwise : Otherwise) → is_other otherwise ≡ true → made_two_ways globals elements result site condition body otherwise ≡ made_condition globals elements result site condition body otherwise
-    with_other site condition body NoElse is = absurd cc
-    with_other site condition body (ElseBlock other) is = refl
-    with_other site condition body (ElseIf branch) is = refl
+    pub with_other : (e0 e1 : Emitter) (flow : Control) (site : Site) (condition : Expression) (body : Statements) (otherwise : Otherwise) → is_other otherwise ≡ true → Emits table e0 e1 flow (made_two_ways globals elements result site condition body otherwise)
+        → Emits table e0 e1 flow (made_condition globals elements result site condition body otherwise)
+    with_other e0 e1 flow site condition body NoElse is e = absurd cc
+    with_other e0 e1 flow site condition body (ElseBlock other) is e = e
+    with_other e0 e1 flow site condition body (ElseIf branch) is e = e
 
-    pub without_other : (site : Site) (condition : Expression) (body : Statements) (otherwise : Otherwise) → is_other otherwise ≡ false → made_one_way globals elements result site condition body ≡ made_condition globals elements result site condition body otherwise
-    without_other site condition body NoElse is = refl
-    without_other site condition body (ElseBlock other) is = absurd cc
-    without_other site condition body (ElseIf branch) is = absurd cc
+    pub without_other : (e0 e1 : Emitter) (flow : Control) (site : Site) (condition : Expression) (body : Statements) (otherwise : Otherwise) → is_other otherwise ≡ false → Emits table e0 e1 flow (made_one_way globals elements result site condition body)
+        → Emits table e0 e1 flow (made_condition globals elements result site condition body otherwise)
+    without_other e0 e1 flow site condition body NoElse is e = e
+    without_other e0 e1 flow site condition body (ElseBlock other) is e = absurd cc
+    without_other e0 e1 flow site condition body (ElseIf branch) is e = absurd cc

@@ -62,7 +62,7 @@ module _ (table : TypeTable) where
         prints = b4.prints ∙ b.prints ∙ ap (λ (l : List PrintTable). l ++ others.prints) (b2.prints ∙ a.prints) ∙ append_assoc e0.prints.items one.prints others.prints;
         selects = b4.selects ∙ b.selects ∙ ap (λ (l : List SelectTable). l ++ t2) (b2.selects ∙ a.selects) ∙ append_assoc e0.selects.items t1 t2 ∙ ap (λ x. e0.selects.items ++ (t1 ++ tables x others.plan)) n2;
         layout = ap (layout_of table) b4.layout ∙ b.layout;
-        kept = keeps_both e0 e1 e4 a.kept (keeps_both e1 e2 e4 (beside_keeps e1 e2 b2) (keeps_both e2 e3 e4 b.kept (beside_keeps e3 e4 b4)));
+        kept = keeps_both table e0 e1 e4 a.kept (keeps_both table e1 e2 e4 (beside_keeps e1 e2 b2) (keeps_both table e2 e3 e4 b.kept (beside_keeps e3 e4 b4)));
       }
 
   -- the last way
@@ -103,7 +103,7 @@ module _ (table : TypeTable) where
           prints = b4.prints ∙ w.emits.prints ∙ append-nil e2.prints.items ∙ b2.prints ∙ e.prints;
           selects = b4.selects ∙ w.emits.selects ∙ append-nil e2.selects.items ∙ b2.selects ∙ e.selects;
           layout = ap (layout_of table) b4.layout ∙ w.emits.layout ∙ ap (layout_of table) b2.layout ∙ e.layout;
-          kept = keeps_both e0 e1 e4 a.kept (keeps_both e1 e2 e4 (beside_keeps e1 e2 b2) (keeps_both e2 e3 e4 w.emits.kept (beside_keeps e3 e4 b4)));
+          kept = keeps_both table e0 e1 e4 a.kept (keeps_both table e1 e2 e4 (beside_keeps e1 e2 b2) (keeps_both table e2 e3 e4 w.emits.kept (beside_keeps e3 e4 b4)));
         }, w.begin ∙ append-nil places0 ∙ p0)
     go (Some flow) None w c = let no : true ≡ false = w.there in absurd cc
     go None (Some m) w c = let no : false ≡ true = w.there in absurd cc

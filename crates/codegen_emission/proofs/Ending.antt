@@ -1,5 +1,5 @@
 -- The ends of bodies.
-use Rattle.std.proofs.Common.{◌≡◌, List, [], ◌++◌, length, refl, sym, ap, ◌∙◌, subst}
+use Rattle.std.proofs.Common.{◌≡◌, true, false, List, [], ◌++◌, length, refl, sym, ap, ◌∙◌, subst}
 use Rattle.std.specs.Prelude.{if◌then◌else◌}
 use Rattle.syntax.specs.Tree.{Statements}
 use Rattle.bytecode.specs.Code.{PrintTable}
@@ -18,7 +18,7 @@ use Rattle.codegen_emission.specs.Waits.{filled}
 use Rattle.codegen_emission.specs.Emitted.{Control, Emits, Finishes, joined, never}
 use Rattle.codegen_emission.proofs.Emitting.{emits_both}
 use Rattle.codegen_emission.proofs.Branching.{Beside}
-use Rattle.codegen_emission.proofs.Alone.{emits_stop}
+use Rattle.codegen_emission.proofs.Straight.{emits_stop}
 
 module _ (table : TypeTable) (globals : Globals) (elements : List Element) (result : Yield) where
   abbrev pub end_made : Layout → Made

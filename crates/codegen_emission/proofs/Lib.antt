@@ -5,9 +5,10 @@ pub mod Listing
 pub mod Looping
 pub mod Behind
 pub mod Branching
-pub mod Alone
+pub mod Straight
 pub mod Ending
 pub mod Blocks
 pub mod Turning
 pub mod Choosing
 pub mod Selecting
+pub mod Ranging

@@ -53,7 +53,7 @@ module _ (table : TypeTable) where
         prints = b2.prints ∙ e.prints;
         selects = b2.selects ∙ e.selects ∙ ap (λ (l : List SelectTable). e0.selects.items ++ l) (alone_tables post.plan (length e0.code.items) before) ∙ append-nil e0.selects.items;
         layout = ap (layout_of table) b2.layout ∙ e.layout;
-        kept = keeps_both e0 e1 e2 e.kept (beside_keeps e1 e2 b2);
+        kept = keeps_both table e0 e1 e2 e.kept (beside_keeps e1 e2 b2);
       }
 
   -- the body comes round where its plan does
@@ -82,7 +82,7 @@ module _ (table : TypeTable) where
         selects = b3.selects ∙ r.selects ∙ e.selects ∙ ap (λ (l : List SelectTable). e0.selects.items ++ l) (sym (append-nil t1))
             ∙ ap (λ (l : List SelectTable). e0.selects.items ++ (t1 ++ l)) (sym (no_tables (turns body.plan) (tables (length e0.code.items + size body.plan) post.plan) (alone_tables post.plan (length e0.code.items + size body.plan) before)));
         layout = ap (layout_of table) b3.layout ∙ r.layout;
-        kept = keeps_both e0 e1 e3 e.kept (keeps_both e1 e2 e3 r.kept (beside_keeps e2 e3 b3));
+        kept = keeps_both table e0 e1 e3 e.kept (keeps_both table e1 e2 e3 r.kept (beside_keeps e2 e3 b3));
       })
 
   -- what is emitted of a loop with a test, part by part: its test, its jump, the body, what is done between its turns, and what
@@ -132,7 +132,7 @@ module _ (table : TypeTable) where
         selects = b6.selects ∙ t.beside.selects ∙ t.rounds.selects ∙ e.selects ∙ ap (λ (l : List SelectTable). l ++ t1) t.selects ∙ ap (λ (l : List SelectTable). e0.selects.items ++ l) (sym (append-nil t1)) ∙ ap (λ (l : List SelectTable). e0.selects.items ++ (t1 ++ l)) (sym none)
             ∙ ap (λ x. e0.selects.items ++ (tables x body.plan ++ t2)) body_at ∙ ap (λ (l : List SelectTable). e0.selects.items ++ (l ++ (tables (place + size test + 1) body.plan ++ t2))) (sym (alone_tables test place t.alone));
         layout = ap (layout_of table) (b6.layout ∙ t.beside.layout) ∙ t.rounds.layout;
-        kept = keeps_both e0 e2 e6 t.kept (keeps_both e2 e3 e6 e.kept (keeps_both e3 e4 e6 t.rounds.kept (keeps_both e4 e5 e6 (beside_keeps e4 e5 t.beside) (beside_keeps e5 e6 b6))));
+        kept = keeps_both table e0 e2 e6 t.kept (keeps_both table e2 e3 e6 e.kept (keeps_both table e3 e4 e6 t.rounds.kept (keeps_both table e4 e5 e6 (beside_keeps e4 e5 t.beside) (beside_keeps e5 e6 b6))));
       })
 
   module _ (globals : Globals) (elements : List Element) (result : Yield) where

@@ -111,5 +111,5 @@ module _ (table : TypeTable) where
         selects = s3 ∙ ap (λ (l : List SelectTable). slice_set l (length e0.selects.items) made) before ∙ set_at e0.selects.items held behind made (length e0.selects.items) refl ∙ ap (λ x. e0.selects.items ++ (x ∷ behind)) em
             ∙ ap (λ n. e0.selects.items ++ (make (starts n ways.plan) ∷ tables n ways.plan)) n1;
         layout = l3 ∙ e.layout;
-        kept = keeps_both e0 e1 e3 k1 (keeps_both e1 e2 e3 e.kept k3);
+        kept = keeps_both table e0 e1 e3 k1 (keeps_both table e1 e2 e3 e.kept k3);
       }

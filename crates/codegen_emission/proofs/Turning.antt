@@ -10,7 +10,7 @@ use Rattle.type_table.specs.Types.{BoolType}
 use Rattle.type_table.specs.Scopes.{Globals, Yield}
 use Rattle.type_table.specs.Visible.{Keeps}
 use Rattle.codegen_base.specs.declared.element.Element.{Element}
-use Rattle.codegen_base.specs.Layouts.{Layout, leaving}
+use Rattle.codegen_base.specs.Layouts.{Layout, entering, leaving}
 use Rattle.codegen_base.specs.Generated.{Made, Site, inside, made_all, made_of, made_post, past, tests}
 use Rattle.codegen_base.proofs.Before.{Before, Here, pushes_before}
 use Rattle.codegen_base.proofs.Plain.{simple_before}
@@ -29,7 +29,7 @@ use Rattle.codegen_emission.proofs.Looping.{emits_cycle, emits_endless}
 module _ (globals : Globals) (elements : List Element) where
   pub post_before : (header : Layout) (site : Site) (post : Option Simple) → Before Skip (made_post globals elements header site post).plan
   post_before header site None = Here Skip
-  post_before header site (Some simple) = simple_before globals elements _ site.prints simple
+  post_before header site (Some simple) = simple_before globals elements (entering site.layout) site.prints simple
 
   -- behind a block it is done in the block around it
   post_behind : (header inner : Layout) (site : Site) (post : Option Simple) → made_post globals elements (leaving header inner) site post ≡ made_post globals elements header site post
@@ -73,7 +73,7 @@ module _ (table : TypeTable) (globals : Globals) (elements : List Element) (resu
         jumps = c2;
         prints = b2.prints ∙ b1.prints;
         selects = b2.selects ∙ b1.selects;
-        kept = keeps_both e0 e1 e2 (beside_keeps e0 e1 b1) (beside_keeps e1 e2 b2);
+        kept = keeps_both table e0 e1 e2 (beside_keeps e0 e1 b1) (beside_keeps e1 e2 b2);
         within = e;
         comes = comes;
         head_is = eh;

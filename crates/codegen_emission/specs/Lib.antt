@@ -3,3 +3,4 @@ pub mod Emitted
 pub mod Turns
 pub mod Branches
 pub mod Ways
+pub mod Items

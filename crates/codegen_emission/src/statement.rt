@@ -111,8 +111,8 @@ fn emit_tested<'t, 'l, 'm, 'c, 's, 'a>(
     elements: &'l ElementList,
     result_type: Option<ValueType<'a>>,
     emitter: &'m mut Emitter<'a>,
-    condition: &'c ExpressionNode,
     body: &'a [StatementNode],
+    condition: &'c ExpressionNode,
     post: Option<&'a SimpleNode>,
 ) -> Result<Flow, Halt>
     ensures { IfOk result (λ flow. Emits table.now emitter.old emitter.new (control flow) (made_turns (globals_in table.now) elements.now (yield_of (types_of table.now) result_type.entry) (site_of table.now emitter.old) (Some (expression_of condition.now)) (body_of body.now) (option_map (λ (s : _). simple_of s.now) post.entry))) }
@@ -140,8 +140,8 @@ fn emit_turns<'t, 'l, 'm, 'c, 's, 'a>(
     elements: &'l ElementList,
     result_type: Option<ValueType<'a>>,
     emitter: &'m mut Emitter<'a>,
-    condition: Option<&'c ExpressionNode>,
     body: &'a [StatementNode],
+    condition: Option<&'c ExpressionNode>,
     post: Option<&'a SimpleNode>,
 ) -> Result<Flow, Halt>
     ensures { IfOk result (λ flow. Emits table.now emitter.old emitter.new (control flow) (made_turns (globals_in table.now) elements.now (yield_of (types_of table.now) result_type.entry) (site_of table.now emitter.old) (option_map (λ (e : _). expression_of e.now) condition.entry) (body_of body.now) (option_map (λ (s : _). simple_of s.now) post.entry))) }
@@ -154,8 +154,8 @@ fn emit_turns<'t, 'l, 'm, 'c, 's, 'a>(
                 elements,
                 result_type,
                 emitter,
-                condition,
                 body,
+                condition,
                 post,
             )
         }
@@ -171,10 +171,10 @@ fn emit_clauses<'t, 'l, 'm, 'c, 's, 'a>(
     elements: &'l ElementList,
     result_type: Option<ValueType<'a>>,
     emitter: &'m mut Emitter<'a>,
+    body: &'a [StatementNode],
     first: Option<&'a SimpleNode>,
     condition: Option<&'c ExpressionNode>,
     post: Option<&'a SimpleNode>,
-    body: &'a [StatementNode],
 ) -> Result<Flow, Halt>
     ensures { IfOk result (λ flow. Emits table.now emitter.old emitter.new (control flow) (made (globals_in table.now) elements.now (yield_of (types_of table.now) result_type.entry) (site_of table.now emitter.old) (For (ForClauses (option_map (λ (s : _). simple_of s.now) first.entry) (option_map (λ (e : _). expression_of e.now) condition.entry) (option_map (λ (s : _). simple_of s.now) post.entry)) (body_of body.now)))) }
 {
@@ -186,8 +186,8 @@ fn emit_clauses<'t, 'l, 'm, 'c, 's, 'a>(
         elements,
         result_type,
         emitter,
-        condition,
         body,
+        condition,
         post,
     )?;
     leave(&mut emitter.layout, mark);
@@ -216,8 +216,8 @@ fn emit_loop<'t, 'l, 'm, 's, 'a>(
                 elements,
                 result_type,
                 emitter,
-                None,
                 body,
+                None,
                 None,
             )
         }
@@ -228,8 +228,8 @@ fn emit_loop<'t, 'l, 'm, 's, 'a>(
                 elements,
                 result_type,
                 emitter,
-                Some(condition),
                 body,
+                Some(condition),
                 None,
             )
         }
@@ -240,10 +240,10 @@ fn emit_loop<'t, 'l, 'm, 's, 'a>(
                 elements,
                 result_type,
                 emitter,
+                body,
                 first.as_ref(),
                 condition.as_ref(),
                 post.as_ref(),
-                body,
             )
         }
         _ => Err(Halt::Flawed),
@@ -283,25 +283,26 @@ fn emit_other<'t, 'l, 'm, 's, 'a>(
 
 /// A condition with two ways.
 #[cycle(statement)]
-fn emit_two_ways<'t, 'l, 'm, 'c, 's, 'a>(
+fn emit_two_ways<'t, 'l, 'm, 's, 'a>(
     alloc: Global,
     table: &'t TypeTable<'a>,
     elements: &'l ElementList,
     result_type: Option<ValueType<'a>>,
     emitter: &'m mut Emitter<'a>,
-    condition: &'c ExpressionNode,
-    body: &'a [StatementNode],
-    otherwise: &'a ElseNode,
+    branch: &'a IfNode,
 ) -> Result<Flow, Halt>
-    ensures { IfOk result (λ flow. Emits table.now emitter.old emitter.new (control flow) (made_two_ways (globals_in table.now) elements.now (yield_of (types_of table.now) result_type.entry) (site_of table.now emitter.old) (expression_of condition.now) (body_of body.now) (otherwise_of otherwise.now))) }
+    ensures { IfOk result (λ flow. Emits table.now emitter.old emitter.new (control flow) (made_two_ways (globals_in table.now) elements.now (yield_of (types_of table.now) result_type.entry) (site_of table.now emitter.old) (expression_of branch.now.condition) (body_of branch.now.body.items) (otherwise_of branch.now.otherwise))) }
 {
     let visible = &emitter.layout.visible;
+    let condition = &branch.condition;
     push_test(alloc, table, elements, visible, condition, &mut emitter.code)?;
     let test = emitter.code.len();
     emitter.code.push(Instr::Unless(0))?;
+    let body = branch.body.as_slice();
     let mut flow = emit_block(alloc, table, elements, result_type, emitter, body)?;
     let leads = flow.reaches_end;
     let over = begin_other(test, leads, &mut emitter.code)?;
+    let otherwise = &branch.otherwise;
     let other = emit_other(alloc, table, elements, result_type, emitter, otherwise)?;
     end_other(over, leads, &mut emitter.code)?;
     join_way(&mut flow, other)?;
@@ -310,21 +311,22 @@ fn emit_two_ways<'t, 'l, 'm, 'c, 's, 'a>(
 
 /// A condition with one way.
 #[cycle(statement)]
-fn emit_one_way<'t, 'l, 'm, 'c, 's, 'a>(
+fn emit_one_way<'t, 'l, 'm, 's, 'a>(
     alloc: Global,
     table: &'t TypeTable<'a>,
     elements: &'l ElementList,
     result_type: Option<ValueType<'a>>,
     emitter: &'m mut Emitter<'a>,
-    condition: &'c ExpressionNode,
-    body: &'a [StatementNode],
+    branch: &'a IfNode,
 ) -> Result<Flow, Halt>
-    ensures { IfOk result (λ flow. Emits table.now emitter.old emitter.new (control flow) (made_one_way (globals_in table.now) elements.now (yield_of (types_of table.now) result_type.entry) (site_of table.now emitter.old) (expression_of condition.now) (body_of body.now))) }
+    ensures { IfOk result (λ flow. Emits table.now emitter.old emitter.new (control flow) (made_one_way (globals_in table.now) elements.now (yield_of (types_of table.now) result_type.entry) (site_of table.now emitter.old) (expression_of branch.now.condition) (body_of branch.now.body.items))) }
 {
     let visible = &emitter.layout.visible;
+    let condition = &branch.condition;
     push_test(alloc, table, elements, visible, condition, &mut emitter.code)?;
     let test = emitter.code.len();
     emitter.code.push(Instr::Unless(0))?;
+    let body = branch.body.as_slice();
     let mut flow = emit_block(alloc, table, elements, result_type, emitter, body)?;
     end_test(test, &mut emitter.code)?;
     may_end(&mut flow);
@@ -333,6 +335,7 @@ fn emit_one_way<'t, 'l, 'm, 'c, 's, 'a>(
 
 /// A condition, and what is done where it is true and where it is false.
 #[cycle(statement)]
+#[tactic(auto, using(crate::proofs::Branching::with_other, crate::proofs::Branching::without_other))]
 fn emit_ways<'t, 'l, 'm, 's, 'a>(
     alloc: Global,
     table: &'t TypeTable<'a>,
@@ -343,29 +346,10 @@ fn emit_ways<'t, 'l, 'm, 's, 'a>(
 ) -> Result<Flow, Halt>
     ensures { IfOk result (λ flow. Emits table.now emitter.old emitter.new (control flow) (made_condition (globals_in table.now) elements.now (yield_of (types_of table.now) result_type.entry) (site_of table.now emitter.old) (expression_of branch.now.condition) (body_of branch.now.body.items) (otherwise_of branch.now.otherwise))) }
 {
-    let condition = &branch.condition;
-    let body = branch.body.as_slice();
     if has_other(&branch.otherwise) {
-        emit_two_ways(
-            alloc,
-            table,
-            elements,
-            result_type,
-            emitter,
-            condition,
-            body,
-            &branch.otherwise,
-        )
+        emit_two_ways(alloc, table, elements, result_type, emitter, branch)
     } else {
-        emit_one_way(
-            alloc,
-            table,
-            elements,
-            result_type,
-            emitter,
-            condition,
-            body,
-        )
+        emit_one_way(alloc, table, elements, result_type, emitter, branch)
     }
 }
 

@@ -45,28 +45,28 @@ module _ (table : TypeTable) where
         (subst (λ n. Appends e0.code.items e1.code.items (simple_plan globals elements (layout_of table e0.layout) n simple)) eq code) prints selects layout kept
 
     -- variables of a type
-    pub emits_typed : (names : List (List ℕ)) (kind : ValueType) (right : Option Right) (e0 e1 : Emitter) (flow : Control) → flow ≡ through → Appends e0.code.items e1.code.items (variables_plan globals elements (layout_of table e0.layout) names kind right)
-        → e1.prints.items ≡ e0.prints.items → e1.selects.items ≡ e0.selects.items → layout_of table e1.layout ≡ declaring_each globals elements kind names (layout_of table e0.layout) → Keeps e0.layout.visible e1.layout.visible → Emits table e0 e1 flow (made_typed globals elements (site_of table e0) names kind right)
-    emits_typed names kind right e0 e1 flow is code prints selects layout kept =
-        emits_alone table e0 e1 flow (made_typed globals elements (site_of table e0) names kind right) is (variables_before globals elements (layout_of table e0.layout) names kind right) code (prints ∙ sym (append-nil e0.prints.items)) selects layout kept
+    pub emits_typed : (yields : Yield) (names : List (List ℕ)) (kind : ValueType) (right : Option Right) (e0 e1 : Emitter) (flow : Control) → flow ≡ through → Appends e0.code.items e1.code.items (variables_plan globals elements (layout_of table e0.layout) names kind right)
+        → e1.prints.items ≡ e0.prints.items → e1.selects.items ≡ e0.selects.items → layout_of table e1.layout ≡ declaring_each globals elements kind names (layout_of table e0.layout) → Keeps e0.layout.visible e1.layout.visible → Emits table e0 e1 flow (made_typed globals elements yields (site_of table e0) names kind right)
+    emits_typed yields names kind right e0 e1 flow is code prints selects layout kept =
+        emits_alone table e0 e1 flow (made_typed globals elements yields (site_of table e0) names kind right) is (variables_before globals elements (layout_of table e0.layout) names kind right) code (prints ∙ sym (append-nil e0.prints.items)) selects layout kept
 
     -- variables that take the types of what they are given
-    pub emits_untyped : (names : List (List ℕ)) (types : List ValueType) (right : Right) (e0 e1 : Emitter) (flow : Control) → flow ≡ through → Appends e0.code.items e1.code.items (defines globals elements (layout_of table e0.layout) names types right)
-        → e1.prints.items ≡ e0.prints.items → e1.selects.items ≡ e0.selects.items → layout_of table e1.layout ≡ declaring_all globals elements names types (layout_of table e0.layout) → Keeps e0.layout.visible e1.layout.visible → Emits table e0 e1 flow (made_untyped globals elements (site_of table e0) names types right)
-    emits_untyped names types right e0 e1 flow is code prints selects layout kept =
-        emits_alone table e0 e1 flow (made_untyped globals elements (site_of table e0) names types right) is (defines_before globals elements (layout_of table e0.layout) names types right) code (prints ∙ sym (append-nil e0.prints.items)) selects layout kept
+    pub emits_untyped : (yields : Yield) (names : List (List ℕ)) (types : List ValueType) (right : Right) (e0 e1 : Emitter) (flow : Control) → flow ≡ through → Appends e0.code.items e1.code.items (defines globals elements (layout_of table e0.layout) names types right)
+        → e1.prints.items ≡ e0.prints.items → e1.selects.items ≡ e0.selects.items → layout_of table e1.layout ≡ declaring_all globals elements names types (layout_of table e0.layout) → Keeps e0.layout.visible e1.layout.visible → Emits table e0 e1 flow (made_untyped globals elements yields (site_of table e0) names types right)
+    emits_untyped yields names types right e0 e1 flow is code prints selects layout kept =
+        emits_alone table e0 e1 flow (made_untyped globals elements yields (site_of table e0) names types right) is (defines_before globals elements (layout_of table e0.layout) names types right) code (prints ∙ sym (append-nil e0.prints.items)) selects layout kept
 
-    pub emits_go : (number : ℕ) (values : List Expression) (e0 e1 : Emitter) (flow : Control) → flow ≡ through → Appends e0.code.items e1.code.items (pushes_arguments globals elements (layout_of table e0.layout).scope number values (Do (instrs.Go number) Skip)) → Beside e0 e1
-        → Emits table e0 e1 flow (made_go globals elements (site_of table e0) number values)
-    emits_go number values e0 e1 flow is code beside =
+    pub emits_go : (yields : Yield) (number : ℕ) (values : List Expression) (e0 e1 : Emitter) (flow : Control) → flow ≡ through → Appends e0.code.items e1.code.items (pushes_arguments globals elements (layout_of table e0.layout).scope number values (Do (instrs.Go number) Skip)) → Beside e0 e1
+        → Emits table e0 e1 flow (made_go globals elements yields (site_of table e0) number values)
+    emits_go yields number values e0 e1 flow is code beside =
         let scope = (layout_of table e0.layout).scope in
-        emits_alone table e0 e1 flow (made_go globals elements (site_of table e0) number values) is (then_step (pushes_arguments globals elements scope number values) (instrs.Go number) (arguments_before globals elements scope number values) Skip) code
+        emits_alone table e0 e1 flow (made_go globals elements yields (site_of table e0) number values) is (then_step (pushes_arguments globals elements scope number values) (instrs.Go number) (arguments_before globals elements scope number values) Skip) code
         (beside.prints ∙ sym (append-nil e0.prints.items)) beside.selects (ap (layout_of table) beside.layout) (beside_keeps e0 e1 beside)
 
-    return_before : (result : Yield) (layout : Layout) (returned : Returned) → Before Stop (return_plan globals elements result layout returned)
-    return_before result layout NoValue = Here Stop
-    return_before result layout (ReturnedOperation operation) = one_before globals elements layout.scope operation Stop
-    return_before result layout (ReturnedValue value) = pushes_before globals elements layout.scope (result_type globals elements result) value Stop
+    return_before : (yields : Yield) (layout : Layout) (returned : Returned) → Before Stop (return_plan globals elements yields layout returned)
+    return_before yields layout NoValue = Here Stop
+    return_before yields layout (ReturnedOperation operation) = one_before globals elements layout.scope operation Stop
+    return_before yields layout (ReturnedValue value) = pushes_before globals elements layout.scope (result_type globals elements yields) value Stop
 
     pub emits_return : (result : Yield) (returned : Returned) (e0 e1 : Emitter) (flow : Control) → flow ≡ never → Appends e0.code.items e1.code.items (return_plan globals elements result (layout_of table e0.layout) returned) → Beside e0 e1
         → Emits table e0 e1 flow (made_of (return_plan globals elements result (layout_of table e0.layout) returned) [] (layout_of table e0.layout))
