@@ -1,0 +1,3 @@
+pub mod Returning
+pub mod Zeros
+pub mod Alike
