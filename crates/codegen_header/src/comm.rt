@@ -48,10 +48,11 @@ fn define_received<'a>(
     let mut spots = Vec::new(alloc);
     spots.push(name_spot(table, elements, layout, item, kind)?)?;
     declare_new(alloc, table, elements, layout, kind, item)?;
-    if let Some(sent) = sent {
-        spots.push(name_spot(table, elements, layout, sent, ValueType::Bool)?)?;
-        declare_new(alloc, table, elements, layout, ValueType::Bool, sent)?;
-    }
+    let Some(sent) = sent else {
+        return Ok(spots);
+    };
+    spots.push(name_spot(table, elements, layout, sent, ValueType::Bool)?)?;
+    declare_new(alloc, table, elements, layout, ValueType::Bool, sent)?;
     Ok(spots)
 }
 
@@ -66,6 +67,7 @@ fn drop_sent(wanted: bool, code: &mut Vec<Instr>) -> Result<(), Halt>
 }
 
 /// What was received goes to names, which are declared where they are new.
+#[tactic(auto, using(crate::proofs::Selecting::appends_defined))]
 fn emit_define<'a>(
     alloc: Global,
     table: &TypeTable<'a>,
@@ -102,13 +104,15 @@ fn received_spots<'a>(
     let visible = &layout.visible;
     let mut spots = Vec::new(alloc);
     spots.push(place_spot(table, elements, visible, item, kind)?)?;
-    if let Some(sent) = sent {
-        spots.push(place_spot(table, elements, visible, sent, ValueType::Bool)?)?;
-    }
+    let Some(sent) = sent else {
+        return Ok(spots);
+    };
+    spots.push(place_spot(table, elements, visible, sent, ValueType::Bool)?)?;
     Ok(spots)
 }
 
 /// What was received goes to places.
+#[tactic(auto, using(crate::proofs::Selecting::appends_assigned))]
 fn emit_assign<'a>(
     alloc: Global,
     table: &TypeTable<'a>,
@@ -129,6 +133,7 @@ fn emit_assign<'a>(
 }
 
 /// What was received is dropped.
+#[tactic(auto, using(crate::proofs::Selecting::appends_dropped))]
 fn emit_dropped<'a>(
     table: &TypeTable<'a>,
     elements: &ElementList,

@@ -45,6 +45,7 @@ pub struct Ranged<'a> {
 /// A channel goes to the next local.
 ///
 /// Errors: something is wrong with the channel; want of memory.
+#[tactic(auto, using(crate::proofs::Ranging::appends_keeps))]
 pub fn emit_kept<'a>(
     alloc: Global,
     table: &TypeTable<'a>,
@@ -90,6 +91,7 @@ pub fn declare_kept<'a>(
 /// Receives the next item.
 ///
 /// Errors: want of memory.
+#[tactic(auto, using(crate::proofs::Ranging::appends_receives))]
 pub fn emit_next(
     table: &TypeTable<'_>,
     elements: &ElementList,
@@ -106,6 +108,7 @@ pub fn emit_next(
 /// Drops a value of this type, where it is not wanted.
 ///
 /// Errors: want of memory.
+#[tactic(auto, using(crate::proofs::Ranging::appends_drops))]
 pub fn emit_unused(
     table: &TypeTable<'_>,
     elements: &ElementList,
@@ -119,6 +122,7 @@ pub fn emit_unused(
 }
 
 /// A value goes to its spot, and the clock ticks.
+#[tactic(auto, using(crate::proofs::Ranging::appends_stored))]
 fn emit_stored(spot: Spot, code: &mut Vec<Instr>) -> Result<(), Halt>
     ensures { OnOk result (Appends code.old.items code.new.items (stores (spot_in spot) (Do instrs.Tick Skip))) }
 {
@@ -128,6 +132,7 @@ fn emit_stored(spot: Spot, code: &mut Vec<Instr>) -> Result<(), Halt>
 }
 
 /// An item of this type goes to a name, which is declared.
+#[tactic(auto, using(crate::proofs::Ranging::appends_at))]
 fn take_name<'a>(
     alloc: Global,
     table: &TypeTable<'a>,
@@ -148,6 +153,7 @@ fn take_name<'a>(
 }
 
 /// An item of this type goes to a place.
+#[tactic(auto, using(crate::proofs::Ranging::appends_at))]
 fn take_place<'a>(
     table: &TypeTable<'a>,
     elements: &ElementList,

@@ -3,10 +3,12 @@
 ghost use Rattle.std.specs.Prelude.{◌≡◌, OnOk};
 ghost use Rattle.syntax.specs.View.{returned_of};
 ghost use Rattle.type_table.specs.Views.{kind_of, yield_of};
-ghost use Rattle.type_table.specs.Visible.{globals_in, types_of};
+ghost use Rattle.type_table.specs.Visible.{globals_in, scope_of, types_of};
 ghost use Rattle.codegen_base.specs.Generated.{result_type, return_plan};
+ghost use Rattle.codegen_expression.specs.Emission.{Puts};
 ghost use Rattle.codegen_simple.specs.Layouts.{layout_of};
 ghost use Rattle.codegen_simple.specs.Simples.{Appends};
+ghost use Rattle.codegen_header.specs.Returned.{pushes_returned};
 
 use bytecode::Instr;
 use codegen_expression::element_list::ElementList;
@@ -16,6 +18,7 @@ use codegen_operation::values::push;
 use codegen_simple::layout::Layout;
 use std::alloc::Global;
 use syntax::ReturnNode;
+use type_table::scope::Visible;
 use type_table::table::TypeTable;
 use type_table::value_type::ValueType;
 
@@ -29,9 +32,36 @@ fn result_type<'a>(kind: Option<ValueType<'a>>) -> ValueType<'a>
     }
 }
 
+/// Pushes what is returned from a function that has a result of this type, or none.
+fn push_returned(
+    alloc: Global,
+    table: &TypeTable<'_>,
+    elements: &ElementList,
+    visible: &Visible<'_>,
+    kind: Option<ValueType<'_>>,
+    returned: &ReturnNode,
+    code: &mut Vec<Instr>,
+) -> Result<(), Halt>
+    ensures { OnOk result (Puts code.old.items code.new.items (pushes_returned (globals_in table.now) elements.now (yield_of (types_of table.now) kind.entry) (scope_of table.now visible.now) (returned_of returned.now))) }
+{
+    match returned {
+        ReturnNode::Nothing => Ok(()),
+        ReturnNode::Operation(operation) => {
+            push_one(alloc, table, elements, visible, operation, code)?;
+            Ok(())
+        }
+        ReturnNode::Value(value) => {
+            let kind = result_type(kind);
+            push(alloc, table, elements, visible, kind, value, code)?;
+            Ok(())
+        }
+    }
+}
+
 /// A return from a function that has a result of this type, or none.
 ///
 /// Errors: something is wrong with what is returned; want of memory.
+#[tactic(auto, using(crate::proofs::Returning::appends_return))]
 pub fn emit_return(
     alloc: Global,
     table: &TypeTable<'_>,
@@ -44,19 +74,7 @@ pub fn emit_return(
     ensures { OnOk result (Appends code.old.items code.new.items (return_plan (globals_in table.now) elements.now (yield_of (types_of table.now) kind.entry) (layout_of table.now layout.now) (returned_of returned.now))) }
 {
     let visible = &layout.visible;
-    match returned {
-        ReturnNode::Nothing => {
-            code.push(Instr::Return)?;
-        }
-        ReturnNode::Operation(operation) => {
-            push_one(alloc, table, elements, visible, operation, code)?;
-            code.push(Instr::Return)?;
-        }
-        ReturnNode::Value(value) => {
-            let kind = result_type(kind);
-            push(alloc, table, elements, visible, kind, value, code)?;
-            code.push(Instr::Return)?;
-        }
-    }
+    push_returned(alloc, table, elements, visible, kind, returned, code)?;
+    code.push(Instr::Return)?;
     Ok(())
 }

@@ -66,6 +66,7 @@ fn push_clause(
 /// Pushes the channels of all clauses, and what is sent on them, in order.
 ///
 /// Errors: something is wrong with a channel or a value; want of memory.
+#[tactic(auto, using(crate::proofs::Selecting::puts_clause))]
 pub fn push_clauses<'t, 'l, 'y, 'c, 'm, 'a>(
     alloc: Global,
     table: &'t TypeTable<'a>,

@@ -21,6 +21,7 @@ use type_table::table::TypeTable;
 /// Another goroutine starts with a call of the function of this name.
 ///
 /// Errors: something is wrong with the call; want of memory.
+#[tactic(auto, using(crate::proofs::Starting::appends_go))]
 pub fn emit_go(
     alloc: Global,
     table: &TypeTable<'_>,
