@@ -1,6 +1,6 @@
 //! Declarations of variables ("Variable declarations" of the Go specification).
 
-ghost use Rattle.std.specs.Prelude.{◌≡◌, OnOk, IfOk, Some, length, map, option_map};
+ghost use Rattle.std.specs.Prelude.{◌≡◌, IfOk, None, OnOk, length, map, option_map};
 ghost use Rattle.syntax.specs.View.{name_of, right_of, type_of};
 ghost use Rattle.type_table.specs.Scopes.{type_in};
 ghost use Rattle.type_table.specs.Views.{kind_of};
@@ -63,6 +63,7 @@ fn push_zero_values<'t, 'l, 'n, 'm, 'a>(
 }
 
 /// Variables with these types are declared, and are zero.
+#[tactic(auto, using(crate::proofs::Zeros::appends_zeros, crate::proofs::Zeros::declared_each))]
 fn zero_as<'a>(
     alloc: Global,
     table: &TypeTable<'a>,
@@ -85,6 +86,7 @@ fn zero_as<'a>(
 }
 
 /// Variables of a type are declared, and take what a right side gives; where there is none they are zero.
+#[tactic(auto, using(crate::proofs::Zeros::appends_valued, crate::proofs::Zeros::declared_each))]
 fn emit_known<'a>(
     alloc: Global,
     table: &TypeTable<'a>,
