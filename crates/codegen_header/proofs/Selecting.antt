@@ -1,5 +1,5 @@
 -- The parts of selects.
-use Rattle.std.proofs.Common.{◌≡◌, ℕ, ◌+◌, Bool, true, false, List, [], ◌∷◌, ◌++◌, Option, Some, None, ◌∙◌, ap, sym, subst}
+use Rattle.std.proofs.Common.{◌≡◌, ℕ, ◌+◌, Bool, true, false, List, [], ◌∷◌, ◌++◌, Option, Some, None, option_map, refl, ◌∙◌, ap, sym, subst}
 use Rattle.std.specs.Option.{is_some}
 use Rattle.std.proofs.lemmas.List.{append-nil}
 use Rattle.syntax.specs.Tree.{Expression, Place, Comm, CommReceive, CommDefine, CommAssign, Statements, Clauses, NoClause, Clause}
@@ -16,6 +16,10 @@ use Rattle.codegen_expression.proofs.Emitting.{puts_alone, puts_both, puts_do}
 use Rattle.codegen_simple.specs.Simples.{Appends}
 use Rattle.codegen_header.specs.Received.{unwanted}
 use Rattle.plan.specs.Plan.{Plan, Do, Skip}
+
+pub some_mapped : {A B : Type 0} (f : A → B) (o : Option A) → is_some o ≡ is_some (option_map f o)
+some_mapped f None = refl
+some_mapped f (Some x) = refl
 
 module _ (globals : Globals) (elements : List Element) (yields : Yield) where
   -- one clause behind the other

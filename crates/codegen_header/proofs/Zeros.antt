@@ -1,9 +1,13 @@
 -- Variables of one type.
 use Rattle.std.proofs.Common.{◌≡◌, ℕ, List, [], ◌∷◌, ◌++◌, None, Some, map, refl, ap, ◌∙◌, subst}
+use Rattle.syntax.specs.declared.node.Name.{Name}
 use Rattle.syntax.specs.Tree.{Right}
+use Rattle.syntax.specs.View.{name_of}
 use Rattle.bytecode.specs.declared.instr.Instr.{Instr}
 use Rattle.type_table.specs.Types.{ValueType}
+use Rattle.type_table.specs.declared.value_type.ValueType.{ValueType as Kind}
 use Rattle.type_table.specs.Scopes.{Globals}
+use Rattle.type_table.specs.Views.{kind_of}
 use Rattle.codegen_base.specs.declared.element.Element.{Element}
 use Rattle.codegen_base.specs.Elements.{kinds_of}
 use Rattle.codegen_base.specs.Generated.{same_types, variables_plan, zero_values}
@@ -23,6 +27,11 @@ module _ (globals : Globals) (elements : List Element) where
       → Puts i1 i2 (zero_values globals elements 0 names kind) → Puts i0 i2 (zero_values globals elements 0 (name ∷ names) kind)
   puts_next_zero name names kind i0 i1 i2 zeros more =
       puts_both i0 i1 i2 (pushes_zeros (kinds_of globals.structs elements kind)) (zero_values globals elements 0 names kind) (puts_zeros (kinds_of globals.structs elements kind) i0 i1 zeros) more
+
+  -- a type, once for each name
+  pub same_kinds : (types : List (List ℕ)) (kind : Kind) (names : List Name) → map (kind_of types) (map (λ name. kind) names) ≡ same_types globals elements (map name_of names) (kind_of types kind)
+  same_kinds types kind [] = refl
+  same_kinds types kind (name ∷ names) = ap (λ l. kind_of types kind ∷ l) (same_kinds types kind names)
 
   declares_each : (names : List (List ℕ)) (kind : ValueType) (layout : Layout) → declaring_all globals elements names (same_types globals elements names kind) layout ≡ declaring_each globals elements kind names layout
   declares_each [] kind layout = refl

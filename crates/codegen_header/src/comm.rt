@@ -67,7 +67,6 @@ fn drop_sent(wanted: bool, code: &mut Vec<Instr>) -> Result<(), Halt>
 }
 
 /// What was received goes to names, which are declared where they are new.
-#[tactic(auto, using(crate::proofs::Selecting::appends_defined))]
 fn emit_define<'a>(
     alloc: Global,
     table: &TypeTable<'a>,
@@ -112,7 +111,6 @@ fn received_spots<'a>(
 }
 
 /// What was received goes to places.
-#[tactic(auto, using(crate::proofs::Selecting::appends_assigned))]
 fn emit_assign<'a>(
     alloc: Global,
     table: &TypeTable<'a>,
@@ -133,7 +131,6 @@ fn emit_assign<'a>(
 }
 
 /// What was received is dropped.
-#[tactic(auto, using(crate::proofs::Selecting::appends_dropped))]
 fn emit_dropped<'a>(
     table: &TypeTable<'a>,
     elements: &ElementList,

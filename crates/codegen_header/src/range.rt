@@ -77,14 +77,14 @@ pub fn declare_kept<'a>(
     alloc: Global,
     table: &TypeTable<'a>,
     elements: &ElementList,
-    blank: &'a Blank,
+    hidden: &'a Blank,
     layout: &mut Layout<'a>,
     kind: ValueType<'a>,
 ) -> Result<(), Halt>
     ensures after { OnOk result (layout_of table.now layout.new ≡ declaring (globals_in table.now) elements.now (kind_of (types_of table.now) kind.entry) blank (layout_of table.now layout.old)) }
     ensures kept { OnOk result (Keeps layout.old.visible layout.new.visible) }
 {
-    declare(alloc, table, elements, layout, kind, blank.name())?;
+    declare(alloc, table, elements, layout, kind, hidden.name())?;
     Ok(())
 }
 
@@ -98,7 +98,7 @@ pub fn emit_next(
     ranged: Ranged<'_>,
     code: &mut Vec<Instr>,
 ) -> Result<(), Halt>
-    ensures { (yields : Yield) (layout : OneLayout) (channel : Expression) → ranged.place ≡ layout.scope.words → carried (globals_in table.now) elements.now layout.scope channel ≡ kind_of (types_of table.now) ranged.entry.item → OnOk result (Appends code.old.items code.new.items (receives (globals_in table.now) elements.now yields layout channel)) }
+    ensures { (yields : Yield) (layout : OneLayout) (channel : Expression) → ranged.entry.place ≡ layout.scope.words → carried (globals_in table.now) elements.now layout.scope channel ≡ kind_of (types_of table.now) ranged.entry.item → OnOk result (Appends code.old.items code.new.items (receives (globals_in table.now) elements.now yields layout channel)) }
 {
     code.push(Instr::Load(ranged.place, 1))?;
     code.push(Instr::Receive(shape_of(table, elements, ranged.item)))?;
@@ -108,7 +108,6 @@ pub fn emit_next(
 /// Drops a value of this type, where it is not wanted.
 ///
 /// Errors: want of memory.
-#[tactic(auto, using(crate::proofs::Ranging::appends_drops))]
 pub fn emit_unused(
     table: &TypeTable<'_>,
     elements: &ElementList,

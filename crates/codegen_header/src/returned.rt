@@ -61,7 +61,6 @@ fn push_returned(
 /// A return from a function that has a result of this type, or none.
 ///
 /// Errors: something is wrong with what is returned; want of memory.
-#[tactic(auto, using(crate::proofs::Returning::appends_return))]
 pub fn emit_return(
     alloc: Global,
     table: &TypeTable<'_>,

@@ -1,6 +1,6 @@
 //! Selects ("Select statements" of the Go specification).
 
-ghost use Rattle.std.specs.Prelude.{◌≡◌, IfOk, OnOk, map};
+ghost use Rattle.std.specs.Prelude.{◌≡◌, ◌∷◌, [], IfOk, OnOk, map};
 ghost use Rattle.syntax.specs.View.{clause_of, clauses, comm_of};
 ghost use Rattle.type_table.specs.Scopes.{Yield};
 ghost use Rattle.type_table.specs.Visible.{globals_in};
@@ -125,8 +125,8 @@ fn table_clauses<'t, 'l, 'y, 'c, 'p, 'a>(
         return Ok(Vec::new(alloc));
     };
     let Some(comm) = &clause.comm else {
-        let made = table_clauses(alloc, table, elements, layout, all, places)?;
-        return Ok(made);
+        let others = table_clauses(alloc, table, elements, layout, all, places)?;
+        return Ok(others);
     };
     let Some((to, places)) = places.split_first() else {
         return Ok(Vec::new(alloc));
@@ -144,9 +144,9 @@ fn default_place<'c, 'p>(all: &'c [ClauseNode], places: &'p [u32]) -> Option<u32
     let Some((clause, all)) = all.split_first() else {
         return places.first().copied();
     };
-    if clause.comm.is_none() {
+    let Some(_) = &clause.comm else {
         return default_place(all, places);
-    }
+    };
     match places.split_first() {
         Some((_, places)) => default_place(all, places),
         None => None,

@@ -33,7 +33,7 @@ fn same_types<'a>(
     names: &[Name],
     kind: ValueType<'a>,
 ) -> Result<Vec<ValueType<'a>>, AllocError>
-    ensures { (types : _) (globals : _) (elements : _) → IfOk result (λ kinds. map (kind_of types) kinds.items ≡ same_types globals elements (map name_of names.now) (kind_of types kind.entry)) }
+    ensures { IfOk result (λ kinds. kinds.items ≡ map (λ (_ : _). kind.entry) names.now) }
 {
     let mut kinds = Vec::new(alloc);
     for _name in names {
@@ -43,7 +43,6 @@ fn same_types<'a>(
 }
 
 /// Pushes the zero value of a type for each name.
-#[tactic(auto, using(crate::proofs::Zeros::puts_next_zero))]
 fn push_zero_values<'t, 'l, 'n, 'm, 'a>(
     alloc: Global,
     table: &'t TypeTable<'a>,
@@ -54,7 +53,7 @@ fn push_zero_values<'t, 'l, 'n, 'm, 'a>(
 ) -> Result<(), Halt>
     ensures { OnOk result (Puts code.old.items code.new.items (zero_values (globals_in table.now) elements.now 0 (map name_of names.now) (kind_of (types_of table.now) kind.entry))) }
 {
-    let Some((_, names)) = names.split_first() else {
+    let Some((_name, names)) = names.split_first() else {
         return Ok(());
     };
     push_zeros(alloc, table, elements, kind, code)?;
@@ -86,7 +85,6 @@ fn zero_as<'a>(
 }
 
 /// Variables of a type are declared, and take what a right side gives; where there is none they are zero.
-#[tactic(auto, using(crate::proofs::Zeros::appends_valued, crate::proofs::Zeros::declared_each))]
 fn emit_known<'a>(
     alloc: Global,
     table: &TypeTable<'a>,
@@ -101,17 +99,18 @@ fn emit_known<'a>(
     ensures after { OnOk result (layout_of table.now layout.new ≡ declaring_each (globals_in table.now) elements.now (kind_of (types_of table.now) kind.entry) (map name_of names.now) (layout_of table.now layout.old)) }
     ensures kept { OnOk result (Keeps layout.old.visible layout.new.visible) }
 {
-    let kinds = same_types(alloc, names, kind)?;
-    let kinds = kinds.as_slice();
+    let same = same_types(alloc, names, kind)?;
+    let kinds = same.as_slice();
     match right {
         Some(right) => {
             define_as(alloc, table, elements, layout, names, kinds, right, code)?;
+            Ok(())
         }
         None => {
             zero_as(alloc, table, elements, layout, names, kind, kinds, code)?;
+            Ok(())
         }
     }
-    Ok(())
 }
 
 /// Variables of a type are declared, and take what a right side gives; where there is none they are zero.
