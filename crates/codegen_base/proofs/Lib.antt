@@ -19,3 +19,5 @@ pub mod Known
 pub mod Tables
 pub mod Passed
 pub mod Called
+pub mod Before
+pub mod Plain

@@ -1,15 +1,16 @@
 -- Plans with two ways, loops and selects, whose jumps wait for their targets.
-use Rattle.std.proofs.Common.{◌≡◌, ℕ, ◌+◌, ◌≤◌, ◌<◌, Bool, true, false, cond, List, [], ◌∷◌, ◌++◌, length, refl, sym, ap, ◌∙◌, subst, arith, append_assoc, length-append}
+use Rattle.std.proofs.Common.{◌≡◌, ℕ, ◌+◌, ◌<◌, Bool, true, false, cond, List, [], ◌∷◌, ◌++◌, length, refl, sym, ap, ◌∙◌, subst, arith, append_assoc, length-append}
 use Rattle.std.specs.Prelude.{slice_set}
-use Rattle.std.proofs.lemmas.List.{append-nil, length-set, set-append_left, set_at, set_comm}
+use Rattle.std.proofs.lemmas.List.{append-nil, length-set, set-append_left, set_comm}
 use Rattle.bytecode.specs.declared.instr.Instr.{Instr}
 use Rattle.bytecode.specs.declared.instr.Instr.TheVariants as instrs
 use Rattle.bytecode.specs.declared.instr.WordKind.{WordKind}
 use Rattle.bytecode.specs.Code.{SelectTable}
-use Rattle.plan.specs.Plan.{Plan, Skip, IfElse, Cycle, Endless, Choose, Way, LastWay, reaches_end, turns, jump_behind, jump_size, size, flat}
-use Rattle.plan.proofs.Places.{flat_size, jump_behind_size}
+use Rattle.plan.specs.Plan.{Plan, IfElse, Cycle, Endless, Choose, Way, LastWay, reaches_end, turns, jump_behind, jump_size, size, flat}
+use Rattle.plan.proofs.Places.{jump_behind_size}
 use Rattle.plan.proofs.Appends.{round, round_size, appends_if_else, appends_cycle, appends_endless, appends_choose, appends_way}
-use Rattle.codegen_emission.specs.Waits.{Wait, jump, filled, settled, continues, AreWithin, Makes}
+use Rattle.codegen_emission.specs.declared.waits.Wait.{Wait}
+use Rattle.codegen_emission.specs.Waits.{filled, settled, continues, AreWithin, Makes}
 use Rattle.codegen_emission.proofs.Filled.{filled_length, filled_before, filled_set, filled_both, within_wider, within_both, makes_length, behind_set}
 
 -- ---- two parts, with a jump over the second one

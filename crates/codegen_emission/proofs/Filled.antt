@@ -1,15 +1,16 @@
 -- Plans, whose jumps wait for their targets, one behind the other.
-use Rattle.std.proofs.Common.{◌≡◌, ℕ, ◌+◌, ◌≤◌, ◌<◌, Bool, true, false, cond, List, [], ◌∷◌, ◌++◌, length, refl, sym, ap, ◌∙◌, subst, arith, append_assoc, length-append}
+use Rattle.std.proofs.Common.{◌≡◌, ℕ, ◌+◌, ◌≤◌, ◌<◌, Bool, true, false, cond, List, [], ◌∷◌, ◌++◌, length, refl, sym, ap, ◌∙◌, arith, append_assoc, length-append}
 use Rattle.std.specs.Prelude.{slice_set}
 use Rattle.std.proofs.lemmas.List.{append-nil, length-set, set-append_left, set_at, set_comm}
 use Rattle.bytecode.specs.declared.instr.Instr.{Instr}
 use Rattle.bytecode.specs.declared.instr.Instr.TheVariants as instrs
-use Rattle.plan.specs.Plan.{Plan, Skip, Do, Seq, IfThen, Stop, Leave, Again, reaches_end, size, flat}
+use Rattle.plan.specs.Plan.{Plan, Skip, Seq, IfThen, Stop, Leave, Again, reaches_end, size, flat}
 use Rattle.plan.proofs.Places.{flat_size}
 use Rattle.plan.proofs.Appends.{appends_if_then}
 use Rattle.codegen_expression.specs.Emission.{Puts}
 use Rattle.codegen_expression.proofs.Emitting.{puts_alone}
-use Rattle.codegen_emission.specs.Waits.{Wait, jump, filled, AreWithin, Makes}
+use Rattle.codegen_emission.specs.declared.waits.Wait.{Wait}
+use Rattle.codegen_emission.specs.Waits.{wait_at, jump, filled, AreWithin, Makes}
 
 -- ---- jumps with targets
 
@@ -35,6 +36,11 @@ filled_set (w ∷ ws) leave again first end at code i in_range le =
 pub filled_both : (ws vs : List Wait) (leave again : ℕ) (code : List Instr) → filled (ws ++ vs) leave again code ≡ filled ws leave again (filled vs leave again code)
 filled_both [] vs leave again code = refl
 filled_both (w ∷ ws) vs leave again code = ap (λ (c : List Instr). slice_set c w.place (jump leave again w)) (filled_both ws vs leave again code)
+
+-- the last one first
+pub filled_last : (all ws : List Wait) (w : Wait) (leave again target : ℕ) (code next : List Instr) → all ≡ ws ++ w ∷ [] → target ≡ cond w.leaves leave again → next ≡ slice_set code w.place (instrs.Jump target) → filled ws leave again next ≡ filled all leave again code
+filled_last all ws w leave again target code next is to done =
+    ap (filled ws leave again) (done ∙ ap (λ t. slice_set code w.place (instrs.Jump t)) to) ∙ sym (filled_both ws (w ∷ []) leave again code) ∙ ap (λ l. filled l leave again code) (sym is)
 
 pub within_wider : (ws : List Wait) (first end first' end' : ℕ) → first' ≤ first → end ≤ end' → AreWithin first end ws → AreWithin first' end' ws
 within_wider [] first end first' end' a b in_range = tt
@@ -68,9 +74,6 @@ makes_one old new i p is same = record { within = tt; is = λ leave again. is �
 
 pub makes_stop : (old new : List Instr) → new ≡ old ++ instrs.Return ∷ [] → Makes old new [] Stop
 makes_stop old new is = makes_one old new instrs.Return Stop is (λ leave again place. refl)
-
-abbrev wait_at : ℕ → Bool → List Wait
-wait_at place leaves = record { place = place; leaves = leaves } ∷ []
 
 waits : (old new : List Instr) (leaves : Bool) (p : Plan) → new ≡ old ++ instrs.Jump 0 ∷ [] → ((leave again place : ℕ) → flat leave again place p ≡ instrs.Jump (cond leaves leave again) ∷ []) → Makes old new (wait_at (length old) leaves) p
 waits old new leaves p is same = record {

@@ -1,2 +1,14 @@
 pub mod Filled
 pub mod Chosen
+pub mod Emitting
+pub mod Listing
+pub mod Looping
+pub mod Behind
+pub mod Branching
+pub mod Straight
+pub mod Ending
+pub mod Blocks
+pub mod Turning
+pub mod Choosing
+pub mod Selecting
+pub mod Ranging

@@ -1,1 +1,6 @@
 pub mod Waits
+pub mod Emitted
+pub mod Turns
+pub mod Branches
+pub mod Ways
+pub mod Items

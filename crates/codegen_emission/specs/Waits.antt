@@ -3,11 +3,11 @@ use Rattle.std.specs.Prelude.{◌≡◌, ℕ, ◌+◌, ◌≤◌, ◌<◌, Bool,
 use Rattle.bytecode.specs.declared.instr.Instr.{Instr}
 use Rattle.bytecode.specs.declared.instr.Instr.TheVariants as instrs
 use Rattle.plan.specs.Plan.{Plan, flat}
+use Rattle.codegen_emission.specs.declared.waits.Wait.{Wait}
 
--- a jump at a place whose target is not known yet: that of a break, or of a continue
-pub record Wait : Type 0 where
-  pub place : ℕ
-  pub leaves : Bool
+-- one jump that waits
+abbrev pub wait_at : ℕ → Bool → List Wait
+wait_at place leaves = record { place = place; leaves = leaves } ∷ []
 
 -- the jump, where breaks and continues lead to these places
 abbrev pub jump : ℕ → ℕ → Wait → Instr

@@ -1,2 +1,11 @@
-//! The instructions of statements. Lemmas alone so far.
+//! The instructions of statements.
 #![tactic(auto)]
+
+pub mod alone;
+pub mod body;
+pub mod emitter;
+pub mod flow;
+pub mod statement;
+pub mod turn;
+pub mod waits;
+pub mod way;

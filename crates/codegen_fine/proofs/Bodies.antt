@@ -27,7 +27,7 @@ use Rattle.codegen_fine.proofs.Places.{housed_of}
 use Rattle.codegen_fine.proofs.Layouts.{Longer, Begins, begins_before, Room, room_entering, room_leaving}
 use Rattle.codegen_fine.proofs.Simples.{Prints, typed_still, typed_simple}
 use Rattle.codegen_fine.proofs.Conditions.{condition_fits}
-use Rattle.codegen_fine.proofs.Before.{before_tabled, pushes_before}
+use Rattle.codegen_base.proofs.Before.{before_tabled, pushes_before}
 
 -- ---- print tables
 

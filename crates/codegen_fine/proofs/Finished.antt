@@ -22,7 +22,7 @@ use Rattle.codegen_fine.proofs.Operands.{Grounds}
 use Rattle.codegen_fine.proofs.Operations.{Functions}
 use Rattle.codegen_fine.proofs.Layouts.{Room, longer_no}
 use Rattle.codegen_fine.proofs.Makes.{noted_there}
-use Rattle.codegen_fine.proofs.Before.{before_ends, zeros_before}
+use Rattle.codegen_base.proofs.Before.{before_ends, zeros_before}
 use Rattle.codegen_fine.proofs.Bodies.{Runs, IsMade, Fits, fits_first, runs_seq}
 use Rattle.codegen_fine.proofs.Returns.{IsResult}
 use Rattle.codegen_fine.proofs.Statements.{typed_statements}

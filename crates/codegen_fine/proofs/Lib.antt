@@ -22,8 +22,6 @@ pub mod Variables
 pub mod Simples
 pub mod Growing
 pub mod Conditions
-pub mod Before
-pub mod Plain
 pub mod Numbering
 pub mod Noting
 pub mod Bodies

@@ -22,8 +22,8 @@ use Rattle.codegen_base.specs.Statements.{printed_part, right_types}
 use Rattle.codegen_base.specs.Generated.{Site, Made, past, made_of, followed, ended, inside, loop, test_plan, made_any, made_simple, made_post, made_comm, item_site, with_way, comm_kinds, made_select, made_ways, made_default, within_select, unless_ended, return_plan, result_type, result_kinds, keeps, receives, takes, made_range, select_table, made, made_all, made_branch, made_otherwise, made_body}
 use Rattle.plan.specs.Plan.{Plan, Skip, Seq, IfElse, IfThen, Cycle, Choose, Stop, jump_size, size, starts, reaches_end, turns, table_count, tables}
 use Rattle.plan.proofs.Tables.{Makes, all_made}
-use Rattle.codegen_fine.proofs.Before.{Before, Here, Step, Choice, zeros_before, pushes_before, clauses_before}
-use Rattle.codegen_fine.proofs.Plain.{drops_before, then_step, arguments_before, one_before, defines_before, simple_before, variables_before, comm_plain}
+use Rattle.codegen_base.proofs.Before.{Before, Here, Step, Choice, zeros_before, pushes_before, clauses_before}
+use Rattle.codegen_base.proofs.Plain.{drops_before, then_step, arguments_before, one_before, defines_before, simple_before, variables_before, comm_plain}
 use Rattle.codegen_fine.proofs.Numbering.{takes_before}
 use Rattle.codegen_fine.proofs.Selects.{comm_count}
 

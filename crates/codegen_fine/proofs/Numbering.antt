@@ -18,8 +18,8 @@ use Rattle.codegen_base.specs.Statements.{stores, name_spot, place_spot, right_t
 use Rattle.codegen_base.specs.Generated.{Site, Made, past, made_of, followed, ended, inside, loop, tests, test_plan, made_any, made_post, made_comm, item_site, with_way, comm_kinds, made_select, made_ways, made_default, within_select, unless_ended, return_plan, result_type, result_kinds, keeps, receives, takes, made_range, select_table, made, made_all, made_branch, made_otherwise, made_body}
 use Rattle.plan.specs.Plan.{Plan, Skip, Seq, IfElse, IfThen, Cycle, Choose, Stop, reaches_end, turns, table_count}
 use Rattle.plan.proofs.Tables.{Numbered}
-use Rattle.codegen_fine.proofs.Before.{Before, Here, before_count, before_numbered, zeros_before, pushes_before, clauses_before}
-use Rattle.codegen_fine.proofs.Plain.{drops_before, stores_before, then_step, arguments_before, one_before, defines_before, simple_before, variables_before, comm_plain}
+use Rattle.codegen_base.proofs.Before.{Before, Here, before_count, before_numbered, zeros_before, pushes_before, clauses_before}
+use Rattle.codegen_base.proofs.Plain.{drops_before, stores_before, then_step, arguments_before, one_before, defines_before, simple_before, variables_before, comm_plain}
 
 -- what stands before nothing
 plain_numbered : (p : Plan) (n : ℕ) → Before Skip p → Numbered n p

@@ -31,7 +31,7 @@ use Rattle.codegen_fine.proofs.Operands.{Grounds}
 use Rattle.codegen_fine.proofs.Operations.{Functions}
 use Rattle.codegen_fine.proofs.Layouts.{Room}
 use Rattle.codegen_fine.proofs.Comms.{comm_fine}
-use Rattle.codegen_fine.proofs.Before.{before_tabled, clauses_before}
+use Rattle.codegen_base.proofs.Before.{before_tabled, clauses_before}
 use Rattle.codegen_fine.proofs.Bodies.{IsMade}
 
 abbrev pub comm_count : Clauses → ℕ

@@ -17,7 +17,7 @@ use Rattle.codegen_base.specs.Layouts.{Layout, type_of, carried}
 use Rattle.codegen_base.specs.Pushes.{pushes, pushes_own, pushes_zeros, drops, emits}
 use Rattle.codegen_base.specs.Statements.{Spot, Dropped, Local, stores, stores_all, singles, last_counts, assigns, pushes_parts, pushes_arguments, pushes_size, pushes_received, pushes_operation, pushes_one, pushes_right, loads_spot, spot_of, result_words, defines, name_spots, name_types, place_spots, taken_types, right_types, simple_plan}
 use Rattle.plan.specs.Plan.{Plan, Skip, Do}
-use Rattle.codegen_fine.proofs.Before.{Before, Here, Step, before_on, Stands, zeros_before, operates_before, emits_before, pushes_before, pushes_all_before}
+use Rattle.codegen_base.proofs.Before.{Before, Here, Step, before_on, Stands, zeros_before, operates_before, emits_before, pushes_before, pushes_all_before}
 
 -- ---- stores
 

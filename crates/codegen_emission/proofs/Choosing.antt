@@ -1,0 +1,109 @@
+-- The ways of selects that are emitted.
+use Rattle.std.proofs.Common.{◌≡◌, ℕ, ◌+◌, Bool, true, false, cond, ◌||◌, List, [], ◌∷◌, ◌++◌, length, take, Option, Some, None, refl, sym, ap, ◌∙◌, subst, arith, append_assoc, length-append}
+use Rattle.std.specs.Prelude.{slice_set}
+use Rattle.std.specs.Option.{is_some}
+use Rattle.std.proofs.Math.Seq.{take-length}
+use Rattle.std.proofs.lemmas.List.{append-nil, length-set, set_at, set-append_left, take-append-le}
+use Rattle.bytecode.specs.declared.instr.Instr.{Instr}
+use Rattle.bytecode.specs.declared.instr.Instr.TheVariants as instrs
+use Rattle.bytecode.specs.declared.instr.WordKind.{WordKind}
+use Rattle.bytecode.specs.Code.{PrintTable, SelectTable}
+use Rattle.plan.specs.Plan.{Plan, Choose, Way, LastWay, reaches_end, has_break, has_continue, size, jump_size, starts, tables}
+use Rattle.plan.proofs.Lists.{length_if}
+use Rattle.type_table.specs.declared.table.TypeTable.{TypeTable}
+use Rattle.type_table.specs.Visible.{Keeps}
+use Rattle.type_table.specs.Scopes.{Globals, Yield}
+use Rattle.codegen_base.specs.declared.element.Element.{Element}
+use Rattle.codegen_base.specs.Generated.{Made, Site, made_of, nothing, past, with_way}
+use Rattle.codegen_simple.specs.Layouts.{layout_of}
+use Rattle.codegen_emission.specs.declared.flow.Flow.{Flow}
+use Rattle.codegen_emission.specs.declared.waits.Wait.{Wait}
+use Rattle.codegen_emission.specs.declared.emitter.Emitter.{Emitter}
+use Rattle.codegen_emission.specs.Waits.{Makes, settled}
+use Rattle.codegen_emission.specs.Emitted.{Control, Emits, control, either, site_of, through}
+use Rattle.codegen_emission.specs.Ways.{Ways, any_control, behind_select, or_nothing, with_others}
+use Rattle.codegen_emission.proofs.Filled.{makes_length}
+use Rattle.codegen_emission.proofs.Chosen.{makes_choose, makes_ended_way, makes_last_way, makes_way}
+use Rattle.codegen_emission.proofs.Emitting.{emits_none, keeps_both, site_past}
+use Rattle.codegen_emission.proofs.Branching.{Beside, beside_keeps, same_site}
+
+-- whether a way leads on or not
+makes_any_way : (leads : Bool) (ks : List WordKind) (i0 i1 i2 i3 i4 : List Instr) (ws vs : List Wait) (body others : Plan) → reaches_end body ≡ leads → Makes i0 i1 ws body → i2 ≡ i1 ++ cond leads (instrs.Jump 0 ∷ []) [] → Makes i2 i3 vs others
+    → i4 ≡ cond leads (slice_set i3 (length i1) (instrs.Jump (length i3))) i3 → Makes i0 i4 (ws ++ vs) (Way ks body others)
+makes_any_way true ks i0 i1 i2 i3 i4 ws vs body others on m e2 o e4 = makes_way ks i0 i1 i2 i3 i4 ws vs body others (length i3) on m e2 o refl e4
+makes_any_way false ks i0 i1 i2 i3 i4 ws vs body others off m e2 o e4 =
+    let behind = subst (λ c. Makes c i3 vs others) (e2 ∙ append-nil i1) o in
+    subst (λ c. Makes i0 c (ws ++ vs) (Way ks body others)) (sym e4) (makes_ended_way ks i0 i1 i3 ws vs body others off m behind)
+
+module _ (table : TypeTable) where
+  -- where the ways behind it begin
+  pub way_place : (e0 e1 e2 : Emitter) (f : Control) (one : Made) → Emits table e0 e1 f one → e2.code.items ≡ e1.code.items ++ cond f.ends (instrs.Jump 0 ∷ []) [] → length e2.code.items ≡ length e0.code.items + size one.plan + jump_size one.plan
+  way_place e0 e1 e2 f one a c2 =
+      let over = cond f.ends (instrs.Jump 0 ∷ []) [] in
+      let n1 = makes_length e0.code.items e1.code.items f.waits one.plan a.code in
+      let one_more : length over ≡ jump_size one.plan = length_if f.ends (instrs.Jump 0 ∷ []) 1 refl ∙ ap (λ b. cond b 1 0) a.flows.ends in
+      let n2 = ap length c2 ∙ length-append e1.code.items over in
+      omega (arith, n1, n2, one_more)
+
+  -- a way with others behind it
+  pub emits_way : (ks : List WordKind) (e0 e1 e2 e3 e4 : Emitter) (f g : Control) (one others : Made) → Emits table e0 e1 f one → e2.code.items ≡ e1.code.items ++ cond f.ends (instrs.Jump 0 ∷ []) [] → Beside e1 e2 → Emits table e2 e3 g others
+      → e4.code.items ≡ cond f.ends (slice_set e3.code.items (length e1.code.items) (instrs.Jump (length e3.code.items))) e3.code.items → Beside e3 e4 → Emits table e0 e4 (either f g) (made_of (Way ks one.plan others.plan) (one.prints ++ others.prints) others.layout)
+  emits_way ks e0 e1 e2 e3 e4 f g one others a c2 b2 b c4 b4 =
+      let n2 = way_place e0 e1 e2 f one a c2 in
+      let t1 = tables (length e0.code.items) one.plan in
+      let t2 = tables (length e2.code.items) others.plan in
+      record {
+        code = makes_any_way f.ends ks e0.code.items e1.code.items e2.code.items e3.code.items e4.code.items f.waits g.waits one.plan others.plan (sym a.flows.ends) a.code c2 b.code c4;
+        flows = record {
+          ends = ap (λ x. x || g.ends) a.flows.ends ∙ ap (λ x. reaches_end one.plan || x) b.flows.ends;
+          breaks = ap (λ x. x || g.breaks) a.flows.breaks ∙ ap (λ x. has_break one.plan || x) b.flows.breaks;
+          continues = ap (λ x. x || g.continues) a.flows.continues ∙ ap (λ x. has_continue one.plan || x) b.flows.continues;
+        };
+        prints = b4.prints ∙ b.prints ∙ ap (λ (l : List PrintTable). l ++ others.prints) (b2.prints ∙ a.prints) ∙ append_assoc e0.prints.items one.prints others.prints;
+        selects = b4.selects ∙ b.selects ∙ ap (λ (l : List SelectTable). l ++ t2) (b2.selects ∙ a.selects) ∙ append_assoc e0.selects.items t1 t2 ∙ ap (λ x. e0.selects.items ++ (t1 ++ tables x others.plan)) n2;
+        layout = ap (layout_of table) b4.layout ∙ b.layout;
+        kept = keeps_both table e0 e1 e4 a.kept (keeps_both table e1 e2 e4 (beside_keeps e1 e2 b2) (keeps_both table e2 e3 e4 b.kept (beside_keeps e3 e4 b4)));
+      }
+
+  -- the last way
+  pub emits_last : (ks : List WordKind) (e0 e1 : Emitter) (f : Control) (one : Made) → Emits table e0 e1 f one → Emits table e0 e1 f (made_of (LastWay ks one.plan) one.prints one.layout)
+  emits_last ks e0 e1 f one e = record {
+    code = makes_last_way ks e0.code.items e1.code.items f.waits one.plan e.code;
+    flows = record { ends = e.flows.ends; breaks = e.flows.breaks; continues = e.flows.continues };
+    prints = e.prints;
+    selects = e.selects;
+    layout = e.layout;
+    kept = e.kept;
+  }
+
+  -- a way, and those behind it, if there are any: where there are none the jump over them is taken back
+  pub one_more_way : (ks : List WordKind) (make : Site → Option Made) (e0 e1 e2 e3 e4 : Emitter) (f h : Control) (one : Made) (others : Option Flow) (noted places0 places : List ℕ) → Emits table e0 e1 f one → e2.code.items ≡ e1.code.items ++ cond f.ends (instrs.Jump 0 ∷ []) [] → Beside e1 e2
+      → places0 ≡ noted ++ length e0.code.items ∷ [] → Ways table e2 e3 places0 places others (make (site_of table e2))
+      → e4.code.items ≡ cond (is_some others) (cond f.ends (slice_set e3.code.items (length e1.code.items) (instrs.Jump (length e3.code.items))) e3.code.items) (take (length e1.code.items) e3.code.items) → Beside e3 e4 → h ≡ with_others f others
+      → Emits table e0 e4 h (with_way ks one (make (past (site_of table e0) one))) × (places ≡ noted ++ starts (length e0.code.items) (with_way ks one (make (past (site_of table e0) one))).plan)
+  one_more_way ks make e0 e1 e2 e3 e4 f h one others noted places0 places a c2 b2 p0 w c4 b4 is =
+      let same : site_of table e2 ≡ past (site_of table e0) one = same_site table e1 e2 b2 ∙ site_past table e0 e1 f one a in
+      subst (λ s. Emits table e0 e4 h (with_way ks one (make s)) × (places ≡ noted ++ starts (length e0.code.items) (with_way ks one (make s)).plan)) same
+      (subst (λ x. Emits table e0 e4 x (with_way ks one (make (site_of table e2))) × (places ≡ noted ++ starts (length e0.code.items) (with_way ks one (make (site_of table e2))).plan)) (sym is) (go others (make (site_of table e2)) w c4)) where
+    go : (flow : Option Flow) (made : Option Made) → Ways table e2 e3 places0 places flow made
+        → e4.code.items ≡ cond (is_some flow) (cond f.ends (slice_set e3.code.items (length e1.code.items) (instrs.Jump (length e3.code.items))) e3.code.items) (take (length e1.code.items) e3.code.items)
+        → Emits table e0 e4 (with_others f flow) (with_way ks one made) × (places ≡ noted ++ starts (length e0.code.items) (with_way ks one made).plan)
+    go (Some flow) (Some m) w c =
+        let start = length e0.code.items in
+        (emits_way ks e0 e1 e2 e3 e4 f (control flow) one m a c2 b2 w.emits c b4,
+        w.begin ∙ ap (λ (l : List ℕ). l ++ starts (length e2.code.items) m.plan) p0 ∙ append_assoc noted (start ∷ []) (starts (length e2.code.items) m.plan) ∙ ap (λ n. noted ++ start ∷ starts n m.plan) (way_place e0 e1 e2 f one a c2))
+    go None None w c =
+        let e = emits_last ks e0 e1 f one a in
+        let over = cond f.ends (instrs.Jump 0 ∷ []) [] in
+        let held : e3.code.items ≡ e1.code.items ++ over = w.emits.code.is 0 0 ∙ append-nil e2.code.items ∙ c2 in
+        let back : e4.code.items ≡ e1.code.items = c ∙ ap (take (length e1.code.items)) held ∙ take-append-le (length e1.code.items) e1.code.items over (omega arith) ∙ take-length e1.code.items in
+        (record {
+          code = subst (λ x. Makes e0.code.items x f.waits (LastWay ks one.plan)) (sym back) e.code;
+          flows = e.flows;
+          prints = b4.prints ∙ w.emits.prints ∙ append-nil e2.prints.items ∙ b2.prints ∙ e.prints;
+          selects = b4.selects ∙ w.emits.selects ∙ append-nil e2.selects.items ∙ b2.selects ∙ e.selects;
+          layout = ap (layout_of table) b4.layout ∙ w.emits.layout ∙ ap (layout_of table) b2.layout ∙ e.layout;
+          kept = keeps_both table e0 e1 e4 a.kept (keeps_both table e1 e2 e4 (beside_keeps e1 e2 b2) (keeps_both table e2 e3 e4 w.emits.kept (beside_keeps e3 e4 b4)));
+        }, w.begin ∙ append-nil places0 ∙ p0)
+    go (Some flow) None w c = let no : true ≡ false = w.there in absurd cc
+    go None (Some m) w c = let no : false ≡ true = w.there in absurd cc

@@ -1,0 +1,115 @@
+-- Selects that are emitted.
+use Rattle.std.proofs.Common.{◌≡◌, ℕ, ◌+◌, Bool, true, false, cond, ◌||◌, List, [], ◌∷◌, ◌++◌, length, Option, Some, None, refl, sym, ap, ◌∙◌, subst, arith, append_assoc, length-append}
+use Rattle.std.specs.Prelude.{slice_set, option_map}
+use Rattle.std.specs.Result.{result_ok}
+use Rattle.std.specs.Prelude.{option_and_then}
+use Rattle.std.proofs.lemmas.List.{length-set, set_at, set-append_left}
+use Rattle.syntax.specs.Tree.{Expression, Integer, Named, Parenthesized, Selection, Composite, Unary, Binary, Comm, CommSend, CommReceive, CommDefine, CommAssign, Clauses, NoClause, Clause}
+use Rattle.bytecode.specs.declared.instr.Instr.{Instr}
+use Rattle.bytecode.specs.declared.instr.Instr.TheVariants as instrs
+use Rattle.bytecode.specs.declared.table.Clause.TheVariants as clauses
+use Rattle.bytecode.specs.Code.{PrintTable, SelectTable}
+use Rattle.plan.specs.Plan.{Plan, Choose, reaches_end, has_break, starts, tables}
+use Rattle.type_table.specs.declared.table.TypeTable.{TypeTable}
+use Rattle.type_table.specs.Scopes.{Globals, Scope, Variable, Yield}
+use Rattle.type_table.specs.Visible.{Keeps}
+use Rattle.type_table.specs.Types.{ValueType, StructType}
+use Rattle.checker_base.specs.Worths.{Typed, binary_worth, named_worth, selected_worth, unary_worth, worth}
+use Rattle.checker_base.specs.Expressions.{element_of}
+use Rattle.meaning.specs.Values.{known}
+use Rattle.codegen_base.specs.declared.element.Element.{Element}
+use Rattle.codegen_base.specs.Elements.{shape_of}
+use Rattle.codegen_base.specs.Layouts.{Layout, carried}
+use Rattle.codegen_base.specs.Generated.{Made, Site, made_default, made_of, made_select, made_ways, past, select_table, table_clause, table_clauses, default_at, default_places, within_select, with_way}
+use Rattle.codegen_simple.specs.Layouts.{layout_of}
+use Rattle.codegen_emission.specs.declared.waits.Wait.{Wait}
+use Rattle.codegen_emission.specs.declared.emitter.Emitter.{Emitter}
+use Rattle.codegen_emission.specs.Waits.{settled}
+use Rattle.codegen_emission.specs.Emitted.{Control, Emits, site_of}
+use Rattle.codegen_emission.specs.Ways.{behind_select, made_way, or_nothing}
+use Rattle.codegen_emission.proofs.Chosen.{makes_choose}
+use Rattle.codegen_emission.proofs.Emitting.{keeps_both}
+
+-- ---- what the variables of a scope alone decide
+
+module _ (globals : Globals) (s t : Scope) (e : s.variables ≡ t.variables) where
+  -- the second scope's variables in the first one's place
+  abbrev with_variables : List Variable → Scope
+  with_variables vs = record { variables = vs; outer = s.outer; words = s.words }
+
+  pub same_worth : (x : Expression) → worth globals s x ≡ worth globals t x
+  same_worth (Integer value) = refl
+  same_worth (Named name) = ap (λ vs. named_worth (with_variables vs) name) e
+  same_worth (Parenthesized inner) = same_worth inner
+  same_worth (Selection of field) = ap (option_and_then (selected_worth globals field)) (same_worth of)
+  same_worth (Composite name values trailing) = ap (λ vs. worth globals (with_variables vs) (Composite name values trailing)) e
+  same_worth (Unary operator operand) = ap (option_and_then (λ x. result_ok (unary_worth operator x))) (same_worth operand)
+  same_worth (Binary operator l r) =
+      ap (option_and_then (λ x. option_and_then (λ y. result_ok (binary_worth operator x y)) (worth globals s r))) (same_worth l)
+      ∙ ap (λ o. option_and_then (λ x. option_and_then (λ y. result_ok (binary_worth operator x y)) o) (worth globals t l)) (same_worth r)
+
+module _ (globals : Globals) (elements : List Element) (result : Yield) (l m : Layout) (e : l.scope.variables ≡ m.scope.variables) where
+  same_carried : (channel : Expression) → carried globals elements l.scope channel ≡ carried globals elements m.scope channel
+  same_carried channel = ap (λ w. known (element_of w)) (same_worth globals l.scope m.scope e channel)
+
+  same_clause : (comm : Comm) (to : ℕ) → table_clause globals elements result l comm to ≡ table_clause globals elements result m comm to
+  same_clause (CommSend channel value) to = ap (λ k. clauses.Send (shape_of elements k) to) (same_carried channel)
+  same_clause (CommReceive channel) to = ap (λ k. clauses.Receive (shape_of elements k) to) (same_carried channel)
+  same_clause (CommDefine item ok channel) to = ap (λ k. clauses.Receive (shape_of elements k) to) (same_carried channel)
+  same_clause (CommAssign item ok channel) to = ap (λ k. clauses.Receive (shape_of elements k) to) (same_carried channel)
+
+  same_clauses : (all : Clauses) (places : List ℕ) → table_clauses globals elements result l all places ≡ table_clauses globals elements result m all places
+  same_clauses NoClause places = refl
+  same_clauses (Clause None body more) places = same_clauses more places
+  same_clauses (Clause (Some comm) body more) [] = refl
+  same_clauses (Clause (Some comm) body more) (to ∷ places) =
+      ap (λ c. c ∷ table_clauses globals elements result l more places) (same_clause comm to) ∙ ap (λ cs. table_clause globals elements result m comm to ∷ cs) (same_clauses more places)
+
+  pub same_table : (all : Clauses) (places : List ℕ) → select_table globals elements result l all places ≡ select_table globals elements result m all places
+  same_table all places = let clauses_same = same_clauses all places in cc
+
+-- behind the ways of a select the variables are those before it
+module _ (globals : Globals) (elements : List Element) (result : Yield) (whole : Clauses) where
+  abbrev ways : Site → Clauses → Option Made
+  ways site all = made_ways globals elements result site (λ behind. made_default globals elements result behind whole) all
+
+  default_variables : (site : Site) (all : Clauses) → (or_nothing site (made_default globals elements result site all)).layout.scope.variables ≡ site.layout.scope.variables
+  default_variables site NoClause = refl
+  default_variables site (Clause None body more) = refl
+  default_variables site (Clause (Some comm) body more) = default_variables site more
+
+  way_variables : (ks : _) (one : Made) (site : Site) (others : Option Made) → (or_nothing (past site one) others).layout.scope.variables ≡ one.layout.scope.variables → (with_way ks one others).layout.scope.variables ≡ one.layout.scope.variables
+  way_variables ks one site None e = refl
+  way_variables ks one site (Some others) e = e
+
+  pub ways_variables : (site : Site) (all : Clauses) → (or_nothing site (ways site all)).layout.scope.variables ≡ site.layout.scope.variables
+  ways_variables site NoClause = default_variables site whole
+  ways_variables site (Clause None body more) = ways_variables site more
+  ways_variables site (Clause (Some comm) body more) = let one = made_way globals elements result site comm body in way_variables _ one site (ways (past site one) more) (ways_variables (past site one) more)
+
+-- ---- selects
+
+settled_length : (ws : List Wait) (stop : ℕ) (code : List Instr) → length (settled ws stop code) ≡ length code
+settled_length [] stop code = refl
+settled_length (w ∷ ws) stop code = by w.leaves (settled_length ws stop code) where
+  by : (b : Bool) → length (settled ws stop code) ≡ length code → length (cond b (slice_set (settled ws stop code) w.place (instrs.Jump stop)) (settled ws stop code)) ≡ length code
+  by true more = length-set (settled ws stop code) w.place (instrs.Jump stop) ∙ more
+  by false more = more
+
+module _ (table : TypeTable) where
+  pub emits_choose : (q : ℕ) (make : List ℕ → SelectTable) (held made : SelectTable) (e0 e1 e2 e3 : Emitter) (f : Control) (ways : Made) (stop : ℕ) → e1.code.items ≡ e0.code.items ++ instrs.Select q ∷ [] → e1.prints.items ≡ e0.prints.items → e1.selects.items ≡ e0.selects.items ++ held ∷ [] → Keeps e0.layout.visible e1.layout.visible
+      → Emits table e1 e2 f ways → stop ≡ length e2.code.items → e3.code.items ≡ settled f.waits stop e2.code.items → e3.prints.items ≡ e2.prints.items → e3.selects.items ≡ slice_set e2.selects.items (length e0.selects.items) made → made ≡ make (starts (length e1.code.items) ways.plan)
+      → layout_of table e3.layout ≡ layout_of table e2.layout → Keeps e2.layout.visible e3.layout.visible → Emits table e0 e3 (behind_select f) (made_of (Choose q make ways.plan) ways.prints ways.layout)
+  emits_choose q make held made e0 e1 e2 e3 f ways stop c1 p1 s1 k1 e es c3 p3 s3 em l3 k3 =
+      let n1 : length e1.code.items ≡ length e0.code.items + 1 = ap length c1 ∙ length-append e0.code.items (instrs.Select q ∷ []) in
+      let behind = tables (length e1.code.items) ways.plan in
+      let before : e2.selects.items ≡ e0.selects.items ++ (held ∷ behind) = e.selects ∙ ap (λ (l : List SelectTable). l ++ behind) s1 ∙ append_assoc e0.selects.items (held ∷ []) behind in
+      record {
+        code = makes_choose q make e0.code.items e1.code.items e2.code.items e3.code.items f.waits ways.plan stop c1 e.code es c3 (ap length c3 ∙ settled_length f.waits stop e2.code.items);
+        flows = record { ends = ap (λ x. x || f.breaks) e.flows.ends ∙ ap (λ x. reaches_end ways.plan || x) e.flows.breaks; breaks = refl; continues = e.flows.continues };
+        prints = p3 ∙ e.prints ∙ ap (λ (l : List PrintTable). l ++ ways.prints) p1;
+        selects = s3 ∙ ap (λ (l : List SelectTable). slice_set l (length e0.selects.items) made) before ∙ set_at e0.selects.items held behind made (length e0.selects.items) refl ∙ ap (λ x. e0.selects.items ++ (x ∷ behind)) em
+            ∙ ap (λ n. e0.selects.items ++ (make (starts n ways.plan) ∷ tables n ways.plan)) n1;
+        layout = l3 ∙ e.layout;
+        kept = keeps_both table e0 e1 e3 k1 (keeps_both table e1 e2 e3 e.kept k3);
+      }

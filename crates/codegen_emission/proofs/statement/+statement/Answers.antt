@@ -1,0 +1,197 @@
+use Rattle.std.proofs.Common.{rules, arith, ◌≡◌, ◌+◌, List, [], ◌∷◌, ◌++◌, cond, None, Some, option_map, length, refl, sym, ap, ◌∙◌, subst, drop}
+use Rattle.std.specs.Prelude.{slice_set}
+use Rattle.bytecode.specs.declared.instr.Instr.{Instr}
+use Rattle.bytecode.specs.declared.instr.Instr.TheVariants as instrs
+use Rattle.checker_statement.specs.Statements.{head_simple}
+use Rattle.std.proofs.lemmas.List.{drop_all}
+use Rattle.syntax.specs.declared.node.StatementNode.{StatementNode}
+use Rattle.syntax.specs.View.{body_of, branch_of, expression_of, if_head_of, otherwise_of, simple_of, statement_of}
+use Rattle.syntax.specs.declared.node.ElseNode.TheFolds.{the_lemmas}
+use Rattle.syntax.specs.Tree.{Break, Conditional, Continue}
+use Rattle.type_table.specs.Views.{yield_of}
+use Rattle.type_table.specs.Visible.{globals_in, types_of}
+use Rattle.codegen_base.specs.Generated.{made, made_branch}
+use Rattle.codegen_emission.specs.declared.waits.Wait.{Wait}
+use Rattle.codegen_emission.specs.declared.emitter.Emitter.{Emitter}
+use Rattle.codegen_emission.specs.Waits.{filled}
+use Rattle.codegen_emission.specs.Emitted.{Emits, control, site_of}
+use Rattle.codegen_emission.proofs.Emitting.{emits_break, emits_continue}
+use Rattle.codegen_emission.proofs.Listing.{begins_all, begins_cut, begins_more, emits_block, next_statement}
+use Rattle.codegen_emission.specs.Branches.{made_condition, made_other, made_within}
+use Rattle.codegen_emission.specs.Turns.{made_turns}
+use Rattle.codegen_emission.proofs.Blocks.{Entered, Left, emits_headed}
+use Rattle.codegen_emission.proofs.Branching.{Beside, emits_one_way, emits_two_ways}
+use Rattle.codegen_emission.proofs.Turning.{emits_tested, emits_untested}
+use Rattle.codegen_emission.proofs.statement.+statement.Goals as goal
+
+pub emit_block-returns : goal.emit_block-returns
+emit_block-returns t c =
+    let e0 = c.args.emitter.now in
+    let e2 = c.emit_statements.new.emitter in
+    emits_block c.args.table.now (globals_in c.args.table.now) c.args.elements.now (yield_of (types_of c.args.table.now) c.args.result_type) (body_of c.args.body.now) e0 (record { code = e0.code; prints = e0.prints; selects = e0.selects; layout = c.enter-mark.new.layout }) e2
+    (record { code = e2.code; prints = e2.prints; selects = e2.selects; layout = c.leave.new.layout }) c.enter-mark.result.count c.enter-mark.result.outer (control c.in_ok-flow.flow) refl refl refl (c.enter-mark.ensures.layout c.args.table.now) c.enter-mark.ensures.kept
+    c.enter-mark.ensures.count c.enter-mark.ensures.outer c.in_ok-flow.ensures refl refl refl c.leave.ensures.entries c.leave.ensures.outer c.leave.ensures.words c.leave.ensures.locals
+
+pub emit_statements-returns-then-not-goes_on : goal.emit_statements-returns-then-not-goes_on
+emit_statements-returns-then-not-goes_on t c =
+    let table = c.args.table.now in
+    begins_cut table (globals_in table) c.args.elements.now (yield_of (types_of table) c.args.result_type) c.args.emitter.now c.loop-statement.emitter c.emit_statement.new.emitter (control c.loop-statement.flow) (control c.in_ok-one.one) (control c.join.new.flow) (statement_of c.statement-item.result)
+    (body_of (drop (c.loop-statement.statement-index + 1) c.args.body.now)) (body_of (drop c.loop-statement.statement-index c.args.body.now)) (body_of c.args.body.now) (next_statement c.loop-statement.statement-index c.statement-item.result c.args.body.now c.loop-statement-test.true c.statement-item.is) c.loop-statement.invariant c.if-not-goes_on.true c.in_ok-one.ensures c.in_ok-join.ensures
+
+pub emit_statements-loop-statement-preserved : goal.emit_statements-loop-statement-preserved
+emit_statements-loop-statement-preserved t c =
+    let table = c.args.table.now in
+    let all = c.args.body.now in
+    let i = c.loop-statement.statement-index in
+    begins_more table (globals_in table) c.args.elements.now (yield_of (types_of table) c.args.result_type) c.args.emitter.now c.loop-statement.emitter c.emit_statement.new.emitter (control c.loop-statement.flow) (control c.in_ok-one.one) (control c.join.new.flow) (statement_of c.statement-item.result)
+    (body_of (drop (i + 1) all)) (body_of (drop i all)) (body_of all) (next_statement i c.statement-item.result all c.loop-statement-test.true c.statement-item.is) c.loop-statement.invariant c.if-not-goes_on.false c.in_ok-one.ensures c.in_ok-join.ensures
+
+pub emit_statements-returns : goal.emit_statements-returns
+emit_statements-returns t c =
+    let table = c.args.table.now in
+    let all = c.args.body.now in
+    let i = c.loop-statement.statement-index in
+    begins_all table (globals_in table) c.args.elements.now (yield_of (types_of table) c.args.result_type) c.args.emitter.now c.loop-statement.emitter (control c.loop-statement.flow) (body_of (drop i all)) (body_of all) (ap body_of (drop_all i all c.loop-statement-test.false)) c.loop-statement.invariant
+
+pub emit_statement-returns-in_ok-flow-in-Break : goal.emit_statement-returns-in_ok-flow-in-Break
+emit_statement-returns-in_ok-flow-in-Break t c =
+    let table = c.args.table.now in
+    let is : statement_of c.args.statement.now ≡ Break = search (rules, the_lemmas) in
+    subst (λ s. Emits table c.args.emitter.now c.emit_jump.new.emitter (control c.in_ok-flow-in-Break.flow) (made (globals_in table) c.args.elements.now (yield_of (types_of table) c.args.result_type) (site_of table c.args.emitter.now) s)) (sym is)
+    (emits_break table c.args.emitter.now c.emit_jump.new.emitter (control c.in_ok-flow-in-Break.flow) c.in_ok-flow-in-Break.ensures)
+
+pub emit_statement-returns-in_ok-flow-in-Continue : goal.emit_statement-returns-in_ok-flow-in-Continue
+emit_statement-returns-in_ok-flow-in-Continue t c =
+    let table = c.args.table.now in
+    let is : statement_of c.args.statement.now ≡ Continue = search (rules, the_lemmas) in
+    subst (λ s. Emits table c.args.emitter.now c.emit_jump-in-Continue.new.emitter (control c.in_ok-flow-in-Continue.flow) (made (globals_in table) c.args.elements.now (yield_of (types_of table) c.args.result_type) (site_of table c.args.emitter.now) s)) (sym is)
+    (emits_continue table c.args.emitter.now c.emit_jump-in-Continue.new.emitter (control c.in_ok-flow-in-Continue.flow) c.in_ok-flow-in-Continue.ensures)
+
+pub emit_endless-returns : goal.emit_endless-returns
+emit_endless-returns t c =
+    let table = c.args.table.now in
+    let e0 = c.args.emitter.now in
+    let e1 = c.emit_block.new.emitter in
+    let e2 = c.emit_round.new.emitter in
+    let e3 : Emitter = record { code = c.fill.new.code; prints = e2.prints; selects = e2.selects; layout = e2.layout } in
+    let flow = control c.in_ok-within.within in
+    let post = option_map (λ (s : _). simple_of s.now) c.args.post in
+    let stop = c.in_ok-stop.stop in
+    let again = c.in_ok-again.again in
+    let head_is : c.in_ok-head.head ≡ length e0.code.items = omega (arith, c.in_ok-head.ensures, c.len.ensures) in
+    let again_is : again ≡ length e1.code.items = omega (arith, c.in_ok-again.ensures, c.len-2.ensures) in
+    let stop_is : stop ≡ length e2.code.items = omega (arith, c.in_ok-stop.ensures, c.len-3.ensures) in
+    let done : e3.code.items ≡ filled flow.waits stop again e2.code.items = c.fill.ensures ∙ ap (λ (ws : List Wait). filled ws stop again e2.code.items) c.as_slice.ensures.value in
+    emits_untested table (globals_in table) c.args.elements.now (yield_of (types_of table) c.args.result_type) (body_of c.args.body.now) post c.comes_round-turns.result e0 e1 e2 e3 flow (control c.behind_loop.result) c.in_ok-head.head again stop
+    c.in_ok-within.ensures c.comes_round-turns.ensures head_is again_is c.in_ok-emit_round.ensures stop_is done (record { prints = refl; selects = refl; layout = refl }) c.behind_loop.ensures
+
+pub emit_tested-returns : goal.emit_tested-returns
+emit_tested-returns t c =
+    let table = c.args.table.now in
+    let e0 = c.args.emitter.now in
+    let e1 : Emitter = record { code = c.push_test.new.code; prints = e0.prints; selects = e0.selects; layout = e0.layout } in
+    let e2 : Emitter = record { code = c.push.new.self; prints = e0.prints; selects = e0.selects; layout = e0.layout } in
+    let e3 = c.emit_block.new.emitter in
+    let e4 = c.emit_round.new.emitter in
+    let e5 : Emitter = record { code = c.fill.new.code; prints = e4.prints; selects = e4.selects; layout = e4.layout } in
+    let flow = control c.in_ok-within.within in
+    let post = option_map (λ (s : _). simple_of s.now) c.args.post in
+    let stop = c.in_ok-stop.stop in
+    let again = c.in_ok-again.again in
+    let head_is : c.in_ok-head.head ≡ length e0.code.items = omega (arith, c.in_ok-head.ensures, c.len.ensures) in
+    let test_is : c.len-test.result ≡ length e1.code.items = search rules in
+    let again_is : again ≡ length e3.code.items = omega (arith, c.in_ok-again.ensures, c.len-2.ensures) in
+    let stop_is : stop ≡ length e4.code.items = omega (arith, c.in_ok-stop.ensures, c.len-3.ensures) in
+    let done : e5.code.items ≡ filled flow.waits stop again (slice_set e4.code.items (length e1.code.items) (instrs.Unless stop)) =
+    c.fill.ensures ∙ ap (λ (ws : List Wait). filled ws stop again c.aim.new.code.items) c.as_slice.ensures.value ∙ ap (λ (l : List Instr). filled flow.waits stop again l) (c.aim.ensures ∙ ap (λ n. slice_set e4.code.items n (instrs.Unless stop)) test_is) in
+    let same : Beside e0 e0 = record { prints = refl; selects = refl; layout = refl } in
+    emits_tested table (globals_in table) c.args.elements.now (yield_of (types_of table) c.args.result_type) (expression_of c.args.condition.now) (body_of c.args.body.now) post c.comes_round-turns.result e0 e1 e2 e3 e4 e5 flow (control c.through.result) c.in_ok-head.head again stop
+    (c.in_ok-push_test.ensures e0.layout.locals.items) (record { prints = refl; selects = refl; layout = refl }) c.in_ok-push.ensures.items (record { prints = refl; selects = refl; layout = refl }) c.in_ok-within.ensures c.comes_round-turns.ensures head_is again_is c.in_ok-emit_round.ensures stop_is done
+    (record { prints = refl; selects = refl; layout = refl }) c.through.ensures
+
+pub emit_clauses-returns : goal.emit_clauses-returns
+emit_clauses-returns t c =
+    let table = c.args.table.now in
+    let globals = globals_in table in
+    let elements = c.args.elements.now in
+    let result = yield_of (types_of table) c.args.result_type in
+    let e0 = c.args.emitter.now in
+    let e1 : Emitter = record { code = e0.code; prints = e0.prints; selects = e0.selects; layout = c.enter-mark.new.layout } in
+    let e2 = c.emit_any.new.emitter in
+    let e3 = c.emit_turns.new.emitter in
+    let e4 : Emitter = record { code = e3.code; prints = e3.prints; selects = e3.selects; layout = c.leave.new.layout } in
+    let first = option_map (λ (s : _). simple_of s.now) c.args.first in
+    let condition = option_map (λ (e : _). expression_of e.now) c.args.condition in
+    let post = option_map (λ (s : _). simple_of s.now) c.args.post in
+    let flow = control c.in_ok-flow.flow in
+    let mark = c.enter-mark.result in
+    let entered : Entered table e0 e1 mark.count mark.outer =
+    record { code = refl; prints = refl; selects = refl; layout = c.enter-mark.ensures.layout table; entries = c.enter-mark.ensures.kept; count_is = c.enter-mark.ensures.count; outer_is = c.enter-mark.ensures.outer } in
+    let left : Left e3 e4 mark.count mark.outer = record { code = refl; prints = refl; selects = refl; entries = c.leave.ensures.entries; outer_is = c.leave.ensures.outer; words = c.leave.ensures.words; locals = c.leave.ensures.locals } in
+    emits_headed table globals elements first (λ site. made_turns globals elements result site condition (body_of c.args.body.now) post) e0 e1 e2 e3 e4 mark.count mark.outer flow entered c.in_ok-emit_any.ensures c.in_ok-flow.ensures left
+
+pub emit_branch-returns : goal.emit_branch-returns
+emit_branch-returns t c =
+    let table = c.args.table.now in
+    let globals = globals_in table in
+    let elements = c.args.elements.now in
+    let result = yield_of (types_of table) c.args.result_type in
+    let branch = c.args.branch.now in
+    let e0 = c.args.emitter.now in
+    let e1 : Emitter = record { code = e0.code; prints = e0.prints; selects = e0.selects; layout = c.enter-mark.new.layout } in
+    let e2 = c.emit_head.new.emitter in
+    let e3 = c.emit_ways.new.emitter in
+    let e4 : Emitter = record { code = e3.code; prints = e3.prints; selects = e3.selects; layout = c.leave.new.layout } in
+    let flow = control c.in_ok-flow.flow in
+    let mark = c.enter-mark.result in
+    let entered : Entered table e0 e1 mark.count mark.outer =
+    record { code = refl; prints = refl; selects = refl; layout = c.enter-mark.ensures.layout table; entries = c.enter-mark.ensures.kept; count_is = c.enter-mark.ensures.count; outer_is = c.enter-mark.ensures.outer } in
+    let left : Left e3 e4 mark.count mark.outer = record { code = refl; prints = refl; selects = refl; entries = c.leave.ensures.entries; outer_is = c.leave.ensures.outer; words = c.leave.ensures.words; locals = c.leave.ensures.locals } in
+    let done = emits_headed table globals elements (head_simple (if_head_of branch.header)) (λ site. made_condition globals elements result site (expression_of branch.condition) (body_of branch.body.items) (otherwise_of branch.otherwise)) e0 e1 e2 e3 e4 mark.count mark.outer flow entered
+    c.in_ok-emit_head.ensures c.in_ok-flow.ensures left in
+    let is : branch_of branch ≡ Conditional (if_head_of branch.header) (expression_of branch.condition) (body_of branch.body.items) (otherwise_of branch.otherwise) = search (rules, the_lemmas) in
+    subst (λ b. Emits table e0 e4 flow (made_branch globals elements result (site_of table e0) b)) (sym is) done
+
+pub emit_one_way-returns : goal.emit_one_way-returns
+emit_one_way-returns t c =
+    let table = c.args.table.now in
+    let globals = globals_in table in
+    let elements = c.args.elements.now in
+    let result = yield_of (types_of table) c.args.result_type in
+    let e0 = c.args.emitter.now in
+    let e1 : Emitter = record { code = c.push_test.new.code; prints = e0.prints; selects = e0.selects; layout = e0.layout } in
+    let e2 : Emitter = record { code = c.push.new.self; prints = e0.prints; selects = e0.selects; layout = e0.layout } in
+    let e3 = c.emit_block.new.emitter in
+    let e4 : Emitter = record { code = c.end_test.new.code; prints = e3.prints; selects = e3.selects; layout = e3.layout } in
+    let so = made_within globals elements result (site_of table e0) (body_of c.args.branch.now.body.items) in
+    let within = subst (λ (b : List StatementNode). Emits table e2 e3 (control c.in_ok-flow.flow) (made_within globals elements result (site_of table e0) (body_of b))) c.as_slice-body.ensures.value c.in_ok-flow.ensures in
+    let test_is : c.len-test.result ≡ length e1.code.items = search rules in
+    let next = length e3.code.items in
+    let set : e4.code.items ≡ slice_set e3.code.items (length e1.code.items) (instrs.Unless next) = c.in_ok-end_test.ensures ∙ ap (λ n. slice_set e3.code.items n (instrs.Unless next)) test_is in
+    emits_one_way table globals elements result (expression_of c.args.branch.now.condition) so e0 e1 e2 e3 e4 (control c.in_ok-flow.flow) (control c.may_end.new.flow) next (c.in_ok-push_test.ensures e0.layout.locals.items) (record { prints = refl; selects = refl; layout = refl })
+    c.in_ok-push.ensures.items (record { prints = refl; selects = refl; layout = refl }) within refl set (record { prints = refl; selects = refl; layout = refl }) c.may_end.ensures
+
+pub emit_two_ways-returns : goal.emit_two_ways-returns
+emit_two_ways-returns t c =
+    let table = c.args.table.now in
+    let globals = globals_in table in
+    let elements = c.args.elements.now in
+    let result = yield_of (types_of table) c.args.result_type in
+    let e0 = c.args.emitter.now in
+    let e1 : Emitter = record { code = c.push_test.new.code; prints = e0.prints; selects = e0.selects; layout = e0.layout } in
+    let e2 : Emitter = record { code = c.push.new.self; prints = e0.prints; selects = e0.selects; layout = e0.layout } in
+    let e3 = c.emit_block.new.emitter in
+    let e4 : Emitter = record { code = c.begin_other.new.code; prints = e3.prints; selects = e3.selects; layout = e3.layout } in
+    let e5 = c.emit_other.new.emitter in
+    let e6 : Emitter = record { code = c.end_other.new.code; prints = e5.prints; selects = e5.selects; layout = e5.layout } in
+    let f = control c.in_ok-flow.flow in
+    let so = made_within globals elements result (site_of table e0) (body_of c.args.branch.now.body.items) in
+    let over = cond f.ends (instrs.Jump 0 ∷ []) [] in
+    let within = subst (λ (b : List StatementNode). Emits table e2 e3 (control c.in_ok-flow.flow) (made_within globals elements result (site_of table e0) (body_of b))) c.as_slice-body.ensures.value c.in_ok-flow.ensures in
+    let test_is : c.len-test.result ≡ length e1.code.items = search rules in
+    let begun : e4.code.items ≡ slice_set (e3.code.items ++ over) (length e1.code.items) (instrs.Unless (length e4.code.items)) = c.in_ok-over.ensures.begun ∙ ap (λ n. slice_set (e3.code.items ++ over) n (instrs.Unless (length e4.code.items))) test_is in
+    let ended_at : e6.code.items ≡ cond f.ends (slice_set e5.code.items (length e3.code.items) (instrs.Jump (length e5.code.items))) e5.code.items =
+    c.in_ok-end_other.ensures ∙ ap (λ n. cond f.ends (slice_set e5.code.items n (instrs.Jump (length e5.code.items))) e5.code.items) c.in_ok-over.ensures.over in
+    emits_two_ways table globals elements result (expression_of c.args.branch.now.condition) so (λ site. made_other globals elements result site (otherwise_of c.args.branch.now.otherwise)) e0 e1 e2 e3 e4 e5 e6 f (control c.in_ok-other.other) (control c.join_way.new.flow) (c.in_ok-push_test.ensures e0.layout.locals.items)
+    (record { prints = refl; selects = refl; layout = refl }) c.in_ok-push.ensures.items (record { prints = refl; selects = refl; layout = refl }) within begun (record { prints = refl; selects = refl; layout = refl }) c.in_ok-other.ensures ended_at (record { prints = refl; selects = refl; layout = refl })
+    c.in_ok-join_way.ensures

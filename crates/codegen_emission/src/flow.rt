@@ -1,0 +1,111 @@
+//! Where control goes from what was emitted.
+
+ghost use Rattle.std.specs.Prelude.{◌≡◌, ◌||◌, IfOk, OnOk};
+ghost use Rattle.codegen_emission.specs.Emitted.{control, either, joined, jumping, leading, may_end, never, through};
+
+use crate::waits::Wait;
+use codegen_expression::halt::Halt;
+use std::alloc::Global;
+
+/// Where control goes from what was emitted: the jumps that wait, oldest first, and what can be reached.
+#[derive(Drop)]
+pub struct Flow {
+    pub waits: Vec<Wait>,
+    pub reaches_end: bool,
+    pub has_break: bool,
+    pub has_continue: bool,
+}
+
+impl Flow {
+    /// Only to where a break, or a continue, leads.
+    ///
+    /// Errors: want of memory.
+    pub fn from_jump(alloc: Global, leaves: bool, place: usize) -> Result<Flow, Halt>
+        ensures { IfOk result (λ flow. control flow ≡ jumping place leaves) }
+    {
+        let mut waits = Vec::new(alloc);
+        waits.push(Wait { place, leaves })?;
+        Ok(Flow {
+            waits,
+            reaches_end: false,
+            has_break: leaves,
+            has_continue: !leaves,
+        })
+    }
+
+    /// Only to what comes behind a loop, if a break leads there.
+    pub fn behind_loop(alloc: Global, reaches_end: bool) -> Flow
+        ensures { control result ≡ leading reaches_end }
+    {
+        Flow {
+            waits: Vec::new(alloc),
+            reaches_end,
+            has_break: false,
+            has_continue: false,
+        }
+    }
+
+    /// Nowhere.
+    pub fn never(alloc: Global) -> Flow
+        ensures { control result ≡ never }
+    {
+        Flow {
+            waits: Vec::new(alloc),
+            reaches_end: false,
+            has_break: false,
+            has_continue: false,
+        }
+    }
+
+    /// Only to what comes behind.
+    pub fn through(alloc: Global) -> Flow
+        ensures { control result ≡ through }
+    {
+        Flow {
+            waits: Vec::new(alloc),
+            reaches_end: true,
+            has_break: false,
+            has_continue: false,
+        }
+    }
+
+    /// Whether the body of a loop comes round again, which goes there.
+    pub fn comes_round(&self) -> bool
+        ensures { result ≡ (self.now.reaches_end || self.now.has_continue) }
+    {
+        self.reaches_end || self.has_continue
+    }
+}
+
+/// What comes behind is emitted too.
+///
+/// Errors: want of memory.
+pub fn join(flow: &mut Flow, mut behind: Flow) -> Result<(), Halt>
+    ensures { OnOk result (control flow.new ≡ joined (control flow.old) (control behind)) }
+{
+    flow.waits.append(&mut behind.waits)?;
+    flow.reaches_end = behind.reaches_end;
+    flow.has_break |= behind.has_break;
+    flow.has_continue |= behind.has_continue;
+    Ok(())
+}
+
+/// There is another way beside it.
+///
+/// Errors: want of memory.
+pub fn join_way(flow: &mut Flow, mut other: Flow) -> Result<(), Halt>
+    ensures { OnOk result (control flow.new ≡ either (control flow.old) (control other)) }
+{
+    flow.waits.append(&mut other.waits)?;
+    flow.reaches_end |= other.reaches_end;
+    flow.has_break |= other.has_break;
+    flow.has_continue |= other.has_continue;
+    Ok(())
+}
+
+/// It may be left out.
+pub fn may_end(flow: &mut Flow)
+    ensures { control flow.new ≡ may_end (control flow.old) }
+{
+    flow.reaches_end = true;
+}

@@ -1,0 +1,428 @@
+//! Statements ("Statements" of the Go specification).
+
+ghost use Rattle.std.specs.Prelude.{IfOk, None, Some, option_map};
+ghost use Rattle.syntax.specs.View.{body_of, branch_of, expression_of, for_head_of, otherwise_of, simple_of, statement_of};
+ghost use Rattle.syntax.specs.Tree.{For, ForClauses};
+ghost use Rattle.type_table.specs.Views.{yield_of};
+ghost use Rattle.type_table.specs.Visible.{globals_in, types_of};
+ghost use Rattle.codegen_base.specs.Generated.{ended, inside, made, made_all, made_branch};
+ghost use Rattle.codegen_simple.specs.Layouts.{layout_of};
+ghost use Rattle.codegen_emission.specs.Emitted.{Emits, Jumps, control, site_of};
+ghost use Rattle.codegen_emission.specs.Turns.{made_turns};
+ghost use Rattle.codegen_emission.specs.Branches.{made_condition, made_one_way, made_other, made_two_ways};
+
+use crate::alone::{emit_alone, emit_any, emit_head};
+use crate::emitter::Emitter;
+use crate::flow::{Flow, join, join_way, may_end};
+use crate::turn::{emit_round, push_test};
+use crate::waits::{aim, fill};
+use crate::way::{begin_other, end_other, end_test, has_other};
+use bytecode::Instr;
+use codegen_expression::element_list::ElementList;
+use codegen_expression::halt::Halt;
+use codegen_expression::operand::number;
+use codegen_simple::layout::{enter, leave};
+use std::alloc::Global;
+use syntax::{ElseNode, ExpressionNode, ForHeader, IfNode, SimpleNode, StatementNode};
+use type_table::table::TypeTable;
+use type_table::value_type::ValueType;
+
+/// A break, or a continue.
+fn emit_jump(alloc: Global, leaves: bool, emitter: &mut Emitter<'_>) -> Result<Flow, Halt>
+    ensures { IfOk result (λ flow. Jumps leaves emitter.old emitter.new (control flow)) }
+{
+    let flow = Flow::from_jump(alloc, leaves, emitter.code.len())?;
+    emitter.code.push(Instr::Jump(0))?;
+    Ok(flow)
+}
+
+/// The statements of a block, in order. What can't be reached is left out.
+#[cycle(statement)]
+#[tactic(auto, using(crate::proofs::Listing::begins, crate::proofs::Listing::begins_more, crate::proofs::Listing::begins_all, crate::proofs::Listing::begins_cut))]
+pub(crate) fn emit_statements<'t, 'l, 'm, 's, 'a>(
+    alloc: Global,
+    table: &'t TypeTable<'a>,
+    elements: &'l ElementList,
+    result_type: Option<ValueType<'a>>,
+    emitter: &'m mut Emitter<'a>,
+    body: &'a [StatementNode],
+) -> Result<Flow, Halt>
+    ensures { IfOk result (λ flow. Emits table.now emitter.old emitter.new (control flow) (made_all (globals_in table.now) elements.now (yield_of (types_of table.now) result_type.entry) (site_of table.now emitter.old) (body_of body.now))) }
+{
+    let mut flow = Flow::through(alloc);
+    for statement in body {
+        let one = emit_statement(alloc, table, elements, result_type, emitter, statement)?;
+        let goes_on = one.reaches_end;
+        join(&mut flow, one)?;
+        if !goes_on {
+            return Ok(flow);
+        }
+    }
+    Ok(flow)
+}
+
+/// A block.
+#[cycle(statement)]
+#[tactic(auto, using(crate::proofs::Listing::emits_block))]
+fn emit_block<'t, 'l, 'm, 's, 'a>(
+    alloc: Global,
+    table: &'t TypeTable<'a>,
+    elements: &'l ElementList,
+    result_type: Option<ValueType<'a>>,
+    emitter: &'m mut Emitter<'a>,
+    body: &'a [StatementNode],
+) -> Result<Flow, Halt>
+    ensures { IfOk result (λ flow. Emits table.now emitter.old emitter.new (control flow) (ended (layout_of table.now emitter.old.layout) (made_all (globals_in table.now) elements.now (yield_of (types_of table.now) result_type.entry) (inside (site_of table.now emitter.old)) (body_of body.now)))) }
+{
+    let mark = enter(&mut emitter.layout);
+    let flow = emit_statements(alloc, table, elements, result_type, emitter, body)?;
+    leave(&mut emitter.layout, mark);
+    Ok(flow)
+}
+
+/// The turns of a loop without a test.
+#[cycle(statement)]
+fn emit_endless<'t, 'l, 'm, 's, 'a>(
+    alloc: Global,
+    table: &'t TypeTable<'a>,
+    elements: &'l ElementList,
+    result_type: Option<ValueType<'a>>,
+    emitter: &'m mut Emitter<'a>,
+    body: &'a [StatementNode],
+    post: Option<&'a SimpleNode>,
+) -> Result<Flow, Halt>
+    ensures { IfOk result (λ flow. Emits table.now emitter.old emitter.new (control flow) (made_turns (globals_in table.now) elements.now (yield_of (types_of table.now) result_type.entry) (site_of table.now emitter.old) None (body_of body.now) (option_map (λ (s : _). simple_of s.now) post.entry))) }
+{
+    let head = number(emitter.code.len())?;
+    let within = emit_block(alloc, table, elements, result_type, emitter, body)?;
+    let again = number(emitter.code.len())?;
+    let turns = within.comes_round();
+    emit_round(alloc, table, elements, emitter, turns, head, post)?;
+    let stop = number(emitter.code.len())?;
+    fill(within.waits.as_slice(), stop, again, &mut emitter.code);
+    Ok(Flow::behind_loop(alloc, within.has_break))
+}
+
+/// The turns of a loop with a test.
+#[cycle(statement)]
+fn emit_tested<'t, 'l, 'm, 'c, 's, 'a>(
+    alloc: Global,
+    table: &'t TypeTable<'a>,
+    elements: &'l ElementList,
+    result_type: Option<ValueType<'a>>,
+    emitter: &'m mut Emitter<'a>,
+    body: &'a [StatementNode],
+    condition: &'c ExpressionNode,
+    post: Option<&'a SimpleNode>,
+) -> Result<Flow, Halt>
+    ensures { IfOk result (λ flow. Emits table.now emitter.old emitter.new (control flow) (made_turns (globals_in table.now) elements.now (yield_of (types_of table.now) result_type.entry) (site_of table.now emitter.old) (Some (expression_of condition.now)) (body_of body.now) (option_map (λ (s : _). simple_of s.now) post.entry))) }
+{
+    let head = number(emitter.code.len())?;
+    let visible = &emitter.layout.visible;
+    push_test(alloc, table, elements, visible, condition, &mut emitter.code)?;
+    let test = emitter.code.len();
+    emitter.code.push(Instr::Unless(0))?;
+    let within = emit_block(alloc, table, elements, result_type, emitter, body)?;
+    let again = number(emitter.code.len())?;
+    let turns = within.comes_round();
+    emit_round(alloc, table, elements, emitter, turns, head, post)?;
+    let stop = number(emitter.code.len())?;
+    aim(&mut emitter.code, test, Instr::Unless(stop));
+    fill(within.waits.as_slice(), stop, again, &mut emitter.code);
+    Ok(Flow::through(alloc))
+}
+
+/// The turns of a loop.
+#[cycle(statement)]
+fn emit_turns<'t, 'l, 'm, 'c, 's, 'a>(
+    alloc: Global,
+    table: &'t TypeTable<'a>,
+    elements: &'l ElementList,
+    result_type: Option<ValueType<'a>>,
+    emitter: &'m mut Emitter<'a>,
+    body: &'a [StatementNode],
+    condition: Option<&'c ExpressionNode>,
+    post: Option<&'a SimpleNode>,
+) -> Result<Flow, Halt>
+    ensures { IfOk result (λ flow. Emits table.now emitter.old emitter.new (control flow) (made_turns (globals_in table.now) elements.now (yield_of (types_of table.now) result_type.entry) (site_of table.now emitter.old) (option_map (λ (e : _). expression_of e.now) condition.entry) (body_of body.now) (option_map (λ (s : _). simple_of s.now) post.entry))) }
+{
+    match condition {
+        Some(condition) => {
+            emit_tested(
+                alloc,
+                table,
+                elements,
+                result_type,
+                emitter,
+                body,
+                condition,
+                post,
+            )
+        }
+        None => emit_endless(alloc, table, elements, result_type, emitter, body, post),
+    }
+}
+
+/// A loop with clauses.
+#[cycle(statement)]
+fn emit_clauses<'t, 'l, 'm, 'c, 's, 'a>(
+    alloc: Global,
+    table: &'t TypeTable<'a>,
+    elements: &'l ElementList,
+    result_type: Option<ValueType<'a>>,
+    emitter: &'m mut Emitter<'a>,
+    body: &'a [StatementNode],
+    first: Option<&'a SimpleNode>,
+    condition: Option<&'c ExpressionNode>,
+    post: Option<&'a SimpleNode>,
+) -> Result<Flow, Halt>
+    ensures { IfOk result (λ flow. Emits table.now emitter.old emitter.new (control flow) (made (globals_in table.now) elements.now (yield_of (types_of table.now) result_type.entry) (site_of table.now emitter.old) (For (ForClauses (option_map (λ (s : _). simple_of s.now) first.entry) (option_map (λ (e : _). expression_of e.now) condition.entry) (option_map (λ (s : _). simple_of s.now) post.entry)) (body_of body.now)))) }
+{
+    let mark = enter(&mut emitter.layout);
+    emit_any(alloc, table, elements, emitter, first)?;
+    let flow = emit_turns(
+        alloc,
+        table,
+        elements,
+        result_type,
+        emitter,
+        body,
+        condition,
+        post,
+    )?;
+    leave(&mut emitter.layout, mark);
+    Ok(flow)
+}
+
+/// A loop.
+#[cycle(statement)]
+#[tactic(auto, using(crate::proofs::Looping::emits_turns))]
+fn emit_loop<'t, 'l, 'm, 's, 'a>(
+    alloc: Global,
+    table: &'t TypeTable<'a>,
+    elements: &'l ElementList,
+    result_type: Option<ValueType<'a>>,
+    emitter: &'m mut Emitter<'a>,
+    header: &'a ForHeader,
+    body: &'a [StatementNode],
+) -> Result<Flow, Halt>
+    ensures { IfOk result (λ flow. Emits table.now emitter.old emitter.new (control flow) (made (globals_in table.now) elements.now (yield_of (types_of table.now) result_type.entry) (site_of table.now emitter.old) (For (for_head_of header.now) (body_of body.now)))) }
+{
+    match header {
+        ForHeader::Forever => {
+            emit_turns(
+                alloc,
+                table,
+                elements,
+                result_type,
+                emitter,
+                body,
+                None,
+                None,
+            )
+        }
+        ForHeader::While(condition) => {
+            emit_turns(
+                alloc,
+                table,
+                elements,
+                result_type,
+                emitter,
+                body,
+                Some(condition),
+                None,
+            )
+        }
+        ForHeader::Clauses(first, condition, post) => {
+            emit_clauses(
+                alloc,
+                table,
+                elements,
+                result_type,
+                emitter,
+                body,
+                first.as_ref(),
+                condition.as_ref(),
+                post.as_ref(),
+            )
+        }
+        _ => Err(Halt::Flawed),
+    }
+}
+
+/// What stands behind `else`.
+#[cycle(statement)]
+#[tactic(auto, using(crate::proofs::Emitting::emits_nothing))]
+fn emit_other<'t, 'l, 'm, 's, 'a>(
+    alloc: Global,
+    table: &'t TypeTable<'a>,
+    elements: &'l ElementList,
+    result_type: Option<ValueType<'a>>,
+    emitter: &'m mut Emitter<'a>,
+    otherwise: &'a ElseNode,
+) -> Result<Flow, Halt>
+    ensures { IfOk result (λ flow. Emits table.now emitter.old emitter.new (control flow) (made_other (globals_in table.now) elements.now (yield_of (types_of table.now) result_type.entry) (site_of table.now emitter.old) (otherwise_of otherwise.now))) }
+{
+    match otherwise {
+        ElseNode::Nothing => Ok(Flow::through(alloc)),
+        ElseNode::Block(body) => {
+            emit_block(
+                alloc,
+                table,
+                elements,
+                result_type,
+                emitter,
+                body.as_slice(),
+            )
+        }
+        ElseNode::If(branch) => {
+            emit_branch(alloc, table, elements, result_type, emitter, branch)
+        }
+    }
+}
+
+/// A condition with two ways.
+#[cycle(statement)]
+fn emit_two_ways<'t, 'l, 'm, 's, 'a>(
+    alloc: Global,
+    table: &'t TypeTable<'a>,
+    elements: &'l ElementList,
+    result_type: Option<ValueType<'a>>,
+    emitter: &'m mut Emitter<'a>,
+    branch: &'a IfNode,
+) -> Result<Flow, Halt>
+    ensures { IfOk result (λ flow. Emits table.now emitter.old emitter.new (control flow) (made_two_ways (globals_in table.now) elements.now (yield_of (types_of table.now) result_type.entry) (site_of table.now emitter.old) (expression_of branch.now.condition) (body_of branch.now.body.items) (otherwise_of branch.now.otherwise))) }
+{
+    let visible = &emitter.layout.visible;
+    let condition = &branch.condition;
+    push_test(alloc, table, elements, visible, condition, &mut emitter.code)?;
+    let test = emitter.code.len();
+    emitter.code.push(Instr::Unless(0))?;
+    let body = branch.body.as_slice();
+    let mut flow = emit_block(alloc, table, elements, result_type, emitter, body)?;
+    let leads = flow.reaches_end;
+    let over = begin_other(test, leads, &mut emitter.code)?;
+    let otherwise = &branch.otherwise;
+    let other = emit_other(alloc, table, elements, result_type, emitter, otherwise)?;
+    end_other(over, leads, &mut emitter.code)?;
+    join_way(&mut flow, other)?;
+    Ok(flow)
+}
+
+/// A condition with one way.
+#[cycle(statement)]
+fn emit_one_way<'t, 'l, 'm, 's, 'a>(
+    alloc: Global,
+    table: &'t TypeTable<'a>,
+    elements: &'l ElementList,
+    result_type: Option<ValueType<'a>>,
+    emitter: &'m mut Emitter<'a>,
+    branch: &'a IfNode,
+) -> Result<Flow, Halt>
+    ensures { IfOk result (λ flow. Emits table.now emitter.old emitter.new (control flow) (made_one_way (globals_in table.now) elements.now (yield_of (types_of table.now) result_type.entry) (site_of table.now emitter.old) (expression_of branch.now.condition) (body_of branch.now.body.items))) }
+{
+    let visible = &emitter.layout.visible;
+    let condition = &branch.condition;
+    push_test(alloc, table, elements, visible, condition, &mut emitter.code)?;
+    let test = emitter.code.len();
+    emitter.code.push(Instr::Unless(0))?;
+    let body = branch.body.as_slice();
+    let mut flow = emit_block(alloc, table, elements, result_type, emitter, body)?;
+    end_test(test, &mut emitter.code)?;
+    may_end(&mut flow);
+    Ok(flow)
+}
+
+/// A condition, and what is done where it is true and where it is false.
+#[cycle(statement)]
+#[tactic(auto, using(crate::proofs::Branching::with_other, crate::proofs::Branching::without_other))]
+fn emit_ways<'t, 'l, 'm, 's, 'a>(
+    alloc: Global,
+    table: &'t TypeTable<'a>,
+    elements: &'l ElementList,
+    result_type: Option<ValueType<'a>>,
+    emitter: &'m mut Emitter<'a>,
+    branch: &'a IfNode,
+) -> Result<Flow, Halt>
+    ensures { IfOk result (λ flow. Emits table.now emitter.old emitter.new (control flow) (made_condition (globals_in table.now) elements.now (yield_of (types_of table.now) result_type.entry) (site_of table.now emitter.old) (expression_of branch.now.condition) (body_of branch.now.body.items) (otherwise_of branch.now.otherwise))) }
+{
+    if has_other(&branch.otherwise) {
+        emit_two_ways(alloc, table, elements, result_type, emitter, branch)
+    } else {
+        emit_one_way(alloc, table, elements, result_type, emitter, branch)
+    }
+}
+
+/// An `if`.
+#[cycle(statement)]
+fn emit_branch<'t, 'l, 'm, 's, 'a>(
+    alloc: Global,
+    table: &'t TypeTable<'a>,
+    elements: &'l ElementList,
+    result_type: Option<ValueType<'a>>,
+    emitter: &'m mut Emitter<'a>,
+    branch: &'a IfNode,
+) -> Result<Flow, Halt>
+    ensures { IfOk result (λ flow. Emits table.now emitter.old emitter.new (control flow) (made_branch (globals_in table.now) elements.now (yield_of (types_of table.now) result_type.entry) (site_of table.now emitter.old) (branch_of branch.now))) }
+{
+    let mark = enter(&mut emitter.layout);
+    emit_head(alloc, table, elements, emitter, &branch.header)?;
+    let flow = emit_ways(alloc, table, elements, result_type, emitter, branch)?;
+    leave(&mut emitter.layout, mark);
+    Ok(flow)
+}
+
+/// A statement.
+#[cycle(statement)]
+#[tactic(auto, using(crate::proofs::Emitting::emits_nothing))]
+fn emit_statement<'t, 'l, 'm, 's, 'a>(
+    alloc: Global,
+    table: &'t TypeTable<'a>,
+    elements: &'l ElementList,
+    result_type: Option<ValueType<'a>>,
+    emitter: &'m mut Emitter<'a>,
+    statement: &'a StatementNode,
+) -> Result<Flow, Halt>
+    ensures { IfOk result (λ flow. Emits table.now emitter.old emitter.new (control flow) (made (globals_in table.now) elements.now (yield_of (types_of table.now) result_type.entry) (site_of table.now emitter.old) (statement_of statement.now))) }
+{
+    match statement {
+        StatementNode::Empty => Ok(Flow::through(alloc)),
+        StatementNode::Block(body) => {
+            emit_block(
+                alloc,
+                table,
+                elements,
+                result_type,
+                emitter,
+                body.as_slice(),
+            )
+        }
+        StatementNode::Simple(simple) => {
+            emit_alone(alloc, table, elements, emitter, simple)?;
+            Ok(Flow::through(alloc))
+        }
+        StatementNode::If(branch) => {
+            emit_branch(alloc, table, elements, result_type, emitter, branch)
+        }
+        StatementNode::For(header, body) => {
+            emit_loop(
+                alloc,
+                table,
+                elements,
+                result_type,
+                emitter,
+                header,
+                body.as_slice(),
+            )
+        }
+        StatementNode::Break => {
+            let flow = emit_jump(alloc, true, emitter)?;
+            Ok(flow)
+        }
+        StatementNode::Continue => {
+            let flow = emit_jump(alloc, false, emitter)?;
+            Ok(flow)
+        }
+        _ => Err(Halt::Flawed),
+    }
+}

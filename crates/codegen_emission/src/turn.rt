@@ -1,0 +1,77 @@
+//! What is done between the turns of a loop.
+
+ghost use Rattle.std.specs.Prelude.{◌≡◌, ◌∷◌, ◌++◌, [], OnOk, cond, option_map, take};
+ghost use Rattle.bytecode.specs.declared.instr.Instr.TheVariants as instrs;
+ghost use Rattle.syntax.specs.View.{expression_of, simple_of};
+ghost use Rattle.type_table.specs.Visible.{globals_in, scope_of};
+ghost use Rattle.codegen_base.specs.Generated.{made_post, tests};
+ghost use Rattle.codegen_expression.specs.Emission.{Puts};
+ghost use Rattle.codegen_simple.specs.Layouts.{layout_of};
+ghost use Rattle.codegen_emission.specs.Emitted.{site_of};
+ghost use Rattle.codegen_emission.specs.Turns.{Rounds};
+
+use crate::alone::emit_post;
+use crate::emitter::Emitter;
+use bytecode::Instr;
+use codegen_expression::element_list::ElementList;
+use codegen_expression::halt::Halt;
+use codegen_operation::values::push;
+use std::alloc::Global;
+use syntax::{ExpressionNode, SimpleNode};
+use type_table::scope::Visible;
+use type_table::table::TypeTable;
+use type_table::value_type::ValueType;
+
+/// Pushes the truth value of a condition.
+///
+/// Errors: something is wrong with the condition; want of memory.
+pub fn push_test(
+    alloc: Global,
+    table: &TypeTable<'_>,
+    elements: &ElementList,
+    visible: &Visible<'_>,
+    condition: &ExpressionNode,
+    code: &mut Vec<Instr>,
+) -> Result<(), Halt>
+    ensures { (locals : _) → OnOk result (Puts code.old.items code.new.items (tests (globals_in table.now) elements.now (record { scope = scope_of table.now visible.now; locals = locals }) (expression_of condition.now))) }
+{
+    push(alloc, table, elements, visible, ValueType::Bool, condition, code)
+}
+
+/// Leads back to the head of a loop. Where its body never comes round again, nothing stays that stands behind it.
+fn come_back(
+    comes_round: bool,
+    behind: usize,
+    head: u32,
+    code: &mut Vec<Instr>,
+) -> Result<(), Halt>
+    ensures { OnOk result (code.new.items ≡ cond comes_round (code.old.items ++ instrs.Loop head ∷ []) (take behind code.old.items)) }
+{
+    if comes_round {
+        code.push(Instr::Loop(head))?;
+    } else {
+        code.truncate(behind);
+    }
+    Ok(())
+}
+
+/// What is done behind each turn of a loop, and the way back to its head. Where its body never comes round again, there are
+/// no instructions.
+///
+/// Errors: something is wrong with the statement; want of memory.
+pub fn emit_round<'a>(
+    alloc: Global,
+    table: &TypeTable<'a>,
+    elements: &ElementList,
+    emitter: &mut Emitter<'a>,
+    comes_round: bool,
+    head: u32,
+    post: Option<&'a SimpleNode>,
+) -> Result<(), Halt>
+    ensures { OnOk result (Rounds table.now comes_round head emitter.old emitter.new (made_post (globals_in table.now) elements.now (layout_of table.now emitter.old.layout) (site_of table.now emitter.old) (option_map (λ (s : _). simple_of s.now) post.entry))) }
+{
+    let behind = emitter.code.len();
+    emit_post(alloc, table, elements, emitter, post)?;
+    come_back(comes_round, behind, head, &mut emitter.code)?;
+    Ok(())
+}

@@ -1,0 +1,5 @@
+pub mod Returning
+pub mod Zeros
+pub mod Starting
+pub mod Ranging
+pub mod Selecting

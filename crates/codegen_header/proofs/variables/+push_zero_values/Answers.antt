@@ -1,0 +1,17 @@
+use Rattle.std.proofs.Common.{rules, ◌≡◌, ◌∷◌, map, sym, subst}
+use Rattle.syntax.specs.View.{name_of}
+use Rattle.type_table.specs.Views.{kind_of}
+use Rattle.type_table.specs.Visible.{globals_in, types_of}
+use Rattle.codegen_base.specs.Generated.{zero_values}
+use Rattle.codegen_expression.specs.Emission.{Puts}
+use Rattle.codegen_header.proofs.Zeros.{puts_next_zero}
+use Rattle.codegen_header.proofs.variables.+push_zero_values.Goals as goal
+
+pub returns : goal.returns
+returns t c =
+    let globals = globals_in c.args.table.now in
+    let elements = c.args.elements.now in
+    let kind = kind_of (types_of c.args.table.now) c.args.kind in
+    let is : c.args.names.now ≡ c.in-Some._name.now ∷ c.in-Some.names.now = search rules in
+    let put = puts_next_zero globals elements (name_of c.in-Some._name.now) (map name_of c.in-Some.names.now) kind c.args.code.now.items c.push_zeros.new.code.items c.push_zero_values.new.code.items c.in_ok-push_zeros.ensures c.in_ok-push_zero_values.ensures in
+    subst (λ l. Puts c.args.code.now.items c.push_zero_values.new.code.items (zero_values globals elements 0 (map name_of l) kind)) (sym is) put

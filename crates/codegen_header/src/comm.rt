@@ -1,0 +1,185 @@
+//! What the clauses of a select do with what was received ("Select statements" of the Go specification).
+
+ghost use Rattle.std.specs.Prelude.{◌≡◌, ◌++◌, ◌∷◌, [], IfOk, OnOk, map, option_map};
+ghost use Rattle.syntax.specs.Tree.{CommAssign, CommDefine, CommReceive};
+ghost use Rattle.syntax.specs.View.{comm_of, expression_of, name_of, place_of};
+ghost use Rattle.type_table.specs.Types.{BoolType};
+ghost use Rattle.type_table.specs.Scopes.{Yield};
+ghost use Rattle.type_table.specs.Views.{kind_of};
+ghost use Rattle.type_table.specs.Visible.{Keeps, globals_in, scope_of, types_of};
+ghost use Rattle.codegen_base.specs.Generated.{behind_comm, comm_plan, one_or_two, unless_two};
+ghost use Rattle.codegen_base.specs.Layouts.{declaring_all};
+ghost use Rattle.codegen_base.specs.Statements.{assigns, name_spots, place_spots};
+ghost use Rattle.plan.specs.Plan.{Skip};
+ghost use Rattle.codegen_operation.specs.Spots.{spot_in};
+ghost use Rattle.codegen_simple.specs.Layouts.{layout_of};
+ghost use Rattle.codegen_simple.specs.Simples.{Appends};
+ghost use Rattle.codegen_header.specs.Received.{unwanted};
+
+use crate::carried::carried;
+use bytecode::Instr;
+use codegen_expression::element_list::ElementList;
+use codegen_expression::halt::Halt;
+use codegen_expression::operand::words_of;
+use codegen_operation::assignment::assign;
+use codegen_operation::place::place_spot;
+use codegen_operation::spot::Spot;
+use codegen_simple::define::name_spot;
+use codegen_simple::layout::{Layout, declare_new};
+use std::alloc::Global;
+use syntax::{CommNode, ExpressionNode, Name, PlaceNode};
+use type_table::table::TypeTable;
+use type_table::value_type::ValueType;
+
+/// Declares a name for an item of this type, where it is new, and one for whether the item was sent, and answers where they go.
+fn define_received<'a>(
+    alloc: Global,
+    table: &TypeTable<'a>,
+    elements: &ElementList,
+    layout: &mut Layout<'a>,
+    kind: ValueType<'a>,
+    item: &'a Name,
+    sent: Option<&'a Name>,
+) -> Result<Vec<Spot>, Halt>
+    ensures spots { IfOk result (λ spots. (yields : Yield) → map spot_in spots.items ≡ name_spots (globals_in table.now) elements.now (layout_of table.now layout.old) (one_or_two (globals_in table.now) elements.now yields (name_of item.now) (option_map (λ (n : _). name_of n.now) sent.entry)) (kind_of (types_of table.now) kind.entry ∷ (BoolType ∷ []))) }
+    ensures after { (yields : Yield) → OnOk result (layout_of table.now layout.new ≡ declaring_all (globals_in table.now) elements.now (one_or_two (globals_in table.now) elements.now yields (name_of item.now) (option_map (λ (n : _). name_of n.now) sent.entry)) (kind_of (types_of table.now) kind.entry ∷ (BoolType ∷ [])) (layout_of table.now layout.old)) }
+    ensures kept { OnOk result (Keeps layout.old.visible layout.new.visible) }
+{
+    let mut spots = Vec::new(alloc);
+    spots.push(name_spot(table, elements, layout, item, kind)?)?;
+    declare_new(alloc, table, elements, layout, kind, item)?;
+    let Some(sent) = sent else {
+        return Ok(spots);
+    };
+    spots.push(name_spot(table, elements, layout, sent, ValueType::Bool)?)?;
+    declare_new(alloc, table, elements, layout, ValueType::Bool, sent)?;
+    Ok(spots)
+}
+
+/// Drops whether an item was sent, unless it is wanted.
+fn drop_sent(wanted: bool, code: &mut Vec<Instr>) -> Result<(), Halt>
+    ensures { OnOk result (code.new.items ≡ code.old.items ++ unwanted wanted) }
+{
+    if !wanted {
+        code.push(Instr::Discard(1))?;
+    }
+    Ok(())
+}
+
+/// What was received goes to names, which are declared where they are new.
+fn emit_define<'a>(
+    alloc: Global,
+    table: &TypeTable<'a>,
+    elements: &ElementList,
+    layout: &mut Layout<'a>,
+    channel: &ExpressionNode,
+    item: &'a Name,
+    sent: Option<&'a Name>,
+    code: &mut Vec<Instr>,
+) -> Result<(), Halt>
+    ensures emitted { (yields : Yield) → OnOk result (Appends code.old.items code.new.items (comm_plan (globals_in table.now) elements.now yields (layout_of table.now layout.old) (CommDefine (name_of item.now) (option_map (λ (n : _). name_of n.now) sent.entry) (expression_of channel.now)))) }
+    ensures after { (yields : Yield) → OnOk result (layout_of table.now layout.new ≡ behind_comm (globals_in table.now) elements.now yields (CommDefine (name_of item.now) (option_map (λ (n : _). name_of n.now) sent.entry) (expression_of channel.now)) (layout_of table.now layout.old)) }
+    ensures kept { OnOk result (Keeps layout.old.visible layout.new.visible) }
+{
+    let kind = carried(table, &layout.visible, channel)?;
+    drop_sent(sent.is_some(), code)?;
+    let spots = define_received(alloc, table, elements, layout, kind, item, sent)?;
+    assign(alloc, spots.as_slice(), code)?;
+    Ok(())
+}
+
+/// Where an item of this type goes, and whether it was sent.
+fn received_spots<'a>(
+    alloc: Global,
+    table: &TypeTable<'a>,
+    elements: &ElementList,
+    layout: &Layout<'a>,
+    kind: ValueType<'a>,
+    item: &PlaceNode,
+    sent: Option<&PlaceNode>,
+) -> Result<Vec<Spot>, Halt>
+    ensures { IfOk result (λ spots. (yields : Yield) → map spot_in spots.items ≡ place_spots (globals_in table.now) elements.now (scope_of table.now layout.now.visible) (one_or_two (globals_in table.now) elements.now yields (place_of item.now) (option_map (λ (p : _). place_of p.now) sent.entry)) (kind_of (types_of table.now) kind.entry ∷ (BoolType ∷ []))) }
+{
+    let visible = &layout.visible;
+    let mut spots = Vec::new(alloc);
+    spots.push(place_spot(table, elements, visible, item, kind)?)?;
+    let Some(sent) = sent else {
+        return Ok(spots);
+    };
+    spots.push(place_spot(table, elements, visible, sent, ValueType::Bool)?)?;
+    Ok(spots)
+}
+
+/// What was received goes to places.
+fn emit_assign<'a>(
+    alloc: Global,
+    table: &TypeTable<'a>,
+    elements: &ElementList,
+    layout: &Layout<'a>,
+    channel: &ExpressionNode,
+    item: &PlaceNode,
+    sent: Option<&PlaceNode>,
+    code: &mut Vec<Instr>,
+) -> Result<(), Halt>
+    ensures { (yields : Yield) → OnOk result (Appends code.old.items code.new.items (comm_plan (globals_in table.now) elements.now yields (layout_of table.now layout.now) (CommAssign (place_of item.now) (option_map (λ (p : _). place_of p.now) sent.entry) (expression_of channel.now)))) }
+{
+    let kind = carried(table, &layout.visible, channel)?;
+    drop_sent(sent.is_some(), code)?;
+    let spots = received_spots(alloc, table, elements, layout, kind, item, sent)?;
+    assign(alloc, spots.as_slice(), code)?;
+    Ok(())
+}
+
+/// What was received is dropped.
+fn emit_dropped<'a>(
+    table: &TypeTable<'a>,
+    elements: &ElementList,
+    layout: &Layout<'a>,
+    channel: &ExpressionNode,
+    code: &mut Vec<Instr>,
+) -> Result<(), Halt>
+    ensures { (yields : Yield) → OnOk result (Appends code.old.items code.new.items (comm_plan (globals_in table.now) elements.now yields (layout_of table.now layout.now) (CommReceive (expression_of channel.now)))) }
+{
+    let kind = carried(table, &layout.visible, channel)?;
+    let Some(count) = words_of(table, elements, kind).checked_add(1) else {
+        return Err(Halt::Memory);
+    };
+    code.push(Instr::Discard(count))?;
+    Ok(())
+}
+
+/// What was received goes where a clause wants it; names are declared for it.
+///
+/// Errors: something is wrong with the clause; want of memory.
+pub fn take_comm<'a>(
+    alloc: Global,
+    table: &TypeTable<'a>,
+    elements: &ElementList,
+    layout: &mut Layout<'a>,
+    comm: &'a CommNode,
+    code: &mut Vec<Instr>,
+) -> Result<(), Halt>
+    ensures emitted { (yields : Yield) → OnOk result (Appends code.old.items code.new.items (comm_plan (globals_in table.now) elements.now yields (layout_of table.now layout.old) (comm_of comm.now))) }
+    ensures after { (yields : Yield) → OnOk result (layout_of table.now layout.new ≡ behind_comm (globals_in table.now) elements.now yields (comm_of comm.now) (layout_of table.now layout.old)) }
+    ensures kept { OnOk result (Keeps layout.old.visible layout.new.visible) }
+{
+    match comm {
+        CommNode::Send(_, _) => {}
+        CommNode::Receive(channel) => {
+            emit_dropped(table, elements, layout, channel, code)?;
+        }
+        CommNode::Define(item, sent, channel) => {
+            let sent = sent.as_ref();
+            emit_define(
+                alloc, table, elements, layout, channel, item, sent, code,
+            )?;
+        }
+        CommNode::Assign(item, sent, channel) => {
+            let sent = sent.as_ref();
+            emit_assign(
+                alloc, table, elements, layout, channel, item, sent, code,
+            )?;
+        }
+    }
+    Ok(())
+}

@@ -1,0 +1,199 @@
+//! Loops over what is received from a channel ("For statements with range clause" of the Go specification).
+
+ghost use Rattle.std.specs.Prelude.{◌≡◌, IfOk, List, OnOk};
+ghost use Rattle.bytecode.specs.declared.instr.Instr.TheVariants as instrs;
+ghost use Rattle.syntax.specs.Tree.{AssignTarget, DefineTarget, Expression};
+ghost use Rattle.syntax.specs.View.{expression_of, name_of, place_of, target_of};
+ghost use Rattle.type_table.specs.Scopes.{Scope, Yield};
+ghost use Rattle.type_table.specs.Views.{kind_of};
+ghost use Rattle.type_table.specs.Visible.{Keeps, globals_in, scope_of, types_of};
+ghost use Rattle.meaning.specs.Variables.{blank};
+ghost use Rattle.codegen_base.specs.Generated.{keeps, receives, takes};
+ghost use Rattle.codegen_base.specs.Layouts.{Layout as OneLayout, behind_target, carried, declaring, declaring_new, type_of};
+ghost use Rattle.codegen_base.specs.Pushes.{drops};
+ghost use Rattle.codegen_base.specs.Statements.{stores, width};
+ghost use Rattle.plan.specs.Plan.{Do, Skip};
+ghost use Rattle.codegen_operation.specs.Spots.{spot_in};
+ghost use Rattle.codegen_simple.specs.Layouts.{layout_of};
+ghost use Rattle.codegen_simple.specs.Simples.{Appends};
+
+use crate::blank::Blank;
+use crate::carried::carried;
+use bytecode::Instr;
+use codegen_expression::element_list::ElementList;
+use codegen_expression::halt::Halt;
+use codegen_expression::operand::{number, words_of};
+use codegen_expression::shape::shape_of;
+use codegen_operation::place::place_spot;
+use codegen_operation::spot::{Spot, drop_words, store};
+use codegen_operation::values::push_own;
+use codegen_simple::define::name_spot;
+use codegen_simple::layout::{Layout, declare, declare_new};
+use std::alloc::Global;
+use syntax::{ExpressionNode, Name, PlaceNode, RangeTarget};
+use type_table::table::TypeTable;
+use type_table::value_type::ValueType;
+
+/// What a range receives from: the type of its channel, the type of the items, and the local in which the channel is kept.
+#[derive(Clone, Copy)]
+pub struct Ranged<'a> {
+    pub channel: ValueType<'a>,
+    pub item: ValueType<'a>,
+    pub place: u32,
+}
+
+/// A channel goes to the next local.
+///
+/// Errors: something is wrong with the channel; want of memory.
+#[tactic(auto, using(crate::proofs::Ranging::appends_keeps))]
+pub fn emit_kept<'a>(
+    alloc: Global,
+    table: &TypeTable<'a>,
+    elements: &ElementList,
+    layout: &Layout<'a>,
+    channel: &ExpressionNode,
+    code: &mut Vec<Instr>,
+) -> Result<Ranged<'a>, Halt>
+    ensures emitted { (yields : Yield) → OnOk result (Appends code.old.items code.new.items (keeps (globals_in table.now) elements.now yields (layout_of table.now layout.now) (expression_of channel.now))) }
+    ensures channel { IfOk result (λ ranged. type_of (globals_in table.now) elements.now (scope_of table.now layout.now.visible) (expression_of channel.now) ≡ kind_of (types_of table.now) ranged.channel) }
+    ensures item { IfOk result (λ ranged. carried (globals_in table.now) elements.now (scope_of table.now layout.now.visible) (expression_of channel.now) ≡ kind_of (types_of table.now) ranged.item) }
+    ensures place { IfOk result (λ ranged. ranged.place ≡ layout.now.visible.words) }
+{
+    let item = carried(table, &layout.visible, channel)?;
+    let place = number(layout.visible.words)?;
+    let channel = push_own(alloc, table, elements, &layout.visible, channel, code)?;
+    code.push(Instr::Store(place, 1))?;
+    Ok(Ranged {
+        channel,
+        item,
+        place,
+    })
+}
+
+/// Declares the local in which a channel of this type is kept, in a block of its own.
+///
+/// Errors: want of memory.
+pub fn declare_kept<'a>(
+    alloc: Global,
+    table: &TypeTable<'a>,
+    elements: &ElementList,
+    hidden: &'a Blank,
+    layout: &mut Layout<'a>,
+    kind: ValueType<'a>,
+) -> Result<(), Halt>
+    ensures after { OnOk result (layout_of table.now layout.new ≡ declaring (globals_in table.now) elements.now (kind_of (types_of table.now) kind.entry) blank (layout_of table.now layout.old)) }
+    ensures kept { OnOk result (Keeps layout.old.visible layout.new.visible) }
+{
+    declare(alloc, table, elements, layout, kind, hidden.name())?;
+    Ok(())
+}
+
+/// Receives the next item.
+///
+/// Errors: want of memory.
+#[tactic(auto, using(crate::proofs::Ranging::appends_receives))]
+pub fn emit_next(
+    table: &TypeTable<'_>,
+    elements: &ElementList,
+    ranged: Ranged<'_>,
+    code: &mut Vec<Instr>,
+) -> Result<(), Halt>
+    ensures { (yields : Yield) (layout : OneLayout) (channel : Expression) → ranged.entry.place ≡ layout.scope.words → carried (globals_in table.now) elements.now layout.scope channel ≡ kind_of (types_of table.now) ranged.entry.item → OnOk result (Appends code.old.items code.new.items (receives (globals_in table.now) elements.now yields layout channel)) }
+{
+    code.push(Instr::Load(ranged.place, 1))?;
+    code.push(Instr::Receive(shape_of(table, elements, ranged.item)))?;
+    Ok(())
+}
+
+/// Drops a value of this type, where it is not wanted.
+///
+/// Errors: want of memory.
+pub fn emit_unused(
+    table: &TypeTable<'_>,
+    elements: &ElementList,
+    kind: ValueType<'_>,
+    code: &mut Vec<Instr>,
+) -> Result<(), Halt>
+    ensures { (scope : Scope) → OnOk result (Appends code.old.items code.new.items (drops (width (globals_in table.now) elements.now scope (kind_of (types_of table.now) kind.entry)) Skip)) }
+{
+    drop_words(words_of(table, elements, kind), code)?;
+    Ok(())
+}
+
+/// A value goes to its spot, and the clock ticks.
+#[tactic(auto, using(crate::proofs::Ranging::appends_stored))]
+fn emit_stored(spot: Spot, code: &mut Vec<Instr>) -> Result<(), Halt>
+    ensures { OnOk result (Appends code.old.items code.new.items (stores (spot_in spot) (Do instrs.Tick Skip))) }
+{
+    store(spot, code)?;
+    code.push(Instr::Tick)?;
+    Ok(())
+}
+
+/// An item of this type goes to a name, which is declared.
+#[tactic(auto, using(crate::proofs::Ranging::appends_at))]
+fn take_name<'a>(
+    alloc: Global,
+    table: &TypeTable<'a>,
+    elements: &ElementList,
+    layout: &mut Layout<'a>,
+    kind: ValueType<'a>,
+    name: &'a Name,
+    code: &mut Vec<Instr>,
+) -> Result<(), Halt>
+    ensures emitted { (yields : Yield) → OnOk result (Appends code.old.items code.new.items (takes (globals_in table.now) elements.now yields (layout_of table.now layout.old) (kind_of (types_of table.now) kind.entry) (DefineTarget (name_of name.now)))) }
+    ensures after { OnOk result (layout_of table.now layout.new ≡ declaring_new (globals_in table.now) elements.now (kind_of (types_of table.now) kind.entry) (name_of name.now) (layout_of table.now layout.old)) }
+    ensures kept { OnOk result (Keeps layout.old.visible layout.new.visible) }
+{
+    let spot = name_spot(table, elements, layout, name, kind)?;
+    declare_new(alloc, table, elements, layout, kind, name)?;
+    emit_stored(spot, code)?;
+    Ok(())
+}
+
+/// An item of this type goes to a place.
+#[tactic(auto, using(crate::proofs::Ranging::appends_at))]
+fn take_place<'a>(
+    table: &TypeTable<'a>,
+    elements: &ElementList,
+    layout: &Layout<'a>,
+    kind: ValueType<'a>,
+    place: &PlaceNode,
+    code: &mut Vec<Instr>,
+) -> Result<(), Halt>
+    ensures { (yields : Yield) → OnOk result (Appends code.old.items code.new.items (takes (globals_in table.now) elements.now yields (layout_of table.now layout.now) (kind_of (types_of table.now) kind.entry) (AssignTarget (place_of place.now)))) }
+{
+    let spot = place_spot(table, elements, &layout.visible, place, kind)?;
+    emit_stored(spot, code)?;
+    Ok(())
+}
+
+/// An item of this type goes where it is wanted; a name is declared for it.
+///
+/// Errors: something is wrong with the place; want of memory.
+pub fn take_item<'a>(
+    alloc: Global,
+    table: &TypeTable<'a>,
+    elements: &ElementList,
+    layout: &mut Layout<'a>,
+    kind: ValueType<'a>,
+    target: &'a RangeTarget,
+    code: &mut Vec<Instr>,
+) -> Result<(), Halt>
+    ensures emitted { (yields : Yield) → OnOk result (Appends code.old.items code.new.items (takes (globals_in table.now) elements.now yields (layout_of table.now layout.old) (kind_of (types_of table.now) kind.entry) (target_of target.now))) }
+    ensures after { OnOk result (layout_of table.now layout.new ≡ behind_target (globals_in table.now) elements.now (kind_of (types_of table.now) kind.entry) (target_of target.now) (layout_of table.now layout.old)) }
+    ensures kept { OnOk result (Keeps layout.old.visible layout.new.visible) }
+{
+    match target {
+        RangeTarget::Nothing => {
+            emit_unused(table, elements, kind, code)?;
+        }
+        RangeTarget::Define(name) => {
+            take_name(alloc, table, elements, layout, kind, name, code)?;
+        }
+        RangeTarget::Assign(place) => {
+            take_place(table, elements, layout, kind, place, code)?;
+        }
+    }
+    Ok(())
+}

@@ -1,0 +1,87 @@
+//! Parameters and results of functions.
+
+ghost use Rattle.std.specs.Prelude.{◌≡◌, IfOk, OnOk, Some, map, option_map};
+ghost use Rattle.syntax.specs.View.{declared_of, name_of, type_of};
+ghost use Rattle.type_table.specs.Scopes.{nothing_declared, type_in};
+ghost use Rattle.type_table.specs.Views.{kind_of, yield_of};
+ghost use Rattle.type_table.specs.Visible.{globals_in, types_of};
+ghost use Rattle.checker_declaration.specs.Kinds.{all_fields, fields_declared, yield_of as written_yield};
+ghost use Rattle.codegen_base.specs.Layouts.{with_parameters};
+ghost use Rattle.codegen_simple.specs.Layouts.{layout_of};
+
+use codegen_expression::element_list::ElementList;
+use codegen_expression::halt::Halt;
+use codegen_simple::layout::{Layout, declare};
+use std::alloc::Global;
+use syntax::{DeclaredNode, Name, TypeNode};
+use type_table::table::TypeTable;
+use type_table::value_type::{ValueType, global_type_in};
+
+/// A type that stands outside of functions.
+fn written<'a>(table: &TypeTable<'a>, kind: &'a TypeNode) -> Result<ValueType<'a>, Halt>
+    ensures { IfOk result (λ k. type_in (types_of table.now) nothing_declared (type_of kind.now) ≡ Some (kind_of (types_of table.now) k)) }
+{
+    match global_type_in(table.types(), kind) {
+        Some(kind) => Ok(kind),
+        None => Err(Halt::Flawed),
+    }
+}
+
+/// The type of a function's result, if it has one.
+///
+/// Errors: something is wrong with the type.
+pub(crate) fn result_type<'a>(
+    table: &TypeTable<'a>,
+    kind: Option<&'a TypeNode>,
+) -> Result<Option<ValueType<'a>>, Halt>
+    ensures { IfOk result (λ k. yield_of (types_of table.now) k ≡ written_yield (types_of table.now) (option_map (λ (t : _). type_of t.now) kind.entry)) }
+{
+    match kind {
+        Some(kind) => {
+            let kind = written(table, kind)?;
+            Ok(Some(kind))
+        }
+        None => Ok(None),
+    }
+}
+
+/// Declares parameters of one type.
+fn declare_names<'t, 'l, 'm, 'a>(
+    alloc: Global,
+    table: &'t TypeTable<'a>,
+    elements: &'l ElementList,
+    layout: &'m mut Layout<'a>,
+    kind: ValueType<'a>,
+    names: &'a [Name],
+) -> Result<(), Halt>
+    ensures { OnOk result (layout_of table.now layout.new ≡ with_parameters (globals_in table.now) elements.now (all_fields (Some (kind_of (types_of table.now) kind.entry)) (map name_of names.now)) (layout_of table.now layout.old)) }
+{
+    let Some((name, names)) = names.split_first() else {
+        return Ok(());
+    };
+    declare(alloc, table, elements, layout, kind, name)?;
+    declare_names(alloc, table, elements, layout, kind, names)?;
+    Ok(())
+}
+
+/// Declares parameters.
+///
+/// Errors: something is wrong with a type; want of memory.
+#[tactic(auto, using(crate::proofs::Heads::parameters_grouped))]
+pub(crate) fn declare_parameters<'t, 'l, 'm, 'a>(
+    alloc: Global,
+    table: &'t TypeTable<'a>,
+    elements: &'l ElementList,
+    layout: &'m mut Layout<'a>,
+    groups: &'a [DeclaredNode],
+) -> Result<(), Halt>
+    ensures { OnOk result (layout_of table.now layout.new ≡ with_parameters (globals_in table.now) elements.now (fields_declared (types_of table.now) (map declared_of groups.now)) (layout_of table.now layout.old)) }
+{
+    let Some((group, groups)) = groups.split_first() else {
+        return Ok(());
+    };
+    let kind = written(table, &group.type_node)?;
+    declare_names(alloc, table, elements, layout, kind, group.names.as_slice())?;
+    declare_parameters(alloc, table, elements, layout, groups)?;
+    Ok(())
+}
