@@ -11,18 +11,23 @@ ghost use Rattle.word.specs.Worlds.{Equal};
 
 use bytecode::Code;
 use checker::Typed;
+use codegen_program::code_of;
 use go_text::Fault;
 use std::alloc::Global;
 
 /// The code of a checked program, which does what the source does and keeps all rules of the verifier.
 ///
 /// Errors: only `Memory`.
-pub fn compile(_alloc: Global, _typed: &Typed) -> Result<Code, Fault>
-    requires grammatical { IsGrammatical (tree_of (tree_in _typed.now)) }
-    requires limited { IsLimited (tree_of (tree_in _typed.now)) }
-    ensures equal { IfOk result (λ code. Equal (source_kind (tree_of (tree_in _typed.now))) (code_kind code)) }
+#[tactic(auto, using(crate::proofs::Compiled::compiled_equal, crate::proofs::Compiled::compiled_verified))]
+pub fn compile(alloc: Global, typed: &Typed) -> Result<Code, Fault>
+    requires grammatical { IsGrammatical (tree_of (tree_in typed.now)) }
+    requires limited { IsLimited (tree_of (tree_in typed.now)) }
+    ensures equal { IfOk result (λ code. Equal (source_kind (tree_of (tree_in typed.now))) (code_kind code)) }
     ensures verified { IfOk result IsVerified }
     ensures memory { IfErr result (λ fault. fault ≡ Fault.Memory) }
 {
-    Err(Fault::Memory)
+    match code_of(alloc, typed) {
+        Ok(code) => Ok(code),
+        Err(_) => Err(Fault::Memory),
+    }
 }
