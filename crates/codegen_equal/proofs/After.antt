@@ -28,8 +28,8 @@ use Rattle.codegen_follows.proofs.Stands.{View, scope_of, variables, Fine, Simpl
 use Rattle.codegen_follows.proofs.Grown.{grown}
 use Rattle.codegen_follows.proofs.Begun.{FineBehind}
 use Rattle.codegen_ranges.proofs.Defined.{given_same}
-use Rattle.codegen_fine.proofs.Layouts.{own_same}
-use Rattle.codegen_fine.proofs.Variables.{three_false, not_true, new_by, alike_values, all_each, variables_are}
+use Rattle.codegen_fine_simple.proofs.Layouts.{own_same}
+use Rattle.codegen_fine_simple.proofs.Variables.{three_false, not_true, new_by, alike_values, all_each, variables_are}
 use Rattle.codegen_equal.proofs.Given.{Well, AllWell, AreMade, written_well, right_well}
 use Rattle.codegen_equal.proofs.Behind.{Good, good_all}
 

@@ -20,8 +20,8 @@ use Rattle.codegen_base.proofs.Typing.{Free, FieldsKnown, broken, nodes_end, wor
 use Rattle.codegen_base.proofs.Called.{same_count}
 use Rattle.codegen_requests.proofs.Channels.{channel_of}
 use Rattle.codegen_requests.proofs.Sets.{given_long}
-use Rattle.codegen_fine.proofs.Layouts.{declarable_parts}
-use Rattle.codegen_fine.proofs.Makes.{type_outside}
+use Rattle.codegen_fine_simple.proofs.Layouts.{declarable_parts}
+use Rattle.codegen_fine_operation.proofs.Makes.{type_outside}
 
 -- the type that a value of a type takes
 typed_default : (o : Option ValueType) → default_type (option_map Typed o) ≡ o

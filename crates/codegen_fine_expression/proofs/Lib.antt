@@ -1,0 +1,13 @@
+pub mod Sees
+pub mod WordKinds
+pub mod Pushing
+pub mod Operands
+pub mod Emitted
+pub mod Spots
+pub mod Requests
+pub mod Places
+pub mod Updates
+pub mod Conditions
+pub mod Noting
+pub mod Wide
+pub mod Keeping

@@ -1,0 +1,2 @@
+//! Why the code of statements keeps the verifier's rules. It has lemmas alone.
+#![tactic(auto)]
