@@ -55,6 +55,18 @@ fn come_back(
     Ok(())
 }
 
+/// Leads back to the head of a loop, where its body comes round again.
+///
+/// Errors: want of memory.
+pub fn come_round(comes_round: bool, head: u32, code: &mut Vec<Instr>) -> Result<(), Halt>
+    ensures { OnOk result (code.new.items ≡ code.old.items ++ cond comes_round (instrs.Loop head ∷ []) []) }
+{
+    if comes_round {
+        code.push(Instr::Loop(head))?;
+    }
+    Ok(())
+}
+
 /// What is done behind each turn of a loop, and the way back to its head. Where its body never comes round again, there are
 /// no instructions.
 ///
