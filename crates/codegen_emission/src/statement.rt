@@ -25,14 +25,10 @@ use codegen_expression::element_list::ElementList;
 use codegen_expression::halt::Halt;
 use codegen_expression::operand::number;
 use codegen_header::blank::Blank;
-use codegen_header::range::{
-    Ranged, declare_kept, emit_kept, emit_next, emit_unused, take_item,
-};
+use codegen_header::range::{Ranged, declare_kept, emit_kept, emit_next, emit_unused, take_item};
 use codegen_simple::layout::{enter, leave};
 use std::alloc::Global;
-use syntax::{
-    ElseNode, ExpressionNode, ForHeader, IfNode, RangeTarget, SimpleNode, StatementNode,
-};
+use syntax::{ElseNode, ExpressionNode, ForHeader, IfNode, RangeTarget, SimpleNode, StatementNode};
 use type_table::table::TypeTable;
 use type_table::value_type::ValueType;
 
@@ -61,7 +57,15 @@ pub(crate) fn emit_statements<'t, 'l, 'm, 's, 'a>(
 {
     let mut flow = Flow::through(alloc);
     for statement in body {
-        let one = emit_statement(alloc, table, elements, blank, result_type, emitter, statement)?;
+        let one = emit_statement(
+            alloc,
+            table,
+            elements,
+            blank,
+            result_type,
+            emitter,
+            statement,
+        )?;
         let goes_on = one.reaches_end;
         join(&mut flow, one)?;
         if !goes_on {
@@ -132,7 +136,14 @@ fn emit_tested<'t, 'l, 'm, 'c, 's, 'a>(
 {
     let head = number(emitter.code.len())?;
     let visible = &emitter.layout.visible;
-    push_test(alloc, table, elements, visible, condition, &mut emitter.code)?;
+    push_test(
+        alloc,
+        table,
+        elements,
+        visible,
+        condition,
+        &mut emitter.code,
+    )?;
     let test = emitter.code.len();
     emitter.code.push(Instr::Unless(0))?;
     let within = emit_block(alloc, table, elements, blank, result_type, emitter, body)?;
@@ -174,7 +185,16 @@ fn emit_turns<'t, 'l, 'm, 'c, 's, 'a>(
                 post,
             )
         }
-        None => emit_endless(alloc, table, elements, blank, result_type, emitter, body, post),
+        None => emit_endless(
+            alloc,
+            table,
+            elements,
+            blank,
+            result_type,
+            emitter,
+            body,
+            post,
+        ),
     }
 }
 
@@ -299,7 +319,15 @@ fn emit_loop<'t, 'l, 'm, 's, 'a>(
         }
         ForHeader::Range(target, channel) => {
             emit_range(
-                alloc, table, elements, blank, result_type, emitter, body, target, channel,
+                alloc,
+                table,
+                elements,
+                blank,
+                result_type,
+                emitter,
+                body,
+                target,
+                channel,
             )
         }
     }
@@ -353,7 +381,14 @@ fn emit_two_ways<'t, 'l, 'm, 's, 'a>(
 {
     let visible = &emitter.layout.visible;
     let condition = &branch.condition;
-    push_test(alloc, table, elements, visible, condition, &mut emitter.code)?;
+    push_test(
+        alloc,
+        table,
+        elements,
+        visible,
+        condition,
+        &mut emitter.code,
+    )?;
     let test = emitter.code.len();
     emitter.code.push(Instr::Unless(0))?;
     let body = branch.body.as_slice();
@@ -361,7 +396,15 @@ fn emit_two_ways<'t, 'l, 'm, 's, 'a>(
     let leads = flow.reaches_end;
     let over = begin_other(test, leads, &mut emitter.code)?;
     let otherwise = &branch.otherwise;
-    let other = emit_other(alloc, table, elements, blank, result_type, emitter, otherwise)?;
+    let other = emit_other(
+        alloc,
+        table,
+        elements,
+        blank,
+        result_type,
+        emitter,
+        otherwise,
+    )?;
     end_other(over, leads, &mut emitter.code)?;
     join_way(&mut flow, other)?;
     Ok(flow)
@@ -382,7 +425,14 @@ fn emit_one_way<'t, 'l, 'm, 's, 'a>(
 {
     let visible = &emitter.layout.visible;
     let condition = &branch.condition;
-    push_test(alloc, table, elements, visible, condition, &mut emitter.code)?;
+    push_test(
+        alloc,
+        table,
+        elements,
+        visible,
+        condition,
+        &mut emitter.code,
+    )?;
     let test = emitter.code.len();
     emitter.code.push(Instr::Unless(0))?;
     let body = branch.body.as_slice();
@@ -478,7 +528,15 @@ fn emit_items<'t, 'l, 'm, 's, 'a>(
     emitter.code.push(Instr::Unless(0))?;
     let kind = ranged.item;
     let within = emit_item(
-        alloc, table, elements, blank, result_type, emitter, body, kind, target,
+        alloc,
+        table,
+        elements,
+        blank,
+        result_type,
+        emitter,
+        body,
+        kind,
+        target,
     )?;
     let again = number(emitter.code.len())?;
     come_round(within.comes_round(), head, &mut emitter.code)?;
@@ -511,7 +569,15 @@ fn emit_range<'t, 'l, 'm, 'c, 's, 'a>(
     let layout = &mut emitter.layout;
     declare_kept(alloc, table, elements, blank, layout, ranged.channel)?;
     let flow = emit_items(
-        alloc, table, elements, blank, result_type, emitter, body, ranged, target,
+        alloc,
+        table,
+        elements,
+        blank,
+        result_type,
+        emitter,
+        body,
+        ranged,
+        target,
     )?;
     leave(&mut emitter.layout, mark);
     Ok(flow)

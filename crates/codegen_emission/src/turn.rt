@@ -35,16 +35,19 @@ pub fn push_test(
 ) -> Result<(), Halt>
     ensures { (locals : _) → OnOk result (Puts code.old.items code.new.items (tests (globals_in table.now) elements.now (record { scope = scope_of table.now visible.now; locals = locals }) (expression_of condition.now))) }
 {
-    push(alloc, table, elements, visible, ValueType::Bool, condition, code)
+    push(
+        alloc,
+        table,
+        elements,
+        visible,
+        ValueType::Bool,
+        condition,
+        code,
+    )
 }
 
 /// Leads back to the head of a loop. Where its body never comes round again, nothing stays that stands behind it.
-fn come_back(
-    comes_round: bool,
-    behind: usize,
-    head: u32,
-    code: &mut Vec<Instr>,
-) -> Result<(), Halt>
+fn come_back(comes_round: bool, behind: usize, head: u32, code: &mut Vec<Instr>) -> Result<(), Halt>
     ensures { OnOk result (code.new.items ≡ cond comes_round (code.old.items ++ instrs.Loop head ∷ []) (take behind code.old.items)) }
 {
     if comes_round {
