@@ -85,25 +85,28 @@ module _ (table : TypeTable) where
       let same : site_of table e2 ≡ past (site_of table e0) one = same_site table e1 e2 b2 ∙ site_past table e0 e1 f one a in
       subst (λ s. Emits table e0 e4 h (with_way ks one (make s)) × (places ≡ noted ++ starts (length e0.code.items) (with_way ks one (make s)).plan)) same
       (subst (λ x. Emits table e0 e4 x (with_way ks one (make (site_of table e2))) × (places ≡ noted ++ starts (length e0.code.items) (with_way ks one (make (site_of table e2))).plan)) (sym is) (go others (make (site_of table e2)) w c4)) where
-    go : (flow : Option Flow) (made : Option Made) → Ways table e2 e3 places0 places flow made
-        → e4.code.items ≡ cond (is_some flow) (cond f.ends (slice_set e3.code.items (length e1.code.items) (instrs.Jump (length e3.code.items))) e3.code.items) (take (length e1.code.items) e3.code.items)
-        → Emits table e0 e4 (with_others f flow) (with_way ks one made) × (places ≡ noted ++ starts (length e0.code.items) (with_way ks one made).plan)
-    go (Some flow) (Some m) w c =
-        let start = length e0.code.items in
-        (emits_way ks e0 e1 e2 e3 e4 f (control flow) one m a c2 b2 w.emits c b4,
-        w.begin ∙ ap (λ (l : List ℕ). l ++ starts (length e2.code.items) m.plan) p0 ∙ append_assoc noted (start ∷ []) (starts (length e2.code.items) m.plan) ∙ ap (λ n. noted ++ start ∷ starts n m.plan) (way_place e0 e1 e2 f one a c2))
-    go None None w c =
-        let e = emits_last ks e0 e1 f one a in
-        let over = cond f.ends (instrs.Jump 0 ∷ []) [] in
-        let held : e3.code.items ≡ e1.code.items ++ over = w.emits.code.is 0 0 ∙ append-nil e2.code.items ∙ c2 in
-        let back : e4.code.items ≡ e1.code.items = c ∙ ap (take (length e1.code.items)) held ∙ take-append-le (length e1.code.items) e1.code.items over (omega arith) ∙ take-length e1.code.items in
-        (record {
-          code = subst (λ x. Makes e0.code.items x f.waits (LastWay ks one.plan)) (sym back) e.code;
-          flows = e.flows;
-          prints = b4.prints ∙ w.emits.prints ∙ append-nil e2.prints.items ∙ b2.prints ∙ e.prints;
-          selects = b4.selects ∙ w.emits.selects ∙ append-nil e2.selects.items ∙ b2.selects ∙ e.selects;
-          layout = ap (layout_of table) b4.layout ∙ w.emits.layout ∙ ap (layout_of table) b2.layout ∙ e.layout;
-          kept = keeps_both table e0 e1 e4 a.kept (keeps_both table e1 e2 e4 (beside_keeps e1 e2 b2) (keeps_both table e2 e3 e4 w.emits.kept (beside_keeps e3 e4 b4)));
-        }, w.begin ∙ append-nil places0 ∙ p0)
-    go (Some flow) None w c = let no : true ≡ false = w.there in absurd cc
-    go None (Some m) w c = let no : false ≡ true = w.there in absurd cc
+        go : (flow : Option Flow) (made : Option Made) → Ways table e2 e3 places0 places flow made
+            → e4.code.items ≡ cond (is_some flow) (cond f.ends (slice_set e3.code.items (length e1.code.items) (instrs.Jump (length e3.code.items))) e3.code.items) (take (length e1.code.items) e3.code.items)
+            → Emits table e0 e4 (with_others f flow) (with_way ks one made) × (places ≡ noted ++ starts (length e0.code.items) (with_way ks one made).plan)
+        go (Some flow) (Some m) w c =
+            let start = length e0.code.items in (
+              emits_way ks e0 e1 e2 e3 e4 f (control flow) one m a c2 b2 w.emits c b4,
+              w.begin ∙ ap (λ (l : List ℕ). l ++ starts (length e2.code.items) m.plan) p0 ∙ append_assoc noted (start ∷ []) (starts (length e2.code.items) m.plan) ∙ ap (λ n. noted ++ start ∷ starts n m.plan) (way_place e0 e1 e2 f one a c2),
+            )
+        go None None w c =
+            let e = emits_last ks e0 e1 f one a in
+            let over = cond f.ends (instrs.Jump 0 ∷ []) [] in
+            let held : e3.code.items ≡ e1.code.items ++ over = w.emits.code.is 0 0 ∙ append-nil e2.code.items ∙ c2 in
+            let back : e4.code.items ≡ e1.code.items = c ∙ ap (take (length e1.code.items)) held ∙ take-append-le (length e1.code.items) e1.code.items over (omega arith) ∙ take-length e1.code.items in (
+              record {
+                code = subst (λ x. Makes e0.code.items x f.waits (LastWay ks one.plan)) (sym back) e.code;
+                flows = e.flows;
+                prints = b4.prints ∙ w.emits.prints ∙ append-nil e2.prints.items ∙ b2.prints ∙ e.prints;
+                selects = b4.selects ∙ w.emits.selects ∙ append-nil e2.selects.items ∙ b2.selects ∙ e.selects;
+                layout = ap (layout_of table) b4.layout ∙ w.emits.layout ∙ ap (layout_of table) b2.layout ∙ e.layout;
+                kept = keeps_both table e0 e1 e4 a.kept (keeps_both table e1 e2 e4 (beside_keeps e1 e2 b2) (keeps_both table e2 e3 e4 w.emits.kept (beside_keeps e3 e4 b4)));
+              },
+              w.begin ∙ append-nil places0 ∙ p0,
+            )
+        go (Some flow) None w c = let no : true ≡ false = w.there in absurd cc
+        go None (Some m) w c = let no : false ≡ true = w.there in absurd cc

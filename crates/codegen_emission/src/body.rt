@@ -19,6 +19,7 @@ use bytecode::Instr;
 use codegen_expression::element_list::ElementList;
 use codegen_expression::halt::Halt;
 use codegen_expression::operand::push_zeros;
+use codegen_header::blank::Blank;
 use std::alloc::Global;
 use syntax::StatementNode;
 use type_table::table::TypeTable;
@@ -62,13 +63,14 @@ fn emit_all<'a>(
     alloc: Global,
     table: &TypeTable<'a>,
     elements: &ElementList,
+    blank: &'a Blank,
     result_type: Option<ValueType<'a>>,
     emitter: &mut Emitter<'a>,
     body: &'a [StatementNode],
 ) -> Result<Flow, Halt>
     ensures { IfOk result (λ flow. Emits table.now emitter.old emitter.new (control flow) (made_body (globals_in table.now) elements.now (yield_of (types_of table.now) result_type.entry) (site_of table.now emitter.old) (body_of body.now))) }
 {
-    let mut flow = emit_statements(alloc, table, elements, result_type, emitter, body)?;
+    let mut flow = emit_statements(alloc, table, elements, blank, result_type, emitter, body)?;
     if !flow.reaches_end {
         return Ok(flow);
     }
@@ -77,20 +79,22 @@ fn emit_all<'a>(
     Ok(flow)
 }
 
-/// Emits the body of a function with this result. At its end it returns zeros.
+/// Emits the body of a function with this result. At its end it returns zeros. The name is that under which a range keeps its
+/// channel.
 ///
 /// Errors: something is wrong with a statement; want of memory.
 pub fn emit_body<'a>(
     alloc: Global,
     table: &TypeTable<'a>,
     elements: &ElementList,
+    blank: &'a Blank,
     result_type: Option<ValueType<'a>>,
     emitter: &mut Emitter<'a>,
     body: &'a [StatementNode],
 ) -> Result<(), Halt>
     ensures { OnOk result (Finishes table.now emitter.old emitter.new (made_body (globals_in table.now) elements.now (yield_of (types_of table.now) result_type.entry) (site_of table.now emitter.old) (body_of body.now))) }
 {
-    let flow = emit_all(alloc, table, elements, result_type, emitter, body)?;
+    let flow = emit_all(alloc, table, elements, blank, result_type, emitter, body)?;
     fill(flow.waits.as_slice(), 0, 0, &mut emitter.code);
     Ok(())
 }

@@ -1,12 +1,14 @@
 //! Statements ("Statements" of the Go specification).
 
-ghost use Rattle.std.specs.Prelude.{IfOk, None, Some, option_map};
-ghost use Rattle.syntax.specs.View.{body_of, branch_of, expression_of, for_head_of, otherwise_of, simple_of, statement_of};
-ghost use Rattle.syntax.specs.Tree.{For, ForClauses};
-ghost use Rattle.type_table.specs.Views.{yield_of};
+ghost use Rattle.std.specs.Prelude.{◌≡◌, IfOk, None, Some, option_map};
+ghost use Rattle.syntax.specs.View.{body_of, branch_of, expression_of, for_head_of, otherwise_of, simple_of, statement_of, target_of};
+ghost use Rattle.syntax.specs.Tree.{Expression, For, ForClauses, Range};
+ghost use Rattle.type_table.specs.Views.{kind_of, yield_of};
 ghost use Rattle.type_table.specs.Visible.{globals_in, types_of};
 ghost use Rattle.codegen_base.specs.Generated.{ended, inside, made, made_all, made_branch};
+ghost use Rattle.codegen_base.specs.Layouts.{Layout as OneLayout, carried};
 ghost use Rattle.codegen_simple.specs.Layouts.{layout_of};
+ghost use Rattle.codegen_emission.specs.Items.{made_item, made_items};
 ghost use Rattle.codegen_emission.specs.Emitted.{Emits, Jumps, control, site_of};
 ghost use Rattle.codegen_emission.specs.Turns.{made_turns};
 ghost use Rattle.codegen_emission.specs.Branches.{made_condition, made_one_way, made_other, made_two_ways};
@@ -14,16 +16,19 @@ ghost use Rattle.codegen_emission.specs.Branches.{made_condition, made_one_way, 
 use crate::alone::{emit_alone, emit_any, emit_head};
 use crate::emitter::Emitter;
 use crate::flow::{Flow, join, join_way, may_end};
-use crate::turn::{emit_round, push_test};
+use crate::single::{declare_typed, declare_untyped, give_back, start};
+use crate::turn::{come_round, emit_round, push_test};
 use crate::waits::{aim, fill};
 use crate::way::{begin_other, end_other, end_test, has_other};
 use bytecode::Instr;
 use codegen_expression::element_list::ElementList;
 use codegen_expression::halt::Halt;
 use codegen_expression::operand::number;
+use codegen_header::blank::Blank;
+use codegen_header::range::{Ranged, declare_kept, emit_kept, emit_next, emit_unused, take_item};
 use codegen_simple::layout::{enter, leave};
 use std::alloc::Global;
-use syntax::{ElseNode, ExpressionNode, ForHeader, IfNode, SimpleNode, StatementNode};
+use syntax::{ElseNode, ExpressionNode, ForHeader, IfNode, RangeTarget, SimpleNode, StatementNode};
 use type_table::table::TypeTable;
 use type_table::value_type::ValueType;
 
@@ -43,6 +48,7 @@ pub(crate) fn emit_statements<'t, 'l, 'm, 's, 'a>(
     alloc: Global,
     table: &'t TypeTable<'a>,
     elements: &'l ElementList,
+    blank: &'a Blank,
     result_type: Option<ValueType<'a>>,
     emitter: &'m mut Emitter<'a>,
     body: &'a [StatementNode],
@@ -51,7 +57,15 @@ pub(crate) fn emit_statements<'t, 'l, 'm, 's, 'a>(
 {
     let mut flow = Flow::through(alloc);
     for statement in body {
-        let one = emit_statement(alloc, table, elements, result_type, emitter, statement)?;
+        let one = emit_statement(
+            alloc,
+            table,
+            elements,
+            blank,
+            result_type,
+            emitter,
+            statement,
+        )?;
         let goes_on = one.reaches_end;
         join(&mut flow, one)?;
         if !goes_on {
@@ -68,6 +82,7 @@ fn emit_block<'t, 'l, 'm, 's, 'a>(
     alloc: Global,
     table: &'t TypeTable<'a>,
     elements: &'l ElementList,
+    blank: &'a Blank,
     result_type: Option<ValueType<'a>>,
     emitter: &'m mut Emitter<'a>,
     body: &'a [StatementNode],
@@ -75,7 +90,7 @@ fn emit_block<'t, 'l, 'm, 's, 'a>(
     ensures { IfOk result (λ flow. Emits table.now emitter.old emitter.new (control flow) (ended (layout_of table.now emitter.old.layout) (made_all (globals_in table.now) elements.now (yield_of (types_of table.now) result_type.entry) (inside (site_of table.now emitter.old)) (body_of body.now)))) }
 {
     let mark = enter(&mut emitter.layout);
-    let flow = emit_statements(alloc, table, elements, result_type, emitter, body)?;
+    let flow = emit_statements(alloc, table, elements, blank, result_type, emitter, body)?;
     leave(&mut emitter.layout, mark);
     Ok(flow)
 }
@@ -86,6 +101,7 @@ fn emit_endless<'t, 'l, 'm, 's, 'a>(
     alloc: Global,
     table: &'t TypeTable<'a>,
     elements: &'l ElementList,
+    blank: &'a Blank,
     result_type: Option<ValueType<'a>>,
     emitter: &'m mut Emitter<'a>,
     body: &'a [StatementNode],
@@ -94,7 +110,7 @@ fn emit_endless<'t, 'l, 'm, 's, 'a>(
     ensures { IfOk result (λ flow. Emits table.now emitter.old emitter.new (control flow) (made_turns (globals_in table.now) elements.now (yield_of (types_of table.now) result_type.entry) (site_of table.now emitter.old) None (body_of body.now) (option_map (λ (s : _). simple_of s.now) post.entry))) }
 {
     let head = number(emitter.code.len())?;
-    let within = emit_block(alloc, table, elements, result_type, emitter, body)?;
+    let within = emit_block(alloc, table, elements, blank, result_type, emitter, body)?;
     let again = number(emitter.code.len())?;
     let turns = within.comes_round();
     emit_round(alloc, table, elements, emitter, turns, head, post)?;
@@ -109,6 +125,7 @@ fn emit_tested<'t, 'l, 'm, 'c, 's, 'a>(
     alloc: Global,
     table: &'t TypeTable<'a>,
     elements: &'l ElementList,
+    blank: &'a Blank,
     result_type: Option<ValueType<'a>>,
     emitter: &'m mut Emitter<'a>,
     body: &'a [StatementNode],
@@ -119,10 +136,17 @@ fn emit_tested<'t, 'l, 'm, 'c, 's, 'a>(
 {
     let head = number(emitter.code.len())?;
     let visible = &emitter.layout.visible;
-    push_test(alloc, table, elements, visible, condition, &mut emitter.code)?;
+    push_test(
+        alloc,
+        table,
+        elements,
+        visible,
+        condition,
+        &mut emitter.code,
+    )?;
     let test = emitter.code.len();
     emitter.code.push(Instr::Unless(0))?;
-    let within = emit_block(alloc, table, elements, result_type, emitter, body)?;
+    let within = emit_block(alloc, table, elements, blank, result_type, emitter, body)?;
     let again = number(emitter.code.len())?;
     let turns = within.comes_round();
     emit_round(alloc, table, elements, emitter, turns, head, post)?;
@@ -138,6 +162,7 @@ fn emit_turns<'t, 'l, 'm, 'c, 's, 'a>(
     alloc: Global,
     table: &'t TypeTable<'a>,
     elements: &'l ElementList,
+    blank: &'a Blank,
     result_type: Option<ValueType<'a>>,
     emitter: &'m mut Emitter<'a>,
     body: &'a [StatementNode],
@@ -152,6 +177,7 @@ fn emit_turns<'t, 'l, 'm, 'c, 's, 'a>(
                 alloc,
                 table,
                 elements,
+                blank,
                 result_type,
                 emitter,
                 body,
@@ -159,7 +185,16 @@ fn emit_turns<'t, 'l, 'm, 'c, 's, 'a>(
                 post,
             )
         }
-        None => emit_endless(alloc, table, elements, result_type, emitter, body, post),
+        None => emit_endless(
+            alloc,
+            table,
+            elements,
+            blank,
+            result_type,
+            emitter,
+            body,
+            post,
+        ),
     }
 }
 
@@ -169,6 +204,7 @@ fn emit_clauses<'t, 'l, 'm, 'c, 's, 'a>(
     alloc: Global,
     table: &'t TypeTable<'a>,
     elements: &'l ElementList,
+    blank: &'a Blank,
     result_type: Option<ValueType<'a>>,
     emitter: &'m mut Emitter<'a>,
     body: &'a [StatementNode],
@@ -184,6 +220,7 @@ fn emit_clauses<'t, 'l, 'm, 'c, 's, 'a>(
         alloc,
         table,
         elements,
+        blank,
         result_type,
         emitter,
         body,
@@ -194,6 +231,36 @@ fn emit_clauses<'t, 'l, 'm, 'c, 's, 'a>(
     Ok(flow)
 }
 
+/// A loop with the clauses of a header.
+#[cycle(statement)]
+fn emit_header_clauses<'t, 'l, 'm, 's, 'a>(
+    alloc: Global,
+    table: &'t TypeTable<'a>,
+    elements: &'l ElementList,
+    blank: &'a Blank,
+    result_type: Option<ValueType<'a>>,
+    emitter: &'m mut Emitter<'a>,
+    body: &'a [StatementNode],
+    first: &'a Option<SimpleNode>,
+    condition: &'a Option<ExpressionNode>,
+    post: &'a Option<SimpleNode>,
+) -> Result<Flow, Halt>
+    ensures { IfOk result (λ flow. Emits table.now emitter.old emitter.new (control flow) (made (globals_in table.now) elements.now (yield_of (types_of table.now) result_type.entry) (site_of table.now emitter.old) (For (ForClauses (option_map simple_of first.now) (option_map expression_of condition.now) (option_map simple_of post.now)) (body_of body.now)))) }
+{
+    emit_clauses(
+        alloc,
+        table,
+        elements,
+        blank,
+        result_type,
+        emitter,
+        body,
+        first.as_ref(),
+        condition.as_ref(),
+        post.as_ref(),
+    )
+}
+
 /// A loop.
 #[cycle(statement)]
 #[tactic(auto, using(crate::proofs::Looping::emits_turns))]
@@ -201,6 +268,7 @@ fn emit_loop<'t, 'l, 'm, 's, 'a>(
     alloc: Global,
     table: &'t TypeTable<'a>,
     elements: &'l ElementList,
+    blank: &'a Blank,
     result_type: Option<ValueType<'a>>,
     emitter: &'m mut Emitter<'a>,
     header: &'a ForHeader,
@@ -214,6 +282,7 @@ fn emit_loop<'t, 'l, 'm, 's, 'a>(
                 alloc,
                 table,
                 elements,
+                blank,
                 result_type,
                 emitter,
                 body,
@@ -226,6 +295,7 @@ fn emit_loop<'t, 'l, 'm, 's, 'a>(
                 alloc,
                 table,
                 elements,
+                blank,
                 result_type,
                 emitter,
                 body,
@@ -234,19 +304,32 @@ fn emit_loop<'t, 'l, 'm, 's, 'a>(
             )
         }
         ForHeader::Clauses(first, condition, post) => {
-            emit_clauses(
+            emit_header_clauses(
                 alloc,
                 table,
                 elements,
+                blank,
                 result_type,
                 emitter,
                 body,
-                first.as_ref(),
-                condition.as_ref(),
-                post.as_ref(),
+                first,
+                condition,
+                post,
             )
         }
-        _ => Err(Halt::Flawed),
+        ForHeader::Range(target, channel) => {
+            emit_range(
+                alloc,
+                table,
+                elements,
+                blank,
+                result_type,
+                emitter,
+                body,
+                target,
+                channel,
+            )
+        }
     }
 }
 
@@ -257,6 +340,7 @@ fn emit_other<'t, 'l, 'm, 's, 'a>(
     alloc: Global,
     table: &'t TypeTable<'a>,
     elements: &'l ElementList,
+    blank: &'a Blank,
     result_type: Option<ValueType<'a>>,
     emitter: &'m mut Emitter<'a>,
     otherwise: &'a ElseNode,
@@ -270,13 +354,14 @@ fn emit_other<'t, 'l, 'm, 's, 'a>(
                 alloc,
                 table,
                 elements,
+                blank,
                 result_type,
                 emitter,
                 body.as_slice(),
             )
         }
         ElseNode::If(branch) => {
-            emit_branch(alloc, table, elements, result_type, emitter, branch)
+            emit_branch(alloc, table, elements, blank, result_type, emitter, branch)
         }
     }
 }
@@ -287,6 +372,7 @@ fn emit_two_ways<'t, 'l, 'm, 's, 'a>(
     alloc: Global,
     table: &'t TypeTable<'a>,
     elements: &'l ElementList,
+    blank: &'a Blank,
     result_type: Option<ValueType<'a>>,
     emitter: &'m mut Emitter<'a>,
     branch: &'a IfNode,
@@ -295,15 +381,30 @@ fn emit_two_ways<'t, 'l, 'm, 's, 'a>(
 {
     let visible = &emitter.layout.visible;
     let condition = &branch.condition;
-    push_test(alloc, table, elements, visible, condition, &mut emitter.code)?;
+    push_test(
+        alloc,
+        table,
+        elements,
+        visible,
+        condition,
+        &mut emitter.code,
+    )?;
     let test = emitter.code.len();
     emitter.code.push(Instr::Unless(0))?;
     let body = branch.body.as_slice();
-    let mut flow = emit_block(alloc, table, elements, result_type, emitter, body)?;
+    let mut flow = emit_block(alloc, table, elements, blank, result_type, emitter, body)?;
     let leads = flow.reaches_end;
     let over = begin_other(test, leads, &mut emitter.code)?;
     let otherwise = &branch.otherwise;
-    let other = emit_other(alloc, table, elements, result_type, emitter, otherwise)?;
+    let other = emit_other(
+        alloc,
+        table,
+        elements,
+        blank,
+        result_type,
+        emitter,
+        otherwise,
+    )?;
     end_other(over, leads, &mut emitter.code)?;
     join_way(&mut flow, other)?;
     Ok(flow)
@@ -315,6 +416,7 @@ fn emit_one_way<'t, 'l, 'm, 's, 'a>(
     alloc: Global,
     table: &'t TypeTable<'a>,
     elements: &'l ElementList,
+    blank: &'a Blank,
     result_type: Option<ValueType<'a>>,
     emitter: &'m mut Emitter<'a>,
     branch: &'a IfNode,
@@ -323,11 +425,18 @@ fn emit_one_way<'t, 'l, 'm, 's, 'a>(
 {
     let visible = &emitter.layout.visible;
     let condition = &branch.condition;
-    push_test(alloc, table, elements, visible, condition, &mut emitter.code)?;
+    push_test(
+        alloc,
+        table,
+        elements,
+        visible,
+        condition,
+        &mut emitter.code,
+    )?;
     let test = emitter.code.len();
     emitter.code.push(Instr::Unless(0))?;
     let body = branch.body.as_slice();
-    let mut flow = emit_block(alloc, table, elements, result_type, emitter, body)?;
+    let mut flow = emit_block(alloc, table, elements, blank, result_type, emitter, body)?;
     end_test(test, &mut emitter.code)?;
     may_end(&mut flow);
     Ok(flow)
@@ -340,6 +449,7 @@ fn emit_ways<'t, 'l, 'm, 's, 'a>(
     alloc: Global,
     table: &'t TypeTable<'a>,
     elements: &'l ElementList,
+    blank: &'a Blank,
     result_type: Option<ValueType<'a>>,
     emitter: &'m mut Emitter<'a>,
     branch: &'a IfNode,
@@ -347,9 +457,9 @@ fn emit_ways<'t, 'l, 'm, 's, 'a>(
     ensures { IfOk result (λ flow. Emits table.now emitter.old emitter.new (control flow) (made_condition (globals_in table.now) elements.now (yield_of (types_of table.now) result_type.entry) (site_of table.now emitter.old) (expression_of branch.now.condition) (body_of branch.now.body.items) (otherwise_of branch.now.otherwise))) }
 {
     if has_other(&branch.otherwise) {
-        emit_two_ways(alloc, table, elements, result_type, emitter, branch)
+        emit_two_ways(alloc, table, elements, blank, result_type, emitter, branch)
     } else {
-        emit_one_way(alloc, table, elements, result_type, emitter, branch)
+        emit_one_way(alloc, table, elements, blank, result_type, emitter, branch)
     }
 }
 
@@ -359,6 +469,7 @@ fn emit_branch<'t, 'l, 'm, 's, 'a>(
     alloc: Global,
     table: &'t TypeTable<'a>,
     elements: &'l ElementList,
+    blank: &'a Blank,
     result_type: Option<ValueType<'a>>,
     emitter: &'m mut Emitter<'a>,
     branch: &'a IfNode,
@@ -367,7 +478,107 @@ fn emit_branch<'t, 'l, 'm, 's, 'a>(
 {
     let mark = enter(&mut emitter.layout);
     emit_head(alloc, table, elements, emitter, &branch.header)?;
-    let flow = emit_ways(alloc, table, elements, result_type, emitter, branch)?;
+    let flow = emit_ways(alloc, table, elements, blank, result_type, emitter, branch)?;
+    leave(&mut emitter.layout, mark);
+    Ok(flow)
+}
+
+/// An item of this type goes where it is wanted, and the body of a range is done.
+#[cycle(statement)]
+fn emit_item<'t, 'l, 'm, 's, 'a>(
+    alloc: Global,
+    table: &'t TypeTable<'a>,
+    elements: &'l ElementList,
+    blank: &'a Blank,
+    result_type: Option<ValueType<'a>>,
+    emitter: &'m mut Emitter<'a>,
+    body: &'a [StatementNode],
+    kind: ValueType<'a>,
+    target: &'a RangeTarget,
+) -> Result<Flow, Halt>
+    ensures { IfOk result (λ flow. Emits table.now emitter.old emitter.new (control flow) (made_item (globals_in table.now) elements.now (yield_of (types_of table.now) result_type.entry) (site_of table.now emitter.old) (kind_of (types_of table.now) kind.entry) (target_of target.now) (body_of body.now))) }
+{
+    let mark = enter(&mut emitter.layout);
+    let layout = &mut emitter.layout;
+    let code = &mut emitter.code;
+    take_item(alloc, table, elements, layout, kind, target, code)?;
+    let flow = emit_block(alloc, table, elements, blank, result_type, emitter, body)?;
+    leave(&mut emitter.layout, mark);
+    Ok(flow)
+}
+
+/// The items of a range, one after the other.
+#[cycle(statement)]
+fn emit_items<'t, 'l, 'm, 's, 'a>(
+    alloc: Global,
+    table: &'t TypeTable<'a>,
+    elements: &'l ElementList,
+    blank: &'a Blank,
+    result_type: Option<ValueType<'a>>,
+    emitter: &'m mut Emitter<'a>,
+    body: &'a [StatementNode],
+    ranged: Ranged<'a>,
+    target: &'a RangeTarget,
+) -> Result<Flow, Halt>
+    ensures { IfOk result (λ flow. (around : OneLayout) (channel : Expression) → ranged.entry.place ≡ around.scope.words → carried (globals_in table.now) elements.now around.scope channel ≡ kind_of (types_of table.now) ranged.entry.item → Emits table.now emitter.old emitter.new (control flow) (made_items (globals_in table.now) elements.now (yield_of (types_of table.now) result_type.entry) around channel (site_of table.now emitter.old) (target_of target.now) (body_of body.now))) }
+{
+    let head = number(emitter.code.len())?;
+    emit_next(table, elements, ranged, &mut emitter.code)?;
+    let test = emitter.code.len();
+    emitter.code.push(Instr::Unless(0))?;
+    let kind = ranged.item;
+    let within = emit_item(
+        alloc,
+        table,
+        elements,
+        blank,
+        result_type,
+        emitter,
+        body,
+        kind,
+        target,
+    )?;
+    let again = number(emitter.code.len())?;
+    come_round(within.comes_round(), head, &mut emitter.code)?;
+    let exit = number(emitter.code.len())?;
+    emit_unused(table, elements, kind, &mut emitter.code)?;
+    let stop = number(emitter.code.len())?;
+    aim(&mut emitter.code, test, Instr::Unless(exit));
+    fill(within.waits.as_slice(), stop, again, &mut emitter.code);
+    Ok(Flow::through(alloc))
+}
+
+/// A loop over what is received from a channel.
+#[cycle(statement)]
+fn emit_range<'t, 'l, 'm, 'c, 's, 'a>(
+    alloc: Global,
+    table: &'t TypeTable<'a>,
+    elements: &'l ElementList,
+    blank: &'a Blank,
+    result_type: Option<ValueType<'a>>,
+    emitter: &'m mut Emitter<'a>,
+    body: &'a [StatementNode],
+    target: &'a RangeTarget,
+    channel: &'c ExpressionNode,
+) -> Result<Flow, Halt>
+    ensures { IfOk result (λ flow. Emits table.now emitter.old emitter.new (control flow) (made (globals_in table.now) elements.now (yield_of (types_of table.now) result_type.entry) (site_of table.now emitter.old) (For (Range (target_of target.now) (expression_of channel.now)) (body_of body.now)))) }
+{
+    let layout = &emitter.layout;
+    let ranged = emit_kept(alloc, table, elements, layout, channel, &mut emitter.code)?;
+    let mark = enter(&mut emitter.layout);
+    let layout = &mut emitter.layout;
+    declare_kept(alloc, table, elements, blank, layout, ranged.channel)?;
+    let flow = emit_items(
+        alloc,
+        table,
+        elements,
+        blank,
+        result_type,
+        emitter,
+        body,
+        ranged,
+        target,
+    )?;
     leave(&mut emitter.layout, mark);
     Ok(flow)
 }
@@ -379,6 +590,7 @@ fn emit_statement<'t, 'l, 'm, 's, 'a>(
     alloc: Global,
     table: &'t TypeTable<'a>,
     elements: &'l ElementList,
+    blank: &'a Blank,
     result_type: Option<ValueType<'a>>,
     emitter: &'m mut Emitter<'a>,
     statement: &'a StatementNode,
@@ -392,6 +604,7 @@ fn emit_statement<'t, 'l, 'm, 's, 'a>(
                 alloc,
                 table,
                 elements,
+                blank,
                 result_type,
                 emitter,
                 body.as_slice(),
@@ -402,13 +615,14 @@ fn emit_statement<'t, 'l, 'm, 's, 'a>(
             Ok(Flow::through(alloc))
         }
         StatementNode::If(branch) => {
-            emit_branch(alloc, table, elements, result_type, emitter, branch)
+            emit_branch(alloc, table, elements, blank, result_type, emitter, branch)
         }
         StatementNode::For(header, body) => {
             emit_loop(
                 alloc,
                 table,
                 elements,
+                blank,
                 result_type,
                 emitter,
                 header,
@@ -423,6 +637,23 @@ fn emit_statement<'t, 'l, 'm, 's, 'a>(
             let flow = emit_jump(alloc, false, emitter)?;
             Ok(flow)
         }
-        _ => Err(Halt::Flawed),
+        StatementNode::Typed(names, kind, right) => {
+            let names = names.as_slice();
+            declare_typed(alloc, table, elements, emitter, names, kind, right)?;
+            Ok(Flow::through(alloc))
+        }
+        StatementNode::Untyped(names, right) => {
+            let names = names.as_slice();
+            declare_untyped(alloc, table, elements, emitter, names, right)?;
+            Ok(Flow::through(alloc))
+        }
+        StatementNode::Go(name, arguments) => {
+            start(alloc, table, elements, emitter, name, arguments)?;
+            Ok(Flow::through(alloc))
+        }
+        StatementNode::Return(returned) => {
+            give_back(alloc, table, elements, result_type, emitter, returned)
+        }
+        StatementNode::Select(_) => Err(Halt::Flawed),
     }
 }

@@ -35,22 +35,37 @@ pub fn push_test(
 ) -> Result<(), Halt>
     ensures { (locals : _) → OnOk result (Puts code.old.items code.new.items (tests (globals_in table.now) elements.now (record { scope = scope_of table.now visible.now; locals = locals }) (expression_of condition.now))) }
 {
-    push(alloc, table, elements, visible, ValueType::Bool, condition, code)
+    push(
+        alloc,
+        table,
+        elements,
+        visible,
+        ValueType::Bool,
+        condition,
+        code,
+    )
 }
 
 /// Leads back to the head of a loop. Where its body never comes round again, nothing stays that stands behind it.
-fn come_back(
-    comes_round: bool,
-    behind: usize,
-    head: u32,
-    code: &mut Vec<Instr>,
-) -> Result<(), Halt>
+fn come_back(comes_round: bool, behind: usize, head: u32, code: &mut Vec<Instr>) -> Result<(), Halt>
     ensures { OnOk result (code.new.items ≡ cond comes_round (code.old.items ++ instrs.Loop head ∷ []) (take behind code.old.items)) }
 {
     if comes_round {
         code.push(Instr::Loop(head))?;
     } else {
         code.truncate(behind);
+    }
+    Ok(())
+}
+
+/// Leads back to the head of a loop, where its body comes round again.
+///
+/// Errors: want of memory.
+pub fn come_round(comes_round: bool, head: u32, code: &mut Vec<Instr>) -> Result<(), Halt>
+    ensures { OnOk result (code.new.items ≡ code.old.items ++ cond comes_round (instrs.Loop head ∷ []) []) }
+{
+    if comes_round {
+        code.push(Instr::Loop(head))?;
     }
     Ok(())
 }

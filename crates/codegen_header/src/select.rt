@@ -66,7 +66,6 @@ fn push_clause(
 /// Pushes the channels of all clauses, and what is sent on them, in order.
 ///
 /// Errors: something is wrong with a channel or a value; want of memory.
-#[tactic(auto, using(crate::proofs::Selecting::puts_clause))]
 pub fn push_clauses<'t, 'l, 'y, 'c, 'm, 'a>(
     alloc: Global,
     table: &'t TypeTable<'a>,
@@ -144,12 +143,12 @@ fn default_place<'c, 'p>(all: &'c [ClauseNode], places: &'p [u32]) -> Option<u32
     let Some((clause, all)) = all.split_first() else {
         return places.first().copied();
     };
-    let Some(_) = &clause.comm else {
-        return default_place(all, places);
-    };
-    match places.split_first() {
-        Some((_, places)) => default_place(all, places),
-        None => None,
+    match &clause.comm {
+        None => default_place(all, places),
+        Some(_) => match places.split_first() {
+            Some((_, places)) => default_place(all, places),
+            None => None,
+        },
     }
 }
 

@@ -19,6 +19,7 @@ use codegen_expression::element_list::ElementList;
 use codegen_expression::halt::Halt;
 use codegen_expression::operand::number;
 use codegen_expression::shape::put_kinds;
+use codegen_header::blank::Blank;
 use codegen_simple::layout::Layout;
 use std::alloc::{AllocError, Global};
 use std::mem::replace;
@@ -112,6 +113,7 @@ pub(crate) fn function_code<'a>(
     alloc: Global,
     table: &TypeTable<'a>,
     elements: &ElementList,
+    blank: &'a Blank,
     emitter: &mut Emitter<'a>,
     function: &'a FunctionNode,
 ) -> Result<Function, Halt>
@@ -122,7 +124,7 @@ pub(crate) fn function_code<'a>(
     let params = begin_function(alloc, table, elements, emitter, function)?;
     let kind = result_type(table, function.result.as_ref())?;
     let body = function.body.as_slice();
-    emit_body(alloc, table, elements, kind, emitter, body)?;
+    emit_body(alloc, table, elements, blank, kind, emitter, body)?;
     let code = finished(alloc, table, elements, emitter, function, params, kind)?;
     Ok(code)
 }

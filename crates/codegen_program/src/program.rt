@@ -18,6 +18,7 @@ use codegen_emission::emitter::Emitter;
 use codegen_expression::element_list::ElementList;
 use codegen_expression::halt::Halt;
 use codegen_expression::noting::elements_in;
+use codegen_header::blank::Blank;
 use codegen_simple::layout::Layout;
 use std::alloc::Global;
 use syntax::TopNode;
@@ -29,6 +30,7 @@ fn put_top<'a>(
     alloc: Global,
     table: &TypeTable<'a>,
     elements: &ElementList,
+    blank: &'a Blank,
     emitter: &mut Emitter<'a>,
     functions: &mut Vec<Function>,
     top: &'a TopNode,
@@ -38,7 +40,7 @@ fn put_top<'a>(
     ensures selects { OnOk result ((rest : List Top) → emitter.new.selects.items ++ all_selects (globals_in table.now) elements.now (length emitter.new.prints.items) (length emitter.new.selects.items) rest ≡ emitter.old.selects.items ++ all_selects (globals_in table.now) elements.now (length emitter.old.prints.items) (length emitter.old.selects.items) (top_of top.now ∷ rest)) }
 {
     if let TopNode::Function(function) = top {
-        let code = function_code(alloc, table, elements, emitter, function)?;
+        let code = function_code(alloc, table, elements, blank, emitter, function)?;
         functions.push(code)?;
     }
     Ok(())
@@ -49,6 +51,7 @@ fn put_tops<'a>(
     alloc: Global,
     table: &TypeTable<'a>,
     elements: &ElementList,
+    blank: &'a Blank,
     emitter: &mut Emitter<'a>,
     functions: &mut Vec<Function>,
     tops: &'a [TopNode],
@@ -58,13 +61,18 @@ fn put_tops<'a>(
     ensures selects { OnOk result (emitter.new.selects.items ≡ emitter.old.selects.items ++ all_selects (globals_in table.now) elements.now (length emitter.old.prints.items) (length emitter.old.selects.items) (map top_of tops.now)) }
 {
     for top in tops {
-        put_top(alloc, table, elements, emitter, functions, top)?;
+        put_top(alloc, table, elements, blank, emitter, functions, top)?;
     }
     Ok(())
 }
 
 /// The code of these declarations, which the table holds.
-fn generate<'a>(alloc: Global, table: &TypeTable<'a>, tops: &'a [TopNode]) -> Result<Code, Halt>
+fn generate<'a>(
+    alloc: Global,
+    table: &TypeTable<'a>,
+    blank: &'a Blank,
+    tops: &'a [TopNode],
+) -> Result<Code, Halt>
     requires small { sum_by top_size (map top_of tops.now) < 2 ^ 32 }
     ensures { IfOk result (λ code. code ≡ code_with (globals_in table.now) (noting_tops (types_of table.now) (map top_of tops.now) []) (map top_of tops.now)) }
 {
@@ -77,7 +85,8 @@ fn generate<'a>(alloc: Global, table: &TypeTable<'a>, tops: &'a [TopNode]) -> Re
         selects: Vec::new(alloc),
         layout: Layout::new(alloc),
     };
-    put_tops(alloc, table, &elements, &mut emitter, &mut functions, tops)?;
+    let put = &mut functions;
+    put_tops(alloc, table, &elements, blank, &mut emitter, put, tops)?;
     Ok(Code::new(functions, shapes, emitter.prints).with_selects(emitter.selects))
 }
 
@@ -89,6 +98,7 @@ pub fn code_of(alloc: Global, typed: &Typed) -> Result<Code, Halt>
 {
     let table = typed.table(alloc)?;
     let tops = typed.tree().file().tops.as_slice();
-    let code = generate(alloc, &table, tops)?;
+    let blank = Blank::new(alloc)?;
+    let code = generate(alloc, &table, &blank, tops)?;
     Ok(code)
 }

@@ -5,12 +5,21 @@ use Rattle.bytecode.specs.declared.instr.Instr.TheVariants as instrs
 use Rattle.checker_statement.specs.Statements.{head_simple}
 use Rattle.std.proofs.lemmas.List.{drop_all}
 use Rattle.syntax.specs.declared.node.StatementNode.{StatementNode}
-use Rattle.syntax.specs.View.{body_of, branch_of, expression_of, if_head_of, otherwise_of, simple_of, statement_of}
+use Rattle.syntax.specs.View.{body_of, branch_of, expression_of, if_head_of, otherwise_of, simple_of, statement_of, target_of}
 use Rattle.syntax.specs.declared.node.ElseNode.TheFolds.{the_lemmas}
 use Rattle.syntax.specs.Tree.{Break, Conditional, Continue}
-use Rattle.type_table.specs.Views.{yield_of}
+use Rattle.type_table.specs.Views.{kind_of, yield_of}
 use Rattle.type_table.specs.Visible.{globals_in, types_of}
+use Rattle.meaning.specs.Variables.{blank}
+use Rattle.plan.specs.Plan.{Skip}
 use Rattle.codegen_base.specs.Generated.{made, made_branch}
+use Rattle.codegen_base.specs.Layouts.{declaring, keeping, type_of}
+use Rattle.codegen_base.specs.Pushes.{drops}
+use Rattle.codegen_base.specs.Statements.{width}
+use Rattle.codegen_simple.specs.Layouts.{layout_of}
+use Rattle.codegen_simple.specs.Simples.{Appends}
+use Rattle.codegen_emission.specs.Items.{made_item}
+use Rattle.codegen_emission.proofs.Ranging.{emits_item, emits_items, emits_range}
 use Rattle.codegen_emission.specs.declared.waits.Wait.{Wait}
 use Rattle.codegen_emission.specs.declared.emitter.Emitter.{Emitter}
 use Rattle.codegen_emission.specs.Waits.{filled}
@@ -195,3 +204,91 @@ emit_two_ways-returns t c =
     emits_two_ways table globals elements result (expression_of c.args.branch.now.condition) so (λ site. made_other globals elements result site (otherwise_of c.args.branch.now.otherwise)) e0 e1 e2 e3 e4 e5 e6 f (control c.in_ok-other.other) (control c.join_way.new.flow) (c.in_ok-push_test.ensures e0.layout.locals.items)
     (record { prints = refl; selects = refl; layout = refl }) c.in_ok-push.ensures.items (record { prints = refl; selects = refl; layout = refl }) within begun (record { prints = refl; selects = refl; layout = refl }) c.in_ok-other.ensures ended_at (record { prints = refl; selects = refl; layout = refl })
     c.in_ok-join_way.ensures
+
+pub emit_item-returns : goal.emit_item-returns
+emit_item-returns t c =
+    let table = c.args.table.now in
+    let globals = globals_in table in
+    let elements = c.args.elements.now in
+    let result = yield_of (types_of table) c.args.result_type in
+    let e0 = c.args.emitter.now in
+    let e1 : Emitter = record { code = e0.code; prints = e0.prints; selects = e0.selects; layout = c.enter-mark.new.layout } in
+    let e2 : Emitter = record { code = c.take_item.new.code; prints = e0.prints; selects = e0.selects; layout = c.take_item.new.layout } in
+    let e3 = c.emit_block.new.emitter in
+    let e4 : Emitter = record { code = e3.code; prints = e3.prints; selects = e3.selects; layout = c.leave.new.layout } in
+    let mark = c.enter-mark.result in
+    let entered : Entered table e0 e1 mark.count mark.outer =
+    record { code = refl; prints = refl; selects = refl; layout = c.enter-mark.ensures.layout table; entries = c.enter-mark.ensures.kept; count_is = c.enter-mark.ensures.count; outer_is = c.enter-mark.ensures.outer } in
+    let left : Left e3 e4 mark.count mark.outer = record { code = refl; prints = refl; selects = refl; entries = c.leave.ensures.entries; outer_is = c.leave.ensures.outer; words = c.leave.ensures.words; locals = c.leave.ensures.locals } in
+    emits_item globals elements result table (kind_of (types_of table) c.args.kind) (target_of c.args.target.now) (body_of c.args.body.now) e0 e1 e2 e3 e4 mark.count mark.outer (control c.in_ok-flow.flow) entered (c.in_ok-take_item.ensures.emitted result) refl refl c.in_ok-take_item.ensures.after
+    c.in_ok-take_item.ensures.kept c.in_ok-flow.ensures left
+
+pub emit_items-returns : goal.emit_items-returns
+emit_items-returns t c = λ around channel place_is kind_is.
+    let table = c.args.table.now in
+    let globals = globals_in table in
+    let elements = c.args.elements.now in
+    let result = yield_of (types_of table) c.args.result_type in
+    let e0 = c.args.emitter.now in
+    let e1 : Emitter = record { code = c.emit_next.new.code; prints = e0.prints; selects = e0.selects; layout = e0.layout } in
+    let e2 : Emitter = record { code = c.push.new.self; prints = e0.prints; selects = e0.selects; layout = e0.layout } in
+    let e3 = c.emit_item.new.emitter in
+    let e4 : Emitter = record { code = c.come_round.new.code; prints = e3.prints; selects = e3.selects; layout = e3.layout } in
+    let e5 : Emitter = record { code = c.emit_unused.new.code; prints = e3.prints; selects = e3.selects; layout = e3.layout } in
+    let e6 : Emitter = record { code = c.fill.new.code; prints = e3.prints; selects = e3.selects; layout = e3.layout } in
+    let flow = control c.in_ok-within.within in
+    let target = target_of c.args.target.now in
+    let body = body_of c.args.body.now in
+    let stop = c.in_ok-stop.stop in
+    let again = c.in_ok-again.again in
+    let exit = c.in_ok-exit.exit in
+    let head_is : c.in_ok-head.head ≡ length e0.code.items = omega (arith, c.in_ok-head.ensures, c.len.ensures) in
+    let test_is : c.len-test.result ≡ length e1.code.items = search rules in
+    let again_is : again ≡ length e3.code.items = omega (arith, c.in_ok-again.ensures, c.len-2.ensures) in
+    let exit_is : exit ≡ length e4.code.items = omega (arith, c.in_ok-exit.ensures, c.len-3.ensures) in
+    let stop_is : stop ≡ length e5.code.items = omega (arith, c.in_ok-stop.ensures, c.len-4.ensures) in
+    let done : e6.code.items ≡ filled flow.waits stop again (slice_set e5.code.items (length e1.code.items) (instrs.Unless exit)) =
+    c.fill.ensures ∙ ap (λ (ws : List Wait). filled ws stop again c.aim.new.code.items) c.as_slice.ensures.value ∙ ap (λ (l : List Instr). filled flow.waits stop again l) (c.aim.ensures ∙ ap (λ n. slice_set e5.code.items n (instrs.Unless exit)) test_is) in
+    let item = subst (λ k. Emits table e2 e3 flow (made_item globals elements result (site_of table e0) k target body)) (sym kind_is) c.in_ok-within.ensures in
+    let unused = subst (λ k. Appends e4.code.items e5.code.items (drops (width globals elements around.scope k) Skip)) (sym kind_is) (c.in_ok-emit_unused.ensures around.scope) in
+    emits_items globals elements result table around channel target body c.comes_round.result e0 e1 e2 e3 e4 e5 e6 flow (control c.through.result) c.in_ok-head.head again exit stop (c.in_ok-emit_next.ensures result around channel place_is kind_is) (record { prints = refl; selects = refl; layout = refl }) c.in_ok-push.ensures.items
+    (record { prints = refl; selects = refl; layout = refl }) item c.comes_round.ensures head_is again_is c.in_ok-come_round.ensures (record { prints = refl; selects = refl; layout = refl }) exit_is unused (record { prints = refl; selects = refl; layout = refl }) stop_is done (record { prints = refl; selects = refl; layout = refl }) c.through.ensures
+
+pub emit_range-returns : goal.emit_range-returns
+emit_range-returns t c =
+    let table = c.args.table.now in
+    let globals = globals_in table in
+    let elements = c.args.elements.now in
+    let result = yield_of (types_of table) c.args.result_type in
+    let e0 = c.args.emitter.now in
+    let e1 : Emitter = record { code = c.emit_kept.new.code; prints = e0.prints; selects = e0.selects; layout = e0.layout } in
+    let e2 : Emitter = record { code = c.emit_kept.new.code; prints = e0.prints; selects = e0.selects; layout = c.enter-mark.new.layout } in
+    let e3 : Emitter = record { code = c.emit_kept.new.code; prints = e0.prints; selects = e0.selects; layout = c.declare_kept.new.layout } in
+    let e4 = c.emit_items.new.emitter in
+    let e5 : Emitter = record { code = e4.code; prints = e4.prints; selects = e4.selects; layout = c.leave.new.layout } in
+    let mark = c.enter-mark.result in
+    let around = layout_of table e0.layout in
+    let channel = expression_of c.args.channel.now in
+    let kept = c.in_ok-ranged.ensures in
+    let entered : Entered table e1 e2 mark.count mark.outer =
+    record { code = refl; prints = refl; selects = refl; layout = c.enter-mark.ensures.layout table; entries = c.enter-mark.ensures.kept; count_is = c.enter-mark.ensures.count; outer_is = c.enter-mark.ensures.outer } in
+    let left : Left e4 e5 mark.count mark.outer = record { code = refl; prints = refl; selects = refl; entries = c.leave.ensures.entries; outer_is = c.leave.ensures.outer; words = c.leave.ensures.words; locals = c.leave.ensures.locals } in
+    let declared : layout_of table e3.layout ≡ keeping globals elements channel around =
+    c.in_ok-declare_kept.ensures.after ∙ ap (λ k. declaring globals elements k blank (layout_of table e2.layout)) (sym kept.channel) ∙ ap (declaring globals elements (type_of globals elements around.scope channel) blank) (c.enter-mark.ensures.layout table) in
+    emits_range globals elements result table channel (target_of c.args.target.now) (body_of c.args.body.now) e0 e1 e2 e3 e4 e5 mark.count mark.outer (control c.in_ok-flow.flow) (kept.emitted result) (record { prints = refl; selects = refl; layout = refl }) entered refl refl refl declared c.in_ok-declare_kept.ensures.kept
+    (c.in_ok-flow.ensures around channel kept.place kept.item) left
+
+pub emit_statement-returns-in_ok-declare_typed-in-Typed : goal.emit_statement-returns-in_ok-declare_typed-in-Typed
+emit_statement-returns-in_ok-declare_typed-in-Typed t c =
+    let emitted = c.in_ok-declare_typed-in-Typed.ensures (yield_of (types_of c.args.table.now) c.args.result_type) in
+    search (rules, the_lemmas, emitted)
+
+pub emit_statement-returns-in_ok-declare_untyped-in-Untyped : goal.emit_statement-returns-in_ok-declare_untyped-in-Untyped
+emit_statement-returns-in_ok-declare_untyped-in-Untyped t c =
+    let emitted = c.in_ok-declare_untyped-in-Untyped.ensures (yield_of (types_of c.args.table.now) c.args.result_type) in
+    search (rules, the_lemmas, emitted)
+
+pub emit_statement-returns-in_ok-start-in-Go : goal.emit_statement-returns-in_ok-start-in-Go
+emit_statement-returns-in_ok-start-in-Go t c =
+    let emitted = c.in_ok-start-in-Go.ensures (yield_of (types_of c.args.table.now) c.args.result_type) in
+    search (rules, the_lemmas, emitted)
