@@ -2,7 +2,7 @@ use Rattle.std.proofs.Common.{rules}
 use Rattle.codegen_header.proofs.comm.take_comm.Goals as goal
 
 pub returns-in_ok-emit_dropped-in-Receive-clause-emitted : goal.returns-in_ok-emit_dropped-in-Receive-clause-emitted
-returns-in_ok-emit_dropped-in-Receive-clause-emitted c = λ yields. c.in_ok-emit_dropped-in-Receive.ensures yields
+returns-in_ok-emit_dropped-in-Receive-clause-emitted c = λ yields. let h = c.in_ok-emit_dropped-in-Receive.ensures yields in search (rules, h)
 
 pub returns-in_ok-emit_define-in-Define-clause-emitted : goal.returns-in_ok-emit_define-in-Define-clause-emitted
 returns-in_ok-emit_define-in-Define-clause-emitted c = λ yields. let h = c.in_ok-emit_define-in-Define.ensures.emitted yields in search (rules, h)
