@@ -10,5 +10,5 @@ returns-in_ok-push-in-Value c =
     let globals = globals_in c.args.table.now in
     let elements = c.args.elements.now in
     let h = subst (λ k. Puts c.args.code.now.items c.push.new.code.items (pushes globals elements (scope_of c.args.table.now c.args.visible.now) k (expression_of c.in-Value.value)))
-        (c.result_type-kind.ensures (types_of c.args.table.now) globals elements) c.in_ok-push-in-Value.ensures in
+    (c.result_type-kind.ensures (types_of c.args.table.now) globals elements) c.in_ok-push-in-Value.ensures in
     search (rules, h)

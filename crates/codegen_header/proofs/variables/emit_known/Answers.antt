@@ -17,7 +17,7 @@ returns-in-Some-clause-emitted c =
     let types = types_of c.args.table.now in
     let kinds = map (kind_of types) in
     let same : kinds c.as_slice-kinds.result.now ≡ same_types (globals_in c.args.table.now) c.args.elements.now (map name_of c.args.names.now) (kind_of types c.args.kind) =
-        ap kinds c.as_slice-kinds.ensures.value ∙ ap kinds c.in_ok-same.ensures ∙ same_kinds (globals_in c.args.table.now) c.args.elements.now types c.args.kind c.args.names.now in
+    ap kinds c.as_slice-kinds.ensures.value ∙ ap kinds c.in_ok-same.ensures ∙ same_kinds (globals_in c.args.table.now) c.args.elements.now types c.args.kind c.args.names.now in
     let h = appends_valued (globals_in c.args.table.now) c.args.elements.now (map name_of c.args.names.now) (kind_of types c.args.kind) (kinds c.as_slice-kinds.result.now) same (layout_of c.args.table.now c.args.layout.now) (right_of c.in-Some.right.now)
     c.args.code.now.items c.define_as.new.code.items c.in_ok-define_as-in-Some.ensures.emitted in
     search (rules, h)
@@ -27,6 +27,6 @@ returns-in-Some-clause-after c =
     let types = types_of c.args.table.now in
     let kinds = map (kind_of types) in
     let same : kinds c.as_slice-kinds.result.now ≡ same_types (globals_in c.args.table.now) c.args.elements.now (map name_of c.args.names.now) (kind_of types c.args.kind) =
-        ap kinds c.as_slice-kinds.ensures.value ∙ ap kinds c.in_ok-same.ensures ∙ same_kinds (globals_in c.args.table.now) c.args.elements.now types c.args.kind c.args.names.now in
+    ap kinds c.as_slice-kinds.ensures.value ∙ ap kinds c.in_ok-same.ensures ∙ same_kinds (globals_in c.args.table.now) c.args.elements.now types c.args.kind c.args.names.now in
     declared_each (globals_in c.args.table.now) c.args.elements.now (map name_of c.args.names.now) (kind_of types c.args.kind) (kinds c.as_slice-kinds.result.now) same (layout_of c.args.table.now c.args.layout.now) (layout_of c.args.table.now c.define_as.new.layout)
     c.in_ok-define_as-in-Some.ensures.after
