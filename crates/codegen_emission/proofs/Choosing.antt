@@ -16,15 +16,15 @@ use Rattle.type_table.specs.Scopes.{Globals, Yield}
 use Rattle.codegen_base.specs.declared.element.Element.{Element}
 use Rattle.codegen_base.specs.Generated.{Made, Site, made_of, nothing, past, with_way}
 use Rattle.codegen_simple.specs.Layouts.{layout_of}
-use Rattle.codegen_emission.specs.declared.flow.Flow.{Flow}
 use Rattle.codegen_emission.specs.declared.waits.Wait.{Wait}
 use Rattle.codegen_emission.specs.declared.emitter.Emitter.{Emitter}
 use Rattle.codegen_emission.specs.Waits.{Makes, settled}
-use Rattle.codegen_emission.specs.Emitted.{Control, Emits, control, either, site_of, through}
-use Rattle.codegen_emission.specs.Ways.{Ways, any_control, behind_select, or_nothing, with_others}
+use Rattle.codegen_emission.specs.Emitted.{Control, Emits, either, site_of, through}
+use Rattle.codegen_emission.specs.Ways.{Ways, or_nothing, together, with_others}
 use Rattle.codegen_emission.proofs.Filled.{makes_length}
 use Rattle.codegen_emission.proofs.Chosen.{makes_choose, makes_ended_way, makes_last_way, makes_way}
 use Rattle.codegen_emission.proofs.Emitting.{emits_none, keeps_both, site_past}
+use Rattle.codegen_emission.proofs.Listing.{or_assoc}
 use Rattle.codegen_emission.proofs.Branching.{Beside, beside_keeps, same_site}
 
 -- whether a way leads on or not
@@ -77,7 +77,7 @@ module _ (table : TypeTable) where
   }
 
   -- a way, and those behind it, if there are any: where there are none the jump over them is taken back
-  pub one_more_way : (ks : List WordKind) (make : Site → Option Made) (e0 e1 e2 e3 e4 : Emitter) (f h : Control) (one : Made) (others : Option Flow) (noted places0 places : List ℕ) → Emits table e0 e1 f one → e2.code.items ≡ e1.code.items ++ cond f.ends (instrs.Jump 0 ∷ []) [] → Beside e1 e2
+  pub one_more_way : (ks : List WordKind) (make : Site → Option Made) (e0 e1 e2 e3 e4 : Emitter) (f h : Control) (one : Made) (others : Option Control) (noted places0 places : List ℕ) → Emits table e0 e1 f one → e2.code.items ≡ e1.code.items ++ cond f.ends (instrs.Jump 0 ∷ []) [] → Beside e1 e2
       → places0 ≡ noted ++ length e0.code.items ∷ [] → Ways table e2 e3 places0 places others (make (site_of table e2))
       → e4.code.items ≡ cond (is_some others) (cond f.ends (slice_set e3.code.items (length e1.code.items) (instrs.Jump (length e3.code.items))) e3.code.items) (take (length e1.code.items) e3.code.items) → Beside e3 e4 → h ≡ with_others f others
       → Emits table e0 e4 h (with_way ks one (make (past (site_of table e0) one))) × (places ≡ noted ++ starts (length e0.code.items) (with_way ks one (make (past (site_of table e0) one))).plan)
@@ -85,12 +85,12 @@ module _ (table : TypeTable) where
       let same : site_of table e2 ≡ past (site_of table e0) one = same_site table e1 e2 b2 ∙ site_past table e0 e1 f one a in
       subst (λ s. Emits table e0 e4 h (with_way ks one (make s)) × (places ≡ noted ++ starts (length e0.code.items) (with_way ks one (make s)).plan)) same
       (subst (λ x. Emits table e0 e4 x (with_way ks one (make (site_of table e2))) × (places ≡ noted ++ starts (length e0.code.items) (with_way ks one (make (site_of table e2))).plan)) (sym is) (go others (make (site_of table e2)) w c4)) where
-        go : (flow : Option Flow) (made : Option Made) → Ways table e2 e3 places0 places flow made
+        go : (flow : Option Control) (made : Option Made) → Ways table e2 e3 places0 places flow made
             → e4.code.items ≡ cond (is_some flow) (cond f.ends (slice_set e3.code.items (length e1.code.items) (instrs.Jump (length e3.code.items))) e3.code.items) (take (length e1.code.items) e3.code.items)
             → Emits table e0 e4 (with_others f flow) (with_way ks one made) × (places ≡ noted ++ starts (length e0.code.items) (with_way ks one made).plan)
         go (Some flow) (Some m) w c =
             let start = length e0.code.items in (
-              emits_way ks e0 e1 e2 e3 e4 f (control flow) one m a c2 b2 w.emits c b4,
+              emits_way ks e0 e1 e2 e3 e4 f flow one m a c2 b2 w.emits c b4,
               w.begin ∙ ap (λ (l : List ℕ). l ++ starts (length e2.code.items) m.plan) p0 ∙ append_assoc noted (start ∷ []) (starts (length e2.code.items) m.plan) ∙ ap (λ n. noted ++ start ∷ starts n m.plan) (way_place e0 e1 e2 f one a c2),
             )
         go None None w c =
@@ -110,3 +110,13 @@ module _ (table : TypeTable) where
             )
         go (Some flow) None w c = let no : true ≡ false = w.there in absurd cc
         go None (Some m) w c = let no : false ≡ true = w.there in absurd cc
+
+-- ---- many ways
+
+either_assoc : (f g h : Control) → either (either f g) h ≡ either f (either g h)
+either_assoc f g h = let a = append_assoc f.waits g.waits h.waits in let b = or_assoc f.ends g.ends h.ends in let c = or_assoc f.breaks g.breaks h.breaks in let d = or_assoc f.continues g.continues h.continues in cc
+
+pub together_more : (acc others : Option Control) (f : Control) → together (together acc (Some f)) others ≡ together acc (Some (with_others f others))
+together_more None others f = refl
+together_more (Some a) None f = refl
+together_more (Some a) (Some g) f = ap Some (either_assoc a f g)

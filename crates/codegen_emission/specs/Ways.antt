@@ -7,27 +7,31 @@ use Rattle.type_table.specs.declared.table.TypeTable.{TypeTable}
 use Rattle.type_table.specs.Scopes.{Globals, Yield}
 use Rattle.codegen_base.specs.declared.element.Element.{Element}
 use Rattle.codegen_base.specs.Generated.{Made, Site, ended, followed, inside, made_all, made_comm, nothing, past}
-use Rattle.codegen_emission.specs.declared.flow.Flow.{Flow}
 use Rattle.codegen_emission.specs.declared.emitter.Emitter.{Emitter}
 use Rattle.codegen_emission.specs.Waits.{continues}
-use Rattle.codegen_emission.specs.Emitted.{Control, Emits, control, either, site_of, through}
+use Rattle.codegen_emission.specs.Emitted.{Control, Emits, either, site_of, through}
 
 -- where there are no ways nothing is made
 abbrev pub or_nothing : Site → Option Made → Made
 or_nothing site None = nothing site
 or_nothing site (Some made) = made
 
-abbrev pub any_control : Option Flow → Control
+abbrev pub any_control : Option Control → Control
 any_control None = through
-any_control (Some flow) = control flow
+any_control (Some flow) = flow
 
 -- from a way, or one of those behind it
-abbrev pub with_others : Control → Option Flow → Control
+abbrev pub with_others : Control → Option Control → Control
 with_others flow None = flow
-with_others flow (Some others) = either flow (control others)
+with_others flow (Some others) = either flow others
+
+-- from ways, or those behind them
+abbrev pub together : Option Control → Option Control → Option Control
+together None others = others
+together (Some flow) others = Some (with_others flow others)
 
 -- ways are emitted, if there are any, and where they begin is noted
-pub record Ways (table : TypeTable) (old new : Emitter) (noted places : List ℕ) (flow : Option Flow) (made : Option Made) : Type 0 where
+pub record Ways (table : TypeTable) (old new : Emitter) (noted places : List ℕ) (flow : Option Control) (made : Option Made) : Type 0 where
   pub emits : Emits table old new (any_control flow) (or_nothing (site_of table old) made)
   pub begin : places ≡ noted ++ starts (length old.code.items) (or_nothing (site_of table old) made).plan
   pub there : is_some flow ≡ is_some made
