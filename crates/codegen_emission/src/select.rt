@@ -21,6 +21,14 @@ pub struct Held {
     pub leads: bool,
 }
 
+/// Ways of a select: where control goes from them, if there are any, where they begin, and their jumps over those behind.
+#[derive(Drop)]
+pub struct WayList {
+    pub flow: Option<Flow>,
+    pub places: Vec<u32>,
+    pub held: Vec<Held>,
+}
+
 /// Holds the place of a jump over the ways behind one that leads on.
 ///
 /// Errors: want of memory.
