@@ -170,15 +170,11 @@ pub fn take_comm<'a>(
         }
         CommNode::Define(item, sent, channel) => {
             let sent = sent.as_ref();
-            emit_define(
-                alloc, table, elements, layout, channel, item, sent, code,
-            )?;
+            emit_define(alloc, table, elements, layout, channel, item, sent, code)?;
         }
         CommNode::Assign(item, sent, channel) => {
             let sent = sent.as_ref();
-            emit_assign(
-                alloc, table, elements, layout, channel, item, sent, code,
-            )?;
+            emit_assign(alloc, table, elements, layout, channel, item, sent, code)?;
         }
     }
     Ok(())

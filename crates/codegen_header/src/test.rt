@@ -31,6 +31,14 @@ pub fn push_test(
     ensures { OnOk result (Puts code.old.items code.new.items (tests (globals_in table.now) elements.now (layout_of table.now layout.now) (expression_of condition.now))) }
 {
     let visible = &layout.visible;
-    push(alloc, table, elements, visible, ValueType::Bool, condition, code)?;
+    push(
+        alloc,
+        table,
+        elements,
+        visible,
+        ValueType::Bool,
+        condition,
+        code,
+    )?;
     Ok(())
 }

@@ -1,4 +1,4 @@
-use Rattle.std.proofs.Common.{◌≡◌, ◌∙◌, ap, map}
+use Rattle.std.proofs.Common.{rules, ◌≡◌, ◌∙◌, ap, map}
 use Rattle.syntax.specs.View.{name_of, right_of}
 use Rattle.type_table.specs.Views.{kind_of}
 use Rattle.type_table.specs.Visible.{globals_in, types_of}
@@ -12,20 +12,21 @@ zero_as-requires c =
     let kinds = map (kind_of (types_of c.args.table.now)) in
     ap kinds c.as_slice-kinds.ensures.value ∙ ap kinds c.in_ok-same.ensures ∙ same_kinds (globals_in c.args.table.now) c.args.elements.now (types_of c.args.table.now) c.args.kind c.args.names.now
 
-pub returns-in_ok-define_as-in-Some-clause-emitted : goal.returns-in_ok-define_as-in-Some-clause-emitted
-returns-in_ok-define_as-in-Some-clause-emitted c =
+pub returns-in-Some-clause-emitted : goal.returns-in-Some-clause-emitted
+returns-in-Some-clause-emitted c =
     let types = types_of c.args.table.now in
     let kinds = map (kind_of types) in
     let same : kinds c.as_slice-kinds.result.now ≡ same_types (globals_in c.args.table.now) c.args.elements.now (map name_of c.args.names.now) (kind_of types c.args.kind) =
-        ap kinds c.as_slice-kinds.ensures.value ∙ ap kinds c.in_ok-same.ensures ∙ same_kinds (globals_in c.args.table.now) c.args.elements.now types c.args.kind c.args.names.now in
-    appends_valued (globals_in c.args.table.now) c.args.elements.now (map name_of c.args.names.now) (kind_of types c.args.kind) (kinds c.as_slice-kinds.result.now) same (layout_of c.args.table.now c.args.layout.now) (right_of c.in-Some.right.now)
-    c.args.code.now.items c.define_as.new.code.items c.in_ok-define_as-in-Some.ensures.emitted
+    ap kinds c.as_slice-kinds.ensures.value ∙ ap kinds c.in_ok-same.ensures ∙ same_kinds (globals_in c.args.table.now) c.args.elements.now types c.args.kind c.args.names.now in
+    let h = appends_valued (globals_in c.args.table.now) c.args.elements.now (map name_of c.args.names.now) (kind_of types c.args.kind) (kinds c.as_slice-kinds.result.now) same (layout_of c.args.table.now c.args.layout.now) (right_of c.in-Some.right.now)
+    c.args.code.now.items c.define_as.new.code.items c.in_ok-define_as-in-Some.ensures.emitted in
+    search (rules, h)
 
-pub returns-in_ok-define_as-in-Some-clause-after : goal.returns-in_ok-define_as-in-Some-clause-after
-returns-in_ok-define_as-in-Some-clause-after c =
+pub returns-in-Some-clause-after : goal.returns-in-Some-clause-after
+returns-in-Some-clause-after c =
     let types = types_of c.args.table.now in
     let kinds = map (kind_of types) in
     let same : kinds c.as_slice-kinds.result.now ≡ same_types (globals_in c.args.table.now) c.args.elements.now (map name_of c.args.names.now) (kind_of types c.args.kind) =
-        ap kinds c.as_slice-kinds.ensures.value ∙ ap kinds c.in_ok-same.ensures ∙ same_kinds (globals_in c.args.table.now) c.args.elements.now types c.args.kind c.args.names.now in
+    ap kinds c.as_slice-kinds.ensures.value ∙ ap kinds c.in_ok-same.ensures ∙ same_kinds (globals_in c.args.table.now) c.args.elements.now types c.args.kind c.args.names.now in
     declared_each (globals_in c.args.table.now) c.args.elements.now (map name_of c.args.names.now) (kind_of types c.args.kind) (kinds c.as_slice-kinds.result.now) same (layout_of c.args.table.now c.args.layout.now) (layout_of c.args.table.now c.define_as.new.layout)
     c.in_ok-define_as-in-Some.ensures.after
