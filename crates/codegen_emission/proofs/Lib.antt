@@ -12,3 +12,5 @@ pub mod Turning
 pub mod Choosing
 pub mod Selecting
 pub mod Ranging
+pub mod Closing
+pub mod Settling

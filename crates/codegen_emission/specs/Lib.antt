@@ -4,3 +4,4 @@ pub mod Turns
 pub mod Branches
 pub mod Ways
 pub mod Items
+pub mod Closed

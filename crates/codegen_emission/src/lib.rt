@@ -5,6 +5,7 @@ pub mod alone;
 pub mod body;
 pub mod emitter;
 pub mod flow;
+pub mod select;
 pub mod single;
 pub mod statement;
 pub mod turn;

@@ -1,0 +1,10 @@
+use Rattle.std.proofs.Common.{◌≡◌, length}
+use Rattle.codegen_emission.specs.Closed.{closed}
+use Rattle.codegen_emission.proofs.select.close.Given as goal
+
+-- what is left comes to what all come to
+abbrev pub invariant-loop-held : goal.invariant-loop-held
+invariant-loop-held l = closed l.left l.there l.code.items ≡ closed l.all l.are_there l.initial.code.items
+
+abbrev pub decreases-loop-held : goal.decreases-loop-held
+decreases-loop-held l = length l.left

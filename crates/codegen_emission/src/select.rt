@@ -1,0 +1,171 @@
+//! Selects, without their ways.
+
+ghost use Rattle.std.specs.Prelude.{◌≡◌, ◌∷◌, ◌++◌, [], IfOk, OnOk, cond, length, option_map, slice_set};
+ghost use Rattle.bytecode.specs.declared.instr.Instr.TheVariants as instrs;
+ghost use Rattle.codegen_emission.specs.Emitted.{control};
+ghost use Rattle.codegen_emission.specs.Closed.{closed, closed_one};
+ghost use Rattle.codegen_emission.specs.Waits.{continues, settled};
+ghost use Rattle.codegen_emission.specs.Ways.{any_control, behind_select, with_others};
+
+use crate::flow::{Flow, join_way};
+use crate::waits::{Wait, aim};
+use bytecode::{Instr, SelectTable};
+use codegen_expression::halt::Halt;
+use codegen_expression::operand::number;
+use std::alloc::Global;
+
+/// A way of a select that leads on, or doesn't, and where the jump over the ways behind it stands.
+#[derive(Clone, Copy)]
+pub struct Held {
+    pub place: usize,
+    pub leads: bool,
+}
+
+/// Ways of a select: where control goes from them, if there are any, where they begin, and their jumps over those behind.
+#[derive(Drop)]
+pub struct WayList {
+    pub flow: Option<Flow>,
+    pub places: Vec<u32>,
+    pub held: Vec<Held>,
+}
+
+/// Holds the place of a jump over the ways behind one that leads on.
+///
+/// Errors: want of memory.
+pub fn hold(leads: bool, code: &mut Vec<Instr>) -> Result<Held, Halt>
+    ensures place { IfOk result (λ held. held.place ≡ length code.old.items) }
+    ensures leads { IfOk result (λ held. held.leads ≡ leads) }
+    ensures held { OnOk result (code.new.items ≡ code.old.items ++ cond leads (instrs.Jump 0 ∷ []) []) }
+{
+    let place = code.len();
+    if leads {
+        code.push(Instr::Jump(0))?;
+        return Ok(Held { place, leads });
+    }
+    Ok(Held { place, leads })
+}
+
+/// The ways behind one have ended: the jump over them gets its target. Where there are none, it is taken back.
+fn close_one(held: Held, are_there: bool, code: &mut Vec<Instr>) -> Result<(), Halt>
+    ensures { OnOk result (code.new.items ≡ closed_one held are_there code.old.items) }
+{
+    if !are_there {
+        code.truncate(held.place);
+        return Ok(());
+    }
+    if held.leads {
+        let next = number(code.len())?;
+        aim(code, held.place, Instr::Jump(next));
+    }
+    Ok(())
+}
+
+/// All ways have ended: the jumps over those behind get their targets. Where nothing stands behind the last one, its jump is
+/// taken back.
+///
+/// Errors: a number of the code would pass 2^32.
+#[tactic(auto, using(crate::proofs::Closing::closed_last))]
+pub fn close(all: &[Held], are_there: bool, code: &mut Vec<Instr>) -> Result<(), Halt>
+    ensures { OnOk result (code.new.items ≡ closed all.now are_there code.old.items) }
+{
+    let mut left = all;
+    let mut there = are_there;
+    while let Some((held, others)) = left.split_last() {
+        close_one(*held, there, code)?;
+        there = true;
+        left = others;
+    }
+    Ok(())
+}
+
+/// There are other ways beside it, or none.
+///
+/// Errors: want of memory.
+pub fn join_others(flow: &mut Flow, others: Option<Flow>) -> Result<(), Halt>
+    ensures { OnOk result (control flow.new ≡ with_others (control flow.old) (option_map control others)) }
+{
+    match others {
+        Some(others) => join_way(flow, others),
+        None => Ok(()),
+    }
+}
+
+/// The table of a select is put where its place was held.
+pub fn set_table(tables: &mut Vec<SelectTable>, at: usize, table: SelectTable)
+    ensures { tables.new.items ≡ slice_set tables.old.items at table }
+{
+    if let Some(place) = tables.get_mut(at) {
+        *place = table;
+    }
+}
+
+/// A break leads to this place.
+fn settle_one(wait: Wait, stop: u32, code: &mut Vec<Instr>)
+    ensures { code.new.items ≡ cond wait.leaves (slice_set code.old.items wait.place (instrs.Jump stop)) code.old.items }
+{
+    if wait.leaves {
+        aim(code, wait.place, Instr::Jump(stop));
+    }
+}
+
+/// Breaks lead to this place.
+#[tactic(auto, using(crate::proofs::Settling::settled_last))]
+fn settle(waits: &[Wait], stop: u32, code: &mut Vec<Instr>)
+    ensures { code.new.items ≡ settled waits.now stop code.old.items }
+{
+    let mut left = waits;
+    while let Some((wait, others)) = left.split_last() {
+        settle_one(*wait, stop, code);
+        left = others;
+    }
+}
+
+/// A continue still waits.
+fn keep_waiting(wait: Wait, left: &mut Vec<Wait>) -> Result<(), Halt>
+    ensures { OnOk result (left.new.items ≡ left.old.items ++ cond wait.leaves [] (wait ∷ [])) }
+{
+    if !wait.leaves {
+        left.push(wait)?;
+    }
+    Ok(())
+}
+
+/// The continues.
+#[tactic(auto, using(crate::proofs::Settling::continues_more))]
+fn left_waiting(alloc: Global, waits: &[Wait]) -> Result<Vec<Wait>, Halt>
+    ensures { IfOk result (λ left. left.items ≡ continues waits.now) }
+{
+    let mut left = Vec::new(alloc);
+    for wait in waits {
+        keep_waiting(*wait, &mut left)?;
+    }
+    Ok(left)
+}
+
+/// A select has ended: the breaks of its ways lead behind it.
+///
+/// Errors: want of memory.
+pub fn leave_select(alloc: Global, ways: &Flow, code: &mut Vec<Instr>) -> Result<Flow, Halt>
+    ensures flow { IfOk result (λ flow. control flow ≡ behind_select (control ways.now)) }
+    ensures settled { OnOk result (code.new.items ≡ settled ways.now.waits.items (length code.old.items) code.old.items) }
+{
+    let stop = number(code.len())?;
+    let waits = left_waiting(alloc, ways.waits.as_slice())?;
+    settle(ways.waits.as_slice(), stop, code);
+    Ok(Flow {
+        waits,
+        reaches_end: ways.reaches_end || ways.has_break,
+        has_break: false,
+        has_continue: ways.has_continue,
+    })
+}
+
+/// Where control goes from the ways of a select. Behind one without ways, which waits for ever, there is code nevertheless.
+pub fn from_ways(alloc: Global, ways: Option<Flow>) -> Flow
+    ensures { control result ≡ any_control (option_map control ways) }
+{
+    match ways {
+        Some(ways) => ways,
+        None => Flow::through(alloc),
+    }
+}
