@@ -3,7 +3,4 @@
 
 mod function;
 mod head;
-mod program;
 mod shapes;
-
-pub use program::code_of;
