@@ -39,6 +39,13 @@ impl ElementList {
         }
     }
 
+    /// The elements, in the order in which they were noted.
+    pub fn elements(&self) -> &[Element]
+        ensures { result.now ≡ self.now }
+    {
+        self.elements.as_slice()
+    }
+
     /// Where an element stands.
     pub fn found_at(&self, element: Element) -> Option<usize>
         ensures { result ≡ found_at self.now element }

@@ -1,15 +1,29 @@
 //! The code of functions.
 
-ghost use Rattle.std.specs.Prelude.{◌≡◌, IfOk, string_bytes};
+ghost use Rattle.std.specs.Prelude.{◌≡◌, ◌++◌, [], IfOk, OnOk, length, string_bytes};
+ghost use Rattle.plan.specs.Plan.{flat, tables};
+ghost use Rattle.syntax.specs.View.{function_of};
+ghost use Rattle.type_table.specs.declared.table.TypeTable.{TypeTable as OneTable};
 ghost use Rattle.type_table.specs.Views.{yield_of};
 ghost use Rattle.type_table.specs.Visible.{globals_in, types_of};
 ghost use Rattle.codegen_base.specs.Generated.{result_kinds};
-ghost use Rattle.codegen_base.specs.Program.{label};
+ghost use Rattle.codegen_base.specs.Layouts.{empty};
+ghost use Rattle.codegen_base.specs.Program.{first_layout, function_code, label, made_function};
+ghost use Rattle.codegen_simple.specs.Layouts.{layout_of};
 
-use bytecode::WordKind;
+use crate::head::{declare_parameters, result_type};
+use bytecode::{Function, WordKind};
+use codegen_emission::body::emit_body;
+use codegen_emission::emitter::Emitter;
 use codegen_expression::element_list::ElementList;
+use codegen_expression::halt::Halt;
+use codegen_expression::operand::number;
 use codegen_expression::shape::put_kinds;
+use codegen_header::blank::Blank;
+use codegen_simple::layout::Layout;
 use std::alloc::{AllocError, Global};
+use std::mem::replace;
+use syntax::FunctionNode;
 use type_table::table::TypeTable;
 use type_table::value_type::ValueType;
 
@@ -37,4 +51,80 @@ fn result_kinds<'a>(
         put_kinds(alloc, table, elements, kind, &mut kinds)?;
     }
     Ok(kinds)
+}
+
+/// A function begins: it has no instructions and no variables yet.
+fn begin(alloc: Global, emitter: &mut Emitter<'_>)
+    ensures code { emitter.new.code.items ≡ [] }
+    ensures layout { (table : OneTable) → layout_of table emitter.new.layout ≡ empty }
+    ensures prints { emitter.new.prints.items ≡ emitter.old.prints.items }
+    ensures selects { emitter.new.selects.items ≡ emitter.old.selects.items }
+{
+    emitter.code = Vec::new(alloc);
+    emitter.layout = Layout::new(alloc);
+}
+
+/// Declares the parameters of a function, and answers how many words they take.
+fn begin_function<'a>(
+    alloc: Global,
+    table: &TypeTable<'a>,
+    elements: &ElementList,
+    emitter: &mut Emitter<'a>,
+    function: &'a FunctionNode,
+) -> Result<u32, Halt>
+    ensures params { IfOk result (λ params. params ≡ length (first_layout (globals_in table.now) elements.now (function_of function.now)).locals) }
+    ensures code { OnOk result (emitter.new.code.items ≡ []) }
+    ensures layout { OnOk result (layout_of table.now emitter.new.layout ≡ first_layout (globals_in table.now) elements.now (function_of function.now)) }
+    ensures prints { OnOk result (emitter.new.prints.items ≡ emitter.old.prints.items) }
+    ensures selects { OnOk result (emitter.new.selects.items ≡ emitter.old.selects.items) }
+{
+    begin(alloc, emitter);
+    let parameters = function.parameters.as_slice();
+    declare_parameters(alloc, table, elements, &mut emitter.layout, parameters)?;
+    let params = number(emitter.layout.locals.len())?;
+    Ok(params)
+}
+
+/// The function that was emitted, with these words of parameters and this result.
+fn finished<'a>(
+    alloc: Global,
+    table: &TypeTable<'a>,
+    elements: &ElementList,
+    emitter: &mut Emitter<'a>,
+    function: &'a FunctionNode,
+    params: u32,
+    kind: Option<ValueType<'a>>,
+) -> Result<Function, Halt>
+    ensures code { IfOk result (λ code. code ≡ record { name = label (function_of function.now).name; params = params; locals = emitter.old.layout.locals.items; results = result_kinds (globals_in table.now) elements.now (yield_of (types_of table.now) kind.entry); instrs = emitter.old.code.items }) }
+    ensures prints { OnOk result (emitter.new.prints.items ≡ emitter.old.prints.items) }
+    ensures selects { OnOk result (emitter.new.selects.items ≡ emitter.old.selects.items) }
+{
+    let results = result_kinds(alloc, table, elements, kind)?;
+    let name = label(alloc, function.name.bytes.as_slice())?;
+    let locals = replace(&mut emitter.layout.locals, Vec::new(alloc));
+    let instrs = replace(&mut emitter.code, Vec::new(alloc));
+    Ok(Function::new(name, params, locals, results, instrs))
+}
+
+/// The code of a function, whose tables are appended.
+///
+/// Errors: something is wrong with the function; want of memory.
+pub(crate) fn function_code<'a>(
+    alloc: Global,
+    table: &TypeTable<'a>,
+    elements: &ElementList,
+    blank: &'a Blank,
+    emitter: &mut Emitter<'a>,
+    function: &'a FunctionNode,
+) -> Result<Function, Halt>
+    ensures code { IfOk result (λ code. code ≡ function_code (globals_in table.now) elements.now (function_of function.now) (made_function (globals_in table.now) elements.now (length emitter.old.prints.items) (length emitter.old.selects.items) (function_of function.now))) }
+    ensures prints { OnOk result (emitter.new.prints.items ≡ emitter.old.prints.items ++ (made_function (globals_in table.now) elements.now (length emitter.old.prints.items) (length emitter.old.selects.items) (function_of function.now)).prints) }
+    ensures selects { OnOk result (emitter.new.selects.items ≡ emitter.old.selects.items ++ tables 0 (made_function (globals_in table.now) elements.now (length emitter.old.prints.items) (length emitter.old.selects.items) (function_of function.now)).plan) }
+{
+    let params = begin_function(alloc, table, elements, emitter, function)?;
+    let kind = result_type(table, function.result.as_ref())?;
+    let body = function.body.as_slice();
+    emit_body(alloc, table, elements, blank, kind, emitter, body)?;
+    let code = finished(alloc, table, elements, emitter, function, params, kind)?;
+    Ok(code)
 }

@@ -3,4 +3,7 @@
 
 mod function;
 mod head;
+mod program;
 mod shapes;
+
+pub use program::code_of;

@@ -2,9 +2,9 @@
 
 ghost use Rattle.std.specs.Prelude.{◌≡◌, IfOk};
 ghost use Rattle.type_table.specs.Visible.{globals_in};
-ghost use Rattle.codegen_base.specs.Elements.{element_kinds};
+ghost use Rattle.codegen_base.specs.Elements.{element_kinds, shapes_of};
 
-use bytecode::WordKind;
+use bytecode::{Shape, WordKind};
 use codegen_base::element::Element;
 use codegen_expression::element_list::ElementList;
 use codegen_expression::halt::Halt;
@@ -40,4 +40,20 @@ fn element_kinds(
         }
     }
     Ok(kinds)
+}
+
+/// The shapes of what channels carry, in the order of their numbers.
+pub(crate) fn shapes_of(
+    alloc: Global,
+    table: &TypeTable<'_>,
+    elements: &ElementList,
+) -> Result<Vec<Shape>, Halt>
+    ensures { IfOk result (λ shapes. shapes.items ≡ shapes_of (globals_in table.now).structs elements.now) }
+{
+    let mut shapes = Vec::new(alloc);
+    for element in elements.elements() {
+        let kinds = element_kinds(alloc, table, elements, *element)?;
+        shapes.push(Shape::new(kinds))?;
+    }
+    Ok(shapes)
 }
