@@ -67,7 +67,6 @@ fn declare_names<'t, 'l, 'm, 'a>(
 /// Declares parameters.
 ///
 /// Errors: something is wrong with a type; want of memory.
-#[tactic(auto, using(crate::proofs::Heads::parameters_grouped))]
 pub(crate) fn declare_parameters<'t, 'l, 'm, 'a>(
     alloc: Global,
     table: &'t TypeTable<'a>,
