@@ -1,1 +1,4 @@
+pub mod Functions
+pub mod Labels
+pub mod Heads
 pub mod Compiled

@@ -1,33 +1,106 @@
-//! The code of a program.
+//! The code of a file.
 
-ghost use Rattle.std.specs.Prelude.{◌≡◌, IfErr, IfOk};
-ghost use Rattle.bytecode.specs.Machine.{code_kind};
-ghost use Rattle.bytecode.specs.Rules.{IsVerified};
-ghost use Rattle.checker.specs.Trees.{tree_in};
-ghost use Rattle.codegen_base.specs.Grammar.{IsGrammatical, IsLimited};
-ghost use Rattle.meaning.specs.Source.{source_kind};
+ghost use Rattle.std.specs.Prelude.{◌≡◌, ◌++◌, ◌∷◌, ◌<◌, ◌^◌, [], IfOk, List, OnOk, length, map, sum_by};
+ghost use Rattle.syntax.specs.Measures.{top_size};
 ghost use Rattle.syntax.specs.Spans.{tree_of};
-ghost use Rattle.word.specs.Worlds.{Equal};
+ghost use Rattle.syntax.specs.Tree.{Top};
+ghost use Rattle.syntax.specs.View.{top_of};
+ghost use Rattle.type_table.specs.Visible.{globals_in, types_of};
+ghost use Rattle.checker.specs.Files.{IsTyped};
+ghost use Rattle.checker.specs.Trees.{tree_in};
+ghost use Rattle.codegen_base.specs.Program.{all_prints, all_selects, code_of, functions_code, noting_tops};
+ghost use Rattle.codegen.specs.Codes.{code_with};
 
-use bytecode::Code;
+use crate::function::function_code;
+use crate::shapes::shapes_of;
+use bytecode::{Code, Function};
 use checker::Typed;
-use codegen_program::code_of;
-use go_text::Fault;
+use codegen_emission::emitter::Emitter;
+use codegen_expression::element_list::ElementList;
+use codegen_expression::halt::Halt;
+use codegen_expression::noting::elements_in;
+use codegen_header::blank::Blank;
+use codegen_simple::layout::Layout;
 use std::alloc::Global;
+use syntax::TopNode;
+use type_table::table::TypeTable;
 
-/// The code of a checked program, which does what the source does and keeps all rules of the verifier.
-///
-/// Errors: only `Memory`.
-#[tactic(auto, using(crate::proofs::Compiled::compiled_equal, crate::proofs::Compiled::compiled_verified))]
-pub fn compile(alloc: Global, typed: &Typed) -> Result<Code, Fault>
-    requires grammatical { IsGrammatical (tree_of (tree_in typed.now)) }
-    requires limited { IsLimited (tree_of (tree_in typed.now)) }
-    ensures equal { IfOk result (λ code. Equal (source_kind (tree_of (tree_in typed.now))) (code_kind code)) }
-    ensures verified { IfOk result IsVerified }
-    ensures memory { IfErr result (λ fault. fault ≡ Fault.Memory) }
+/// Appends the code of a function, and its tables.
+#[tactic(auto, using(crate::proofs::Functions::functions_put, crate::proofs::Functions::prints_put, crate::proofs::Functions::selects_put))]
+fn put_top<'a>(
+    alloc: Global,
+    table: &TypeTable<'a>,
+    elements: &ElementList,
+    blank: &'a Blank,
+    emitter: &mut Emitter<'a>,
+    functions: &mut Vec<Function>,
+    top: &'a TopNode,
+) -> Result<(), Halt>
+    ensures functions { OnOk result ((rest : List Top) → functions.new.items ++ functions_code (globals_in table.now) elements.now (length emitter.new.prints.items) (length emitter.new.selects.items) rest ≡ functions.old.items ++ functions_code (globals_in table.now) elements.now (length emitter.old.prints.items) (length emitter.old.selects.items) (top_of top.now ∷ rest)) }
+    ensures prints { OnOk result ((rest : List Top) → emitter.new.prints.items ++ all_prints (globals_in table.now) elements.now (length emitter.new.prints.items) (length emitter.new.selects.items) rest ≡ emitter.old.prints.items ++ all_prints (globals_in table.now) elements.now (length emitter.old.prints.items) (length emitter.old.selects.items) (top_of top.now ∷ rest)) }
+    ensures selects { OnOk result ((rest : List Top) → emitter.new.selects.items ++ all_selects (globals_in table.now) elements.now (length emitter.new.prints.items) (length emitter.new.selects.items) rest ≡ emitter.old.selects.items ++ all_selects (globals_in table.now) elements.now (length emitter.old.prints.items) (length emitter.old.selects.items) (top_of top.now ∷ rest)) }
 {
-    match code_of(alloc, typed) {
-        Ok(code) => Ok(code),
-        Err(_) => Err(Fault::Memory),
+    if let TopNode::Function(function) = top {
+        let code = function_code(alloc, table, elements, blank, emitter, function)?;
+        functions.push(code)?;
     }
+    Ok(())
+}
+
+/// Appends the code of functions, and their tables.
+fn put_tops<'a>(
+    alloc: Global,
+    table: &TypeTable<'a>,
+    elements: &ElementList,
+    blank: &'a Blank,
+    emitter: &mut Emitter<'a>,
+    functions: &mut Vec<Function>,
+    tops: &'a [TopNode],
+) -> Result<(), Halt>
+    ensures functions { OnOk result (functions.new.items ≡ functions.old.items ++ functions_code (globals_in table.now) elements.now (length emitter.old.prints.items) (length emitter.old.selects.items) (map top_of tops.now)) }
+    ensures prints { OnOk result (emitter.new.prints.items ≡ emitter.old.prints.items ++ all_prints (globals_in table.now) elements.now (length emitter.old.prints.items) (length emitter.old.selects.items) (map top_of tops.now)) }
+    ensures selects { OnOk result (emitter.new.selects.items ≡ emitter.old.selects.items ++ all_selects (globals_in table.now) elements.now (length emitter.old.prints.items) (length emitter.old.selects.items) (map top_of tops.now)) }
+{
+    for top in tops {
+        put_top(alloc, table, elements, blank, emitter, functions, top)?;
+    }
+    Ok(())
+}
+
+/// The code of these declarations, which the table holds.
+fn generate<'a>(
+    alloc: Global,
+    table: &TypeTable<'a>,
+    blank: &'a Blank,
+    tops: &'a [TopNode],
+) -> Result<Code, Halt>
+    requires small { sum_by top_size (map top_of tops.now) < 2 ^ 32 }
+    ensures { IfOk result (λ code. code ≡ code_with (globals_in table.now) (noting_tops (types_of table.now) (map top_of tops.now) []) (map top_of tops.now)) }
+{
+    let elements = elements_in(alloc, table, tops)?;
+    let shapes = shapes_of(alloc, table, &elements)?;
+    let mut functions = Vec::new(alloc);
+    let mut emitter = Emitter {
+        code: Vec::new(alloc),
+        prints: Vec::new(alloc),
+        selects: Vec::new(alloc),
+        layout: Layout::new(alloc),
+    };
+    let put = &mut functions;
+    put_tops(alloc, table, &elements, blank, &mut emitter, put, tops)?;
+    Ok(Code::new(functions, shapes, emitter.prints).with_selects(emitter.selects))
+}
+
+/// The code of a checked file.
+///
+/// Errors: want of memory, or a number of the code over 2^32.
+pub(crate) fn code_of(alloc: Global, typed: &Typed) -> Result<Code, Halt>
+    ensures code { IfOk result (λ code. code ≡ code_of (tree_of (tree_in typed.now))) }
+    ensures typed { IfOk result (λ _. IsTyped (tree_of (tree_in typed.now))) }
+{
+    let table = typed.table(alloc)?;
+    let tops = typed.tree().file().tops.as_slice();
+    let blank = Blank::new(alloc)?;
+    let code = generate(alloc, &table, &blank, tops)?;
+    Ok(code)
 }

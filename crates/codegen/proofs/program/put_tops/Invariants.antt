@@ -2,7 +2,7 @@ use Rattle.std.proofs.Common.{◌≡◌, ◌++◌, drop, length, map}
 use Rattle.syntax.specs.View.{top_of}
 use Rattle.type_table.specs.Visible.{globals_in}
 use Rattle.codegen_base.specs.Program.{all_prints, all_selects, functions_code}
-use Rattle.codegen_program.proofs.program.put_tops.Given as goal
+use Rattle.codegen.proofs.program.put_tops.Given as goal
 
 -- what is put and what is left are all
 abbrev pub invariant-loop-top : goal.invariant-loop-top

@@ -1,5 +1,5 @@
 use Rattle.std.proofs.Common.{length}
-use Rattle.codegen_program.proofs.head.+declare_names.Given as goal
+use Rattle.codegen.proofs.head.+declare_names.Given as goal
 
 abbrev pub decreases-declare_names : goal.decreases-declare_names
 decreases-declare_names l = length l.names.now

@@ -1,5 +1,5 @@
 use Rattle.std.proofs.Common.{length}
-use Rattle.codegen_program.proofs.head.+declare_parameters.Given as goal
+use Rattle.codegen.proofs.head.+declare_parameters.Given as goal
 
 abbrev pub decreases-declare_parameters : goal.decreases-declare_parameters
 decreases-declare_parameters l = length l.groups.now

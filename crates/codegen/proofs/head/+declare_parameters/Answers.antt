@@ -5,8 +5,8 @@ use Rattle.type_table.specs.Visible.{globals_in, types_of}
 use Rattle.checker_declaration.specs.Kinds.{fields_declared}
 use Rattle.codegen_base.specs.Layouts.{with_parameters}
 use Rattle.codegen_simple.specs.Layouts.{layout_of}
-use Rattle.codegen_program.proofs.Heads.{parameters_grouped}
-use Rattle.codegen_program.proofs.head.+declare_parameters.Goals as goal
+use Rattle.codegen.proofs.Heads.{parameters_grouped}
+use Rattle.codegen.proofs.head.+declare_parameters.Goals as goal
 
 pub returns : goal.returns
 returns t c =

@@ -1,7 +1,7 @@
 use Rattle.std.proofs.Common.{◌≡◌, map, take}
 use Rattle.type_table.specs.Visible.{globals_in}
 use Rattle.codegen_base.specs.Elements.{element_kinds}
-use Rattle.codegen_program.proofs.shapes.shapes_of.Given as goal
+use Rattle.codegen.proofs.shapes.shapes_of.Given as goal
 
 -- the shapes so far
 abbrev pub invariant-loop-element : goal.invariant-loop-element

@@ -1,0 +1,33 @@
+//! The compiler's contract.
+
+ghost use Rattle.std.specs.Prelude.{◌≡◌, IfErr, IfOk};
+ghost use Rattle.bytecode.specs.Machine.{code_kind};
+ghost use Rattle.bytecode.specs.Rules.{IsVerified};
+ghost use Rattle.checker.specs.Trees.{tree_in};
+ghost use Rattle.codegen_base.specs.Grammar.{IsGrammatical, IsLimited};
+ghost use Rattle.meaning.specs.Source.{source_kind};
+ghost use Rattle.syntax.specs.Spans.{tree_of};
+ghost use Rattle.word.specs.Worlds.{Equal};
+
+use crate::program::code_of;
+use bytecode::Code;
+use checker::Typed;
+use go_text::Fault;
+use std::alloc::Global;
+
+/// The code of a checked program, which does what the source does and keeps all rules of the verifier.
+///
+/// Errors: only `Memory`.
+#[tactic(auto, using(crate::proofs::Compiled::compiled_equal, crate::proofs::Compiled::compiled_verified))]
+pub fn compile(alloc: Global, typed: &Typed) -> Result<Code, Fault>
+    requires grammatical { IsGrammatical (tree_of (tree_in typed.now)) }
+    requires limited { IsLimited (tree_of (tree_in typed.now)) }
+    ensures equal { IfOk result (λ code. Equal (source_kind (tree_of (tree_in typed.now))) (code_kind code)) }
+    ensures verified { IfOk result IsVerified }
+    ensures memory { IfErr result (λ fault. fault ≡ Fault.Memory) }
+{
+    match code_of(alloc, typed) {
+        Ok(code) => Ok(code),
+        Err(_) => Err(Fault::Memory),
+    }
+}

@@ -1,3 +1,0 @@
-pub mod Functions
-pub mod Labels
-pub mod Heads
