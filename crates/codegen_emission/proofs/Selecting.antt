@@ -3,8 +3,9 @@ use Rattle.std.proofs.Common.{◌≡◌, ℕ, ◌+◌, Bool, true, false, cond, 
 use Rattle.std.specs.Prelude.{slice_set, option_map}
 use Rattle.std.specs.Result.{result_ok}
 use Rattle.std.specs.Prelude.{option_and_then}
-use Rattle.std.proofs.lemmas.List.{length-set, set_at, set-append_left}
-use Rattle.syntax.specs.Tree.{Expression, Integer, Named, Parenthesized, Selection, Composite, Unary, Binary, Comm, CommSend, CommReceive, CommDefine, CommAssign, Clauses, NoClause, Clause}
+use Rattle.std.proofs.Math.Seq.{take-length}
+use Rattle.std.proofs.lemmas.List.{append-nil, length-set, set_at, set-append_left}
+use Rattle.syntax.specs.Tree.{Expression, Integer, Named, Parenthesized, Selection, Composite, Unary, Binary, Comm, CommSend, CommReceive, CommDefine, CommAssign, Clauses, NoClause, Clause, Select, Statements}
 use Rattle.bytecode.specs.declared.instr.Instr.{Instr}
 use Rattle.bytecode.specs.declared.instr.Instr.TheVariants as instrs
 use Rattle.bytecode.specs.declared.table.Clause.TheVariants as clauses
@@ -20,13 +21,20 @@ use Rattle.meaning.specs.Values.{known}
 use Rattle.codegen_base.specs.declared.element.Element.{Element}
 use Rattle.codegen_base.specs.Elements.{shape_of}
 use Rattle.codegen_base.specs.Layouts.{Layout, carried}
-use Rattle.codegen_base.specs.Generated.{Made, Site, made_default, made_of, made_select, made_ways, past, select_table, table_clause, table_clauses, default_at, default_places, within_select, with_way}
+use Rattle.codegen_base.proofs.Before.{clauses_before}
+use Rattle.codegen_base.proofs.Plain.{comm_plain}
+use Rattle.codegen_expression.specs.Emission.{Puts}
+use Rattle.codegen_simple.specs.Simples.{Appends}
+use Rattle.codegen_base.specs.Generated.{Made, Site, behind_comm, comm_plan, followed, made, made_all, made_comm, made_default, made_of, made_select, made_ways, past, pushes_clauses, select_table, table_clause, table_clauses, default_at, default_places, within_select, with_way}
 use Rattle.codegen_simple.specs.Layouts.{layout_of}
 use Rattle.codegen_emission.specs.declared.waits.Wait.{Wait}
 use Rattle.codegen_emission.specs.declared.emitter.Emitter.{Emitter}
-use Rattle.codegen_emission.specs.Waits.{settled}
-use Rattle.codegen_emission.specs.Emitted.{Control, Emits, site_of}
-use Rattle.codegen_emission.specs.Ways.{behind_select, made_way, or_nothing}
+use Rattle.codegen_emission.specs.Waits.{Makes, settled}
+use Rattle.codegen_emission.specs.Emitted.{Control, Emits, site_of, through}
+use Rattle.codegen_emission.specs.Ways.{EmitsAs, any_control, behind_select, made_way, or_nothing, ways_left}
+use Rattle.codegen_emission.proofs.Behind.{emits_alone, emits_behind}
+use Rattle.codegen_emission.proofs.Blocks.{Entered, Left, emits_inside, emits_then}
+use Rattle.codegen_emission.proofs.Branching.{Beside, beside_keeps, same_site}
 use Rattle.codegen_emission.proofs.Chosen.{makes_choose}
 use Rattle.codegen_emission.proofs.Emitting.{keeps_both}
 
@@ -113,3 +121,61 @@ module _ (table : TypeTable) where
         layout = l3 ∙ e.layout;
         kept = keeps_both table e0 e1 e3 k1 (keeps_both table e1 e2 e3 e.kept k3);
       }
+
+  -- where these are the instructions, with nothing else changed
+  pub emits_as_is : (e0 e1 e2 : Emitter) (code : List Instr) (flow : Control) (made : Made) → EmitsAs table e0 code e1 flow made → e2.code.items ≡ code → Beside e1 e2 → Emits table e0 e2 flow made
+  emits_as_is e0 e1 e2 code flow made e c b = record {
+    code = subst (λ l. Makes e0.code.items l flow.waits made.plan) (sym c) e.code_is;
+    flows = e.flows;
+    prints = b.prints ∙ e.prints;
+    selects = b.selects ∙ e.selects;
+    layout = ap (layout_of table) b.layout ∙ e.layout;
+    kept = keeps_both table e0 e1 e2 e.kept (beside_keeps e1 e2 b);
+  }
+
+  module _ (globals : Globals) (elements : List Element) (result : Yield) where
+    -- what was received goes where it is wanted, and the statements of the clause are done
+    pub emits_comm : (comm : Comm) (body : Statements) (e0 e1 e2 e3 e4 : Emitter) (count outer : ℕ) (flow : Control) → Entered table e0 e1 count outer → Appends e1.code.items e2.code.items (comm_plan globals elements result (layout_of table e1.layout) comm)
+        → e2.prints.items ≡ e1.prints.items → e2.selects.items ≡ e1.selects.items → layout_of table e2.layout ≡ behind_comm globals elements result comm (layout_of table e1.layout) → Keeps e1.layout.visible e2.layout.visible
+        → Emits table e2 e3 flow (made_all globals elements result (site_of table e2) body) → Left e3 e4 count outer → Emits table e0 e4 flow (made_way globals elements result (site_of table e0) comm body)
+    emits_comm comm body e0 e1 e2 e3 e4 count outer flow i code p s l k e left =
+        let first = λ (site : Site). made_comm globals elements result site comm in
+        let rest = λ (site : Site). made_all globals elements result site body in
+        let one = emits_alone table e1 e2 through (first (site_of table e1)) refl (comm_plain globals elements (layout_of table e1.layout) result comm) code (p ∙ sym (append-nil e1.prints.items)) s l k in
+        emits_inside table (λ site. followed (first site) (rest (past site (first site)))) e0 e1 e3 e4 count outer flow i (emits_then table first rest e1 e2 e3 flow one e) left
+
+    whole_select : (all : Clauses) (site : Site) (ways : Option Made)
+        → made_of (pushes_clauses globals elements result site.layout all (Choose site.selects (select_table globals elements result site.layout all) (or_nothing (within_select globals elements result site) ways).plan)) (or_nothing (within_select globals elements result site) ways).prints
+        (or_nothing (within_select globals elements result site) ways).layout
+        ≡ made_select globals elements result site all ways
+    whole_select all site None = refl
+    whole_select all site (Some ways) = refl
+
+    pub emits_select : (all : Clauses) (held table_made : SelectTable) (e0 e1 e2 e3 e4 : Emitter) (flow : Option Control) (g : Control) (places : List ℕ) (q stop : ℕ) → Puts e0.code.items e1.code.items (pushes_clauses globals elements result (layout_of table e0.layout) all) → Beside e0 e1
+        → q ≡ length e1.selects.items → e2.code.items ≡ e1.code.items ++ instrs.Select q ∷ [] → e2.prints.items ≡ e1.prints.items → e2.selects.items ≡ e1.selects.items ++ held ∷ [] → e2.layout ≡ e1.layout
+        → Emits table e2 e3 (any_control flow) (or_nothing (site_of table e2) (ways_left globals elements result all (site_of table e2) all)) → places ≡ starts (length e2.code.items) (or_nothing (site_of table e2) (ways_left globals elements result all (site_of table e2) all)).plan
+        → stop ≡ length e3.code.items → e4.code.items ≡ settled (any_control flow).waits stop e3.code.items → e4.prints.items ≡ e3.prints.items → e4.selects.items ≡ slice_set e3.selects.items (length e1.selects.items) table_made → e4.layout ≡ e3.layout
+        → table_made ≡ select_table globals elements result (layout_of table e3.layout) all places → g ≡ behind_select (any_control flow) → Emits table e0 e4 g (made globals elements result (site_of table e0) (Select all))
+    emits_select all held table_made e0 e1 e2 e3 e4 flow g places q stop puts b1 eq c2 p2 s2 l2 e begin es c4 p4 s4 l4 et is =
+        let site = site_of table e0 in
+        let l = site.layout in
+        let first : site_of table e1 ≡ site = same_site table e0 e1 b1 in
+        let number : q ≡ site.selects = eq ∙ ap length b1.selects in
+        let n2 = ap length p2 ∙ ap length b1.prints in
+        let m2 : length e2.selects.items ≡ site.selects + 1 = ap length s2 ∙ length-append e1.selects.items (held ∷ []) ∙ ap (λ n. n + 1) (ap length b1.selects) in
+        let layout2 = ap (layout_of table) (l2 ∙ b1.layout) in
+        let second : site_of table e2 ≡ within_select globals elements result site = cc (n2, m2, layout2) in
+        let ways = ways_left globals elements result all (site_of table e2) all in
+        let w = or_nothing (site_of table e2) ways in
+        let same : (layout_of table e3.layout).scope.variables ≡ l.scope.variables = ap (λ (x : Layout). x.scope.variables) e.layout ∙ ways_variables globals elements result all (site_of table e2) all ∙ ap (λ (x : Layout). x.scope.variables) layout2 in
+        let whole : table_made ≡ select_table globals elements result l all (starts (length e2.code.items) w.plan) = et ∙ same_table globals elements result (layout_of table e3.layout) l same all places ∙ ap (select_table globals elements result l all) begin in
+        let keeps = subst (λ x. Keeps e1.layout.visible x.visible) (sym l2) (take-length e1.layout.visible.entries.items, refl) in
+        let keeps_on = subst (λ x. Keeps e3.layout.visible x.visible) (sym l4) (take-length e3.layout.visible.entries.items, refl) in
+        let choose = emits_choose q (select_table globals elements result l all) held table_made e1 e2 e3 e4 (any_control flow) w stop c2 p2 s2 keeps e es c4 p4 s4 whole (ap (layout_of table) l4) keeps_on in
+        let chosen = emits_behind table (pushes_clauses globals elements result l all) e0 e1 e4 (behind_select (any_control flow)) (made_of (Choose q (select_table globals elements result l all) w.plan) w.prints w.layout)
+        (clauses_before globals elements l result all (Choose q (select_table globals elements result l all) w.plan)) puts b1.prints b1.selects (beside_keeps e0 e1 b1) choose in
+        let at_number = subst (λ n. Emits table e0 e4 (behind_select (any_control flow)) (made_of (pushes_clauses globals elements result l all (Choose n (select_table globals elements result l all) w.plan)) w.prints w.layout)) number chosen in
+        let within = λ (s : Site). or_nothing s (ways_left globals elements result all s all) in
+        let at_site = subst (λ s. Emits table e0 e4 (behind_select (any_control flow)) (made_of (pushes_clauses globals elements result l all (Choose site.selects (select_table globals elements result l all) (within s).plan)) (within s).prints (within s).layout)) second at_number in
+        subst (λ f. Emits table e0 e4 f (made globals elements result site (Select all))) (sym is)
+        (subst (λ m. Emits table e0 e4 (behind_select (any_control flow)) m) (whole_select all site (ways_left globals elements result all (within_select globals elements result site) all)) at_site)

@@ -1,11 +1,11 @@
 //! Selects, without their ways.
 
-ghost use Rattle.std.specs.Prelude.{◌≡◌, ◌∷◌, ◌++◌, [], IfOk, OnOk, cond, length, option_map, slice_set};
+ghost use Rattle.std.specs.Prelude.{◌≡◌, ◌∷◌, ◌++◌, [], IfOk, None, OnOk, Some, cond, length, option_map, slice_set};
 ghost use Rattle.bytecode.specs.declared.instr.Instr.TheVariants as instrs;
 ghost use Rattle.codegen_emission.specs.Emitted.{control};
 ghost use Rattle.codegen_emission.specs.Closed.{closed, closed_one};
 ghost use Rattle.codegen_emission.specs.Waits.{continues, settled};
-ghost use Rattle.codegen_emission.specs.Ways.{any_control, behind_select, with_others};
+ghost use Rattle.codegen_emission.specs.Ways.{any_control, behind_select, together, with_others};
 
 use crate::flow::{Flow, join_way};
 use crate::waits::{Wait, aim};
@@ -168,4 +168,47 @@ pub fn from_ways(alloc: Global, ways: Option<Flow>) -> Flow
         Some(ways) => ways,
         None => Flow::through(alloc),
     }
+}
+
+impl WayList {
+    /// No ways.
+    pub fn new(alloc: Global) -> WayList
+        ensures flow { result.flow ≡ None }
+        ensures places { result.places.items ≡ [] }
+        ensures held { result.held.items ≡ [] }
+    {
+        WayList {
+            flow: None,
+            places: Vec::new(alloc),
+            held: Vec::new(alloc),
+        }
+    }
+}
+
+/// Control goes there from one more way.
+fn with_way(before: Option<Flow>, flow: Flow) -> Result<Flow, Halt>
+    ensures { IfOk result (λ joined. Some (control joined) ≡ together (option_map control before) (Some (control flow))) }
+{
+    match before {
+        None => Ok(flow),
+        Some(mut first) => {
+            join_way(&mut first, flow)?;
+            Ok(first)
+        }
+    }
+}
+
+/// One more way, which begins at a place.
+///
+/// Errors: want of memory.
+pub fn add_way(list: &mut WayList, place: u32, held: Held, flow: Flow) -> Result<(), Halt>
+    ensures flow { OnOk result (option_map control list.new.flow ≡ together (option_map control list.old.flow) (Some (control flow))) }
+    ensures places { OnOk result (list.new.places.items ≡ list.old.places.items ++ place ∷ []) }
+    ensures held { OnOk result (list.new.held.items ≡ list.old.held.items ++ held ∷ []) }
+{
+    list.places.push(place)?;
+    list.held.push(held)?;
+    let before = list.flow.take();
+    list.flow = Some(with_way(before, flow)?);
+    Ok(())
 }
