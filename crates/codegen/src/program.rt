@@ -91,6 +91,17 @@ fn generate<'a>(
     Ok(Code::new(functions, shapes, emitter.prints).with_selects(emitter.selects))
 }
 
+/// The code of a checked file, with a name under which ranges keep their channels.
+fn file_code<'a>(alloc: Global, typed: &'a Typed, blank: &'a Blank) -> Result<Code, Halt>
+    ensures code { IfOk result (λ code. code ≡ code_of (tree_of (tree_in typed.now))) }
+    ensures typed { IfOk result (λ _. IsTyped (tree_of (tree_in typed.now))) }
+{
+    let table = typed.table(alloc)?;
+    let tops = typed.tree().file().tops.as_slice();
+    let code = generate(alloc, &table, blank, tops)?;
+    Ok(code)
+}
+
 /// The code of a checked file.
 ///
 /// Errors: want of memory, or a number of the code over 2^32.
@@ -98,9 +109,7 @@ pub(crate) fn code_of(alloc: Global, typed: &Typed) -> Result<Code, Halt>
     ensures code { IfOk result (λ code. code ≡ code_of (tree_of (tree_in typed.now))) }
     ensures typed { IfOk result (λ _. IsTyped (tree_of (tree_in typed.now))) }
 {
-    let table = typed.table(alloc)?;
-    let tops = typed.tree().file().tops.as_slice();
     let blank = Blank::new(alloc)?;
-    let code = generate(alloc, &table, &blank, tops)?;
+    let code = file_code(alloc, typed, &blank)?;
     Ok(code)
 }

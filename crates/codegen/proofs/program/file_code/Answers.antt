@@ -1,0 +1,19 @@
+use Rattle.std.proofs.Common.{◌≡◌, ◌∙◌, List, [], ap, map}
+use Rattle.syntax.specs.Spans.{tree_of}
+use Rattle.syntax.specs.Tree.{Top, File}
+use Rattle.syntax.specs.View.{top_of}
+use Rattle.type_table.specs.Scopes.{Globals}
+use Rattle.checker.specs.Trees.{tree_in}
+use Rattle.checker_declaration.specs.Kinds.{globals_of}
+use Rattle.codegen_base.specs.Program.{noting_tops}
+use Rattle.codegen.specs.Codes.{code_with}
+use Rattle.codegen.proofs.program.file_code.Goals as goal
+
+pub returns-clause-code : goal.returns-clause-code
+returns-clause-code c =
+    let file : File = tree_of (tree_in c.args.typed.now) in
+    let written : List Top = map top_of c.as_slice-tops.result.now in
+    let same : written ≡ file.tops = ap (map top_of) c.as_slice-tops.ensures.value ∙ ap (λ (f : File). f.tops) (c.file.ensures.file ∙ ap tree_of c.tree.ensures.tree) in
+    c.in_ok-code.ensures
+    ∙ ap (λ (g : Globals). code_with g (noting_tops g.types written []) written) c.in_ok-table.ensures
+    ∙ ap (λ (tops : List Top). code_with (globals_of file.tops) (noting_tops (globals_of file.tops).types tops []) tops) same
