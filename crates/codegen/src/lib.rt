@@ -1,10 +1,10 @@
 //! The compiler: code that does what the source does.
 #![tactic(auto)]
 
-mod compile;
+mod compiler;
 mod function;
 mod head;
 mod program;
 mod shapes;
 
-pub use compile::compile;
+pub use compiler::compile;
