@@ -18,7 +18,6 @@ use std::alloc::Global;
 /// The code of a checked program, which does what the source does and keeps all rules of the verifier.
 ///
 /// Errors: only `Memory`.
-#[tactic(auto, using(crate::proofs::Compiled::compiled_equal, crate::proofs::Compiled::compiled_verified))]
 pub fn compile(alloc: Global, typed: &Typed) -> Result<Code, Fault>
     requires grammatical { IsGrammatical (tree_of (tree_in typed.now)) }
     requires limited { IsLimited (tree_of (tree_in typed.now)) }
