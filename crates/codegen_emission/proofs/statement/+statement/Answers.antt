@@ -27,7 +27,7 @@ use Rattle.codegen_emission.specs.declared.emitter.Emitter.{Emitter}
 use Rattle.codegen_emission.specs.Waits.{filled, settled}
 use Rattle.codegen_emission.specs.Closed.{closed}
 use Rattle.codegen_emission.specs.declared.select.Held.{Held}
-use Rattle.codegen_emission.specs.Ways.{Reaches, any_control, behind_select, default_start, made_way, no_table, or_nothing, ways_left}
+use Rattle.codegen_emission.specs.Ways.{Reaches, Ways, any_control, behind_select, default_start, made_way, no_table, or_nothing, ways_left}
 use Rattle.codegen_emission.proofs.Choosing.{reaches, reaches_more}
 use Rattle.codegen_emission.proofs.Defaults.{all_ways, default_here, default_later, default_none, default_nowhere, default_way, next_clause, reaches_past}
 use Rattle.codegen_emission.proofs.Selecting.{emits_as_is, emits_comm, emits_select}
@@ -334,12 +334,12 @@ emit_clause-returns t c = λ whole left all first reaches.
     let next = c.add_way.new.list in
     let place_is : c.in_ok-place.place ≡ length e0.code.items = omega (arith, c.in_ok-place.ensures, c.len.ensures) in
     let is : clause_of clause ≡ record { comm = option_map comm_of clause.comm; body = body_of clause.body.items } = search (rules, the_lemmas) in
-    let with_comm : option_map comm_of clause.comm ≡ Some (comm_of c.comm) = search rules in
+    let with_comm : option_map comm_of clause.comm ≡ Some (comm_of c.in-Some.comm) = search rules in
     let body_is = c.as_slice-body.ensures.value in
     let here = subst (λ o. Reaches globals elements result table whole first e0 list (Clause o (body_of clause.body.items) left) all) with_comm (subst (λ (o : OneClause). Reaches globals elements result table whole first e0 list (Clause o.comm o.body left) all) is reaches) in
-    let way = subst (λ (b : List StatementNode). Emits table e0 e1 f (made_way globals elements result (site_of table e0) (comm_of c.comm) (body_of b))) body_is c.in_ok-flow.ensures in
+    let way = subst (λ (b : List StatementNode). Emits table e0 e1 f (made_way globals elements result (site_of table e0) (comm_of c.in-Some.comm) (body_of b))) body_is c.in_ok-flow.ensures in
     let places : next.places.items ≡ list.places.items ++ length e0.code.items ∷ [] = c.in_ok-add_way.ensures.places ∙ ap (λ n. list.places.items ++ n ∷ []) place_is in
-    reaches_more globals elements result table whole first e0 e1 e2 list next f c.in_ok-held.held (comm_of c.comm) (body_of clause.body.items) left all here way c.in_ok-held.ensures.held (record { prints = refl; selects = refl; layout = refl }) c.in_ok-held.ensures.place c.in_ok-held.ensures.leads
+    reaches_more globals elements result table whole first e0 e1 e2 list next f c.in_ok-held.held (comm_of c.in-Some.comm) (body_of clause.body.items) left all here way c.in_ok-held.ensures.held (record { prints = refl; selects = refl; layout = refl }) c.in_ok-held.ensures.place c.in_ok-held.ensures.leads
     c.in_ok-add_way.ensures.flow places c.in_ok-add_way.ensures.held
 
 pub emit_clause-returns-in_default : goal.emit_clause-returns-in_default
@@ -355,8 +355,8 @@ emit_clause-returns-in_default t c = λ whole left all first reaches.
     let here = subst (λ o. Reaches globals elements result table whole first e0 c.args.list.now (Clause o (body_of clause.body.items) left) all) without (subst (λ (o : OneClause). Reaches globals elements result table whole first e0 c.args.list.now (Clause o.comm o.body left) all) is reaches) in
     reaches_past table globals elements result whole left all (body_of clause.body.items) first e0 c.args.list.now here
 
-pub emit_each_way-loop-clause-starts : goal.emit_each_way-loop-clause-starts
-emit_each_way-loop-clause-starts t c = λ whole.
+pub emit_each_way-loop-clause-init : goal.emit_each_way-loop-clause-init
+emit_each_way-loop-clause-init t c = λ whole.
     let table = c.args.table.now in
     let list = c.new.result in
     reaches (globals_in table) c.args.elements.now (yield_of (types_of table) c.args.result_type) table whole c.args.emitter.now list (clauses (map clause_of c.args.all.now)) c.new.ensures.flow c.new.ensures.places c.new.ensures.held
@@ -396,7 +396,7 @@ emit_default-loop-clause-preserved t c =
     let one = c.clause-item.result in
     let some : is_none one.comm ≡ false = search rules in
     let is : clause_of one ≡ record { comm = option_map comm_of one.comm; body = body_of one.body.items } = search (rules, the_lemmas) in
-    default_later globals elements result site i one all c.loop-clause-test.true c.clause-item.is is some c.loop-clause.invariant
+    (c.loop-clause.invariant.0, default_later globals elements result site i one all c.loop-clause-test.true c.clause-item.is is some c.loop-clause.invariant.1)
 
 pub emit_default-returns-then-is_none : goal.emit_default-returns-then-is_none
 emit_default-returns-then-is_none t c =
@@ -412,8 +412,11 @@ emit_default-returns-then-is_none t c =
     let none : is_none one.comm ≡ true = search rules in
     let is : clause_of one ≡ record { comm = option_map comm_of one.comm; body = body_of one.body.items } = search (rules, the_lemmas) in
     let way = subst (λ (b : List StatementNode). Emits table e0 c.emit_block.new.emitter (control c.in_ok-flow.flow) (made_within globals elements result site (body_of b))) c.as_slice-body.ensures.value c.in_ok-flow.ensures in
-    default_way table e0 c.emit_block.new.emitter (control c.in_ok-flow.flow) (made_within globals elements result site (body_of one.body.items)) (made_default globals elements result site (clauses (map clause_of all)))
-    (default_here globals elements result site i one all c.loop-clause-test.true c.clause-item.is is none c.loop-clause.invariant) way
+    let e1 = c.emit_block.new.emitter in
+    let f = control c.in_ok-flow.flow in
+    let here = default_way table e0 e1 f (made_within globals elements result site (body_of one.body.items)) (made_default globals elements result site (clauses (map clause_of all)))
+    (default_here globals elements result site i one all c.loop-clause-test.true c.clause-item.is is none c.loop-clause.invariant.1) way in
+    subst (λ (e : Emitter). (noted : List ℕ) → Ways table e e1.code.items e1 noted (default_start noted e (Some f)) (Some f) (made_default globals elements result (site_of table e) (clauses (map clause_of all)))) c.loop-clause.invariant.0 here
 
 pub emit_default-returns : goal.emit_default-returns
 emit_default-returns t c =
@@ -424,7 +427,8 @@ emit_default-returns t c =
     let e0 = c.loop-clause.emitter in
     let all = c.args.all.now in
     let i = c.loop-clause.clause-index in
-    default_none table e0 (made_default globals elements result (site_of table e0) (clauses (map clause_of all))) (default_nowhere globals elements result (site_of table e0) i all c.loop-clause-test.false c.loop-clause.invariant)
+    let here = default_none table e0 (made_default globals elements result (site_of table e0) (clauses (map clause_of all))) (default_nowhere globals elements result (site_of table e0) i all c.loop-clause-test.false c.loop-clause.invariant.1) in
+    subst (λ (e : Emitter). (noted : List ℕ) → Ways table e e0.code.items e0 noted (default_start noted e None) None (made_default globals elements result (site_of table e) (clauses (map clause_of all)))) c.loop-clause.invariant.0 here
 
 pub emit_all_ways-returns : goal.emit_all_ways-returns
 emit_all_ways-returns t c =

@@ -21,8 +21,9 @@ abbrev pub invariant-emit_each_way-loop-clause : goal.invariant-emit_each_way-lo
 invariant-emit_each_way-loop-clause l =
     (whole : Clauses) → Reaches (globals_in l.table) l.elements (yield_of (types_of l.table) l.result_type) l.table whole l.initial.emitter l.emitter l.list (clauses (map clause_of (drop l.clause-index l.all))) (clauses (map clause_of l.all))
 
--- the default is in what is left
+-- nothing is emitted yet, and the default is in what is left
 abbrev pub invariant-emit_default-loop-clause : goal.invariant-emit_default-loop-clause
 invariant-emit_default-loop-clause l =
-    made_default (globals_in l.table) l.elements (yield_of (types_of l.table) l.result_type) (site_of l.table l.emitter) (clauses (map clause_of (drop l.clause-index l.all)))
-    ≡ made_default (globals_in l.table) l.elements (yield_of (types_of l.table) l.result_type) (site_of l.table l.emitter) (clauses (map clause_of l.all))
+    (l.emitter ≡ l.initial.emitter)
+    × (made_default (globals_in l.table) l.elements (yield_of (types_of l.table) l.result_type) (site_of l.table l.emitter) (clauses (map clause_of (drop l.clause-index l.all)))
+    ≡ made_default (globals_in l.table) l.elements (yield_of (types_of l.table) l.result_type) (site_of l.table l.emitter) (clauses (map clause_of l.all)))
