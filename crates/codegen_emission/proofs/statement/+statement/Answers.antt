@@ -358,8 +358,8 @@ emit_clause-returns-in_default t c = λ whole left all first reaches.
 pub emit_each_way-loop-clause-init : goal.emit_each_way-loop-clause-init
 emit_each_way-loop-clause-init t c = λ whole.
     let table = c.args.table.now in
-    let list = c.new.result in
-    reaches (globals_in table) c.args.elements.now (yield_of (types_of table) c.args.result_type) table whole c.args.emitter.now list (clauses (map clause_of c.args.all.now)) c.new.ensures.flow c.new.ensures.places c.new.ensures.held
+    let list = c.new-list.result in
+    reaches (globals_in table) c.args.elements.now (yield_of (types_of table) c.args.result_type) table whole c.args.emitter.now list (clauses (map clause_of c.args.all.now)) c.new-list.ensures.flow c.new-list.ensures.places c.new-list.ensures.held
 
 pub emit_each_way-loop-clause-preserved : goal.emit_each_way-loop-clause-preserved
 emit_each_way-loop-clause-preserved t c = λ whole.
