@@ -13,4 +13,5 @@ pub mod Choosing
 pub mod Selecting
 pub mod Ranging
 pub mod Closing
+pub mod Defaults
 pub mod Settling

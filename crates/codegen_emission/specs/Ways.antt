@@ -1,8 +1,9 @@
 -- The ways of a select.
-use Rattle.std.specs.Prelude.{◌≡◌, ℕ, Bool, false, ◌||◌, List, [], ◌++◌, length, Option, Some, None, option_map}
+use Rattle.std.specs.Prelude.{◌≡◌, ℕ, Bool, false, cond, ◌||◌, List, [], ◌∷◌, ◌++◌, length, Option, Some, None, option_map}
 use Rattle.std.specs.Option.{is_some}
 use Rattle.syntax.specs.Tree.{Clauses, Comm, Statements}
 use Rattle.bytecode.specs.declared.instr.Instr.{Instr}
+use Rattle.bytecode.specs.Code.{SelectTable}
 use Rattle.plan.specs.Plan.{starts, tables}
 use Rattle.type_table.specs.Visible.{Keeps}
 use Rattle.type_table.specs.declared.table.TypeTable.{TypeTable}
@@ -34,6 +35,14 @@ with_others flow (Some others) = either flow others
 abbrev pub together : Option Control → Option Control → Option Control
 together None others = others
 together (Some flow) others = Some (with_others flow others)
+
+-- where a default's way begins, behind the others
+abbrev pub default_start : List ℕ → Emitter → Option Control → List ℕ
+default_start noted old flow = noted ++ cond (is_some flow) (length old.code.items ∷ []) []
+
+-- held for the table of a select, whose ways are still to come
+abbrev pub no_table : SelectTable
+no_table = record { clauses = []; default = None }
 
 -- what was made is what is emitted, where these are the instructions then
 pub record EmitsAs (table : TypeTable) (old : Emitter) (code : List Instr) (new : Emitter) (flow : Control) (made : Made) : Type 0 where

@@ -5,7 +5,8 @@ ghost use Rattle.bytecode.specs.declared.instr.Instr.TheVariants as instrs;
 ghost use Rattle.codegen_emission.specs.Emitted.{control};
 ghost use Rattle.codegen_emission.specs.Closed.{closed, closed_one};
 ghost use Rattle.codegen_emission.specs.Waits.{continues, settled};
-ghost use Rattle.codegen_emission.specs.Ways.{any_control, behind_select, together, with_others};
+ghost use Rattle.codegen_emission.specs.Ways.{any_control, behind_select, no_table, together};
+ghost use Rattle.std.specs.Option.{is_some};
 
 use crate::flow::{Flow, join_way};
 use crate::waits::{Wait, aim};
@@ -78,16 +79,21 @@ pub fn close(all: &[Held], are_there: bool, code: &mut Vec<Instr>) -> Result<(),
     Ok(())
 }
 
-/// There are other ways beside it, or none.
+/// A select's instruction, and the place of its table, which has this number.
 ///
-/// Errors: want of memory.
-pub fn join_others(flow: &mut Flow, others: Option<Flow>) -> Result<(), Halt>
-    ensures { OnOk result (control flow.new ≡ with_others (control flow.old) (option_map control others)) }
+/// Errors: a number of the code would pass 2^32; want of memory.
+pub fn hold_select(
+    alloc: Global,
+    at: usize,
+    code: &mut Vec<Instr>,
+    tables: &mut Vec<SelectTable>,
+) -> Result<(), Halt>
+    ensures code { OnOk result (code.new.items ≡ code.old.items ++ instrs.Select at ∷ []) }
+    ensures tables { OnOk result (tables.new.items ≡ tables.old.items ++ no_table ∷ []) }
 {
-    match others {
-        Some(others) => join_way(flow, others),
-        None => Ok(()),
-    }
+    code.push(Instr::Select(number(at)?))?;
+    tables.push(SelectTable::new(Vec::new(alloc), None))?;
+    Ok(())
 }
 
 /// The table of a select is put where its place was held.
@@ -208,6 +214,22 @@ pub fn add_way(list: &mut WayList, place: u32, held: Held, flow: Flow) -> Result
 {
     list.places.push(place)?;
     list.held.push(held)?;
+    let before = list.flow.take();
+    list.flow = Some(with_way(before, flow)?);
+    Ok(())
+}
+
+/// All ways have ended, that of a default last, which begins at a place.
+///
+/// Errors: want of memory.
+pub fn end_ways(list: &mut WayList, place: u32, default: Option<Flow>) -> Result<(), Halt>
+    ensures flow { OnOk result (option_map control list.new.flow ≡ together (option_map control list.old.flow) (option_map control default)) }
+    ensures places { OnOk result (list.new.places.items ≡ list.old.places.items ++ cond (is_some default) (place ∷ []) []) }
+{
+    let Some(flow) = default else {
+        return Ok(());
+    };
+    list.places.push(place)?;
     let before = list.flow.take();
     list.flow = Some(with_way(before, flow)?);
     Ok(())

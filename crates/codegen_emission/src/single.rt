@@ -1,4 +1,4 @@
-//! Declarations of variables, returns and starts of goroutines.
+//! Declarations of variables, jumps, returns and starts of goroutines.
 
 ghost use Rattle.std.specs.Prelude.{IfOk, OnOk, map, option_map};
 ghost use Rattle.syntax.specs.Tree.{Go, Return, VarTyped, VarUntyped};
@@ -7,10 +7,11 @@ ghost use Rattle.type_table.specs.Scopes.{Yield};
 ghost use Rattle.type_table.specs.Views.{yield_of};
 ghost use Rattle.type_table.specs.Visible.{globals_in, types_of};
 ghost use Rattle.codegen_base.specs.Generated.{made};
-ghost use Rattle.codegen_emission.specs.Emitted.{Emits, control, site_of, through};
+ghost use Rattle.codegen_emission.specs.Emitted.{Emits, Jumps, control, site_of, through};
 
 use crate::emitter::Emitter;
 use crate::flow::Flow;
+use bytecode::Instr;
 use codegen_expression::element_list::ElementList;
 use codegen_expression::halt::Halt;
 use codegen_header::returned::emit_return;
@@ -96,4 +97,15 @@ pub fn give_back<'a>(
     let code = &mut emitter.code;
     emit_return(alloc, table, elements, layout, result_type, returned, code)?;
     Ok(Flow::never(alloc))
+}
+
+/// A break, or a continue.
+///
+/// Errors: want of memory.
+pub fn emit_jump(alloc: Global, leaves: bool, emitter: &mut Emitter<'_>) -> Result<Flow, Halt>
+    ensures { IfOk result (λ flow. Jumps leaves emitter.old emitter.new (control flow)) }
+{
+    let flow = Flow::from_jump(alloc, leaves, emitter.code.len())?;
+    emitter.code.push(Instr::Jump(0))?;
+    Ok(flow)
 }

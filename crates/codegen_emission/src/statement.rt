@@ -1,22 +1,25 @@
 //! Statements ("Statements" of the Go specification).
 
-ghost use Rattle.std.specs.Prelude.{◌≡◌, IfOk, None, Some, option_map};
-ghost use Rattle.syntax.specs.View.{body_of, branch_of, expression_of, for_head_of, otherwise_of, simple_of, statement_of, target_of};
-ghost use Rattle.syntax.specs.Tree.{Expression, For, ForClauses, Range};
+ghost use Rattle.std.specs.Prelude.{◌≡◌, [], IfOk, List, None, OnOk, Some, map, option_map, ℕ};
+ghost use Rattle.syntax.specs.View.{body_of, branch_of, clause_of, clauses, comm_of, expression_of, for_head_of, otherwise_of, simple_of, statement_of, target_of};
+ghost use Rattle.syntax.specs.Tree.{Clause, Clauses, Expression, For, ForClauses, NoClause, Range, Select};
 ghost use Rattle.type_table.specs.Views.{kind_of, yield_of};
 ghost use Rattle.type_table.specs.Visible.{globals_in, types_of};
-ghost use Rattle.codegen_base.specs.Generated.{ended, inside, made, made_all, made_branch};
+ghost use Rattle.codegen_base.specs.Generated.{ended, inside, made, made_all, made_branch, made_default};
 ghost use Rattle.codegen_base.specs.Layouts.{Layout as OneLayout, carried};
 ghost use Rattle.codegen_simple.specs.Layouts.{layout_of};
 ghost use Rattle.codegen_emission.specs.Items.{made_item, made_items};
-ghost use Rattle.codegen_emission.specs.Emitted.{Emits, Jumps, control, site_of};
+ghost use Rattle.codegen_emission.specs.Emitted.{Emits, control, site_of};
 ghost use Rattle.codegen_emission.specs.Turns.{made_turns};
+ghost use Rattle.codegen_emission.specs.Ways.{Reaches, Ways, default_start, made_way, ways_left};
+ghost use Rattle.codegen_emission.specs.declared.emitter.Emitter.{Emitter as OneEmitter};
 ghost use Rattle.codegen_emission.specs.Branches.{made_condition, made_one_way, made_other, made_two_ways};
 
 use crate::alone::{emit_alone, emit_any, emit_head};
 use crate::emitter::Emitter;
 use crate::flow::{Flow, join, join_way, may_end};
-use crate::single::{declare_typed, declare_untyped, give_back, start};
+use crate::select::{WayList, add_way, close, end_ways, from_ways, hold, hold_select, leave_select, set_table};
+use crate::single::{declare_typed, declare_untyped, emit_jump, give_back, start};
 use crate::turn::{come_round, emit_round, push_test};
 use crate::waits::{aim, fill};
 use crate::way::{begin_other, end_other, end_test, has_other};
@@ -25,21 +28,14 @@ use codegen_expression::element_list::ElementList;
 use codegen_expression::halt::Halt;
 use codegen_expression::operand::number;
 use codegen_header::blank::Blank;
+use codegen_header::comm::take_comm;
 use codegen_header::range::{Ranged, declare_kept, emit_kept, emit_next, emit_unused, take_item};
+use codegen_header::select::{push_clauses, select_table};
 use codegen_simple::layout::{enter, leave};
 use std::alloc::Global;
-use syntax::{ElseNode, ExpressionNode, ForHeader, IfNode, RangeTarget, SimpleNode, StatementNode};
+use syntax::{ClauseNode, CommNode, ElseNode, ExpressionNode, ForHeader, IfNode, RangeTarget, SimpleNode, StatementNode};
 use type_table::table::TypeTable;
 use type_table::value_type::ValueType;
-
-/// A break, or a continue.
-fn emit_jump(alloc: Global, leaves: bool, emitter: &mut Emitter<'_>) -> Result<Flow, Halt>
-    ensures { IfOk result (λ flow. Jumps leaves emitter.old emitter.new (control flow)) }
-{
-    let flow = Flow::from_jump(alloc, leaves, emitter.code.len())?;
-    emitter.code.push(Instr::Jump(0))?;
-    Ok(flow)
-}
 
 /// The statements of a block, in order. What can't be reached is left out.
 #[cycle(statement)]
@@ -583,6 +579,146 @@ fn emit_range<'t, 'l, 'm, 'c, 's, 'a>(
     Ok(flow)
 }
 
+/// A way of a select, which is a block: what was received goes where it is wanted first.
+#[cycle(statement)]
+fn emit_way<'t, 'l, 'm, 's, 'a>(
+    alloc: Global,
+    table: &'t TypeTable<'a>,
+    elements: &'l ElementList,
+    blank: &'a Blank,
+    result_type: Option<ValueType<'a>>,
+    emitter: &'m mut Emitter<'a>,
+    body: &'a [StatementNode],
+    comm: &'a CommNode,
+) -> Result<Flow, Halt>
+    ensures { IfOk result (λ flow. Emits table.now emitter.old emitter.new (control flow) (made_way (globals_in table.now) elements.now (yield_of (types_of table.now) result_type.entry) (site_of table.now emitter.old) (comm_of comm.now) (body_of body.now))) }
+{
+    let mark = enter(&mut emitter.layout);
+    let layout = &mut emitter.layout;
+    let code = &mut emitter.code;
+    take_comm(alloc, table, elements, layout, comm, code)?;
+    let flow = emit_statements(alloc, table, elements, blank, result_type, emitter, body)?;
+    leave(&mut emitter.layout, mark);
+    Ok(flow)
+}
+
+/// The way of a clause, behind those before it; a default's comes last.
+#[cycle(statement)]
+fn emit_clause<'t, 'l, 'm, 'w, 's, 'a>(
+    alloc: Global,
+    table: &'t TypeTable<'a>,
+    elements: &'l ElementList,
+    blank: &'a Blank,
+    result_type: Option<ValueType<'a>>,
+    emitter: &'m mut Emitter<'a>,
+    clause: &'a ClauseNode,
+    list: &'w mut WayList,
+) -> Result<(), Halt>
+    ensures { OnOk result ((whole left all : Clauses) (first : OneEmitter) → Reaches (globals_in table.now) elements.now (yield_of (types_of table.now) result_type.entry) table.now whole first emitter.old list.old (Clause (clause_of clause.now).comm (clause_of clause.now).body left) all → Reaches (globals_in table.now) elements.now (yield_of (types_of table.now) result_type.entry) table.now whole first emitter.new list.new left all) }
+{
+    let Some(comm) = &clause.comm else {
+        return Ok(());
+    };
+    let place = number(emitter.code.len())?;
+    let body = clause.body.as_slice();
+    let flow = emit_way(alloc, table, elements, blank, result_type, emitter, body, comm)?;
+    let held = hold(flow.reaches_end, &mut emitter.code)?;
+    add_way(list, place, held, flow)?;
+    Ok(())
+}
+
+/// The ways of all clauses but a default, in order.
+#[cycle(statement)]
+fn emit_each_way<'t, 'l, 'm, 's, 'a>(
+    alloc: Global,
+    table: &'t TypeTable<'a>,
+    elements: &'l ElementList,
+    blank: &'a Blank,
+    result_type: Option<ValueType<'a>>,
+    emitter: &'m mut Emitter<'a>,
+    all: &'a [ClauseNode],
+) -> Result<WayList, Halt>
+    ensures { IfOk result (λ list. (whole : Clauses) → Reaches (globals_in table.now) elements.now (yield_of (types_of table.now) result_type.entry) table.now whole emitter.old emitter.new list NoClause (clauses (map clause_of all.now))) }
+{
+    let mut list = WayList::new(alloc);
+    for clause in all {
+        let ways = &mut list;
+        emit_clause(alloc, table, elements, blank, result_type, emitter, clause, ways)?;
+    }
+    Ok(list)
+}
+
+/// The default's way, if there is a default.
+#[cycle(statement)]
+fn emit_default<'t, 'l, 'm, 's, 'a>(
+    alloc: Global,
+    table: &'t TypeTable<'a>,
+    elements: &'l ElementList,
+    blank: &'a Blank,
+    result_type: Option<ValueType<'a>>,
+    emitter: &'m mut Emitter<'a>,
+    all: &'a [ClauseNode],
+) -> Result<Option<Flow>, Halt>
+    ensures { IfOk result (λ flow. (noted : List ℕ) → Ways table.now emitter.old emitter.new.code.items emitter.new noted (default_start noted emitter.old (option_map control flow)) (option_map control flow) (made_default (globals_in table.now) elements.now (yield_of (types_of table.now) result_type.entry) (site_of table.now emitter.old) (clauses (map clause_of all.now)))) }
+{
+    for clause in all {
+        if clause.comm.is_none() {
+            let body = clause.body.as_slice();
+            let flow = emit_block(alloc, table, elements, blank, result_type, emitter, body)?;
+            return Ok(Some(flow));
+        }
+    }
+    Ok(None)
+}
+
+/// All ways of a select, a default's last.
+#[cycle(statement)]
+fn emit_all_ways<'t, 'l, 'm, 's, 'a>(
+    alloc: Global,
+    table: &'t TypeTable<'a>,
+    elements: &'l ElementList,
+    blank: &'a Blank,
+    result_type: Option<ValueType<'a>>,
+    emitter: &'m mut Emitter<'a>,
+    all: &'a [ClauseNode],
+) -> Result<WayList, Halt>
+    ensures { IfOk result (λ list. Ways table.now emitter.old emitter.new.code.items emitter.new [] list.places.items (option_map control list.flow) (ways_left (globals_in table.now) elements.now (yield_of (types_of table.now) result_type.entry) (clauses (map clause_of all.now)) (site_of table.now emitter.old) (clauses (map clause_of all.now)))) }
+{
+    let mut list = emit_each_way(alloc, table, elements, blank, result_type, emitter, all)?;
+    let place = number(emitter.code.len())?;
+    let default = emit_default(alloc, table, elements, blank, result_type, emitter, all)?;
+    let there = default.is_some();
+    close(list.held.as_slice(), there, &mut emitter.code)?;
+    end_ways(&mut list, place, default)?;
+    Ok(list)
+}
+
+/// A select.
+#[cycle(statement)]
+fn emit_select<'t, 'l, 'm, 's, 'a>(
+    alloc: Global,
+    table: &'t TypeTable<'a>,
+    elements: &'l ElementList,
+    blank: &'a Blank,
+    result_type: Option<ValueType<'a>>,
+    emitter: &'m mut Emitter<'a>,
+    all: &'a [ClauseNode],
+) -> Result<Flow, Halt>
+    ensures { IfOk result (λ flow. Emits table.now emitter.old emitter.new (control flow) (made (globals_in table.now) elements.now (yield_of (types_of table.now) result_type.entry) (site_of table.now emitter.old) (Select (clauses (map clause_of all.now))))) }
+{
+    let layout = &emitter.layout;
+    push_clauses(alloc, table, elements, layout, all, &mut emitter.code)?;
+    let at = emitter.selects.len();
+    hold_select(alloc, at, &mut emitter.code, &mut emitter.selects)?;
+    let list = emit_all_ways(alloc, table, elements, blank, result_type, emitter, all)?;
+    let places = list.places.as_slice();
+    let made = select_table(alloc, table, elements, &emitter.layout, all, places)?;
+    let ways = from_ways(alloc, list.flow);
+    let flow = leave_select(alloc, &ways, &mut emitter.code)?;
+    set_table(&mut emitter.selects, at, made);
+    Ok(flow)
+}
+
 /// A statement.
 #[cycle(statement)]
 #[tactic(auto, using(crate::proofs::Emitting::emits_nothing))]
@@ -654,6 +790,9 @@ fn emit_statement<'t, 'l, 'm, 's, 'a>(
         StatementNode::Return(returned) => {
             give_back(alloc, table, elements, result_type, emitter, returned)
         }
-        StatementNode::Select(_) => Err(Halt::Flawed),
+        StatementNode::Select(all) => {
+            let all = all.as_slice();
+            emit_select(alloc, table, elements, blank, result_type, emitter, all)
+        }
     }
 }

@@ -1,18 +1,20 @@
-use Rattle.std.proofs.Common.{rules, arith, ◌≡◌, ◌+◌, List, [], ◌∷◌, ◌++◌, cond, None, Some, option_map, length, refl, sym, ap, ◌∙◌, subst, drop}
-use Rattle.std.specs.Prelude.{slice_set}
+use Rattle.std.proofs.Common.{rules, arith, ◌≡◌, ℕ, ◌+◌, true, false, List, [], ◌∷◌, ◌++◌, cond, None, Some, option_map, length, refl, sym, ap, ◌∙◌, subst, drop}
+use Rattle.std.specs.Option.{is_none, is_some}
+use Rattle.std.specs.Prelude.{map, slice_set}
 use Rattle.bytecode.specs.declared.instr.Instr.{Instr}
 use Rattle.bytecode.specs.declared.instr.Instr.TheVariants as instrs
 use Rattle.checker_statement.specs.Statements.{head_simple}
 use Rattle.std.proofs.lemmas.List.{drop_all}
+use Rattle.syntax.specs.declared.node.ClauseNode.{ClauseNode}
 use Rattle.syntax.specs.declared.node.StatementNode.{StatementNode}
-use Rattle.syntax.specs.View.{body_of, branch_of, expression_of, if_head_of, otherwise_of, simple_of, statement_of, target_of}
+use Rattle.syntax.specs.View.{OneClause, body_of, branch_of, clause_of, clauses, comm_of, expression_of, if_head_of, otherwise_of, simple_of, statement_of, target_of}
 use Rattle.syntax.specs.declared.node.ElseNode.TheFolds.{the_lemmas}
-use Rattle.syntax.specs.Tree.{Break, Conditional, Continue}
+use Rattle.syntax.specs.Tree.{Break, Clause, Conditional, Continue, NoClause}
 use Rattle.type_table.specs.Views.{kind_of, yield_of}
 use Rattle.type_table.specs.Visible.{globals_in, types_of}
 use Rattle.meaning.specs.Variables.{blank}
 use Rattle.plan.specs.Plan.{Skip}
-use Rattle.codegen_base.specs.Generated.{made, made_branch}
+use Rattle.codegen_base.specs.Generated.{made, made_branch, made_default, select_table}
 use Rattle.codegen_base.specs.Layouts.{declaring, keeping, type_of}
 use Rattle.codegen_base.specs.Pushes.{drops}
 use Rattle.codegen_base.specs.Statements.{width}
@@ -22,8 +24,14 @@ use Rattle.codegen_emission.specs.Items.{made_item}
 use Rattle.codegen_emission.proofs.Ranging.{emits_item, emits_items, emits_range}
 use Rattle.codegen_emission.specs.declared.waits.Wait.{Wait}
 use Rattle.codegen_emission.specs.declared.emitter.Emitter.{Emitter}
-use Rattle.codegen_emission.specs.Waits.{filled}
-use Rattle.codegen_emission.specs.Emitted.{Emits, control, site_of}
+use Rattle.codegen_emission.specs.Waits.{filled, settled}
+use Rattle.codegen_emission.specs.Closed.{closed}
+use Rattle.codegen_emission.specs.declared.select.Held.{Held}
+use Rattle.codegen_emission.specs.Ways.{Reaches, Ways, any_control, behind_select, default_start, made_way, no_table, or_nothing, ways_left}
+use Rattle.codegen_emission.proofs.Choosing.{reaches, reaches_more}
+use Rattle.codegen_emission.proofs.Defaults.{all_ways, default_here, default_later, default_none, default_nowhere, default_way, next_clause, reaches_past}
+use Rattle.codegen_emission.proofs.Selecting.{emits_as_is, emits_comm, emits_select}
+use Rattle.codegen_emission.specs.Emitted.{Control, Emits, control, site_of}
 use Rattle.codegen_emission.proofs.Emitting.{emits_break, emits_continue}
 use Rattle.codegen_emission.proofs.Listing.{begins_all, begins_cut, begins_more, emits_block, next_statement}
 use Rattle.codegen_emission.specs.Branches.{made_condition, made_other, made_within}
@@ -292,3 +300,179 @@ pub emit_statement-returns-in_ok-start-in-Go : goal.emit_statement-returns-in_ok
 emit_statement-returns-in_ok-start-in-Go t c =
     let emitted = c.in_ok-start-in-Go.ensures (yield_of (types_of c.args.table.now) c.args.result_type) in
     search (rules, the_lemmas, emitted)
+
+pub emit_way-returns : goal.emit_way-returns
+emit_way-returns t c =
+    let table = c.args.table.now in
+    let globals = globals_in table in
+    let elements = c.args.elements.now in
+    let result = yield_of (types_of table) c.args.result_type in
+    let e0 = c.args.emitter.now in
+    let e1 : Emitter = record { code = e0.code; prints = e0.prints; selects = e0.selects; layout = c.enter-mark.new.layout } in
+    let e2 : Emitter = record { code = c.take_comm.new.code; prints = e0.prints; selects = e0.selects; layout = c.take_comm.new.layout } in
+    let e3 = c.emit_statements.new.emitter in
+    let e4 : Emitter = record { code = e3.code; prints = e3.prints; selects = e3.selects; layout = c.leave.new.layout } in
+    let mark = c.enter-mark.result in
+    let entered : Entered table e0 e1 mark.count mark.outer =
+    record { code = refl; prints = refl; selects = refl; layout = c.enter-mark.ensures.layout table; entries = c.enter-mark.ensures.kept; count_is = c.enter-mark.ensures.count; outer_is = c.enter-mark.ensures.outer } in
+    let left : Left e3 e4 mark.count mark.outer = record { code = refl; prints = refl; selects = refl; entries = c.leave.ensures.entries; outer_is = c.leave.ensures.outer; words = c.leave.ensures.words; locals = c.leave.ensures.locals } in
+    emits_comm table globals elements result (comm_of c.args.comm.now) (body_of c.args.body.now) e0 e1 e2 e3 e4 mark.count mark.outer (control c.in_ok-flow.flow) entered (c.in_ok-take_comm.ensures.emitted result) refl refl (c.in_ok-take_comm.ensures.after result)
+    c.in_ok-take_comm.ensures.kept c.in_ok-flow.ensures left
+
+pub emit_clause-returns : goal.emit_clause-returns
+emit_clause-returns t c = λ whole left all first reaches.
+    let table = c.args.table.now in
+    let globals = globals_in table in
+    let elements = c.args.elements.now in
+    let result = yield_of (types_of table) c.args.result_type in
+    let clause = c.args.clause.now in
+    let e0 = c.args.emitter.now in
+    let e1 = c.emit_way.new.emitter in
+    let e2 : Emitter = record { code = c.hold.new.code; prints = e1.prints; selects = e1.selects; layout = e1.layout } in
+    let f = control c.in_ok-flow.flow in
+    let list = c.args.list.now in
+    let next = c.add_way.new.list in
+    let place_is : c.in_ok-place.place ≡ length e0.code.items = omega (arith, c.in_ok-place.ensures, c.len.ensures) in
+    let is : clause_of clause ≡ record { comm = option_map comm_of clause.comm; body = body_of clause.body.items } = search (rules, the_lemmas) in
+    let with_comm : option_map comm_of clause.comm ≡ Some (comm_of c.in-Some.comm) = search rules in
+    let body_is = c.as_slice-body.ensures.value in
+    let here = subst (λ o. Reaches globals elements result table whole first e0 list (Clause o (body_of clause.body.items) left) all) with_comm (subst (λ (o : OneClause). Reaches globals elements result table whole first e0 list (Clause o.comm o.body left) all) is reaches) in
+    let way = subst (λ (b : List StatementNode). Emits table e0 e1 f (made_way globals elements result (site_of table e0) (comm_of c.in-Some.comm) (body_of b))) body_is c.in_ok-flow.ensures in
+    let places : next.places.items ≡ list.places.items ++ length e0.code.items ∷ [] = c.in_ok-add_way.ensures.places ∙ ap (λ n. list.places.items ++ n ∷ []) place_is in
+    reaches_more globals elements result table whole first e0 e1 e2 list next f c.in_ok-held.held (comm_of c.in-Some.comm) (body_of clause.body.items) left all here way c.in_ok-held.ensures.held (record { prints = refl; selects = refl; layout = refl }) c.in_ok-held.ensures.place c.in_ok-held.ensures.leads
+    c.in_ok-add_way.ensures.flow places c.in_ok-add_way.ensures.held
+
+pub emit_clause-returns-in_default : goal.emit_clause-returns-in_default
+emit_clause-returns-in_default t c = λ whole left all first reaches.
+    let table = c.args.table.now in
+    let globals = globals_in table in
+    let elements = c.args.elements.now in
+    let result = yield_of (types_of table) c.args.result_type in
+    let clause = c.args.clause.now in
+    let e0 = c.args.emitter.now in
+    let is : clause_of clause ≡ record { comm = option_map comm_of clause.comm; body = body_of clause.body.items } = search (rules, the_lemmas) in
+    let without : option_map comm_of clause.comm ≡ None = search rules in
+    let here = subst (λ o. Reaches globals elements result table whole first e0 c.args.list.now (Clause o (body_of clause.body.items) left) all) without (subst (λ (o : OneClause). Reaches globals elements result table whole first e0 c.args.list.now (Clause o.comm o.body left) all) is reaches) in
+    reaches_past table globals elements result whole left all (body_of clause.body.items) first e0 c.args.list.now here
+
+pub emit_each_way-loop-clause-init : goal.emit_each_way-loop-clause-init
+emit_each_way-loop-clause-init t c = λ whole.
+    let table = c.args.table.now in
+    let list = c.new-list.result in
+    reaches (globals_in table) c.args.elements.now (yield_of (types_of table) c.args.result_type) table whole c.args.emitter.now list (clauses (map clause_of c.args.all.now)) c.new-list.ensures.flow c.new-list.ensures.places c.new-list.ensures.held
+
+pub emit_each_way-loop-clause-preserved : goal.emit_each_way-loop-clause-preserved
+emit_each_way-loop-clause-preserved t c = λ whole.
+    let table = c.args.table.now in
+    let globals = globals_in table in
+    let elements = c.args.elements.now in
+    let result = yield_of (types_of table) c.args.result_type in
+    let all = c.args.all.now in
+    let i = c.loop-clause.clause-index in
+    let one = c.clause-item.result in
+    let e0 = c.args.emitter.now in
+    let rest = clauses (map clause_of (drop (i + 1) all)) in
+    let next = next_clause i one all c.loop-clause-test.true c.clause-item.is in
+    let here = subst (λ l. Reaches globals elements result table whole e0 c.loop-clause.emitter c.loop-clause.list l (clauses (map clause_of all))) next (c.loop-clause.invariant whole) in
+    c.in_ok-emit_clause.ensures whole rest (clauses (map clause_of all)) e0 here
+
+pub emit_each_way-returns : goal.emit_each_way-returns
+emit_each_way-returns t c = λ whole.
+    let table = c.args.table.now in
+    let all = c.args.all.now in
+    let i = c.loop-clause.clause-index in
+    let none : clauses (map clause_of (drop i all)) ≡ NoClause = ap (λ (l : List ClauseNode). clauses (map clause_of l)) (drop_all i all c.loop-clause-test.false) in
+    subst (λ l. Reaches (globals_in table) c.args.elements.now (yield_of (types_of table) c.args.result_type) table whole c.args.emitter.now c.loop-clause.emitter c.loop-clause.list l (clauses (map clause_of all))) none (c.loop-clause.invariant whole)
+
+pub emit_default-loop-clause-preserved : goal.emit_default-loop-clause-preserved
+emit_default-loop-clause-preserved t c =
+    let table = c.args.table.now in
+    let globals = globals_in table in
+    let elements = c.args.elements.now in
+    let result = yield_of (types_of table) c.args.result_type in
+    let site = site_of table c.loop-clause.emitter in
+    let all = c.args.all.now in
+    let i = c.loop-clause.clause-index in
+    let one = c.clause-item.result in
+    let some : is_none one.comm ≡ false = search rules in
+    let is : clause_of one ≡ record { comm = option_map comm_of one.comm; body = body_of one.body.items } = search (rules, the_lemmas) in
+    (c.loop-clause.invariant.0, default_later globals elements result site i one all c.loop-clause-test.true c.clause-item.is is some c.loop-clause.invariant.1)
+
+pub emit_default-returns-then-is_none : goal.emit_default-returns-then-is_none
+emit_default-returns-then-is_none t c =
+    let table = c.args.table.now in
+    let globals = globals_in table in
+    let elements = c.args.elements.now in
+    let result = yield_of (types_of table) c.args.result_type in
+    let e0 = c.loop-clause.emitter in
+    let site = site_of table e0 in
+    let all = c.args.all.now in
+    let i = c.loop-clause.clause-index in
+    let one = c.clause-item.result in
+    let none : is_none one.comm ≡ true = search rules in
+    let is : clause_of one ≡ record { comm = option_map comm_of one.comm; body = body_of one.body.items } = search (rules, the_lemmas) in
+    let way = subst (λ (b : List StatementNode). Emits table e0 c.emit_block.new.emitter (control c.in_ok-flow.flow) (made_within globals elements result site (body_of b))) c.as_slice-body.ensures.value c.in_ok-flow.ensures in
+    let e1 = c.emit_block.new.emitter in
+    let f = control c.in_ok-flow.flow in
+    let here = default_way table e0 e1 f (made_within globals elements result site (body_of one.body.items)) (made_default globals elements result site (clauses (map clause_of all)))
+    (default_here globals elements result site i one all c.loop-clause-test.true c.clause-item.is is none c.loop-clause.invariant.1) way in
+    subst (λ (e : Emitter). (noted : List ℕ) → Ways table e e1.code.items e1 noted (default_start noted e (Some f)) (Some f) (made_default globals elements result (site_of table e) (clauses (map clause_of all)))) c.loop-clause.invariant.0 here
+
+pub emit_default-returns : goal.emit_default-returns
+emit_default-returns t c =
+    let table = c.args.table.now in
+    let globals = globals_in table in
+    let elements = c.args.elements.now in
+    let result = yield_of (types_of table) c.args.result_type in
+    let e0 = c.loop-clause.emitter in
+    let all = c.args.all.now in
+    let i = c.loop-clause.clause-index in
+    let here = default_none table e0 (made_default globals elements result (site_of table e0) (clauses (map clause_of all))) (default_nowhere globals elements result (site_of table e0) i all c.loop-clause-test.false c.loop-clause.invariant.1) in
+    subst (λ (e : Emitter). (noted : List ℕ) → Ways table e e0.code.items e0 noted (default_start noted e None) None (made_default globals elements result (site_of table e) (clauses (map clause_of all)))) c.loop-clause.invariant.0 here
+
+pub emit_all_ways-returns : goal.emit_all_ways-returns
+emit_all_ways-returns t c =
+    let table = c.args.table.now in
+    let globals = globals_in table in
+    let elements = c.args.elements.now in
+    let result = yield_of (types_of table) c.args.result_type in
+    let all = clauses (map clause_of c.args.all.now) in
+    let e0 = c.args.emitter.now in
+    let e1 = c.emit_each_way.new.emitter in
+    let e2 = c.emit_default.new.emitter in
+    let e3 : Emitter = record { code = c.close.new.code; prints = e2.prints; selects = e2.selects; layout = e2.layout } in
+    let list = c.in_ok-list.list in
+    let default = option_map control c.in_ok-default.default in
+    let place_is : c.in_ok-place.place ≡ length e1.code.items = omega (arith, c.in_ok-place.ensures, c.len.ensures) in
+    let there : c.is_some-there.result ≡ is_some default = search rules in
+    let closes : e3.code.items ≡ closed list.held.items (is_some default) e2.code.items =
+    c.in_ok-close.ensures ∙ ap (λ (hs : List Held). closed hs c.is_some-there.result e2.code.items) c.as_slice.ensures.value ∙ ap (λ b. closed list.held.items b e2.code.items) there in
+    let same : is_some c.in_ok-default.default ≡ is_some default = search rules in
+    let places : c.end_ways.new.list.places.items ≡ default_start list.places.items e1 default =
+    c.in_ok-end_ways.ensures.places ∙ ap (λ n. list.places.items ++ cond (is_some c.in_ok-default.default) (n ∷ []) []) place_is ∙ ap (λ b. list.places.items ++ cond b (length e1.code.items ∷ []) []) same in
+    all_ways table globals elements result all e0 e1 e2 e3 list default (option_map control c.end_ways.new.list.flow) c.end_ways.new.list.places.items (c.in_ok-list.ensures all) c.in_ok-default.ensures closes (record { prints = refl; selects = refl; layout = refl }) places c.in_ok-end_ways.ensures.flow
+
+pub emit_select-returns : goal.emit_select-returns
+emit_select-returns t c =
+    let table = c.args.table.now in
+    let globals = globals_in table in
+    let elements = c.args.elements.now in
+    let result = yield_of (types_of table) c.args.result_type in
+    let all = clauses (map clause_of c.args.all.now) in
+    let e0 = c.args.emitter.now in
+    let e1 : Emitter = record { code = c.push_clauses.new.code; prints = e0.prints; selects = e0.selects; layout = e0.layout } in
+    let e2 : Emitter = record { code = c.hold_select.new.code; prints = e0.prints; selects = c.hold_select.new.tables; layout = e0.layout } in
+    let e3 = c.emit_all_ways.new.emitter in
+    let e4 : Emitter = record { code = c.leave_select.new.code; prints = e3.prints; selects = c.set_table.new.tables; layout = e3.layout } in
+    let list = c.in_ok-list.list in
+    let flow = option_map control list.flow in
+    let at_is : c.len-at.result ≡ length e1.selects.items = search rules in
+    let stop = length e3.code.items in
+    let w = c.in_ok-list.ensures in
+    let ways = emits_as_is table e2 e3 e3 e3.code.items (any_control flow) (or_nothing (site_of table e2) (ways_left globals elements result all (site_of table e2) all)) w.emits refl (record { prints = refl; selects = refl; layout = refl }) in
+    let settles : e4.code.items ≡ settled (any_control flow).waits stop e3.code.items = c.in_ok-flow.ensures.settled ∙ ap (λ (f : Control). settled f.waits stop e3.code.items) c.from_ways-ways.ensures in
+    let sets : e4.selects.items ≡ slice_set e3.selects.items (length e1.selects.items) c.in_ok-made.made = c.set_table.ensures ∙ ap (λ n. slice_set e3.selects.items n c.in_ok-made.made) at_is in
+    let table_is : c.in_ok-made.made ≡ select_table globals elements result (layout_of table e3.layout) all list.places.items = c.in_ok-made.ensures result ∙ ap (λ (ps : List ℕ). select_table globals elements result (layout_of table e3.layout) all ps) c.as_slice-places.ensures.value in
+    let flow_is : control c.in_ok-flow.flow ≡ behind_select (any_control flow) = c.in_ok-flow.ensures.flow ∙ ap behind_select c.from_ways-ways.ensures in
+    emits_select table globals elements result all no_table c.in_ok-made.made e0 e1 e2 e3 e4 flow (control c.in_ok-flow.flow) list.places.items c.len-at.result stop (c.in_ok-push_clauses.ensures result) (record { prints = refl; selects = refl; layout = refl }) at_is c.in_ok-hold_select.ensures.code refl c.in_ok-hold_select.ensures.tables
+    refl ways w.begin refl settles refl sets refl table_is flow_is
