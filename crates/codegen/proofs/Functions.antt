@@ -2,7 +2,7 @@
 use Rattle.std.proofs.Common.{◌≡◌, ◌+◌, List, [], ◌∷◌, ◌++◌, length, ap, ◌∙◌, append_assoc, length-append}
 use Rattle.syntax.specs.Tree.{Function, Top, FunctionTop}
 use Rattle.bytecode.specs.declared.instr.WordKind.{WordKind}
-use Rattle.bytecode.specs.Code.{Function as CodeFunction, PrintTable, SelectTable, Code}
+use Rattle.bytecode.specs.Code.{Function as CodeFunction, PrintTable, SelectTable}
 use Rattle.type_table.specs.Scopes.{Globals}
 use Rattle.codegen_base.specs.declared.element.Element.{Element}
 use Rattle.codegen_base.specs.Elements.{shapes_of}

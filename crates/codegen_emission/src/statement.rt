@@ -18,7 +18,9 @@ ghost use Rattle.codegen_emission.specs.Branches.{made_condition, made_one_way, 
 use crate::alone::{emit_alone, emit_any, emit_head};
 use crate::emitter::Emitter;
 use crate::flow::{Flow, join, join_way, may_end};
-use crate::select::{WayList, add_way, close, end_ways, from_ways, hold, hold_select, leave_select, set_table};
+use crate::select::{
+    WayList, add_way, close, end_ways, from_ways, hold, hold_select, leave_select, set_table,
+};
 use crate::single::{declare_typed, declare_untyped, emit_jump, give_back, start};
 use crate::turn::{come_round, emit_round, push_test};
 use crate::waits::{aim, fill};
@@ -33,7 +35,10 @@ use codegen_header::range::{Ranged, declare_kept, emit_kept, emit_next, emit_unu
 use codegen_header::select::{push_clauses, select_table};
 use codegen_simple::layout::{enter, leave};
 use std::alloc::Global;
-use syntax::{ClauseNode, CommNode, ElseNode, ExpressionNode, ForHeader, IfNode, RangeTarget, SimpleNode, StatementNode};
+use syntax::{
+    ClauseNode, CommNode, ElseNode, ExpressionNode, ForHeader, IfNode, RangeTarget, SimpleNode,
+    StatementNode,
+};
 use type_table::table::TypeTable;
 use type_table::value_type::ValueType;
 
@@ -621,7 +626,16 @@ fn emit_clause<'t, 'l, 'm, 'w, 's, 'a>(
     };
     let place = number(emitter.code.len())?;
     let body = clause.body.as_slice();
-    let flow = emit_way(alloc, table, elements, blank, result_type, emitter, body, comm)?;
+    let flow = emit_way(
+        alloc,
+        table,
+        elements,
+        blank,
+        result_type,
+        emitter,
+        body,
+        comm,
+    )?;
     let held = hold(flow.reaches_end, &mut emitter.code)?;
     add_way(list, place, held, flow)?;
     Ok(())
@@ -643,7 +657,16 @@ fn emit_each_way<'t, 'l, 'm, 's, 'a>(
     let mut list = WayList::new(alloc);
     for clause in all {
         let ways = &mut list;
-        emit_clause(alloc, table, elements, blank, result_type, emitter, clause, ways)?;
+        emit_clause(
+            alloc,
+            table,
+            elements,
+            blank,
+            result_type,
+            emitter,
+            clause,
+            ways,
+        )?;
     }
     Ok(list)
 }

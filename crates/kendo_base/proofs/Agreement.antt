@@ -64,8 +64,8 @@ agree : (K : GoroutineKind) (limit : ℕ) (old new other others : Option (List �
 agree K limit old new other others e d (n, written, ends) (m, too, also) =
     let same = one_end K limit n m e d ends also in
     ((moment K limit n).shared.shared.output, written, subst (λ (w : World (Clocked K.State) (Rest K.State)). Appends other others w.shared.shared.output) same too, same_ending (sym ends ∙ ap end_of (sym same) ∙ also)) where
-    same_ending : {x y : Ending} → Some x ≡ Some y → x ≡ y
-    same_ending is = cc
+      same_ending : {x y : Ending} → Some x ≡ Some y → x ≡ y
+      same_ending is = cc
 
 -- two runs of a text at one limit that both end, by the compiler or by the interpreter, wrote the same and ended alike
 pub runs_agree : (text : List ℕ) (limit : ℕ) (file again : File) (old new other others : Option (List ℕ)) (e d : Ending) → Reads text file → Reads text again

@@ -89,12 +89,7 @@ impl Table {
 }
 
 /// Sees whether a text finishes, and writes this.
-fn check_output<R: Wait>(
-    rt: &R,
-    alloc: Global,
-    text: &[u8],
-    output: &str,
-) -> Result<(), Flaw> {
+fn check_output<R: Wait>(rt: &R, alloc: Global, text: &[u8], output: &str) -> Result<(), Flaw> {
     let output = bytes_of(alloc, output)?;
     let row = Row::new(alloc)?;
     check_runs(rt, alloc, text, &row, output.as_slice())
@@ -147,10 +142,7 @@ fn check_read<R: Wait>(rt: &R, alloc: Global, text: &[u8]) -> Result<(), Flaw> {
 fn check_cuts<R: Wait>(rt: &R, alloc: Global, text: &[u8]) -> Result<(), Flaw> {
     for length in 0..text.len() {
         let ran = Ran::of(rt, alloc, &text[..length], LIMIT, 1)?;
-        let is_refused = matches!(
-            &ran.outcome,
-            Err(Fault::Syntax(_) | Fault::Typing { .. })
-        );
+        let is_refused = matches!(&ran.outcome, Err(Fault::Syntax(_) | Fault::Typing { .. }));
         if !is_refused {
             let line = shown(alloc, &ran.line, 0)?;
             return Err(Flaw::Outcome {

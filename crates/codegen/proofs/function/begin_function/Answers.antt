@@ -1,8 +1,8 @@
-use Rattle.std.proofs.Common.{rules, ◌≡◌, ◌∙◌, ap, sym, length, map}
+use Rattle.std.proofs.Common.{rules, ◌≡◌, ◌∙◌, ap, length, map}
 use Rattle.syntax.specs.View.{declared_of, function_of}
 use Rattle.type_table.specs.Visible.{globals_in, types_of}
 use Rattle.checker_declaration.specs.Kinds.{fields_declared}
-use Rattle.codegen_base.specs.Layouts.{Layout, empty, with_parameters}
+use Rattle.codegen_base.specs.Layouts.{Layout, with_parameters}
 use Rattle.codegen_base.specs.Program.{first_layout}
 use Rattle.codegen_simple.specs.Layouts.{layout_of}
 use Rattle.codegen.proofs.function.begin_function.Goals as goal
