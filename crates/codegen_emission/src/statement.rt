@@ -18,7 +18,9 @@ ghost use Rattle.codegen_emission.specs.Branches.{made_condition, made_one_way, 
 use crate::alone::{emit_alone, emit_any, emit_head};
 use crate::emitter::Emitter;
 use crate::flow::{Flow, join, join_way, may_end};
-use crate::select::{WayList, add_way, close, end_ways, from_ways, hold, hold_select, leave_select, set_table};
+use crate::select::{
+    WayList, add_way, close, end_ways, from_ways, hold, hold_select, leave_select, set_table,
+};
 use crate::single::{declare_typed, declare_untyped, emit_jump, give_back, start};
 use crate::turn::{come_round, emit_round, push_test};
 use crate::waits::{aim, fill};
@@ -33,7 +35,10 @@ use codegen_header::range::{Ranged, declare_kept, emit_kept, emit_next, emit_unu
 use codegen_header::select::{push_clauses, select_table};
 use codegen_simple::layout::{enter, leave};
 use std::alloc::Global;
-use syntax::{ClauseNode, CommNode, ElseNode, ExpressionNode, ForHeader, IfNode, RangeTarget, SimpleNode, StatementNode};
+use syntax::{
+    ClauseNode, CommNode, ElseNode, ExpressionNode, ForHeader, IfNode, RangeTarget, SimpleNode,
+    StatementNode,
+};
 use type_table::table::TypeTable;
 use type_table::value_type::ValueType;
 
@@ -132,14 +137,8 @@ fn emit_tested<'t, 'l, 'm, 'c, 's, 'a>(
 {
     let head = number(emitter.code.len())?;
     let visible = &emitter.layout.visible;
-    push_test(
-        alloc,
-        table,
-        elements,
-        visible,
-        condition,
-        &mut emitter.code,
-    )?;
+    let code = &mut emitter.code;
+    push_test(alloc, table, elements, visible, condition, code)?;
     let test = emitter.code.len();
     emitter.code.push(Instr::Unless(0))?;
     let within = emit_block(alloc, table, elements, blank, result_type, emitter, body)?;
@@ -346,15 +345,8 @@ fn emit_other<'t, 'l, 'm, 's, 'a>(
     match otherwise {
         ElseNode::Nothing => Ok(Flow::through(alloc)),
         ElseNode::Block(body) => {
-            emit_block(
-                alloc,
-                table,
-                elements,
-                blank,
-                result_type,
-                emitter,
-                body.as_slice(),
-            )
+            let body = body.as_slice();
+            emit_block(alloc, table, elements, blank, result_type, emitter, body)
         }
         ElseNode::If(branch) => {
             emit_branch(alloc, table, elements, blank, result_type, emitter, branch)
@@ -377,14 +369,8 @@ fn emit_two_ways<'t, 'l, 'm, 's, 'a>(
 {
     let visible = &emitter.layout.visible;
     let condition = &branch.condition;
-    push_test(
-        alloc,
-        table,
-        elements,
-        visible,
-        condition,
-        &mut emitter.code,
-    )?;
+    let code = &mut emitter.code;
+    push_test(alloc, table, elements, visible, condition, code)?;
     let test = emitter.code.len();
     emitter.code.push(Instr::Unless(0))?;
     let body = branch.body.as_slice();
@@ -421,14 +407,8 @@ fn emit_one_way<'t, 'l, 'm, 's, 'a>(
 {
     let visible = &emitter.layout.visible;
     let condition = &branch.condition;
-    push_test(
-        alloc,
-        table,
-        elements,
-        visible,
-        condition,
-        &mut emitter.code,
-    )?;
+    let code = &mut emitter.code;
+    push_test(alloc, table, elements, visible, condition, code)?;
     let test = emitter.code.len();
     emitter.code.push(Instr::Unless(0))?;
     let body = branch.body.as_slice();
@@ -621,7 +601,16 @@ fn emit_clause<'t, 'l, 'm, 'w, 's, 'a>(
     };
     let place = number(emitter.code.len())?;
     let body = clause.body.as_slice();
-    let flow = emit_way(alloc, table, elements, blank, result_type, emitter, body, comm)?;
+    let flow = emit_way(
+        alloc,
+        table,
+        elements,
+        blank,
+        result_type,
+        emitter,
+        body,
+        comm,
+    )?;
     let held = hold(flow.reaches_end, &mut emitter.code)?;
     add_way(list, place, held, flow)?;
     Ok(())
@@ -643,7 +632,16 @@ fn emit_each_way<'t, 'l, 'm, 's, 'a>(
     let mut list = WayList::new(alloc);
     for clause in all {
         let ways = &mut list;
-        emit_clause(alloc, table, elements, blank, result_type, emitter, clause, ways)?;
+        emit_clause(
+            alloc,
+            table,
+            elements,
+            blank,
+            result_type,
+            emitter,
+            clause,
+            ways,
+        )?;
     }
     Ok(list)
 }
@@ -736,15 +734,8 @@ fn emit_statement<'t, 'l, 'm, 's, 'a>(
     match statement {
         StatementNode::Empty => Ok(Flow::through(alloc)),
         StatementNode::Block(body) => {
-            emit_block(
-                alloc,
-                table,
-                elements,
-                blank,
-                result_type,
-                emitter,
-                body.as_slice(),
-            )
+            let body = body.as_slice();
+            emit_block(alloc, table, elements, blank, result_type, emitter, body)
         }
         StatementNode::Simple(simple) => {
             emit_alone(alloc, table, elements, emitter, simple)?;
