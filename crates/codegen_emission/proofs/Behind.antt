@@ -2,16 +2,15 @@
 use Rattle.std.proofs.Common.{◌≡◌, ℕ, ◌+◌, true, cond, ◌&&◌, ◌||◌, List, [], ◌++◌, length, refl, sym, ap, ◌∙◌, subst, arith}
 use Rattle.std.proofs.lemmas.List.{append-nil}
 use Rattle.bytecode.specs.Code.{PrintTable, SelectTable}
-use Rattle.plan.specs.Plan.{Plan, Skip, Do, Seq, IfElse, reaches_end, has_break, has_continue, size, jump_size, tables}
+use Rattle.plan.specs.Plan.{Plan, Skip, IfElse, reaches_end, has_break, has_continue, size, jump_size, tables}
 use Rattle.type_table.specs.declared.table.TypeTable.{TypeTable}
 use Rattle.type_table.specs.Visible.{Keeps}
 use Rattle.codegen_base.specs.Generated.{Made, made_of}
-use Rattle.codegen_base.proofs.Before.{Before, Here, Step, Choice, Stands, before_ends}
+use Rattle.codegen_base.proofs.Before.{Before, Here, Step, Choice, before_ends}
 use Rattle.codegen_expression.specs.Emission.{Puts}
 use Rattle.codegen_simple.specs.Layouts.{layout_of}
 use Rattle.codegen_simple.specs.Simples.{Appends}
 use Rattle.codegen_emission.specs.declared.emitter.Emitter.{Emitter}
-use Rattle.codegen_emission.specs.Waits.{Makes}
 use Rattle.codegen_emission.specs.Emitted.{Control, Emits, through}
 use Rattle.codegen_emission.proofs.Filled.{makes_behind, makes_length}
 use Rattle.codegen_emission.proofs.Emitting.{keeps_both}

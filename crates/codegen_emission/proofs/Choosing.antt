@@ -4,31 +4,30 @@ use Rattle.std.specs.Prelude.{slice_set, option_map}
 use Rattle.syntax.specs.Tree.{Clause, Clauses, Comm, Statements}
 use Rattle.std.specs.Option.{is_some}
 use Rattle.std.proofs.Math.Seq.{take-length}
-use Rattle.std.proofs.lemmas.List.{append-nil, length-set, set_at, set-append_left, take-append-le}
+use Rattle.std.proofs.lemmas.List.{append-nil, take-append-le}
 use Rattle.bytecode.specs.declared.instr.Instr.{Instr}
 use Rattle.bytecode.specs.declared.instr.Instr.TheVariants as instrs
 use Rattle.bytecode.specs.declared.instr.WordKind.{WordKind}
 use Rattle.bytecode.specs.Code.{PrintTable, SelectTable}
-use Rattle.plan.specs.Plan.{Plan, Choose, Way, LastWay, reaches_end, has_break, has_continue, size, jump_size, starts, tables}
+use Rattle.plan.specs.Plan.{Plan, Way, LastWay, reaches_end, has_break, has_continue, size, jump_size, starts, tables}
 use Rattle.plan.proofs.Lists.{length_if}
 use Rattle.type_table.specs.declared.table.TypeTable.{TypeTable}
-use Rattle.type_table.specs.Visible.{Keeps}
 use Rattle.type_table.specs.Scopes.{Globals, Yield}
 use Rattle.codegen_base.specs.declared.element.Element.{Element}
 use Rattle.codegen_base.specs.Generated.{Made, Site, comm_kinds, made_of, past, with_way}
 use Rattle.codegen_simple.specs.Layouts.{layout_of}
 use Rattle.codegen_emission.specs.declared.waits.Wait.{Wait}
 use Rattle.codegen_emission.specs.declared.emitter.Emitter.{Emitter}
-use Rattle.codegen_emission.specs.Waits.{Makes, settled}
-use Rattle.codegen_emission.specs.Emitted.{Control, Emits, control, either, site_of, through}
+use Rattle.codegen_emission.specs.Waits.{Makes}
+use Rattle.codegen_emission.specs.Emitted.{Control, Emits, control, either, site_of}
 use Rattle.codegen_emission.specs.declared.select.Held.{Held}
 use Rattle.codegen_emission.specs.declared.select.WayList.{WayList}
 use Rattle.codegen_emission.specs.Closed.{closed, closed_one}
-use Rattle.codegen_emission.specs.Ways.{EmitsAs, Reaches, Ways, made_way, or_nothing, together, ways_left, with_others}
+use Rattle.codegen_emission.specs.Ways.{EmitsAs, Reaches, Ways, made_way, together, ways_left, with_others}
 use Rattle.codegen_emission.proofs.Closing.{closed_more}
 use Rattle.codegen_emission.proofs.Filled.{makes_length}
-use Rattle.codegen_emission.proofs.Chosen.{makes_choose, makes_ended_way, makes_last_way, makes_way}
-use Rattle.codegen_emission.proofs.Emitting.{emits_none, keeps_both, site_past}
+use Rattle.codegen_emission.proofs.Chosen.{makes_ended_way, makes_last_way, makes_way}
+use Rattle.codegen_emission.proofs.Emitting.{keeps_both, site_past}
 use Rattle.codegen_emission.proofs.Listing.{or_assoc}
 use Rattle.codegen_emission.proofs.Branching.{Beside, beside_keeps, same_site}
 

@@ -1,15 +1,14 @@
 -- The ends of bodies.
-use Rattle.std.proofs.Common.{◌≡◌, true, false, List, [], ◌++◌, length, refl, sym, ap, ◌∙◌, subst}
+use Rattle.std.proofs.Common.{◌≡◌, true, false, List, [], sym, ap, ◌∙◌, subst}
 use Rattle.std.specs.Prelude.{if◌then◌else◌}
 use Rattle.syntax.specs.Tree.{Statements}
-use Rattle.bytecode.specs.Code.{PrintTable}
-use Rattle.plan.specs.Plan.{Stop, flat, reaches_end}
+use Rattle.plan.specs.Plan.{Stop, reaches_end}
 use Rattle.type_table.specs.declared.table.TypeTable.{TypeTable}
 use Rattle.type_table.specs.Scopes.{Globals, Yield}
 use Rattle.codegen_base.specs.declared.element.Element.{Element}
 use Rattle.codegen_base.specs.Layouts.{Layout}
 use Rattle.codegen_base.specs.Pushes.{pushes_zeros}
-use Rattle.codegen_base.specs.Generated.{Made, Site, finished, followed, made_all, made_body, made_of, result_kinds}
+use Rattle.codegen_base.specs.Generated.{Made, Site, followed, made_all, made_body, made_of, result_kinds}
 use Rattle.codegen_base.proofs.Before.{zeros_before}
 use Rattle.codegen_simple.specs.Layouts.{layout_of}
 use Rattle.codegen_simple.specs.Simples.{Appends}

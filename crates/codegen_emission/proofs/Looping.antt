@@ -1,9 +1,9 @@
 -- Loops that are emitted.
-use Rattle.std.proofs.Common.{◌≡◌, ℕ, ◌+◌, Bool, true, false, cond, ◌&&◌, ◌||◌, List, [], ◌∷◌, ◌++◌, length, take, Option, Some, None, refl, sym, ap, ◌∙◌, subst, arith, append_assoc, length-append}
+use Rattle.std.proofs.Common.{◌≡◌, ℕ, ◌+◌, Bool, true, false, cond, ◌&&◌, ◌||◌, List, [], ◌∷◌, ◌++◌, length, take, Option, None, refl, sym, ap, ◌∙◌, subst, arith, append_assoc, length-append}
 use Rattle.std.specs.Prelude.{slice_set}
 use Rattle.std.proofs.lemmas.List.{append-nil, take-append-le}
 use Rattle.std.proofs.Math.Seq.{take-length}
-use Rattle.syntax.specs.Tree.{Expression, Simple, Statements}
+use Rattle.syntax.specs.Tree.{Expression, Statements}
 use Rattle.bytecode.specs.declared.instr.Instr.{Instr}
 use Rattle.bytecode.specs.declared.instr.Instr.TheVariants as instrs
 use Rattle.bytecode.specs.Code.{PrintTable, SelectTable}
@@ -13,9 +13,8 @@ use Rattle.type_table.specs.declared.table.TypeTable.{TypeTable}
 use Rattle.type_table.specs.Visible.{Keeps}
 use Rattle.type_table.specs.Scopes.{Globals, Yield}
 use Rattle.codegen_base.specs.declared.element.Element.{Element}
-use Rattle.codegen_base.specs.Generated.{Made, Site, ended, inside, made_all, made_of, made_post, made_while}
-use Rattle.codegen_base.proofs.Before.{Before, before_ends}
-use Rattle.codegen_base.proofs.Plain.{simple_before}
+use Rattle.codegen_base.specs.Generated.{Made, Site, ended, inside, made_all, made_of, made_while}
+use Rattle.codegen_base.proofs.Before.{Before}
 use Rattle.codegen_simple.specs.Layouts.{layout_of}
 use Rattle.codegen_simple.specs.Simples.{Appends}
 use Rattle.codegen_emission.specs.declared.emitter.Emitter.{Emitter}

@@ -6,18 +6,18 @@ use Rattle.syntax.specs.Tree.{Expression, For, Range, Statements, Target, NoTarg
 use Rattle.bytecode.specs.declared.instr.Instr.{Instr}
 use Rattle.bytecode.specs.declared.instr.Instr.TheVariants as instrs
 use Rattle.bytecode.specs.Code.{PrintTable, SelectTable}
-use Rattle.plan.specs.Plan.{Plan, Cycle, Do, Seq, Skip, flat, tables}
+use Rattle.plan.specs.Plan.{Plan, Cycle, Do, Seq, Skip, tables}
 use Rattle.type_table.specs.declared.table.TypeTable.{TypeTable}
 use Rattle.type_table.specs.Types.{ValueType}
 use Rattle.type_table.specs.Scopes.{Globals, Yield}
 use Rattle.type_table.specs.Visible.{Keeps}
 use Rattle.codegen_base.specs.declared.element.Element.{Element}
-use Rattle.codegen_base.specs.Layouts.{Layout, behind_target, carried, entering, keeping, leaving}
+use Rattle.codegen_base.specs.Layouts.{Layout, behind_target, carried, keeping}
 use Rattle.codegen_base.specs.Pushes.{drops}
 use Rattle.codegen_base.specs.Statements.{name_spot, place_spot, stores, width}
-use Rattle.codegen_base.specs.Generated.{Made, Site, at, ended, inside, keeps, made, made_of, receives, takes}
+use Rattle.codegen_base.specs.Generated.{Made, Site, at, ended, keeps, made, made_of, receives, takes}
 use Rattle.codegen_base.proofs.Before.{Before, Here, Stands, Step, before_on, pushes_before}
-use Rattle.codegen_base.proofs.Plain.{both_stand, drops_before, stores_before, then_step}
+use Rattle.codegen_base.proofs.Plain.{drops_before, stores_before, then_step}
 use Rattle.codegen_simple.specs.Layouts.{layout_of}
 use Rattle.codegen_simple.specs.Simples.{Appends}
 use Rattle.codegen_emission.specs.declared.emitter.Emitter.{Emitter}
@@ -25,12 +25,11 @@ use Rattle.codegen_emission.specs.Waits.{Makes, filled}
 use Rattle.codegen_emission.specs.Emitted.{Control, Emits, site_of, through}
 use Rattle.codegen_emission.specs.Branches.{made_within}
 use Rattle.codegen_emission.specs.Items.{made_item, made_items}
-use Rattle.codegen_emission.specs.Turns.{Rounds}
 use Rattle.codegen_emission.proofs.Emitting.{emits_both, keeps_both}
 use Rattle.codegen_emission.proofs.Behind.{emits_alone}
 use Rattle.codegen_emission.proofs.Blocks.{Entered, Left, emits_inside}
 use Rattle.codegen_emission.proofs.Branching.{Beside, beside_keeps}
-use Rattle.codegen_emission.proofs.Looping.{Tested, emits_cycle}
+use Rattle.codegen_emission.proofs.Looping.{emits_cycle}
 
 module _ (globals : Globals) (elements : List Element) (result : Yield) where
   -- ---- code without jumps

@@ -1,21 +1,20 @@
 -- Selects that are emitted.
-use Rattle.std.proofs.Common.{◌≡◌, ℕ, ◌+◌, Bool, true, false, cond, ◌||◌, List, [], ◌∷◌, ◌++◌, length, Option, Some, None, refl, sym, ap, ◌∙◌, subst, arith, append_assoc, length-append}
-use Rattle.std.specs.Prelude.{slice_set, option_map}
+use Rattle.std.proofs.Common.{◌≡◌, ℕ, ◌+◌, Bool, true, false, cond, ◌||◌, List, [], ◌∷◌, ◌++◌, length, Option, Some, None, refl, sym, ap, ◌∙◌, subst, append_assoc, length-append}
+use Rattle.std.specs.Prelude.{slice_set}
 use Rattle.std.specs.Result.{result_ok}
 use Rattle.std.specs.Prelude.{option_and_then}
 use Rattle.std.proofs.Math.Seq.{take-length}
-use Rattle.std.proofs.lemmas.List.{append-nil, length-set, set_at, set-append_left}
+use Rattle.std.proofs.lemmas.List.{append-nil, length-set, set_at}
 use Rattle.syntax.specs.Tree.{Expression, Integer, Named, Parenthesized, Selection, Composite, Unary, Binary, Comm, CommSend, CommReceive, CommDefine, CommAssign, Clauses, NoClause, Clause, Select, Statements}
 use Rattle.bytecode.specs.declared.instr.Instr.{Instr}
 use Rattle.bytecode.specs.declared.instr.Instr.TheVariants as instrs
 use Rattle.bytecode.specs.declared.table.Clause.TheVariants as clauses
 use Rattle.bytecode.specs.Code.{PrintTable, SelectTable}
-use Rattle.plan.specs.Plan.{Plan, Choose, reaches_end, has_break, starts, tables}
+use Rattle.plan.specs.Plan.{Choose, reaches_end, starts, tables}
 use Rattle.type_table.specs.declared.table.TypeTable.{TypeTable}
 use Rattle.type_table.specs.Scopes.{Globals, Scope, Variable, Yield}
 use Rattle.type_table.specs.Visible.{Keeps}
-use Rattle.type_table.specs.Types.{ValueType, StructType}
-use Rattle.checker_base.specs.Worths.{Typed, binary_worth, named_worth, selected_worth, unary_worth, worth}
+use Rattle.checker_base.specs.Worths.{binary_worth, named_worth, selected_worth, unary_worth, worth}
 use Rattle.checker_base.specs.Expressions.{element_of}
 use Rattle.meaning.specs.Values.{known}
 use Rattle.codegen_base.specs.declared.element.Element.{Element}
@@ -25,7 +24,7 @@ use Rattle.codegen_base.proofs.Before.{clauses_before}
 use Rattle.codegen_base.proofs.Plain.{comm_plain}
 use Rattle.codegen_expression.specs.Emission.{Puts}
 use Rattle.codegen_simple.specs.Simples.{Appends}
-use Rattle.codegen_base.specs.Generated.{Made, Site, behind_comm, comm_plan, followed, made, made_all, made_comm, made_default, made_of, made_select, made_ways, past, pushes_clauses, select_table, table_clause, table_clauses, default_at, default_places, within_select, with_way}
+use Rattle.codegen_base.specs.Generated.{Made, Site, behind_comm, comm_plan, followed, made, made_all, made_comm, made_default, made_of, made_select, made_ways, past, pushes_clauses, select_table, table_clause, table_clauses, within_select, with_way}
 use Rattle.codegen_simple.specs.Layouts.{layout_of}
 use Rattle.codegen_emission.specs.declared.waits.Wait.{Wait}
 use Rattle.codegen_emission.specs.declared.emitter.Emitter.{Emitter}

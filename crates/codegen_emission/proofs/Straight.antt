@@ -12,7 +12,7 @@ use Rattle.type_table.specs.Visible.{Keeps}
 use Rattle.codegen_base.specs.declared.element.Element.{Element}
 use Rattle.codegen_base.specs.Layouts.{Layout, behind_simple, declaring_all, declaring_each}
 use Rattle.codegen_base.specs.Statements.{defines, pushes_arguments, simple_plan, simple_prints}
-use Rattle.codegen_base.specs.Generated.{Made, made_go, made_of, made_simple, made_typed, made_untyped, result_type, return_plan, variables_plan}
+use Rattle.codegen_base.specs.Generated.{made_go, made_of, made_simple, made_typed, made_untyped, result_type, return_plan, variables_plan}
 use Rattle.codegen_base.proofs.Before.{Before, Here, before_ends, pushes_before}
 use Rattle.codegen_base.proofs.Plain.{arguments_before, defines_before, one_before, simple_before, then_step, variables_before}
 use Rattle.codegen_simple.specs.Layouts.{layout_of}

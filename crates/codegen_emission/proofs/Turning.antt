@@ -8,10 +8,9 @@ use Rattle.plan.specs.Plan.{Cycle, Skip}
 use Rattle.type_table.specs.declared.table.TypeTable.{TypeTable}
 use Rattle.type_table.specs.Types.{BoolType}
 use Rattle.type_table.specs.Scopes.{Globals, Yield}
-use Rattle.type_table.specs.Visible.{Keeps}
 use Rattle.codegen_base.specs.declared.element.Element.{Element}
 use Rattle.codegen_base.specs.Layouts.{Layout, entering, leaving}
-use Rattle.codegen_base.specs.Generated.{Made, Site, inside, made_all, made_of, made_post, past, tests}
+use Rattle.codegen_base.specs.Generated.{Site, inside, made_all, made_of, made_post, past, tests}
 use Rattle.codegen_base.proofs.Before.{Before, Here, pushes_before}
 use Rattle.codegen_base.proofs.Plain.{simple_before}
 use Rattle.codegen_expression.specs.Emission.{Puts}

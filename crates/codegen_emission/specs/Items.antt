@@ -1,5 +1,5 @@
 -- Loops over what is received from a channel.
-use Rattle.std.specs.Prelude.{List, []}
+use Rattle.std.specs.Prelude.{List}
 use Rattle.syntax.specs.Tree.{Expression, Statements, Target}
 use Rattle.type_table.specs.Types.{ValueType}
 use Rattle.type_table.specs.Scopes.{Globals, Yield}

@@ -1,5 +1,5 @@
 -- The ways of a select.
-use Rattle.std.specs.Prelude.{◌≡◌, ℕ, Bool, false, cond, ◌||◌, List, [], ◌∷◌, ◌++◌, length, Option, Some, None, option_map}
+use Rattle.std.specs.Prelude.{◌≡◌, ℕ, false, cond, ◌||◌, List, [], ◌∷◌, ◌++◌, length, Option, Some, None, option_map}
 use Rattle.std.specs.Option.{is_some}
 use Rattle.syntax.specs.Tree.{Clauses, Comm, Statements}
 use Rattle.bytecode.specs.declared.instr.Instr.{Instr}

@@ -137,14 +137,8 @@ fn emit_tested<'t, 'l, 'm, 'c, 's, 'a>(
 {
     let head = number(emitter.code.len())?;
     let visible = &emitter.layout.visible;
-    push_test(
-        alloc,
-        table,
-        elements,
-        visible,
-        condition,
-        &mut emitter.code,
-    )?;
+    let code = &mut emitter.code;
+    push_test(alloc, table, elements, visible, condition, code)?;
     let test = emitter.code.len();
     emitter.code.push(Instr::Unless(0))?;
     let within = emit_block(alloc, table, elements, blank, result_type, emitter, body)?;
@@ -351,15 +345,8 @@ fn emit_other<'t, 'l, 'm, 's, 'a>(
     match otherwise {
         ElseNode::Nothing => Ok(Flow::through(alloc)),
         ElseNode::Block(body) => {
-            emit_block(
-                alloc,
-                table,
-                elements,
-                blank,
-                result_type,
-                emitter,
-                body.as_slice(),
-            )
+            let body = body.as_slice();
+            emit_block(alloc, table, elements, blank, result_type, emitter, body)
         }
         ElseNode::If(branch) => {
             emit_branch(alloc, table, elements, blank, result_type, emitter, branch)
@@ -382,14 +369,8 @@ fn emit_two_ways<'t, 'l, 'm, 's, 'a>(
 {
     let visible = &emitter.layout.visible;
     let condition = &branch.condition;
-    push_test(
-        alloc,
-        table,
-        elements,
-        visible,
-        condition,
-        &mut emitter.code,
-    )?;
+    let code = &mut emitter.code;
+    push_test(alloc, table, elements, visible, condition, code)?;
     let test = emitter.code.len();
     emitter.code.push(Instr::Unless(0))?;
     let body = branch.body.as_slice();
@@ -426,14 +407,8 @@ fn emit_one_way<'t, 'l, 'm, 's, 'a>(
 {
     let visible = &emitter.layout.visible;
     let condition = &branch.condition;
-    push_test(
-        alloc,
-        table,
-        elements,
-        visible,
-        condition,
-        &mut emitter.code,
-    )?;
+    let code = &mut emitter.code;
+    push_test(alloc, table, elements, visible, condition, code)?;
     let test = emitter.code.len();
     emitter.code.push(Instr::Unless(0))?;
     let body = branch.body.as_slice();
@@ -759,15 +734,8 @@ fn emit_statement<'t, 'l, 'm, 's, 'a>(
     match statement {
         StatementNode::Empty => Ok(Flow::through(alloc)),
         StatementNode::Block(body) => {
-            emit_block(
-                alloc,
-                table,
-                elements,
-                blank,
-                result_type,
-                emitter,
-                body.as_slice(),
-            )
+            let body = body.as_slice();
+            emit_block(alloc, table, elements, blank, result_type, emitter, body)
         }
         StatementNode::Simple(simple) => {
             emit_alone(alloc, table, elements, emitter, simple)?;

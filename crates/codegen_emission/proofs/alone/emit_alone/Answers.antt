@@ -1,4 +1,4 @@
-use Rattle.std.proofs.Common.{rules, arith, ◌≡◌, length, refl}
+use Rattle.std.proofs.Common.{rules, ◌≡◌, length, refl}
 use Rattle.syntax.specs.View.{simple_of}
 use Rattle.type_table.specs.Visible.{globals_in}
 use Rattle.codegen_emission.specs.declared.emitter.Emitter.{Emitter}

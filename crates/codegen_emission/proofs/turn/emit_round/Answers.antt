@@ -1,4 +1,4 @@
-use Rattle.std.proofs.Common.{rules, ◌≡◌, ◌∙◌, ◌∷◌, [], ◌++◌, List, cond, length, take, ap, option_map, refl}
+use Rattle.std.proofs.Common.{rules, ◌≡◌, ◌∙◌, ◌∷◌, [], ◌++◌, cond, length, take, ap, option_map, refl}
 use Rattle.bytecode.specs.declared.instr.Instr.TheVariants as instrs
 use Rattle.syntax.specs.View.{simple_of}
 use Rattle.type_table.specs.Visible.{globals_in}
