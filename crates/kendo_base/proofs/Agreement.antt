@@ -1,5 +1,5 @@
 -- Two runs of a text that both end have written the same bytes, and ended alike.
-use Rattle.std.proofs.Common.{◌≡◌, ℕ, zero, suc, ◌+◌, ◌≤◌, Bool, true, false, cond, List, [], ◌∷◌, map, Option, Some, None, option_map, refl, sym, ap, ◌∙◌, subst, arith, inl, inr}
+use Rattle.std.proofs.Common.{◌≡◌, ℕ, zero, suc, ◌+◌, ◌-◌, ◌≤◌, Bool, true, false, cond, List, [], ◌∷◌, map, Option, Some, None, option_map, refl, sym, ap, ◌∙◌, subst, arith, inl, inr}
 use Rattle.std.proofs.lemmas.Bool.{cases_lt}
 use Rattle.std.specs.Io.KnownBytes.{Appends}
 use Rattle.std.specs.Option.{is_some}
@@ -7,7 +7,8 @@ use Rattle.logical_clock.specs.Order.{keys, least}
 use Rattle.turn_rule.specs.Turns.{World, next, move_next, one, run}
 use Rattle.turn_rule.proofs.Stable.{run_add}
 use Rattle.word.specs.Kinds.{Clocked, GoroutineKind}
-use Rattle.word.specs.Values.{Deadlock, Ending}
+use Rattle.word.specs.declared.end.End.{End as Ending}
+use Rattle.word.specs.declared.end.End.TheVariants.{Deadlock}
 use Rattle.word.specs.Worlds.{Rest, rules, opening, moment, is_deserted, end_by, end_of}
 use Rattle.word.proofs.Laws.{laws}
 use Rattle.meaning.specs.Source.{source_kind}
