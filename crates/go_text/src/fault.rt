@@ -17,7 +17,7 @@ pub struct Memory;
 #[error("12 NotYours")]
 pub struct NotYours;
 
-/// All refusals, in the order of their numbers, 1 to 17.
+/// All refusals, in the order of their numbers, 1 to 16.
 #[derive(Clone, Copy, Debug, PartialEq, Eq, Error)]
 pub enum Fault {
     /// The text is longer than 1,048,576 bytes.
@@ -81,9 +81,6 @@ pub enum Fault {
     /// The clock limit is not 1 to 2^62.
     #[error("16 BadLimit")]
     BadLimit,
-    /// A form of the language that is not compiled yet.
-    #[error("17 NotYet")]
-    NotYet(Place),
 }
 
 impl From<AllocError> for Memory {

@@ -40,7 +40,6 @@ IsReason subcommands.Check text faults.BadLimit = ⊥
 IsReason (subcommands.Reference limit) text faults.BadWorkers = ⊥
 IsReason (subcommands.Reference limit) text faults.BadLimit = IsLimit limit → ⊥
 IsReason subcommand text faults.Write = HasReading text
-IsReason subcommand text (faults.NotYet place) = ⊥
 IsReason subcommands.List text faults.BadWorkers = ⊥
 IsReason subcommands.List text faults.BadLimit = ⊥
 IsReason (subcommands.Run workers limit) text faults.BadWorkers = IsWorkers workers → ⊥

@@ -70,7 +70,6 @@ fault_text fault.Memory = codes "13 Memory"
 fault_text fault.Write = codes "14 Write"
 fault_text fault.BadWorkers = codes "15 BadWorkers"
 fault_text fault.BadLimit = codes "16 BadLimit"
-fault_text (fault.NotYet place) = codes "17 NotYet" ++ position_text place.position
 
 -- the number of a panic
 abbrev pub panic_number : Panic → ℕ

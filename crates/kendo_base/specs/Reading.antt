@@ -52,7 +52,6 @@ fault_number faults.Memory = 13
 fault_number faults.Write = 14
 fault_number faults.BadWorkers = 15
 fault_number faults.BadLimit = 16
-fault_number (faults.NotYet place) = 17
 
 -- a text without a reading is refused by the numbers 1 to 10
 abbrev pub IsRefusal : Fault → Type 0
@@ -86,7 +85,6 @@ located_in text (faults.Syntax place) = faults.Syntax (placed text place)
 located_in text (faults.TooDeep place) = faults.TooDeep (placed text place)
 located_in text (faults.Typing rule node place) = faults.Typing rule node (placed text place)
 located_in text (faults.Limit kind node place) = faults.Limit kind node (placed text place)
-located_in text (faults.NotYet place) = faults.NotYet (placed text place)
 located_in text fault = fault
 
 -- no file spells them: none at all, or none that is so low, or none whose lists are so short

@@ -145,7 +145,6 @@ impl fmt::Display for FaultText {
             Fault::Write => write!(f, "14 Write"),
             Fault::BadWorkers => write!(f, "15 BadWorkers"),
             Fault::BadLimit => write!(f, "16 BadLimit"),
-            Fault::NotYet(place) => placed(f, "17 NotYet", place),
         }
     }
 }

@@ -116,7 +116,6 @@ fn located(source: &Source, fault: Fault) -> Fault
             node,
             place: at(place),
         },
-        Fault::NotYet(place) => Fault::NotYet(at(place)),
         other => other,
     }
 }

@@ -72,5 +72,6 @@ fn tree(alloc: Global, text: &[u8]) -> Result<Tree, Fault>
     if u32::try_from(tokens.len()).is_err() {
         return Err(Fault::TooLong);
     }
-    parse(alloc, &source, tokens.as_slice())
+    let tree = parse(alloc, &source, tokens.as_slice())?;
+    Ok(tree)
 }
