@@ -11,8 +11,9 @@ use Rattle.codegen_expression.specs.Emission.{Puts}
 use Rattle.codegen_simple.specs.Layouts.{layout_of}
 use Rattle.codegen_simple.specs.Simples.{Appends}
 use Rattle.codegen_emission.specs.declared.emitter.Emitter.{Emitter}
-use Rattle.codegen_emission.specs.Emitted.{Control, Emits, through}
-use Rattle.codegen_emission.proofs.Filled.{makes_behind, makes_length}
+use Rattle.codegen_flow.specs.Controls.{Control, through}
+use Rattle.codegen_emission.specs.Emitted.{Emits}
+use Rattle.codegen_flow.proofs.Filled.{makes_behind, makes_length}
 use Rattle.codegen_emission.proofs.Emitting.{keeps_both}
 
 -- ---- such code

@@ -9,7 +9,8 @@ use Rattle.codegen_base.specs.Layouts.{entering}
 use Rattle.codegen_base.specs.Generated.{Made, Site, ended, followed, inside, made_any, past}
 use Rattle.codegen_simple.specs.Layouts.{layout_of}
 use Rattle.codegen_emission.specs.declared.emitter.Emitter.{Emitter}
-use Rattle.codegen_emission.specs.Emitted.{Control, Emits, site_of, through}
+use Rattle.codegen_flow.specs.Controls.{Control, through}
+use Rattle.codegen_emission.specs.Emitted.{Emits, site_of}
 use Rattle.codegen_emission.proofs.Emitting.{emits_both, site_past}
 use Rattle.codegen_emission.proofs.Listing.{emits_within}
 

@@ -18,12 +18,14 @@ use Rattle.codegen_base.specs.Generated.{Made, Site, made_else, made_if, made_of
 use Rattle.codegen_base.proofs.Before.{pushes_before}
 use Rattle.codegen_expression.specs.Emission.{Puts}
 use Rattle.codegen_simple.specs.Layouts.{layout_of}
-use Rattle.codegen_emission.specs.declared.waits.Wait.{Wait}
+use Rattle.codegen_flow.specs.declared.waits.Wait.{Wait}
 use Rattle.codegen_emission.specs.declared.emitter.Emitter.{Emitter}
-use Rattle.codegen_emission.specs.Waits.{Makes}
-use Rattle.codegen_emission.specs.Emitted.{Control, Emits, either, may_end, site_of}
-use Rattle.codegen_emission.specs.Branches.{is_other, made_condition, made_one_way, made_two_ways}
-use Rattle.codegen_emission.proofs.Filled.{makes_length, makes_if_then}
+use Rattle.codegen_flow.specs.Waits.{Makes}
+use Rattle.codegen_flow.specs.Controls.{Control, either, may_end}
+use Rattle.codegen_emission.specs.Emitted.{Emits, site_of}
+use Rattle.codegen_flow.specs.Branches.{is_other}
+use Rattle.codegen_emission.specs.Branches.{made_condition, made_one_way, made_two_ways}
+use Rattle.codegen_flow.proofs.Filled.{makes_length, makes_if_then}
 use Rattle.codegen_emission.proofs.Chosen.{makes_if_else, makes_if_other}
 use Rattle.codegen_emission.proofs.Emitting.{keeps_both, site_past}
 use Rattle.codegen_emission.proofs.Behind.{emits_behind}

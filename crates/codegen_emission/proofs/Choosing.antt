@@ -16,16 +16,18 @@ use Rattle.type_table.specs.Scopes.{Globals, Yield}
 use Rattle.codegen_base.specs.declared.element.Element.{Element}
 use Rattle.codegen_base.specs.Generated.{Made, Site, comm_kinds, made_of, past, with_way}
 use Rattle.codegen_simple.specs.Layouts.{layout_of}
-use Rattle.codegen_emission.specs.declared.waits.Wait.{Wait}
+use Rattle.codegen_flow.specs.declared.waits.Wait.{Wait}
 use Rattle.codegen_emission.specs.declared.emitter.Emitter.{Emitter}
-use Rattle.codegen_emission.specs.Waits.{Makes}
-use Rattle.codegen_emission.specs.Emitted.{Control, Emits, control, either, site_of}
-use Rattle.codegen_emission.specs.declared.select.Held.{Held}
-use Rattle.codegen_emission.specs.declared.select.WayList.{WayList}
-use Rattle.codegen_emission.specs.Closed.{closed, closed_one}
-use Rattle.codegen_emission.specs.Ways.{EmitsAs, Reaches, Ways, made_way, together, ways_left, with_others}
-use Rattle.codegen_emission.proofs.Closing.{closed_more}
-use Rattle.codegen_emission.proofs.Filled.{makes_length}
+use Rattle.codegen_flow.specs.Waits.{Makes}
+use Rattle.codegen_flow.specs.Controls.{Control, control, either}
+use Rattle.codegen_emission.specs.Emitted.{Emits, site_of}
+use Rattle.codegen_flow.specs.declared.select.Held.{Held}
+use Rattle.codegen_flow.specs.declared.select.WayList.{WayList}
+use Rattle.codegen_flow.specs.Closed.{closed, closed_one}
+use Rattle.codegen_flow.specs.Selects.{together, with_others}
+use Rattle.codegen_emission.specs.Ways.{EmitsAs, Reaches, Ways, made_way, ways_left}
+use Rattle.codegen_flow.proofs.Closing.{closed_more}
+use Rattle.codegen_flow.proofs.Filled.{makes_length}
 use Rattle.codegen_emission.proofs.Chosen.{makes_ended_way, makes_last_way, makes_way}
 use Rattle.codegen_emission.proofs.Emitting.{keeps_both, site_past}
 use Rattle.codegen_emission.proofs.Listing.{or_assoc}

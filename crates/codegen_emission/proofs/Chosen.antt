@@ -9,9 +9,9 @@ use Rattle.bytecode.specs.Code.{SelectTable}
 use Rattle.plan.specs.Plan.{Plan, IfElse, Cycle, Endless, Choose, Way, LastWay, reaches_end, turns, jump_behind, jump_size, size, flat}
 use Rattle.plan.proofs.Places.{jump_behind_size}
 use Rattle.plan.proofs.Appends.{round, round_size, appends_if_else, appends_cycle, appends_endless, appends_choose, appends_way}
-use Rattle.codegen_emission.specs.declared.waits.Wait.{Wait}
-use Rattle.codegen_emission.specs.Waits.{filled, settled, continues, AreWithin, Makes}
-use Rattle.codegen_emission.proofs.Filled.{filled_length, filled_before, filled_set, filled_both, within_wider, within_both, makes_length, behind_set}
+use Rattle.codegen_flow.specs.declared.waits.Wait.{Wait}
+use Rattle.codegen_flow.specs.Waits.{filled, settled, continues, AreWithin, Makes}
+use Rattle.codegen_flow.proofs.Filled.{filled_length, filled_before, filled_set, filled_both, within_wider, within_both, makes_length, behind_set}
 
 -- ---- two parts, with a jump over the second one
 

@@ -15,10 +15,12 @@ use Rattle.codegen_base.specs.Generated.{Made, Site, made_default, with_way}
 use Rattle.codegen_emission.specs.Branches.{made_within}
 use Rattle.codegen_simple.specs.Layouts.{layout_of}
 use Rattle.codegen_emission.specs.declared.emitter.Emitter.{Emitter}
-use Rattle.codegen_emission.specs.declared.select.WayList.{WayList}
-use Rattle.codegen_emission.specs.Closed.{closed}
-use Rattle.codegen_emission.specs.Emitted.{Control, Emits, control, site_of, through}
-use Rattle.codegen_emission.specs.Ways.{EmitsAs, Reaches, Ways, default_start, or_nothing, together, ways_left}
+use Rattle.codegen_flow.specs.declared.select.WayList.{WayList}
+use Rattle.codegen_flow.specs.Closed.{closed}
+use Rattle.codegen_flow.specs.Controls.{Control, control, through}
+use Rattle.codegen_emission.specs.Emitted.{Emits, site_of}
+use Rattle.codegen_flow.specs.Selects.{together}
+use Rattle.codegen_emission.specs.Ways.{EmitsAs, Reaches, Ways, default_start, or_nothing, ways_left}
 use Rattle.codegen_emission.proofs.Branching.{Beside, beside_keeps}
 use Rattle.codegen_emission.proofs.Choosing.{emits_last}
 use Rattle.codegen_emission.proofs.Emitting.{emits_nothing, keeps_both}

@@ -12,9 +12,10 @@ use Rattle.type_table.specs.Visible.{Keeps}
 use Rattle.codegen_base.specs.Generated.{Made, made, made_of, nothing, past, followed}
 use Rattle.codegen_simple.specs.Layouts.{layout_of}
 use Rattle.codegen_emission.specs.declared.emitter.Emitter.{Emitter}
-use Rattle.codegen_emission.specs.Waits.{Makes}
-use Rattle.codegen_emission.specs.Emitted.{Control, Emits, Flows, Jumps, joined, jumping, site_of, through}
-use Rattle.codegen_emission.proofs.Filled.{makes_length, makes_leave, makes_again, makes_seq}
+use Rattle.codegen_flow.specs.Waits.{Makes}
+use Rattle.codegen_flow.specs.Controls.{Control, Flows, joined, jumping, through}
+use Rattle.codegen_emission.specs.Emitted.{Emits, Jumps, site_of}
+use Rattle.codegen_flow.proofs.Filled.{makes_length, makes_leave, makes_again, makes_seq}
 
 module _ (table : TypeTable) where
   same_kept : (old new : Emitter) → new.layout ≡ old.layout → Keeps old.layout.visible new.layout.visible

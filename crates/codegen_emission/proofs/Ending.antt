@@ -13,8 +13,9 @@ use Rattle.codegen_base.proofs.Before.{zeros_before}
 use Rattle.codegen_simple.specs.Layouts.{layout_of}
 use Rattle.codegen_simple.specs.Simples.{Appends}
 use Rattle.codegen_emission.specs.declared.emitter.Emitter.{Emitter}
-use Rattle.codegen_emission.specs.Waits.{filled}
-use Rattle.codegen_emission.specs.Emitted.{Control, Emits, Finishes, joined, never}
+use Rattle.codegen_flow.specs.Waits.{filled}
+use Rattle.codegen_flow.specs.Controls.{Control, joined, never}
+use Rattle.codegen_emission.specs.Emitted.{Emits, Finishes}
 use Rattle.codegen_emission.proofs.Emitting.{emits_both}
 use Rattle.codegen_emission.proofs.Branching.{Beside}
 use Rattle.codegen_emission.proofs.Straight.{emits_stop}

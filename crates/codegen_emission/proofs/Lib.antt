@@ -1,4 +1,3 @@
-pub mod Filled
 pub mod Chosen
 pub mod Emitting
 pub mod Listing
@@ -12,6 +11,4 @@ pub mod Turning
 pub mod Choosing
 pub mod Selecting
 pub mod Ranging
-pub mod Closing
 pub mod Defaults
-pub mod Settling

@@ -16,10 +16,11 @@ use Rattle.codegen_base.specs.Layouts.{entering, leaving}
 use Rattle.codegen_base.specs.Generated.{Made, Site, made, made_all, followed, past, ended, inside}
 use Rattle.codegen_simple.specs.Layouts.{layout_of}
 use Rattle.codegen_simple.proofs.Leaving.{left_layout}
-use Rattle.codegen_emission.specs.declared.waits.Wait.{Wait}
+use Rattle.codegen_flow.specs.declared.waits.Wait.{Wait}
 use Rattle.codegen_emission.specs.declared.emitter.Emitter.{Emitter}
-use Rattle.codegen_emission.specs.Waits.{Makes}
-use Rattle.codegen_emission.specs.Emitted.{Control, Emits, joined, site_of, through}
+use Rattle.codegen_flow.specs.Waits.{Makes}
+use Rattle.codegen_flow.specs.Controls.{Control, joined, through}
+use Rattle.codegen_emission.specs.Emitted.{Emits, site_of}
 use Rattle.codegen_emission.proofs.Emitting.{emits_both, emits_nothing, site_past}
 
 -- what is left of a list of statements

@@ -18,10 +18,11 @@ use Rattle.codegen_base.proofs.Before.{Before}
 use Rattle.codegen_simple.specs.Layouts.{layout_of}
 use Rattle.codegen_simple.specs.Simples.{Appends}
 use Rattle.codegen_emission.specs.declared.emitter.Emitter.{Emitter}
-use Rattle.codegen_emission.specs.Waits.{filled}
-use Rattle.codegen_emission.specs.Emitted.{Control, Emits, leading, through}
+use Rattle.codegen_flow.specs.Waits.{filled}
+use Rattle.codegen_flow.specs.Controls.{Control, leading, through}
+use Rattle.codegen_emission.specs.Emitted.{Emits}
 use Rattle.codegen_emission.specs.Turns.{Rounds, made_turns}
-use Rattle.codegen_emission.proofs.Filled.{makes_length}
+use Rattle.codegen_flow.proofs.Filled.{makes_length}
 use Rattle.codegen_emission.proofs.Chosen.{makes_cycle, makes_endless}
 use Rattle.codegen_emission.proofs.Emitting.{keeps_both}
 use Rattle.codegen_emission.proofs.Behind.{alone_tables, before_break, before_continue}

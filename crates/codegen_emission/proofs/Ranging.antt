@@ -21,8 +21,9 @@ use Rattle.codegen_base.proofs.Plain.{drops_before, stores_before, then_step}
 use Rattle.codegen_simple.specs.Layouts.{layout_of}
 use Rattle.codegen_simple.specs.Simples.{Appends}
 use Rattle.codegen_emission.specs.declared.emitter.Emitter.{Emitter}
-use Rattle.codegen_emission.specs.Waits.{Makes, filled}
-use Rattle.codegen_emission.specs.Emitted.{Control, Emits, site_of, through}
+use Rattle.codegen_flow.specs.Waits.{Makes, filled}
+use Rattle.codegen_flow.specs.Controls.{Control, through}
+use Rattle.codegen_emission.specs.Emitted.{Emits, site_of}
 use Rattle.codegen_emission.specs.Branches.{made_within}
 use Rattle.codegen_emission.specs.Items.{made_item, made_items}
 use Rattle.codegen_emission.proofs.Emitting.{emits_both, keeps_both}

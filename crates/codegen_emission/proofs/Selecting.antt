@@ -26,11 +26,13 @@ use Rattle.codegen_expression.specs.Emission.{Puts}
 use Rattle.codegen_simple.specs.Simples.{Appends}
 use Rattle.codegen_base.specs.Generated.{Made, Site, behind_comm, comm_plan, followed, made, made_all, made_comm, made_default, made_of, made_select, made_ways, past, pushes_clauses, select_table, table_clause, table_clauses, within_select, with_way}
 use Rattle.codegen_simple.specs.Layouts.{layout_of}
-use Rattle.codegen_emission.specs.declared.waits.Wait.{Wait}
+use Rattle.codegen_flow.specs.declared.waits.Wait.{Wait}
 use Rattle.codegen_emission.specs.declared.emitter.Emitter.{Emitter}
-use Rattle.codegen_emission.specs.Waits.{Makes, settled}
-use Rattle.codegen_emission.specs.Emitted.{Control, Emits, site_of, through}
-use Rattle.codegen_emission.specs.Ways.{EmitsAs, any_control, behind_select, made_way, or_nothing, ways_left}
+use Rattle.codegen_flow.specs.Waits.{Makes, settled}
+use Rattle.codegen_flow.specs.Controls.{Control, through}
+use Rattle.codegen_emission.specs.Emitted.{Emits, site_of}
+use Rattle.codegen_flow.specs.Selects.{any_control, behind_select}
+use Rattle.codegen_emission.specs.Ways.{EmitsAs, made_way, or_nothing, ways_left}
 use Rattle.codegen_emission.proofs.Behind.{emits_alone, emits_behind}
 use Rattle.codegen_emission.proofs.Blocks.{Entered, Left, emits_inside, emits_then}
 use Rattle.codegen_emission.proofs.Branching.{Beside, beside_keeps, same_site}

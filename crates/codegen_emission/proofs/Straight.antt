@@ -18,7 +18,8 @@ use Rattle.codegen_base.proofs.Plain.{arguments_before, defines_before, one_befo
 use Rattle.codegen_simple.specs.Layouts.{layout_of}
 use Rattle.codegen_simple.specs.Simples.{Appends}
 use Rattle.codegen_emission.specs.declared.emitter.Emitter.{Emitter}
-use Rattle.codegen_emission.specs.Emitted.{Control, Emits, never, site_of, through}
+use Rattle.codegen_flow.specs.Controls.{Control, never, through}
+use Rattle.codegen_emission.specs.Emitted.{Emits, site_of}
 use Rattle.codegen_emission.proofs.Behind.{before_break, before_continue, before_none, emits_alone}
 use Rattle.codegen_emission.proofs.Branching.{Beside, beside_keeps}
 

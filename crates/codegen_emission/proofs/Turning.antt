@@ -17,8 +17,9 @@ use Rattle.codegen_expression.specs.Emission.{Puts}
 use Rattle.codegen_expression.proofs.Emitting.{puts_alone}
 use Rattle.codegen_simple.specs.Layouts.{layout_of}
 use Rattle.codegen_emission.specs.declared.emitter.Emitter.{Emitter}
-use Rattle.codegen_emission.specs.Waits.{filled}
-use Rattle.codegen_emission.specs.Emitted.{Control, Emits, leading, site_of, through}
+use Rattle.codegen_flow.specs.Waits.{filled}
+use Rattle.codegen_flow.specs.Controls.{Control, leading, through}
+use Rattle.codegen_emission.specs.Emitted.{Emits, site_of}
 use Rattle.codegen_emission.specs.Branches.{made_within}
 use Rattle.codegen_emission.specs.Turns.{Rounds, made_turns}
 use Rattle.codegen_emission.proofs.Emitting.{keeps_both, site_past}

@@ -1,15 +1,9 @@
 -- Conditions, and what is done where they are true and where they are false.
-use Rattle.std.specs.Prelude.{Bool, true, false, List}
+use Rattle.std.specs.Prelude.{List}
 use Rattle.syntax.specs.Tree.{Expression, Statements, Otherwise, NoElse, ElseBlock, ElseIf}
 use Rattle.type_table.specs.Scopes.{Globals, Yield}
 use Rattle.codegen_base.specs.declared.element.Element.{Element}
 use Rattle.codegen_base.specs.Generated.{Made, Site, ended, inside, made_all, made_branch, made_else, made_if, made_otherwise, nothing, past}
-
--- whether something stands behind `else`
-abbrev pub is_other : Otherwise → Bool
-is_other NoElse = false
-is_other (ElseBlock body) = true
-is_other (ElseIf branch) = true
 
 module _ (globals : Globals) (elements : List Element) (result : Yield) where
   abbrev pub made_within : Site → Statements → Made

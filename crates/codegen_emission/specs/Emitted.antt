@@ -1,73 +1,14 @@
--- What is emitted of a statement, and where control goes from it.
-use Rattle.std.specs.Prelude.{◌≡◌, ℕ, Bool, not, true, false, ◌||◌, List, [], ◌∷◌, ◌++◌, length}
+-- What is emitted of a statement.
+use Rattle.std.specs.Prelude.{◌≡◌, Bool, [], ◌∷◌, ◌++◌, length}
 use Rattle.bytecode.specs.declared.instr.Instr.TheVariants as instrs
-use Rattle.plan.specs.Plan.{Plan, reaches_end, has_break, has_continue, flat, tables}
+use Rattle.plan.specs.Plan.{flat, tables}
 use Rattle.type_table.specs.declared.table.TypeTable.{TypeTable}
 use Rattle.type_table.specs.Visible.{Keeps}
 use Rattle.codegen_base.specs.Generated.{Made, Site}
 use Rattle.codegen_simple.specs.Layouts.{layout_of}
-use Rattle.codegen_emission.specs.declared.waits.Wait.{Wait}
-use Rattle.codegen_emission.specs.declared.flow.Flow.{Flow}
+use Rattle.codegen_flow.specs.Waits.{Makes}
+use Rattle.codegen_flow.specs.Controls.{Control, Flows, jumping}
 use Rattle.codegen_emission.specs.declared.emitter.Emitter.{Emitter}
-use Rattle.codegen_emission.specs.Waits.{Makes, wait_at}
-
--- ---- control
-
--- where control goes from what was emitted: the jumps that wait, and what can be reached
-pub record Control : Type 0 where
-  pub waits : List Wait
-  pub ends : Bool
-  pub breaks : Bool
-  pub continues : Bool
-
-abbrev pub control : Flow → Control
-control flow = record { waits = flow.waits.items; ends = flow.reaches_end; breaks = flow.has_break; continues = flow.has_continue }
-
--- to what comes behind, and nowhere else
-abbrev pub through : Control
-through = record { waits = []; ends = true; breaks = false; continues = false }
-
--- nowhere
-abbrev pub never : Control
-never = record { waits = []; ends = false; breaks = false; continues = false }
-
--- to what comes behind, or nowhere
-abbrev pub leading : Bool → Control
-leading ends = record { waits = []; ends = ends; breaks = false; continues = false }
-
--- to where a break, or a continue, leads
-abbrev pub jumping : ℕ → Bool → Control
-jumping place leaves = record { waits = wait_at place leaves; ends = false; breaks = leaves; continues = not leaves }
-
--- from a first part, whose end is reached, and another one behind it
-abbrev pub joined : Control → Control → Control
-joined first behind = record {
-  waits = first.waits ++ behind.waits;
-  ends = behind.ends;
-  breaks = first.breaks || behind.breaks;
-  continues = first.continues || behind.continues;
-}
-
--- from one of two parts
-abbrev pub either : Control → Control → Control
-either first other = record {
-  waits = first.waits ++ other.waits;
-  ends = first.ends || other.ends;
-  breaks = first.breaks || other.breaks;
-  continues = first.continues || other.continues;
-}
-
--- from a part that may be left out
-abbrev pub may_end : Control → Control
-may_end flow = record { waits = flow.waits; ends = true; breaks = flow.breaks; continues = flow.continues }
-
--- it goes where it goes from a plan
-pub record Flows (flow : Control) (plan : Plan) : Type 0 where
-  pub ends : flow.ends ≡ reaches_end plan
-  pub breaks : flow.breaks ≡ has_break plan
-  pub continues : flow.continues ≡ has_continue plan
-
--- ---- what is emitted
 
 -- where the next statement stands
 abbrev pub site_of : TypeTable → Emitter → Site

@@ -1,7 +1,5 @@
-pub mod Waits
 pub mod Emitted
 pub mod Turns
 pub mod Branches
 pub mod Ways
 pub mod Items
-pub mod Closed

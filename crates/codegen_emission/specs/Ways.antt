@@ -1,9 +1,8 @@
 -- The ways of a select.
-use Rattle.std.specs.Prelude.{◌≡◌, ℕ, false, cond, ◌||◌, List, [], ◌∷◌, ◌++◌, length, Option, Some, None, option_map}
+use Rattle.std.specs.Prelude.{◌≡◌, ℕ, cond, List, [], ◌∷◌, ◌++◌, length, Option, Some, None, option_map}
 use Rattle.std.specs.Option.{is_some}
 use Rattle.syntax.specs.Tree.{Clauses, Comm, Statements}
 use Rattle.bytecode.specs.declared.instr.Instr.{Instr}
-use Rattle.bytecode.specs.Code.{SelectTable}
 use Rattle.plan.specs.Plan.{starts, tables}
 use Rattle.type_table.specs.Visible.{Keeps}
 use Rattle.type_table.specs.declared.table.TypeTable.{TypeTable}
@@ -11,38 +10,22 @@ use Rattle.type_table.specs.Scopes.{Globals, Yield}
 use Rattle.codegen_base.specs.declared.element.Element.{Element}
 use Rattle.codegen_base.specs.Generated.{Made, Site, ended, followed, inside, made_all, made_comm, made_default, made_ways, nothing, past}
 use Rattle.codegen_emission.specs.declared.emitter.Emitter.{Emitter}
-use Rattle.codegen_emission.specs.declared.select.WayList.{WayList}
-use Rattle.codegen_emission.specs.Closed.{closed}
+use Rattle.codegen_flow.specs.declared.select.WayList.{WayList}
+use Rattle.codegen_flow.specs.Closed.{closed}
 use Rattle.codegen_simple.specs.Layouts.{layout_of}
-use Rattle.codegen_emission.specs.Waits.{Makes, continues}
-use Rattle.codegen_emission.specs.Emitted.{Control, Flows, control, either, site_of, through}
+use Rattle.codegen_flow.specs.Waits.{Makes}
+use Rattle.codegen_flow.specs.Controls.{Control, Flows, control}
+use Rattle.codegen_flow.specs.Selects.{any_control, together}
+use Rattle.codegen_emission.specs.Emitted.{site_of}
 
 -- where there are no ways nothing is made
 abbrev pub or_nothing : Site → Option Made → Made
 or_nothing site None = nothing site
 or_nothing site (Some made) = made
 
-abbrev pub any_control : Option Control → Control
-any_control None = through
-any_control (Some flow) = flow
-
--- from a way, or one of those behind it
-abbrev pub with_others : Control → Option Control → Control
-with_others flow None = flow
-with_others flow (Some others) = either flow others
-
--- from ways, or those behind them
-abbrev pub together : Option Control → Option Control → Option Control
-together None others = others
-together (Some flow) others = Some (with_others flow others)
-
 -- where a default's way begins, behind the others
 abbrev pub default_start : List ℕ → Emitter → Option Control → List ℕ
 default_start noted old flow = noted ++ cond (is_some flow) (length old.code.items ∷ []) []
-
--- held for the table of a select, whose ways are still to come
-abbrev pub no_table : SelectTable
-no_table = record { clauses = []; default = None }
 
 -- what was made is what is emitted, where these are the instructions then
 pub record EmitsAs (table : TypeTable) (old : Emitter) (code : List Instr) (new : Emitter) (flow : Control) (made : Made) : Type 0 where
@@ -58,10 +41,6 @@ pub record Ways (table : TypeTable) (old : Emitter) (code : List Instr) (new : E
   pub emits : EmitsAs table old code new (any_control flow) (or_nothing (site_of table old) made)
   pub begin : places ≡ noted ++ starts (length old.code.items) (or_nothing (site_of table old) made).plan
   pub there : is_some flow ≡ is_some made
-
--- from a select: a break of a way leads behind it
-abbrev pub behind_select : Control → Control
-behind_select flow = record { waits = continues flow.waits; ends = flow.ends || flow.breaks; breaks = false; continues = flow.continues }
 
 module _ (globals : Globals) (elements : List Element) (result : Yield) where
   -- a way is a block, in which a clause's names are

@@ -6,7 +6,8 @@ ghost use Rattle.type_table.specs.Visible.{globals_in};
 ghost use Rattle.checker_statement.specs.Statements.{head_simple};
 ghost use Rattle.codegen_base.specs.Generated.{ended, inside, made_any, made_post, made_simple};
 ghost use Rattle.codegen_simple.specs.Layouts.{layout_of};
-ghost use Rattle.codegen_emission.specs.Emitted.{Emits, site_of, through};
+ghost use Rattle.codegen_flow.specs.Controls.{through};
+ghost use Rattle.codegen_emission.specs.Emitted.{Emits, site_of};
 
 use crate::emitter::Emitter;
 use codegen_expression::element_list::ElementList;

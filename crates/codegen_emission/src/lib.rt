@@ -4,10 +4,6 @@
 pub mod alone;
 pub mod body;
 pub mod emitter;
-pub mod flow;
-pub mod select;
 pub mod single;
 pub mod statement;
 pub mod turn;
-pub mod waits;
-pub mod way;

@@ -7,13 +7,14 @@ ghost use Rattle.type_table.specs.Scopes.{Yield};
 ghost use Rattle.type_table.specs.Views.{yield_of};
 ghost use Rattle.type_table.specs.Visible.{globals_in, types_of};
 ghost use Rattle.codegen_base.specs.Generated.{made};
-ghost use Rattle.codegen_emission.specs.Emitted.{Emits, Jumps, control, site_of, through};
+ghost use Rattle.codegen_flow.specs.Controls.{control, through};
+ghost use Rattle.codegen_emission.specs.Emitted.{Emits, Jumps, site_of};
 
 use crate::emitter::Emitter;
-use crate::flow::Flow;
 use bytecode::Instr;
 use codegen_expression::element_list::ElementList;
 use codegen_expression::halt::Halt;
+use codegen_flow::flow::Flow;
 use codegen_header::returned::emit_return;
 use codegen_header::start::emit_go;
 use codegen_header::variables::{emit_typed, emit_untyped};

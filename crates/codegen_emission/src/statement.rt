@@ -9,7 +9,8 @@ ghost use Rattle.codegen_base.specs.Generated.{ended, inside, made, made_all, ma
 ghost use Rattle.codegen_base.specs.Layouts.{Layout as OneLayout, carried};
 ghost use Rattle.codegen_simple.specs.Layouts.{layout_of};
 ghost use Rattle.codegen_emission.specs.Items.{made_item, made_items};
-ghost use Rattle.codegen_emission.specs.Emitted.{Emits, control, site_of};
+ghost use Rattle.codegen_flow.specs.Controls.{control};
+ghost use Rattle.codegen_emission.specs.Emitted.{Emits, site_of};
 ghost use Rattle.codegen_emission.specs.Turns.{made_turns};
 ghost use Rattle.codegen_emission.specs.Ways.{Reaches, Ways, default_start, made_way, ways_left};
 ghost use Rattle.codegen_emission.specs.declared.emitter.Emitter.{Emitter as OneEmitter};
@@ -17,18 +18,18 @@ ghost use Rattle.codegen_emission.specs.Branches.{made_condition, made_one_way, 
 
 use crate::alone::{emit_alone, emit_any, emit_head};
 use crate::emitter::Emitter;
-use crate::flow::{Flow, join, join_way, may_end};
-use crate::select::{
-    WayList, add_way, close, end_ways, from_ways, hold, hold_select, leave_select, set_table,
-};
 use crate::single::{declare_typed, declare_untyped, emit_jump, give_back, start};
 use crate::turn::{come_round, emit_round, push_test};
-use crate::waits::{aim, fill};
-use crate::way::{begin_other, end_other, end_test, has_other};
 use bytecode::Instr;
 use codegen_expression::element_list::ElementList;
 use codegen_expression::halt::Halt;
 use codegen_expression::operand::number;
+use codegen_flow::flow::{Flow, join, join_way, may_end};
+use codegen_flow::select::{
+    WayList, add_way, close, end_ways, from_ways, hold, hold_select, leave_select, set_table,
+};
+use codegen_flow::waits::{aim, fill};
+use codegen_flow::way::{begin_other, end_other, end_test, has_other};
 use codegen_header::blank::Blank;
 use codegen_header::comm::take_comm;
 use codegen_header::range::{Ranged, declare_kept, emit_kept, emit_next, emit_unused, take_item};

@@ -2,10 +2,11 @@
 
 ghost use Rattle.std.specs.Prelude.{Some};
 
+use crate::flaw::{Flaw, same};
+use crate::row::LIMIT;
 use crate::run::Open;
 use go_text::{Fault, Place, Span};
 use kendo_base::{report, run_bytes};
-use rows_base::{Flaw, LIMIT, same};
 use std::alloc::Global;
 use std::sync::Wait;
 use word::end::End;

@@ -1,9 +1,10 @@
 //! What a file tells of its text, and whether that comes of it.
 
+use crate::flaw::{Flaw, same};
+use crate::folder::{FileKind, Made, RowFile};
 use crate::reading::{listing, spans, tokens};
 use crate::run::check_runs;
 use crate::trace::trace;
-use rows_base::{FileKind, Flaw, Made, RowFile, same};
 use std::alloc::Global;
 use std::rt::Files;
 use std::sync::Wait;

@@ -10,14 +10,19 @@
 
 mod calls;
 mod check;
+mod flaw;
+mod folder;
 mod reading;
+mod row;
 mod run;
 mod table;
 mod trace;
+mod written;
 
 use calls::{check_failing_writers, check_panics, check_refusals};
 use check::check;
-use rows_base::{FileKind, Flaw, RowFile, names, utf8};
+use flaw::Flaw;
+use folder::{FileKind, RowFile, names, utf8};
 use std::process::ExitCode;
 use std::rt::{Env, Files};
 use std::sync::Wait;

@@ -4,12 +4,12 @@ ghost use Rattle.std.specs.Prelude.{IfOk};
 ghost use Rattle.codegen_base.specs.Grammar.{IsGrammatical, IsLimited};
 ghost use Rattle.syntax.specs.Spans.{tree_of};
 
+use crate::flaw::{Flaw, shown};
 use checker::check;
 use codegen::compile;
 use go_text::{Fault, Source, Span};
 use kendo_base::list_bytes;
 use parser::parse;
-use rows_base::{Flaw, shown};
 use scanner::{Token, scan};
 use std::alloc::Global;
 use syntax::Tree;

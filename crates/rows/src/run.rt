@@ -1,8 +1,9 @@
 //! Runs of a text, and whether they are what a row tells.
 
+use crate::flaw::{Flaw, same};
+use crate::row::Row;
 use go_text::Fault;
 use kendo_base::{Gate, check_bytes, reference_bytes, report, run_bytes};
-use rows_base::{Flaw, Row, same};
 use std::alloc::Global;
 use std::sync::Wait;
 use word::Flagged;

@@ -1,8 +1,10 @@
 //! Tables of texts, each on a line behind what is told of it.
 
+use crate::flaw::{Flaw, same, shown};
+use crate::row::{LIMIT, Row};
 use crate::run::{Ran, check_runs, checked_line};
+use crate::written::bytes_of;
 use go_text::{Fault, LimitKind};
-use rows_base::{Flaw, LIMIT, Row, bytes_of, same, shown};
 use std::alloc::{AllocError, Global};
 use std::sync::Wait;
 use word::end::End;

@@ -1,9 +1,9 @@
 //! The events of a run, as lines.
 
+use crate::flaw::Flaw;
 use crate::reading::program;
 use book::{Book, Settled};
 use go_text::Fault;
-use rows_base::Flaw;
 use std::alloc::Global;
 use std::fmt;
 use std::sync::Arc;

@@ -2,7 +2,7 @@ use Rattle.std.proofs.Common.{rules, ◌≡◌, length, refl}
 use Rattle.syntax.specs.View.{simple_of}
 use Rattle.type_table.specs.Visible.{globals_in}
 use Rattle.codegen_emission.specs.declared.emitter.Emitter.{Emitter}
-use Rattle.codegen_emission.specs.Emitted.{through}
+use Rattle.codegen_flow.specs.Controls.{through}
 use Rattle.codegen_emission.proofs.Straight.{emits_simple}
 use Rattle.codegen_emission.proofs.alone.emit_alone.Goals as goal
 

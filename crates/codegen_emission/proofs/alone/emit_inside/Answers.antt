@@ -3,7 +3,7 @@ use Rattle.syntax.specs.View.{simple_of}
 use Rattle.type_table.specs.Visible.{globals_in}
 use Rattle.codegen_base.specs.Generated.{Site, made_simple}
 use Rattle.codegen_emission.specs.declared.emitter.Emitter.{Emitter}
-use Rattle.codegen_emission.specs.Emitted.{through}
+use Rattle.codegen_flow.specs.Controls.{through}
 use Rattle.codegen_emission.proofs.Blocks.{Entered, Left, emits_inside}
 use Rattle.codegen_emission.proofs.alone.emit_inside.Goals as goal
 

@@ -2,7 +2,8 @@ use Rattle.std.proofs.Common.{rules, ◌≡◌, true}
 use Rattle.syntax.specs.View.{body_of}
 use Rattle.type_table.specs.Views.{yield_of}
 use Rattle.type_table.specs.Visible.{globals_in, types_of}
-use Rattle.codegen_emission.specs.Emitted.{control, site_of}
+use Rattle.codegen_flow.specs.Controls.{control}
+use Rattle.codegen_emission.specs.Emitted.{site_of}
 use Rattle.codegen_emission.proofs.Ending.{emits_finished}
 use Rattle.codegen_emission.proofs.body.emit_all.Goals as goal
 

@@ -3,10 +3,11 @@ use Rattle.syntax.specs.View.{body_of}
 use Rattle.type_table.specs.Views.{yield_of}
 use Rattle.type_table.specs.Visible.{globals_in, types_of}
 use Rattle.codegen_base.specs.Generated.{made_body}
-use Rattle.codegen_emission.specs.declared.waits.Wait.{Wait}
+use Rattle.codegen_flow.specs.declared.waits.Wait.{Wait}
 use Rattle.codegen_emission.specs.declared.emitter.Emitter.{Emitter}
-use Rattle.codegen_emission.specs.Waits.{filled}
-use Rattle.codegen_emission.specs.Emitted.{control, site_of}
+use Rattle.codegen_flow.specs.Waits.{filled}
+use Rattle.codegen_flow.specs.Controls.{control}
+use Rattle.codegen_emission.specs.Emitted.{site_of}
 use Rattle.codegen_emission.proofs.Ending.{finishes}
 use Rattle.codegen_emission.proofs.body.emit_body.Goals as goal
 

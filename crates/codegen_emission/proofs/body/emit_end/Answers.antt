@@ -3,7 +3,7 @@ use Rattle.type_table.specs.Views.{yield_of}
 use Rattle.type_table.specs.Visible.{globals_in, types_of}
 use Rattle.plan.specs.Plan.{Stop}
 use Rattle.codegen_emission.specs.declared.emitter.Emitter.{Emitter}
-use Rattle.codegen_emission.specs.Emitted.{control}
+use Rattle.codegen_flow.specs.Controls.{control}
 use Rattle.codegen_emission.proofs.Ending.{emits_end}
 use Rattle.codegen_emission.proofs.body.emit_end.Goals as goal
 

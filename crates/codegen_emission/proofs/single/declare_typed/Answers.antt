@@ -4,7 +4,7 @@ use Rattle.type_table.specs.Scopes.{type_in}
 use Rattle.type_table.specs.Visible.{globals_in, scope_of, types_of}
 use Rattle.meaning.specs.Values.{known}
 use Rattle.codegen_emission.specs.declared.emitter.Emitter.{Emitter}
-use Rattle.codegen_emission.specs.Emitted.{through}
+use Rattle.codegen_flow.specs.Controls.{through}
 use Rattle.codegen_emission.proofs.Straight.{emits_typed}
 use Rattle.codegen_emission.proofs.single.declare_typed.Goals as goal
 

@@ -3,7 +3,7 @@ use Rattle.syntax.specs.View.{name_of, right_of}
 use Rattle.type_table.specs.Visible.{globals_in, scope_of}
 use Rattle.codegen_base.specs.Statements.{right_types}
 use Rattle.codegen_emission.specs.declared.emitter.Emitter.{Emitter}
-use Rattle.codegen_emission.specs.Emitted.{through}
+use Rattle.codegen_flow.specs.Controls.{through}
 use Rattle.codegen_emission.proofs.Straight.{emits_untyped}
 use Rattle.codegen_emission.proofs.single.declare_untyped.Goals as goal
 

@@ -3,7 +3,7 @@ use Rattle.syntax.specs.View.{returned_of}
 use Rattle.type_table.specs.Views.{yield_of}
 use Rattle.type_table.specs.Visible.{globals_in, types_of}
 use Rattle.codegen_emission.specs.declared.emitter.Emitter.{Emitter}
-use Rattle.codegen_emission.specs.Emitted.{control}
+use Rattle.codegen_flow.specs.Controls.{control}
 use Rattle.codegen_emission.proofs.Straight.{emits_return}
 use Rattle.codegen_emission.proofs.single.give_back.Goals as goal
 

@@ -3,7 +3,7 @@ use Rattle.syntax.specs.View.{expression_of, name_of}
 use Rattle.type_table.specs.Visible.{globals_in}
 use Rattle.meaning.specs.Destinations.{number_of}
 use Rattle.codegen_emission.specs.declared.emitter.Emitter.{Emitter}
-use Rattle.codegen_emission.specs.Emitted.{through}
+use Rattle.codegen_flow.specs.Controls.{through}
 use Rattle.codegen_emission.proofs.Straight.{emits_go}
 use Rattle.codegen_emission.proofs.single.start.Goals as goal
 

@@ -22,16 +22,18 @@ use Rattle.codegen_simple.specs.Layouts.{layout_of}
 use Rattle.codegen_simple.specs.Simples.{Appends}
 use Rattle.codegen_emission.specs.Items.{made_item}
 use Rattle.codegen_emission.proofs.Ranging.{emits_item, emits_items, emits_range}
-use Rattle.codegen_emission.specs.declared.waits.Wait.{Wait}
+use Rattle.codegen_flow.specs.declared.waits.Wait.{Wait}
 use Rattle.codegen_emission.specs.declared.emitter.Emitter.{Emitter}
-use Rattle.codegen_emission.specs.Waits.{filled, settled}
-use Rattle.codegen_emission.specs.Closed.{closed}
-use Rattle.codegen_emission.specs.declared.select.Held.{Held}
-use Rattle.codegen_emission.specs.Ways.{Reaches, Ways, any_control, behind_select, default_start, made_way, no_table, or_nothing, ways_left}
+use Rattle.codegen_flow.specs.Waits.{filled, settled}
+use Rattle.codegen_flow.specs.Closed.{closed}
+use Rattle.codegen_flow.specs.declared.select.Held.{Held}
+use Rattle.codegen_flow.specs.Selects.{any_control, behind_select, no_table}
+use Rattle.codegen_emission.specs.Ways.{Reaches, Ways, default_start, made_way, or_nothing, ways_left}
 use Rattle.codegen_emission.proofs.Choosing.{reaches, reaches_more}
 use Rattle.codegen_emission.proofs.Defaults.{all_ways, default_here, default_later, default_none, default_nowhere, default_way, next_clause, reaches_past}
 use Rattle.codegen_emission.proofs.Selecting.{emits_as_is, emits_comm, emits_select}
-use Rattle.codegen_emission.specs.Emitted.{Control, Emits, control, site_of}
+use Rattle.codegen_flow.specs.Controls.{Control, control}
+use Rattle.codegen_emission.specs.Emitted.{Emits, site_of}
 use Rattle.codegen_emission.proofs.Emitting.{emits_break, emits_continue}
 use Rattle.codegen_emission.proofs.Listing.{begins_all, begins_cut, begins_more, emits_block, next_statement}
 use Rattle.codegen_emission.specs.Branches.{made_condition, made_other, made_within}

@@ -4,7 +4,7 @@ use Rattle.syntax.specs.Tree.{Clauses}
 use Rattle.syntax.specs.View.{body_of, clause_of, clauses}
 use Rattle.type_table.specs.Views.{yield_of}
 use Rattle.type_table.specs.Visible.{globals_in, types_of}
-use Rattle.codegen_emission.specs.Emitted.{control}
+use Rattle.codegen_flow.specs.Controls.{control}
 use Rattle.codegen_base.specs.Generated.{made_default}
 use Rattle.codegen_emission.specs.Emitted.{site_of}
 use Rattle.codegen_emission.specs.Ways.{Reaches}

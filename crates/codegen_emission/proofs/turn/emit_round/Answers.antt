@@ -5,7 +5,8 @@ use Rattle.type_table.specs.Visible.{globals_in}
 use Rattle.codegen_base.specs.Generated.{made_post}
 use Rattle.codegen_simple.specs.Layouts.{layout_of}
 use Rattle.codegen_emission.specs.declared.emitter.Emitter.{Emitter}
-use Rattle.codegen_emission.specs.Emitted.{site_of, through}
+use Rattle.codegen_flow.specs.Controls.{through}
+use Rattle.codegen_emission.specs.Emitted.{site_of}
 use Rattle.codegen_emission.proofs.Looping.{rounds}
 use Rattle.codegen_emission.proofs.Turning.{post_before}
 use Rattle.codegen_emission.proofs.turn.emit_round.Goals as goal

@@ -1,6 +1,6 @@
 use Rattle.std.proofs.Common.{◌≡◌, length}
-use Rattle.codegen_emission.specs.Closed.{closed}
-use Rattle.codegen_emission.proofs.select.close.Given as goal
+use Rattle.codegen_flow.specs.Closed.{closed}
+use Rattle.codegen_flow.proofs.select.close.Given as goal
 
 -- what is left comes to what all come to
 abbrev pub invariant-loop-held : goal.invariant-loop-held

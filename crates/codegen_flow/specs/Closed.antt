@@ -2,7 +2,7 @@
 use Rattle.std.specs.Prelude.{Bool, true, false, ◌||◌, cond, List, [], ◌∷◌, length, slice_set, take}
 use Rattle.bytecode.specs.declared.instr.Instr.{Instr}
 use Rattle.bytecode.specs.declared.instr.Instr.TheVariants as instrs
-use Rattle.codegen_emission.specs.declared.select.Held.{Held}
+use Rattle.codegen_flow.specs.declared.select.Held.{Held}
 
 -- the jump leads behind all instructions; where there are no ways behind, it is taken back
 abbrev pub closed_one : Held → Bool → List Instr → List Instr

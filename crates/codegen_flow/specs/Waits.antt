@@ -3,7 +3,7 @@ use Rattle.std.specs.Prelude.{◌≡◌, ℕ, ◌+◌, ◌≤◌, ◌<◌, Bool,
 use Rattle.bytecode.specs.declared.instr.Instr.{Instr}
 use Rattle.bytecode.specs.declared.instr.Instr.TheVariants as instrs
 use Rattle.plan.specs.Plan.{Plan, flat}
-use Rattle.codegen_emission.specs.declared.waits.Wait.{Wait}
+use Rattle.codegen_flow.specs.declared.waits.Wait.{Wait}
 
 -- one jump that waits
 abbrev pub wait_at : ℕ → Bool → List Wait

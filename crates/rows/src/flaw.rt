@@ -1,7 +1,5 @@
 //! What can be wrong with a file of rows.
 
-ghost use Rattle.std.specs.Prelude.{◌≡◌, OnOk};
-
 use go_text::Fault;
 use std::alloc::{AllocError, AllocFailed, Global};
 use std::io;
@@ -15,7 +13,7 @@ const BEFORE: usize = 20;
 
 /// Why a file of rows fails.
 #[derive(Debug, Drop, Error)]
-pub enum Flaw {
+pub(crate) enum Flaw {
     /// A folder has no rows in its folders.
     #[error("it has no rows")]
     NoRows,
@@ -87,9 +85,7 @@ impl<T: Drop> From<AllocFailed<T>> for Flaw {
 }
 
 /// Compares what came with what was wanted; `what` names it.
-pub fn same(alloc: Global, what: &str, wanted: &[u8], came: &[u8]) -> Result<(), Flaw>
-    ensures { OnOk result (wanted.now ≡ came.now) }
-{
+pub(crate) fn same(alloc: Global, what: &str, wanted: &[u8], came: &[u8]) -> Result<(), Flaw> {
     if wanted == came {
         return Ok(());
     }
@@ -104,7 +100,7 @@ pub fn same(alloc: Global, what: &str, wanted: &[u8], came: &[u8]) -> Result<(),
 }
 
 /// Some bytes in quotes, from shortly before a place on.
-pub fn shown(alloc: Global, bytes: &[u8], at: usize) -> Result<String, AllocError> {
+pub(crate) fn shown(alloc: Global, bytes: &[u8], at: usize) -> Result<String, AllocError> {
     let from = at.saturating_sub(BEFORE).min(bytes.len());
     let rest = &bytes[from..];
     let piece = String::from_utf8_lossy(alloc, &rest[..rest.len().min(SHOWN)])?;

@@ -1,6 +1,6 @@
 use Rattle.std.proofs.Common.{◌≡◌, length}
-use Rattle.codegen_emission.specs.Waits.{settled}
-use Rattle.codegen_emission.proofs.select.settle.Given as goal
+use Rattle.codegen_flow.specs.Waits.{settled}
+use Rattle.codegen_flow.proofs.select.settle.Given as goal
 
 -- what is left comes to what all come to
 abbrev pub invariant-loop-wait : goal.invariant-loop-wait

@@ -2,7 +2,7 @@
 
 ghost use Rattle.std.specs.Prelude.{◌≡◌, ◌∷◌, ◌++◌, [], IfOk, OnOk, cond, length, slice_set};
 ghost use Rattle.syntax.specs.View.{otherwise_of};
-ghost use Rattle.codegen_emission.specs.Branches.{is_other};
+ghost use Rattle.codegen_flow.specs.Branches.{is_other};
 ghost use Rattle.bytecode.specs.declared.instr.Instr.TheVariants as instrs;
 
 use crate::waits::aim;

@@ -9,7 +9,7 @@ use std::{fs, io};
 
 /// What a file of a row is, by its extension.
 #[derive(Clone, Copy, Debug, PartialEq, Eq)]
-pub enum FileKind {
+pub(crate) enum FileKind {
     /// `.go`: a text.
     Text,
     /// `.gen`: a text as it is written.
@@ -26,7 +26,7 @@ pub enum FileKind {
 
 /// What is made of a text.
 #[derive(Clone, Copy, Debug, PartialEq, Eq)]
-pub enum Made {
+pub(crate) enum Made {
     /// `.list`: the listing of its code.
     Listing,
     /// `.spans`: the spans of its tree's nodes.
@@ -62,7 +62,7 @@ impl FileKind {
 
 /// A file of a folder: `TEXT.EXTENSION`, or `TEXT.CASE.EXTENSION` where a text has several rows.
 #[derive(Clone, Copy)]
-pub struct RowFile<'a> {
+pub(crate) struct RowFile<'a> {
     folder: &'a str,
     /// The name without its extension.
     stem: &'a str,
@@ -72,7 +72,7 @@ pub struct RowFile<'a> {
 
 impl<'a> RowFile<'a> {
     /// The file of this name, if rows have such files.
-    pub fn new(folder: &'a str, name: &'a str) -> Option<RowFile<'a>> {
+    pub(crate) fn new(folder: &'a str, name: &'a str) -> Option<RowFile<'a>> {
         let (stem, extension) = name.rsplit_once('.')?;
         let kind = FileKind::of(extension)?;
         Some(RowFile {
@@ -92,7 +92,7 @@ impl<'a> RowFile<'a> {
     }
 
     /// Whether one of these files of its folder tells something of this text.
-    pub fn is_told(&self, names: &[String]) -> bool {
+    pub(crate) fn is_told(&self, names: &[String]) -> bool {
         names.iter().any(|name| match RowFile::new(self.folder, name.as_str()) {
             Some(other) => other.kind.tells() && other.text_name() == self.stem,
             None => false,
@@ -100,7 +100,7 @@ impl<'a> RowFile<'a> {
     }
 
     /// Its text.
-    pub fn text<R: Files + AllocGlobal>(&self, rt: &R) -> Result<Vec<u8>, Flaw> {
+    pub(crate) fn text<R: Files + AllocGlobal>(&self, rt: &R) -> Result<Vec<u8>, Flaw> {
         if let Some(text) = self.read(rt, self.text_name(), "go")? {
             return Ok(text);
         }
@@ -111,7 +111,7 @@ impl<'a> RowFile<'a> {
     }
 
     /// The file beside it of the same name, but for this extension.
-    pub fn beside<R: Files + AllocGlobal>(
+    pub(crate) fn beside<R: Files + AllocGlobal>(
         &self,
         rt: &R,
         extension: &str,
@@ -120,7 +120,7 @@ impl<'a> RowFile<'a> {
     }
 
     /// The file itself.
-    pub fn bytes<R: Files + AllocGlobal>(&self, rt: &R) -> Result<Vec<u8>, Flaw> {
+    pub(crate) fn bytes<R: Files + AllocGlobal>(&self, rt: &R) -> Result<Vec<u8>, Flaw> {
         match self.read(rt, self.stem, self.extension)? {
             Some(bytes) => Ok(bytes),
             None => Err(Flaw::Stranger),
@@ -128,7 +128,7 @@ impl<'a> RowFile<'a> {
     }
 
     /// What is told of its runs.
-    pub fn row<R: Files + AllocGlobal>(&self, rt: &R) -> Result<Row, Flaw> {
+    pub(crate) fn row<R: Files + AllocGlobal>(&self, rt: &R) -> Result<Row, Flaw> {
         match self.beside(rt, "row")? {
             Some(lines) => Row::parse(rt.alloc(), utf8(lines)?.as_str()),
             None => Ok(Row::new(rt.alloc())?),
@@ -162,12 +162,12 @@ fn generated(alloc: Global, written: Vec<u8>) -> Result<Vec<u8>, Flaw> {
 }
 
 /// The text of a file that is no program.
-pub fn utf8(bytes: Vec<u8>) -> Result<String, Flaw> {
+pub(crate) fn utf8(bytes: Vec<u8>) -> Result<String, Flaw> {
     String::from_utf8(bytes).map_err(|_| Flaw::NotUtf8)
 }
 
 /// The names of what lies in a folder, sorted.
-pub fn names<R: Files + AllocGlobal + Clone + Drop>(
+pub(crate) fn names<R: Files + AllocGlobal + Clone + Drop>(
     rt: &R,
     folder: &str,
 ) -> io::Result<Vec<String>> {

@@ -9,8 +9,8 @@ use Rattle.plan.proofs.Places.{flat_size}
 use Rattle.plan.proofs.Appends.{appends_if_then}
 use Rattle.codegen_expression.specs.Emission.{Puts}
 use Rattle.codegen_expression.proofs.Emitting.{puts_alone}
-use Rattle.codegen_emission.specs.declared.waits.Wait.{Wait}
-use Rattle.codegen_emission.specs.Waits.{wait_at, jump, filled, AreWithin, Makes}
+use Rattle.codegen_flow.specs.declared.waits.Wait.{Wait}
+use Rattle.codegen_flow.specs.Waits.{wait_at, jump, filled, AreWithin, Makes}
 
 -- ---- jumps with targets
 

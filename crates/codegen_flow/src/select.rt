@@ -2,10 +2,10 @@
 
 ghost use Rattle.std.specs.Prelude.{◌≡◌, ◌∷◌, ◌++◌, [], IfOk, None, OnOk, Some, cond, length, option_map, slice_set};
 ghost use Rattle.bytecode.specs.declared.instr.Instr.TheVariants as instrs;
-ghost use Rattle.codegen_emission.specs.Emitted.{control};
-ghost use Rattle.codegen_emission.specs.Closed.{closed, closed_one};
-ghost use Rattle.codegen_emission.specs.Waits.{continues, settled};
-ghost use Rattle.codegen_emission.specs.Ways.{any_control, behind_select, no_table, together};
+ghost use Rattle.codegen_flow.specs.Controls.{control};
+ghost use Rattle.codegen_flow.specs.Closed.{closed, closed_one};
+ghost use Rattle.codegen_flow.specs.Waits.{continues, settled};
+ghost use Rattle.codegen_flow.specs.Selects.{any_control, behind_select, no_table, together};
 ghost use Rattle.std.specs.Option.{is_some};
 
 use crate::flow::{Flow, join_way};

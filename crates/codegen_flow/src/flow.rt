@@ -1,7 +1,7 @@
 //! Where control goes from what was emitted.
 
 ghost use Rattle.std.specs.Prelude.{◌≡◌, ◌||◌, IfOk, OnOk};
-ghost use Rattle.codegen_emission.specs.Emitted.{control, either, joined, jumping, leading, may_end, never, through};
+ghost use Rattle.codegen_flow.specs.Controls.{control, either, joined, jumping, leading, may_end, never, through};
 
 use crate::waits::Wait;
 use codegen_expression::halt::Halt;

@@ -1,8 +1,8 @@
 -- The jumps over ways, closed from the last one on.
 use Rattle.std.proofs.Common.{◌≡◌, Bool, true, false, ◌||◌, List, [], ◌∷◌, ◌++◌, refl, sym, ap, ◌∙◌}
 use Rattle.bytecode.specs.declared.instr.Instr.{Instr}
-use Rattle.codegen_emission.specs.declared.select.Held.{Held}
-use Rattle.codegen_emission.specs.Closed.{are_some, closed, closed_one}
+use Rattle.codegen_flow.specs.declared.select.Held.{Held}
+use Rattle.codegen_flow.specs.Closed.{are_some, closed, closed_one}
 
 or_true : (b : Bool) → (b || true) ≡ true
 or_true true = refl

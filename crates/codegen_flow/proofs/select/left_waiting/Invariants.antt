@@ -1,6 +1,6 @@
 use Rattle.std.proofs.Common.{◌≡◌, ◌++◌, drop}
-use Rattle.codegen_emission.specs.Waits.{continues}
-use Rattle.codegen_emission.proofs.select.left_waiting.Given as goal
+use Rattle.codegen_flow.specs.Waits.{continues}
+use Rattle.codegen_flow.proofs.select.left_waiting.Given as goal
 
 -- those that were seen, and those of what is left
 abbrev pub invariant-loop-wait : goal.invariant-loop-wait

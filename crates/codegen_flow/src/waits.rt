@@ -1,7 +1,7 @@
 //! Jumps that wait for their targets.
 
 ghost use Rattle.std.specs.Prelude.{◌≡◌, cond, slice_set};
-ghost use Rattle.codegen_emission.specs.Waits.{filled};
+ghost use Rattle.codegen_flow.specs.Waits.{filled};
 
 use bytecode::Instr;
 

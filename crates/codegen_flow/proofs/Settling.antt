@@ -4,8 +4,8 @@ use Rattle.std.specs.Prelude.{slice_set}
 use Rattle.std.proofs.lemmas.List.{append-nil, drop_more}
 use Rattle.bytecode.specs.declared.instr.Instr.{Instr}
 use Rattle.bytecode.specs.declared.instr.Instr.TheVariants as instrs
-use Rattle.codegen_emission.specs.declared.waits.Wait.{Wait}
-use Rattle.codegen_emission.specs.Waits.{continues, settled}
+use Rattle.codegen_flow.specs.declared.waits.Wait.{Wait}
+use Rattle.codegen_flow.specs.Waits.{continues, settled}
 
 settled_both : (ws vs : List Wait) (stop : ℕ) (code : List Instr) → settled (ws ++ vs) stop code ≡ settled ws stop (settled vs stop code)
 settled_both [] vs stop code = refl

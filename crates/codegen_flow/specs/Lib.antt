@@ -1,0 +1,5 @@
+pub mod Waits
+pub mod Controls
+pub mod Closed
+pub mod Selects
+pub mod Branches
