@@ -29,11 +29,6 @@ use Rattle.codegen_emission.proofs.Emitting.{emits_nothing, keeps_both}
 pub next_clause : (i : ℕ) (one : ClauseNode) (all : List ClauseNode) → i < length all → one ≡ get_or all i one → clauses (map clause_of (drop i all)) ≡ Clause (clause_of one).comm (clause_of one).body (clauses (map clause_of (drop (i + 1) all)))
 next_clause i one all there is = ap (λ (l : List ClauseNode). clauses (map clause_of l)) (drop_more all i one there ∙ ap (λ x. x ∷ drop (i + 1) all) (sym is))
 
--- with no ways behind it is what it was
-pub together_none : (flow : Option Control) → together flow None ≡ flow
-together_none None = refl
-together_none (Some flow) = refl
-
 module _ (table : TypeTable) where
   as_it_is : (e0 e1 : Emitter) (flow : Control) (made : Made) → Emits table e0 e1 flow made → EmitsAs table e0 e1.code.items e1 flow made
   as_it_is e0 e1 flow made e = record { code_is = e.code; flows = e.flows; prints = e.prints; selects = e.selects; layout = e.layout; kept = e.kept }
