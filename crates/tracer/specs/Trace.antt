@@ -1,12 +1,12 @@
 -- The events of a run, one a line: the actor's clock, its number, what it asked and what came of it.
-use Rattle.std.specs.Prelude.{ℕ, ◌-◌, true, false, List, [], ◌∷◌, ◌++◌, Option, Some, None, codes, decimal, length, slice_get}
+use Rattle.std.specs.Prelude.{ℕ, ◌-◌, false, List, [], ◌∷◌, ◌++◌, Option, Some, None, codes, decimal, length, slice_get}
 use Rattle.std.specs.Fmt.{signed_decimal}
 use Rattle.std.specs.List.{flat_map}
-use Rattle.word.specs.declared.value.Word.TheVariants.{Int, Bool as Truth, Chan}
+use Rattle.word.specs.declared.value.Word.TheVariants.{Int, Chan}
 use Rattle.word.specs.declared.panic.Panic.{Panic as Cause}
 use Rattle.word.specs.declared.panic.Panic.TheVariants.{DivideByZero, SendOnClosed, CloseOfClosed, CloseOfNil, NegativeShift, ChannelSize, CallDepth, TooManyGoroutines, TooManyChannels}
 use Rattle.word.specs.declared.request.Case.{Case}
-use Rattle.word.specs.Values.{Item, Request, Make, Go, Send, Receive, Close, Select, Len, Cap, Print, End, Exit, Panic, Exhausted, Reply, Nothing, Value, Received, Clause, Default, Closed, EventOutcome, Done, Sleeps, Panics, Event}
+use Rattle.word.specs.Values.{Item, Request, Make, Go, Send, Receive, Close, Select, Len, Cap, Print, End, Exit, Panic, Exhausted, Value, Received, Clause, Default, EventOutcome, Done, Sleeps, Panics, Event}
 
 -- the number of a panic
 abbrev pub panic_number : Cause → ℕ
@@ -29,37 +29,32 @@ abbrev pub channel_text : Option ℕ → List ℕ
 channel_text None = codes "nil"
 channel_text (Some number) = decimal number
 
+-- what came of a request; `done` where it is done and its actor is told no more
+abbrev pub outcome_text : EventOutcome → (done : List ℕ) → List ℕ
+outcome_text (Done (Value (Int number))) done = signed_decimal number
+outcome_text (Done (Value (Chan channel))) done = channel_text channel
+outcome_text (Done (Received _ false)) done = codes "closed"
+outcome_text (Done (Clause _ (Some (_, false)))) done = codes "closed"
+outcome_text (Done Default) done = codes "default"
+outcome_text (Done _) done = done
+outcome_text Sleeps done = codes "sleeps"
+outcome_text (Panics cause _) done = panic_text cause
+
 -- the first partner behind this word, as `to 2`, or `done` where nobody was woken or started
 abbrev pub partner_text : (word : List ℕ) (partners : List ℕ) → List ℕ
 partner_text word [] = codes "done"
 partner_text word (number ∷ _) = word ++ decimal number
 
--- what the actor is told where it is worth a word, else `done`
-abbrev pub reply_text : Reply → (done : List ℕ) → List ℕ
-reply_text Nothing done = done
-reply_text (Value (Int number)) done = signed_decimal number
-reply_text (Value (Truth _)) done = done
-reply_text (Value (Chan channel)) done = channel_text channel
-reply_text (Received _ true) done = done
-reply_text (Received _ false) done = codes "closed"
-reply_text (Clause _ None) done = done
-reply_text (Clause _ (Some (_, true))) done = done
-reply_text (Clause _ (Some (_, false))) done = codes "closed"
-reply_text Default done = codes "default"
-reply_text Closed done = done
-
--- what came of a request, its first partner behind this word
-abbrev pub outcome_text : (word : List ℕ) → EventOutcome → (partners : List ℕ) → List ℕ
-outcome_text word (Done reply) partners = reply_text reply (partner_text word partners)
-outcome_text word Sleeps partners = codes "sleeps"
-outcome_text word (Panics cause _) partners = panic_text cause
+-- what came of an event's request, its first partner behind this word
+abbrev pub result_text : (word : List ℕ) → Event → List ℕ
+result_text word e = outcome_text e.outcome (partner_text word e.partners)
 
 -- a send, as `send 1 to 2`, and a receive, as `receive 1 closed`
-abbrev pub send_text : Option ℕ → Event → List ℕ
-send_text channel e = codes "send " ++ channel_text channel ++ codes " " ++ outcome_text (codes "to ") e.outcome e.partners
+abbrev pub send_text : (channel : Option ℕ) → Event → List ℕ
+send_text channel e = codes "send " ++ channel_text channel ++ codes " " ++ result_text (codes "to ") e
 
-abbrev pub receive_text : Option ℕ → Event → List ℕ
-receive_text channel e = codes "receive " ++ channel_text channel ++ codes " " ++ outcome_text (codes "from ") e.outcome e.partners
+abbrev pub receive_text : (channel : Option ℕ) → Event → List ℕ
+receive_text channel e = codes "receive " ++ channel_text channel ++ codes " " ++ result_text (codes "from ") e
 
 -- what stands behind `close 1`: nothing, the partners, as ` wakes 2 3`, or a panic
 abbrev pub close_text : EventOutcome → (partners : List ℕ) → List ℕ
@@ -81,23 +76,23 @@ operation_text None channel e = receive_text channel e
 
 abbrev pub clause_text : Option Case → Event → List ℕ
 clause_text (Some clause) e = operation_text clause.item clause.chan e
-clause_text None e = outcome_text [] e.outcome e.partners
+clause_text None e = result_text [] e
 
 -- what stands behind `select `, as `case 1 receive 2 done`
 abbrev pub select_text : List Case → (number : Option ℕ) → Event → List ℕ
-select_text cases None e = outcome_text [] e.outcome e.partners
+select_text cases None e = result_text [] e
 select_text cases (Some number) e = codes "case " ++ decimal number ++ codes " " ++ clause_text (slice_get cases (number - 1)) e
 
 -- what was asked and what came of it
 abbrev pub request_text : Request → Event → List ℕ
-request_text (Make _ _) e = codes "make " ++ outcome_text [] e.outcome e.partners
-request_text (Go _ _) e = codes "go " ++ outcome_text [] e.outcome e.partners
+request_text (Make _ _) e = codes "make " ++ result_text [] e
+request_text (Go _ _) e = codes "go " ++ result_text [] e
 request_text (Send channel _) e = send_text channel e
 request_text (Receive channel) e = receive_text channel e
 request_text (Close channel) e = codes "close " ++ channel_text channel ++ close_text e.outcome e.partners
 request_text (Select cases _) e = codes "select " ++ select_text cases (clause_number e.outcome) e
-request_text (Len channel) e = codes "len " ++ channel_text channel ++ codes " " ++ outcome_text [] e.outcome e.partners
-request_text (Cap channel) e = codes "cap " ++ channel_text channel ++ codes " " ++ outcome_text [] e.outcome e.partners
+request_text (Len channel) e = codes "len " ++ channel_text channel ++ codes " " ++ result_text [] e
+request_text (Cap channel) e = codes "cap " ++ channel_text channel ++ codes " " ++ result_text [] e
 request_text (Print bytes) e = codes "print " ++ decimal (length bytes)
 request_text End e = codes "end"
 request_text Exit e = codes "exit"

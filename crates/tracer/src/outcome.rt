@@ -3,7 +3,7 @@
 ghost use Rattle.std.specs.Prelude.{◌≡◌, Some};
 ghost use Rattle.std.specs.Fmt.{DisplaysOnOk};
 ghost use Rattle.word.specs.Views.{event_of};
-ghost use Rattle.tracer.specs.Trace.{channel_text, outcome_text, panic_number, panic_text, partner_text};
+ghost use Rattle.tracer.specs.Trace.{channel_text, panic_number, panic_text, partner_text, result_text};
 
 use std::fmt;
 use word::panic::Panic;
@@ -63,7 +63,7 @@ pub(crate) struct Outcome<'a> {
 }
 
 impl fmt::Display for Outcome<'_> {
-    ghost output = { λ o. let e = event_of o.event.now in Some (outcome_text o.word.now e.outcome e.partners) };
+    ghost output = { λ outcome. Some (result_text outcome.word.now (event_of outcome.event.now)) };
 
     fn fmt<W: fmt::Write>(&self, f: &mut fmt::Formatter<W>) -> fmt::Result {
         match &self.event.outcome {
