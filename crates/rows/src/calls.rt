@@ -13,6 +13,9 @@ use word::end::End;
 use word::panic::Panic;
 use word::{Flagged, Write, WriteFault};
 
+/// A text that prints twice.
+const TWO_PRINTS: &[u8] = b"package main; func main() { println(12); println(3) }".as_slice();
+
 /// Takes one byte a call, and fails at its n-th call and from then on.
 #[derive(Drop)]
 struct Slow {
@@ -20,6 +23,18 @@ struct Slow {
     calls: u64,
     fails_at: u64,
     failed: bool,
+}
+
+impl Slow {
+    /// Has taken nothing yet.
+    fn new(alloc: Global, fails_at: u64) -> Slow {
+        Slow {
+            taken: Vec::new(alloc),
+            calls: 0,
+            fails_at,
+            failed: false,
+        }
+    }
 }
 
 impl Write for Slow {
@@ -40,7 +55,7 @@ impl Write for Slow {
     }
 }
 
-/// Sees whether a run whose writer fails stops there, and tells it.
+/// Sees whether a run whose output can't be written stops there, and tells it.
 pub(crate) fn check_failing_writers<R: Wait>(rt: &R, alloc: Global) -> Result<(), Flaw> {
     for (fails_at, written, line) in [
         (1, "", "kendo: 14 Write\n"),
@@ -48,19 +63,34 @@ pub(crate) fn check_failing_writers<R: Wait>(rt: &R, alloc: Global) -> Result<()
         (5, "12\n3", "kendo: 14 Write\n"),
         (6, "12\n3\n", ""),
     ] {
-        let text = b"package main; func main() { println(12); println(3) }".as_slice();
-        let bytes = Vec::from_slice(alloc, text)?;
-        let mut out = Slow {
-            taken: Vec::new(alloc),
-            calls: 0,
-            fails_at,
-            failed: false,
-        };
+        let mut out = Slow::new(alloc, fails_at);
         let mut trace = Flagged::new(Vec::new(alloc));
+        let bytes = Vec::from_slice(alloc, TWO_PRINTS)?;
         let outcome = run_bytes(rt, alloc, bytes, LIMIT, 4, &Open, &mut out, &mut trace);
-        let status = if line.is_empty() { 0 } else { 6 };
-        check_report(alloc, &outcome, line, status)?;
+        check_report(alloc, &outcome, line, if line.is_empty() { 0 } else { 6 })?;
         same(alloc, "the output", written.as_bytes(), &out.taken)?;
+    }
+    Ok(())
+}
+
+/// Sees whether a run whose trace can't be written stops there, and tells it.
+pub(crate) fn check_failing_traces<R: Wait>(rt: &R, alloc: Global) -> Result<(), Flaw> {
+    for (fails_at, written, line) in [
+        (1, "", "kendo: 14 Write\n"),
+        (14, "0 1 print 3\n1", "kendo: 14 Write\n"),
+        (
+            33,
+            "0 1 print 3\n1 1 print 2\n2 1 exit",
+            "kendo: 14 Write\n",
+        ),
+        (34, "0 1 print 3\n1 1 print 2\n2 1 exit\n", ""),
+    ] {
+        let mut out = Flagged::new(Vec::new(alloc));
+        let mut trace = Slow::new(alloc, fails_at);
+        let bytes = Vec::from_slice(alloc, TWO_PRINTS)?;
+        let outcome = run_bytes(rt, alloc, bytes, LIMIT, 4, &Open, &mut out, &mut trace);
+        check_report(alloc, &outcome, line, if line.is_empty() { 0 } else { 6 })?;
+        same(alloc, "the trace", written.as_bytes(), &trace.taken)?;
     }
     Ok(())
 }

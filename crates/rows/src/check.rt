@@ -3,8 +3,8 @@
 use crate::flaw::{Flaw, same};
 use crate::folder::{FileKind, Made, RowFile};
 use crate::reading::{listing, spans, tokens};
-use crate::run::check_runs;
-use crate::trace::trace;
+use crate::run::{Ran, check_runs};
+use crate::trace::settled_lines;
 use std::alloc::Global;
 use std::rt::Files;
 use std::sync::Wait;
@@ -30,6 +30,7 @@ pub(crate) fn check<R: Files + AllocGlobal + Wait>(
             Some(_) => Ok(()),
             None => check_run(rt, file),
         },
+        FileKind::Trace => check_trace(rt, file),
         FileKind::Made(made) => check_made(rt, file, made),
     }
 }
@@ -54,6 +55,21 @@ fn check_run<R: Files + AllocGlobal + Wait>(rt: &R, file: &RowFile<'_>) -> Resul
     check_runs(rt, rt.alloc(), &text, &row, &output)
 }
 
+/// Sees whether a text has the events that its `.trace` tells: those that settling commits, and those that a run writes, with
+/// each number of workers of its row.
+fn check_trace<R: Files + AllocGlobal + Wait>(rt: &R, file: &RowFile<'_>) -> Result<(), Flaw> {
+    let alloc = rt.alloc();
+    let (text, wanted, row) = (file.text(rt)?, file.bytes(rt)?, file.row(rt)?);
+    let settled = settled_lines(alloc, &text, row.limit)?;
+    same_lines(alloc, "the events that are settled", &wanted, &settled)?;
+    for workers in row.workers.iter() {
+        let ran = Ran::of(rt, alloc, &text, row.limit, *workers)?;
+        let what = format!(in alloc; "the trace (--workers {workers})")?;
+        same_lines(alloc, &what, &wanted, &ran.trace)?;
+    }
+    Ok(())
+}
+
 /// Sees whether what a file tells is made of its text.
 fn check_made<R: Files + AllocGlobal>(rt: &R, file: &RowFile<'_>, made: Made) -> Result<(), Flaw> {
     let alloc = rt.alloc();
@@ -63,7 +79,6 @@ fn check_made<R: Files + AllocGlobal>(rt: &R, file: &RowFile<'_>, made: Made) ->
         Made::Listing => ("the listing", listing(alloc, &text)?),
         Made::Spans => ("the spans", spans(alloc, &text)?),
         Made::Tokens => ("the tokens", tokens(alloc, &text)?),
-        Made::Trace => ("the trace", trace(alloc, &text, file.row(rt)?.limit)?),
     };
     same_lines(alloc, what, &wanted, &came)
 }

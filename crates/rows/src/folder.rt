@@ -20,6 +20,8 @@ pub(crate) enum FileKind {
     Row,
     /// `.out`: what its run writes.
     Output,
+    /// `.trace`: the events of its run.
+    Trace,
     /// What is made of it.
     Made(Made),
 }
@@ -33,8 +35,6 @@ pub(crate) enum Made {
     Spans,
     /// `.tokens`: its tokens.
     Tokens,
-    /// `.trace`: the events of its run.
-    Trace,
 }
 
 impl FileKind {
@@ -49,14 +49,17 @@ impl FileKind {
             "list" => Some(FileKind::Made(Made::Listing)),
             "spans" => Some(FileKind::Made(Made::Spans)),
             "tokens" => Some(FileKind::Made(Made::Tokens)),
-            "trace" => Some(FileKind::Made(Made::Trace)),
+            "trace" => Some(FileKind::Trace),
             _ => None,
         }
     }
 
     /// Whether such a file tells something of the text beside it.
     fn tells(self) -> bool {
-        matches!(self, FileKind::Row | FileKind::Output | FileKind::Made(_))
+        matches!(
+            self,
+            FileKind::Row | FileKind::Output | FileKind::Trace | FileKind::Made(_)
+        )
     }
 }
 

@@ -19,7 +19,7 @@ mod table;
 mod trace;
 mod written;
 
-use calls::{check_failing_writers, check_panics, check_refusals};
+use calls::{check_failing_traces, check_failing_writers, check_panics, check_refusals};
 use check::check;
 use flaw::Flaw;
 use folder::{FileKind, RowFile, names, utf8};
@@ -96,6 +96,7 @@ impl Report {
     /// What no text reaches.
     fn calls<R: AllocGlobal + Print + Wait>(&mut self, rt: &R) -> io::Result<()> {
         self.tell(rt, "failing writers", check_failing_writers(rt, rt.alloc()))?;
+        self.tell(rt, "failing traces", check_failing_traces(rt, rt.alloc()))?;
         self.tell(rt, "panics", check_panics(rt.alloc()))?;
         self.tell(rt, "refusals", check_refusals(rt.alloc()))
     }

@@ -28,8 +28,9 @@ pub(crate) struct Ran {
     pub line: Vec<u8>,
     /// The exit status.
     status: u8,
-    /// What was written.
+    /// What was written of the output, and of the trace.
     output: Vec<u8>,
+    pub trace: Vec<u8>,
 }
 
 impl Ran {
@@ -47,25 +48,31 @@ impl Ran {
         let outcome = run_bytes(
             rt, alloc, bytes, limit, workers, &Open, &mut out, &mut trace,
         );
-        Ran::told(alloc, outcome, out.into_inner())
+        Ran::told(alloc, outcome, out.into_inner(), trace.into_inner())
     }
 
-    /// The run of a text by the interpreter.
+    /// The run of a text by the interpreter, which writes no trace.
     fn interpreted(alloc: Global, text: &[u8], limit: u64) -> Result<Ran, Flaw> {
         let bytes = Vec::from_slice(alloc, text)?;
         let mut out = Flagged::new(Vec::new(alloc));
         let outcome = reference_bytes(alloc, bytes, limit, &mut out);
-        Ran::told(alloc, outcome, out.into_inner())
+        Ran::told(alloc, outcome, out.into_inner(), Vec::new(alloc))
     }
 
     /// What came of a run, with the line and the status that tell it.
-    fn told(alloc: Global, outcome: Result<End, Fault>, output: Vec<u8>) -> Result<Ran, Flaw> {
+    fn told(
+        alloc: Global,
+        outcome: Result<End, Fault>,
+        output: Vec<u8>,
+        trace: Vec<u8>,
+    ) -> Result<Ran, Flaw> {
         let (line, status) = report(alloc, &outcome).map_err(Fault::from)?;
         Ok(Ran {
             outcome,
             line,
             status,
             output,
+            trace,
         })
     }
 

@@ -11,8 +11,8 @@ use tracer::line;
 /// How many local steps a lease makes before it is brought back: the fewest, so that there are the most turns.
 const QUANTUM: u32 = 1;
 
-/// The events of a text's run up to this clock limit, one a line.
-pub(crate) fn trace(alloc: Global, text: &[u8], limit: u64) -> Result<Vec<u8>, Flaw> {
+/// The lines of the events that settling commits, up to this clock limit.
+pub(crate) fn settled_lines(alloc: Global, text: &[u8], limit: u64) -> Result<Vec<u8>, Flaw> {
     let program = Arc::new(alloc, program(alloc, text)?)?;
     let mut book = Book::open(alloc, program, limit)?;
     let mut lines = Vec::new(alloc);
