@@ -1,5 +1,5 @@
 """Runs one program in every way that is asked for, and says what differs."""
-import collections, functools, random, shlex, subprocess
+import collections, functools, itertools, random, shlex, subprocess
 
 import interpret
 import parse
@@ -10,7 +10,7 @@ SECONDS = 120
 CLOCK, MOVES = 300000, 1000000
 
 # What came of a run.
-Ran = collections.namedtuple("Ran", "output line status")
+Ran = collections.namedtuple("Ran", "output line status trace", defaults=[b""])
 
 
 class Product:
@@ -31,7 +31,7 @@ def interpreted(text, limit):
     """What the interpreter says of a run."""
     world = interpret.run(text, limit)
     line, status = interpret.ended(world.end)
-    return Ran(b"".join(world.output), line.encode(), status)
+    return Ran(b"".join(world.output), line.encode(), status, "".join(f"{event}\n" for event in world.events).encode())
 
 
 def ends_by_itself(text):
@@ -52,10 +52,10 @@ def difference(one, other):
     for name in Ran._fields:
         left, right = getattr(one, name), getattr(other, name)
         if left != right:
-            if name != "output":
+            if name not in ("output", "trace"):
                 return f"{name}: {left!r} and {right!r}"
             at = next((at for at, pair in enumerate(zip(left, right)) if pair[0] != pair[1]), min(len(left), len(right)))
-            return f"output at byte {at}: {left[at:at + 40]!r} and {right[at:at + 40]!r}"
+            return f"{name} at byte {at}: {left[at:at + 40]!r} and {right[at:at + 40]!r}"
     return None
 
 
@@ -71,8 +71,12 @@ class Trial:
         return difference(came, Ran(b"", b"", 0))
 
     def run(self, file, limit, workers):
-        words = ["--limit", limit] if limit else []
-        return self.product.ran("run", file, *words, *(["--workers", workers] if workers else []))
+        words = ["run", file, *(["--limit", limit] if limit else []), "--workers", workers]
+        if not self.given.trace:
+            return self.product.ran(*words)
+        trace = file.with_suffix(".trace")
+        came = self.product.ran(*words, "--trace", trace)
+        return came._replace(trace=trace.read_bytes() if trace.exists() else b"")
 
     def reference(self, file, limit):
         return self.product.ran("reference", file, *(["--limit", limit] if limit else []))
@@ -82,9 +86,12 @@ class Trial:
         first, found = ("reference", {}) if self.given.no_run else ("run", {})
         came = self.reference(file, limit) if self.given.no_run else self.run(file, limit, workers)
         if not self.given.no_reference and not self.given.no_run:
-            found["run and reference"] = difference(came, self.reference(file, limit))
+            found["run and reference"] = difference(came, self.reference(file, limit)._replace(trace=came.trace))
         if self.given.oracle or self.given.no_run:
-            found[f"{first} and interpreter"] = difference(came, interpreted(text, limit or interpret.LIMIT))
+            wanted = interpreted(text, limit or interpret.LIMIT)
+            found[f"{first} and interpreter"] = difference(came, wanted if self.given.trace else wanted._replace(trace=b""))
+        for time, other in itertools.product(range(self.given.times), self.given.workers):
+            found[f"run and run {time + 1} with --workers {other}"] = difference(came, self.run(file, limit, other))
         how = f"{f'--limit {limit}' if limit else 'no limit'}, --workers {workers}"
         return [f"{what} with {how}: {it}" for what, it in found.items() if it]
 
