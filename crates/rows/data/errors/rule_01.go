@@ -1,0 +1,5 @@
+package main
+
+func start() {
+	println(1)
+}

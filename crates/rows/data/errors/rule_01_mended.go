@@ -1,0 +1,9 @@
+package main
+
+func main() {
+	start()
+}
+
+func start() {
+	println(1)
+}

@@ -1,0 +1,6 @@
+package main
+
+func main() {
+	ready := true
+	println(ready + 1)
+}

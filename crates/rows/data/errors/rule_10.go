@@ -1,0 +1,7 @@
+package main
+
+func main() {
+	_ = 3
+	_++
+	println(1)
+}

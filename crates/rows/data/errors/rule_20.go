@@ -1,0 +1,12 @@
+package main
+
+func main() {
+	c := make(chan int)
+	select {
+	case <-c:
+	default:
+		println(1)
+	default:
+		println(2)
+	}
+}
