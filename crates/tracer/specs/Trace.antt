@@ -1,11 +1,15 @@
 -- The events of a run, one a line: the actor's clock, its number, what it asked and what came of it.
-use Rattle.std.specs.Prelude.{ℕ, ◌-◌, false, List, [], ◌∷◌, ◌++◌, Option, Some, None, codes, decimal, length, slice_get}
+use Rattle.std.specs.Prelude.{◌≡◌, ℕ, ◌-◌, false, List, [], ◌∷◌, ◌++◌, Option, Some, None, codes, decimal, length, slice_get, take}
 use Rattle.std.specs.Fmt.{signed_decimal}
+use Rattle.std.specs.Io.KnownBytes.{Appends}
 use Rattle.std.specs.List.{flat_map}
 use Rattle.word.specs.declared.value.Word.TheVariants.{Int, Chan}
 use Rattle.word.specs.declared.panic.Panic.{Panic as Cause}
 use Rattle.word.specs.declared.panic.Panic.TheVariants.{DivideByZero, SendOnClosed, CloseOfClosed, CloseOfNil, NegativeShift, ChannelSize, CallDepth, TooManyGoroutines, TooManyChannels}
 use Rattle.word.specs.declared.request.Case.{Case}
+use Rattle.word.specs.declared.end.End.{End as Ending}
+use Rattle.word.specs.Kinds.{GoroutineKind}
+use Rattle.word.specs.Worlds.{end_of, moment}
 use Rattle.word.specs.Values.{Item, Request, Make, Go, Send, Receive, Close, Select, Len, Cap, Print, End, Exit, Panic, Exhausted, Value, Received, Clause, Default, EventOutcome, Done, Sleeps, Panics, Event}
 
 -- the number of a panic
@@ -56,11 +60,15 @@ send_text channel e = codes "send " ++ channel_text channel ++ codes " " ++ resu
 abbrev pub receive_text : (channel : Option ℕ) → Event → List ℕ
 receive_text channel e = codes "receive " ++ channel_text channel ++ codes " " ++ result_text (codes "from ") e
 
--- what stands behind `close 1`: nothing, the partners, as ` wakes 2 3`, or a panic
+-- those whom a close wakes, as ` wakes 2 3`
+abbrev pub woken_text : (woken : List ℕ) → List ℕ
+woken_text [] = []
+woken_text (first ∷ rest) = codes " wakes" ++ flat_map (λ number. codes " " ++ decimal number) (first ∷ rest)
+
+-- what stands behind `close 1`: nothing, the partners, or a panic
 abbrev pub close_text : EventOutcome → (partners : List ℕ) → List ℕ
 close_text (Panics cause _) partners = codes " " ++ panic_text cause
-close_text (Done _) [] = []
-close_text (Done _) (first ∷ rest) = codes " wakes" ++ flat_map (λ number. codes " " ++ decimal number) (first ∷ rest)
+close_text (Done _) partners = woken_text partners
 close_text Sleeps partners = codes " sleeps"
 
 -- the clause of a select that was done or panicked, counted from 1
@@ -106,3 +114,12 @@ traceline e = decimal e.clock ++ codes " " ++ decimal e.number ++ codes " " ++ r
 -- the lines of all events, in order
 abbrev pub trace : List Event → List ℕ
 trace events = flat_map traceline events
+
+-- what was written after the old contents begins the trace of the one-thread run
+abbrev pub BeginsTrace : GoroutineKind → ℕ → Option (List ℕ) → Option (List ℕ) → Type 0
+BeginsTrace K limit old new = (n : ℕ) × (k : ℕ) × Appends old new (take k (trace (moment K limit n).shared.shared.events))
+
+-- it is all of it, and the run ends so
+abbrev pub IsWholeTrace : GoroutineKind → ℕ → Option (List ℕ) → Option (List ℕ) → Ending → Type 0
+IsWholeTrace K limit old new ending =
+    (n : ℕ) × Appends old new (trace (moment K limit n).shared.shared.events) × (end_of (moment K limit n) ≡ Some ending)
