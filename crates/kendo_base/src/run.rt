@@ -6,6 +6,7 @@ ghost use Rattle.kendo_base.specs.Reading.{HasNoReading, IsRefusal, IsWhy, Reads
 ghost use Rattle.kendo_base.specs.Runs.{IsWorkers};
 ghost use Rattle.one_thread.specs.Worlds.{BeginsOutput, IsLimit, IsWhole};
 ghost use Rattle.syntax.specs.Tree.{File};
+ghost use Rattle.tracer.specs.Trace.{BeginsTrace, IsWholeTrace};
 
 use crate::gate::Gate;
 use crate::reading::read;
@@ -17,8 +18,9 @@ use word::Write;
 use word::end::End;
 
 /// Runs the program that a text is, up to the clock limit (1 to 2^62 steps) on 1 to 64 workers,
-/// and answers how it ended. What is written begins the output of the one-thread run; at an end
-/// it is all of it. A text without a reading is refused before anything is written.
+/// and answers how it ended. What is written to `out` begins the output of the one-thread run, and
+/// what is written to `trace` a line for each of its events; at an end it is all of both. A text
+/// without a reading is refused before anything is written.
 ///
 /// Errors: by the numbers 1 to 10 why it is none, with line and column; `Memory`; `Write`; `BadWorkers`; `BadLimit`.
 #[tactic(auto, using(crate::proofs::Spelled::grammatical, crate::proofs::Spelled::limited))]
@@ -30,7 +32,7 @@ pub fn run_bytes<R: Wait, G: Gate, O: Write, T: Write>(
     workers: u64,
     _gate: &G,
     out: &mut O,
-    _trace: &mut T,
+    trace: &mut T,
 ) -> Result<End, Fault>
     ensures workers { IsErrOf result Fault.BadWorkers ↔ (IsWorkers workers → ⊥) }
     ensures limit { IsErrOf result Fault.BadLimit ↔ (IsWorkers workers × (IsLimit limit → ⊥)) }
@@ -40,9 +42,11 @@ pub fn run_bytes<R: Wait, G: Gate, O: Write, T: Write>(
     ensures begins { (O.contents out.new ≡ O.contents out.old) ⊎ ((file : File) × Reads bytes.items file × BeginsOutput (source_kind file) limit (O.contents out.old) (O.contents out.new)) }
     ensures nothing { IfErr result (λ fault. (fault ≡ Fault.Memory → ⊥) → (fault ≡ Fault.Write → ⊥) → O.contents out.new ≡ O.contents out.old) }
     ensures whole { IfOk result (λ end. (file : File) × Reads bytes.items file × IsWhole (source_kind file) limit (O.contents out.old) (O.contents out.new) end) }
-    ensures write { IsErrOf result Fault.Write → O.has_failed out.new ≡ true }
+    ensures traces { (T.contents trace.new ≡ T.contents trace.old) ⊎ ((file : File) × Reads bytes.items file × BeginsTrace (source_kind file) limit (T.contents trace.old) (T.contents trace.new)) }
+    ensures untraced { IfErr result (λ fault. (fault ≡ Fault.Memory → ⊥) → (fault ≡ Fault.Write → ⊥) → T.contents trace.new ≡ T.contents trace.old) }
+    ensures traced { IfOk result (λ end. (file : File) × Reads bytes.items file × IsWholeTrace (source_kind file) limit (T.contents trace.old) (T.contents trace.new) end) }
+    ensures write { IsErrOf result Fault.Write → (O.has_failed out.new ≡ true) ⊎ (T.has_failed trace.new ≡ true) }
     ensures reading { IsErrOf result Fault.Write → (file : File) × Reads bytes.items file }
-    ensures trace { _trace.new ≡ _trace.old }
 {
     if workers < 1 || workers > 64 {
         return Err(Fault::BadWorkers);
@@ -51,6 +55,6 @@ pub fn run_bytes<R: Wait, G: Gate, O: Write, T: Write>(
         return Err(Fault::BadLimit);
     }
     let (_source, typed) = read(alloc, bytes)?;
-    let end = run_typed(rt, alloc, &typed, limit, out)?;
+    let end = run_typed(rt, alloc, &typed, limit, out, trace)?;
     Ok(end)
 }
