@@ -1,0 +1,119 @@
+-- Pieces of what a run writes, joined.
+use Rattle.std.proofs.Common.{◌≡◌, ℕ, zero, suc, ◌+◌, ◌-◌, ◌≤◌, List, [], ◌∷◌, ◌++◌, length, take, drop, Option, Some, None, refl, sym, ap, ◌∙◌, subst, arith, append_assoc, length-append, append-nil}
+use Rattle.std.specs.Io.KnownBytes.{Appends}
+use Rattle.std.proofs.lemmas.List.{take-append-le, drop-append-le, length-drop, length-take-le}
+use Rattle.std.proofs.lemmas.List.Concat.{flat_map-append}
+use Rattle.std.proofs.Math.Seq.{take-add, take-length}
+use Rattle.bytecode.specs.Machine.{code_kind}
+use Rattle.output.specs.Progress.{Run}
+use Rattle.output.specs.declared.piece.Kind.{Kind}
+use Rattle.output.specs.declared.piece.Kind.TheVariants.{Output, Trace}
+use Rattle.tracer.specs.Trace.{trace, traceline}
+use Rattle.turn_rule.specs.Schedule.{IsPrefixOf}
+use Rattle.turn_rule.specs.Turns.{World, run as moved}
+use Rattle.turn_rule.proofs.Stable.{run_add}
+use Rattle.word.specs.declared.end.End.{End as Ending}
+use Rattle.word.specs.Kinds.{Clocked, GoroutineKind}
+use Rattle.word.specs.Values.{Event}
+use Rattle.word.specs.Worlds.{Rest, moment, opening, rules}
+use Rattle.word.proofs.Laws.{laws}
+use Rattle.word.proofs.Outputs.{outputs_begin}
+use Rattle.word.proofs.Records.{events_begin}
+use Rattle.worker_pool.specs.Runs.{Begins, EndsAt, IsAll, StandsAt, Written, bytes_at, bytes_in}
+
+pub appends_more : (old mid new : Option (List ℕ)) (xs ys : List ℕ) → Appends old mid xs → Appends mid new ys → Appends old new (xs ++ ys)
+appends_more None mid new xs ys a b = tt
+appends_more (Some os) None new xs ys a b = absurd a
+appends_more (Some os) (Some ms) None xs ys a b = absurd b
+appends_more (Some os) (Some ms) (Some ns) xs ys a b = b ∙ ap (λ zs. zs ++ ys) a ∙ append_assoc os xs ys
+
+pub appends_none : (old : Option (List ℕ)) → Appends old old []
+appends_none None = tt
+appends_none (Some xs) = sym (append-nil xs)
+
+-- a piece of a list is one of each that the list begins
+longer_piece : (xs ys : List ℕ) (from size : ℕ) → IsPrefixOf xs ys → from + size ≤ length xs → (from + size ≤ length ys) × (take size (drop from ys) ≡ take size (drop from xs))
+longer_piece xs ys from size p fits =
+    let l = ap length p.1 in
+    let m = length-append xs p.0 in
+    let d = length-drop from xs in (
+      omega (arith, fits, l, m),
+      ap (λ zs. take size (drop from zs)) (sym p.1) ∙ ap (take size) (drop-append-le from xs p.0 (omega (arith, fits))) ∙ take-append-le size (drop from xs) p.0 (omega (arith, fits, d)),
+    )
+
+taken_twice : (xs : List ℕ) (a b : ℕ) → a ≤ b → take a (take b xs) ≡ take a xs
+taken_twice xs zero b le = refl
+taken_twice [] (suc a) zero le = refl
+taken_twice [] (suc a) (suc b) le = refl
+taken_twice (x ∷ xs) (suc a) zero le = absurd (omega (arith, le))
+taken_twice (x ∷ xs) (suc a) (suc b) le = ap (λ ys. x ∷ ys) (taken_twice xs a b (omega (arith, le)))
+
+-- two pieces one behind the other, as both lie in one list
+joined : (out xs ys : List ℕ) (k : ℕ) → k ≤ length ys → length xs + length ys ≤ length out → take (length xs) out ≡ xs → take (length ys) (drop (length xs) out) ≡ ys → take (length (xs ++ take k ys)) out ≡ xs ++ take k ys
+joined out xs ys k le fits front back =
+    let l : length (xs ++ take k ys) ≡ length xs + k = length-append xs (take k ys) ∙ ap (λ n. length xs + n) (length-take-le k ys le) in
+    ap (λ n. take n out) l ∙ take-add (length xs) k out ∙ ap (λ zs. zs ++ take k (drop (length xs) out)) front
+    ∙ ap (λ zs. xs ++ zs) (sym (taken_twice (drop (length xs) out) k (length ys) le) ∙ ap (take k) back)
+
+-- ---- what a run writes is only lengthened
+
+events_longer : (K : GoroutineKind) (limit n m : ℕ) → n ≤ m → IsPrefixOf (moment K limit n).shared.shared.events (moment K limit m).shared.shared.events
+events_longer K limit n m le =
+    let z : n + (m - n) ≡ m = omega (arith, le) in
+    let p = events_begin K limit n (m - n) in
+    (p.0, p.1 ∙ ap (λ (x : World (Clocked K.State) (Rest K.State)). x.shared.shared.events) (sym (run_add (rules K limit) (laws K limit) n (m - n) (opening K)) ∙ ap (λ k. moment K limit k) z))
+
+trace_longer : (xs ys : List Event) → IsPrefixOf xs ys → IsPrefixOf (trace xs) (trace ys)
+trace_longer xs ys p = (trace p.0, sym (flat_map-append traceline xs p.0) ∙ ap trace p.1)
+
+kind_longer : (kind : Kind) (K : GoroutineKind) (limit n m : ℕ) → n ≤ m → IsPrefixOf (bytes_in kind (moment K limit n).shared.shared) (bytes_in kind (moment K limit m).shared.shared)
+kind_longer Output K limit n m le = outputs_begin K limit n m le
+kind_longer Trace K limit n m le = trace_longer (moment K limit n).shared.shared.events (moment K limit m).shared.shared.events (events_longer K limit n m le)
+
+module _ (run : Run) where
+  bytes_longer : (n m : ℕ) → n ≤ m → IsPrefixOf (bytes_at run n) (bytes_at run m)
+  bytes_longer n m le = kind_longer run.kind (code_kind run.program) run.limit n m le
+
+  -- a piece stands there later too
+  piece_later : (from : ℕ) (bytes : List ℕ) (p : StandsAt run from bytes) (m : ℕ) → p.0 ≤ m → (from + length bytes ≤ length (bytes_at run m)) × (take (length bytes) (drop from (bytes_at run m)) ≡ bytes)
+  piece_later from bytes p m le =
+      let q = longer_piece (bytes_at run p.0) (bytes_at run m) from (length bytes) (bytes_longer p.0 m le) p.1 in
+      (q.0, q.1 ∙ p.2)
+
+  pieces_join : (xs ys : List ℕ) (k : ℕ) → k ≤ length ys → StandsAt run 0 xs → StandsAt run (length xs) ys → StandsAt run 0 (xs ++ take k ys)
+  pieces_join xs ys k le p q =
+      let m = p.0 + q.0 in
+      let a = piece_later 0 xs p m (omega arith) in
+      let b = piece_later (length xs) ys q m (omega arith) in
+      let l = length-append xs (take k ys) in
+      let t = length-take-le k ys le in
+      let size = b.0 in
+      (m, omega (arith, l, t, size, le), joined (bytes_at run m) xs ys k le b.0 a.1 b.1)
+
+  -- the first k bytes of the next piece are written
+  pub written_more : (known old new : Option (List ℕ)) (place from k : ℕ) (bytes : List ℕ) → from ≡ place → StandsAt run from bytes → k ≤ length bytes → Appends old new (take k bytes) → Written run known old place → Written run known new (place + k)
+  written_more known old new place from k bytes at p le a w =
+      let e = w.3 in
+      let q : StandsAt run (length w.0) bytes = subst (λ n. StandsAt run n bytes) (at ∙ sym e) p in
+      let l = length-append w.0 (take k bytes) in
+      let t = length-take-le k bytes le in
+      (w.0 ++ take k bytes, appends_more known old new w.0 (take k bytes) w.1 a, pieces_join w.0 bytes k le w.2 q, omega (arith, e, l, t))
+
+  -- nothing is written yet
+  pub written_none : (known : Option (List ℕ)) → Written run known known 0
+  written_none known = ([], appends_none known, (0, omega arith, refl), refl)
+
+  pub written_begins : (known new : Option (List ℕ)) (place : ℕ) → Written run known new place → Begins run known new
+  written_begins known new place w = (w.2.0, length w.0, subst (Appends known new) (sym w.2.2) w.1)
+
+  -- what was written up to the end is all of it
+  pub written_all : (known new : Option (List ℕ)) (size : ℕ) (ending : Ending) → Written run known new size → EndsAt run size ending → IsAll run known new ending
+  written_all known new size ending w e =
+      let m = e.0 + w.2.0 in
+      let a = piece_later 0 w.0 w.2 m (omega arith) in
+      let p = bytes_longer e.0 m (omega arith) in
+      let out = bytes_at run e.0 in
+      let big = longer_piece out (bytes_at run m) 0 (length out) p (omega arith) in
+      let len : length w.0 ≡ length out = w.3 ∙ sym e.1 in
+      let same : w.0 ≡ out = sym a.1 ∙ ap (λ k. take k (bytes_at run m)) len ∙ big.1 ∙ take-length out in
+      (e.0, subst (Appends known new) same w.1, e.2)
