@@ -15,7 +15,6 @@ use Rattle.world_core_base.specs.contracts.core_model.Core as Core
 use Rattle.world_core_base.specs.contracts.core_model.Core.TheInside as core
 use Rattle.world_core_base.specs.contracts.slot.Away as Away
 use Rattle.world_core_base.specs.contracts.slot.Away.TheInside as away
-use Rattle.worker_pool.proofs.turn.Stop.TheSendSync.{the_send as stop_send}
 use Rattle.worker_pool.specs.contracts.locked.Locked as Locked
 use Rattle.worker_pool.specs.contracts.shared.Shared as Shared
 use Rattle.worker_pool.specs.declared.run_name.RunName.{Ghosts}
@@ -30,19 +29,29 @@ core_inside : IsSend core.the_row
 core_inside =
     recorded_send core.the_field.row _ _ core.the_type.to_one (struct_send (shape core.the_type) (
       search (sendable, crosses, slot_send) depth 20,
-      (search (sendable, crosses, state_send) depth 20,
-      (search (sendable, crosses, away_send) depth 20,
-      (search (sendable, crosses, channels_send) depth 20,
-      (search sendable, (search sendable, (search (sendable, end_send) depth 20, tt))))))))
+      (
+        search (sendable, crosses, state_send) depth 20,
+        (
+          search (sendable, crosses, away_send) depth 20,
+          (
+            search (sendable, crosses, channels_send) depth 20,
+            (search sendable, (search sendable, (search (sendable, end_send) depth 20, tt))),
+          ),
+        ),
+      ),
+    ))
 
 core_send : IsSend Core.the_row
 core_send = view_send _ _ _ _ _ core_inside
 
 book_inside : IsSend book.the_row
 book_inside = recorded_send book.the_field.row _ _ book.the_type.to_one (struct_send (shape book.the_type) (
-      search sendable,
-      (search (sendable, crosses, verified_send, verified_sync) depth 20,
-      (search sendable, (core_send, (search sendable, (search (sendable, crosses) depth 20, tt)))))))
+  search sendable,
+  (
+    search (sendable, crosses, verified_send, verified_sync) depth 20,
+    (search sendable, (core_send, (search sendable, (search (sendable, crosses) depth 20, tt)))),
+  ),
+))
 
 book_send : IsSend Book.the_row
 book_send = view_send _ _ _ _ _ book_inside
@@ -51,8 +60,11 @@ locked_send : (B : RattleType) (g : Ghosts B.Denot) → IsSend B → IsSend (Loc
 locked_send B g s =
     recorded_send (Locked.the_field B g).row _ _ (Locked.the_type B g).to_one (struct_send (shape (Locked.the_type B g)) (
       book_send,
-      (search (sendable, crosses, stop_send) depth 20,
-      (search sendable, (search sendable, (search sendable, (search (sendable, crosses) depth 20, tt)))))))
+      (
+        search (sendable, crosses) depth 20,
+        (search sendable, (search sendable, (search sendable, (search sendable, (search (sendable, crosses) depth 20, tt))))),
+      ),
+    ))
 
 pub shared_sync : (B : RattleType) (g : Ghosts B.Denot) → IsSend B → IsSync (Shared.the_row B g)
 shared_sync B g s =
@@ -60,4 +72,5 @@ shared_sync B g s =
     let m : IsSync (Mutex.the_row (Locked.the_row B g)) = search (sendable, crosses, d) depth 20 in
     recorded_sync (Shared.the_field B g).row _ _ (Shared.the_type B g).to_one (struct_sync (shape (Shared.the_type B g)) (
       m,
-      (search (sendable, crosses) depth 20, (search (sendable, crosses) depth 20, (search (sendable, crosses) depth 20, tt)))))
+      (search (sendable, crosses) depth 20, (search (sendable, crosses) depth 20, (search (sendable, crosses) depth 20, tt))),
+    ))

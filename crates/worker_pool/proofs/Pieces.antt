@@ -1,16 +1,20 @@
 -- Pieces of what a run writes, joined.
-use Rattle.std.proofs.Common.{◌≡◌, ℕ, zero, suc, ◌+◌, ◌-◌, ◌≤◌, List, [], ◌∷◌, ◌++◌, length, take, drop, Option, Some, None, refl, sym, ap, ◌∙◌, subst, arith, append_assoc, length-append, append-nil}
+use Rattle.std.proofs.Common.{◌≡◌, ℕ, zero, suc, ◌+◌, ◌-◌, ◌≤◌, List, [], ◌∷◌, ◌++◌, length, take, drop, Option, Some, None, Ok, Err, refl, sym, ap, ◌∙◌, subst, arith, append_assoc, length-append, append-nil}
 use Rattle.std.specs.Io.KnownBytes.{Appends}
 use Rattle.std.proofs.lemmas.List.{take-append-le, drop-append-le, length-drop, length-take-le}
 use Rattle.std.proofs.lemmas.List.Concat.{flat_map-append}
 use Rattle.std.proofs.Math.Seq.{take-add, take-length}
+use Rattle.book.specs.Desks.{Desk, IsEnd, IsPiece}
+use Rattle.bytecode.specs.Code.{Code}
 use Rattle.bytecode.specs.Machine.{code_kind}
-use Rattle.output.specs.Progress.{Run}
+use Rattle.go_text.specs.declared.fault.Fault.{Fault}
+use Rattle.output.specs.Progress.{Run, piece_run}
 use Rattle.output.specs.declared.piece.Kind.{Kind}
 use Rattle.output.specs.declared.piece.Kind.TheVariants.{Output, Trace}
+use Rattle.output.specs.declared.piece.Piece.{Piece}
 use Rattle.tracer.specs.Trace.{trace, traceline}
 use Rattle.turn_rule.specs.Schedule.{IsPrefixOf}
-use Rattle.turn_rule.specs.Turns.{World, run as moved}
+use Rattle.turn_rule.specs.Turns.{World}
 use Rattle.turn_rule.proofs.Stable.{run_add}
 use Rattle.word.specs.declared.end.End.{End as Ending}
 use Rattle.word.specs.Kinds.{Clocked, GoroutineKind}
@@ -19,7 +23,7 @@ use Rattle.word.specs.Worlds.{Rest, moment, opening, rules}
 use Rattle.word.proofs.Laws.{laws}
 use Rattle.word.proofs.Outputs.{outputs_begin}
 use Rattle.word.proofs.Records.{events_begin}
-use Rattle.worker_pool.specs.Runs.{Begins, EndsAt, IsAll, StandsAt, Written, bytes_at, bytes_in}
+use Rattle.worker_pool.specs.Runs.{Begins, ComesOf, EndsAt, IsAll, IsHanded, IsOfRun, IsPieceOf, Written, bytes_after, bytes_of, output_run}
 
 pub appends_more : (old mid new : Option (List ℕ)) (xs ys : List ℕ) → Appends old mid xs → Appends mid new ys → Appends old new (xs ++ ys)
 appends_more None mid new xs ys a b = tt
@@ -66,21 +70,21 @@ events_longer K limit n m le =
 trace_longer : (xs ys : List Event) → IsPrefixOf xs ys → IsPrefixOf (trace xs) (trace ys)
 trace_longer xs ys p = (trace p.0, sym (flat_map-append traceline xs p.0) ∙ ap trace p.1)
 
-kind_longer : (kind : Kind) (K : GoroutineKind) (limit n m : ℕ) → n ≤ m → IsPrefixOf (bytes_in kind (moment K limit n).shared.shared) (bytes_in kind (moment K limit m).shared.shared)
+kind_longer : (kind : Kind) (K : GoroutineKind) (limit n m : ℕ) → n ≤ m → IsPrefixOf (bytes_of kind (moment K limit n).shared.shared) (bytes_of kind (moment K limit m).shared.shared)
 kind_longer Output K limit n m le = outputs_begin K limit n m le
 kind_longer Trace K limit n m le = trace_longer (moment K limit n).shared.shared.events (moment K limit m).shared.shared.events (events_longer K limit n m le)
 
 module _ (run : Run) where
-  bytes_longer : (n m : ℕ) → n ≤ m → IsPrefixOf (bytes_at run n) (bytes_at run m)
+  bytes_longer : (n m : ℕ) → n ≤ m → IsPrefixOf (bytes_after run n) (bytes_after run m)
   bytes_longer n m le = kind_longer run.kind (code_kind run.program) run.limit n m le
 
   -- a piece stands there later too
-  piece_later : (from : ℕ) (bytes : List ℕ) (p : StandsAt run from bytes) (m : ℕ) → p.0 ≤ m → (from + length bytes ≤ length (bytes_at run m)) × (take (length bytes) (drop from (bytes_at run m)) ≡ bytes)
+  piece_later : (from : ℕ) (bytes : List ℕ) (p : IsPieceOf run from bytes) (m : ℕ) → p.0 ≤ m → (from + length bytes ≤ length (bytes_after run m)) × (take (length bytes) (drop from (bytes_after run m)) ≡ bytes)
   piece_later from bytes p m le =
-      let q = longer_piece (bytes_at run p.0) (bytes_at run m) from (length bytes) (bytes_longer p.0 m le) p.1 in
+      let q = longer_piece (bytes_after run p.0) (bytes_after run m) from (length bytes) (bytes_longer p.0 m le) p.1 in
       (q.0, q.1 ∙ p.2)
 
-  pieces_join : (xs ys : List ℕ) (k : ℕ) → k ≤ length ys → StandsAt run 0 xs → StandsAt run (length xs) ys → StandsAt run 0 (xs ++ take k ys)
+  pieces_join : (xs ys : List ℕ) (k : ℕ) → k ≤ length ys → IsPieceOf run 0 xs → IsPieceOf run (length xs) ys → IsPieceOf run 0 (xs ++ take k ys)
   pieces_join xs ys k le p q =
       let m = p.0 + q.0 in
       let a = piece_later 0 xs p m (omega arith) in
@@ -88,13 +92,13 @@ module _ (run : Run) where
       let l = length-append xs (take k ys) in
       let t = length-take-le k ys le in
       let size = b.0 in
-      (m, omega (arith, l, t, size, le), joined (bytes_at run m) xs ys k le b.0 a.1 b.1)
+      (m, omega (arith, l, t, size, le), joined (bytes_after run m) xs ys k le b.0 a.1 b.1)
 
   -- the first k bytes of the next piece are written
-  pub written_more : (known old new : Option (List ℕ)) (place from k : ℕ) (bytes : List ℕ) → from ≡ place → StandsAt run from bytes → k ≤ length bytes → Appends old new (take k bytes) → Written run known old place → Written run known new (place + k)
+  pub written_more : (known old new : Option (List ℕ)) (place from k : ℕ) (bytes : List ℕ) → from ≡ place → IsPieceOf run from bytes → k ≤ length bytes → Appends old new (take k bytes) → Written run known old place → Written run known new (place + k)
   written_more known old new place from k bytes at p le a w =
       let e = w.3 in
-      let q : StandsAt run (length w.0) bytes = subst (λ n. StandsAt run n bytes) (at ∙ sym e) p in
+      let q : IsPieceOf run (length w.0) bytes = subst (λ n. IsPieceOf run n bytes) (at ∙ sym e) p in
       let l = length-append w.0 (take k bytes) in
       let t = length-take-le k bytes le in
       (w.0 ++ take k bytes, appends_more known old new w.0 (take k bytes) w.1 a, pieces_join w.0 bytes k le w.2 q, omega (arith, e, l, t))
@@ -103,17 +107,43 @@ module _ (run : Run) where
   pub written_none : (known : Option (List ℕ)) → Written run known known 0
   written_none known = ([], appends_none known, (0, omega arith, refl), refl)
 
-  pub written_begins : (known new : Option (List ℕ)) (place : ℕ) → Written run known new place → Begins run known new
+  pub written_begins : (known new : Option (List ℕ)) (place : ℕ) → Written run known new place → Begins run.kind (code_kind run.program) run.limit known new
   written_begins known new place w = (w.2.0, length w.0, subst (Appends known new) (sym w.2.2) w.1)
 
   -- what was written up to the end is all of it
-  pub written_all : (known new : Option (List ℕ)) (size : ℕ) (ending : Ending) → Written run known new size → EndsAt run size ending → IsAll run known new ending
+  pub written_all : (known new : Option (List ℕ)) (size : ℕ) (ending : Ending) → Written run known new size → EndsAt run size ending → IsAll run.kind (code_kind run.program) run.limit known new ending
   written_all known new size ending w e =
       let m = e.0 + w.2.0 in
       let a = piece_later 0 w.0 w.2 m (omega arith) in
       let p = bytes_longer e.0 m (omega arith) in
-      let out = bytes_at run e.0 in
-      let big = longer_piece out (bytes_at run m) 0 (length out) p (omega arith) in
+      let out = bytes_after run e.0 in
+      let big = longer_piece out (bytes_after run m) 0 (length out) p (omega arith) in
       let len : length w.0 ≡ length out = w.3 ∙ sym e.1 in
-      let same : w.0 ≡ out = sym a.1 ∙ ap (λ k. take k (bytes_at run m)) len ∙ big.1 ∙ take-length out in
+      let same : w.0 ≡ out = sym a.1 ∙ ap (λ k. take k (bytes_after run m)) len ∙ big.1 ∙ take-length out in
       (e.0, subst (Appends known new) same w.1, e.2)
+
+  -- the run goes on, or stops
+  pub comes_to_fault : (known new : Option (List ℕ)) (place : ℕ) (fault : Fault) → Written run known new place → ComesOf run known new (Err fault)
+  comes_to_fault known new place fault w = record { begins = written_begins known new place w; all = tt }
+
+  -- the run ends, and all is written
+  pub comes_to_end : (known new : Option (List ℕ)) (place : ℕ) (ending : Ending) → Written run known new place → EndsAt run place ending → ComesOf run known new (Ok ending)
+  comes_to_end known new place ending w e = record { begins = written_begins known new place w; all = written_all known new place ending w e }
+
+-- ---- the run of a name
+
+abbrev run_at : Code → ℕ → Kind → Run
+run_at code limit kind = record { program = code; limit = limit; kind = kind }
+
+same_run : (kind : Kind) (code : Code) (limit : ℕ) (d : Desk) → IsOfRun code limit d → run_at d.code d.limit kind ≡ run_at code limit kind
+same_run kind code limit d is = ap (λ c. run_at c d.limit kind) is.code ∙ ap (λ l. run_at code l kind) is.limit
+
+-- the end of the book's run
+pub ends_at : (code : Code) (limit : ℕ) (d : Desk) (events size : ℕ) (ending : Ending) → IsOfRun code limit d → IsEnd d.code d.limit events size ending → EndsAt (output_run code limit) size ending
+ends_at code limit d events size ending is e = subst (λ (run : Run). EndsAt run size ending) (same_run Output code limit d is) (e.moves, e.bytes, e.ending)
+
+-- a piece that is taken out of it
+pub hands_out : (code : Code) (limit : ℕ) (d : Desk) (piece : Piece) → IsOfRun code limit d → piece_run piece ≡ output_run d.code d.limit → IsPiece d.code d.limit piece.from piece.bytes.items → IsHanded (output_run code limit) piece
+hands_out code limit d piece is run stands =
+    let same = same_run Output code limit d is in
+    record { run = run ∙ same; stands = subst (λ (r : Run). IsPieceOf r piece.from piece.bytes.items) same stands }

@@ -1,18 +1,18 @@
 -- What a run writes, and what goes between its threads.
-use Rattle.std.specs.Prelude.{◌≡◌, ℕ, ◌+◌, ◌≤◌, ◌⊎◌, [], List, Option, Some, IfOk, drop, length, take}
+use Rattle.std.specs.Prelude.{◌≡◌, ℕ, ◌+◌, ◌≤◌, [], List, Option, Some, IfOk, drop, length, take}
 use Rattle.std.specs.Io.KnownBytes.{Appends}
 use Rattle.core.specs.declared.result.Result.{Result}
 use Rattle.book.specs.Desks.{Desk}
 use Rattle.bytecode.specs.Code.{Code}
 use Rattle.bytecode.specs.Machine.{code_kind}
 use Rattle.go_text.specs.declared.fault.Fault.{Fault}
-use Rattle.go_text.specs.declared.fault.Fault.TheVariants as faults
 use Rattle.output.specs.Progress.{Run, piece_run}
 use Rattle.output.specs.declared.piece.Kind.{Kind}
 use Rattle.output.specs.declared.piece.Kind.TheVariants.{Output, Trace}
 use Rattle.output.specs.declared.piece.Piece.{Piece}
 use Rattle.tracer.specs.Trace.{trace}
 use Rattle.word.specs.declared.end.End.{End as Ending}
+use Rattle.word.specs.Kinds.{GoroutineKind}
 use Rattle.word.specs.Values.{Shared}
 use Rattle.word.specs.Worlds.{end_of, moment}
 
@@ -21,51 +21,47 @@ IsWorkers workers = (1 ≤ workers) × (workers ≤ 64)
 
 -- ---- the bytes of a run
 
--- what there is of this kind
-abbrev pub bytes_in : Kind → Shared → List ℕ
-bytes_in Output w = w.output
-bytes_in Trace w = trace w.events
+-- the bytes of this kind so far: the output, or the lines of the events
+abbrev pub bytes_of : Kind → Shared → List ℕ
+bytes_of Output w = w.output
+bytes_of Trace w = trace w.events
 
--- what there is of them after n moves
-abbrev pub bytes_at : Run → ℕ → List ℕ
-bytes_at run n = bytes_in run.kind (moment (code_kind run.program) run.limit n).shared.shared
+-- those of a run after n moves
+abbrev pub bytes_after : Run → ℕ → List ℕ
+bytes_after run n = bytes_of run.kind (moment (code_kind run.program) run.limit n).shared.shared
 
--- the bytes stand at this place of them
-abbrev pub StandsAt : Run → ℕ → List ℕ → Type 0
-StandsAt run from bytes =
-    (n : ℕ) × (from + length bytes ≤ length (bytes_at run n)) × (take (length bytes) (drop from (bytes_at run n)) ≡ bytes)
+-- the bytes stand at this place of the run's
+abbrev pub IsPieceOf : Run → ℕ → List ℕ → Type 0
+IsPieceOf run from bytes =
+    (n : ℕ) × (from + length bytes ≤ length (bytes_after run n)) × (take (length bytes) (drop from (bytes_after run n)) ≡ bytes)
 
--- a piece of them
-pub record IsPieceOf (run : Run) (piece : Piece) : Type 0 where
+-- a piece of the run's bytes
+pub record IsHanded (run : Run) (piece : Piece) : Type 0 where
   pub run : piece_run piece ≡ run
-  pub stands : StandsAt run piece.from piece.bytes.items
+  pub stands : IsPieceOf run piece.from piece.bytes.items
 
 -- the run ends so, after so many of them
 abbrev pub EndsAt : Run → ℕ → Ending → Type 0
 EndsAt run size ending =
-    (n : ℕ) × (length (bytes_at run n) ≡ size) × (end_of (moment (code_kind run.program) run.limit n) ≡ Some ending)
+    (n : ℕ) × (length (bytes_after run n) ≡ size) × (end_of (moment (code_kind run.program) run.limit n) ≡ Some ending)
 
--- what was written after the old contents are the first `taken` ones of them
+-- what was written after the old contents are the first `taken` ones of the run's
 abbrev pub Written : Run → Option (List ℕ) → Option (List ℕ) → ℕ → Type 0
-Written run old new taken = (bytes : List ℕ) × Appends old new bytes × StandsAt run 0 bytes × (length bytes ≡ taken)
+Written run old new taken = (bytes : List ℕ) × Appends old new bytes × IsPieceOf run 0 bytes × (length bytes ≡ taken)
 
--- what was written after the old contents begins them
-abbrev pub Begins : Run → Option (List ℕ) → Option (List ℕ) → Type 0
-Begins run old new = (n : ℕ) × (k : ℕ) × Appends old new (take k (bytes_at run n))
+-- what was written after the old contents begins the bytes of this kind
+abbrev pub Begins : Kind → GoroutineKind → ℕ → Option (List ℕ) → Option (List ℕ) → Type 0
+Begins kind K limit old new = (n : ℕ) × (k : ℕ) × Appends old new (take k (bytes_of kind (moment K limit n).shared.shared))
 
 -- it is all of them, and the run ends so
-abbrev pub IsAll : Run → Option (List ℕ) → Option (List ℕ) → Ending → Type 0
-IsAll run old new ending =
-    (n : ℕ) × Appends old new (bytes_at run n) × (end_of (moment (code_kind run.program) run.limit n) ≡ Some ending)
+abbrev pub IsAll : Kind → GoroutineKind → ℕ → Option (List ℕ) → Option (List ℕ) → Ending → Type 0
+IsAll kind K limit old new ending =
+    (n : ℕ) × Appends old new (bytes_of kind (moment K limit n).shared.shared) × (end_of (moment K limit n) ≡ Some ending)
 
 -- what comes of a run, and of a writer of these bytes
 pub record ComesOf (run : Run) (old new : Option (List ℕ)) (outcome : Result Ending Fault) : Type 0 where
-  pub begins : Begins run old new
-  pub all : IfOk outcome (IsAll run old new)
-
--- the refusals that threads come to
-abbrev pub IsOfThreads : Fault → Type 0
-IsOfThreads fault = (fault ≡ faults.Memory) ⊎ ((fault ≡ faults.Write) ⊎ (fault ≡ faults.NotYours))
+  pub begins : Begins run.kind (code_kind run.program) run.limit old new
+  pub all : IfOk outcome (IsAll run.kind (code_kind run.program) run.limit old new)
 
 -- ---- the run of a name
 

@@ -1,98 +1,54 @@
 //! What the workers hand to the thread that writes.
 
-ghost use Rattle.std.specs.Prelude.{◌≡◌, ◌+◌, length};
-ghost use Rattle.worker_pool.specs.Runs.{EndsAt, IsPieceOf, output_run};
+ghost use Rattle.std.specs.Prelude.{◌≡◌, ◌+◌, IfSome, length};
+ghost use Rattle.worker_pool.specs.Runs.{EndsAt, IsHanded, output_run};
 
 use crate::run_name::RunName;
-use crate::turn::Stop;
 use output::Piece;
 use std::marker::{Model, PhantomData};
 use word::end::End;
 
-/// Bytes of the run's output.
+/// Bytes of the run's output and, where they are the last ones, how the run ended.
 #[derive(Drop)]
 pub(crate) struct Handed<B: RunName> {
     output: Piece,
+    end: Option<End>,
     of: PhantomData<B>,
 }
 
 impl<B: RunName> Model for Handed<B> {
-        ghost use Rattle.output.specs.declared.piece.Piece.{Piece as OnePiece};
-    ghost use Rattle.worker_pool.specs.Runs.{IsPieceOf, output_run};
+    ghost use Rattle.std.specs.Prelude.{◌+◌, IfSome, length};
+    ghost use Rattle.worker_pool.specs.Handing.{Handing};
+    ghost use Rattle.worker_pool.specs.Runs.{EndsAt, IsHanded, output_run};
 
-    ghost Value = { OnePiece };
+    ghost Value = { Handing };
 
-    ghost view = { λ h. h.output };
+    ghost view = { λ h. record { output = h.output; end = h.end } };
 
-    ghost invariant = { λ h. IsPieceOf (output_run B.code B.limit) h.output };
+    ghost invariant = { λ h. IsHanded (output_run B.code B.limit) h.output × IfSome h.end (EndsAt (output_run B.code B.limit) (h.output.from + length h.output.bytes.items)) };
 }
 
 impl<B: RunName> Handed<B> {
-    /// A piece of the run's output.
-    pub fn new(output: Piece) -> Handed<B>
-        requires { IsPieceOf (output_run B.code B.limit) output }
-        ensures { result ≡ output }
+    /// A piece of the run's output, and the run's end where the piece reaches to it.
+    pub fn new(output: Piece, end: Option<End>) -> Handed<B>
+        requires output { IsHanded (output_run B.code B.limit) output }
+        requires end { IfSome end (EndsAt (output_run B.code B.limit) (output.from + length output.bytes.items)) }
+        ensures { result ≡ record { output = output; end = end } }
     {
         Handed {
             output,
+            end,
             of: PhantomData,
         }
     }
 
-    /// The piece.
-    pub fn into_output(self) -> Piece
-        ensures output { result ≡ self }
-        ensures stands { IsPieceOf (output_run B.code B.limit) result }
+    /// The piece, and the end.
+    pub fn into_parts(self) -> (Piece, Option<End>)
+        ensures parts { (result.0 ≡ self.output) × (result.1 ≡ self.end) }
+        ensures output { IsHanded (output_run B.code B.limit) self.output }
+        ensures end { IfSome self.end (EndsAt (output_run B.code B.limit) (self.output.from + length self.output.bytes.items)) }
     {
-        let Handed { output, .. } = self;
-        output
+        let Handed { output, end, .. } = self;
+        (output, end)
     }
-}
-
-/// The last bytes of the run's output, and how the run ended.
-#[derive(Drop)]
-pub(crate) struct Last<B: RunName> {
-    handed: Handed<B>,
-    end: End,
-}
-
-impl<B: RunName> Model for Last<B> {
-    ghost use Rattle.std.specs.Prelude.{◌+◌, length};
-        ghost use Rattle.output.specs.declared.piece.Piece.{Piece as OnePiece};
-    ghost use Rattle.word.specs.declared.end.End.{End as Ending};
-    ghost use Rattle.worker_pool.specs.Runs.{EndsAt, output_run};
-
-    ghost Value = { OnePiece × Ending };
-
-    ghost view = { λ l. (l.handed, l.end) };
-
-    ghost invariant = { λ l. EndsAt (output_run B.code B.limit) (l.handed.from + length l.handed.bytes.items) l.end };
-}
-
-impl<B: RunName> Last<B> {
-    /// Bytes that reach to the end of the output.
-    pub fn new(handed: Handed<B>, end: End) -> Last<B>
-        requires { EndsAt (output_run B.code B.limit) (handed.from + length handed.bytes.items) end }
-    {
-        Last { handed, end }
-    }
-
-    /// The bytes, and the end.
-    pub fn into_parts(self) -> (Handed<B>, End)
-        ensures { EndsAt (output_run B.code B.limit) (result.0.from + length result.0.bytes.items) result.1 }
-    {
-        let Last { handed, end } = self;
-        (handed, end)
-    }
-}
-
-/// What the thread that writes finds.
-#[derive(Drop)]
-pub(crate) enum Next<B: RunName> {
-    /// Bytes, behind which there may be more.
-    Handed(Handed<B>),
-    /// The last bytes, and the end.
-    Last(Last<B>),
-    /// The run stops before its end.
-    Stopped(Stop),
 }

@@ -3,21 +3,25 @@
 ghost use Rattle.std.specs.Prelude.{◌≡◌, ◌+◌, IfOk, IfSome, length};
 ghost use Rattle.worker_pool.specs.Runs.{EndsAt, IsOfRun, output_run};
 
-use crate::handed::{Handed, Last, Next};
-use crate::run_name::RunName;
-use crate::turn::{Back, Lent, Stop, Turn};
+use crate::handed::Handed;
+use crate::run_name::{Printed, RunName};
+use crate::turn::{Back, Lent, Turn};
 use book::{Book, Settled};
 use go_text::Memory;
 use std::marker::PhantomData;
+use std::sync::ledger;
+use std::sync::ledger::Share;
 use word::end::End;
 
 /// The book of a run, and what its threads tell each other.
 #[derive(Drop)]
 pub(crate) struct Locked<B: RunName> {
     book: Book,
-    /// Why the run stops before its end.
-    stopped: Option<Stop>,
-    /// Whether no lease is given out any more: the run has ended or stops.
+    /// How many bytes of output were handed out.
+    printed: ledger::Book<Printed<B>>,
+    /// Whether memory was refused.
+    stopped: bool,
+    /// Whether no lease is given out any more: the run has ended, or stops.
     over: bool,
     /// How many workers wait until they are woken.
     waiting: u64,
@@ -25,16 +29,19 @@ pub(crate) struct Locked<B: RunName> {
     watched: bool,
     of: PhantomData<B>,
     ghost ours: { IsOfRun B.code B.limit book },
+    ghost counted: { book.taken ≡ printed.total },
 }
 
 impl<B: RunName> Locked<B> {
-    /// The book of this run, before its first lease.
-    pub fn new(book: Book) -> Locked<B>
-        requires { IsOfRun B.code B.limit book }
+    /// The book of this run, of which nothing was handed out.
+    pub fn new(book: Book, printed: ledger::Book<Printed<B>>) -> Locked<B>
+        requires run { IsOfRun B.code B.limit book }
+        requires printed { book.taken ≡ printed.total }
     {
         Locked {
             book,
-            stopped: None,
+            printed,
+            stopped: false,
             over: false,
             waiting: 0,
             watched: false,
@@ -47,11 +54,9 @@ impl<B: RunName> Locked<B> {
         self.over = true;
     }
 
-    /// The run stops, unless it has ended.
-    pub fn stop(&mut self, why: Stop) {
-        if !self.over {
-            self.stopped = Some(why);
-        }
+    /// The run stops for want of memory, unless it has ended.
+    pub fn stop(&mut self) {
+        self.stopped = self.stopped || !self.over;
         self.over = true;
     }
 
@@ -85,12 +90,13 @@ impl<B: RunName> Locked<B> {
         self.waiting = self.waiting.saturating_sub(1);
     }
 
-    /// Takes what a worker comes back with, and commits all that can be committed.
+    /// Takes what a worker comes back with.
     pub fn take_back(&mut self, back: Back<B>) {
         match back {
             Back::Begun => {}
-            Back::Asking(lent) | Back::Running(lent) => self.bring(lent),
-            Back::NoMemory => self.stop(Stop::Memory),
+            Back::Asking(lent) => self.bring(lent),
+            Back::Running(lent) => self.bring(lent),
+            Back::NoMemory => self.stop(),
         }
     }
 
@@ -101,38 +107,44 @@ impl<B: RunName> Locked<B> {
         }
         match self.lend() {
             Ok(Some(lent)) => Turn::Work(lent),
-            Ok(None) if self.watched => Turn::Wait,
-            Ok(None) => {
-                self.watched = true;
-                Turn::Watch
-            }
+            Ok(None) => self.idle_turn(),
             Err(Memory) => {
-                self.stop(Stop::Memory);
+                self.stop();
                 Turn::Leave
             }
         }
     }
 
-    /// What there is to write.
-    pub fn next(&mut self) -> Next<B> {
-        if let Some(why) = self.stopped {
-            return Next::Stopped(why);
+    /// What there is to write, and the end, where the run has ended.
+    pub fn next(&mut self, mine: &mut Share<Printed<B>>) -> Result<Handed<B>, Memory>
+        requires { mine.old.parts ≡ 1 }
+        ensures parts { mine.new.parts ≡ 1 }
+        ensures from { IfOk result (λ h. h.output.from ≡ mine.old.amount) }
+        ensures amount { IfOk result (λ h. mine.new.amount ≡ mine.old.amount + length h.output.bytes.items) }
+    {
+        if self.stopped {
+            return Err(Memory);
         }
-        match self.found() {
-            Ok(next) => next,
-            Err(Memory) => Next::Stopped(Stop::Memory),
-        }
+        let end = self.settle_all()?;
+        self.hand_out(end, mine)
     }
 
-    /// Puts a lease back, and commits all that can be committed.
-    fn bring(&mut self, lent: Lent<B>) {
-        if !self.book.is_own_out(&lent.lease) {
-            self.stop(Stop::NotYours);
-            return;
+    /// What a worker does that nothing can be lent to.
+    fn idle_turn(&mut self) -> Turn<B> {
+        if self.watched {
+            return Turn::Wait;
         }
-        self.book.bring_own(lent.lease);
+        self.watched = true;
+        Turn::Watch
+    }
+
+    /// Puts a lease back, and commits all that can be committed. A lease that is not out is let go: it is of no use to the run.
+    fn bring(&mut self, lent: Lent<B>) {
+        if self.book.is_own_out(&lent.lease) {
+            self.book.bring_own(lent.lease);
+        }
         if self.settle_all().is_err() {
-            self.stop(Stop::Memory);
+            self.stop();
         }
     }
 
@@ -146,7 +158,7 @@ impl<B: RunName> Locked<B> {
 
     /// Commits all that can be committed, and answers the end, where the run has ended.
     fn settle_all(&mut self) -> Result<Option<End>, Memory>
-        ensures { IfOk result (λ found. IfSome found (λ end. EndsAt (output_run B.code B.limit) (self.new.book.taken + length self.new.book.pending) end)) }
+        ensures { IfOk result (λ found. IfSome found (EndsAt (output_run B.code B.limit) (self.new.book.taken + length self.new.book.pending))) }
     {
         for _ in 0..u64::MAX {
             match self.book.settle()? {
@@ -161,22 +173,22 @@ impl<B: RunName> Locked<B> {
         Ok(None)
     }
 
-    /// All that is committed and not yet handed out, with the end, where the run has ended.
-    fn found(&mut self) -> Result<Next<B>, Memory> {
-        match self.settle_all()? {
-            Some(end) => {
-                let handed = self.hand_out()?;
-                Ok(Next::Last(Last::new(handed, end)))
-            }
-            None => Ok(Next::Handed(self.hand_out()?)),
-        }
-    }
-
-    /// The bytes that were committed and not yet handed out.
-    fn hand_out(&mut self) -> Result<Handed<B>, Memory>
-        ensures { IfOk result (λ handed. handed.from + length handed.bytes.items ≡ self.old.book.taken + length self.old.book.pending) }
+    /// The bytes that were committed and not yet handed out, with the end that they reach to.
+    fn hand_out(
+        &mut self,
+        end: Option<End>,
+        mine: &mut Share<Printed<B>>,
+    ) -> Result<Handed<B>, Memory>
+        requires end { IfSome end (EndsAt (output_run B.code B.limit) (self.old.book.taken + length self.old.book.pending)) }
+        requires parts { mine.old.parts ≡ 1 }
+        ensures parts { mine.new.parts ≡ 1 }
+        ensures from { IfOk result (λ h. h.output.from ≡ mine.old.amount) }
+        ensures amount { IfOk result (λ h. mine.new.amount ≡ mine.old.amount + length h.output.bytes.items) }
     {
-        let output = self.book.take_output()?;
-        Ok(Handed::new(output))
+        let Locked { book, printed, .. } = self;
+        printed.audit(mine);
+        let output = book.take_output()?;
+        printed.add(mine, output.bytes.len() as u64);
+        Ok(Handed::new(output, end))
     }
 }

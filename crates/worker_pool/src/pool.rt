@@ -6,12 +6,11 @@ ghost use Rattle.std.specs.Arc.{arc_value};
 ghost use Rattle.bytecode.specs.Machine.{code_kind};
 ghost use Rattle.one_thread.specs.Worlds.{BeginsOutput, IsLimit, IsWhole};
 ghost use Rattle.output.specs.Progress.{progress_place, run_of};
-ghost use Rattle.worker_pool.specs.Runs.{ComesOf, IsOfRun, IsOfThreads, IsWorkers, output_run};
+ghost use Rattle.worker_pool.specs.Runs.{ComesOf, IsOfRun, IsWorkers, output_run};
 
 use crate::gate::Gate;
-use crate::run_name::RunName;
+use crate::run_name::{Printed, RunName};
 use crate::shared::Shared;
-use crate::turn::Stop;
 use crate::worker::work;
 use crate::writing::write_run;
 use book::Book;
@@ -19,6 +18,7 @@ use go_text::Fault;
 use output::{Kind, Progress};
 use std::alloc::Global;
 use std::marker::Brand;
+use std::sync::ledger::{Blank, Share};
 use std::sync::{Arc, Wait};
 use std::thread;
 use std::thread::Threads;
@@ -29,7 +29,7 @@ use word::end::End;
 /// Runs a program up to the clock limit (1 to 2^62) on 1 to 64 workers, and answers how it ended. What is written begins the
 /// output of the one-thread run; at an end it is all of it.
 ///
-/// Errors: `BadWorkers`; `BadLimit`; `Memory`; `Write`; `NotYours`, which no run was seen to come to.
+/// Errors: `BadWorkers`; `BadLimit`; `Memory`; `Write`.
 pub fn run<R: Threads + Wait + Sync, G: Gate + Sync, O: Write>(
     rt: &R,
     alloc: Global,
@@ -44,7 +44,7 @@ pub fn run<R: Threads + Wait + Sync, G: Gate + Sync, O: Write>(
     ensures begins { BeginsOutput (code_kind (arc_value program)) limit (O.contents out.old) (O.contents out.new) }
     ensures whole { IfOk result (λ end. IsWhole (code_kind (arc_value program)) limit (O.contents out.old) (O.contents out.new) end) }
     ensures write { IsErrOf result Fault.Write → O.has_failed out.new ≡ true }
-    ensures only { IfErr result (λ fault. (fault ≡ Fault.Memory) ⊎ ((fault ≡ Fault.Write) ⊎ ((fault ≡ Fault.NotYours) ⊎ ((fault ≡ Fault.BadWorkers) ⊎ (fault ≡ Fault.BadLimit))))) }
+    ensures only { IfErr result (λ fault. (fault ≡ Fault.Memory) ⊎ ((fault ≡ Fault.Write) ⊎ ((fault ≡ Fault.BadWorkers) ⊎ (fault ≡ Fault.BadLimit)))) }
 {
     if workers < 1 || workers > 64 {
         return Err(Fault::BadWorkers);
@@ -54,29 +54,33 @@ pub fn run<R: Threads + Wait + Sync, G: Gate + Sync, O: Write>(
     }
     let progress = Progress::new(Arc::try_clone(&program)?, limit, Kind::Output);
     let book = Book::open(alloc, program, limit)?;
-    run_named::<Brand, R, G, O>(rt, book, progress, workers, gate, out)
+    run_named::<Brand, R, G, O>(rt, book, Blank::new(1), progress, workers, gate, out)
 }
 
 /// The same, of the run of this name.
 fn run_named<B: RunName + Send, R: Threads + Wait + Sync, G: Gate + Sync, O: Write>(
     rt: &R,
     book: Book,
+    blank: Blank,
     progress: Progress,
     workers: u64,
     gate: &G,
     out: &mut O,
 ) -> Result<End, Fault>
-    requires book { IsOfRun B.code B.limit book }
+    requires book { IsOfRun B.code B.limit book × (book.taken ≡ 0) }
+    requires blank { (blank.name ≡ B.printed) × (blank.parts ≡ 1) }
     requires run { run_of progress ≡ output_run B.code B.limit }
     requires place { progress_place progress ≡ 0 }
     ensures output { ComesOf (output_run B.code B.limit) (O.contents out.old) (O.contents out.new) result }
     ensures write { IsErrOf result Fault.Write → O.has_failed out.new ≡ true }
-    ensures only { IfErr result IsOfThreads }
+    ensures only { IfErr result (λ fault. (fault ≡ Fault.Memory) ⊎ (fault ≡ Fault.Write)) }
 {
-    let shared: Shared<B> = Shared::new(book);
+    let (printed, mine) = blank.open::<Printed<B>>();
+    let shared: Shared<B> = Shared::new(book, printed);
     let writing = Writing {
         rt,
         shared: &shared,
+        mine,
         progress,
         out,
     };
@@ -103,6 +107,7 @@ trait Task: Drop {
 struct Writing<'a, B: RunName, R, O> {
     rt: &'a R,
     shared: &'a Shared<B>,
+    mine: Share<Printed<B>>,
     progress: Progress,
     out: &'a mut O,
 }
@@ -110,26 +115,27 @@ struct Writing<'a, B: RunName, R, O> {
 impl<'a, B: RunName, R: Wait, O: Write> Task for Writing<'a, B, R, O> {
     type Output = (&'a mut O, Result<End, Fault>);
 
-    ghost use Rattle.std.specs.Prelude.{◌≡◌, IfErr, IsErrOf, true};
+    ghost use Rattle.std.specs.Prelude.{◌≡◌, ◌⊎◌, IfErr, IsErrOf, true};
     ghost use Rattle.go_text.specs.declared.fault.Fault.TheVariants as faults;
     ghost use Rattle.output.specs.Progress.{progress_place, run_of};
-        ghost use Rattle.worker_pool.specs.Runs.{ComesOf, IsOfThreads, output_run};
+    ghost use Rattle.worker_pool.specs.Runs.{ComesOf, output_run};
 
-    ghost can_run = { λ t. (run_of t.progress ≡ output_run B.code B.limit) × (progress_place t.progress ≡ 0) };
+    ghost can_run = { λ t. (t.mine.parts ≡ 1) × (t.mine.amount ≡ 0) × (run_of t.progress ≡ output_run B.code B.limit) × (progress_place t.progress ≡ 0) };
 
     ghost run_gives = { λ t r. (r.0.ghost_name ≡ t.out.ghost_name)
         × ComesOf (output_run B.code B.limit) (O.contents t.out.now) (O.contents r.0.now) r.1
         × (IsErrOf r.1 faults.Write → O.has_failed r.0.now ≡ true)
-        × IfErr r.1 IsOfThreads };
+        × IfErr r.1 (λ fault. (fault ≡ faults.Memory) ⊎ (fault ≡ faults.Write)) };
 
     fn run(self) -> (&'a mut O, Result<End, Fault>) {
         let Writing {
             rt,
             shared,
+            mine,
             progress,
             out,
         } = self;
-        let result = write_run(rt, shared, progress, out);
+        let result = write_run(rt, shared, mine, progress, out);
         shared.close(rt);
         (out, result)
     }
@@ -146,22 +152,23 @@ fn beside<B: RunName + Send, R: Threads + Wait + Sync, G: Gate + Sync, T: Task>(
     requires { T.can_run task }
     ensures { T.run_gives task result }
 {
-    thread::scope(thread::scope_env(), rt, move |scope| -> T::Output
-        requires task { T.can_run task }
-        requires crosses { IsSend B.row × IsSync R.row × IsSync G.row }
-        ensures { T.run_gives task result }
-    {
-        for worker in 0..workers {
-            if scope
-                .spawn(move || work(rt, shared, gate, worker))
-                .is_err()
-            {
-                shared.stop(rt, Stop::Memory);
-                break;
+    thread::scope(
+        thread::scope_env(),
+        rt,
+        move |scope| -> T::Output
+            requires task { T.can_run task }
+            requires crosses { IsSend B.row × IsSync R.row × IsSync G.row }
+            ensures { T.run_gives task result }
+        {
+            for worker in 0..workers {
+                if scope.spawn(move || work(rt, shared, gate, worker)).is_err() {
+                    shared.stop(rt);
+                    break;
+                }
             }
-        }
-        task.run()
-    })
+            task.run()
+        },
+    )
 }
 
 /// Does nothing, but this use of a returned reference is what ties it to the parameter that lent it.

@@ -1,8 +1,9 @@
 //! Names of runs, which proofs alone see.
 
-use std::marker::Brand;
+use std::marker::{Brand, PhantomData};
+use std::sync::ledger::Ledger;
 
-/// Which run it is: its code and its clock limit. Each call of `run` names its own.
+/// Which run it is: its code, its clock limit, and the ledger of its output. Each call of `run` names its own.
 pub(crate) trait RunName {
     ghost use Rattle.std.specs.Prelude.{ℕ};
     ghost use Rattle.bytecode.specs.Code.{Code};
@@ -10,6 +11,8 @@ pub(crate) trait RunName {
     ghost code: { Code };
 
     ghost limit: { ℕ };
+
+    ghost printed: { ℕ };
 }
 
 impl RunName for Brand {
@@ -18,4 +21,18 @@ impl RunName for Brand {
     ghost code = { no_code };
 
     ghost limit = { 0 };
+
+    ghost printed = { 0 };
+}
+
+/// The ledger of the bytes of output that were handed out: the lock has the book, the thread that writes the one share.
+#[derive(Drop)]
+pub(crate) struct Printed<B: RunName> {
+    of: PhantomData<B>,
+}
+
+impl<B: RunName> Ledger for Printed<B> {
+    ghost name = { B.printed };
+
+    ghost parts = { 1 };
 }

@@ -1,14 +1,17 @@
 //! What the threads of a run share.
 
+ghost use Rattle.std.specs.Prelude.{◌≡◌, ◌+◌, IfOk, length};
 ghost use Rattle.worker_pool.specs.Runs.{IsOfRun};
 
-use crate::handed::Next;
+use crate::handed::Handed;
 use crate::locked::Locked;
-use crate::run_name::RunName;
-use crate::turn::{Back, Lent, Stop, Turn};
+use crate::run_name::{Printed, RunName};
+use crate::turn::{Back, Lent, Turn};
 use crate::worker::Nap;
 use book::Book;
-use std::sync::{Condvar, Mutex, MutexGuard, Wait};
+use go_text::Memory;
+use std::sync::ledger::Share;
+use std::sync::{Condvar, Mutex, MutexGuard, Wait, ledger};
 use std::time::Duration;
 
 /// How long the thread that writes sleeps, if nothing wakes it, in milliseconds.
@@ -27,12 +30,13 @@ pub(crate) struct Shared<B: RunName> {
 }
 
 impl<B: RunName> Shared<B> {
-    /// The book of this run, before its first lease.
-    pub fn new(book: Book) -> Shared<B>
-        requires { IsOfRun B.code B.limit book }
+    /// The book of this run, of which nothing was handed out.
+    pub fn new(book: Book, printed: ledger::Book<Printed<B>>) -> Shared<B>
+        requires run { IsOfRun B.code B.limit book }
+        requires printed { book.taken ≡ printed.total }
     {
         Shared {
-            locked: Mutex::new(Locked::new(book)),
+            locked: Mutex::new(Locked::new(book, printed)),
             waiting: Condvar::new(),
             watching: Condvar::new(),
             writing: Condvar::new(),
@@ -70,17 +74,27 @@ impl<B: RunName> Shared<B> {
     }
 
     /// What there is to write, after a nap that the end of the run cuts short.
-    pub fn next<R: Wait>(&self, rt: &R) -> Next<B> {
+    pub fn next<R: Wait>(&self, rt: &R, mine: &mut Share<Printed<B>>) -> Result<Handed<B>, Memory>
+        requires { mine.old.parts ≡ 1 }
+        ensures parts { mine.new.parts ≡ 1 }
+        ensures from { IfOk result (λ h. h.output.from ≡ mine.old.amount) }
+        ensures amount { IfOk result (λ h. mine.new.amount ≡ mine.old.amount + length h.output.bytes.items) }
+    {
         let mut locked = self.locked.lock(rt);
         if !locked.is_over() {
-            locked = sleep(rt, &self.writing, locked, Duration::from_millis(WRITING_NAP));
+            locked = sleep(
+                rt,
+                &self.writing,
+                locked,
+                Duration::from_millis(WRITING_NAP),
+            );
         }
-        locked.next()
+        locked.next(mine)
     }
 
-    /// The run stops, unless it has ended.
-    pub fn stop<R: Wait>(&self, rt: &R, why: Stop) {
-        self.locked.lock(rt).stop(why);
+    /// The run stops for want of memory, unless it has ended.
+    pub fn stop<R: Wait>(&self, rt: &R) {
+        self.locked.lock(rt).stop();
         self.wake_all();
     }
 

@@ -4,7 +4,6 @@ ghost use Rattle.std.specs.Prelude.{◌≡◌};
 
 use crate::run_name::RunName;
 use book::Lease;
-use go_text::Fault;
 use std::marker::PhantomData;
 
 /// A lease of this run.
@@ -53,26 +52,4 @@ pub(crate) enum Turn<B: RunName> {
     Wait,
     /// It leaves: the run is over.
     Leave,
-}
-
-/// Why a run stops before its end.
-#[derive(Clone, Copy)]
-pub(crate) enum Stop {
-    /// Memory was refused.
-    Memory,
-    /// A lease came back that was not out.
-    NotYours,
-}
-
-impl From<Stop> for Fault {
-    ghost use Rattle.worker_pool.specs.Stops.{fault_of};
-
-    ghost from_gives = { λ stop fault. fault ≡ fault_of stop };
-
-    fn from(stop: Stop) -> Fault {
-        match stop {
-            Stop::Memory => Fault::Memory,
-            Stop::NotYours => Fault::NotYours,
-        }
-    }
 }
