@@ -1,10 +1,10 @@
 -- Each call of the book leaves it where the one-thread run stands.
-use Rattle.std.proofs.Common.{◌≡◌, ◌≢◌, ℕ, zero, suc, ◌+◌, ◌<◌, ◌≤◌, ◌^◌, Bool, true, false, cond, List, [], ◌∷◌, ◌++◌, map, length, take, drop, Option, Some, None, refl, sym, ap, ◌∙◌, subst, inl, inr, arith, length-append, get_or-set_same}
+use Rattle.std.proofs.Common.{◌≡◌, ◌≢◌, ℕ, zero, suc, ◌+◌, ◌*◌, ◌<◌, ◌≤◌, ◌^◌, Bool, true, false, cond, List, [], ◌∷◌, ◌++◌, map, length, take, drop, Option, Some, None, refl, sym, ap, ◌∙◌, subst, inl, inr, arith, length-append, get_or-set_same}
 use Rattle.std.specs.Prelude.{slice_index_or, slice_set, slice_get, option_map}
 use Rattle.std.specs.Option.{is_some, MatchOption}
 use Rattle.std.proofs.lemmas.Bool.{true≢false, cases_lt}
 use Rattle.std.proofs.Math.Seq.{take-length}
-use Rattle.std.proofs.lemmas.List.{get_or_past}
+use Rattle.std.proofs.lemmas.List.{drop_all, get_or_past}
 use Rattle.std.proofs.lemmas.Option.{none-some}
 use Rattle.bytecode.specs.Code.{Code}
 use Rattle.bytecode.specs.Machine.{Frames, code_kind}
@@ -23,6 +23,8 @@ use Rattle.word.specs.Kinds.{asks}
 use Rattle.word.specs.Views.{event_of}
 use Rattle.word.specs.Worlds.{Rest, rules, opening, moment, is_deserted, end_of}
 use Rattle.word.specs.Values.{Sleeper}
+use Rattle.tracer.specs.Trace.{trace, traceline}
+use Rattle.tracer.proofs.Traces.{trace-push}
 use Rattle.word.proofs.Apart.{apart}
 use Rattle.word.proofs.Found.{In}
 use Rattle.word.proofs.Laws.{laws}
@@ -31,7 +33,7 @@ use Rattle.world_core.specs.Slots.{State, Rows, FitsRow, IsAwake, IsNobodyAwake,
 use Rattle.world_core.proofs.Leases.{core_fits_set, core_set, opened_fits}
 use Rattle.world_core.proofs.Others.{performed_other}
 use Rattle.world_core.proofs.Scheduling.{deserted}
-use Rattle.book.specs.Desks.{Desk, CommitsNext, IsDesk, IsPiece, IsEnd, KeepsLeases, StandsBefore, Held, IsLent, opened_desk, lent_desk}
+use Rattle.book.specs.Desks.{Desk, CommitsNext, IsDesk, IsPiece, IsTracePiece, IsEnd, KeepsLeases, StandsBefore, Held, IsLent, opened_desk, lent_desk}
 use Rattle.book.proofs.Desks.{lend_keeps, bring_keeps, lent_other, row_awake, settle_keeps, parked_asks, waits_alone, waits_before, nobody_awake}
 
 abbrev rules_of : Desk → Rules State (Rest Frames)
@@ -48,8 +50,9 @@ opened_is_desk code limit v le =
       limit = le;
       many = omega arith;
       room = omega arith;
+      trace_room = omega arith;
       fits = opened_fits code limit v le;
-      at = (0, opened r w, record { stands = opened_stands r (laws (code_kind code) limit) w; core = record { rows = refl; beds = tt; channels = refl; asleep = refl; live = refl; made = refl; events = refl; ending = refl }; size = refl; bytes = refl });
+      at = (0, opened r w, record { stands = opened_stands r (laws (code_kind code) limit) w; core = record { rows = refl; beds = tt; channels = refl; asleep = refl; live = refl; made = refl; events = refl; ending = refl }; size = refl; bytes = refl; trace_size = refl; trace_bytes = refl });
     }
 
 -- ---- lend and bring
@@ -67,6 +70,7 @@ lent_is_desk d n s h free =
       limit = h.limit;
       many = h.many;
       room = h.room;
+      trace_room = h.trace_room;
       fits = core_fits_set d.code d.limit d.core n (Some (lent_row s)) h.fits (record { state = fits.state; present = fits.state; asks = λ e. absurd (true≢false (sym e)) });
       at = (
         h.at.0,
@@ -76,6 +80,8 @@ lent_is_desk d n s h free =
           core = subst (λ (o : Option (Row State)). IsCoreOf (record m { rows = slice_set m.rows n o }) (lent_desk d n s).core) (sym row) (core_set m d.core n (Some (lent_row s)) a.core);
           size = a.size;
           bytes = a.bytes;
+          trace_size = a.trace_size;
+          trace_bytes = a.trace_bytes;
         },
       );
     }
@@ -95,6 +101,7 @@ brought_is_desk d n row s h here leads fits =
       limit = h.limit;
       many = h.many;
       room = h.room;
+      trace_room = h.trace_room;
       fits = core_fits_set d.code d.limit d.core n (Some (back_row d s)) h.fits (record { state = fits; present = tt; asks = λ e. e });
       at = (
         h.at.0,
@@ -104,6 +111,8 @@ brought_is_desk d n row s h here leads fits =
           core = core_set m d.core n (Some (back_row d s)) a.core;
           size = a.size;
           bytes = a.bytes;
+          trace_size = a.trace_size;
+          trace_bytes = a.trace_bytes;
         },
       );
     }
@@ -129,13 +138,32 @@ drop_more zero xs ys le = refl
 drop_more (suc n) [] ys le = absurd (omega (arith, le))
 drop_more (suc n) (x ∷ xs) ys le = drop_more n xs ys (omega (arith, le))
 
+-- where all are so many and these, all and more are so many and these and more
+longer : (all new kept more : List ℕ) (out : ℕ) → new ≡ all ++ more → length all ≡ out + length kept → length new ≡ out + length (kept ++ more)
+longer all new kept more out e size =
+    let long = ap length e ∙ length-append all more in
+    let sum = length-append kept more in
+    omega (arith, long, sum, size)
+
+-- and these are still the last of them
+kept_more : (all new kept more : List ℕ) (out : ℕ) → new ≡ all ++ more → length all ≡ out + length kept → drop out all ≡ kept → drop out new ≡ kept ++ more
+kept_more all new kept more out e size bytes = ap (drop out) e ∙ drop_more out all more (omega (arith, size)) ∙ ap (λ xs. xs ++ more) bytes
+
+-- in an event's room for each event
+fits_more : (out : ℕ) (kept more : List ℕ) (events after : ℕ) → out + length kept ≤ events * 2 ^ 64 → length (kept ++ more) < 2 ^ 64 → after ≡ events + 1 → out + length (kept ++ more) ≤ after * 2 ^ 64
+fits_more out kept more events after room fits one =
+    let sum = length-append kept more in
+    omega (arith, room, fits, one, sum)
+
 -- the desk after an event
 abbrev pub after_event : Desk → Recorded → CoreValue → Desk
-after_event d event new = record d { core = new; pending = d.pending ++ bytes_of event }
+after_event d event new = record d { core = new; pending = d.pending ++ bytes_of event; lines = d.lines ++ traceline (event_of event) }
 
-pub commits : (d : Desk) (n : ℕ) (event : Recorded) (new : CoreValue) → IsDesk d → HasTurn d.core n → Performs d.code d.limit d.core n event (bytes_of event) new → FitsCore d.code d.limit new → length (d.pending ++ bytes_of event) < 2 ^ 64 → IsDesk (after_event d event new) × CommitsNext d event (after_event d event new)
-commits d n event new h t done fits room =
+pub commits : (d : Desk) (n : ℕ) (event : Recorded) (new : CoreValue) → IsDesk d → HasTurn d.core n → Performs d.code d.limit d.core n event (bytes_of event) new → FitsCore d.code d.limit new → length (d.pending ++ bytes_of event) < 2 ^ 64 → length (d.lines ++ traceline (event_of event)) < 2 ^ 64
+    → IsDesk (after_event d event new) × CommitsNext d event (after_event d event new)
+commits d n event new h t done fits room trace_room =
     let bytes = bytes_of event in
+    let line = traceline (event_of event) in
     let r = rules_of d in
     let L = laws (code_kind d.code) d.limit in
     let m = h.at.1 in
@@ -152,16 +180,14 @@ commits d n event new h t done fits room =
     let events = ap length p.events ∙ length-append (shared_of m).events (event_of event ∷ []) in
     let one : new.events ≡ d.core.events + 1 = p.core.events ∙ events ∙ ap (λ k. k + 1) (sym a.core.events) in
     let was = h.fits.count (ap is_some t.going) in
-    let out = p.output in
-    let more = ap length out ∙ length-append (shared_of m).output bytes in
-    let longer = length-append d.pending bytes in
-    let size = a.size in
-    let whole = h.room in (
+    let lines = ap trace p.events ∙ trace-push (shared_of m).events (event_of event) in
+    let before = trace (shared_of m).events in (
       record {
         verified = h.verified;
         limit = h.limit;
         many = omega (arith, was, one);
-        room = omega (arith, whole, one, room);
+        room = fits_more d.taken d.pending bytes d.core.events new.events h.room room one;
+        trace_room = fits_more d.traced d.lines line d.core.events new.events h.trace_room trace_room one;
         fits = fits;
         at = (
           h.at.0 + s.0,
@@ -169,8 +195,10 @@ commits d n event new h t done fits room =
           record {
             stands = stands;
             core = p.core;
-            size = omega (arith, more, longer, size);
-            bytes = ap (drop d.taken) out ∙ drop_more d.taken (shared_of m).output bytes (omega (arith, size)) ∙ ap (λ xs. xs ++ bytes) a.bytes;
+            size = longer (shared_of m).output (shared_of after).output d.pending bytes d.taken p.output a.size;
+            bytes = kept_more (shared_of m).output (shared_of after).output d.pending bytes d.taken p.output a.size a.bytes;
+            trace_size = longer before (trace (shared_of after).events) d.lines line d.traced lines a.trace_size;
+            trace_bytes = kept_more before (trace (shared_of after).events) d.lines line d.traced lines a.trace_size a.trace_bytes;
           },
         );
       },
@@ -188,8 +216,20 @@ commits d n event new h t done fits room =
         code = refl;
         limit = refl;
         taken = refl;
+        lines = refl;
+        traced = refl;
       },
     )
+
+-- the same where the bytes and the lines that are left are known by equations
+pub committed : (d : Desk) (n : ℕ) (event : Recorded) (new : CoreValue) (pending lines : List ℕ) → IsDesk d → HasTurn d.core n → Performs d.code d.limit d.core n event (bytes_of event) new → FitsCore d.code d.limit new
+    → pending ≡ d.pending ++ bytes_of event → lines ≡ d.lines ++ traceline (event_of event) → length pending < 2 ^ 64 → length lines < 2 ^ 64
+    → IsDesk (record d { core = new; pending = pending; lines = lines }) × CommitsNext d event (record d { core = new; pending = pending; lines = lines })
+committed d n event new pending lines h turn done fits bytes line room trace_room =
+    let P : List ℕ → Type 0 = λ xs. length xs < 2 ^ 64 in
+    let r = commits d n event new h turn done fits (subst P bytes room) (subst P line trace_room) in
+    subst (λ (xs : List ℕ). IsDesk (record d { core = new; pending = xs; lines = lines }) × CommitsNext d event (record d { core = new; pending = xs; lines = lines })) (sym bytes)
+    (subst (λ (ls : List ℕ). IsDesk (record d { core = new; pending = d.pending ++ bytes_of event; lines = ls }) × CommitsNext d event (record d { core = new; pending = d.pending ++ bytes_of event; lines = ls })) (sym line) r)
 
 -- who is lent is neither the actor nor asleep, so its lease stays out
 pub commits_keeps : (d e : Desk) (event : Recorded) → IsDesk d → CommitsNext d event e → KeepsLeases d e
@@ -252,7 +292,7 @@ ends_by : (w : Whole State (Rest Frames)) (e : Ending) (o : Option Ending) → w
 ends_by w e o is ended = ap (λ (x : Option Ending). cond (is_some x) x (cond (is_deserted (map is_some w.awake)) (Some Deadlock) None)) (is ∙ ended)
 
 -- an event ended the run
-pub ended_desk : (d : Desk) (e : Ending) → IsDesk d → d.core.ending ≡ Some e → IsEnd d.code d.limit d.core.events (d.taken + length d.pending) e
+pub ended_desk : (d : Desk) (e : Ending) → IsDesk d → d.core.ending ≡ Some e → IsEnd d.code d.limit d.core.events (d.taken + length d.pending) (d.traced + length d.lines) e
 ended_desk d e h ended =
     let a = h.at.2 in
     let same = sym a.stands.shared in
@@ -260,11 +300,12 @@ ended_desk d e h ended =
       moves = h.at.0;
       events = ap (λ (x : Rest Frames). length x.shared.events) same ∙ sym a.core.events;
       bytes = ap (λ (x : Rest Frames). length x.shared.output) same ∙ a.size;
+      lines = ap (λ (x : Rest Frames). length (trace x.shared.events)) same ∙ a.trace_size;
       ending = ends_by (begun d h.at.0) e d.core.ending (ap (λ (x : Rest Frames). x.shared.ending) same ∙ sym a.core.ending) ended;
     }
 
 -- nobody is awake
-pub dead_desk : (d : Desk) → IsDesk d → d.core.ending ≡ None → IsNobodyAwake d.core.rows → IsEnd d.code d.limit d.core.events (d.taken + length d.pending) Deadlock
+pub dead_desk : (d : Desk) → IsDesk d → d.core.ending ≡ None → IsNobodyAwake d.core.rows → IsEnd d.code d.limit d.core.events (d.taken + length d.pending) (d.traced + length d.lines) Deadlock
 dead_desk d h going nobody =
     let a = h.at.2 in
     let w = begun d h.at.0 in
@@ -275,6 +316,7 @@ dead_desk d h going nobody =
       moves = h.at.0;
       events = ap (λ (x : Rest Frames). length x.shared.events) same ∙ sym a.core.events;
       bytes = ap (λ (x : Rest Frames). length x.shared.output) same ∙ a.size;
+      lines = ap (λ (x : Rest Frames). length (trace x.shared.events)) same ∙ a.trace_size;
       ending = ap (λ (x : Option Ending). cond (is_some x) x (cond (is_deserted (map is_some w.awake)) (Some Deadlock) None)) none ∙ ap (λ b. cond b (Some Deadlock) None) (deserted w.awake all);
     }
 
@@ -285,6 +327,56 @@ pending_stands d h =
     let same = ap (λ (x : Rest Frames). x.shared.output) (sym a.stands.shared) in
     let long = ap length same ∙ a.size in
     (h.at.0, omega (arith, long), ap (λ xs. take (length d.pending) (drop d.taken xs)) same ∙ ap (take (length d.pending)) a.bytes ∙ take-length d.pending)
+
+-- the same of the trace
+pub lines_stand : (d : Desk) → IsDesk d → IsTracePiece d.code d.limit d.traced d.lines
+lines_stand d h =
+    let a = h.at.2 in
+    let same = ap (λ (x : Rest Frames). trace x.shared.events) (sym a.stands.shared) in
+    let long = ap length same ∙ a.trace_size in
+    (h.at.0, omega (arith, long), ap (λ xs. take (length d.lines) (drop d.traced xs)) same ∙ ap (take (length d.lines)) a.trace_bytes ∙ take-length d.lines)
+
+-- where all that was left is taken out, nothing is left
+none_left : (all kept left : List ℕ) (out count : ℕ) → length all ≡ out + length kept → count ≡ length kept → left ≡ [] → length all ≡ out + count + length left
+none_left all kept left out count size whole none =
+    let long = ap length none in
+    omega (arith, size, whole, long)
+
+dropped_all : (all kept left : List ℕ) (out count : ℕ) → length all ≡ out + length kept → count ≡ length kept → left ≡ [] → drop (out + count) all ≡ left
+dropped_all all kept left out count size whole none = drop_all (out + count) all (omega (arith, size, whole)) ∙ sym none
+
+fits_still : (kept left : List ℕ) (out count most : ℕ) → count ≡ length kept → left ≡ [] → out + length kept ≤ most → out + count + length left ≤ most
+fits_still kept left out count most whole none room =
+    let long = ap length none in
+    omega (arith, room, whole, long)
+
+pub output_taken : (d : Desk) (count : ℕ) (left : List ℕ) → IsDesk d → count ≡ length d.pending → left ≡ [] → IsDesk (record d { taken = d.taken + count; pending = left })
+output_taken d count left h whole none =
+    let a = h.at.2 in
+    let all = (shared_of h.at.1).output in
+    record {
+      verified = h.verified;
+      limit = h.limit;
+      many = h.many;
+      room = fits_still d.pending left d.taken count (d.core.events * 2 ^ 64) whole none h.room;
+      trace_room = h.trace_room;
+      fits = h.fits;
+      at = (h.at.0, h.at.1, record { stands = a.stands; core = a.core; size = none_left all d.pending left d.taken count a.size whole none; bytes = dropped_all all d.pending left d.taken count a.size whole none; trace_size = a.trace_size; trace_bytes = a.trace_bytes });
+    }
+
+pub trace_taken : (d : Desk) (count : ℕ) (left : List ℕ) → IsDesk d → count ≡ length d.lines → left ≡ [] → IsDesk (record d { traced = d.traced + count; lines = left })
+trace_taken d count left h whole none =
+    let a = h.at.2 in
+    let all = trace (shared_of h.at.1).events in
+    record {
+      verified = h.verified;
+      limit = h.limit;
+      many = h.many;
+      room = h.room;
+      trace_room = fits_still d.lines left d.traced count (d.core.events * 2 ^ 64) whole none h.trace_room;
+      fits = h.fits;
+      at = (h.at.0, h.at.1, record { stands = a.stands; core = a.core; size = a.size; bytes = a.bytes; trace_size = none_left all d.lines left d.traced count a.trace_size whole none; trace_bytes = dropped_all all d.lines left d.traced count a.trace_size whole none });
+    }
 
 -- the row that was lent is lent
 pub lent_is_lent : (rows : Rows) (n : ℕ) (s : State) → IsFreeIn rows n s → IsLentRow (slice_set rows n (Some (lent_row s))) n s

@@ -13,6 +13,7 @@ use Rattle.word.specs.Values.{Event}
 use Rattle.word.specs.Kinds.{asks}
 use Rattle.word.specs.Views.{event_of}
 use Rattle.word.specs.Worlds.{end_of, moment, rules}
+use Rattle.tracer.specs.Trace.{trace, traceline}
 use Rattle.book.specs.declared.settled.Settled.{Settled}
 use Rattle.book.specs.declared.settled.Settled.TheVariants.{Committed, Waiting, Ended}
 use Rattle.world_core.specs.Cores.{CodeMachine, CoreValue, FitsCore, HasTurn, IsCoreOf, IsLentRow, Performs, bytes_of, opened_core, shared_of}
@@ -31,11 +32,18 @@ IsPiece code limit from bytes =
     (n : ℕ) × (from + length bytes ≤ length (moment (code_kind code) limit n).shared.shared.output)
     × (take (length bytes) (drop from (moment (code_kind code) limit n).shared.shared.output) ≡ bytes)
 
--- the run ends so, after so many events and so many bytes of output
-pub record IsEnd (code : Code) (limit before size : ℕ) (last : Ending) : Type 0 where
+-- the bytes stand at a place of the trace
+abbrev pub IsTracePiece : Code → ℕ → ℕ → List ℕ → Type 0
+IsTracePiece code limit from bytes =
+    (n : ℕ) × (from + length bytes ≤ length (trace (moment (code_kind code) limit n).shared.shared.events))
+    × (take (length bytes) (drop from (trace (moment (code_kind code) limit n).shared.shared.events)) ≡ bytes)
+
+-- the run ends so, after so many events, so many bytes of output and so many of the trace
+pub record IsEnd (code : Code) (limit before size trace_size : ℕ) (last : Ending) : Type 0 where
   pub moves : ℕ
   pub events : length (moment (code_kind code) limit moves).shared.shared.events ≡ before
   pub bytes : length (moment (code_kind code) limit moves).shared.shared.output ≡ size
+  pub lines : length (trace (moment (code_kind code) limit moves).shared.shared.events) ≡ trace_size
   pub ending : end_of (moment (code_kind code) limit moves) ≡ Some last
 
 -- ---- the book
@@ -47,6 +55,9 @@ pub record Desk : Type 0 where
   -- how many bytes of the output were taken out, and those that were not
   pub taken : ℕ
   pub pending : List ℕ
+  -- the same of the trace
+  pub traced : ℕ
+  pub lines : List ℕ
 
 -- the machine m is this desk's, and stands where the one-thread run does after n moves
 pub record IsAt (d : Desk) (n : ℕ) (m : CodeMachine) : Type 0 where
@@ -54,12 +65,15 @@ pub record IsAt (d : Desk) (n : ℕ) (m : CodeMachine) : Type 0 where
   pub core : IsCoreOf m d.core
   pub size : length (shared_of m).output ≡ d.taken + length d.pending
   pub bytes : drop d.taken (shared_of m).output ≡ d.pending
+  pub trace_size : length (trace (shared_of m).events) ≡ d.traced + length d.lines
+  pub trace_bytes : drop d.traced (trace (shared_of m).events) ≡ d.lines
 
 pub record IsDesk (d : Desk) : Type 0 where
   pub verified : IsVerified d.code
   pub limit : d.limit ≤ 2 ^ 62
   pub many : d.core.events ≤ 2 ^ 62
   pub room : d.taken + length d.pending ≤ d.core.events * 2 ^ 64
+  pub trace_room : d.traced + length d.lines ≤ d.core.events * 2 ^ 64
   pub fits : FitsCore d.code d.limit d.core
   pub at : (n : ℕ) × (m : CodeMachine) × IsAt d n m
 
@@ -71,6 +85,8 @@ opened_desk code limit = record {
   core = opened_core code;
   taken = 0;
   pending = [];
+  traced = 0;
+  lines = [];
 }
 
 -- ---- leases
@@ -122,7 +138,7 @@ pub record StandsBefore (core : CoreValue) (n : ℕ) : Type 0 where
   pub below : MatchOption (least (keys waiting_clock 0 core.rows)) (Unit {0}) (λ k. is_before (record { clock = row.floor; number = n }) k ≡ true)
 
 -- the request of the goroutine that has the turn is performed: the run's next event, which leaves the world that performing
--- leaves, and whose bytes come behind those that were not taken out
+-- leaves, and whose bytes and line come behind those that were not taken out
 pub record CommitsNext (old : Desk) (event : Recorded) (new : Desk) : Type 0 where
   pub number : ℕ
   pub turn : HasTurn old.core number
@@ -133,10 +149,12 @@ pub record CommitsNext (old : Desk) (event : Recorded) (new : Desk) : Type 0 whe
   pub code : new.code ≡ old.code
   pub limit : new.limit ≡ old.limit
   pub taken : new.taken ≡ old.taken
+  pub lines : new.lines ≡ old.lines ++ traceline (event_of event)
+  pub traced : new.traced ≡ old.traced
 
 -- one event more, and the run's next one; or somebody who stands before it; or the run's end
 abbrev pub Settles : Desk → Settled → Desk → Type 0
 Settles old (Committed event) new = CommitsNext old event new
 Settles old (Waiting n) new = (new ≡ old) × StandsBefore old.core n
 Settles old (Ended ending) new =
-    (new ≡ old) × IsEnd old.code old.limit old.core.events (old.taken + length old.pending) ending
+    (new ≡ old) × IsEnd old.code old.limit old.core.events (old.taken + length old.pending) (old.traced + length old.lines) ending

@@ -3,11 +3,11 @@
 ghost use Rattle.std.specs.Prelude.{◌≡◌, ◌+◌, ◌<◌, ◌≤◌, ◌^◌, ◌↔◌, ◌⊎◌, [], IfErr, IfNone, IfOk, IfSome, IsErrOf, IsOk, IsTrue, None, OnErr, OnOk, Some, length, slice_set};
 ghost use Rattle.std.specs.Arc.{arc_value};
 ghost use Rattle.output.specs.Progress.{piece_run};
-ghost use Rattle.output.specs.declared.piece.Kind.TheVariants.{Output};
+ghost use Rattle.output.specs.declared.piece.Kind.TheVariants.{Output, Trace};
 ghost use Rattle.logical_clock.specs.Order.{keys, least};
 ghost use Rattle.world_core.specs.Slots.{waiting_clock};
 ghost use Rattle.world_core.specs.Cores.{HasTurn, IsFreeIn, to_lend};
-ghost use Rattle.book.specs.Desks.{IsDesk, IsLent, IsPiece, KeepsLeases, Settles, brought, lent_desk, opened_desk};
+ghost use Rattle.book.specs.Desks.{IsDesk, IsLent, IsPiece, IsTracePiece, KeepsLeases, Settles, brought, lent_desk, opened_desk};
 
 use crate::lease::Lease;
 use crate::settled::Settled;
@@ -18,11 +18,13 @@ use std::alloc::Global;
 use std::marker::Model;
 use std::mem;
 use std::sync::Arc;
+use tracer::{append_line, reserve_line};
 use verifier::Verified;
 use word::end::End;
 use world_core::{Core, blocker, first_awake, least_parked};
 
-/// The book of a run: what is committed, who is lent, and the bytes that were not yet taken out.
+/// The book of a run: what is committed, who is lent, and the bytes of the output and of the trace that were not yet taken
+/// out.
 #[derive(Drop)]
 pub struct Book {
     alloc: Global,
@@ -33,6 +35,10 @@ pub struct Book {
     taken: u128,
     /// The bytes of the output that were not.
     pending: Vec<u8>,
+    /// How many bytes of the trace were taken out.
+    traced: u128,
+    /// The bytes of the trace that were not.
+    lines: Vec<u8>,
 }
 
 impl Model for Book {
@@ -41,9 +47,9 @@ impl Model for Book {
 
     ghost Value = { Desk };
 
-    ghost view = { λ b. record { code = arc_value b.program; limit = b.limit; core = b.core; taken = b.taken; pending = b.pending.items } };
+    ghost view = { λ b. record { code = arc_value b.program; limit = b.limit; core = b.core; taken = b.taken; pending = b.pending.items; traced = b.traced; lines = b.lines.items } };
 
-    ghost invariant = { λ b. IsDesk (record { code = arc_value b.program; limit = b.limit; core = b.core; taken = b.taken; pending = b.pending.items }) };
+    ghost invariant = { λ b. IsDesk (record { code = arc_value b.program; limit = b.limit; core = b.core; taken = b.taken; pending = b.pending.items; traced = b.traced; lines = b.lines.items }) };
 }
 
 impl Book {
@@ -64,6 +70,8 @@ impl Book {
             core,
             taken: 0,
             pending: Vec::new(alloc),
+            traced: 0,
+            lines: Vec::new(alloc),
         })
     }
 
@@ -177,6 +185,7 @@ impl Book {
         ensures leases { OnOk result (KeepsLeases self.old self.new) }
         ensures memory { OnErr result (self.new ≡ self.old) }
     {
+        reserve_line(&mut self.lines, self.core.most_partners())?;
         let event = self.core.perform(
             self.alloc,
             &self.program,
@@ -184,6 +193,7 @@ impl Book {
             number,
             &mut self.pending,
         )?;
+        append_line(&mut self.lines, &event);
         Ok(Settled::Committed(event))
     }
 
@@ -205,6 +215,27 @@ impl Book {
             kind: Kind::Output,
             from,
             bytes,
+        })
+    }
+
+    /// The lines of the trace that were committed and not yet taken out.
+    pub fn take_trace(&mut self) -> Result<Piece, Memory>
+        ensures run { IfOk result (λ piece. piece_run piece ≡ record { program = self.old.code; limit = self.old.limit; kind = Trace }) }
+        ensures place { IfOk result (λ piece. (piece.from ≡ self.old.traced) × (piece.bytes.items ≡ self.old.lines)) }
+        ensures stands { IfOk result (λ piece. IsTracePiece self.old.code self.old.limit piece.from piece.bytes.items) }
+        ensures taken { OnOk result (self.new ≡ record self.old { traced = self.old.traced + length self.old.lines; lines = [] }) }
+        ensures memory { OnErr result (self.new ≡ self.old) }
+    {
+        let program = Arc::try_clone(&self.program)?;
+        let lines = mem::replace(&mut self.lines, Vec::new(self.alloc));
+        let from = self.traced;
+        self.traced = from + lines.len() as u128;
+        Ok(Piece {
+            program,
+            limit: self.limit,
+            kind: Kind::Trace,
+            from,
+            bytes: lines,
         })
     }
 }

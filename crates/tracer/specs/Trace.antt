@@ -60,11 +60,15 @@ send_text channel e = codes "send " ++ channel_text channel ++ codes " " ++ resu
 abbrev pub receive_text : (channel : Option ℕ) → Event → List ℕ
 receive_text channel e = codes "receive " ++ channel_text channel ++ codes " " ++ result_text (codes "from ") e
 
--- what stands behind `close 1`: nothing, the partners, as ` wakes 2 3`, or a panic
+-- those whom a close wakes, as ` wakes 2 3`
+abbrev pub woken_text : (woken : List ℕ) → List ℕ
+woken_text [] = []
+woken_text (first ∷ rest) = codes " wakes" ++ flat_map (λ number. codes " " ++ decimal number) (first ∷ rest)
+
+-- what stands behind `close 1`: nothing, the partners, or a panic
 abbrev pub close_text : EventOutcome → (partners : List ℕ) → List ℕ
 close_text (Panics cause _) partners = codes " " ++ panic_text cause
-close_text (Done _) [] = []
-close_text (Done _) (first ∷ rest) = codes " wakes" ++ flat_map (λ number. codes " " ++ decimal number) (first ∷ rest)
+close_text (Done _) partners = woken_text partners
 close_text Sleeps partners = codes " sleeps"
 
 -- the clause of a select that was done or panicked, counted from 1

@@ -1,164 +1,161 @@
 //! What a goroutine asked and what came of it, as text.
 
-ghost use Rattle.std.specs.Prelude.{◌≡◌, ◌-◌, ◌++◌, List, ℕ, codes, decimal, slice_get, Some};
+ghost use Rattle.std.specs.Prelude.{◌≡◌, ◌+◌, ◌-◌, ◌*◌, ◌++◌, [], codes, decimal, length, slice_get};
 ghost use Rattle.std.specs.List.{flat_map};
-ghost use Rattle.std.specs.Fmt.{DisplaysOnOk};
-ghost use Rattle.word.specs.Views.{event_of, outcome_of, request_of};
-ghost use Rattle.tracer.specs.Trace.{channel_text, clause_number, clause_text, close_text, operation_text, receive_text, request_text, select_text, send_text};
+ghost use Rattle.word.specs.Views.{event_of, outcome_of};
+ghost use Rattle.tracer.specs.Room.{AppendsWithin, HasRoom};
+ghost use Rattle.tracer.specs.Trace.{channel_text, clause_number, clause_text, close_text, operation_text, receive_text, request_text, result_text, select_text, send_text, woken_text};
 
-use crate::outcome::{Cause, Channel, Outcome};
-use std::fmt;
+use crate::outcome::{push_channel, push_outcome, push_panic};
+use crate::room::{push_number, push_text};
 use word::request::{Case, Event, EventOutcome, Reply, Request};
 
 /// An event without its clock and number: what was asked and what came of it.
-#[derive(Clone, Copy)]
-pub(crate) struct Form<'a>(pub(crate) &'a Event);
+pub(crate) fn push_request(lines: &mut Vec<u8>, event: &Event)
+    requires { HasRoom lines.old (77 + 21 * length event.now.partners.items) }
+    ensures { let e = event_of event.now in AppendsWithin lines.old lines.new (77 + 21 * length event.now.partners.items) (request_text e.request e) }
+{
+    match &event.request {
+        Request::Make(_, _) => push_plain(lines, "make ", event),
+        Request::Go(_, _) => push_plain(lines, "go ", event),
+        Request::Send(channel, _) => push_send(lines, *channel, event),
+        Request::Receive(channel) => push_receive(lines, *channel, event),
+        Request::Close(channel) => push_close(lines, *channel, event),
+        Request::Select(cases, _) => push_select(lines, cases.as_slice(), event),
+        Request::Len(channel) => push_size(lines, "len ", *channel, event),
+        Request::Cap(channel) => push_size(lines, "cap ", *channel, event),
+        Request::Print(bytes) => push_print(lines, bytes.len()),
+        Request::End => push_text(lines, "end"),
+        Request::Exit => push_text(lines, "exit"),
+        Request::Panic(cause) => push_panic(lines, *cause),
+        Request::Exhausted => push_text(lines, "exhausted"),
+    }
+}
 
-impl fmt::Display for Form<'_> {
-    ghost output = { λ form. let e = event_of form.0.now in Some (request_text e.request e) };
+/// What was asked, and what came of it.
+fn push_plain(lines: &mut Vec<u8>, what: &str, event: &Event)
+    requires { HasRoom lines.old (length what.now + 20) }
+    ensures { AppendsWithin lines.old lines.new (length what.now + 20) (what.now ++ result_text [] (event_of event.now)) }
+{
+    push_text(lines, what);
+    push_outcome(lines, "", event);
+}
 
-    fn fmt<W: fmt::Write>(&self, f: &mut fmt::Formatter<W>) -> fmt::Result {
-        let event = self.0;
-        let outcome = Outcome { word: "", event };
-        match &event.request {
-            Request::Make(_, _) => write!(f, "make {outcome}"),
-            Request::Go(_, _) => write!(f, "go {outcome}"),
-            Request::Send(channel, _) => send(f, *channel, event),
-            Request::Receive(channel) => receive(f, *channel, event),
-            Request::Close(channel) => close(f, *channel, event),
-            Request::Select(cases, _) => select(f, cases.as_slice(), event),
-            Request::Len(channel) => {
-                let channel = Channel(*channel);
-                write!(f, "len {channel} {outcome}")
-            }
-            Request::Cap(channel) => {
-                let channel = Channel(*channel);
-                write!(f, "cap {channel} {outcome}")
-            }
-            Request::Print(bytes) => {
-                let count = bytes.len();
-                write!(f, "print {count}")
-            }
-            Request::End => write!(f, "end"),
-            Request::Exit => write!(f, "exit"),
-            Request::Panic(cause) => {
-                let cause = Cause(*cause);
-                write!(f, "{cause}")
-            }
-            Request::Exhausted => write!(f, "exhausted"),
+/// What was asked of a channel, and what came of it, as `len 1 2`.
+fn push_size(lines: &mut Vec<u8>, what: &str, channel: Option<u32>, event: &Event)
+    requires { HasRoom lines.old (length what.now + 31) }
+    ensures { AppendsWithin lines.old lines.new (length what.now + 31) (what.now ++ channel_text channel ++ codes " " ++ result_text [] (event_of event.now)) }
+{
+    push_text(lines, what);
+    push_channel(lines, channel);
+    push_plain(lines, " ", event);
+}
+
+/// A print of so many bytes.
+fn push_print(lines: &mut Vec<u8>, count: usize)
+    requires { HasRoom lines.old 26 }
+    ensures { AppendsWithin lines.old lines.new 26 (codes "print " ++ decimal count) }
+{
+    push_text(lines, "print ");
+    push_number(lines, count);
+}
+
+/// A send, as `send 1 to 2`.
+fn push_send(lines: &mut Vec<u8>, channel: Option<u32>, event: &Event)
+    requires { HasRoom lines.old 39 }
+    ensures { AppendsWithin lines.old lines.new 39 (send_text channel (event_of event.now)) }
+{
+    push_text(lines, "send ");
+    push_channel(lines, channel);
+    push_text(lines, " ");
+    push_outcome(lines, "to ", event);
+}
+
+/// A receive, as `receive 1 closed`.
+fn push_receive(lines: &mut Vec<u8>, channel: Option<u32>, event: &Event)
+    requires { HasRoom lines.old 44 }
+    ensures { AppendsWithin lines.old lines.new 44 (receive_text channel (event_of event.now)) }
+{
+    push_text(lines, "receive ");
+    push_channel(lines, channel);
+    push_text(lines, " ");
+    push_outcome(lines, "from ", event);
+}
+
+/// A close, as `close 1 wakes 2 3`.
+fn push_close(lines: &mut Vec<u8>, channel: Option<u32>, event: &Event)
+    requires { HasRoom lines.old (27 + 21 * length event.now.partners.items) }
+    ensures { let e = event_of event.now in AppendsWithin lines.old lines.new (27 + 21 * length event.now.partners.items)
+        (codes "close " ++ channel_text channel ++ close_text e.outcome e.partners) }
+{
+    push_text(lines, "close ");
+    push_channel(lines, channel);
+    match &event.outcome {
+        EventOutcome::Done(_) => push_woken(lines, event.partners.as_slice()),
+        EventOutcome::Sleeps => push_text(lines, " sleeps"),
+        EventOutcome::Panics(cause, _) => {
+            push_text(lines, " ");
+            push_panic(lines, *cause);
         }
     }
 }
 
-/// A send, as `send 1 to 2`.
-fn send<W: fmt::Write>(
-    f: &mut fmt::Formatter<W>,
-    channel: Option<u32>,
-    event: &Event,
-) -> fmt::Result
-    ensures { DisplaysOnOk W.write_str_gives f.old result (Some (send_text channel (event_of event.now))) f.new }
+/// Those whom a close wakes, if it wakes anybody.
+fn push_woken(lines: &mut Vec<u8>, woken: &[u64])
+    requires { HasRoom lines.old (6 + 21 * length woken.now) }
+    ensures { AppendsWithin lines.old lines.new (6 + 21 * length woken.now) (woken_text woken.now) }
 {
-    let (channel, outcome) = (Channel(channel), Outcome { word: "to ", event });
-    write!(f, "send {channel} {outcome}")
-}
-
-/// A receive, as `receive 1 closed`.
-fn receive<W: fmt::Write>(
-    f: &mut fmt::Formatter<W>,
-    channel: Option<u32>,
-    event: &Event,
-) -> fmt::Result
-    ensures { DisplaysOnOk W.write_str_gives f.old result (Some (receive_text channel (event_of event.now))) f.new }
-{
-    let (channel, outcome) = (
-        Channel(channel),
-        Outcome {
-            word: "from ",
-            event,
-        },
-    );
-    write!(f, "receive {channel} {outcome}")
-}
-
-/// A close, as `close 1 wakes 2 3`.
-fn close<W: fmt::Write>(
-    f: &mut fmt::Formatter<W>,
-    channel: Option<u32>,
-    event: &Event,
-) -> fmt::Result
-    ensures { let e = event_of event.now in DisplaysOnOk W.write_str_gives f.old result
-        (Some (codes "close " ++ channel_text channel ++ close_text e.outcome e.partners)) f.new }
-{
-    let channel = Channel(channel);
-    match &event.outcome {
-        EventOutcome::Done(_) if event.partners.is_empty() => write!(f, "close {channel}"),
-        EventOutcome::Done(_) => {
-            let woken = Numbers(event.partners.as_slice());
-            write!(f, "close {channel} wakes{woken}")
-        }
-        EventOutcome::Sleeps => write!(f, "close {channel} sleeps"),
-        EventOutcome::Panics(cause, _) => {
-            let cause = Cause(*cause);
-            write!(f, "close {channel} {cause}")
-        }
+    if !woken.is_empty() {
+        push_text(lines, " wakes");
+        push_numbers(lines, woken);
     }
 }
 
 /// Numbers, each behind a space.
-#[derive(Clone, Copy)]
-struct Numbers<'a>(&'a [u64]);
-
-impl fmt::Display for Numbers<'_> {
-    ghost output = { λ numbers. Some (flat_map (λ number. codes " " ++ decimal number) numbers.0.now) };
-
-    fn fmt<W: fmt::Write>(&self, f: &mut fmt::Formatter<W>) -> fmt::Result {
-        for number in self.0.iter() {
-            write!(f, " {number}")?;
-        }
-        Ok(())
+fn push_numbers(lines: &mut Vec<u8>, numbers: &[u64])
+    requires { HasRoom lines.old (21 * length numbers.now) }
+    ensures { AppendsWithin lines.old lines.new (21 * length numbers.now) (flat_map (λ number. codes " " ++ decimal number) numbers.now) }
+{
+    for number in numbers.iter() {
+        push_text(lines, " ");
+        push_number(lines, *number);
     }
 }
 
 /// A select, as `select case 1 receive 2 done`.
-fn select<W: fmt::Write>(f: &mut fmt::Formatter<W>, cases: &[Case], event: &Event) -> fmt::Result
-    ensures { let e = event_of event.now in DisplaysOnOk W.write_str_gives f.old result
-        (Some (codes "select " ++ select_text cases.now (clause_number e.outcome) e)) f.new }
+fn push_select(lines: &mut Vec<u8>, cases: &[Case], event: &Event)
+    requires { HasRoom lines.old 77 }
+    ensures { let e = event_of event.now in AppendsWithin lines.old lines.new 77
+        (codes "select " ++ select_text cases.now (clause_number e.outcome) e) }
 {
     let Some(number) = number_of_clause(&event.outcome) else {
-        let outcome = Outcome { word: "", event };
-        return write!(f, "select {outcome}");
+        return push_plain(lines, "select ", event);
     };
-    write!(f, "select case {number} ")?;
-    clause(f, cases, number, event)
+    push_text(lines, "select case ");
+    push_number(lines, number);
+    push_text(lines, " ");
+    push_clause(lines, cases, number, event);
 }
 
 /// The clause of this number, as `receive 2 done`.
-fn clause<W: fmt::Write>(
-    f: &mut fmt::Formatter<W>,
-    cases: &[Case],
-    number: usize,
-    event: &Event,
-) -> fmt::Result
-    ensures { DisplaysOnOk W.write_str_gives f.old result
-        (Some (clause_text (slice_get cases.now (number - 1)) (event_of event.now))) f.new }
+fn push_clause(lines: &mut Vec<u8>, cases: &[Case], number: usize, event: &Event)
+    requires { HasRoom lines.old 44 }
+    ensures { AppendsWithin lines.old lines.new 44 (clause_text (slice_get cases.now (number - 1)) (event_of event.now)) }
 {
     match cases.get(number.saturating_sub(1)) {
-        Some(case) => operation(f, case, event),
-        None => {
-            let outcome = Outcome { word: "", event };
-            write!(f, "{outcome}")
-        }
+        Some(case) => push_operation(lines, case, event),
+        None => push_outcome(lines, "", event),
     }
 }
 
 /// A clause of a select: a send where it has an item.
-fn operation<W: fmt::Write>(f: &mut fmt::Formatter<W>, case: &Case, event: &Event) -> fmt::Result
-    ensures { DisplaysOnOk W.write_str_gives f.old result
-        (Some (operation_text case.now.item case.now.chan (event_of event.now))) f.new }
+fn push_operation(lines: &mut Vec<u8>, case: &Case, event: &Event)
+    requires { HasRoom lines.old 44 }
+    ensures { AppendsWithin lines.old lines.new 44 (operation_text case.now.item case.now.chan (event_of event.now)) }
 {
     match case.item {
-        Some(_) => send(f, case.chan, event),
-        None => receive(f, case.chan, event),
+        Some(_) => push_send(lines, case.chan, event),
+        None => push_receive(lines, case.chan, event),
     }
 }
 

@@ -1,14 +1,17 @@
 //! The events of a run as lines of text.
 #![tactic(auto)]
 
-ghost use Rattle.std.specs.Prelude.{◌≡◌, IfOk};
+ghost use Rattle.std.specs.Prelude.{◌≡◌, ◌++◌, IfOk, OnOk, length};
 ghost use Rattle.word.specs.Views.{event_of};
+ghost use Rattle.tracer.specs.Room.{HasRoom, longest_line};
 ghost use Rattle.tracer.specs.Trace.{traceline};
 
 mod form;
 mod outcome;
+mod room;
 
-use crate::form::Form;
+use crate::form::push_request;
+use crate::room::{push_number, push_text};
 use go_text::Memory;
 use std::alloc::Global;
 use word::request::Event;
@@ -22,7 +25,40 @@ use word::request::Event;
 pub fn line(alloc: Global, event: &Event) -> Result<Vec<u8>, Memory>
     ensures { IfOk result (λ text. text.items ≡ traceline (event_of event.now)) }
 {
-    let (clock, number, form) = (event.clock.time(), event.number, Form(event));
-    let text = format!(in alloc; "{clock} {number} {form}\n")?;
-    Ok(text.into_bytes())
+    let mut text = Vec::new(alloc);
+    reserve_line(&mut text, event.partners.len())?;
+    append_line(&mut text, event);
+    Ok(text)
+}
+
+/// Makes room for the line of an event with at most so many partners.
+///
+/// # Errors
+///
+/// `Memory` where memory is refused.
+pub fn reserve_line(lines: &mut Vec<u8>, partners: usize) -> Result<(), Memory>
+    ensures items { lines.new.items ≡ lines.old.items }
+    ensures room { OnOk result (HasRoom lines.new (longest_line partners)) }
+{
+    let Some(size) = partners
+        .checked_mul(21)
+        .and_then(|size| size.checked_add(120))
+    else {
+        return Err(Memory);
+    };
+    lines.reserve(size)?;
+    Ok(())
+}
+
+/// Puts the line of an event behind the others, in room that was made for it. It takes no memory.
+pub fn append_line(lines: &mut Vec<u8>, event: &Event)
+    requires { HasRoom lines.old (longest_line (length event.now.partners.items)) }
+    ensures { lines.new.items ≡ lines.old.items ++ traceline (event_of event.now) }
+{
+    push_number(lines, event.clock.time());
+    push_text(lines, " ");
+    push_number(lines, event.number);
+    push_text(lines, " ");
+    push_request(lines, event);
+    push_text(lines, "\n");
 }

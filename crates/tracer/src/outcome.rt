@@ -1,27 +1,23 @@
 //! What came of a request, as text.
 
-ghost use Rattle.std.specs.Prelude.{◌≡◌, Some};
-ghost use Rattle.std.specs.Fmt.{DisplaysOnOk};
+ghost use Rattle.std.specs.Prelude.{◌≡◌, ◌+◌, length};
 ghost use Rattle.word.specs.Views.{event_of};
+ghost use Rattle.tracer.specs.Room.{AppendsWithin, HasRoom};
 ghost use Rattle.tracer.specs.Trace.{channel_text, panic_number, panic_text, partner_text, result_text};
 
-use std::fmt;
+use crate::room::{push_number, push_text};
 use word::panic::Panic;
 use word::request::{Event, EventOutcome, Reply};
 use word::value::Word;
 
 /// A channel by its number, or `nil`.
-#[derive(Clone, Copy)]
-pub(crate) struct Channel(pub(crate) Option<u32>);
-
-impl fmt::Display for Channel {
-    ghost output = { λ channel. Some (channel_text channel.0) };
-
-    fn fmt<W: fmt::Write>(&self, f: &mut fmt::Formatter<W>) -> fmt::Result {
-        match self.0 {
-            Some(number) => write!(f, "{number}"),
-            None => write!(f, "nil"),
-        }
+pub(crate) fn push_channel(lines: &mut Vec<u8>, channel: Option<u32>)
+    requires { HasRoom lines.old 10 }
+    ensures { AppendsWithin lines.old lines.new 10 (channel_text channel) }
+{
+    match channel {
+        Some(number) => push_number(lines, number),
+        None => push_text(lines, "nil"),
     }
 }
 
@@ -43,55 +39,42 @@ fn number_of_panic(cause: Panic) -> u8
 }
 
 /// A panic by its number.
-#[derive(Clone, Copy)]
-pub(crate) struct Cause(pub(crate) Panic);
-
-impl fmt::Display for Cause {
-    ghost output = { λ cause. Some (panic_text cause.0) };
-
-    fn fmt<W: fmt::Write>(&self, f: &mut fmt::Formatter<W>) -> fmt::Result {
-        let number = number_of_panic(self.0);
-        write!(f, "panic P{number}")
-    }
+pub(crate) fn push_panic(lines: &mut Vec<u8>, cause: Panic)
+    requires { HasRoom lines.old 10 }
+    ensures { AppendsWithin lines.old lines.new 10 (panic_text cause) }
+{
+    push_text(lines, "panic P");
+    push_number(lines, number_of_panic(cause));
 }
 
 /// What came of a request; the first partner stands behind `word`.
-#[derive(Clone, Copy)]
-pub(crate) struct Outcome<'a> {
-    pub(crate) word: &'static str,
-    pub(crate) event: &'a Event,
-}
-
-impl fmt::Display for Outcome<'_> {
-    ghost output = { λ outcome. Some (result_text outcome.word.now (event_of outcome.event.now)) };
-
-    fn fmt<W: fmt::Write>(&self, f: &mut fmt::Formatter<W>) -> fmt::Result {
-        match &self.event.outcome {
-            EventOutcome::Done(Reply::Word(Word::Int(number))) => write!(f, "{number}"),
-            EventOutcome::Done(Reply::Word(Word::Chan(channel))) => {
-                let channel = Channel(*channel);
-                write!(f, "{channel}")
-            }
-            EventOutcome::Done(Reply::Received(_, false) | Reply::Clause(_, Some((_, false)))) => {
-                write!(f, "closed")
-            }
-            EventOutcome::Done(Reply::Default) => write!(f, "default"),
-            EventOutcome::Done(_) => partner(f, self.word, self.event.partners.as_slice()),
-            EventOutcome::Sleeps => write!(f, "sleeps"),
-            EventOutcome::Panics(cause, _) => {
-                let cause = Cause(*cause);
-                write!(f, "{cause}")
-            }
+pub(crate) fn push_outcome(lines: &mut Vec<u8>, word: &str, event: &Event)
+    requires { HasRoom lines.old (length word.now + 20) }
+    ensures { AppendsWithin lines.old lines.new (length word.now + 20) (result_text word.now (event_of event.now)) }
+{
+    match &event.outcome {
+        EventOutcome::Done(Reply::Word(Word::Int(number))) => push_number(lines, *number),
+        EventOutcome::Done(Reply::Word(Word::Chan(channel))) => push_channel(lines, *channel),
+        EventOutcome::Done(Reply::Received(_, false) | Reply::Clause(_, Some((_, false)))) => {
+            push_text(lines, "closed")
         }
+        EventOutcome::Done(Reply::Default) => push_text(lines, "default"),
+        EventOutcome::Done(_) => push_partner(lines, word, event.partners.as_slice()),
+        EventOutcome::Sleeps => push_text(lines, "sleeps"),
+        EventOutcome::Panics(cause, _) => push_panic(lines, *cause),
     }
 }
 
 /// The first partner behind `word`, or `done`.
-fn partner<W: fmt::Write>(f: &mut fmt::Formatter<W>, word: &str, partners: &[u64]) -> fmt::Result
-    ensures { DisplaysOnOk W.write_str_gives f.old result (Some (partner_text word.now partners.now)) f.new }
+fn push_partner(lines: &mut Vec<u8>, word: &str, partners: &[u64])
+    requires { HasRoom lines.old (length word.now + 20) }
+    ensures { AppendsWithin lines.old lines.new (length word.now + 20) (partner_text word.now partners.now) }
 {
     match partners.first() {
-        Some(number) => write!(f, "{word}{number}"),
-        None => write!(f, "done"),
+        Some(number) => {
+            push_text(lines, word);
+            push_number(lines, *number);
+        }
+        None => push_text(lines, "done"),
     }
 }

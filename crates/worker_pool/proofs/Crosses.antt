@@ -16,6 +16,7 @@ use Rattle.world_core_base.specs.contracts.core_model.Core.TheInside as core
 use Rattle.world_core_base.specs.contracts.slot.Away as Away
 use Rattle.world_core_base.specs.contracts.slot.Away.TheInside as away
 use Rattle.worker_pool.specs.contracts.locked.Locked as Locked
+use Rattle.worker_pool.specs.contracts.run_book.RunBook as RunBook
 use Rattle.worker_pool.specs.contracts.shared.Shared as Shared
 use Rattle.worker_pool.specs.declared.run_name.RunName.{Ghosts}
 
@@ -49,22 +50,23 @@ book_inside = recorded_send book.the_field.row _ _ book.the_type.to_one (struct_
   search sendable,
   (
     search (sendable, crosses, verified_send, verified_sync) depth 20,
-    (search sendable, (core_send, (search sendable, (search (sendable, crosses) depth 20, tt)))),
+    (search sendable, (core_send, (search sendable, (search (sendable, crosses) depth 20, (search sendable, (search (sendable, crosses) depth 20, tt)))))),
   ),
 ))
 
 book_send : IsSend Book.the_row
 book_send = view_send _ _ _ _ _ book_inside
 
+run_book_send : (B : RattleType) (g : Ghosts B.Denot) → IsSend B → IsSend (RunBook.the_row B g)
+run_book_send B g s =
+    recorded_send (RunBook.the_field B g).row _ _ (RunBook.the_type B g).to_one (struct_send (shape (RunBook.the_type B g)) (book_send, (search (sendable, crosses) depth 20, tt)))
+
 locked_send : (B : RattleType) (g : Ghosts B.Denot) → IsSend B → IsSend (Locked.the_row B g)
 locked_send B g s =
     recorded_send (Locked.the_field B g).row _ _ (Locked.the_type B g).to_one (struct_send (shape (Locked.the_type B g)) (
-      book_send,
-      (
-        search (sendable, crosses) depth 20,
-        (search sendable, (search sendable, (search sendable, (search sendable, (search (sendable, crosses) depth 20, tt))))),
-      ),
-    ))
+      run_book_send B g s,
+      (search (sendable, crosses) depth 20,
+      (search (sendable, crosses) depth 20, (search sendable, (search sendable, (search sendable, (search sendable, tt))))))))
 
 pub shared_sync : (B : RattleType) (g : Ghosts B.Denot) → IsSend B → IsSync (Shared.the_row B g)
 shared_sync B g s =

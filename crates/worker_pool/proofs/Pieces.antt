@@ -1,17 +1,18 @@
 -- Pieces of what a run writes, joined.
-use Rattle.std.proofs.Common.{◌≡◌, ℕ, zero, suc, ◌+◌, ◌-◌, ◌≤◌, List, [], ◌∷◌, ◌++◌, length, take, drop, Option, Some, None, Ok, Err, refl, sym, ap, ◌∙◌, subst, arith, append_assoc, length-append, append-nil}
+use Rattle.std.proofs.Common.{◌≡◌, ℕ, zero, suc, ◌+◌, ◌-◌, ◌≤◌, List, [], ◌∷◌, ◌++◌, length, take, drop, Option, Some, None, IfSome, Ok, Err, refl, sym, ap, ◌∙◌, subst, arith, append_assoc, length-append, append-nil}
 use Rattle.std.specs.Io.KnownBytes.{Appends}
 use Rattle.std.proofs.lemmas.List.{take-append-le, drop-append-le, length-drop, length-take-le}
 use Rattle.std.proofs.lemmas.List.Concat.{flat_map-append}
 use Rattle.std.proofs.Math.Seq.{take-add, take-length}
-use Rattle.book.specs.Desks.{Desk, IsEnd, IsPiece}
+use Rattle.book.specs.Desks.{Desk, IsPiece, IsTracePiece}
 use Rattle.bytecode.specs.Code.{Code}
 use Rattle.bytecode.specs.Machine.{code_kind}
 use Rattle.go_text.specs.declared.fault.Fault.{Fault}
-use Rattle.output.specs.Progress.{Run, piece_run}
+use Rattle.output.specs.Progress.{IsNext, Run, piece_run, progress_place, run_of}
 use Rattle.output.specs.declared.piece.Kind.{Kind}
 use Rattle.output.specs.declared.piece.Kind.TheVariants.{Output, Trace}
 use Rattle.output.specs.declared.piece.Piece.{Piece}
+use Rattle.output.specs.declared.progress.Progress.{Progress}
 use Rattle.tracer.specs.Trace.{trace, traceline}
 use Rattle.turn_rule.specs.Schedule.{IsPrefixOf}
 use Rattle.turn_rule.specs.Turns.{World}
@@ -23,7 +24,8 @@ use Rattle.word.specs.Worlds.{Rest, moment, opening, rules}
 use Rattle.word.proofs.Laws.{laws}
 use Rattle.word.proofs.Outputs.{outputs_begin}
 use Rattle.word.proofs.Records.{events_begin}
-use Rattle.worker_pool.specs.Runs.{Begins, ComesOf, EndsAt, IsAll, IsHanded, IsOfRun, IsPieceOf, Written, bytes_after, bytes_of, output_run}
+use Rattle.worker_pool.specs.Handing.{HasEnded, IsHanding}
+use Rattle.worker_pool.specs.Runs.{Begins, ComesOf, EndsAt, IsAll, IsHanded, IsOfRun, IsPieceOf, Written, bytes_after, bytes_of, output_run, trace_run}
 
 pub appends_more : (old mid new : Option (List ℕ)) (xs ys : List ℕ) → Appends old mid xs → Appends mid new ys → Appends old new (xs ++ ys)
 appends_more None mid new xs ys a b = tt
@@ -103,6 +105,11 @@ module _ (run : Run) where
       let t = length-take-le k bytes le in
       (w.0 ++ take k bytes, appends_more known old new w.0 (take k bytes) w.1 a, pieces_join w.0 bytes k le w.2 q, omega (arith, e, l, t))
 
+  -- the bytes of the next piece are written, up to a place
+  pub written_to : (known old new : Option (List ℕ)) (place to from : ℕ) (bytes : List ℕ) → from ≡ place → place ≤ to → to ≤ place + length bytes → IsPieceOf run from bytes → Appends old new (take (to - place) bytes) → Written run known old place → Written run known new to
+  written_to known old new place to from bytes at le most p a w =
+      subst (λ n. Written run known new n) (omega (arith, le)) (written_more known old new place from (to - place) bytes at p (omega (arith, le, most)) a w)
+
   -- nothing is written yet
   pub written_none : (known : Option (List ℕ)) → Written run known known 0
   written_none known = ([], appends_none known, (0, omega arith, refl), refl)
@@ -139,11 +146,54 @@ same_run : (kind : Kind) (code : Code) (limit : ℕ) (d : Desk) → IsOfRun code
 same_run kind code limit d is = ap (λ c. run_at c d.limit kind) is.code ∙ ap (λ l. run_at code l kind) is.limit
 
 -- the end of the book's run
-pub ends_at : (code : Code) (limit : ℕ) (d : Desk) (events size : ℕ) (ending : Ending) → IsOfRun code limit d → IsEnd d.code d.limit events size ending → EndsAt (output_run code limit) size ending
-ends_at code limit d events size ending is e = subst (λ (run : Run). EndsAt run size ending) (same_run Output code limit d is) (e.moves, e.bytes, e.ending)
+output_ends : (code : Code) (limit : ℕ) (d : Desk) (ending : Ending) → IsOfRun code limit d → HasEnded d ending → EndsAt (output_run code limit) (d.taken + length d.pending) ending
+output_ends code limit d ending is e =
+    subst (λ (run : Run). EndsAt run (d.taken + length d.pending) ending) (same_run Output code limit d is) (e.moves, e.bytes, e.ending)
 
--- a piece that is taken out of it
-pub hands_out : (code : Code) (limit : ℕ) (d : Desk) (piece : Piece) → IsOfRun code limit d → piece_run piece ≡ output_run d.code d.limit → IsPiece d.code d.limit piece.from piece.bytes.items → IsHanded (output_run code limit) piece
-hands_out code limit d piece is run stands =
+trace_ends : (code : Code) (limit : ℕ) (d : Desk) (ending : Ending) → IsOfRun code limit d → HasEnded d ending → EndsAt (trace_run code limit) (d.traced + length d.lines) ending
+trace_ends code limit d ending is e =
+    subst (λ (run : Run). EndsAt run (d.traced + length d.lines) ending) (same_run Trace code limit d is) (e.moves, e.lines, e.ending)
+
+-- a piece that is taken out of the book
+pub hands_output : (code : Code) (limit : ℕ) (d : Desk) (piece : Piece) → IsOfRun code limit d → piece_run piece ≡ output_run d.code d.limit → IsPiece d.code d.limit piece.from piece.bytes.items → IsHanded (output_run code limit) piece
+hands_output code limit d piece is run stands =
     let same = same_run Output code limit d is in
     record { run = run ∙ same; stands = subst (λ (r : Run). IsPieceOf r piece.from piece.bytes.items) same stands }
+
+pub hands_trace : (code : Code) (limit : ℕ) (d : Desk) (piece : Piece) → IsOfRun code limit d → piece_run piece ≡ trace_run d.code d.limit → IsTracePiece d.code d.limit piece.from piece.bytes.items → IsHanded (trace_run code limit) piece
+hands_trace code limit d piece is run stands =
+    let same = same_run Trace code limit d is in
+    record { run = run ∙ same; stands = subst (λ (r : Run). IsPieceOf r piece.from piece.bytes.items) same stands }
+
+reaches_to : (run : Run) (from size : ℕ) (bytes pending : List ℕ) (ending : Ending) → from ≡ size → bytes ≡ pending → EndsAt run (size + length pending) ending → EndsAt run (from + length bytes) ending
+reaches_to run from size bytes pending ending f b e = subst (λ (n : ℕ). EndsAt run n ending) (let l = ap length b in omega (arith, f, l)) e
+
+-- both pieces, with the end that they reach to
+pub handing : (code : Code) (limit : ℕ) (d : Desk) (output lines : Piece) (end : Option Ending) → IsOfRun code limit d
+    → IsHanded (output_run code limit) output → output.from ≡ d.taken → output.bytes.items ≡ d.pending
+    → IsHanded (trace_run code limit) lines → lines.from ≡ d.traced → lines.bytes.items ≡ d.lines
+    → IfSome end (HasEnded d) → IsHanding code limit (record { output = output; trace = lines; end = end })
+handing code limit d output lines None is o of ob t tf tb e = record { output = o; trace = t; output_ends = tt; trace_ends = tt }
+handing code limit d output lines (Some ending) is o of ob t tf tb e = record {
+  output = o;
+  trace = t;
+  output_ends = reaches_to (output_run code limit) output.from d.taken output.bytes.items d.pending ending of ob (output_ends code limit d ending is e);
+  trace_ends = reaches_to (trace_run code limit) lines.from d.traced lines.bytes.items d.lines ending tf tb (trace_ends code limit d ending is e);
+}
+
+-- ---- how far the writers have come
+
+pub is_next : (p : Progress) (piece : Piece) → IsHanded (run_of p) piece → piece.from ≡ progress_place p → IsNext p piece
+is_next p piece h from = record {
+  program = ap (λ (x : Run). x.program) h.run;
+  limit = ap (λ (x : Run). x.limit) h.run;
+  kind = ap (λ (x : Run). x.kind) h.run;
+  from = from;
+}
+
+-- the same of the run that it is
+pub wrote_on : (r s : Run) (known old new : Option (List ℕ)) (a b : ℕ) → r ≡ s → ((k : Option (List ℕ)) → Written r k old a → Written r k new b) → Written s known old a → Written s known new b
+wrote_on r s known old new a b is writes w = subst (λ (x : Run). Written x known new b) is (writes known (subst (λ (x : Run). Written x known old a) (sym is) w))
+
+pub hands_next : (p : Progress) (piece : Piece) (run : Run) → run_of p ≡ run → IsHanded run piece → IsHanded (run_of p) piece
+hands_next p piece run is h = subst (λ (x : Run). IsHanded x piece) (sym is) h

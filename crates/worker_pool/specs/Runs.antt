@@ -1,15 +1,15 @@
 -- What a run writes, and what goes between its threads.
-use Rattle.std.specs.Prelude.{◌≡◌, ℕ, ◌+◌, ◌≤◌, [], List, Option, Some, IfOk, drop, length, take}
+use Rattle.std.specs.Prelude.{◌≡◌, ℕ, ◌+◌, ◌≤◌, [], List, Option, Some, Result, IfOk, drop, length, take}
 use Rattle.std.specs.Io.KnownBytes.{Appends}
-use Rattle.core.specs.declared.result.Result.{Result}
-use Rattle.book.specs.Desks.{Desk}
+use Rattle.book.specs.Desks.{Desk, opened_desk}
 use Rattle.bytecode.specs.Code.{Code}
 use Rattle.bytecode.specs.Machine.{code_kind}
 use Rattle.go_text.specs.declared.fault.Fault.{Fault}
-use Rattle.output.specs.Progress.{Run, piece_run}
+use Rattle.output.specs.Progress.{Run, piece_run, progress_place, run_of}
 use Rattle.output.specs.declared.piece.Kind.{Kind}
 use Rattle.output.specs.declared.piece.Kind.TheVariants.{Output, Trace}
 use Rattle.output.specs.declared.piece.Piece.{Piece}
+use Rattle.output.specs.declared.progress.Progress.{Progress}
 use Rattle.tracer.specs.Trace.{trace}
 use Rattle.word.specs.declared.end.End.{End as Ending}
 use Rattle.word.specs.Kinds.{GoroutineKind}
@@ -36,9 +36,9 @@ IsPieceOf run from bytes =
     (n : ℕ) × (from + length bytes ≤ length (bytes_after run n)) × (take (length bytes) (drop from (bytes_after run n)) ≡ bytes)
 
 -- a piece of the run's bytes
-pub record IsHanded (run : Run) (piece : Piece) : Type 0 where
-  pub run : piece_run piece ≡ run
-  pub stands : IsPieceOf run piece.from piece.bytes.items
+pub record IsHanded (bytes : Run) (piece : Piece) : Type 0 where
+  pub run : piece_run piece ≡ bytes
+  pub stands : IsPieceOf bytes piece.from piece.bytes.items
 
 -- the run ends so, after so many of them
 abbrev pub EndsAt : Run → ℕ → Ending → Type 0
@@ -72,7 +72,25 @@ no_code = record { functions = []; shapes = []; prints = []; selects = [] }
 abbrev pub output_run : Code → ℕ → Run
 output_run code limit = record { program = code; limit = limit; kind = Output }
 
+-- its trace
+abbrev pub trace_run : Code → ℕ → Run
+trace_run code limit = record { program = code; limit = limit; kind = Trace }
+
+-- what was handed out of the run's bytes is written, and whoever has this share has all of the ledger
+pub record IsReached (bytes : Run) (p : Progress) (parts amount : ℕ) : Type 0 where
+  pub run : run_of p ≡ bytes
+  pub place : progress_place p ≡ amount
+  pub whole : parts ≡ 1
+
 -- the book is of this run
-pub record IsOfRun (code : Code) (limit : ℕ) (d : Desk) : Type 0 where
-  pub code : d.code ≡ code
-  pub limit : d.limit ≡ limit
+pub record IsOfRun (program : Code) (most : ℕ) (d : Desk) : Type 0 where
+  pub code : d.code ≡ program
+  pub limit : d.limit ≡ most
+
+-- a run of this code begins: no event is committed, and nothing was written
+pub record IsStart (code : Code) (limit : ℕ) (d : Desk) (printed traced : Progress) : Type 0 where
+  pub book : d ≡ opened_desk code limit
+  pub printed_run : run_of printed ≡ output_run code limit
+  pub traced_run : run_of traced ≡ trace_run code limit
+  pub printed_place : progress_place printed ≡ 0
+  pub traced_place : progress_place traced ≡ 0

@@ -5,6 +5,7 @@ mod gate;
 mod handed;
 mod locked;
 mod pool;
+mod run_book;
 mod run_name;
 mod shared;
 mod turn;

@@ -1,24 +1,26 @@
 //! What is under the lock of a run.
 
-ghost use Rattle.std.specs.Prelude.{◌≡◌, ◌+◌, IfOk, IfSome, length};
-ghost use Rattle.worker_pool.specs.Runs.{EndsAt, IsOfRun, output_run};
+ghost use Rattle.std.specs.Prelude.{◌≡◌, ◌+◌, [], IfOk, IfSome, OnOk, length};
+ghost use Rattle.worker_pool.specs.Handing.{HasEnded};
+ghost use Rattle.worker_pool.specs.Runs.{IsHanded, output_run, trace_run};
 
 use crate::handed::Handed;
-use crate::run_name::{Printed, RunName};
+use crate::run_book::RunBook;
+use crate::run_name::{Printed, RunName, Traced};
 use crate::turn::{Back, Lent, Turn};
-use book::{Book, Settled};
 use go_text::Memory;
-use std::marker::PhantomData;
-use std::sync::ledger;
-use std::sync::ledger::Share;
+use output::Piece;
+use std::sync::ledger::{Book, Share};
 use word::end::End;
 
 /// The book of a run, and what its threads tell each other.
 #[derive(Drop)]
 pub(crate) struct Locked<B: RunName> {
-    book: Book,
-    /// How many bytes of output were handed out.
-    printed: ledger::Book<Printed<B>>,
+    run: RunBook<B>,
+    /// How many bytes of the output were handed out.
+    printed: Book<Printed<B>>,
+    /// How many bytes of the trace.
+    traced: Book<Traced<B>>,
     /// Whether memory was refused.
     stopped: bool,
     /// Whether no lease is given out any more: the run has ended, or stops.
@@ -27,25 +29,28 @@ pub(crate) struct Locked<B: RunName> {
     waiting: u64,
     /// Whether a worker watches, which looks by itself whether something can be lent.
     watched: bool,
-    of: PhantomData<B>,
-    ghost ours: { IsOfRun B.code B.limit book },
-    ghost counted: { book.taken ≡ printed.total },
+    ghost counted: { run.book.taken ≡ printed.total },
+    ghost lines: { run.book.traced ≡ traced.total },
 }
 
 impl<B: RunName> Locked<B> {
     /// The book of this run, of which nothing was handed out.
-    pub fn new(book: Book, printed: ledger::Book<Printed<B>>) -> Locked<B>
-        requires run { IsOfRun B.code B.limit book }
-        requires printed { book.taken ≡ printed.total }
+    pub fn new(
+        run: RunBook<B>,
+        printed: Book<Printed<B>>,
+        traced: Book<Traced<B>>,
+    ) -> Locked<B>
+        requires printed { run.book.taken ≡ printed.total }
+        requires traced { run.book.traced ≡ traced.total }
     {
         Locked {
-            book,
+            run,
             printed,
+            traced,
             stopped: false,
             over: false,
             waiting: 0,
             watched: false,
-            of: PhantomData,
         }
     }
 
@@ -90,7 +95,7 @@ impl<B: RunName> Locked<B> {
         self.waiting = self.waiting.saturating_sub(1);
     }
 
-    /// Takes what a worker comes back with.
+    /// Takes what a worker comes back with, and commits all that can be committed.
     pub fn take_back(&mut self, back: Back<B>) {
         match back {
             Back::Begun => {}
@@ -105,7 +110,7 @@ impl<B: RunName> Locked<B> {
         if self.over {
             return Turn::Leave;
         }
-        match self.lend() {
+        match self.run.lend() {
             Ok(Some(lent)) => Turn::Work(lent),
             Ok(None) => self.idle_turn(),
             Err(Memory) => {
@@ -116,17 +121,24 @@ impl<B: RunName> Locked<B> {
     }
 
     /// What there is to write, and the end, where the run has ended.
-    pub fn next(&mut self, mine: &mut Share<Printed<B>>) -> Result<Handed<B>, Memory>
-        requires { mine.old.parts ≡ 1 }
-        ensures parts { mine.new.parts ≡ 1 }
-        ensures from { IfOk result (λ h. h.output.from ≡ mine.old.amount) }
-        ensures amount { IfOk result (λ h. mine.new.amount ≡ mine.old.amount + length h.output.bytes.items) }
+    pub fn next(
+        &mut self,
+        printed: &mut Share<Printed<B>>,
+        traced: &mut Share<Traced<B>>,
+    ) -> Result<Handed<B>, Memory>
+        requires { (printed.old.parts ≡ 1) × (traced.old.parts ≡ 1) }
+        ensures parts { (printed.new.parts ≡ 1) × (traced.new.parts ≡ 1) }
+        ensures output { IfOk result (λ h. (h.output.from ≡ printed.old.amount) × (printed.new.amount ≡ printed.old.amount + length h.output.bytes.items)) }
+        ensures trace { IfOk result (λ h. (h.trace.from ≡ traced.old.amount) × (traced.new.amount ≡ traced.old.amount + length h.trace.bytes.items)) }
     {
         if self.stopped {
             return Err(Memory);
         }
-        let end = self.settle_all()?;
-        self.hand_out(end, mine)
+        let end = self.run.settle_all()?;
+        self.over = self.over || end.is_some();
+        let output = self.take_output(printed)?;
+        let trace = self.take_trace(traced)?;
+        Ok(Handed::new(output, trace, end))
     }
 
     /// What a worker does that nothing can be lent to.
@@ -138,57 +150,43 @@ impl<B: RunName> Locked<B> {
         Turn::Watch
     }
 
-    /// Puts a lease back, and commits all that can be committed. A lease that is not out is let go: it is of no use to the run.
+    /// Puts a lease back, and commits all that can be committed.
     fn bring(&mut self, lent: Lent<B>) {
-        if self.book.is_own_out(&lent.lease) {
-            self.book.bring_own(lent.lease);
-        }
-        if self.settle_all().is_err() {
-            self.stop();
-        }
-    }
-
-    /// Lends a goroutine, if there is one to be lent.
-    fn lend(&mut self) -> Result<Option<Lent<B>>, Memory> {
-        match self.book.lend()? {
-            Some(lease) => Ok(Some(Lent::new(lease))),
-            None => Ok(None),
+        self.run.bring(lent);
+        match self.run.settle_all() {
+            Ok(end) => self.over = self.over || end.is_some(),
+            Err(Memory) => self.stop(),
         }
     }
 
-    /// Commits all that can be committed, and answers the end, where the run has ended.
-    fn settle_all(&mut self) -> Result<Option<End>, Memory>
-        ensures { IfOk result (λ found. IfSome found (EndsAt (output_run B.code B.limit) (self.new.book.taken + length self.new.book.pending))) }
-    {
-        for _ in 0..u64::MAX {
-            match self.book.settle()? {
-                Settled::Committed(_) => {}
-                Settled::Waiting(_) => return Ok(None),
-                Settled::Ended(end) => {
-                    self.over = true;
-                    return Ok(Some(end));
-                }
-            }
-        }
-        Ok(None)
-    }
-
-    /// The bytes that were committed and not yet handed out, with the end that they reach to.
-    fn hand_out(
-        &mut self,
-        end: Option<End>,
-        mine: &mut Share<Printed<B>>,
-    ) -> Result<Handed<B>, Memory>
-        requires end { IfSome end (EndsAt (output_run B.code B.limit) (self.old.book.taken + length self.old.book.pending)) }
-        requires parts { mine.old.parts ≡ 1 }
+    /// The bytes of the output that were not yet handed out.
+    fn take_output(&mut self, mine: &mut Share<Printed<B>>) -> Result<Piece, Memory>
+        requires { mine.old.parts ≡ 1 }
         ensures parts { mine.new.parts ≡ 1 }
-        ensures from { IfOk result (λ h. h.output.from ≡ mine.old.amount) }
-        ensures amount { IfOk result (λ h. mine.new.amount ≡ mine.old.amount + length h.output.bytes.items) }
+        ensures piece { IfOk result (IsHanded (output_run B.code B.limit)) }
+        ensures place { IfOk result (λ piece. (piece.from ≡ self.old.run.book.taken) × (piece.bytes.items ≡ self.old.run.book.pending)) }
+        ensures taken { OnOk result (self.new.run.book ≡ record self.old.run.book { taken = self.old.run.book.taken + length self.old.run.book.pending; pending = [] }) }
+        ensures share { IfOk result (λ piece. (piece.from ≡ mine.old.amount) × (mine.new.amount ≡ mine.old.amount + length piece.bytes.items)) }
     {
-        let Locked { book, printed, .. } = self;
+        let Locked { run, printed, .. } = self;
         printed.audit(mine);
-        let output = book.take_output()?;
-        printed.add(mine, output.bytes.len() as u64);
-        Ok(Handed::new(output, end))
+        let piece = run.take_output()?;
+        printed.add(mine, piece.bytes.len() as u64);
+        Ok(piece)
+    }
+
+    /// The bytes of the trace that were not yet handed out.
+    fn take_trace(&mut self, mine: &mut Share<Traced<B>>) -> Result<Piece, Memory>
+        requires { mine.old.parts ≡ 1 }
+        ensures parts { mine.new.parts ≡ 1 }
+        ensures piece { IfOk result (IsHanded (trace_run B.code B.limit)) }
+        ensures place { IfOk result (λ piece. (piece.from ≡ self.old.run.book.traced) × (piece.bytes.items ≡ self.old.run.book.lines)) }
+        ensures share { IfOk result (λ piece. (piece.from ≡ mine.old.amount) × (mine.new.amount ≡ mine.old.amount + length piece.bytes.items)) }
+    {
+        let Locked { run, traced, .. } = self;
+        traced.audit(mine);
+        let piece = run.take_trace()?;
+        traced.add(mine, piece.bytes.len() as u64);
+        Ok(piece)
     }
 }

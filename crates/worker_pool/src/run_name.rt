@@ -3,7 +3,7 @@
 use std::marker::{Brand, PhantomData};
 use std::sync::ledger::Ledger;
 
-/// Which run it is: its code, its clock limit, and the ledger of its output. Each call of `run` names its own.
+/// Which run it is: its code, its clock limit, and the ledgers of its output and of its trace. Each call of `run` names its own.
 pub(crate) trait RunName {
     ghost use Rattle.std.specs.Prelude.{ℕ};
     ghost use Rattle.bytecode.specs.Code.{Code};
@@ -13,6 +13,8 @@ pub(crate) trait RunName {
     ghost limit: { ℕ };
 
     ghost printed: { ℕ };
+
+    ghost traced: { ℕ };
 }
 
 impl RunName for Brand {
@@ -23,6 +25,8 @@ impl RunName for Brand {
     ghost limit = { 0 };
 
     ghost printed = { 0 };
+
+    ghost traced = { 0 };
 }
 
 /// The ledger of the bytes of output that were handed out: the lock has the book, the thread that writes the one share.
@@ -33,6 +37,18 @@ pub(crate) struct Printed<B: RunName> {
 
 impl<B: RunName> Ledger for Printed<B> {
     ghost name = { B.printed };
+
+    ghost parts = { 1 };
+}
+
+/// The ledger of the bytes of the trace that were handed out.
+#[derive(Drop)]
+pub(crate) struct Traced<B: RunName> {
+    of: PhantomData<B>,
+}
+
+impl<B: RunName> Ledger for Traced<B> {
+    ghost name = { B.traced };
 
     ghost parts = { 1 };
 }

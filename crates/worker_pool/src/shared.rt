@@ -1,17 +1,16 @@
 //! What the threads of a run share.
 
 ghost use Rattle.std.specs.Prelude.{◌≡◌, ◌+◌, IfOk, length};
-ghost use Rattle.worker_pool.specs.Runs.{IsOfRun};
 
 use crate::handed::Handed;
 use crate::locked::Locked;
-use crate::run_name::{Printed, RunName};
+use crate::run_book::RunBook;
+use crate::run_name::{Printed, RunName, Traced};
 use crate::turn::{Back, Lent, Turn};
 use crate::worker::Nap;
-use book::Book;
 use go_text::Memory;
-use std::sync::ledger::Share;
-use std::sync::{Condvar, Mutex, MutexGuard, Wait, ledger};
+use std::sync::ledger::{Book, Share};
+use std::sync::{Condvar, Mutex, MutexGuard, Wait};
 use std::time::Duration;
 
 /// How long the thread that writes sleeps, if nothing wakes it, in milliseconds.
@@ -31,12 +30,16 @@ pub(crate) struct Shared<B: RunName> {
 
 impl<B: RunName> Shared<B> {
     /// The book of this run, of which nothing was handed out.
-    pub fn new(book: Book, printed: ledger::Book<Printed<B>>) -> Shared<B>
-        requires run { IsOfRun B.code B.limit book }
-        requires printed { book.taken ≡ printed.total }
+    pub fn new(
+        run: RunBook<B>,
+        printed: Book<Printed<B>>,
+        traced: Book<Traced<B>>,
+    ) -> Shared<B>
+        requires printed { run.book.taken ≡ printed.total }
+        requires traced { run.book.traced ≡ traced.total }
     {
         Shared {
-            locked: Mutex::new(Locked::new(book, printed)),
+            locked: Mutex::new(Locked::new(run, printed, traced)),
             waiting: Condvar::new(),
             watching: Condvar::new(),
             writing: Condvar::new(),
@@ -74,11 +77,16 @@ impl<B: RunName> Shared<B> {
     }
 
     /// What there is to write, after a nap that the end of the run cuts short.
-    pub fn next<R: Wait>(&self, rt: &R, mine: &mut Share<Printed<B>>) -> Result<Handed<B>, Memory>
-        requires { mine.old.parts ≡ 1 }
-        ensures parts { mine.new.parts ≡ 1 }
-        ensures from { IfOk result (λ h. h.output.from ≡ mine.old.amount) }
-        ensures amount { IfOk result (λ h. mine.new.amount ≡ mine.old.amount + length h.output.bytes.items) }
+    pub fn next<R: Wait>(
+        &self,
+        rt: &R,
+        printed: &mut Share<Printed<B>>,
+        traced: &mut Share<Traced<B>>,
+    ) -> Result<Handed<B>, Memory>
+        requires { (printed.old.parts ≡ 1) × (traced.old.parts ≡ 1) }
+        ensures parts { (printed.new.parts ≡ 1) × (traced.new.parts ≡ 1) }
+        ensures output { IfOk result (λ h. (h.output.from ≡ printed.old.amount) × (printed.new.amount ≡ printed.old.amount + length h.output.bytes.items)) }
+        ensures trace { IfOk result (λ h. (h.trace.from ≡ traced.old.amount) × (traced.new.amount ≡ traced.old.amount + length h.trace.bytes.items)) }
     {
         let mut locked = self.locked.lock(rt);
         if !locked.is_over() {
@@ -89,7 +97,7 @@ impl<B: RunName> Shared<B> {
                 Duration::from_millis(WRITING_NAP),
             );
         }
-        locked.next(mine)
+        locked.next(printed, traced)
     }
 
     /// The run stops for want of memory, unless it has ended.

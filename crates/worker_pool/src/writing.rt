@@ -1,39 +1,58 @@
-//! The way of what the workers commit into the writer.
+//! The way of what the workers commit into the writers.
 
 ghost use Rattle.std.specs.Prelude.{◌≡◌, ◌⊎◌, ◌+◌, ℕ, List, Option, IfErr, IsErrOf, OnOk, length, true};
 ghost use Rattle.output.specs.Progress.{progress_place, run_of};
-ghost use Rattle.worker_pool.specs.Runs.{ComesOf, IsHanded, Written, output_run};
+ghost use Rattle.worker_pool.specs.Runs.{ComesOf, IsHanded, IsReached, Written, output_run, trace_run};
 
-use crate::run_name::{Printed, RunName};
+use crate::run_name::{Printed, RunName, Traced};
 use crate::shared::Shared;
 use go_text::Fault;
 use output::{Piece, Progress, drain_next};
 use std::sync::Wait;
-use std::sync::ledger::Share;
+use std::sync::ledger::{Ledger, Share};
 use word::Write;
 use word::end::End;
 
+/// How far the bytes of one kind are written, and the share of those that were handed out.
+#[derive(Drop)]
+pub(crate) struct Reach<L: Ledger> {
+    pub progress: Progress,
+    pub share: Share<L>,
+}
+
+impl<L: Ledger> Reach<L> {
+    /// As far as that.
+    pub fn new(progress: Progress, share: Share<L>) -> Reach<L>
+        ensures { result ≡ record { progress = progress; share = share } }
+    {
+        Reach { progress, share }
+    }
+}
+
 /// Writes what the workers of a run commit, until its end.
-pub(crate) fn write_run<B: RunName, R: Wait, O: Write>(
+pub(crate) fn write_run<B: RunName, R: Wait, O: Write, T: Write>(
     rt: &R,
     shared: &Shared<B>,
-    mine: Share<Printed<B>>,
-    progress: Progress,
+    printed: Reach<Printed<B>>,
+    traced: Reach<Traced<B>>,
     out: &mut O,
+    trace: &mut T,
 ) -> Result<End, Fault>
-    requires share { (mine.parts ≡ 1) × (mine.amount ≡ 0) }
-    requires run { run_of progress ≡ output_run B.code B.limit }
-    requires place { progress_place progress ≡ 0 }
+    requires printed { IsReached (output_run B.code B.limit) printed.progress printed.share.parts printed.share.amount }
+    requires traced { IsReached (trace_run B.code B.limit) traced.progress traced.share.parts traced.share.amount }
+    requires nothing { (progress_place printed.progress ≡ 0) × (progress_place traced.progress ≡ 0) }
     ensures output { ComesOf (output_run B.code B.limit) (O.contents out.old) (O.contents out.new) result }
-    ensures write { IsErrOf result Fault.Write → O.has_failed out.new ≡ true }
+    ensures trace { ComesOf (trace_run B.code B.limit) (T.contents trace.old) (T.contents trace.new) result }
+    ensures write { IsErrOf result Fault.Write → (O.has_failed out.new ≡ true) ⊎ (T.has_failed trace.new ≡ true) }
     ensures only { IfErr result (λ fault. (fault ≡ Fault.Memory) ⊎ (fault ≡ Fault.Write)) }
 {
-    let mut mine = mine;
-    let mut progress = progress;
+    let mut printed = printed;
+    let mut traced = traced;
     for _ in rt.forever() {
-        let handed = shared.next(rt, &mut mine)?;
-        let (output, end) = handed.into_parts();
-        write_piece(&mut progress, output, out)?;
+        let handed = shared.next(rt, &mut printed.share, &mut traced.share)?;
+        let (output, lines, end) = handed.into_parts();
+        write_piece(&mut printed.progress, output, out)?;
+        write_piece(&mut traced.progress, lines, trace)?;
         if let Some(end) = end {
             return Ok(end);
         }

@@ -1,8 +1,8 @@
 -- What the core does for each shape of outcome is what the deed leaves.
-use Rattle.std.proofs.Common.{◌≡◌, ◌≢◌, ℕ, ◌+◌, ◌-◌, ◌<◌, ◌≤◌, cond, List, [], ◌∷◌, ◌++◌, map, length, Option, Some, None, refl, sym, ap, ◌∙◌, subst, arith}
+use Rattle.std.proofs.Common.{◌≡◌, ◌≢◌, ℕ, ◌+◌, ◌-◌, ◌<◌, ◌≤◌, max, cond, List, [], ◌∷◌, ◌++◌, map, length, Option, Some, None, refl, sym, ap, ◌∙◌, subst, arith}
 use Rattle.std.specs.Prelude.{slice_index_or, slice_set, option_map}
 use Rattle.std.proofs.lemmas.Bool.{ne_eqb}
-use Rattle.std.proofs.lemmas.List.{append-nil, get_or_append_left, set-append_left}
+use Rattle.std.proofs.lemmas.List.{append-nil, get_or_append_left, length-map, set-append_left}
 use Rattle.bytecode.specs.Code.{Code}
 use Rattle.bytecode.specs.Machine.{code_begin, code_kind}
 use Rattle.channel_core.specs.Channels.{ChannelsValue, Others, shared_with, Does, deed_of}
@@ -15,7 +15,7 @@ use Rattle.word.specs.declared.panic.Panic.TheVariants.{TooManyGoroutines}
 use Rattle.word.specs.declared.value.Word.{Word}
 use Rattle.word.specs.Kinds.{at, told}
 use Rattle.word.specs.Requests.{Deed, GoesOn, Leaves, act, panics}
-use Rattle.word.specs.Values.{Request, End, Print, Go, Reply, Nothing, EventOutcome as Came, Done, Sleeps, Panics, Event}
+use Rattle.word.specs.Values.{Request, Make, Go, Send, Receive, Close, Select, Len, Cap, Print, End, Exit, Panic, Exhausted, Reply, Nothing, EventOutcome as Came, Done, Sleeps, Panics, Event}
 use Rattle.word.specs.Views.{reply_of}
 use Rattle.world_core_base.specs.Cores.{CoreValue, IsAsked, answered_rows, woken_rows, left_beds, most_woken}
 use Rattle.world_core_base.specs.Slots.{State, Rows, Beds, free_row}
@@ -178,6 +178,31 @@ few_woken channels n means (outcomes.Done reply woken) new does =
     ord.few
 few_woken channels n means outcomes.Sleeps new does = omega arith
 few_woken channels n means (outcomes.Panics cause k) new does = omega arith
+
+-- whom a request wakes are at most those who are asleep, or one
+most_within : (means : Request) (n : ℕ) → most_woken means n ≤ max n 1
+most_within (Close c) n = omega arith
+most_within (Make size zero) n = omega arith
+most_within (Go f args) n = omega arith
+most_within (Send c item) n = omega arith
+most_within (Receive c) n = omega arith
+most_within (Select cases default) n = omega arith
+most_within (Len c) n = omega arith
+most_within (Cap c) n = omega arith
+most_within (Print bytes) n = omega arith
+most_within End n = omega arith
+most_within Exit n = omega arith
+most_within (Panic cause) n = omega arith
+most_within Exhausted n = omega arith
+
+-- so the numbers of those whom it wakes are as few
+pub few_partners : (channels : ChannelsValue) (n : ℕ) (means : Request) (outcome : Outcome) (new : ChannelsValue) → Does channels n means outcome new → (partners : List ℕ) → partners ≡ map (λ (w : ℕ × Reply). w.0) (woken_of outcome)
+    → length partners ≤ max (length channels.asleep) 1
+few_partners channels n means outcome new does partners is =
+    let few = few_woken channels n means outcome new does in
+    let within = most_within means (length channels.asleep) in
+    let long = ap length is ∙ length-map (woken_of outcome) (λ (w : ℕ × Reply). w.0) in
+    omega (arith, few, within, long)
 
 -- ---- step by step
 

@@ -1,5 +1,5 @@
 -- A world of goroutines without its lists of events and bytes.
-use Rattle.std.specs.Prelude.{◌≡◌, ◌≢◌, ℕ, ◌+◌, ◌<◌, ◌≤◌, ◌^◌, ◌==◌, Bool, false, true, cond, List, [], ◌∷◌, ◌++◌, length, map, Option, Some, None, slice_index_or, slice_set}
+use Rattle.std.specs.Prelude.{◌≡◌, ◌≢◌, ℕ, ◌+◌, ◌<◌, ◌≤◌, ◌^◌, ◌==◌, Bool, false, true, cond, List, [], ◌∷◌, ◌++◌, length, map, max, Option, Some, None, slice_index_or, slice_set}
 use Rattle.std.specs.Option.{is_some, option_map}
 use Rattle.bytecode.specs.Code.{Code}
 use Rattle.bytecode.specs.Machine.{Frames, code_begin, code_kind}
@@ -122,6 +122,10 @@ last_request finished = cond finished Exit Exhausted
 abbrev pub most_woken : Request → ℕ → ℕ
 most_woken (Close c) asleep = asleep
 most_woken q asleep = 1
+
+-- how many partners the next event has at most: all that are asleep, or one that is started
+abbrev pub most_partners : CoreValue → ℕ
+most_partners core = max (length core.channels.asleep) 1
 
 -- what a request prints
 abbrev pub printed_by : Asked → List ℕ

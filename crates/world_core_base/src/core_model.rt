@@ -7,7 +7,7 @@ ghost use Rattle.channel_core.specs.Channels.{Does, IsOfChannels};
 ghost use Rattle.word.specs.Kinds.{told};
 ghost use Rattle.word.specs.Values.{End as EndRequest, Go as GoRequest, Panic as PanicRequest, Print as PrintRequest, Reply as AnyReply};
 ghost use Rattle.word.specs.Views.{reply_of, request_of};
-ghost use Rattle.world_core_base.specs.Cores.{Asks, FitsCore, IsAsked, IsAway, IsFreeIn, IsHere, IsLentRow, Performs, answered_rows, bytes_of, last_request, left_beds, meant_after, most_woken, opened_core, printed_by, put_back, state_of, taken_out, to_lend, woken_rows};
+ghost use Rattle.world_core_base.specs.Cores.{Asks, FitsCore, IsAsked, IsAway, IsFreeIn, IsHere, IsLentRow, Performs, answered_rows, bytes_of, last_request, left_beds, meant_after, most_partners, most_woken, opened_core, printed_by, put_back, state_of, taken_out, to_lend, woken_rows};
 ghost use Rattle.world_core_base.specs.Slots.{FitsAll, FitsRow, back_row, free_row, lent_row, stepped_rows};
 
 use crate::rows::{answer_row, doze, lend_row, put_at, stay_row, step_row, take_at, wake};
@@ -99,6 +99,13 @@ impl Core {
         self.rows.as_slice()
     }
 
+    /// How many partners the next event has at most.
+    pub fn most_partners(&self) -> usize
+        ensures { result ≡ most_partners self.now }
+    {
+        self.channels.asleep().max(1)
+    }
+
     /// Performs the request of goroutine `number`, which is awake and asks, while no state is taken out: answers the event,
     /// and appends to the output what it prints.
     pub fn perform(
@@ -115,6 +122,7 @@ impl Core {
         ensures performs { IfOk result (λ event. Performs code.now limit self.old number event (bytes_of event) self.new) }
         ensures output { IfOk result (λ event. output.new.items ≡ output.old.items ++ bytes_of event) }
         ensures fits { IfOk result (λ _. FitsCore code.now limit self.new) }
+        ensures partners { IfOk result (λ event. length event.partners.items ≤ most_partners self.old) }
         ensures memory { OnErr result ((self.new ≡ self.old) × (output.new.items ≡ output.old.items)) }
     {
         let (clock, request) = self.asked(alloc, code, limit, number)?;
@@ -299,6 +307,7 @@ impl Core {
         ensures performs { Performs code.now limit self.old number result (bytes_of result) self.new }
         ensures bytes { bytes_of result ≡ text.items }
         ensures fits { FitsCore code.now limit self.new }
+        ensures partners { result.partners.items ≡ [] }
     {
         self.go_on(code, number, Reply::Nothing, next_time(clock, limit));
         Event {
@@ -327,6 +336,7 @@ impl Core {
         ensures performs { IfOk result (λ event. Performs code.now limit self.old number event [] self.new) }
         ensures bytes { IfOk result (λ event. bytes_of event ≡ []) }
         ensures fits { IfOk result (λ _. FitsCore code.now limit self.new) }
+        ensures partners { IfOk result (λ event. length event.partners.items ≤ 1) }
         ensures memory { OnErr result (self.new ≡ self.old) }
     {
         let mut partners = Vec::new(alloc);
@@ -363,6 +373,7 @@ impl Core {
         ensures performs { IfOk result (λ event. Performs code.now limit self.old number event [] self.new) }
         ensures bytes { IfOk result (λ event. bytes_of event ≡ printed_by request) }
         ensures fits { IfOk result (λ _. FitsCore code.now limit self.new) }
+        ensures partners { IfOk result (λ event. length event.partners.items ≤ most_partners self.old) }
         ensures memory { OnErr result (self.new ≡ self.old) }
     {
         let mut partners = Vec::with_capacity(alloc, most_woken(&self.channels, &request))?;
@@ -401,6 +412,7 @@ impl Core {
         ensures performs { Performs code.now limit self.old number result [] self.new }
         ensures bytes { bytes_of result ≡ [] }
         ensures fits { FitsCore code.now limit self.new }
+        ensures partners { result.partners.items ≡ [] }
     {
         self.take_out(number);
         Event {
@@ -428,6 +440,7 @@ impl Core {
         ensures performs { Performs code.now limit self.old number result [] self.new }
         ensures bytes { bytes_of result ≡ [] }
         ensures fits { FitsCore code.now limit self.new }
+        ensures partners { result.partners.items ≡ [] }
     {
         let (request, end) = if finished {
             (Request::Exit, End::Finished)
@@ -460,6 +473,7 @@ impl Core {
         ensures performs { Performs code.now limit self.old number result [] self.new }
         ensures bytes { bytes_of result ≡ [] }
         ensures fits { FitsCore code.now limit self.new }
+        ensures partners { result.partners.items ≡ [] }
     {
         self.stop(number, End::Panicked(cause));
         Event {

@@ -1,19 +1,23 @@
-use Rattle.std.proofs.Common.{◌≡◌, ℕ, ◌+◌, ◌-◌, ◌≤◌, length, refl, subst, arith}
+use Rattle.std.proofs.Common.{refl, arith}
 use Rattle.output.specs.Progress.{progress_place, run_of}
-use Rattle.worker_pool.specs.Runs.{Written}
-use Rattle.worker_pool.proofs.Pieces.{written_more}
+use Rattle.worker_pool.proofs.Pieces.{is_next, written_to}
 use Rattle.worker_pool.proofs.writing.write_piece.Goals as goal
 
-pub returns-clause-written : goal.returns-clause-written
-returns-clause-written g c = λ known w.
+pub drain_next-requires : goal.drain_next-requires
+drain_next-requires g c = is_next c.args.progress.now c.args.piece c.requires.piece c.requires.next
+
+pub returns-in-Ok-clause-written : goal.returns-in-Ok-clause-written
+returns-in-Ok-clause-written g c = λ known w.
     let piece = c.args.piece in
-    let run = run_of c.args.progress.now in
-    let old : ℕ = progress_place c.args.progress.now in
-    let k : ℕ = progress_place c.drain_next.new.progress - old in
-    let ok = c.in_ok-drain_next.ensures.ok in
+    let ok = c.in-Ok.ensures.ok in
     let len = piece.bytes.ok.0 in
-    let le : k ≤ length piece.bytes.items = omega (arith, ok, len) in
-    let all : old + k ≡ progress_place c.drain_next.new.progress = omega (arith, ok, len) in
-    let at : piece.from ≡ old = omega arith in
-    subst (λ (n : ℕ). Written run known (g.W.Write.contents c.drain_next.new.writer) n) all
-    (written_more run known (g.W.Write.contents c.args.writer.now) (g.W.Write.contents c.drain_next.new.writer) old piece.from k piece.bytes.items at c.requires.stands le c.drain_next.ensures.bytes w)
+    written_to (run_of c.args.progress.now) known (g.W.Write.contents c.args.writer.now) (g.W.Write.contents c.drain_next.new.writer) (progress_place c.args.progress.now) (progress_place c.drain_next.new.progress) piece.from piece.bytes.items
+    c.requires.next c.drain_next.ensures.forward (omega (arith, ok, len)) c.requires.piece.stands c.drain_next.ensures.bytes w
+
+pub returns-in-Err-clause-written : goal.returns-in-Err-clause-written
+returns-in-Err-clause-written g c = λ known w.
+    let piece = c.args.piece in
+    let short = c.in-Err.ensures.short refl in
+    let len = piece.bytes.ok.0 in
+    written_to (run_of c.args.progress.now) known (g.W.Write.contents c.args.writer.now) (g.W.Write.contents c.drain_next.new.writer) (progress_place c.args.progress.now) (progress_place c.drain_next.new.progress) piece.from piece.bytes.items
+    c.requires.next c.drain_next.ensures.forward (omega (arith, short, len)) c.requires.piece.stands c.drain_next.ensures.bytes w

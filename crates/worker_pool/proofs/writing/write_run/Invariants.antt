@@ -1,12 +1,14 @@
-use Rattle.std.proofs.Common.{◌≡◌}
-use Rattle.output.specs.Progress.{progress_place, run_of}
-use Rattle.worker_pool.specs.Runs.{Written, output_run}
+use Rattle.worker_pool.specs.Runs.{IsReached, Written, output_run, trace_run}
+use Rattle.output.specs.Progress.{progress_place}
 use Rattle.worker_pool.proofs.writing.write_run.Given as goal
 
 abbrev pub invariant-loop : goal.invariant-loop
-invariant-loop g l = record {
-  parts : l.mine.parts ≡ 1;
-  amount : l.mine.amount ≡ progress_place l.progress;
-  run : run_of l.progress ≡ output_run g.B.RunName.code g.B.RunName.limit;
-  written : Written (output_run g.B.RunName.code g.B.RunName.limit) (g.O.Write.contents l.initial.out) (g.O.Write.contents l.out) (progress_place l.progress);
-}
+invariant-loop g l =
+    let code = g.B.RunName.code in
+    let limit = g.B.RunName.limit in
+    record {
+      printed : IsReached (output_run code limit) l.printed.progress l.printed.share.parts l.printed.share.amount;
+      traced : IsReached (trace_run code limit) l.traced.progress l.traced.share.parts l.traced.share.amount;
+      output : Written (output_run code limit) (g.O.Write.contents l.initial.out) (g.O.Write.contents l.out) (progress_place l.printed.progress);
+      trace : Written (trace_run code limit) (g.T.Write.contents l.initial.trace) (g.T.Write.contents l.trace) (progress_place l.traced.progress);
+    }

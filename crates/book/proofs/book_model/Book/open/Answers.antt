@@ -7,4 +7,4 @@ use Rattle.book.proofs.book_model.Book.open.Goals as goal
 pub invariant_of-result : goal.invariant_of-result
 invariant_of-result c =
     let verified : IsVerified (arc_value c.args.program) = subst IsVerified c.deref.ensures c.in_ok-core.ensures.verified in
-    rw (c.new.ensures.items, c.in_ok-core.ensures.core, c.deref.ensures) (opened_is_desk (arc_value c.args.program) c.args.limit verified c.if-limit-gt-LAST.false)
+    rw (c.new.ensures.items, c.new-2.ensures.items, c.in_ok-core.ensures.core, c.deref.ensures) (opened_is_desk (arc_value c.args.program) c.args.limit verified c.if-limit-gt-LAST.false)

@@ -9,14 +9,14 @@ use Rattle.book.proofs.book_model.Book.settle.Goals as goal
 pub returns-in-Some-clause-settles : goal.returns-in-Some-clause-settles
 returns-in-Some-clause-settles c =
     let b = c.self.inside in
-    let d : Desk = record { code = arc_value b.program; limit = b.limit; core = b.core; taken = b.taken; pending = b.pending.items } in
+    let d : Desk = record { code = arc_value b.program; limit = b.limit; core = b.core; taken = b.taken; pending = b.pending.items; traced = b.traced; lines = b.lines.items } in
     let e = c.in-Some.end in
-    (refl, subst (λ (x : Desk). IsEnd x.code x.limit x.core.events (x.taken + length x.pending) e) c.self.view_is (ended_desk d e c.self.invariant (sym c.ending.ensures ∙ c.in-Some.is)))
+    (refl, subst (λ (x : Desk). IsEnd x.code x.limit x.core.events (x.taken + length x.pending) (x.traced + length x.lines) e) c.self.view_is (ended_desk d e c.self.invariant (sym c.ending.ensures ∙ c.in-Some.is)))
 
 pub returns-in-Some-blocker-clause-settles : goal.returns-in-Some-blocker-clause-settles
 returns-in-Some-blocker-clause-settles c =
     let b = c.self.inside in
-    let d : Desk = record { code = arc_value b.program; limit = b.limit; core = b.core; taken = b.taken; pending = b.pending.items } in
+    let d : Desk = record { code = arc_value b.program; limit = b.limit; core = b.core; taken = b.taken; pending = b.pending.items; traced = b.traced; lines = b.lines.items } in
     let n = c.in-Some-blocker.number in
     let k = c.in-Some-least_parked.key in
     let going : d.core.ending ≡ None = search rules in

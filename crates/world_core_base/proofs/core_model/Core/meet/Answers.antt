@@ -1,4 +1,4 @@
-use Rattle.std.proofs.Common.{◌≡◌, ◌<◌, ◌++◌, [], ℕ, length, map, refl, sym, ap, ◌∙◌, subst, arith}
+use Rattle.std.proofs.Common.{◌≡◌, ◌<◌, ◌≤◌, ◌++◌, [], ℕ, length, map, refl, sym, ap, ◌∙◌, subst, arith}
 use Rattle.channel_core.specs.Channels.{Does}
 use Rattle.channel_core.specs.declared.outcome.Outcome.TheVariants as outcomes
 use Rattle.channel_core.specs.declared.outcome.Outcome.{Outcome}
@@ -8,9 +8,9 @@ use Rattle.word.specs.Values.{Exhausted, Done, Sleeps, Panics, Reply, Event}
 use Rattle.word.specs.Views.{event_of, reply_of, request_of}
 use Rattle.word.specs.declared.end.End.TheVariants.{Panicked}
 use Rattle.channel_core.specs.Channels.{IsOfChannels}
-use Rattle.world_core_base.specs.Cores.{CoreValue, Performs, most_woken}
+use Rattle.world_core_base.specs.Cores.{CoreValue, Performs, most_partners, most_woken}
 use Rattle.world_core_base.proofs.Performing.{fits_by, performs_by}
-use Rattle.world_core_base.proofs.Shapes.{done_core, few_woken, leaves_met, recorded, slept_core, stopped_core}
+use Rattle.world_core_base.proofs.Shapes.{done_core, few_partners, few_woken, leaves_met, recorded, slept_core, stopped_core}
 use Rattle.world_core_base.proofs.Starting.{still_below}
 use Rattle.world_core_base.proofs.core_model.Core.meet.Goals as goal
 
@@ -64,6 +64,17 @@ returns-in-Done-clause-fits c =
     let event : Event = recorded c.args.clock n means (Done (reply_of c.in-Done.reply)) (map (λ (w : ℕ × Reply). w.0) c.in-Done.woken.items) in
     let left = leaves_met code c.args.limit core n c.args.clock means asked (outcomes.Done c.in-Done.reply c.in-Done.woken) channels event new does (record { later = later; is = c.next_time-later.ensures; below = below; new = is; event = refl }) in
     fits_by code c.args.limit core n c.args.clock means event [] new asked c.requires.fits c.requires.events left
+
+pub returns-in-Done-clause-partners : goal.returns-in-Done-clause-partners
+returns-in-Done-clause-partners c =
+    let core = c.args.self.now in
+    let n = c.args.number in
+    let means = request_of c.args.request in
+    let channels = c.ask.new.self.channels in
+    let does : Does core.channels n means (outcomes.Done c.in-Done.reply c.in-Done.woken) channels = subst (λ (o : Outcome). Does core.channels n means o channels) c.in-Done.is c.in_ok-reply.ensures.does in
+    let is = c.wake_all.ensures.numbers ∙ ap (λ ns. ns ++ map (λ (w : ℕ × Reply). w.0) c.in-Done.woken.items) c.in_ok-partners.ensures.items in
+    let few = few_partners core.channels n means (outcomes.Done c.in-Done.reply c.in-Done.woken) channels does c.wake_all.new.partners.items is in
+    subst (λ (e : Recorded). length e.partners.items ≤ most_partners core) (sym c.event.ensures) few
 
 pub returns-in-Sleeps-clause-performs : goal.returns-in-Sleeps-clause-performs
 returns-in-Sleeps-clause-performs c =
