@@ -3,6 +3,7 @@ use denote.RattleType.{RattleType}
 use denote.Param.Send.{IsSend, IsSync, view_send, recorded_send, recorded_sync, struct_send, struct_sync, sendable}
 use denote.Struct.Declared.{shape}
 use Rattle.std.proofs.Crossing.{crosses}
+use Rattle.std.proofs.sync.ledger.Book.TheSendSync as ledger
 use Rattle.std.specs.contracts.sync.Mutex as Mutex
 use Rattle.book.specs.contracts.book_model.Book as Book
 use Rattle.book.specs.contracts.book_model.Book.TheInside as book
@@ -57,16 +58,12 @@ book_inside = recorded_send book.the_field.row _ _ book.the_type.to_one (struct_
 book_send : IsSend Book.the_row
 book_send = view_send _ _ _ _ _ book_inside
 
-run_book_send : (B : RattleType) (g : Ghosts B.Denot) → IsSend B → IsSend (RunBook.the_row B g)
-run_book_send B g s =
-    recorded_send (RunBook.the_field B g).row _ _ (RunBook.the_type B g).to_one (struct_send (shape (RunBook.the_type B g)) (book_send, (search (sendable, crosses) depth 20, tt)))
-
 locked_send : (B : RattleType) (g : Ghosts B.Denot) → IsSend B → IsSend (Locked.the_row B g)
 locked_send B g s =
     recorded_send (Locked.the_field B g).row _ _ (Locked.the_type B g).to_one (struct_send (shape (Locked.the_type B g)) (
-      run_book_send B g s,
-      (search (sendable, crosses) depth 20,
-      (search (sendable, crosses) depth 20, (search sendable, (search sendable, (search sendable, (search sendable, tt))))))))
+      struct_send (shape (RunBook.the_type B g)) (book_send, (search (sendable, crosses) depth 20, tt)),
+      (ledger.the_send _ _, (ledger.the_send _ _, (search sendable, (search sendable, (search sendable, (search sendable, tt)))))),
+    ))
 
 pub shared_sync : (B : RattleType) (g : Ghosts B.Denot) → IsSend B → IsSync (Shared.the_row B g)
 shared_sync B g s =
