@@ -35,11 +35,7 @@ pub(crate) struct Locked<B: RunName> {
 
 impl<B: RunName> Locked<B> {
     /// The book of this run, of which nothing was handed out.
-    pub fn new(
-        run: RunBook<B>,
-        printed: Book<Printed<B>>,
-        traced: Book<Traced<B>>,
-    ) -> Locked<B>
+    pub fn new(run: RunBook<B>, printed: Book<Printed<B>>, traced: Book<Traced<B>>) -> Locked<B>
         requires printed { run.book.taken ≡ printed.total }
         requires traced { run.book.traced ≡ traced.total }
     {

@@ -30,11 +30,7 @@ pub(crate) struct Shared<B: RunName> {
 
 impl<B: RunName> Shared<B> {
     /// The book of this run, of which nothing was handed out.
-    pub fn new(
-        run: RunBook<B>,
-        printed: Book<Printed<B>>,
-        traced: Book<Traced<B>>,
-    ) -> Shared<B>
+    pub fn new(run: RunBook<B>, printed: Book<Printed<B>>, traced: Book<Traced<B>>) -> Shared<B>
         requires printed { run.book.taken ≡ printed.total }
         requires traced { run.book.traced ≡ traced.total }
     {

@@ -114,19 +114,25 @@ impl Gate for Open {
 }
 
 /// Runs the program.
-fn attempt<R: Threads + Wait + Sync, G: Gate + Sync, O: Write>(
+fn attempt<R: Threads + Wait + Sync, G: Gate + Sync, O: Write, T: Write>(
     rt: &R,
     alloc: Global,
     limit: u64,
     workers: u64,
     gate: &G,
     out: &mut O,
+    trace: &mut T,
 ) -> Result<End, Fault> {
     let program = Arc::new(alloc, verify(alloc, code(alloc)?)?)?;
-    run(rt, alloc, program, limit, workers, gate, out)
+    run(rt, alloc, program, limit, workers, gate, out, trace)
 }
 
-/// Runs the program, and compares its output and its end.
+/// The trace of the program.
+const TRACE: &[u8] =
+    b"0 1 make 1\n2 1 go 2\n3 1 go 3\n4 1 receive 1 sleeps\n4 2 print 2\n4 3 print 2\n\
+    5 2 send 1 to 1\n5 3 send 1 sleeps\n6 1 receive 1 from 3\n6 2 end\n7 1 exit\n";
+
+/// Runs the program, and compares its output, its trace and its end.
 fn expect_whole<R: Threads + Wait + Abort + Sync, G: Gate + Sync>(
     rt: &R,
     alloc: Global,
@@ -134,9 +140,11 @@ fn expect_whole<R: Threads + Wait + Abort + Sync, G: Gate + Sync>(
     gate: &G,
 ) -> Result<(), Fail> {
     let mut out = Flagged::new(Vec::new(alloc));
-    let outcome = attempt(rt, alloc, LIMIT, workers, gate, &mut out);
+    let mut trace = Flagged::new(Vec::new(alloc));
+    let outcome = attempt(rt, alloc, LIMIT, workers, gate, &mut out, &mut trace);
     assert_eq!(rt; outcome, Ok(End::Finished));
     assert_eq!(rt; out.into_inner().as_slice(), b"1\n2\n".as_slice());
+    assert_eq!(rt; trace.into_inner().as_slice(), TRACE);
     Ok(())
 }
 
@@ -159,9 +167,10 @@ fn numbers_out_of_range_are_refused(rt: HostRuntime) -> Result<(), Fail> {
         (1, (1 << 62) + 1, Fault::BadLimit),
     ] {
         let mut out = Flagged::new(Vec::new(rt.alloc()));
-        let outcome = attempt(&rt, rt.alloc(), limit, workers, &Open, &mut out);
+        let mut trace = Flagged::new(Vec::new(rt.alloc()));
+        let outcome = attempt(&rt, rt.alloc(), limit, workers, &Open, &mut out, &mut trace);
         assert_eq!(rt; outcome, Err(fault));
-        assert!(rt; out.into_inner().is_empty());
+        assert!(rt; out.into_inner().is_empty() && trace.into_inner().is_empty());
     }
     Ok(())
 }
@@ -189,15 +198,27 @@ impl Write for Narrow {
     }
 }
 
-#[test]
-fn failing_writer_ends_the_run(rt: HostRuntime) -> Result<(), Fail> {
-    let mut out = Narrow {
+/// A writer that has taken nothing.
+fn narrow() -> Narrow {
+    Narrow {
         taken: false,
         failed: false,
-    };
-    let outcome = attempt(&rt, rt.alloc(), LIMIT, 64, &Open, &mut out);
+    }
+}
+
+#[test]
+fn failing_writer_ends_the_run(rt: HostRuntime) -> Result<(), Fail> {
+    let alloc = rt.alloc();
+    let mut out = narrow();
+    let mut trace = Flagged::new(Vec::new(alloc));
+    let outcome = attempt(&rt, alloc, LIMIT, 64, &Open, &mut out, &mut trace);
     assert_eq!(rt; outcome, Err(Fault::Write));
     assert!(rt; out.taken);
+    let mut out = Flagged::new(Vec::new(alloc));
+    let mut trace = narrow();
+    let outcome = attempt(&rt, alloc, LIMIT, 64, &Open, &mut out, &mut trace);
+    assert_eq!(rt; outcome, Err(Fault::Write));
+    assert!(rt; trace.taken);
     Ok(())
 }
 
