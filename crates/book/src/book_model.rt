@@ -122,6 +122,16 @@ impl Book {
             && self.core.is_lent(lease.number(), lease.base())
     }
 
+    /// Whether a lease of this program and limit is out, without a look at the program.
+    pub fn is_own_out(&self, lease: &Lease) -> bool
+        requires code { self.now.code ≡ lease.now.code }
+        requires limit { self.now.limit ≡ lease.now.limit }
+        ensures { IsTrue result ↔ IsLent self.now lease.now }
+    {
+        let number = lease.number();
+        self.core.is_lent(number, lease.base())
+    }
+
     /// Puts the present state of a lease back that is out, without a look at the program.
     pub fn bring_own(&mut self, lease: Lease)
         requires { IsLent self.old lease }

@@ -1,4 +1,4 @@
 pub mod Refusals
 pub mod Spelled
 pub mod Agreement
-pub mod Pieces
+pub mod Runs

@@ -1,4 +1,3 @@
 pub mod Outcome
 pub mod Reading
-pub mod Runs
 pub mod Listed

@@ -2,7 +2,6 @@
 #![tactic(auto)]
 
 mod checking;
-pub mod gate;
 mod interpretation;
 mod listing;
 pub mod outcome;
@@ -11,8 +10,8 @@ pub mod run;
 mod running;
 
 pub use checking::check_bytes;
-pub use gate::Gate;
 pub use interpretation::reference_bytes;
 pub use listing::list_bytes;
 pub use outcome::report;
 pub use run::run_bytes;
+pub use worker_pool::Gate;

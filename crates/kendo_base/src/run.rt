@@ -3,19 +3,20 @@
 ghost use Rattle.std.specs.Prelude.{◌≡◌, ◌≤◌, ◌⊎◌, ◌↔◌, IfErr, IfOk, IsErrOf, true};
 ghost use Rattle.meaning.specs.Source.{source_kind};
 ghost use Rattle.kendo_base.specs.Reading.{HasNoReading, IsRefusal, IsWhy, Reads};
-ghost use Rattle.kendo_base.specs.Runs.{IsWorkers};
 ghost use Rattle.one_thread.specs.Worlds.{BeginsOutput, IsLimit, IsWhole};
 ghost use Rattle.syntax.specs.Tree.{File};
 ghost use Rattle.tracer.specs.Trace.{BeginsTrace, IsWholeTrace};
+ghost use Rattle.worker_pool.specs.Runs.{IsWorkers};
 
-use crate::gate::Gate;
 use crate::reading::read;
 use crate::running::run_typed;
 use go_text::Fault;
 use std::alloc::Global;
 use std::sync::Wait;
+use std::thread::Threads;
 use word::Write;
 use word::end::End;
+use worker_pool::Gate;
 
 /// Runs the program that a text is, up to the clock limit (1 to 2^62 steps) on 1 to 64 workers,
 /// and answers how it ended. What is written to `out` begins the output of the one-thread run, and
@@ -24,13 +25,13 @@ use word::end::End;
 ///
 /// Errors: by the numbers 1 to 10 why it is none, with line and column; `Memory`; `Write`; `BadWorkers`; `BadLimit`.
 #[tactic(auto, using(crate::proofs::Spelled::grammatical, crate::proofs::Spelled::limited))]
-pub fn run_bytes<R: Wait, G: Gate, O: Write, T: Write>(
+pub fn run_bytes<R: Threads + Wait + Sync, G: Gate + Sync, O: Write, T: Write>(
     rt: &R,
     alloc: Global,
     bytes: Vec<u8>,
     limit: u64,
     workers: u64,
-    _gate: &G,
+    gate: &G,
     out: &mut O,
     trace: &mut T,
 ) -> Result<End, Fault>
@@ -55,6 +56,6 @@ pub fn run_bytes<R: Wait, G: Gate, O: Write, T: Write>(
         return Err(Fault::BadLimit);
     }
     let (_source, typed) = read(alloc, bytes)?;
-    let end = run_typed(rt, alloc, &typed, limit, out, trace)?;
+    let end = run_typed(rt, alloc, &typed, limit, workers, gate, out, trace)?;
     Ok(end)
 }

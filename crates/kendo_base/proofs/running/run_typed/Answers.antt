@@ -2,7 +2,7 @@ use Rattle.checker.specs.Trees.{tree_in}
 use Rattle.meaning.specs.Source.{source_kind}
 use Rattle.output.specs.declared.piece.Kind.TheVariants.{Output, Trace}
 use Rattle.syntax.specs.Spans.{tree_of}
-use Rattle.kendo_base.proofs.Pieces.{all_code, begins_code}
+use Rattle.kendo_base.proofs.Runs.{all_code, begins_code}
 use Rattle.kendo_base.proofs.running.run_typed.Goals as goal
 
 pub returns-in_err-end-clause-begins : goal.returns-in_err-end-clause-begins

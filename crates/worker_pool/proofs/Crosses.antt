@@ -1,0 +1,75 @@
+-- What the threads of a run share may cross to another thread.
+use denote.RattleType.{RattleType}
+use denote.Param.Send.{IsSend, IsSync, view_send, recorded_send, recorded_sync, struct_send, struct_sync, sendable}
+use denote.Struct.Declared.{shape}
+use Rattle.std.proofs.Crossing.{crosses}
+use Rattle.std.proofs.sync.ledger.Book.TheSendSync as ledger
+use Rattle.std.specs.contracts.sync.Mutex as Mutex
+use Rattle.book.specs.contracts.book_model.Book as Book
+use Rattle.book.specs.contracts.book_model.Book.TheInside as book
+use Rattle.channel_core.proofs.channels.Channels.TheSendSync.{the_send as channels_send}
+use Rattle.goroutine_vm.proofs.state.GoState.TheSendSync.{the_send as state_send}
+use Rattle.verifier.proofs.verified.Verified.TheSendSync.{the_send as verified_send, the_sync as verified_sync}
+use Rattle.word.proofs.end.End.TheSendSync.{the_send as end_send}
+use Rattle.world_core_base.proofs.slot.Slot.TheSendSync.{the_send as slot_send}
+use Rattle.world_core_base.specs.contracts.core_model.Core as Core
+use Rattle.world_core_base.specs.contracts.core_model.Core.TheInside as core
+use Rattle.world_core_base.specs.contracts.slot.Away as Away
+use Rattle.world_core_base.specs.contracts.slot.Away.TheInside as away
+use Rattle.worker_pool.specs.contracts.locked.Locked as Locked
+use Rattle.worker_pool.specs.contracts.run_book.RunBook as RunBook
+use Rattle.worker_pool.specs.contracts.shared.Shared as Shared
+use Rattle.worker_pool.specs.declared.run_name.RunName.{Ghosts}
+
+away_inside : IsSend away.the_row
+away_inside = recorded_send away.the_field.row _ _ away.the_type.to_one (struct_send (shape away.the_type) (search (sendable, crosses), (search (sendable), tt)))
+
+away_send : IsSend Away.the_row
+away_send = view_send _ _ _ _ _ away_inside
+
+core_inside : IsSend core.the_row
+core_inside =
+    recorded_send core.the_field.row _ _ core.the_type.to_one (struct_send (shape core.the_type) (
+      search (sendable, crosses, slot_send) depth 20,
+      (
+        search (sendable, crosses, state_send) depth 20,
+        (
+          search (sendable, crosses, away_send) depth 20,
+          (
+            search (sendable, crosses, channels_send) depth 20,
+            (search sendable, (search sendable, (search (sendable, end_send) depth 20, tt))),
+          ),
+        ),
+      ),
+    ))
+
+core_send : IsSend Core.the_row
+core_send = view_send _ _ _ _ _ core_inside
+
+book_inside : IsSend book.the_row
+book_inside = recorded_send book.the_field.row _ _ book.the_type.to_one (struct_send (shape book.the_type) (
+  search sendable,
+  (
+    search (sendable, crosses, verified_send, verified_sync) depth 20,
+    (search sendable, (core_send, (search sendable, (search (sendable, crosses) depth 20, (search sendable, (search (sendable, crosses) depth 20, tt)))))),
+  ),
+))
+
+book_send : IsSend Book.the_row
+book_send = view_send _ _ _ _ _ book_inside
+
+locked_send : (B : RattleType) (g : Ghosts B.Denot) → IsSend B → IsSend (Locked.the_row B g)
+locked_send B g s =
+    recorded_send (Locked.the_field B g).row _ _ (Locked.the_type B g).to_one (struct_send (shape (Locked.the_type B g)) (
+      struct_send (shape (RunBook.the_type B g)) (book_send, (search (sendable, crosses) depth 20, tt)),
+      (ledger.the_send _ _, (ledger.the_send _ _, (search sendable, (search sendable, (search sendable, (search sendable, tt)))))),
+    ))
+
+pub shared_sync : (B : RattleType) (g : Ghosts B.Denot) → IsSend B → IsSync (Shared.the_row B g)
+shared_sync B g s =
+    let d : IsSend (Locked.the_row B g) = locked_send B g s in
+    let m : IsSync (Mutex.the_row (Locked.the_row B g)) = search (sendable, crosses, d) depth 20 in
+    recorded_sync (Shared.the_field B g).row _ _ (Shared.the_type B g).to_one (struct_sync (shape (Shared.the_type B g)) (
+      m,
+      (search (sendable, crosses) depth 20, (search (sendable, crosses) depth 20, (search (sendable, crosses) depth 20, tt))),
+    ))

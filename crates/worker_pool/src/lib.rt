@@ -1,0 +1,19 @@
+//! The threads of a run: workers that share its book, and the calling thread, which writes what they commit.
+#![tactic(auto)]
+
+mod gate;
+mod handed;
+mod locked;
+mod pool;
+mod run_book;
+mod run_name;
+mod shared;
+mod turn;
+mod worker;
+mod writing;
+
+pub use gate::Gate;
+pub use pool::run;
+
+#[cfg(test)]
+mod tests;

@@ -1,0 +1,188 @@
+//! What is under the lock of a run.
+
+ghost use Rattle.std.specs.Prelude.{◌≡◌, ◌+◌, [], IfOk, IfSome, OnOk, length};
+ghost use Rattle.worker_pool.specs.Handing.{HasEnded};
+ghost use Rattle.worker_pool.specs.Runs.{IsHanded, output_run, trace_run};
+
+use crate::handed::Handed;
+use crate::run_book::RunBook;
+use crate::run_name::{Printed, RunName, Traced};
+use crate::turn::{Back, Lent, Turn};
+use go_text::Memory;
+use output::Piece;
+use std::sync::ledger::{Book, Share};
+use word::end::End;
+
+/// The book of a run, and what its threads tell each other.
+#[derive(Drop)]
+pub(crate) struct Locked<B: RunName> {
+    run: RunBook<B>,
+    /// How many bytes of the output were handed out.
+    printed: Book<Printed<B>>,
+    /// How many bytes of the trace.
+    traced: Book<Traced<B>>,
+    /// Whether memory was refused.
+    stopped: bool,
+    /// Whether no lease is given out any more: the run has ended, or stops.
+    over: bool,
+    /// How many workers wait until they are woken.
+    waiting: u64,
+    /// Whether a worker watches, which looks by itself whether something can be lent.
+    watched: bool,
+    ghost counted: { run.book.taken ≡ printed.total },
+    ghost lines: { run.book.traced ≡ traced.total },
+}
+
+impl<B: RunName> Locked<B> {
+    /// The book of this run, of which nothing was handed out.
+    pub fn new(run: RunBook<B>, printed: Book<Printed<B>>, traced: Book<Traced<B>>) -> Locked<B>
+        requires printed { run.book.taken ≡ printed.total }
+        requires traced { run.book.traced ≡ traced.total }
+    {
+        Locked {
+            run,
+            printed,
+            traced,
+            stopped: false,
+            over: false,
+            waiting: 0,
+            watched: false,
+        }
+    }
+
+    /// No lease is given out any more.
+    pub fn close(&mut self) {
+        self.over = true;
+    }
+
+    /// The run stops for want of memory, unless it has ended.
+    pub fn stop(&mut self) {
+        self.stopped = self.stopped || !self.over;
+        self.over = true;
+    }
+
+    /// Whether no lease is given out any more.
+    pub fn is_over(&self) -> bool {
+        self.over
+    }
+
+    /// Whether a worker watches.
+    pub fn is_watched(&self) -> bool {
+        self.watched
+    }
+
+    /// A worker has watched, and looks again.
+    pub fn end_watch(&mut self) {
+        self.watched = false;
+    }
+
+    /// Whether workers wait, and nobody watches for them.
+    pub fn wants_watch(&self) -> bool {
+        self.waiting > 0 && !self.watched
+    }
+
+    /// A worker begins to wait.
+    pub fn begin_wait(&mut self) {
+        self.waiting = self.waiting.saturating_add(1);
+    }
+
+    /// A worker was woken.
+    pub fn end_wait(&mut self) {
+        self.waiting = self.waiting.saturating_sub(1);
+    }
+
+    /// Takes what a worker comes back with, and commits all that can be committed.
+    pub fn take_back(&mut self, back: Back<B>) {
+        match back {
+            Back::Begun => {}
+            Back::Asking(lent) => self.bring(lent),
+            Back::Running(lent) => self.bring(lent),
+            Back::NoMemory => self.stop(),
+        }
+    }
+
+    /// What a worker does next.
+    pub fn turn(&mut self) -> Turn<B> {
+        if self.over {
+            return Turn::Leave;
+        }
+        match self.run.lend() {
+            Ok(Some(lent)) => Turn::Work(lent),
+            Ok(None) => self.idle_turn(),
+            Err(Memory) => {
+                self.stop();
+                Turn::Leave
+            }
+        }
+    }
+
+    /// What there is to write, and the end, where the run has ended.
+    pub fn next(
+        &mut self,
+        printed: &mut Share<Printed<B>>,
+        traced: &mut Share<Traced<B>>,
+    ) -> Result<Handed<B>, Memory>
+        requires { (printed.old.parts ≡ 1) × (traced.old.parts ≡ 1) }
+        ensures parts { (printed.new.parts ≡ 1) × (traced.new.parts ≡ 1) }
+        ensures output { IfOk result (λ h. (h.output.from ≡ printed.old.amount) × (printed.new.amount ≡ printed.old.amount + length h.output.bytes.items)) }
+        ensures trace { IfOk result (λ h. (h.trace.from ≡ traced.old.amount) × (traced.new.amount ≡ traced.old.amount + length h.trace.bytes.items)) }
+    {
+        if self.stopped {
+            return Err(Memory);
+        }
+        let end = self.run.settle_all()?;
+        self.over = self.over || end.is_some();
+        let output = self.take_output(printed)?;
+        let trace = self.take_trace(traced)?;
+        Ok(Handed::new(output, trace, end))
+    }
+
+    /// What a worker does that nothing can be lent to.
+    fn idle_turn(&mut self) -> Turn<B> {
+        if self.watched {
+            return Turn::Wait;
+        }
+        self.watched = true;
+        Turn::Watch
+    }
+
+    /// Puts a lease back, and commits all that can be committed.
+    fn bring(&mut self, lent: Lent<B>) {
+        self.run.bring(lent);
+        match self.run.settle_all() {
+            Ok(end) => self.over = self.over || end.is_some(),
+            Err(Memory) => self.stop(),
+        }
+    }
+
+    /// The bytes of the output that were not yet handed out.
+    fn take_output(&mut self, mine: &mut Share<Printed<B>>) -> Result<Piece, Memory>
+        requires { mine.old.parts ≡ 1 }
+        ensures parts { mine.new.parts ≡ 1 }
+        ensures piece { IfOk result (IsHanded (output_run B.code B.limit)) }
+        ensures place { IfOk result (λ piece. (piece.from ≡ self.old.run.book.taken) × (piece.bytes.items ≡ self.old.run.book.pending)) }
+        ensures taken { OnOk result (self.new.run.book ≡ record self.old.run.book { taken = self.old.run.book.taken + length self.old.run.book.pending; pending = [] }) }
+        ensures share { IfOk result (λ piece. (piece.from ≡ mine.old.amount) × (mine.new.amount ≡ mine.old.amount + length piece.bytes.items)) }
+    {
+        let Locked { run, printed, .. } = self;
+        printed.audit(mine);
+        let piece = run.take_output()?;
+        printed.add(mine, piece.bytes.len() as u64);
+        Ok(piece)
+    }
+
+    /// The bytes of the trace that were not yet handed out.
+    fn take_trace(&mut self, mine: &mut Share<Traced<B>>) -> Result<Piece, Memory>
+        requires { mine.old.parts ≡ 1 }
+        ensures parts { mine.new.parts ≡ 1 }
+        ensures piece { IfOk result (IsHanded (trace_run B.code B.limit)) }
+        ensures place { IfOk result (λ piece. (piece.from ≡ self.old.run.book.traced) × (piece.bytes.items ≡ self.old.run.book.lines)) }
+        ensures share { IfOk result (λ piece. (piece.from ≡ mine.old.amount) × (mine.new.amount ≡ mine.old.amount + length piece.bytes.items)) }
+    {
+        let Locked { run, traced, .. } = self;
+        traced.audit(mine);
+        let piece = run.take_trace()?;
+        traced.add(mine, piece.bytes.len() as u64);
+        Ok(piece)
+    }
+}

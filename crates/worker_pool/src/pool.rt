@@ -1,0 +1,226 @@
+//! A run by several threads.
+
+ghost use Rattle.std.specs.Prelude.{◌≡◌, ◌⊎◌, ◌↔◌, IfErr, IfOk, IsErrOf, true};
+ghost use denote.Param.Send.{IsSend, IsSync};
+ghost use Rattle.std.specs.Arc.{arc_value};
+ghost use Rattle.bytecode.specs.Machine.{code_kind};
+ghost use Rattle.one_thread.specs.Worlds.{BeginsOutput, IsLimit, IsWhole};
+ghost use Rattle.output.specs.Progress.{progress_place, run_of};
+ghost use Rattle.tracer.specs.Trace.{BeginsTrace, IsWholeTrace};
+ghost use Rattle.worker_pool.specs.Runs.{ComesOf, IsStart, IsWorkers, output_run, trace_run};
+
+use crate::gate::Gate;
+use crate::run_book::RunBook;
+use crate::run_name::{Printed, RunName, Traced};
+use crate::shared::Shared;
+use crate::worker::work;
+use crate::writing::{Reach, write_run};
+use book::Book;
+use go_text::Fault;
+use output::{Kind, Progress};
+use std::alloc::Global;
+use std::marker::Brand;
+use std::sync::ledger::Blank;
+use std::sync::{Arc, Wait};
+use std::thread;
+use std::thread::Threads;
+use verifier::Verified;
+use word::Write;
+use word::end::End;
+
+/// Runs a program up to the clock limit (1 to 2^62) on 1 to 64 workers, and answers how it ended. What is written begins the
+/// output of the one-thread run, and its trace; at an end it is all of them.
+///
+/// Errors: `BadWorkers`; `BadLimit`; `Memory`; `Write`.
+pub fn run<R: Threads + Wait + Sync, G: Gate + Sync, O: Write, T: Write>(
+    rt: &R,
+    alloc: Global,
+    program: Arc<Verified>,
+    limit: u64,
+    workers: u64,
+    gate: &G,
+    out: &mut O,
+    trace: &mut T,
+) -> Result<End, Fault>
+    ensures workers { IsErrOf result Fault.BadWorkers ↔ (IsWorkers workers → ⊥) }
+    ensures limit { IsErrOf result Fault.BadLimit ↔ (IsWorkers workers × (IsLimit limit → ⊥)) }
+    ensures begins { BeginsOutput (code_kind (arc_value program)) limit (O.contents out.old) (O.contents out.new) }
+    ensures traces { BeginsTrace (code_kind (arc_value program)) limit (T.contents trace.old) (T.contents trace.new) }
+    ensures whole { IfOk result (λ end. IsWhole (code_kind (arc_value program)) limit (O.contents out.old) (O.contents out.new) end) }
+    ensures traced { IfOk result (λ end. IsWholeTrace (code_kind (arc_value program)) limit (T.contents trace.old) (T.contents trace.new) end) }
+    ensures write { IsErrOf result Fault.Write → (O.has_failed out.new ≡ true) ⊎ (T.has_failed trace.new ≡ true) }
+    ensures only { IfErr result (λ fault. (fault ≡ Fault.Memory) ⊎ ((fault ≡ Fault.Write) ⊎ ((fault ≡ Fault.BadWorkers) ⊎ (fault ≡ Fault.BadLimit)))) }
+{
+    if workers < 1 || workers > 64 {
+        return Err(Fault::BadWorkers);
+    }
+    if limit < 1 || limit > 1 << 62 {
+        return Err(Fault::BadLimit);
+    }
+    let start = Start::new(alloc, program, limit)?;
+    run_named::<Brand, R, G, O, T>(rt, start, workers, gate, out, trace)
+}
+
+/// What a run begins with.
+#[derive(Drop)]
+struct Start {
+    book: Book,
+    printed: Progress,
+    traced: Progress,
+    printed_ledger: Blank,
+    traced_ledger: Blank,
+}
+
+impl Start {
+    /// The beginning of this program's run.
+    fn new(alloc: Global, program: Arc<Verified>, limit: u64) -> Result<Start, Fault>
+        requires { IsLimit limit }
+        ensures start { IfOk result (λ start. IsStart (arc_value program) limit start.book start.printed start.traced) }
+        ensures ledgers { IfOk result (λ start. (start.printed_ledger.parts ≡ 1) × (start.traced_ledger.parts ≡ 1)) }
+        ensures only { IfErr result (λ fault. fault ≡ Fault.Memory) }
+    {
+        let printed = Progress::new(Arc::try_clone(&program)?, limit, Kind::Output);
+        let traced = Progress::new(Arc::try_clone(&program)?, limit, Kind::Trace);
+        let book = Book::open(alloc, program, limit)?;
+        Ok(Start {
+            book,
+            printed,
+            traced,
+            printed_ledger: Blank::new(1),
+            traced_ledger: Blank::new(1),
+        })
+    }
+}
+
+/// The run of this name.
+fn run_named<B: RunName + Send, R: Threads + Wait + Sync, G: Gate + Sync, O: Write, T: Write>(
+    rt: &R,
+    start: Start,
+    workers: u64,
+    gate: &G,
+    out: &mut O,
+    trace: &mut T,
+) -> Result<End, Fault>
+    requires start { IsStart B.code B.limit start.book start.printed start.traced }
+    requires printed { (start.printed_ledger.name ≡ B.printed) × (start.printed_ledger.parts ≡ 1) }
+    requires traced { (start.traced_ledger.name ≡ B.traced) × (start.traced_ledger.parts ≡ 1) }
+    ensures output { ComesOf (output_run B.code B.limit) (O.contents out.old) (O.contents out.new) result }
+    ensures trace { ComesOf (trace_run B.code B.limit) (T.contents trace.old) (T.contents trace.new) result }
+    ensures write { IsErrOf result Fault.Write → (O.has_failed out.new ≡ true) ⊎ (T.has_failed trace.new ≡ true) }
+    ensures only { IfErr result (λ fault. (fault ≡ Fault.Memory) ⊎ (fault ≡ Fault.Write)) }
+{
+    let Start {
+        book,
+        printed,
+        traced,
+        printed_ledger,
+        traced_ledger,
+    } = start;
+    let (printed_book, printed_share) = printed_ledger.open::<Printed<B>>();
+    let (traced_book, traced_share) = traced_ledger.open::<Traced<B>>();
+    let shared: Shared<B> = Shared::new(RunBook::new(book), printed_book, traced_book);
+    let writing = Writing {
+        rt,
+        shared: &shared,
+        printed: Reach::new(printed, printed_share),
+        traced: Reach::new(traced, traced_share),
+        out,
+        trace,
+    };
+    let (out, trace, result) = beside(rt, &shared, gate, workers, writing);
+    return_loan(out);
+    return_loan(trace);
+    result
+}
+
+/// What the calling thread does beside the workers.
+trait Task: Drop {
+    type Output;
+
+    ghost can_run: { Self → Type 0 };
+
+    ghost run_gives: { Self → Self.Output → Type 0 };
+
+    fn run(self) -> Self::Output
+        requires { can_run self }
+        ensures { run_gives self result };
+}
+
+/// To write what the workers commit.
+#[derive(Drop)]
+struct Writing<'a, B: RunName, R, O, T> {
+    rt: &'a R,
+    shared: &'a Shared<B>,
+    printed: Reach<Printed<B>>,
+    traced: Reach<Traced<B>>,
+    out: &'a mut O,
+    trace: &'a mut T,
+}
+
+impl<'a, B: RunName, R: Wait, O: Write, T: Write> Task for Writing<'a, B, R, O, T> {
+    type Output = (&'a mut O, &'a mut T, Result<End, Fault>);
+
+    ghost use Rattle.std.specs.Prelude.{◌≡◌, ◌⊎◌, IfErr, IsErrOf, true};
+    ghost use Rattle.go_text.specs.declared.fault.Fault.TheVariants as faults;
+    ghost use Rattle.output.specs.Progress.{progress_place};
+    ghost use Rattle.worker_pool.specs.Runs.{ComesOf, IsReached, output_run, trace_run};
+
+    ghost can_run = { λ t. IsReached (output_run B.code B.limit) t.printed.progress t.printed.share.parts t.printed.share.amount
+        × IsReached (trace_run B.code B.limit) t.traced.progress t.traced.share.parts t.traced.share.amount
+        × (progress_place t.printed.progress ≡ 0) × (progress_place t.traced.progress ≡ 0) };
+
+    ghost run_gives = { λ t r. (r.0.ghost_name ≡ t.out.ghost_name) × (r.1.ghost_name ≡ t.trace.ghost_name)
+        × ComesOf (output_run B.code B.limit) (O.contents t.out.now) (O.contents r.0.now) r.2
+        × ComesOf (trace_run B.code B.limit) (T.contents t.trace.now) (T.contents r.1.now) r.2
+        × (IsErrOf r.2 faults.Write → (O.has_failed r.0.now ≡ true) ⊎ (T.has_failed r.1.now ≡ true))
+        × IfErr r.2 (λ fault. (fault ≡ faults.Memory) ⊎ (fault ≡ faults.Write)) };
+
+    fn run(self) -> (&'a mut O, &'a mut T, Result<End, Fault>) {
+        let Writing {
+            rt,
+            shared,
+            printed,
+            traced,
+            out,
+            trace,
+        } = self;
+        let result = write_run(rt, shared, printed, traced, out, trace);
+        shared.close(rt);
+        (out, trace, result)
+    }
+}
+
+/// Starts the workers, does the task, and waits for the workers.
+fn beside<B: RunName + Send, R: Threads + Wait + Sync, G: Gate + Sync, T: Task>(
+    rt: &R,
+    shared: &Shared<B>,
+    gate: &G,
+    workers: u64,
+    task: T,
+) -> T::Output
+    requires { T.can_run task }
+    ensures { T.run_gives task result }
+{
+    thread::scope(
+        thread::scope_env(),
+        rt,
+        move |scope| -> T::Output
+            requires task { T.can_run task }
+            requires crosses { IsSend B.row × IsSync R.row × IsSync G.row }
+            ensures { T.run_gives task result }
+        {
+            for worker in 0..workers {
+                if scope.spawn(move || work(rt, shared, gate, worker)).is_err() {
+                    shared.stop(rt);
+                    break;
+                }
+            }
+            task.run()
+        },
+    )
+}
+
+/// Does nothing, but this use of a returned reference is what ties it to the parameter that lent it.
+fn return_loan<T>(x: &mut T)
+    ensures { x.new ≡ x.old }
+{}

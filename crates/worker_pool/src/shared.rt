@@ -1,0 +1,130 @@
+//! What the threads of a run share.
+
+ghost use Rattle.std.specs.Prelude.{◌≡◌, ◌+◌, IfOk, length};
+
+use crate::handed::Handed;
+use crate::locked::Locked;
+use crate::run_book::RunBook;
+use crate::run_name::{Printed, RunName, Traced};
+use crate::turn::{Back, Lent, Turn};
+use crate::worker::Nap;
+use go_text::Memory;
+use std::sync::ledger::{Book, Share};
+use std::sync::{Condvar, Mutex, MutexGuard, Wait};
+use std::time::Duration;
+
+/// How long the thread that writes sleeps, if nothing wakes it, in milliseconds.
+const WRITING_NAP: u64 = 5;
+
+/// The lock, and whom its threads wake.
+#[derive(Drop)]
+pub(crate) struct Shared<B: RunName> {
+    locked: Mutex<Locked<B>>,
+    /// The workers that wait: one of them is to watch.
+    waiting: Condvar,
+    /// The worker that watches: it is to look at once.
+    watching: Condvar,
+    /// The thread that writes: the run is over.
+    writing: Condvar,
+}
+
+impl<B: RunName> Shared<B> {
+    /// The book of this run, of which nothing was handed out.
+    pub fn new(run: RunBook<B>, printed: Book<Printed<B>>, traced: Book<Traced<B>>) -> Shared<B>
+        requires printed { run.book.taken ≡ printed.total }
+        requires traced { run.book.traced ≡ traced.total }
+    {
+        Shared {
+            locked: Mutex::new(Locked::new(run, printed, traced)),
+            waiting: Condvar::new(),
+            watching: Condvar::new(),
+            writing: Condvar::new(),
+        }
+    }
+
+    /// Takes what a worker comes back with, and gives it its next lease, as soon as there is one; none once the run is over.
+    pub fn next_lease<R: Wait>(&self, rt: &R, back: Back<B>, nap: &mut Nap) -> Option<Lent<B>> {
+        let mut locked = self.locked.lock(rt);
+        if locked.is_watched() && matches!(&back, Back::Running(_)) {
+            self.watching.notify_one();
+        }
+        locked.take_back(back);
+        for _ in rt.forever() {
+            match locked.turn() {
+                Turn::Work(lent) => {
+                    if locked.wants_watch() {
+                        self.waiting.notify_one();
+                    }
+                    return Some(lent);
+                }
+                Turn::Watch => {
+                    locked = sleep(rt, &self.watching, locked, nap.take());
+                    locked.end_watch();
+                }
+                Turn::Wait => {
+                    locked.begin_wait();
+                    locked = self.waiting.wait(rt, locked);
+                    locked.end_wait();
+                }
+                Turn::Leave => return None,
+            }
+        }
+        unreachable!()
+    }
+
+    /// What there is to write, after a nap that the end of the run cuts short.
+    pub fn next<R: Wait>(
+        &self,
+        rt: &R,
+        printed: &mut Share<Printed<B>>,
+        traced: &mut Share<Traced<B>>,
+    ) -> Result<Handed<B>, Memory>
+        requires { (printed.old.parts ≡ 1) × (traced.old.parts ≡ 1) }
+        ensures parts { (printed.new.parts ≡ 1) × (traced.new.parts ≡ 1) }
+        ensures output { IfOk result (λ h. (h.output.from ≡ printed.old.amount) × (printed.new.amount ≡ printed.old.amount + length h.output.bytes.items)) }
+        ensures trace { IfOk result (λ h. (h.trace.from ≡ traced.old.amount) × (traced.new.amount ≡ traced.old.amount + length h.trace.bytes.items)) }
+    {
+        let mut locked = self.locked.lock(rt);
+        if !locked.is_over() {
+            locked = sleep(
+                rt,
+                &self.writing,
+                locked,
+                Duration::from_millis(WRITING_NAP),
+            );
+        }
+        locked.next(printed, traced)
+    }
+
+    /// The run stops for want of memory, unless it has ended.
+    pub fn stop<R: Wait>(&self, rt: &R) {
+        self.locked.lock(rt).stop();
+        self.wake_all();
+    }
+
+    /// No worker gets another lease.
+    pub fn close<R: Wait>(&self, rt: &R) {
+        self.locked.lock(rt).close();
+        self.wake_all();
+    }
+
+    /// Wakes all that sleep.
+    pub fn wake_all(&self) {
+        self.waiting.notify_all();
+        self.watching.notify_all();
+        self.writing.notify_all();
+    }
+}
+
+/// Sleeps without the lock for so long; a call cuts that short.
+fn sleep<'a, B: RunName, R: Wait>(
+    rt: &R,
+    call: &Condvar,
+    locked: MutexGuard<'a, Locked<B>>,
+    length: Duration,
+) -> MutexGuard<'a, Locked<B>> {
+    let seen = call.notifications();
+    let lock = MutexGuard::unlock(locked);
+    call.sleep(rt, seen, length);
+    lock.lock(rt)
+}
