@@ -9,6 +9,7 @@ use go_text::{Fault, Place, Span};
 use kendo_base::{report, run_bytes};
 use std::alloc::Global;
 use std::sync::Wait;
+use std::thread::Threads;
 use word::end::End;
 use word::panic::Panic;
 use word::{Flagged, Write, WriteFault};
@@ -56,7 +57,10 @@ impl Write for Slow {
 }
 
 /// Sees whether a run whose output can't be written stops there, and tells it.
-pub(crate) fn check_failing_writers<R: Wait>(rt: &R, alloc: Global) -> Result<(), Flaw> {
+pub(crate) fn check_failing_writers<R: Threads + Wait + Sync>(
+    rt: &R,
+    alloc: Global,
+) -> Result<(), Flaw> {
     for (fails_at, written, line) in [
         (1, "", "kendo: 14 Write\n"),
         (2, "1", "kendo: 14 Write\n"),
@@ -74,7 +78,10 @@ pub(crate) fn check_failing_writers<R: Wait>(rt: &R, alloc: Global) -> Result<()
 }
 
 /// Sees whether a run whose trace can't be written stops there, and tells it.
-pub(crate) fn check_failing_traces<R: Wait>(rt: &R, alloc: Global) -> Result<(), Flaw> {
+pub(crate) fn check_failing_traces<R: Threads + Wait + Sync>(
+    rt: &R,
+    alloc: Global,
+) -> Result<(), Flaw> {
     for (fails_at, written, line) in [
         (1, "", "kendo: 14 Write\n"),
         (14, "0 1 print 3\n1", "kendo: 14 Write\n"),

@@ -8,10 +8,11 @@ use crate::trace::settled_lines;
 use std::alloc::Global;
 use std::rt::Files;
 use std::sync::Wait;
+use std::thread::Threads;
 
 /// Sees whether what a file tells comes of its text; of a text, whether one of these files of its folder tells something of
 /// it.
-pub(crate) fn check<R: Files + AllocGlobal + Wait>(
+pub(crate) fn check<R: Files + AllocGlobal + Threads + Wait + Sync>(
     rt: &R,
     file: &RowFile<'_>,
     names: &[String],
@@ -45,7 +46,10 @@ fn check_told(file: &RowFile<'_>, names: &[String]) -> Result<(), Flaw> {
 }
 
 /// Sees whether the runs of a text are what its `.row` and its `.out` tell.
-fn check_run<R: Files + AllocGlobal + Wait>(rt: &R, file: &RowFile<'_>) -> Result<(), Flaw> {
+fn check_run<R: Files + AllocGlobal + Threads + Wait + Sync>(
+    rt: &R,
+    file: &RowFile<'_>,
+) -> Result<(), Flaw> {
     let text = file.text(rt)?;
     let row = file.row(rt)?;
     let output = match file.beside(rt, "out")? {
@@ -57,7 +61,10 @@ fn check_run<R: Files + AllocGlobal + Wait>(rt: &R, file: &RowFile<'_>) -> Resul
 
 /// Sees whether a text has the events that its `.trace` tells: those that settling commits, and those that a run writes, with
 /// each number of workers of its row.
-fn check_trace<R: Files + AllocGlobal + Wait>(rt: &R, file: &RowFile<'_>) -> Result<(), Flaw> {
+fn check_trace<R: Files + AllocGlobal + Threads + Wait + Sync>(
+    rt: &R,
+    file: &RowFile<'_>,
+) -> Result<(), Flaw> {
     let alloc = rt.alloc();
     let (text, wanted, row) = (file.text(rt)?, file.bytes(rt)?, file.row(rt)?);
     let settled = settled_lines(alloc, &text, row.limit)?;

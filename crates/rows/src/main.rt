@@ -26,6 +26,7 @@ use folder::{FileKind, RowFile, names, utf8};
 use std::process::ExitCode;
 use std::rt::{Env, Files};
 use std::sync::Wait;
+use std::thread::Threads;
 use std::{env, io};
 use table::Table;
 
@@ -41,7 +42,9 @@ fn main(rt: HostRuntime) -> ExitCode {
 }
 
 /// Checks the rows of the folder that the command line names, or of the current one.
-fn start<R: Files + Env + AllocGlobal + Print + Wait + Clone + Drop>(rt: &R) -> io::Result<bool> {
+fn start<R: Files + Env + AllocGlobal + Print + Threads + Wait + Sync + Clone + Drop>(
+    rt: &R,
+) -> io::Result<bool> {
     match env::args(rt)?.nth(1) {
         Some(root) => all(rt, root.as_str()),
         None => all(rt, "."),
@@ -49,7 +52,7 @@ fn start<R: Files + Env + AllocGlobal + Print + Wait + Clone + Drop>(rt: &R) -> 
 }
 
 /// Checks all folders in this one, prints what fails, and answers whether all holds.
-fn all<R: Files + AllocGlobal + Print + Wait + Clone + Drop>(
+fn all<R: Files + AllocGlobal + Print + Threads + Wait + Sync + Clone + Drop>(
     rt: &R,
     root: &str,
 ) -> io::Result<bool> {
@@ -94,7 +97,7 @@ impl Report {
     }
 
     /// What no text reaches.
-    fn calls<R: AllocGlobal + Print + Wait>(&mut self, rt: &R) -> io::Result<()> {
+    fn calls<R: AllocGlobal + Print + Threads + Wait + Sync>(&mut self, rt: &R) -> io::Result<()> {
         self.tell(rt, "failing writers", check_failing_writers(rt, rt.alloc()))?;
         self.tell(rt, "failing traces", check_failing_traces(rt, rt.alloc()))?;
         self.tell(rt, "panics", check_panics(rt.alloc()))?;
@@ -110,7 +113,7 @@ impl Report {
     }
 
     /// The files of a folder.
-    fn folder<R: Files + AllocGlobal + Print + Wait>(
+    fn folder<R: Files + AllocGlobal + Print + Threads + Wait + Sync>(
         &mut self,
         rt: &R,
         folder: &str,
@@ -132,7 +135,7 @@ impl Report {
     }
 
     /// The lines of a table.
-    fn table<R: Files + AllocGlobal + Print + Wait>(
+    fn table<R: Files + AllocGlobal + Print + Threads + Wait + Sync>(
         &mut self,
         rt: &R,
         file: &RowFile<'_>,

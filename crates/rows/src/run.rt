@@ -6,6 +6,7 @@ use go_text::Fault;
 use kendo_base::{Gate, check_bytes, reference_bytes, report, run_bytes};
 use std::alloc::Global;
 use std::sync::Wait;
+use std::thread::Threads;
 use word::Flagged;
 use word::end::End;
 
@@ -35,7 +36,7 @@ pub(crate) struct Ran {
 
 impl Ran {
     /// The run of a text.
-    pub(crate) fn of<R: Wait>(
+    pub(crate) fn of<R: Threads + Wait + Sync>(
         rt: &R,
         alloc: Global,
         text: &[u8],
@@ -113,7 +114,7 @@ impl Ran {
 }
 
 /// Runs a text with each number of workers of its row, and compares what comes of it.
-pub(crate) fn check_runs<R: Wait>(
+pub(crate) fn check_runs<R: Threads + Wait + Sync>(
     rt: &R,
     alloc: Global,
     text: &[u8],

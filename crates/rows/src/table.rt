@@ -7,6 +7,7 @@ use crate::written::bytes_of;
 use go_text::{Fault, LimitKind};
 use std::alloc::{AllocError, Global};
 use std::sync::Wait;
+use std::thread::Threads;
 use word::end::End;
 
 /// What is told of a text.
@@ -41,7 +42,7 @@ impl Table {
 
     /// Takes a line: an empty one, a comment, or what stands round the texts to come; or sees whether what a line tells of
     /// its text comes of it.
-    pub(crate) fn check_line<R: Wait>(
+    pub(crate) fn check_line<R: Threads + Wait + Sync>(
         &mut self,
         rt: &R,
         alloc: Global,
@@ -60,7 +61,12 @@ impl Table {
     }
 
     /// Sees whether what a line tells of its text comes of it.
-    fn check_text<R: Wait>(&self, rt: &R, alloc: Global, line: &str) -> Result<(), Flaw> {
+    fn check_text<R: Threads + Wait + Sync>(
+        &self,
+        rt: &R,
+        alloc: Global,
+        line: &str,
+    ) -> Result<(), Flaw> {
         let Some((told, written)) = line.split_once('\t') else {
             return Err(Flaw::Form);
         };
@@ -89,7 +95,12 @@ impl Table {
 }
 
 /// Sees whether a text finishes, and writes this.
-fn check_output<R: Wait>(rt: &R, alloc: Global, text: &[u8], output: &str) -> Result<(), Flaw> {
+fn check_output<R: Threads + Wait + Sync>(
+    rt: &R,
+    alloc: Global,
+    text: &[u8],
+    output: &str,
+) -> Result<(), Flaw> {
     let output = bytes_of(alloc, output)?;
     let row = Row::new(alloc)?;
     check_runs(rt, alloc, text, &row, output.as_slice())
@@ -127,7 +138,7 @@ fn was_read(outcome: &Result<End, Fault>) -> bool {
 }
 
 /// Sees whether a text is read.
-fn check_read<R: Wait>(rt: &R, alloc: Global, text: &[u8]) -> Result<(), Flaw> {
+fn check_read<R: Threads + Wait + Sync>(rt: &R, alloc: Global, text: &[u8]) -> Result<(), Flaw> {
     let ran = Ran::of(rt, alloc, text, LIMIT, 1)?;
     if was_read(&ran.outcome) {
         return Ok(());
@@ -139,7 +150,7 @@ fn check_read<R: Wait>(rt: &R, alloc: Global, text: &[u8]) -> Result<(), Flaw> {
 }
 
 /// Sees whether each beginning of a text is refused.
-fn check_cuts<R: Wait>(rt: &R, alloc: Global, text: &[u8]) -> Result<(), Flaw> {
+fn check_cuts<R: Threads + Wait + Sync>(rt: &R, alloc: Global, text: &[u8]) -> Result<(), Flaw> {
     for length in 0..text.len() {
         let ran = Ran::of(rt, alloc, &text[..length], LIMIT, 1)?;
         let is_refused = matches!(&ran.outcome, Err(Fault::Syntax(_) | Fault::Typing { .. }));
