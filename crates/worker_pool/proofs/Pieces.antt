@@ -1,5 +1,5 @@
 -- Pieces of what a run writes, joined.
-use Rattle.std.proofs.Common.{◌≡◌, ℕ, zero, suc, ◌+◌, ◌-◌, ◌≤◌, List, [], ◌∷◌, ◌++◌, length, take, drop, Option, Some, None, IfSome, Ok, Err, refl, sym, ap, ◌∙◌, subst, arith, append_assoc, length-append, append-nil}
+use Rattle.std.proofs.Common.{◌≡◌, ℕ, zero, suc, ◌+◌, ◌-◌, ◌≤◌, List, [], ◌∷◌, ◌++◌, length, take, drop, Option, Some, None, IfSome, Result, Ok, Err, refl, sym, ap, ◌∙◌, subst, arith, append_assoc, length-append, append-nil}
 use Rattle.std.specs.Io.KnownBytes.{Appends}
 use Rattle.std.proofs.lemmas.List.{take-append-le, drop-append-le, length-drop, length-take-le}
 use Rattle.std.proofs.lemmas.List.Concat.{flat_map-append}
@@ -24,7 +24,7 @@ use Rattle.word.specs.Worlds.{Rest, moment, opening, rules}
 use Rattle.word.proofs.Laws.{laws}
 use Rattle.word.proofs.Outputs.{outputs_begin}
 use Rattle.word.proofs.Records.{events_begin}
-use Rattle.worker_pool.specs.Handing.{HasEnded, IsHanding}
+use Rattle.worker_pool.specs.Handing.{Handing, HasEnded, IsHanding}
 use Rattle.worker_pool.specs.Runs.{Begins, ComesOf, EndsAt, IsAll, IsHanded, IsOfRun, IsPieceOf, Written, bytes_after, bytes_of, output_run, trace_run}
 
 pub appends_more : (old mid new : Option (List ℕ)) (xs ys : List ℕ) → Appends old mid xs → Appends mid new ys → Appends old new (xs ++ ys)
@@ -197,3 +197,22 @@ wrote_on r s known old new a b is writes w = subst (λ (x : Run). Written x know
 
 pub hands_next : (p : Progress) (piece : Piece) (run : Run) → run_of p ≡ run → IsHanded run piece → IsHanded (run_of p) piece
 hands_next p piece run is h = subst (λ (x : Run). IsHanded x piece) (sym is) h
+
+-- where a piece was written up to
+pub reached : (place amount old : ℕ) (piece out : Piece) → piece ≡ out → place ≡ piece.from + length piece.bytes.items → out.from ≡ old → amount ≡ old + length out.bytes.items → place ≡ amount
+reached place amount old piece out same up from more = up ∙ ap (λ (p : Piece). p.from + length p.bytes.items) same ∙ ap (λ n. n + length out.bytes.items) from ∙ sym more
+
+-- the last pieces are written
+pub output_to_end : (code : Code) (limit : ℕ) (h : Handing) (piece : Piece) (found : Option Ending) (ending : Ending) (place : ℕ) → IsHanding code limit h → piece ≡ h.output → found ≡ h.end → found ≡ Some ending → place ≡ piece.from + length piece.bytes.items → EndsAt (output_run code limit) place ending
+output_to_end code limit h piece found ending place is same same_end at up =
+    let ends : EndsAt (output_run code limit) (h.output.from + length h.output.bytes.items) ending = subst (λ (e : Option Ending). IfSome e (EndsAt (output_run code limit) (h.output.from + length h.output.bytes.items))) (sym same_end ∙ at) is.output_ends in
+    subst (λ (n : ℕ). EndsAt (output_run code limit) n ending) (sym (up ∙ ap (λ (p : Piece). p.from + length p.bytes.items) same)) ends
+
+pub trace_to_end : (code : Code) (limit : ℕ) (h : Handing) (piece : Piece) (found : Option Ending) (ending : Ending) (place : ℕ) → IsHanding code limit h → piece ≡ h.trace → found ≡ h.end → found ≡ Some ending → place ≡ piece.from + length piece.bytes.items → EndsAt (trace_run code limit) place ending
+trace_to_end code limit h piece found ending place is same same_end at up =
+    let ends : EndsAt (trace_run code limit) (h.trace.from + length h.trace.bytes.items) ending = subst (λ (e : Option Ending). IfSome e (EndsAt (trace_run code limit) (h.trace.from + length h.trace.bytes.items))) (sym same_end ∙ at) is.trace_ends in
+    subst (λ (n : ℕ). EndsAt (trace_run code limit) n ending) (sym (up ∙ ap (λ (p : Piece). p.from + length p.bytes.items) same)) ends
+
+-- a run that comes to a refusal
+pub stops : (run : Run) (known new : Option (List ℕ)) (place : ℕ) (outcome : Result Ending Fault) (fault : Fault) → outcome ≡ Err fault → Written run known new place → ComesOf run known new outcome
+stops run known new place outcome fault is w = subst (λ (r : Result Ending Fault). ComesOf run known new r) (sym is) (comes_to_fault run known new place fault w)
