@@ -148,17 +148,19 @@ trait Task: Drop {
 
 /// To write what the workers commit.
 #[derive(Drop)]
-struct Writing<'a, B: RunName, R, O, T> {
+struct Writing<'a, 'o, 't, B: RunName, R, O, T> {
     rt: &'a R,
     shared: &'a Shared<B>,
     printed: Reach<Printed<B>>,
     traced: Reach<Traced<B>>,
-    out: &'a mut O,
-    trace: &'a mut T,
+    out: &'o mut O,
+    trace: &'t mut T,
 }
 
-impl<'a, B: RunName, R: Wait, O: Write, T: Write> Task for Writing<'a, B, R, O, T> {
-    type Output = (&'a mut O, &'a mut T, Result<End, Fault>);
+impl<'a, 'o, 't, B: RunName, R: Wait, O: Write, T: Write> Task
+    for Writing<'a, 'o, 't, B, R, O, T>
+{
+    type Output = (&'o mut O, &'t mut T, Result<End, Fault>);
 
     ghost use Rattle.std.specs.Prelude.{◌≡◌, ◌⊎◌, IfErr, IsErrOf, true};
     ghost use Rattle.go_text.specs.declared.fault.Fault.TheVariants as faults;
@@ -175,7 +177,7 @@ impl<'a, B: RunName, R: Wait, O: Write, T: Write> Task for Writing<'a, B, R, O, 
         × (IsErrOf r.2 faults.Write → (O.has_failed r.0.now ≡ true) ⊎ (T.has_failed r.1.now ≡ true))
         × IfErr r.2 (λ fault. (fault ≡ faults.Memory) ⊎ (fault ≡ faults.Write)) };
 
-    fn run(self) -> (&'a mut O, &'a mut T, Result<End, Fault>) {
+    fn run(self) -> (&'o mut O, &'t mut T, Result<End, Fault>) {
         let Writing {
             rt,
             shared,
