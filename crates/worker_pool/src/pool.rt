@@ -157,9 +157,7 @@ struct Writing<'a, 'o, 't, B: RunName, R, O, T> {
     trace: &'t mut T,
 }
 
-impl<'a, 'o, 't, B: RunName, R: Wait, O: Write, T: Write> Task
-    for Writing<'a, 'o, 't, B, R, O, T>
-{
+impl<'a, 'o, 't, B: RunName, R: Wait, O: Write, T: Write> Task for Writing<'a, 'o, 't, B, R, O, T> {
     type Output = (&'o mut O, &'t mut T, Result<End, Fault>);
 
     ghost use Rattle.std.specs.Prelude.{◌≡◌, ◌⊎◌, IfErr, IsErrOf, true};
