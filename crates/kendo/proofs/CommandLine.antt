@@ -33,10 +33,11 @@ both_parts f g None a b first second = absurd (none-some a (sym first))
 both_parts {A = A} {B = B} f g (Some x) a b first second =
     ap₂ (λ (p : A) (q : B). Some (p, q)) (sym (some_same a (f x) first)) (sym (some_same b (g x) second))
 
--- a command that does this with this file asks for both
+-- a command that does this with these files asks for all of it
 pub asked : (found : Option (Text × List Row)) (name : Text) (rows : List Row) (invocation : Invocation) → found ≡ Some (name, rows)
-    → Does name rows invocation.subcommand → Some invocation.file.now ≡ first_of (codes "FILE") rows → IsAsked found (Some invocation)
-asked found name rows invocation is does file = subst (λ x. IsAsked x (Some invocation)) (sym is) (does, sym file)
+    → Does name rows invocation.subcommand → Some invocation.file.now ≡ first_of (codes "FILE") rows
+    → option_map (λ path. path.now) invocation.trace ≡ first_of (codes "trace") rows → IsAsked found (Some invocation)
+asked found name rows invocation is does file trace = subst (λ x. IsAsked x (Some invocation)) (sym is) (does, sym file, sym trace)
 
 -- without a file it asks for nothing
 pub not_asked : (found : Option (Text × List Row)) (name : Text) (rows : List Row) → found ≡ Some (name, rows)

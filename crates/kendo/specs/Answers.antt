@@ -72,7 +72,7 @@ ShowsAs kind status = status ≡ 64
 
 -- the exit status of a command line
 pub data Obeys (words : List Text) (status : ℕ) : Type 0 where
-  -- the words are taken: 64, as where the file can't be read, or what was found in some text
+  -- the words are taken: 64, as where a file can't be read or created, or what was found in some text
   WasDone : fault_of kendo words ≡ [] → (invocation : Invocation) → IsAsked (subcommand_of kendo words) (Some invocation) → (status ≡ 64) ⊎ Tells invocation.subcommand status → Obeys words status
   -- they ask for nothing that is done
   WasNothing : fault_of kendo words ≡ [] → IsAsked (subcommand_of kendo words) None → status ≡ 64 → Obeys words status

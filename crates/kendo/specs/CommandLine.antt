@@ -1,8 +1,10 @@
 -- The command line: the commands that are taken, and what the words of one ask for.
-use Rattle.std.specs.Prelude.{◌≡◌, ℕ, ◌<◌, ◌-◌, ◌^◌, List, [], ◌∷◌, Option, Some, None, true, codes}
+use Rattle.std.specs.Prelude.{◌≡◌, ℕ, ◌<◌, ◌-◌, ◌^◌, List, [], ◌∷◌, Option, Some, None, option_map, false, true, codes}
 use Rattle.std.specs.Str.Parse.{IsNumeral, digits_value, without_leading_plus}
 use Rattle.clap.specs.Words.{App, Row, Rule, Text, first_of, new_app, new_rule, one_of, with_rule, with_subcommand}
 use Rattle.clap.specs.declared.builder.action.ArgAction.TheVariants.{Set}
+use Rattle.clap.specs.declared.builder.command.Command.{Command}
+use Rattle.clap.specs.declared.builder.command.Command.TheViews.{out-Command}
 use Rattle.clap.specs.declared.builder.value_parser.ValueParser.TheVariants.{Unsigned}
 use Rattle.kendo.specs.declared.arguments.Subcommand.{Subcommand}
 use Rattle.kendo.specs.declared.arguments.Subcommand.TheVariants as subcommands
@@ -38,19 +40,27 @@ workers = number (codes "workers") (codes "4")
 abbrev pub limit : Rule
 limit = number (codes "limit") (codes "1099511627776")
 
+-- which file the trace goes to
+abbrev pub trace : Rule
+trace = record (new_rule (codes "trace")) { long = Some (codes "trace"); value_names = 1 }
+
 -- kendo reference FILE [--limit L]
 abbrev pub reference : App
 reference = with_rule (with_rule (new_app (codes "reference")) file) limit
 
--- kendo run FILE [--workers N] [--limit L]
+-- kendo run FILE [--workers N] [--limit L] [--trace TRACE]
 abbrev pub run : App
-run = with_rule (with_rule (with_rule (new_app (codes "run")) file) workers) limit
+run = with_rule (with_rule (with_rule (with_rule (new_app (codes "run")) file) workers) limit) trace
 
 -- one of the four has to be there
 abbrev pub kendo : App
 kendo =
     let named = new_app (codes "kendo") in
     with_subcommand (with_subcommand (with_subcommand (with_subcommand (record named { top = record named.top { subcommand_required = true } }) check.top) list.top) reference.top) run.top
+
+-- no argument of the command is taken by its subcommands too
+abbrev pub IsLocal : Command → Type 0
+IsLocal c = (out-Command c).has_globals ≡ false
 
 -- ---- what the words ask for
 
@@ -67,9 +77,11 @@ Does name rows (subcommands.Reference limit) = (name ≡ codes "reference") × I
 Does name rows (subcommands.Run workers limit) =
     (name ≡ codes "run") × IsNumber (one_of (codes "workers") rows) workers × IsNumber (one_of (codes "limit") rows) limit
 
--- the same with the file
+-- the same with the file, and with the file of the trace where one was named
 abbrev pub Asks : Text × List Row → Invocation → Type 0
-Asks (name, rows) invocation = Does name rows invocation.subcommand × (first_of (codes "FILE") rows ≡ Some invocation.file.now)
+Asks (name, rows) invocation =
+    Does name rows invocation.subcommand × (first_of (codes "FILE") rows ≡ Some invocation.file.now)
+    × (first_of (codes "trace") rows ≡ option_map (λ path. path.now) invocation.trace)
 
 -- the number that the text is, or none where it is no number
 abbrev pub IsNumberThere : Option Text → Option ℕ → Type 0

@@ -2,7 +2,7 @@
 
 ghost use Rattle.std.specs.Prelude.{◌≡◌, false, codes, IfOk};
 ghost use Rattle.clap.specs.Words.{app_of, found_of, one_of, rows_of, rule_of, subcommand_rows_of};
-ghost use Rattle.kendo.specs.CommandLine.{IsAsked, IsDone, IsNumberThere, file, kendo, limit, number, workers};
+ghost use Rattle.kendo.specs.CommandLine.{IsAsked, IsDone, IsLocal, IsNumberThere, check, file, kendo, limit, list, number, reference, run, trace, workers};
 
 use clap::{Arg, ArgAction, ArgMatches, Command, value_parser};
 use std::alloc::{AllocError, Global};
@@ -12,6 +12,8 @@ use std::alloc::{AllocError, Global};
 pub struct Invocation<'a> {
     /// The path, as it was typed.
     pub file: &'a str,
+    /// The path of the file that the trace goes to, as it was typed, where it was.
+    pub trace: Option<&'a str>,
     /// What is done with it.
     pub subcommand: Subcommand,
 }
@@ -95,25 +97,69 @@ fn limit_argument<'a>(alloc: Global) -> Arg<'a>
     )
 }
 
+/// The option that names the file which the trace of a run goes to.
+fn trace_argument<'a>(alloc: Global) -> Arg<'a>
+    ensures rule { rule_of result ≡ trace }
+    ensures local { result.global ≡ false }
+{
+    Arg::new(alloc, "trace")
+        .long("trace")
+        .value_name("TRACE")
+        .help("Writes each operation with its logical time to this file")
+}
+
+/// The command that checks a text.
+fn check_command<'a>(alloc: Global) -> Result<Command<'a>, AllocError>
+    ensures app { IfOk result (λ c. app_of c ≡ check) }
+    ensures local { IfOk result IsLocal }
+{
+    Command::new(alloc, "check")
+        .about("Checks whether a text is a program")
+        .arg(file_argument(alloc))
+}
+
+/// The command that lists a program's code.
+fn list_command<'a>(alloc: Global) -> Result<Command<'a>, AllocError>
+    ensures app { IfOk result (λ c. app_of c ≡ list) }
+    ensures local { IfOk result IsLocal }
+{
+    Command::new(alloc, "list")
+        .about("Lists the code of a program")
+        .arg(file_argument(alloc))
+}
+
+/// The command that interprets a program.
+fn reference_command<'a>(alloc: Global) -> Result<Command<'a>, AllocError>
+    ensures app { IfOk result (λ c. app_of c ≡ reference) }
+    ensures local { IfOk result IsLocal }
+{
+    Command::new(alloc, "reference")
+        .about("Interprets a program as it stands")
+        .arg(file_argument(alloc))?
+        .arg(limit_argument(alloc))
+}
+
+/// The command that runs a program.
+fn run_command<'a>(alloc: Global) -> Result<Command<'a>, AllocError>
+    ensures app { IfOk result (λ c. app_of c ≡ run) }
+    ensures local { IfOk result IsLocal }
+{
+    Command::new(alloc, "run")
+        .about("Runs a program")
+        .arg(file_argument(alloc))?
+        .arg(workers_argument(alloc))?
+        .arg(limit_argument(alloc))?
+        .arg(trace_argument(alloc))
+}
+
 /// The command that `main` reads its words with.
 pub(crate) fn command<'a>(alloc: Global) -> Result<Command<'a>, AllocError>
     ensures { IfOk result (λ c. app_of c ≡ kendo) }
 {
-    let check = Command::new(alloc, "check")
-        .about("Checks whether a text is a program")
-        .arg(file_argument(alloc))?;
-    let list = Command::new(alloc, "list")
-        .about("Lists the code of a program")
-        .arg(file_argument(alloc))?;
-    let reference = Command::new(alloc, "reference")
-        .about("Interprets a program as it stands")
-        .arg(file_argument(alloc))?
-        .arg(limit_argument(alloc))?;
-    let run = Command::new(alloc, "run")
-        .about("Runs a program")
-        .arg(file_argument(alloc))?
-        .arg(workers_argument(alloc))?
-        .arg(limit_argument(alloc))?;
+    let check = check_command(alloc)?;
+    let list = list_command(alloc)?;
+    let reference = reference_command(alloc)?;
+    let run = run_command(alloc)?;
     Command::new(alloc, "kendo")
         .about("Compiles and runs programs of a Go subset")
         .subcommand_required(true)
@@ -154,8 +200,10 @@ pub(crate) fn invocation_of<'a>(matches: &ArgMatches<'a>) -> Option<Invocation<'
 {
     let (name, matches) = matches.subcommand()?;
     let subcommand = subcommand_named(name, matches)?;
+    let trace = matches.get_str("trace");
     Some(Invocation {
         file: matches.get_str("FILE")?,
+        trace,
         subcommand,
     })
 }

@@ -11,6 +11,7 @@ ghost use Rattle.one_thread.specs.Worlds.{IsLimit};
 mod arguments;
 #[cfg(test)]
 mod tests;
+mod tracing;
 
 use arguments::{Invocation, Subcommand, command, invocation_of};
 use clap::error::ErrorKind;
@@ -23,8 +24,9 @@ use std::io::{BufWriter, Read as _, Write as _};
 use std::process::ExitCode;
 use std::sync::Wait;
 use std::{env, io};
+use tracing::{Trace, close, create};
+use word::Flagged;
 use word::end::End;
-use word::{Flagged, Write, WriteFault};
 
 /// The status of want of memory.
 const MEMORY: u8 = 5;
@@ -44,20 +46,6 @@ impl Gate for Open {
     fn at_lent(&self, _worker: u64, _number: u64) {}
 
     fn at_end(&self, _worker: u64) {}
-}
-
-/// A writer that drops what it takes, and never fails.
-#[derive(Drop)]
-struct Dropped;
-
-impl Write for Dropped {
-    ghost use Rattle.std.specs.Prelude.{false};
-
-    ghost has_failed = { λ _. false };
-
-    fn write(&mut self, piece: &[u8]) -> Result<usize, WriteFault> {
-        Ok(piece.len())
-    }
 }
 
 fn main(rt: HostRuntime) -> ExitCode {
@@ -129,8 +117,8 @@ fn show(rt: &HostRuntime, error: &clap::Error) -> Result<u8, Memory>
     }
 }
 
-/// Checks, lists, interprets or runs the file, and tells how it ended.
-#[tactic(auto, using(crate::proofs::Findings::told))]
+/// Checks, lists, interprets or runs the file, and tells how it ended. The file of a trace is created once the text was read,
+/// before anything is judged.
 fn perform(
     rt: &HostRuntime,
     leave: &impl Wait,
@@ -142,14 +130,59 @@ fn perform(
     let file = invocation.file;
     let bytes = match read(rt, alloc, file) {
         Ok(bytes) => bytes,
-        Err(error) if error.kind() == io::ErrorKind::OutOfMemory => return Err(Memory),
-        Err(_) => {
-            let line = format!(in alloc; "kendo: cannot read {file}\n")?;
-            tell(rt, line.as_bytes());
+        Err(error) => {
+            complain(rt, alloc, "read", file, &error)?;
             return Ok(USAGE);
         }
     };
-    let outcome = find(rt, leave, alloc, invocation.subcommand, bytes);
+    let Some(path) = invocation.trace else {
+        return answer(
+            rt,
+            leave,
+            alloc,
+            invocation.subcommand,
+            bytes,
+            Trace::Dropped,
+        );
+    };
+    match create(rt, alloc, path) {
+        Ok(trace) => answer(rt, leave, alloc, invocation.subcommand, bytes, trace),
+        Err(error) => {
+            complain(rt, alloc, "create", path, &error)?;
+            Ok(USAGE)
+        }
+    }
+}
+
+/// Tells that the file can't be read or created.
+fn complain(
+    rt: &HostRuntime,
+    alloc: Global,
+    what: &str,
+    path: &str,
+    error: &io::Error,
+) -> Result<(), Memory> {
+    if error.kind() == io::ErrorKind::OutOfMemory {
+        return Err(Memory);
+    }
+    let line = format!(in alloc; "kendo: cannot {what} {path}\n")?;
+    tell(rt, line.as_bytes());
+    Ok(())
+}
+
+/// Does with the text what the command says, and tells how it ended.
+#[tactic(auto, using(crate::proofs::Findings::told))]
+fn answer(
+    rt: &HostRuntime,
+    leave: &impl Wait,
+    alloc: Global,
+    subcommand: Subcommand,
+    bytes: Vec<u8>,
+    trace: Trace,
+) -> Result<u8, Memory>
+    ensures { IfOk result (λ status. (status ≡ USAGE) ⊎ Tells subcommand status) }
+{
+    let outcome = find(rt, leave, alloc, subcommand, bytes, trace);
     let (line, status) = report(alloc, &outcome)?;
     tell(rt, line.as_slice());
     Ok(status)
@@ -163,6 +196,7 @@ fn find(
     alloc: Global,
     subcommand: Subcommand,
     bytes: Vec<u8>,
+    trace: Trace,
 ) -> Result<End, Fault>
     ensures { Finds subcommand bytes.items result }
 {
@@ -170,7 +204,7 @@ fn find(
         Subcommand::Check => check(alloc, bytes),
         Subcommand::List => list(rt, alloc, bytes),
         Subcommand::Reference { limit } => interpret(rt, alloc, bytes, limit),
-        Subcommand::Run { workers, limit } => run(rt, leave, alloc, bytes, workers, limit),
+        Subcommand::Run { workers, limit } => run(rt, leave, alloc, bytes, workers, limit, trace),
     }
 }
 
@@ -225,7 +259,7 @@ fn interpret(rt: &HostRuntime, alloc: Global, bytes: Vec<u8>, limit: u64) -> Res
     Ok(end)
 }
 
-/// Runs the text with standard output behind a buffer.
+/// Runs the text with standard output behind a buffer, and the lines of its events written to the trace.
 fn run(
     rt: &HostRuntime,
     leave: &impl Wait,
@@ -233,6 +267,7 @@ fn run(
     bytes: Vec<u8>,
     workers: u64,
     limit: u64,
+    mut trace: Trace,
 ) -> Result<End, Fault>
     ensures ends { IfOk result (λ end. IsWorkers workers × IsLimit limit × EndsAs bytes.items limit end) }
     ensures refused { IfErr result (λ fault. IsRefusal fault → HasNoReading bytes.items) }
@@ -244,11 +279,11 @@ fn run(
 {
     let stdout = BufWriter::new(alloc, rt.stdout()).map_err(|_| Fault::Memory)?;
     let mut out = Flagged::new(stdout);
-    let mut trace = Dropped;
     let end = run_bytes(
         leave, alloc, bytes, limit, workers, &Open, &mut out, &mut trace,
     )?;
     flush(out)?;
+    close(trace)?;
     Ok(end)
 }
 

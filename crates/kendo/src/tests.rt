@@ -5,14 +5,17 @@ use std::test::Fail;
 fn accepted_words(rt: HostRuntime) -> Result<(), Fail> {
     let file = "a.go";
     let default = 1_099_511_627_776;
-    for (line, workers, limit) in [
-        ("kendo run a.go", 4, default),
-        ("kendo run --limit +5 a.go --workers=007", 7, 5),
+    for (line, workers, limit, trace) in [
+        ("kendo run a.go", 4, default, None),
+        ("kendo run --limit +5 a.go --workers=007", 7, 5, None),
         (
             "kendo run a.go --limit=18446744073709551615 --workers 0",
             0,
             u64::MAX,
+            None,
         ),
+        ("kendo run a.go --trace b.txt", 4, default, Some("b.txt")),
+        ("kendo run --trace=a.go --limit 9 a.go", 4, 9, Some("a.go")),
     ] {
         let words: Vec<&str> = line.split(' ').collect(rt.alloc())?;
         let Ok(matches) = command(rt.alloc())?.try_get_matches_from(words.as_slice()) else {
@@ -22,7 +25,11 @@ fn accepted_words(rt: HostRuntime) -> Result<(), Fail> {
             panic!(rt; "no invocation: {line}");
         };
         let subcommand = Subcommand::Run { workers, limit };
-        let wanted = Invocation { file, subcommand };
+        let wanted = Invocation {
+            file,
+            trace,
+            subcommand,
+        };
         assert_eq!(rt; invocation, wanted);
     }
     Ok(())
@@ -48,7 +55,12 @@ fn accepted_commands_of_a_file(rt: HostRuntime) -> Result<(), Fail> {
         let Some(invocation) = invocation_of(&matches) else {
             panic!(rt; "no invocation: {name}");
         };
-        assert_eq!(rt; invocation, Invocation { file, subcommand });
+        let wanted = Invocation {
+            file,
+            trace: None,
+            subcommand,
+        };
+        assert_eq!(rt; invocation, wanted);
     }
     Ok(())
 }
@@ -100,6 +112,26 @@ fn shown_texts(rt: HostRuntime) -> Result<(), Fail> {
             "kendo run a.go --limit 1 --limit 2",
             true,
             "error: the argument '--limit <L>' cannot be used multiple times",
+        ),
+        (
+            "kendo run a.go --trace b.txt --trace c.txt",
+            true,
+            "error: the argument '--trace <TRACE>' cannot be used multiple times",
+        ),
+        (
+            "kendo run a.go --trace",
+            true,
+            "error: a value is required for '--trace <TRACE>' but none was supplied",
+        ),
+        (
+            "kendo check a.go --trace b.txt",
+            true,
+            "error: unexpected argument '--trace' found",
+        ),
+        (
+            "kendo reference a.go --trace b.txt",
+            true,
+            "error: unexpected argument '--trace' found",
         ),
         (
             "kendo --help",

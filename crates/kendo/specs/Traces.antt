@@ -1,0 +1,15 @@
+-- Where the lines of a run's events go.
+use Rattle.std.specs.Prelude.{◌≡◌, Bool, false}
+use Rattle.kendo.specs.declared.tracing.Trace.{Trace}
+use Rattle.kendo.specs.declared.tracing.Trace.TheVariants.{Dropped, Kept}
+use Rattle.word.specs.Flagged.{failed_of}
+
+-- whether the file ever refused a line
+abbrev pub has_lost : Trace → Bool
+has_lost Dropped = false
+has_lost (Kept file) = failed_of file
+
+-- they go to a file, which has refused none
+abbrev pub IsKept : Trace → Type 0
+IsKept Dropped = ⊥
+IsKept (Kept file) = failed_of file ≡ false
