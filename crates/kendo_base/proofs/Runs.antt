@@ -1,5 +1,5 @@
 -- What a run writes is what the source of its code writes.
-use Rattle.std.proofs.Common.{◌≡◌, ℕ, ◌↔◌, ◌⊎◌, inl, inr, List, [], take, append-nil, Option, Some, None, Result, Ok, Err, IfErr, IsErrOf, refl, sym, ap, ◌∙◌, subst}
+use Rattle.std.proofs.Common.{◌≡◌, ℕ, ◌↔◌, ◌⊎◌, inl, inr, List, [], take, append-nil, Option, Some, None, Result, Ok, Err, IfErr, IfOk, IsErrOf, refl, sym, ap, ◌∙◌, subst}
 use Rattle.std.specs.Io.KnownBytes.{Appends}
 use Rattle.bytecode.specs.Code.{Code}
 use Rattle.bytecode.specs.Machine.{code_kind}
@@ -39,6 +39,13 @@ begins_code kind K code code' limit old new is e b =
 pub all_code : (kind : Kind) (K : GoroutineKind) (code code' : Code) (limit : ℕ) (old new : Option (List ℕ)) (ending : Ending) → code' ≡ code → Equal K (code_kind code) → IsAll kind (code_kind code') limit old new ending → IsAll kind K limit old new ending
 all_code kind K code code' limit old new ending is e b =
     all_also kind K (code_kind code) limit old new ending e (subst (λ x. IsAll kind (code_kind x) limit old new ending) is b)
+
+-- the same of a program whose code it is
+pub begins_of : (kind : Kind) (code code' : Code) (limit : ℕ) (old new : Option (List ℕ)) → code' ≡ code → Begins kind (code_kind code') limit old new → Begins kind (code_kind code) limit old new
+begins_of kind code code' limit old new is b = subst (λ (x : Code). Begins kind (code_kind x) limit old new) is b
+
+pub all_of : (kind : Kind) (code code' : Code) (limit : ℕ) (old new : Option (List ℕ)) (outcome : Result Ending Fault) → code' ≡ code → IfOk outcome (IsAll kind (code_kind code') limit old new) → IfOk outcome (IsAll kind (code_kind code) limit old new)
+all_of kind code code' limit old new outcome is b = subst (λ (x : Code). IfOk outcome (IsAll kind (code_kind x) limit old new)) is b
 
 -- a run of so many workers up to this limit stops for want of memory, or for a writer
 pub stops_for : (workers limit : ℕ) (outcome : Result Ending Fault) → IsWorkers workers → IsLimit limit → IsErrOf outcome faults.BadWorkers ↔ (IsWorkers workers → ⊥) → IsErrOf outcome faults.BadLimit ↔ (IsWorkers workers × (IsLimit limit → ⊥))
