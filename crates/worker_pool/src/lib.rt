@@ -14,6 +14,3 @@ mod writing;
 
 pub use gate::Gate;
 pub use pool::run;
-
-#[cfg(test)]
-mod tests;

@@ -1,6 +1,5 @@
 //! Runs of small programs by several workers.
 
-use crate::{Gate, run};
 use bytecode::Instr::*;
 use bytecode::{Code, Function, Instr, Part, PrintTable, Shape, WordKind};
 use go_text::Fault;
@@ -13,6 +12,7 @@ use std::thread::{Threads, yield_now};
 use verifier::verify;
 use word::end::End;
 use word::{Flagged, Write, WriteFault};
+use worker_pool::{Gate, run};
 
 /// A clock limit that is not reached.
 const LIMIT: u64 = 1 << 40;
@@ -182,6 +182,16 @@ struct Narrow {
     failed: bool,
 }
 
+impl Narrow {
+    /// Has taken nothing yet.
+    fn new() -> Narrow {
+        Narrow {
+            taken: false,
+            failed: false,
+        }
+    }
+}
+
 impl Write for Narrow {
     ghost has_failed = { λ w. w.failed };
 
@@ -198,24 +208,16 @@ impl Write for Narrow {
     }
 }
 
-/// A writer that has taken nothing.
-fn narrow() -> Narrow {
-    Narrow {
-        taken: false,
-        failed: false,
-    }
-}
-
 #[test]
 fn failing_writer_ends_the_run(rt: HostRuntime) -> Result<(), Fail> {
     let alloc = rt.alloc();
-    let mut out = narrow();
+    let mut out = Narrow::new();
     let mut trace = Flagged::new(Vec::new(alloc));
     let outcome = attempt(&rt, alloc, LIMIT, 64, &Open, &mut out, &mut trace);
     assert_eq!(rt; outcome, Err(Fault::Write));
     assert!(rt; out.taken);
     let mut out = Flagged::new(Vec::new(alloc));
-    let mut trace = narrow();
+    let mut trace = Narrow::new();
     let outcome = attempt(&rt, alloc, LIMIT, 64, &Open, &mut out, &mut trace);
     assert_eq!(rt; outcome, Err(Fault::Write));
     assert!(rt; trace.taken);
