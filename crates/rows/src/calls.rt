@@ -15,7 +15,7 @@ use word::panic::Panic;
 use word::{Flagged, Write, WriteFault};
 
 /// A text that prints twice.
-const TWO_PRINTS: &[u8] = b"package main; func main() { println(12); println(3) }".as_slice();
+const TWO_PRINTS: &str = "package main; func main() { println(12); println(3) }";
 
 /// Takes one byte a call, and fails at its n-th call and from then on.
 #[derive(Drop)]
@@ -69,7 +69,7 @@ pub(crate) fn check_failing_writers<R: Threads + Wait + Sync>(
     ] {
         let mut out = Slow::new(alloc, fails_at);
         let mut trace = Flagged::new(Vec::new(alloc));
-        let bytes = Vec::from_slice(alloc, TWO_PRINTS)?;
+        let bytes = Vec::from_slice(alloc, TWO_PRINTS.as_bytes())?;
         let outcome = run_bytes(rt, alloc, bytes, LIMIT, 4, &Open, &mut out, &mut trace);
         check_report(alloc, &outcome, line, if line.is_empty() { 0 } else { 6 })?;
         same(alloc, "the output", written.as_bytes(), &out.taken)?;
@@ -94,7 +94,7 @@ pub(crate) fn check_failing_traces<R: Threads + Wait + Sync>(
     ] {
         let mut out = Flagged::new(Vec::new(alloc));
         let mut trace = Slow::new(alloc, fails_at);
-        let bytes = Vec::from_slice(alloc, TWO_PRINTS)?;
+        let bytes = Vec::from_slice(alloc, TWO_PRINTS.as_bytes())?;
         let outcome = run_bytes(rt, alloc, bytes, LIMIT, 4, &Open, &mut out, &mut trace);
         check_report(alloc, &outcome, line, if line.is_empty() { 0 } else { 6 })?;
         same(alloc, "the trace", written.as_bytes(), &trace.taken)?;
