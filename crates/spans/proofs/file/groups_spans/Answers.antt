@@ -16,5 +16,5 @@ loop-group-preserved c =
     rw more (
       next_count group_step first (map declared_of rest) count (c.in_ok-count.field-0 + 1) _ (omega (arith, c.in_ok-count.ensures.count)) (rw cut at c.loop-group.invariant.0),
       next_spans (λ (at : ℕ). groups_spans tokens at (map declared_of rest)) c.loop-group.spans.items (group_spans tokens (c.args.at + count) first) _ c.group_spans.new.spans.items (c.args.at + count + group_step first) (c.args.at + (count + (c.in_ok-count.field-0 + 1)))
-          c.in_ok-count.ensures.spans (omega (arith, c.in_ok-count.ensures.count)) (rw cut at c.loop-group.invariant.1)
+          c.in_ok-count.ensures.spans (omega (arith, c.in_ok-count.ensures.count)) (rw cut at c.loop-group.invariant.1),
     )

@@ -16,5 +16,5 @@ loop-top-preserved c =
     rw more (
       next_count top_step first (map top_of rest) count (c.in_ok-count.field-0 + 1) _ (omega (arith, c.in_ok-count.ensures.count)) (rw cut at c.loop-top.invariant.0),
       next_spans (λ (at : ℕ). tops_spans tokens at (map top_of rest)) c.loop-top.spans.items (top_spans tokens (c.args.at + count) first) _ c.top_spans.new.spans.items (c.args.at + count + top_step first) (c.args.at + (count + (c.in_ok-count.field-0 + 1)))
-          c.in_ok-count.ensures.spans (omega (arith, c.in_ok-count.ensures.count)) (rw cut at c.loop-top.invariant.1)
+          c.in_ok-count.ensures.spans (omega (arith, c.in_ok-count.ensures.count)) (rw cut at c.loop-top.invariant.1),
     )

@@ -16,5 +16,5 @@ loop-part-preserved c =
     rw more (
       next_count part_step first (map part_of rest) count (c.in_ok-count.field-0 + 1) _ (omega (arith, c.in_ok-count.ensures.count)) (rw cut at c.loop-part.invariant.0),
       next_spans (λ (at : ℕ). parts_spans tokens at (map part_of rest)) c.loop-part.spans.items (part_spans tokens (c.args.at + count) first) _ c.part_spans.new.spans.items (c.args.at + count + part_step first) (c.args.at + (count + (c.in_ok-count.field-0 + 1)))
-          c.in_ok-count.ensures.spans (omega (arith, c.in_ok-count.ensures.count)) (rw cut at c.loop-part.invariant.1)
+          c.in_ok-count.ensures.spans (omega (arith, c.in_ok-count.ensures.count)) (rw cut at c.loop-part.invariant.1),
     )

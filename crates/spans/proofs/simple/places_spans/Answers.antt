@@ -16,5 +16,5 @@ loop-place-preserved c =
     rw more (
       next_count place_step first (map place_of rest) count (c.in_ok-count.field-0 + 1) _ (omega (arith, c.in_ok-count.ensures.count)) (rw cut at c.loop-place.invariant.0),
       next_spans (λ (at : ℕ). places_spans tokens at (map place_of rest)) c.loop-place.spans.items (place_span tokens (c.args.at + count) first ∷ []) _ c.place_span.new.spans.items (c.args.at + count + place_step first) (c.args.at + (count + (c.in_ok-count.field-0 + 1)))
-          c.in_ok-count.ensures.spans (omega (arith, c.in_ok-count.ensures.count)) (rw cut at c.loop-place.invariant.1)
+          c.in_ok-count.ensures.spans (omega (arith, c.in_ok-count.ensures.count)) (rw cut at c.loop-place.invariant.1),
     )
