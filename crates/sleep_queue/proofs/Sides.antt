@@ -19,9 +19,6 @@ taken_some : (o : Option Node) → is_some o ≡ true → (n : Node) × (o ≡ S
 taken_some None e = absurd (both_ways false refl e)
 taken_some (Some n) e = (n, refl)
 
-stamp_of : Node → ℕ
-stamp_of n = n.stamp
-
 pub stamped : (f : Node → ℕ) (xs : List (Option Node)) (t : ℕ) → AreApart xs → AreBefore t xs → IsStamped (places_by f xs) t
 stamped f xs t d b = record {
     apart = λ i j a c e. let m = taken_some (slice_index_or xs i None) a in let n = taken_some (slice_index_or xs j None) c in
@@ -30,9 +27,6 @@ stamped f xs t d b = record {
   }
 
 module _ (f : Node → ℕ) (s v : Slab Node) (x : ℕ) where
-  slot : ℕ → Option Node
-  slot k = slice_index_or v.slots k None
-
   pub left_places : Updates s v x None → Left (places_by f s.slots) (places_by f v.slots) x
   left_places u = record {
       gone = ap is_some u.changed;
