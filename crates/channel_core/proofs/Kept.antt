@@ -47,7 +47,7 @@ module _ (slot : ℕ → Option Sleeper) (key_of : ℕ → Option ℕ) (ps : Lis
   nobody n e = without_none slot n (keys_in ps) (λ j h.
       let s = sleeper_at j h in
       other_key (held (slot j)).number n (λ (m : (held (slot j)).number ≡ n).
-        none-some j (sym e ∙ sym (ap key_of (sym (number_at j s.0 s.1) ∙ m)) ∙ a.known j s.0 s.1)))
+      none-some j (sym e ∙ sym (ap key_of (sym (number_at j s.0 s.1) ∙ m)) ∙ a.known j s.0 s.1)))
 
   module _ (n k : ℕ) (at : key_of n ≡ Some k) where
     pub sleeper_of : (s : Sleeper) × (slot k ≡ Some s) × (s.number ≡ n)
@@ -104,7 +104,7 @@ module _ (slot : ℕ → Option Sleeper) (key_of : ℕ → Option ℕ) (ps : Lis
             let l : length (keys_in ps') ≡ length (filter (is_not k) (keys_in ps)) = ap length keys_left in
             let f : length (filter (is_not k) (keys_in ps)) + 1 ≡ length (keys_in ps) = length_without k (keys_in ps) a.distinct in_use in
             let c : length (keys_in ps) ≡ count = a.size in
-            omega (arith, l, f, c, fewer)
+            omega (arith, l, f, c, fewer);
       }
 
       pub left_asleep : asleep_of slot' (keys_in ps') ≡ without (asleep_of slot (keys_in ps)) n
@@ -153,14 +153,14 @@ module _ (slot : ℕ → Option Sleeper) (key_of : ℕ → Option ℕ) (ps : Lis
       size =
           let l : length (keys_in ps') ≡ length (keys_in ps) + 1 = ap length keys_more ∙ length-append (keys_in ps) (k ∷ []) in
           let c : length (keys_in ps) ≡ count = a.size in
-          omega (arith, l, c, one)
+          omega (arith, l, c, one);
     }
 
     pub entered_asleep : asleep_of slot' (keys_in ps') ≡ asleep_of slot (keys_in ps) ++ s ∷ []
     entered_asleep =
         ap (asleep_of slot') keys_more ∙ map-append (λ (i : ℕ). held (slot' i)) (keys_in ps) (k ∷ [])
-          ∙ ap (λ (l : List Sleeper). l ++ held (slot' k) ∷ []) (asleep_of-same slot slot' (keys_in ps) (λ j h. others j (new_key j h)))
-          ∙ ap (λ (o : Option Sleeper). asleep_of slot (keys_in ps) ++ held o ∷ []) now
+        ∙ ap (λ (l : List Sleeper). l ++ held (slot' k) ∷ []) (asleep_of-same slot slot' (keys_in ps) (λ j h. others j (new_key j h)))
+        ∙ ap (λ (o : Option Sleeper). asleep_of slot (keys_in ps) ++ held o ∷ []) now
 
 -- one of this number and key leaves, and one of this number enters under another key
 module _ (slot : ℕ → Option Sleeper) (key_of : ℕ → Option ℕ) (ps : List Placed) (count : ℕ) (a : IsAsleep slot key_of ps count)
@@ -206,9 +206,9 @@ module _ (slot : ℕ → Option Sleeper) (key_of : ℕ → Option ℕ) (ps : Lis
 
   others1 : (j : ℕ) → j ≢ k → slot' j ≡ slot1 j
   others1 j e = elim (cases_eq j o) [
-      | inl x ↦ ap slot' x ∙ gone ∙ sym slot1_at ∙ sym (ap slot1 x)
-      | inr x ↦ others j e x ∙ sym (slot1_other j x)
-    ]
+    | inl x ↦ ap slot' x ∙ gone ∙ sym slot1_at ∙ sym (ap slot1 x)
+    | inr x ↦ others j e x ∙ sym (slot1_other j x)
+  ]
 
   rest1 : (m : ℕ) → m ≢ s.number → key_of' m ≡ key_of1 m
   rest1 m e = rest m e ∙ sym (key_of1_other m e)

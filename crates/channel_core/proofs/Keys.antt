@@ -43,16 +43,16 @@ has_tail j k ks h = or_right (k == j) (has j ks) h
 pub without_same : (k : ℕ) (ks : List ℕ) → has k (filter (is_not k) ks) ≡ false
 without_same k [] = refl
 without_same k (j ∷ ks) = elim (cases_eq j k) [
-    | inl e ↦ ap (has k) (dropped_one (is_not k) j ks (goes j k e)) ∙ without_same k ks
-    | inr e ↦ ap (has k) (kept_one (is_not k) j ks (stays j k e)) ∙ or_from (j == k) (has k (filter (is_not k) ks)) (other_key j k e) (without_same k ks)
-  ]
+  | inl e ↦ ap (has k) (dropped_one (is_not k) j ks (goes j k e)) ∙ without_same k ks
+  | inr e ↦ ap (has k) (kept_one (is_not k) j ks (stays j k e)) ∙ or_from (j == k) (has k (filter (is_not k) ks)) (other_key j k e) (without_same k ks)
+]
 
 pub without_other : (j k : ℕ) → j ≢ k → (ks : List ℕ) → has j (filter (is_not k) ks) ≡ has j ks
 without_other j k ne [] = refl
 without_other j k ne (i ∷ ks) = elim (cases_eq i k) [
-    | inl e ↦ ap (has j) (dropped_one (is_not k) i ks (goes i k e)) ∙ without_other j k ne ks ∙ sym (ap (λ (b : Bool). b || has j ks) (other_key i j (λ (h : i ≡ j). ne (sym h ∙ e))))
-    | inr e ↦ ap (has j) (kept_one (is_not k) i ks (stays i k e)) ∙ ap (λ (b : Bool). (i == j) || b) (without_other j k ne ks)
-  ]
+  | inl e ↦ ap (has j) (dropped_one (is_not k) i ks (goes i k e)) ∙ without_other j k ne ks ∙ sym (ap (λ (b : Bool). b || has j ks) (other_key i j (λ (h : i ≡ j). ne (sym h ∙ e))))
+  | inr e ↦ ap (has j) (kept_one (is_not k) i ks (stays i k e)) ∙ ap (λ (b : Bool). (i == j) || b) (without_other j k ne ks)
+]
 
 pub absent : (k : ℕ) (ks : List ℕ) → has k ks ≡ false → filter (is_not k) ks ≡ ks
 absent k [] h = refl
@@ -62,29 +62,29 @@ absent k (j ∷ ks) h =
 
 in_tail : (j k : ℕ) (ks : List ℕ) → j ≢ k → has k (j ∷ ks) ≡ true → has k ks ≡ true
 in_tail j k ks ne h = elim (or_cases (j == k) (has k ks) h) [
-    | inl a ↦ absurd (both_ways (j == k) (other_key j k ne) a)
-    | inr a ↦ a
-  ]
+  | inl a ↦ absurd (both_ways (j == k) (other_key j k ne) a)
+  | inr a ↦ a
+]
 
 pub length_without : (k : ℕ) (ks : List ℕ) → AreDistinct ks → has k ks ≡ true → length (filter (is_not k) ks) + 1 ≡ length ks
 length_without k [] d h = absurd (false≢true h)
 length_without k (j ∷ ks) d h = elim (cases_eq j k) [
-    | inl e ↦
-        let out : filter (is_not k) (j ∷ ks) ≡ ks = dropped_one (is_not k) j ks (goes j k e) ∙ absent k ks (subst (λ (i : ℕ). has i ks ≡ false) e d.0) in
-        let l : length (filter (is_not k) (j ∷ ks)) ≡ length ks = ap length out in
-        omega (arith, l)
-    | inr e ↦
-        let i : length (filter (is_not k) ks) + 1 ≡ length ks = length_without k ks d.1 (in_tail j k ks e h) in
-        let l : length (filter (is_not k) (j ∷ ks)) ≡ suc (length (filter (is_not k) ks)) = ap length (kept_one (is_not k) j ks (stays j k e)) in
-        omega (arith, i, l)
-  ]
+  | inl e ↦
+      let out : filter (is_not k) (j ∷ ks) ≡ ks = dropped_one (is_not k) j ks (goes j k e) ∙ absent k ks (subst (λ (i : ℕ). has i ks ≡ false) e d.0) in
+      let l : length (filter (is_not k) (j ∷ ks)) ≡ length ks = ap length out in
+      omega (arith, l)
+  | inr e ↦
+      let i : length (filter (is_not k) ks) + 1 ≡ length ks = length_without k ks d.1 (in_tail j k ks e h) in
+      let l : length (filter (is_not k) (j ∷ ks)) ≡ suc (length (filter (is_not k) ks)) = ap length (kept_one (is_not k) j ks (stays j k e)) in
+      omega (arith, i, l)
+]
 
 pub distinct_without : (k : ℕ) (ks : List ℕ) → AreDistinct ks → AreDistinct (filter (is_not k) ks)
 distinct_without k [] d = tt
 distinct_without k (j ∷ ks) d = elim (cases_eq j k) [
-    | inl e ↦ subst AreDistinct (sym (dropped_one (is_not k) j ks (goes j k e))) (distinct_without k ks d.1)
-    | inr e ↦ subst AreDistinct (sym (kept_one (is_not k) j ks (stays j k e))) (without_other j k e ks ∙ d.0, distinct_without k ks d.1)
-  ]
+  | inl e ↦ subst AreDistinct (sym (dropped_one (is_not k) j ks (goes j k e))) (distinct_without k ks d.1)
+  | inr e ↦ subst AreDistinct (sym (kept_one (is_not k) j ks (stays j k e))) (without_other j k e ks ∙ d.0, distinct_without k ks d.1)
+]
 
 pub has_more_same : (k : ℕ) (ks : List ℕ) → has k (ks ++ k ∷ []) ≡ true
 has_more_same k [] = has_head k []
@@ -111,9 +111,9 @@ unmarked p ps e = rw e refl
 pub keys_in-append : (ps qs : List Placed) → keys_in (ps ++ qs) ≡ keys_in ps ++ keys_in qs
 keys_in-append [] qs = refl
 keys_in-append (p ∷ ps) qs = elim (cases_Bool (p.row == 0)) [
-    | inl e ↦ marked p (ps ++ qs) e ∙ ap (λ (l : List ℕ). p.entry.number ∷ l) (keys_in-append ps qs) ∙ sym (ap (λ (l : List ℕ). l ++ keys_in qs) (marked p ps e))
-    | inr e ↦ unmarked p (ps ++ qs) e ∙ keys_in-append ps qs ∙ sym (ap (λ (l : List ℕ). l ++ keys_in qs) (unmarked p ps e))
-  ]
+  | inl e ↦ marked p (ps ++ qs) e ∙ ap (λ (l : List ℕ). p.entry.number ∷ l) (keys_in-append ps qs) ∙ sym (ap (λ (l : List ℕ). l ++ keys_in qs) (marked p ps e))
+  | inr e ↦ unmarked p (ps ++ qs) e ∙ keys_in-append ps qs ∙ sym (ap (λ (l : List ℕ). l ++ keys_in qs) (unmarked p ps e))
+]
 
 row_is_not_0 : (c : ℕ) (b : Bool) → (row_on c b == 0) ≡ false
 row_is_not_0 c true = other_key (2 * c + 3) 0 (λ (e : 2 * c + 3 ≡ 0). omega arith)
@@ -127,19 +127,18 @@ pub one_key : (k : ℕ) (q : Request) → keys_in (placed_all k q) ≡ k ∷ []
 one_key k q = marked (mark k) (map (placed_offer k) (offers q)) refl ∙ ap (λ (l : List ℕ). k ∷ l) (no_keys k (offers q))
 
 module _ (slot : ℕ → Option Sleeper) where
-
   pub keys_placed : (ks : List ℕ) → keys_in (placed_by slot ks) ≡ ks
   keys_placed [] = refl
   keys_placed (k ∷ ks) =
       keys_in-append (placed_all k (held (slot k)).request) (placed_by slot ks)
-        ∙ ap (λ (l : List ℕ). l ++ keys_in (placed_by slot ks)) (one_key k (held (slot k)).request)
-        ∙ ap (λ (l : List ℕ). k ∷ l) (keys_placed ks)
+      ∙ ap (λ (l : List ℕ). l ++ keys_in (placed_by slot ks)) (one_key k (held (slot k)).request)
+      ∙ ap (λ (l : List ℕ). k ∷ l) (keys_placed ks)
 
   pub placed_by-append : (ks js : List ℕ) → placed_by slot (ks ++ js) ≡ placed_by slot ks ++ placed_by slot js
   placed_by-append [] js = refl
   placed_by-append (k ∷ ks) js =
       ap (λ (l : List Placed). placed_all k (held (slot k)).request ++ l) (placed_by-append ks js)
-        ∙ sym (append_assoc (placed_all k (held (slot k)).request) (placed_by slot ks) (placed_by slot js))
+      ∙ sym (append_assoc (placed_all k (held (slot k)).request) (placed_by slot ks) (placed_by slot js))
 
 -- ---- those of one key leave
 
@@ -187,13 +186,13 @@ module _ (slot slot' : ℕ → Option Sleeper) where
   placed_by-same [] h = refl
   placed_by-same (k ∷ ks) h =
       ap (λ (o : Option Sleeper). placed_all k (held o).request ++ placed_by slot' ks) (h k (has_head k ks))
-        ∙ ap (λ (l : List Placed). placed_all k (held (slot k)).request ++ l) (placed_by-same ks (λ j e. h j (has_tail j k ks e)))
+      ∙ ap (λ (l : List Placed). placed_all k (held (slot k)).request ++ l) (placed_by-same ks (λ j e. h j (has_tail j k ks e)))
 
   pub asleep_of-same : (ks : List ℕ) → ((j : ℕ) → has j ks ≡ true → slot' j ≡ slot j) → asleep_of slot' ks ≡ asleep_of slot ks
   asleep_of-same [] h = refl
   asleep_of-same (k ∷ ks) h =
       ap (λ (o : Option Sleeper). held o ∷ asleep_of slot' ks) (h k (has_head k ks))
-        ∙ ap (λ (l : List Sleeper). held (slot k) ∷ l) (asleep_of-same ks (λ j e. h j (has_tail j k ks e)))
+      ∙ ap (λ (l : List Sleeper). held (slot k) ∷ l) (asleep_of-same ks (λ j e. h j (has_tail j k ks e)))
 
 -- ---- those of one number leave
 

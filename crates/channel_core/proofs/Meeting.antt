@@ -39,16 +39,16 @@ module _ (t : ℕ → Bool) where
   pub first_waiting : (ws : List Waiting) → option_map offer_of (first (filter (λ (w : Waiting). t w.row) ws)) ≡ first_by t (map placed_of ws)
   first_waiting [] = refl
   first_waiting (w ∷ ws) = elim (cases_Bool (t w.row)) [
-      | inl e ↦ ap (λ (l : List Waiting). option_map offer_of (first l)) (kept_one (λ (v : Waiting). t v.row) w ws e) ∙ sym (hit (placed_of w) (map placed_of ws) e)
-      | inr e ↦ ap (λ (l : List Waiting). option_map offer_of (first l)) (dropped_one (λ (v : Waiting). t v.row) w ws e) ∙ first_waiting ws ∙ sym (miss (placed_of w) (map placed_of ws) e)
-    ]
+    | inl e ↦ ap (λ (l : List Waiting). option_map offer_of (first l)) (kept_one (λ (v : Waiting). t v.row) w ws e) ∙ sym (hit (placed_of w) (map placed_of ws) e)
+    | inr e ↦ ap (λ (l : List Waiting). option_map offer_of (first l)) (dropped_one (λ (v : Waiting). t v.row) w ws e) ∙ first_waiting ws ∙ sym (miss (placed_of w) (map placed_of ws) e)
+  ]
 
   first_by-append : (ps qs : List Placed) → first_by t (ps ++ qs) ≡ or_first (first_by t ps) (first_by t qs)
   first_by-append [] qs = refl
   first_by-append (p ∷ ps) qs = elim (cases_Bool (t p.row)) [
-      | inl e ↦ hit p (ps ++ qs) e ∙ sym (ap (λ (o : Option Entry). or_first o (first_by t qs)) (hit p ps e))
-      | inr e ↦ miss p (ps ++ qs) e ∙ first_by-append ps qs ∙ sym (ap (λ (o : Option Entry). or_first o (first_by t qs)) (miss p ps e))
-    ]
+    | inl e ↦ hit p (ps ++ qs) e ∙ sym (ap (λ (o : Option Entry). or_first o (first_by t qs)) (hit p ps e))
+    | inr e ↦ miss p (ps ++ qs) e ∙ first_by-append ps qs ∙ sym (ap (λ (o : Option Entry). or_first o (first_by t qs)) (miss p ps e))
+  ]
 
   -- what passes is what a search of the offers themselves finds
   module _ (u : Offer → Bool) (found : List Offer → Option Offer) (none : found [] ≡ None) (step : (o : Offer) (os : List Offer) → found (o ∷ os) ≡ cond (u o) (Some o) (found os))
@@ -56,10 +56,10 @@ module _ (t : ℕ → Bool) where
     first_of_offers : (k : ℕ) (os : List Offer) → first_by t (map (placed_offer k) os) ≡ option_map (entry_of k) (found os)
     first_of_offers k [] = sym (ap (option_map (entry_of k)) none)
     first_of_offers k (o ∷ os) = elim (cases_Bool (u o)) [
-        | inl e ↦ hit (placed_offer k o) (map (placed_offer k) os) (same o ∙ e) ∙ sym (ap (option_map (entry_of k)) (step o os ∙ ap (λ (b : Bool). cond b (Some o) (found os)) e))
-        | inr e ↦ miss (placed_offer k o) (map (placed_offer k) os) (same o ∙ e) ∙ first_of_offers k os
-            ∙ sym (ap (option_map (entry_of k)) (step o os ∙ ap (λ (b : Bool). cond b (Some o) (found os)) e))
-      ]
+      | inl e ↦ hit (placed_offer k o) (map (placed_offer k) os) (same o ∙ e) ∙ sym (ap (option_map (entry_of k)) (step o os ∙ ap (λ (b : Bool). cond b (Some o) (found os)) e))
+      | inr e ↦ miss (placed_offer k o) (map (placed_offer k) os) (same o ∙ e) ∙ first_of_offers k os
+          ∙ sym (ap (option_map (entry_of k)) (step o os ∙ ap (λ (b : Bool). cond b (Some o) (found os)) e))
+    ]
 
     first_of_sleeper : (k : ℕ) (q : Request) (rest : List Placed) → first_by t (placed_all k q ++ rest) ≡ or_first (option_map (entry_of k) (found (offers q))) (first_by t rest)
     first_of_sleeper k q rest =
@@ -72,15 +72,15 @@ on_row c sends r = r == row_on c sends
 
 on_its_row : (c d : ℕ) (sends b : Bool) → (row_on d b == row_on c sends) ≡ ((d == c) && cond sends b (not b))
 on_its_row c d true true = elim (cases_eq d c) [
-    | inl e ↦ same_key (2 * d + 3) (2 * c + 3) (omega arith) ∙ sym (and_from (d == c) true (same_key d c e) refl)
-    | inr e ↦ other_key (2 * d + 3) (2 * c + 3) (λ (h : 2 * d + 3 ≡ 2 * c + 3). e (omega arith)) ∙ sym (and_left (d == c) true (other_key d c e))
-  ]
+  | inl e ↦ same_key (2 * d + 3) (2 * c + 3) (omega arith) ∙ sym (and_from (d == c) true (same_key d c e) refl)
+  | inr e ↦ other_key (2 * d + 3) (2 * c + 3) (λ (h : 2 * d + 3 ≡ 2 * c + 3). e (omega arith)) ∙ sym (and_left (d == c) true (other_key d c e))
+]
 on_its_row c d true false = other_key (2 * d + 2) (2 * c + 3) (λ (h : 2 * d + 2 ≡ 2 * c + 3). omega arith) ∙ sym (and_right (d == c) false refl)
 on_its_row c d false true = other_key (2 * d + 3) (2 * c + 2) (λ (h : 2 * d + 3 ≡ 2 * c + 2). omega arith) ∙ sym (and_right (d == c) false refl)
 on_its_row c d false false = elim (cases_eq d c) [
-    | inl e ↦ same_key (2 * d + 2) (2 * c + 2) (omega arith) ∙ sym (and_from (d == c) true (same_key d c e) refl)
-    | inr e ↦ other_key (2 * d + 2) (2 * c + 2) (λ (h : 2 * d + 2 ≡ 2 * c + 2). e (omega arith)) ∙ sym (and_left (d == c) true (other_key d c e))
-  ]
+  | inl e ↦ same_key (2 * d + 2) (2 * c + 2) (omega arith) ∙ sym (and_from (d == c) true (same_key d c e) refl)
+  | inr e ↦ other_key (2 * d + 2) (2 * c + 2) (λ (h : 2 * d + 2 ≡ 2 * c + 2). e (omega arith)) ∙ sym (and_left (d == c) true (other_key d c e))
+]
 
 mark_is_off : (c : ℕ) (sends : Bool) → (0 == row_on c sends) ≡ false
 mark_is_off c true = other_key 0 (2 * c + 3) (λ (h : 0 ≡ 2 * c + 3). omega arith)
@@ -99,9 +99,9 @@ module _ (slot : ℕ → Option Sleeper) (c : ℕ) where
   partner_first sends [] = refl
   partner_first sends (k ∷ ks) =
       picked k (first_offer c sends (offers (held (slot k)).request)) (partner c sends (asleep_of slot ks)) (first_by (on_row c sends) (placed_by slot ks)) (partner_first sends ks)
-        ∙ sym (ap (option_map (partner_at slot))
-          (first_of_sleeper (on_row c sends) (λ (o : Offer). (o.chan == c) && cond sends (is_some o.item) (not (is_some o.item))) (first_offer c sends) refl (λ o os. refl)
-            (λ o. on_its_row c o.chan sends (is_some o.item)) (mark_is_off c sends) k (held (slot k)).request (placed_by slot ks)))
+      ∙ sym (ap (option_map (partner_at slot))
+      (first_of_sleeper (on_row c sends) (λ (o : Offer). (o.chan == c) && cond sends (is_some o.item) (not (is_some o.item))) (first_offer c sends) refl (λ o os. refl)
+      (λ o. on_its_row c o.chan sends (is_some o.item)) (mark_is_off c sends) k (held (slot k)).request (placed_by slot ks)))
 
 -- ---- those whom a close wakes
 
@@ -110,15 +110,15 @@ on_channel c r = (r == row_on c false) || (r == row_on c true)
 
 on_its_channel : (c d : ℕ) (b : Bool) → on_channel c (row_on d b) ≡ (d == c)
 on_its_channel c d true = elim (cases_eq d c) [
-    | inl e ↦ or_right (2 * d + 3 == 2 * c + 2) (2 * d + 3 == 2 * c + 3) (same_key (2 * d + 3) (2 * c + 3) (omega arith)) ∙ sym (same_key d c e)
-    | inr e ↦ or_from (2 * d + 3 == 2 * c + 2) (2 * d + 3 == 2 * c + 3) (other_key (2 * d + 3) (2 * c + 2) (λ (h : 2 * d + 3 ≡ 2 * c + 2). omega arith))
-        (other_key (2 * d + 3) (2 * c + 3) (λ (h : 2 * d + 3 ≡ 2 * c + 3). e (omega arith))) ∙ sym (other_key d c e)
-  ]
+  | inl e ↦ or_right (2 * d + 3 == 2 * c + 2) (2 * d + 3 == 2 * c + 3) (same_key (2 * d + 3) (2 * c + 3) (omega arith)) ∙ sym (same_key d c e)
+  | inr e ↦ or_from (2 * d + 3 == 2 * c + 2) (2 * d + 3 == 2 * c + 3) (other_key (2 * d + 3) (2 * c + 2) (λ (h : 2 * d + 3 ≡ 2 * c + 2). omega arith))
+      (other_key (2 * d + 3) (2 * c + 3) (λ (h : 2 * d + 3 ≡ 2 * c + 3). e (omega arith))) ∙ sym (other_key d c e)
+]
 on_its_channel c d false = elim (cases_eq d c) [
-    | inl e ↦ or_left (2 * d + 2 == 2 * c + 2) (2 * d + 2 == 2 * c + 3) (same_key (2 * d + 2) (2 * c + 2) (omega arith)) ∙ sym (same_key d c e)
-    | inr e ↦ or_from (2 * d + 2 == 2 * c + 2) (2 * d + 2 == 2 * c + 3) (other_key (2 * d + 2) (2 * c + 2) (λ (h : 2 * d + 2 ≡ 2 * c + 2). e (omega arith)))
-        (other_key (2 * d + 2) (2 * c + 3) (λ (h : 2 * d + 2 ≡ 2 * c + 3). omega arith)) ∙ sym (other_key d c e)
-  ]
+  | inl e ↦ or_left (2 * d + 2 == 2 * c + 2) (2 * d + 2 == 2 * c + 3) (same_key (2 * d + 2) (2 * c + 2) (omega arith)) ∙ sym (same_key d c e)
+  | inr e ↦ or_from (2 * d + 2 == 2 * c + 2) (2 * d + 2 == 2 * c + 3) (other_key (2 * d + 2) (2 * c + 2) (λ (h : 2 * d + 2 ≡ 2 * c + 2). e (omega arith)))
+      (other_key (2 * d + 2) (2 * c + 3) (λ (h : 2 * d + 2 ≡ 2 * c + 3). omega arith)) ∙ sym (other_key d c e)
+]
 
 -- no two have one number
 abbrev pub AreApart : List Sleeper → Type 0
@@ -128,10 +128,11 @@ AreApart (s ∷ ss) = (without ss s.number ≡ ss) × AreApart ss
 pub apart_by_keys : (slot : ℕ → Option Sleeper) (ks : List ℕ) → AreDistinct ks
     → ((i j : ℕ) → has i ks ≡ true → has j ks ≡ true → (held (slot i)).number ≡ (held (slot j)).number → i ≡ j) → AreApart (asleep_of slot ks)
 apart_by_keys slot [] d h = tt
-apart_by_keys slot (k ∷ ks) d h =
-    (without_none slot (held (slot k)).number ks (λ j e. other_key (held (slot j)).number (held (slot k)).number (λ (m : (held (slot j)).number ≡ (held (slot k)).number).
-        both_ways (has k ks) d.0 (subst (λ (i : ℕ). has i ks ≡ true) (h j k (has_tail j k ks e) (has_head k ks) m) e))),
-     apart_by_keys slot ks d.1 (λ i j a b. h i j (has_tail i k ks a) (has_tail j k ks b)))
+apart_by_keys slot (k ∷ ks) d h = (
+  without_none slot (held (slot k)).number ks (λ j e. other_key (held (slot j)).number (held (slot k)).number (λ (m : (held (slot j)).number ≡ (held (slot k)).number).
+      both_ways (has k ks) d.0 (subst (λ (i : ℕ). has i ks ≡ true) (h j k (has_tail j k ks e) (has_head k ks) m) e))),
+  apart_by_keys slot ks d.1 (λ i j a b. h i j (has_tail i k ks a) (has_tail j k ks b)),
+)
 
 module _ (slot : ℕ → Option Sleeper) (c : ℕ) (z : Item) where
   abbrev pub told : Entry → ℕ × Reply
@@ -150,27 +151,27 @@ module _ (slot : ℕ → Option Sleeper) (c : ℕ) (z : Item) where
 
   missed_too : (s : Sleeper) (ss : List Sleeper) (n : ℕ) → first_on c (offers s.request) ≡ None → partners c (without (s ∷ ss) n) ≡ partners c (without ss n)
   missed_too s ss n e = elim (cases_Bool (s.number == n)) [
-      | inl a ↦ ap (partners c) (left_out s ss n a)
-      | inr a ↦ ap (partners c) (left_in s ss n a) ∙ missed s (without ss n) e
-    ]
+    | inl a ↦ ap (partners c) (left_out s ss n a)
+    | inr a ↦ ap (partners c) (left_in s ss n a) ∙ missed s (without ss n) e
+  ]
 
   wakes_first : (k : ℕ) (ss : List Sleeper) (o : Option Offer) (f : Option Entry) → AreApart (held (slot k) ∷ ss) → first_on c (offers (held (slot k)).request) ≡ o → Wakes ss f
       → Wakes (held (slot k) ∷ ss) (or_first (option_map (entry_of k) o) f)
   wakes_first k ss (Some o) f a e w =
       ap (closed_for z) (met (held (slot k)) ss o e)
-        ∙ ap (λ (l : List Sleeper). told (entry_of k o) ∷ closed_for z (partners c l)) (sym (left_out (held (slot k)) ss (held (slot k)).number (same_key (held (slot k)).number (held (slot k)).number refl) ∙ a.0))
+      ∙ ap (λ (l : List Sleeper). told (entry_of k o) ∷ closed_for z (partners c l)) (sym (left_out (held (slot k)) ss (held (slot k)).number (same_key (held (slot k)).number (held (slot k)).number refl) ∙ a.0))
   wakes_first k ss None None a e w = missed (held (slot k)) ss e ∙ w
   wakes_first k ss None (Some g) a e w =
       ap (closed_for z) (missed (held (slot k)) ss e) ∙ w
-        ∙ ap (λ (l : List (Sleeper × Offer)). told g ∷ closed_for z l) (sym (missed_too (held (slot k)) ss (told g).0 e))
+      ∙ ap (λ (l : List (Sleeper × Offer)). told g ∷ closed_for z l) (sym (missed_too (held (slot k)) ss (told g).0 e))
 
   pub wakes : (ks : List ℕ) → AreApart (asleep_of slot ks) → Wakes (asleep_of slot ks) (first_by (on_channel c) (placed_by slot ks))
   wakes [] a = refl
   wakes (k ∷ ks) a =
       subst (Wakes (asleep_of slot (k ∷ ks)))
-        (sym (first_of_sleeper (on_channel c) (λ (o : Offer). o.chan == c) (first_on c) refl (λ o os. refl) (λ o. on_its_channel c o.chan (is_some o.item))
-          (or_from (0 == row_on c false) (0 == row_on c true) (mark_is_off c false) (mark_is_off c true)) k (held (slot k)).request (placed_by slot ks)))
-        (wakes_first k (asleep_of slot ks) (first_on c (offers (held (slot k)).request)) (first_by (on_channel c) (placed_by slot ks)) a refl (wakes ks a.1))
+      (sym (first_of_sleeper (on_channel c) (λ (o : Offer). o.chan == c) (first_on c) refl (λ o os. refl) (λ o. on_its_channel c o.chan (is_some o.item))
+      (or_from (0 == row_on c false) (0 == row_on c true) (mark_is_off c false) (mark_is_off c true)) k (held (slot k)).request (placed_by slot ks)))
+      (wakes_first k (asleep_of slot ks) (first_on c (offers (held (slot k)).request)) (first_by (on_channel c) (placed_by slot ks)) a refl (wakes ks a.1))
 
 -- ---- all of them
 

@@ -36,14 +36,14 @@ key_inj a b e = ap (λ (o : Option ℕ). unwrap_or o a) e
 found_is_other : (t : ℕ → Bool) (k : ℕ) (ps : List Placed) (e : Entry) → first_by t (filter (is_not_of k) ps) ≡ Some e → e.number ≢ k
 found_is_other t k [] e h = absurd (none-some e h)
 found_is_other t k (p ∷ ps) e h = elim (cases_eq p.entry.number k) [
-    | inl x ↦ found_is_other t k ps e (sym (ap (first_by t) (dropped_one (is_not_of k) p ps (goes p.entry.number k x))) ∙ h)
-    | inr x ↦
-        let there : first_by t (p ∷ filter (is_not_of k) ps) ≡ Some e = sym (ap (first_by t) (kept_one (is_not_of k) p ps (stays p.entry.number k x))) ∙ h in
-        elim (cases_Bool (t p.row)) [
-          | inl y ↦ λ (m : e.number ≡ k). x (ap (λ (f : Entry). f.number) (entry_inj p.entry e (sym (hit t p (filter (is_not_of k) ps) y) ∙ there)) ∙ m)
-          | inr y ↦ found_is_other t k ps e (sym (miss t p (filter (is_not_of k) ps) y) ∙ there)
-        ]
-  ]
+  | inl x ↦ found_is_other t k ps e (sym (ap (first_by t) (dropped_one (is_not_of k) p ps (goes p.entry.number k x))) ∙ h)
+  | inr x ↦
+      let there : first_by t (p ∷ filter (is_not_of k) ps) ≡ Some e = sym (ap (first_by t) (kept_one (is_not_of k) p ps (stays p.entry.number k x))) ∙ h in
+      elim (cases_Bool (t p.row)) [
+        | inl y ↦ λ (m : e.number ≡ k). x (ap (λ (f : Entry). f.number) (entry_inj p.entry e (sym (hit t p (filter (is_not_of k) ps) y) ∙ there)) ∙ m)
+        | inr y ↦ found_is_other t k ps e (sym (miss t p (filter (is_not_of k) ps) y) ∙ there)
+      ]
+]
 
 module _ (slot : ℕ → Option Sleeper) (key_of : ℕ → Option ℕ) (q : QueuesValue) (count : ℕ) (a : IsAsleep slot key_of (placed q) count) where
   abbrev asleep : List Sleeper
@@ -71,7 +71,7 @@ module _ (slot : ℕ → Option Sleeper) (key_of : ℕ → Option ℕ) (q : Queu
   pub has_partner_is : (c : ℕ) (sends : Bool) → is_some (partner c sends (asleep_of slot (keys_in (placed q)))) ≡ is_some (option_map (λ (w : Waiting). w.offer) (first (row_of (row_on c sends) q.waiting)))
   has_partner_is c sends =
       sym (is_some-map partner_of (partner c sends (asleep_of slot (keys_in (placed q))))) ∙ ap is_some (partner_is c sends)
-        ∙ is_some-map (partner_at slot) (option_map (λ (w : Waiting). w.offer) (first (row_of (row_on c sends) q.waiting)))
+      ∙ is_some-map (partner_at slot) (option_map (λ (w : Waiting). w.offer) (first (row_of (row_on c sends) q.waiting)))
 
   same_key_of : (i j : ℕ) → has i (keys_in (placed q)) ≡ true → has j (keys_in (placed q)) ≡ true → (held (slot i)).number ≡ (held (slot j)).number → i ≡ j
   same_key_of i j hi hj e =
@@ -83,7 +83,7 @@ module _ (slot : ℕ → Option Sleeper) (key_of : ℕ → Option ℕ) (q : Queu
   pub close_is : (c : ℕ) (z : Item) → Wakes slot c z (asleep_of slot (keys_in (placed q))) (option_map (λ (w : Waiting). w.offer) (first (filter (is_in_either (row_on c false) (row_on c true)) q.waiting)))
   close_is c z =
       subst (Wakes slot c z (asleep_of slot (keys_in (placed q)))) (ap (first_by (on_channel c)) (sym a.rows) ∙ sym (first_waiting (on_channel c) q.waiting))
-        (wakes slot c z (keys_in (placed q)) (apart_by_keys slot (keys_in (placed q)) a.distinct same_key_of))
+      (wakes slot c z (keys_in (placed q)) (apart_by_keys slot (keys_in (placed q)) a.distinct same_key_of))
 
 module _ (slot : ℕ → Option Sleeper) (key_of : ℕ → Option ℕ) (q : QueuesValue) (count : ℕ) (a : IsAsleep slot key_of (placed q) count)
     (c r t : ℕ) (receives : r ≡ row_on c false) (sends : t ≡ row_on c true) where
@@ -91,7 +91,7 @@ module _ (slot : ℕ → Option Sleeper) (key_of : ℕ → Option ℕ) (q : Queu
       → option_map (λ (w : Waiting). w.offer) (first (filter (is_in_either (row_on c false) (row_on c true)) q.waiting)) ≡ o
   there o h =
       ap (λ (i : ℕ). option_map (λ (w : Waiting). w.offer) (first (filter (is_in_either i (row_on c true)) q.waiting))) (sym receives)
-        ∙ ap (λ (i : ℕ). option_map (λ (w : Waiting). w.offer) (first (filter (is_in_either r i) q.waiting))) (sym sends) ∙ sym h
+      ∙ ap (λ (i : ℕ). option_map (λ (w : Waiting). w.offer) (first (filter (is_in_either r i) q.waiting))) (sym sends) ∙ sym h
 
   pub close_found : (z : Item) (o : Option Entry) → o ≡ option_map (λ (w : Waiting). w.offer) (first (filter (is_in_either r t) q.waiting)) → Wakes slot c z (asleep_of slot (keys_in (placed q))) o
   close_found z o h = subst (Wakes slot c z (asleep_of slot (keys_in (placed q)))) (there o h) (close_is slot key_of q count a c z)
@@ -108,17 +108,17 @@ pub partner_same : (slot : ℕ → Option Sleeper) (e : Entry) (s : Sleeper) (n 
     → Some (record { number = n; case = e.case; item = item }) ≡ Some (partner_at slot e)
 partner_same slot e s n item at number same =
     ap (λ (m : ℕ). Some (record { number = m; case = e.case; item = item })) (number ∙ sym (ap (λ (o : Option Sleeper). (held o).number) at))
-      ∙ ap (λ (i : Option Item). Some (record { number = (held (slot e.number)).number; case = e.case; item = i })) same
+    ∙ ap (λ (i : Option Item). Some (record { number = (held (slot e.number)).number; case = e.case; item = i })) same
 
 pub nobody_asleep : (slots : List (Option Sleeper)) (key_of : ℕ → Option ℕ) (ps : List Placed) → slots ≡ [] → ps ≡ [] → ((n : ℕ) → key_of n ≡ None) → IsAsleep (λ k. slice_index_or slots k None) key_of ps (count_by is_some slots)
 nobody_asleep slots key_of ps e f none =
     subst (λ (xs : List (Option Sleeper)). IsAsleep (λ k. slice_index_or xs k None) key_of ps (count_by is_some xs)) (sym e)
-      (subst (λ (qs : List Placed). IsAsleep (λ k. slice_index_or [] k None) key_of qs 0) (sym f)
-        (record {
-          rows = refl;
-          kept = λ k. refl;
-          known = λ k s h. absurd (none-some s h);
-          named = λ n k h. absurd (none-some k (sym (none n) ∙ h));
-          distinct = tt;
-          size = refl
-        }))
+    (subst (λ (qs : List Placed). IsAsleep (λ k. slice_index_or [] k None) key_of qs 0) (sym f)
+    (record {
+      rows = refl;
+      kept = λ k. refl;
+      known = λ k s h. absurd (none-some s h);
+      named = λ n k h. absurd (none-some k (sym (none n) ∙ h));
+      distinct = tt;
+      size = refl;
+    }))

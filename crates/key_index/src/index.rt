@@ -65,7 +65,15 @@ impl KeyIndex {
         ensures contents { self.new ≡ slice_set self.old slot (Some key) }
         ensures steps { (d : ℕ) → length self.old < 2 ^ d → steps.new ≤ steps.old + 2 * d }
     {
-        put(&mut self.keys, &mut self.order, &mut self.places, self.len, slot, key, steps);
+        put(
+            &mut self.keys,
+            &mut self.order,
+            &mut self.places,
+            self.len,
+            slot,
+            key,
+            steps,
+        );
         self.len += 1;
     }
 
@@ -75,7 +83,15 @@ impl KeyIndex {
         ensures contents { self.new ≡ slice_set self.old slot (Some key) }
         ensures steps { (d : ℕ) → length self.old < 2 ^ d → steps.new ≤ steps.old + 2 * d }
     {
-        lift(&mut self.keys, &mut self.order, &mut self.places, self.len, slot, key, steps);
+        lift(
+            &mut self.keys,
+            &mut self.order,
+            &mut self.places,
+            self.len,
+            slot,
+            key,
+            steps,
+        );
     }
 
     /// Frees a taken slot, with no more comparisons.
@@ -84,7 +100,14 @@ impl KeyIndex {
         ensures contents { self.new ≡ slice_set self.old slot None }
         ensures steps { (d : ℕ) → length self.old < 2 ^ d → steps.new ≤ steps.old + 2 * d }
     {
-        free(&mut self.keys, &mut self.order, &mut self.places, self.len, slot, steps);
+        free(
+            &mut self.keys,
+            &mut self.order,
+            &mut self.places,
+            self.len,
+            slot,
+            steps,
+        );
         self.len -= 1;
     }
 

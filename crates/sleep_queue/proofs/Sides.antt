@@ -21,34 +21,34 @@ taken_some (Some n) e = (n, refl)
 
 pub stamped : (f : Node → ℕ) (xs : List (Option Node)) (t : ℕ) → AreApart xs → AreBefore t xs → IsStamped (places_by f xs) t
 stamped f xs t d b = record {
-    apart = λ i j a c e. let m = taken_some (slice_index_or xs i None) a in let n = taken_some (slice_index_or xs j None) c in
-        d i j m.0 n.0 m.1 n.1 (sym (ap (number_of (λ (k : Node). k.stamp)) m.1) ∙ e ∙ ap (number_of (λ (k : Node). k.stamp)) n.1);
-    below = λ i a. let m = taken_some (slice_index_or xs i None) a in let s = ap (number_of (λ (k : Node). k.stamp)) m.1 in let l = b i m.0 m.1 in omega arith
-  }
+  apart = λ i j a c e. let m = taken_some (slice_index_or xs i None) a in let n = taken_some (slice_index_or xs j None) c in
+      d i j m.0 n.0 m.1 n.1 (sym (ap (number_of (λ (k : Node). k.stamp)) m.1) ∙ e ∙ ap (number_of (λ (k : Node). k.stamp)) n.1);
+  below = λ i a. let m = taken_some (slice_index_or xs i None) a in let s = ap (number_of (λ (k : Node). k.stamp)) m.1 in let l = b i m.0 m.1 in omega arith;
+}
 
 module _ (f : Node → ℕ) (s v : Slab Node) (x : ℕ) where
   pub left_places : Updates s v x None → Left (places_by f s.slots) (places_by f v.slots) x
   left_places u = record {
-      gone = ap is_some u.changed;
-      fewer = λ y e. elim (cases_eq y x) [
-        | inl k ↦ absurd (both_ways (is_some (slice_index_or v.slots y None)) (ap is_some (ap (λ (i : ℕ). slice_index_or v.slots i None) k ∙ u.changed)) e)
-        | inr k ↦ (sym (ap is_some (u.others y k)) ∙ e, k)
-      ];
-      others = λ y e k. ap is_some (u.others y k) ∙ e;
-      group = λ y k. ap (number_of f) (u.others y k);
-      stamp = λ y k. ap (number_of (λ (n : Node). n.stamp)) (u.others y k)
-    }
+    gone = ap is_some u.changed;
+    fewer = λ y e. elim (cases_eq y x) [
+      | inl k ↦ absurd (both_ways (is_some (slice_index_or v.slots y None)) (ap is_some (ap (λ (i : ℕ). slice_index_or v.slots i None) k ∙ u.changed)) e)
+      | inr k ↦ (sym (ap is_some (u.others y k)) ∙ e, k)
+    ];
+    others = λ y e k. ap is_some (u.others y k) ∙ e;
+    group = λ y k. ap (number_of f) (u.others y k);
+    stamp = λ y k. ap (number_of (λ (n : Node). n.stamp)) (u.others y k);
+  }
 
   pub entered_places : (n : Node) → Updates s v x (Some n) → get s x ≡ None → Entered (places_by f s.slots) (places_by f v.slots) x (f n) n.stamp
   entered_places n u e = record {
-      was = ap is_some e;
-      taken = ap is_some u.changed;
-      its_group = ap (number_of f) u.changed;
-      its_stamp = ap (number_of (λ (k : Node). k.stamp)) u.changed;
-      others = λ y k. ap is_some (u.others y k);
-      group = λ y k. ap (number_of f) (u.others y k);
-      stamp = λ y k. ap (number_of (λ (k' : Node). k'.stamp)) (u.others y k)
-    }
+    was = ap is_some e;
+    taken = ap is_some u.changed;
+    its_group = ap (number_of f) u.changed;
+    its_stamp = ap (number_of (λ (k : Node). k.stamp)) u.changed;
+    others = λ y k. ap is_some (u.others y k);
+    group = λ y k. ap (number_of f) (u.others y k);
+    stamp = λ y k. ap (number_of (λ (k' : Node). k'.stamp)) (u.others y k);
+  }
 
   -- with what the rings' calls say
   pub entered_side : (n : Node) (t : ℕ) (next next' : List ℕ) (head head' : ℕ → Option ℕ) → Updates s v x (Some n) → get s x ≡ None → n.stamp ≡ t → AreApart s.slots → AreBefore t s.slots → IsSide f s.slots next head
@@ -67,7 +67,7 @@ module _ (f : Node → ℕ) (s v : Slab Node) (x : ℕ) where
         covered = λ k a. elim (cases_eq k x) [
           | inl m ↦ omega arith
           | inr m ↦ let l = i.covered k (sym (ap is_some (u.others k m)) ∙ a) in omega arith
-        ]
+        ];
       }
 
   pub left_side : (n : Node) (t : ℕ) (next next' : List ℕ) (head head' : ℕ → Option ℕ) → Updates s v x None → get s x ≡ Some n → AreApart s.slots → AreBefore t s.slots → IsSide f s.slots next head
@@ -83,13 +83,13 @@ module _ (f : Node → ℕ) (s v : Slab Node) (x : ℕ) where
         heads = λ q. elim (cases_eq q (f n)) [
           | inl k ↦ subst (λ (r : ℕ). IsHeadOf (places_by f v.slots) r (head' r)) (sym k)
               (subst (λ (h : Option ℕ). IsHeadOf (places_by f v.slots) (f n) h) (sym here)
-                (subst (λ (r : ℕ). IsHeadOf (places_by f v.slots) r (head_without (head (f n)) x (link next x))) its
-                  (left_here (places_by f s.slots) (places_by f v.slots) (link next) x i.ring t st le tx (head (f n))
-                    (subst (λ (r : ℕ). IsHeadOf (places_by f s.slots) r (head (f n))) (sym its) (i.heads (f n))))))
+              (subst (λ (r : ℕ). IsHeadOf (places_by f v.slots) r (head_without (head (f n)) x (link next x))) its
+              (left_here (places_by f s.slots) (places_by f v.slots) (link next) x i.ring t st le tx (head (f n))
+              (subst (λ (r : ℕ). IsHeadOf (places_by f s.slots) r (head (f n))) (sym its) (i.heads (f n))))))
           | inr k ↦ subst (λ (h : Option ℕ). IsHeadOf (places_by f v.slots) q h) (sym (others q k))
               (left_other (places_by f s.slots) (places_by f v.slots) (link next) x i.ring t st le tx q (head q) (λ (a : q ≡ number_of f (slice_index_or s.slots x None)). k (a ∙ its)) (i.heads q))
         ];
-        covered = λ k a. let o = le.fewer k a in let l = i.covered k o.0 in omega arith
+        covered = λ k a. let o = le.fewer k a in let l = i.covered k o.0 in omega arith;
       }
 
 abbrev made : ℕ → List Waiting → QueuesValue
@@ -111,34 +111,34 @@ module _ (s v : Slab Node) (x : ℕ) (n : Node) (t : ℕ) (d : AreApart s.slots)
 
     pub entered_apart : AreApart v.slots
     entered_apart i j a c e g h = elim (cases_eq i x) [
-        | inl k ↦ elim (cases_eq j x) [
-            | inl m ↦ k ∙ sym m
-            | inr m ↦ let p = new_node i a k e in let q = b j c (old_node j c m g) in absurd (omega arith)
-          ]
-        | inr k ↦ elim (cases_eq j x) [
-            | inl m ↦ let p = new_node j c m g in let q = b i a (old_node i a k e) in absurd (omega arith)
-            | inr m ↦ d i j a c (old_node i a k e) (old_node j c m g) h
-          ]
+      | inl k ↦ elim (cases_eq j x) [
+        | inl m ↦ k ∙ sym m
+        | inr m ↦ let p = new_node i a k e in let q = b j c (old_node j c m g) in absurd (omega arith)
       ]
+      | inr k ↦ elim (cases_eq j x) [
+        | inl m ↦ let p = new_node j c m g in let q = b i a (old_node i a k e) in absurd (omega arith)
+        | inr m ↦ d i j a c (old_node i a k e) (old_node j c m g) h
+      ]
+    ]
 
     pub entered_before : AreBefore (t + 1) v.slots
     entered_before i a e = elim (cases_eq i x) [
-        | inl k ↦ let p = new_node i a k e in omega arith
-        | inr k ↦ let q = b i a (old_node i a k e) in omega arith
-      ]
+      | inl k ↦ let p = new_node i a k e in omega arith
+      | inr k ↦ let q = b i a (old_node i a k e) in omega arith
+    ]
 
     pub entered_order : get s x ≡ None → in_order v.slots (t + 1) ≡ in_order s.slots t ++ waiting_at x n ∷ []
     entered_order free =
         let next : suc t ≡ t + 1 = omega arith in
         subst (λ (k : ℕ). in_order v.slots k ≡ in_order s.slots t ++ waiting_at x n ∷ []) next
-          (in_order_enter s.slots v.slots t x n entered_apart u.others free u.changed at b)
+        (in_order_enter s.slots v.slots t x n entered_apart u.others free u.changed at b)
 
   module _ (u : Updates s v x None) where
     kept_node : (i : ℕ) (a : Node) → get v i ≡ Some a → get s i ≡ Some a
     kept_node i a e = elim (cases_eq i x) [
-        | inl k ↦ absurd (none-some a (sym u.changed ∙ sym (ap (get v) k) ∙ e))
-        | inr k ↦ sym (u.others i k) ∙ e
-      ]
+      | inl k ↦ absurd (none-some a (sym u.changed ∙ sym (ap (get v) k) ∙ e))
+      | inr k ↦ sym (u.others i k) ∙ e
+    ]
 
     pub left_apart : AreApart v.slots
     left_apart i j a c e g h = d i j a c (kept_node i a e) (kept_node j c g) h
@@ -167,8 +167,8 @@ pub head_some : (xs : List (Option Node)) (t r k : ℕ) (n : Node) (next : List 
 head_some xs t r k n next head d b i e its =
     let h : IsHeadOf (places_by by_row xs) r (Some k) = subst (λ (j : Option ℕ). IsHeadOf (places_by by_row xs) r j) e (i.heads r) in
     first_test (is_in_row r) xs t k n d its (b k n its) (are_same n.row r (sym (ap (number_of by_row) its) ∙ h.group))
-      (λ j m g l. not_at m.row r (λ (q : m.row ≡ r).
-        let least = h.least j (ap is_some g) (ap (number_of by_row) g ∙ q) in let a = ap (number_of (λ (o : Node). o.stamp)) its in let c = ap (number_of (λ (o : Node). o.stamp)) g in absurd (omega arith)))
+    (λ j m g l. not_at m.row r (λ (q : m.row ≡ r).
+    let least = h.least j (ap is_some g) (ap (number_of by_row) g ∙ q) in let a = ap (number_of (λ (o : Node). o.stamp)) its in let c = ap (number_of (λ (o : Node). o.stamp)) g in absurd (omega arith)))
 
 pub head_taken : (xs : List (Option Node)) (r k : ℕ) (next : List ℕ) (head : ℕ → Option ℕ) → IsSide by_row xs next head → head r ≡ Some k → is_some (slice_index_or xs k None) ≡ true
 head_taken xs r k next head i e =
@@ -184,20 +184,21 @@ side_enter f s v x k t n rows rows1 rows' heads heads' head apart before side u 
     let u' : Updates s v x (Some n) = subst (λ (i : ℕ). Updates s v i (Some n)) same u in
     let free' : get s x ≡ None = subst (λ (i : ℕ). get s i ≡ None) same free in
     let row : IsSide f s.slots rows1 heads = record {
-        ring = cover (places_by f s.slots) side.ring;
-        heads = side.heads;
-        covered = λ i a. let l = side.covered i a in omega arith
-      } in
+      ring = cover (places_by f s.slots) side.ring;
+      heads = side.heads;
+      covered = λ i a. let l = side.covered i a in omega arith;
+    } in
     entered_side f s v x n t rows1 rows' heads heads' u' free' at apart before row
-      (λ r d e h. joins (places_by f s.slots) (places_by f v.slots) (f n) n.stamp r d e (subst (λ (o : Option ℕ). IsHeadOf (places_by f s.slots) (f n) o) (sym is) h))
-      (omega arith) (omega arith) (here ∙ ap (λ (o : Option ℕ). head_with o x) is) others
+    (λ r d e h. joins (places_by f s.slots) (places_by f v.slots) (f n) n.stamp r d e (subst (λ (o : Option ℕ). IsHeadOf (places_by f s.slots) (f n) o) (sym is) h))
+    (omega arith) (omega arith) (here ∙ ap (λ (o : Option ℕ). head_with o x) is) others
 
 pub order_enter : (s v : Slab Node) (x k t t' : ℕ) (n : Node) → AreApart s.slots → AreBefore t s.slots → Updates s v k (Some n) → get s k ≡ None → k ≡ x → n.stamp ≡ t → t' ≡ t + 1
     → AreApart v.slots × AreBefore t' v.slots × (in_order v.slots t' ≡ in_order s.slots t ++ waiting_at x n ∷ [])
-order_enter s v x k t t' n apart before u free same at next =
-    (entered_apart s v k n t apart before u at,
-     subst (λ (i : ℕ). AreBefore i v.slots) (sym next) (entered_before s v k n t apart before u at),
-     subst (λ (i : ℕ). in_order v.slots i ≡ in_order s.slots t ++ waiting_at x n ∷ []) (sym next) (entered_order s v k n t apart before u at free ∙ ap (λ (i : ℕ). in_order s.slots t ++ waiting_at i n ∷ []) same))
+order_enter s v x k t t' n apart before u free same at next = (
+  entered_apart s v k n t apart before u at,
+  subst (λ (i : ℕ). AreBefore i v.slots) (sym next) (entered_before s v k n t apart before u at),
+  subst (λ (i : ℕ). in_order v.slots i ≡ in_order s.slots t ++ waiting_at x n ∷ []) (sym next) (entered_order s v k n t apart before u at free ∙ ap (λ (i : ℕ). in_order s.slots t ++ waiting_at i n ∷ []) same),
+)
 
 no_head : (heads : List (Option ℕ)) (q : ℕ) → head_at (heads ++ None ∷ []) q ≡ head_at heads q
 no_head [] zero = refl
@@ -207,36 +208,36 @@ no_head (h ∷ heads) (suc q) = no_head heads q
 
 pub queues_more : (xs : List (Option Node)) (t : ℕ) (rows : List ℕ) (heads : List (Option ℕ)) (own : List ℕ) (owners : List (ℕ × ℕ)) → IsQueues xs t rows heads own owners → IsQueues xs t rows (heads ++ None ∷ []) own owners
 queues_more xs t rows heads own owners q = record {
-    apart = q.apart;
-    before = q.before;
-    own = q.own;
-    row = record {
-      ring = q.row.ring;
-      heads = λ i. subst (λ (o : Option ℕ). IsHeadOf (places_by by_row xs) i o) (sym (no_head heads i)) (q.row.heads i);
-      covered = q.row.covered
-    }
-  }
+  apart = q.apart;
+  before = q.before;
+  own = q.own;
+  row = record {
+    ring = q.row.ring;
+    heads = λ i. subst (λ (o : Option ℕ). IsHeadOf (places_by by_row xs) i o) (sym (no_head heads i)) (q.row.heads i);
+    covered = q.row.covered;
+  };
+}
 
 pub queues_covered : (xs : List (Option Node)) (t : ℕ) (rows rows1 : List ℕ) (heads : List (Option ℕ)) (own own1 : List ℕ) (owners : List (ℕ × ℕ)) → IsQueues xs t rows heads own owners
     → ((u : Places) → IsRing u (link rows) → IsRing u (link rows1)) → length rows ≤ length rows1
     → ((u : Places) → IsRing u (link own) → IsRing u (link own1)) → length own ≤ length own1 → IsQueues xs t rows1 heads own1 owners
 queues_covered xs t rows rows1 heads own own1 owners q cover more cover1 more1 = record {
-    apart = q.apart;
-    before = q.before;
-    row = record {
-      ring = cover (places_by by_row xs) q.row.ring;
-      heads = q.row.heads;
-      covered = λ i a. let l = q.row.covered i a in omega arith
-    };
-    own = record {
-      ring = cover1 (places_by by_number xs) q.own.ring;
-      heads = q.own.heads;
-      covered = λ i a. let l = q.own.covered i a in omega arith
-    }
-  }
+  apart = q.apart;
+  before = q.before;
+  row = record {
+    ring = cover (places_by by_row xs) q.row.ring;
+    heads = q.row.heads;
+    covered = λ i a. let l = q.row.covered i a in omega arith;
+  };
+  own = record {
+    ring = cover1 (places_by by_number xs) q.own.ring;
+    heads = q.own.heads;
+    covered = λ i a. let l = q.own.covered i a in omega arith;
+  };
+}
 
 same_of : (a b : ℕ) → not (a == b) ≡ false → a ≡ b
-same_of a b e = elim (cases_eq a b) [ | inl k ↦ k | inr k ↦ absurd (both_ways (not (a == b)) e (not_same a b k)) ]
+same_of a b e = elim (cases_eq a b) [ inl k ↦ k | inr k ↦ absurd (both_ways (not (a == b)) e (not_same a b k)) ]
 
 pub not_there : (xs : List (Option Node)) (t x : ℕ) → (is_some (slice_index_or xs x None) ≡ true → ⊥) → filter (is_other x) (in_order xs t) ≡ in_order xs t
 not_there xs t x h = all_stay (is_other x) xs t (λ i m g. not_same i x (λ (k : i ≡ x). h (ap is_some (sym (ap (λ (j : ℕ). slice_index_or xs j None) k) ∙ g))))
@@ -291,11 +292,15 @@ front_of : (xs : List (Option Node)) (r : ℕ) (h : Option ℕ) → IsHeadOf (pl
 front_of xs r None h = λ i m g e. h i (ap is_some g) (ap (number_of by_row) g ∙ e)
 front_of xs r (Some k) h =
     let n = taken_some (slice_index_or xs k None) h.taken in
-    subst (IsFront xs r) (sym n.1) (k, n.1, sym (ap (number_of by_row) n.1) ∙ h.group,
+    subst (IsFront xs r) (sym n.1) (
+      k,
+      n.1,
+      sym (ap (number_of by_row) n.1) ∙ h.group,
       λ i m g e.
-        let least = h.least i (ap is_some g) (ap (number_of by_row) g ∙ e) in
-        let a = ap (number_of (λ (o : Node). o.stamp)) n.1 in
-        let c = ap (number_of (λ (o : Node). o.stamp)) g in omega arith)
+          let least = h.least i (ap is_some g) (ap (number_of by_row) g ∙ e) in
+          let a = ap (number_of (λ (o : Node). o.stamp)) n.1 in
+          let c = ap (number_of (λ (o : Node). o.stamp)) g in omega arith,
+    )
 
 module _ (xs : List (Option Node)) (t r q : ℕ) (d : AreApart xs) (b : AreBefore t xs) where
   abbrev First : Option Node → Type 0
@@ -305,17 +310,17 @@ module _ (xs : List (Option Node)) (t r q : ℕ) (d : AreApart xs) (b : AreBefor
       → ((i : ℕ) (m : Node) → slice_index_or xs i None ≡ Some m → m.stamp < n.stamp → (m.row ≢ r) × (m.row ≢ q)) → First (Some n)
   earliest k n its test before =
       ap (option_map (λ (w : Waiting). w.offer)) (first_test (is_in_either r q) xs t k n d its (b k n its) test
-        (λ i m g l. let ne = before i m g l in or_from (m.row == r) (m.row == q) (not_at m.row r ne.0) (not_at m.row q ne.1)))
+      (λ i m g l. let ne = before i m g l in or_from (m.row == r) (m.row == q) (not_at m.row r ne.0) (not_at m.row q ne.1)))
 
   chosen : (n p : Node) → IsFront xs r (Some n) → IsFront xs q (Some p) → (c : Bool) → nat_lt p.stamp n.stamp ≡ c → First (cond c (Some p) (Some n))
   chosen n p f g true e =
       let l : p.stamp < n.stamp = grind (arith, nat_tests, e) in
       earliest g.0 p g.1 (or_right (p.row == r) (p.row == q) (are_same p.row q g.2))
-        (λ i m h k. ((λ (a : m.row ≡ r). let x = f.3 i m h a in omega arith), (λ (a : m.row ≡ q). let x = g.3 i m h a in omega arith)))
+      (λ i m h k. ((λ (a : m.row ≡ r). let x = f.3 i m h a in omega arith), (λ (a : m.row ≡ q). let x = g.3 i m h a in omega arith)))
   chosen n p f g false e =
       let l : n.stamp ≤ p.stamp = grind (arith, nat_tests, e) in
       earliest f.0 n f.1 (or_left (n.row == r) (n.row == q) (are_same n.row r f.2))
-        (λ i m h k. ((λ (a : m.row ≡ r). let x = f.3 i m h a in omega arith), (λ (a : m.row ≡ q). let x = g.3 i m h a in omega arith)))
+      (λ i m h k. ((λ (a : m.row ≡ r). let x = f.3 i m h a in omega arith), (λ (a : m.row ≡ q). let x = g.3 i m h a in omega arith)))
 
   first_either : (a c : Option Node) → IsFront xs r a → IsFront xs q c → First (sooner a c)
   first_either None None f g =

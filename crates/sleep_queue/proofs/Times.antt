@@ -42,9 +42,9 @@ pub at_some : (s j : ℕ) (xs : List (Option Node)) (w : Waiting) → at_stamp s
 at_some s j [] w e = absurd (none-some w e)
 at_some s j (None ∷ xs) w e = later s j None xs w (at_some s (suc j) xs w e)
 at_some s j (Some n ∷ xs) w e = elim (cases_Bool (n.stamp == s)) [
-    | inl a ↦ now s j n xs w (same_stamp n.stamp s a) (let h = rw a at e in sym (some_is (waiting_at j n) w h))
-    | inr a ↦ let h = rw a at e in later s j (Some n) xs w (at_some s (suc j) xs w h)
-  ]
+  | inl a ↦ now s j n xs w (same_stamp n.stamp s a) (let h = rw a at e in sym (some_is (waiting_at j n) w h))
+  | inr a ↦ let h = rw a at e in later s j (Some n) xs w (at_some s (suc j) xs w h)
+]
 
 none_behind : (s j : ℕ) (m : Node) (xs : List (Option Node)) → m.stamp ≢ s → Missing s xs → Missing s (Some m ∷ xs)
 none_behind s j m xs a r zero n h e = a (ap (λ (k : Node). k.stamp) (some_is m n h) ∙ e)
@@ -55,22 +55,22 @@ at_none s j [] e i n h = absurd (none-some n h)
 at_none s j (None ∷ xs) e zero n h = absurd (none-some n h)
 at_none s j (None ∷ xs) e (suc i) n h = at_none s (suc j) xs e i n h
 at_none s j (Some m ∷ xs) e i n h = elim (cases_Bool (m.stamp == s)) [
-    | inl a ↦ let g = rw a at e in absurd (none-some (waiting_at j m) (sym g))
-    | inr a ↦ let g = rw a at e in none_behind s j m xs (other_stamp m.stamp s a) (at_none s (suc j) xs g) i n h
-  ]
+  | inl a ↦ let g = rw a at e in absurd (none-some (waiting_at j m) (sym g))
+  | inr a ↦ let g = rw a at e in none_behind s j m xs (other_stamp m.stamp s a) (at_none s (suc j) xs g) i n h
+]
 
 -- the slots seen as a map, in which no two have one stamp
 module _ (xs : List (Option Node)) (d : AreApart xs) where
   pub at_is : (i s : ℕ) (n : Node) → slice_index_or xs i None ≡ Some n → n.stamp ≡ s → at_stamp s 0 xs ≡ Some (waiting_at i n)
   at_is i s n h a = elim (cases_option (at_stamp s 0 xs)) as (λ q. at_stamp s 0 xs ≡ Some (waiting_at i n)) [
-      | inl e ↦ absurd (at_none s 0 xs e i n h a)
-      | inr e ↦
-          let r : Found s 0 xs e.0 = at_some s 0 xs e.0 e.1 in
-          let same : r.0 ≡ i = d r.0 i r.1 n r.2 h (r.3 ∙ sym a) in
-          let node : r.1 ≡ n = some_is r.1 n (sym r.2 ∙ ap (λ (k : ℕ). slice_index_or xs k None) same ∙ h) in
-          let key : 0 + r.0 ≡ i = omega (arith, same) in
-          e.1 ∙ ap (λ (w : Waiting). Some w) (r.4 ∙ ap (λ (k : ℕ). waiting_at k r.1) key ∙ ap (λ (m : Node). waiting_at i m) node)
-    ]
+    | inl e ↦ absurd (at_none s 0 xs e i n h a)
+    | inr e ↦
+        let r : Found s 0 xs e.0 = at_some s 0 xs e.0 e.1 in
+        let same : r.0 ≡ i = d r.0 i r.1 n r.2 h (r.3 ∙ sym a) in
+        let node : r.1 ≡ n = some_is r.1 n (sym r.2 ∙ ap (λ (k : ℕ). slice_index_or xs k None) same ∙ h) in
+        let key : 0 + r.0 ≡ i = omega (arith, same) in
+        e.1 ∙ ap (λ (w : Waiting). Some w) (r.4 ∙ ap (λ (k : ℕ). waiting_at k r.1) key ∙ ap (λ (m : Node). waiting_at i m) node)
+  ]
 
 -- what has this stamp in xs has it in ys
 abbrev Kept : ℕ → List (Option Node) → List (Option Node) → Type 0
@@ -80,9 +80,9 @@ at_same : (s : ℕ) (xs ys : List (Option Node)) → AreApart ys → Kept s xs y
 at_same s xs ys d there back =
     elim (cases_option (at_stamp s 0 xs)) as (λ q. at_stamp s 0 ys ≡ at_stamp s 0 xs) [
       | inl e ↦ elim (cases_option (at_stamp s 0 ys)) as (λ q. at_stamp s 0 ys ≡ at_stamp s 0 xs) [
-          | inl g ↦ g ∙ sym e
-          | inr g ↦ let r : Found s 0 ys g.0 = at_some s 0 ys g.0 g.1 in absurd (at_none s 0 xs e r.0 r.1 (back r.0 r.1 r.2 r.3) r.3)
-        ]
+        | inl g ↦ g ∙ sym e
+        | inr g ↦ let r : Found s 0 ys g.0 = at_some s 0 ys g.0 g.1 in absurd (at_none s 0 xs e r.0 r.1 (back r.0 r.1 r.2 r.3) r.3)
+      ]
       | inr e ↦
           let r : Found s 0 xs e.0 = at_some s 0 xs e.0 e.1 in
           let key : r.0 ≡ 0 + r.0 = omega arith in
@@ -101,7 +101,7 @@ pub in_order_enter : (xs ys : List (Option Node)) (t x : ℕ) (n : Node) → Are
 in_order_enter xs ys t x n d e free its a below =
     let there : (s : ℕ) → Kept s xs ys = λ s i m h b. e i (λ (k : i ≡ x). none-some m (sym free ∙ sym (ap (λ (j : ℕ). slice_index_or xs j None) k) ∙ h)) ∙ h in
     let back : (s : ℕ) → s < t → Kept s ys xs = λ s l i m h b.
-        sym (e i (λ (k : i ≡ x). not_now s l i m h b k)) ∙ h in
+    sym (e i (λ (k : i ≡ x). not_now s l i m h b k)) ∙ h in
     rw (at_is ys d x t n its a) (ap (λ (q : List Waiting). q ++ waiting_at x n ∷ []) (in_order_same xs ys t (λ s l. at_same s xs ys d (there s) (back s l))))
   where
     not_now : (s : ℕ) → s < t → (i : ℕ) (m : Node) → slice_index_or ys i None ≡ Some m → m.stamp ≡ s → i ≡ x → ⊥
@@ -157,7 +157,7 @@ pub in_order_leave : (xs ys : List (Option Node)) (x : ℕ) (n : Node) (t : ℕ)
 in_order_leave xs ys x n zero d d' e its gone = refl
 in_order_leave xs ys x n (suc t) d d' e its gone =
     rw (filter-append (is_other x) (in_order xs t) (option_to_list (at_stamp t 0 xs)))
-      (rw (in_order_leave xs ys x n t d d' e its gone) (ap (λ (q : List Waiting). filter (is_other x) (in_order xs t) ++ q) (left_at xs ys x n t d d' e its gone)))
+    (rw (in_order_leave xs ys x n t d d' e its gone) (ap (λ (q : List Waiting). filter (is_other x) (in_order xs t) ++ q) (left_at xs ys x n t d d' e its gone)))
 
 first_stays : (a b : List Waiting) (w : Waiting) → first a ≡ Some w → first (a ++ b) ≡ Some w
 first_stays [] b w e = absurd (none-some w e)
@@ -199,15 +199,15 @@ pub both_stay : (p r : Waiting → Bool) (xs : List (Option Node)) (t : ℕ) →
 both_stay p r xs zero h = refl
 both_stay p r xs (suc t) h =
     ap (filter p) (filter-append r (in_order xs t) (option_to_list (at_stamp t 0 xs))) ∙ filter-append p (filter r (in_order xs t)) (filter r (option_to_list (at_stamp t 0 xs)))
-      ∙ ap (λ (q : List Waiting). q ++ filter p (filter r (option_to_list (at_stamp t 0 xs)))) (both_stay p r xs t h) ∙ ap (λ (q : List Waiting). filter p (in_order xs t) ++ q) (filter_both p r xs t h)
-      ∙ sym (filter-append p (in_order xs t) (option_to_list (at_stamp t 0 xs)))
+    ∙ ap (λ (q : List Waiting). q ++ filter p (filter r (option_to_list (at_stamp t 0 xs)))) (both_stay p r xs t h) ∙ ap (λ (q : List Waiting). filter p (in_order xs t) ++ q) (filter_both p r xs t h)
+    ∙ sym (filter-append p (in_order xs t) (option_to_list (at_stamp t 0 xs)))
 
 pub filter_fewer : (p r : Waiting → Bool) (ws : List Waiting) → length (filter p (filter r ws)) ≤ length (filter p ws)
 filter_fewer p r [] = omega arith
 filter_fewer p r (w ∷ ws) = let i = filter_fewer p r ws in
     elim (cases_Bool (r w)) [
-      | inl a ↦ rw a (elim (cases_Bool (p w)) [ | inl b ↦ rw b (omega (arith, i)) | inr b ↦ rw b i ])
-      | inr a ↦ rw a (elim (cases_Bool (p w)) [ | inl b ↦ rw b (omega (arith, i)) | inr b ↦ rw b i ])
+      | inl a ↦ rw a (elim (cases_Bool (p w)) [ inl b ↦ rw b (omega (arith, i)) | inr b ↦ rw b i ])
+      | inr a ↦ rw a (elim (cases_Bool (p w)) [ inl b ↦ rw b (omega (arith, i)) | inr b ↦ rw b i ])
     ]
 
 pub one_fewer : (p r : Waiting → Bool) (xs : List (Option Node)) (k t : ℕ) (n : Node) → AreApart xs → slice_index_or xs k None ≡ Some n → n.stamp < t → r (waiting_at k n) ≡ false → p (waiting_at k n) ≡ true → length (filter p (filter r (in_order xs t))) < length (filter p (in_order xs t))
@@ -215,7 +215,7 @@ one_fewer p r xs k zero n d its l a b = absurd (omega arith)
 one_fewer p r xs k (suc t) n d its l a b =
     let before = in_order xs t in let here = option_to_list (at_stamp t 0 xs) in
     let e1 : length (filter p (filter r (before ++ here))) ≡ length (filter p (filter r before)) + length (filter p (filter r here)) =
-        ap (λ (q : List Waiting). length (filter p q)) (filter-append r before here) ∙ ap length (filter-append p (filter r before) (filter r here)) ∙ length-append (filter p (filter r before)) (filter p (filter r here)) in
+    ap (λ (q : List Waiting). length (filter p q)) (filter-append r before here) ∙ ap length (filter-append p (filter r before) (filter r here)) ∙ length-append (filter p (filter r before)) (filter p (filter r here)) in
     let e2 : length (filter p (before ++ here)) ≡ length (filter p before) + length (filter p here) = ap length (filter-append p before here) ∙ length-append (filter p before) (filter p here) in
     let f1 : length (filter p (filter r before)) ≤ length (filter p before) = filter_fewer p r before in
     let f2 : length (filter p (filter r here)) ≤ length (filter p here) = filter_fewer p r here in
@@ -244,15 +244,15 @@ pub empty_test : (p : Waiting → Bool) (xs : List (Option Node)) (t : ℕ) → 
 empty_test p xs zero h = refl
 empty_test p xs (suc t) h =
     rw (filter-append p (in_order xs t) (option_to_list (at_stamp t 0 xs)))
-      (rw (empty_test p xs t (λ i m a b. h i m a (omega arith))) (quiet_test p xs t (λ i m a b. h i m a (omega arith))))
+    (rw (empty_test p xs t (λ i m a b. h i m a (omega arith))) (quiet_test p xs t (λ i m a b. h i m a (omega arith))))
 
 pub first_test : (p : Waiting → Bool) (xs : List (Option Node)) (t k : ℕ) (n : Node) → AreApart xs → slice_index_or xs k None ≡ Some n → n.stamp < t → p (waiting_at k n) ≡ true → ((i : ℕ) (m : Node) → slice_index_or xs i None ≡ Some m → m.stamp < n.stamp → p (waiting_at i m) ≡ false) → first (filter p (in_order xs t)) ≡ Some (waiting_at k n)
 first_test p xs zero k n d its below test before = absurd (omega arith)
 first_test p xs (suc t) k n d its below test before =
     rw (filter-append p (in_order xs t) (option_to_list (at_stamp t 0 xs)))
-      (elim (cases_lt n.stamp t) [
-        | inl a ↦ first_stays _ _ _ (first_test p xs t k n d its a test before)
-        | inr a ↦
-            let quiet_before : filter p (in_order xs t) ≡ [] = empty_test p xs t (λ i m h l. before i m h (omega arith)) in
-            rw quiet_before (rw (at_is xs d k t n its (omega arith)) (ap first (filter_one_true p (waiting_at k n) test)))
-      ])
+    (elim (cases_lt n.stamp t) [
+      | inl a ↦ first_stays _ _ _ (first_test p xs t k n d its a test before)
+      | inr a ↦
+          let quiet_before : filter p (in_order xs t) ≡ [] = empty_test p xs t (λ i m h l. before i m h (omega arith)) in
+          rw quiet_before (rw (at_is xs d k t n its (omega arith)) (ap first (filter_one_true p (waiting_at k n) test)))
+    ])

@@ -264,13 +264,7 @@ fn head_without(head: Option<usize>, key: usize, after: usize) -> Option<usize>
     ensures { result ≡ head_without head key after }
 {
     match head {
-        Some(first) if first == key => {
-            if after == key {
-                None
-            } else {
-                Some(after)
-            }
-        }
+        Some(first) if first == key => { if after == key { None } else { Some(after) } }
         other => other,
     }
 }

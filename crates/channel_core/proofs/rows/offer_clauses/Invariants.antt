@@ -8,5 +8,5 @@ use Rattle.channel_core.proofs.rows.offer_clauses.Given as goal
 abbrev pub invariant-loop-i : goal.invariant-loop-i
 invariant-loop-i l = record {
   entered : placed l.queues ++ map (placed_offer l.key) (clause_offers (suc l.i) (drop l.i l.cases)) ≡ placed l.fn.queues ++ map (placed_offer l.key) (clause_offers 1 l.cases);
-  others : filter (is_not_of l.key) (placed l.queues) ≡ filter (is_not_of l.key) (placed l.fn.queues)
+  others : filter (is_not_of l.key) (placed l.queues) ≡ filter (is_not_of l.key) (placed l.fn.queues);
 }

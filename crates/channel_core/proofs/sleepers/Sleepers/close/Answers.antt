@@ -11,7 +11,7 @@ loop-first-init c =
     record {
       woken = ap (λ (l : List (ℕ × Reply)). l ++ closed_for c.args.zero.now (partners c.args.chan c.args.self.now)) items;
       left = ap (λ (l : List (ℕ × Reply)). without_all c.args.self.now l) (sym items);
-      room = omega (arith, length-partners c.args.chan c.args.self.now, c.in_ok-reserve.ensures.ok, c.len.ensures)
+      room = omega (arith, length-partners c.args.chan c.args.self.now, c.in_ok-reserve.ensures.ok, c.len.ensures);
     }
 
 pub loop-first-preserved : goal.loop-first-preserved
@@ -30,5 +30,5 @@ loop-first-preserved c =
           ∙ told_one c.args.chan z before w c.in-Some.ensures.some told (closed_for z (partners c.args.chan c.args.self.now)) c.loop-first.invariant.woken;
       left = left ∙ ap (λ (ss : List Sleeper). without ss w.0) c.loop-first.invariant.left ∙ sym (without_all-more c.args.self.now told w)
           ∙ ap (λ (l : List (ℕ × Reply)). without_all c.args.self.now l) (sym items);
-      room = omega (arith, fewer, size, c.loop-first.invariant.room, c.push_reserved.ensures.len, c.push_reserved.ensures.capacity)
+      room = omega (arith, fewer, size, c.loop-first.invariant.room, c.push_reserved.ensures.len, c.push_reserved.ensures.capacity);
     }

@@ -8,7 +8,7 @@ abbrev pub invariant-loop-first : goal.invariant-loop-first
 invariant-loop-first l = record {
   woken : l.woken.items ++ closed_for l.zero (partners l.chan l.self) ≡ closed_for l.zero (partners l.chan l.fn.self);
   left : l.self ≡ without_all l.fn.self l.woken.items;
-  room : vec_len l.woken + length (partners l.chan l.self) ≤ vec_capacity l.woken
+  room : vec_len l.woken + length (partners l.chan l.self) ≤ vec_capacity l.woken;
 }
 
 abbrev pub decreases-loop-first : goal.decreases-loop-first

@@ -11,7 +11,7 @@ use Rattle.channel_core.proofs.sleepers.Sleepers.partner.Goals as goal
 pub returns-in_default : goal.returns-in_default
 returns-in_default c =
     sym (ap (λ (ss : List Sleeper). option_map partner_of (partner c.args.chan c.args.sends ss)) (sym c.self.view_is)
-      ∙ partner_found (get c.self.inside.slots) (owned c.self.inside.places) c.self.inside.queues (slab_len c.self.inside.slots) c.self.invariant c.args.chan c.args.sends c.row_on.result c.row_on.ensures None c.in_default.ensures)
+    ∙ partner_found (get c.self.inside.slots) (owned c.self.inside.places) c.self.inside.queues (slab_len c.self.inside.slots) c.self.invariant c.args.chan c.args.sends c.row_on.result c.row_on.ensures None c.in_default.ensures)
 
 pub unreachable-requires : goal.unreachable-requires
 unreachable-requires c =
@@ -20,5 +20,5 @@ unreachable-requires c =
 pub returns : goal.returns
 returns c =
     partner_same (get c.self.inside.slots) c.in-Some.offer.now c.in-Some-get.sleeper.now c.number.result c.copy_of.result (sym c.in-Some-get.ensures) c.number.ensures c.copy_of.ensures
-      ∙ sym (partner_found (get c.self.inside.slots) (owned c.self.inside.places) c.self.inside.queues (slab_len c.self.inside.slots) c.self.invariant c.args.chan c.args.sends c.row_on.result c.row_on.ensures (Some c.in-Some.offer.now) c.in-Some.ensures)
-      ∙ ap (λ (ss : List Sleeper). option_map partner_of (partner c.args.chan c.args.sends ss)) c.self.view_is
+    ∙ sym (partner_found (get c.self.inside.slots) (owned c.self.inside.places) c.self.inside.queues (slab_len c.self.inside.slots) c.self.invariant c.args.chan c.args.sends c.row_on.result c.row_on.ensures (Some c.in-Some.offer.now) c.in-Some.ensures)
+    ∙ ap (λ (ss : List Sleeper). option_map partner_of (partner c.args.chan c.args.sends ss)) c.self.view_is

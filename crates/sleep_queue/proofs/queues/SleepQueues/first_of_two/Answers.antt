@@ -13,10 +13,10 @@ returns-in-Some c =
     let heads = c.self.inside.heads.items in
     let at : (r : ℕ) → node_at xs (head_at c.as_slice-heads.result.now r) ≡ node_at xs (head_at heads r) = λ r. ap (λ (l : List (Option ℕ)). node_at xs (head_at l r)) c.as_slice-heads.ensures.value in
     let e : Some c.in-Some.node.now ≡ sooner (node_at xs (head_at heads c.args.row)) (node_at xs (head_at heads c.args.other)) =
-        c.in-Some.ensures ∙ ap (λ (o : Option Node). sooner o (option_copied c.front-2.result)) (c.front.ensures ∙ at c.args.row)
-          ∙ ap (λ (o : Option Node). sooner (node_at xs (head_at heads c.args.row)) o) (c.front-2.ensures ∙ at c.args.other) in
+    c.in-Some.ensures ∙ ap (λ (o : Option Node). sooner o (option_copied c.front-2.result)) (c.front.ensures ∙ at c.args.row)
+    ∙ ap (λ (o : Option Node). sooner (node_at xs (head_at heads c.args.row)) o) (c.front-2.ensures ∙ at c.args.other) in
     ap (option_map (λ (n : Node). n.offer)) e ∙ sym (first_of_heads xs c.self.inside.time c.args.row c.args.other q.apart q.before c.self.inside.rows.next (head_at heads) q.row)
-      ∙ ap (λ (v : QueuesValue). option_map (λ (w : Waiting). w.offer) (first (filter (is_in_either c.args.row c.args.other) v.waiting))) c.self.view_is
+    ∙ ap (λ (v : QueuesValue). option_map (λ (w : Waiting). w.offer) (first (filter (is_in_either c.args.row c.args.other) v.waiting))) c.self.view_is
 
 pub returns-in-None : goal.returns-in-None
 returns-in-None c =
@@ -25,7 +25,7 @@ returns-in-None c =
     let heads = c.self.inside.heads.items in
     let at : (r : ℕ) → node_at xs (head_at c.as_slice-heads.result.now r) ≡ node_at xs (head_at heads r) = λ r. ap (λ (l : List (Option ℕ)). node_at xs (head_at l r)) c.as_slice-heads.ensures.value in
     let e : None ≡ sooner (node_at xs (head_at heads c.args.row)) (node_at xs (head_at heads c.args.other)) =
-        c.in-None.ensures ∙ ap (λ (o : Option Node). sooner o (option_copied c.front-2.result)) (c.front.ensures ∙ at c.args.row)
-          ∙ ap (λ (o : Option Node). sooner (node_at xs (head_at heads c.args.row)) o) (c.front-2.ensures ∙ at c.args.other) in
+    c.in-None.ensures ∙ ap (λ (o : Option Node). sooner o (option_copied c.front-2.result)) (c.front.ensures ∙ at c.args.row)
+    ∙ ap (λ (o : Option Node). sooner (node_at xs (head_at heads c.args.row)) o) (c.front-2.ensures ∙ at c.args.other) in
     ap (option_map (λ (n : Node). n.offer)) e ∙ sym (first_of_heads xs c.self.inside.time c.args.row c.args.other q.apart q.before c.self.inside.rows.next (head_at heads) q.row)
-      ∙ ap (λ (v : QueuesValue). option_map (λ (w : Waiting). w.offer) (first (filter (is_in_either c.args.row c.args.other) v.waiting))) c.self.view_is
+    ∙ ap (λ (v : QueuesValue). option_map (λ (w : Waiting). w.offer) (first (filter (is_in_either c.args.row c.args.other) v.waiting))) c.self.view_is
