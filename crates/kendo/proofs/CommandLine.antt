@@ -1,6 +1,6 @@
 -- What the getters of a command's values read.
 use Rattle.std.proofs.Common.{◌≡◌, ℕ, ◌<◌, ◌^◌, List, Option, Some, None, Result, Ok, Err, refl, sym, ap, ap₂, subst, ◌∙◌}
-use Rattle.std.specs.Prelude.{option_map, codes}
+use Rattle.std.specs.Prelude.{◌↔◌, IsTrue, option_map, codes}
 use Rattle.std.specs.Str.Parse.{ParsesUnsigned}
 use Rattle.std.proofs.lemmas.Option.{none-some}
 use Rattle.clap.specs.Words.{ReadsOne, Row, Text, first_of}
@@ -36,8 +36,9 @@ both_parts {A = A} {B = B} f g (Some x) a b first second =
 -- a command that does this with these files asks for all of it
 pub asked : (found : Option (Text × List Row)) (name : Text) (rows : List Row) (invocation : Invocation) → found ≡ Some (name, rows)
     → Does name rows invocation.subcommand → Some invocation.file.now ≡ first_of (codes "FILE") rows
-    → option_map (λ path. path.now) invocation.trace ≡ first_of (codes "trace") rows → IsAsked found (Some invocation)
-asked found name rows invocation is does file trace = subst (λ x. IsAsked x (Some invocation)) (sym is) (does, sym file, sym trace)
+    → option_map (λ path. path.now) invocation.trace ≡ first_of (codes "trace") rows
+    → (IsTrue invocation.explains ↔ (first_of (codes "explain") rows ≡ Some (codes "true"))) → IsAsked found (Some invocation)
+asked found name rows invocation is does file trace explains = subst (λ x. IsAsked x (Some invocation)) (sym is) (does, sym file, sym trace, explains)
 
 -- without a file it asks for nothing
 pub not_asked : (found : Option (Text × List Row)) (name : Text) (rows : List Row) → found ≡ Some (name, rows)
