@@ -9,15 +9,6 @@ use Rattle.channel_core.specs.Channels.{ChannelsValue, Others, shared_with, Does
 use Rattle.channel_core.specs.declared.outcome.Outcome.{Outcome}
 use Rattle.channel_core.specs.declared.outcome.Outcome.TheVariants as outcomes
 
--- the sleepers of other numbers stay
-without_step : (s : Sleeper) (ss : List Sleeper) (n : ℕ) (b : Bool) → (s.number == n) ≡ b → filter (λ (t : Sleeper). not (t.number == n)) ss ≡ without ss n → filter (λ (t : Sleeper). not (t.number == n)) (s ∷ ss) ≡ without (s ∷ ss) n
-without_step s ss n true e rest = rw e rest
-without_step s ss n false e rest = rw e (ap (λ (ts : List Sleeper). s ∷ ts) rest)
-
-pub others_stay : (ss : List Sleeper) (n : ℕ) → filter (λ (t : Sleeper). not (t.number == n)) ss ≡ without ss n
-others_stay [] n = refl
-others_stay (s ∷ ss) n = without_step s ss n (s.number == n) refl (others_stay ss n)
-
 pub send_done : (old new : ChannelsValue) (n k : ℕ) (item : Item) (outcome : Outcome) → ((o : Others) (m c : ℕ) (q : Request) → true ≡ send_ready (shared_with o old) m c q k) → Sends old n k item 0 outcome new → Does old n (Send (Some k) item) outcome new
 send_done old new n k item outcome ready sends o c = rw (← ready o n c (Send (Some k) item)) (sends o c (Send (Some k) item))
 

@@ -1,2 +1,7 @@
-pub mod Offers
 pub mod Deeds
+pub mod Keys
+pub mod Kept
+pub mod Meeting
+pub mod Clauses
+pub mod Served
+pub mod Slots

@@ -36,14 +36,6 @@ shared_with o v = record {
   ending = o.ending;
 }
 
-abbrev pub is_offer_of : ℕ → Bool → Option ℕ → Option Item → Bool
-is_offer_of c sends None item = false
-is_offer_of c sends (Some k) item = (k == c) && cond sends (is_some item) (not (is_some item))
-
--- whether a clause is on channel c, and is to send (true) or to receive
-abbrev pub is_offer : ℕ → Bool → Case → Bool
-is_offer c sends x = is_offer_of c sends x.chan x.item
-
 -- what is told of a sleeper and its offer: its number, the clause, and what it sends
 abbrev pub partner_of : Sleeper × Offer → Partner
 partner_of p = record { number = p.0.number; case = p.1.case; item = p.1.item }

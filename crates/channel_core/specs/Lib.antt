@@ -1,1 +1,2 @@
+pub mod Asleep
 pub mod Channels

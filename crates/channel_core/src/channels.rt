@@ -1,16 +1,15 @@
 //! The channels of a world, and those who sleep at them.
 
 ghost use Rattle.std.specs.Prelude.{◌≡◌, ℕ, ◌+◌, ◌<◌, ◌≤◌, ◌∷◌, [], ◌++◌, IfOk, IfNone, IfSome, OnErr, OnOk, Some, None, nat_lt, option_map, pos, suc, true, length, slice_index_or, slice_set, unwrap_or};
-ghost use Rattle.word.specs.Requests.{channel_of, choose, got, is_ready, no_channel, partner, receive_ready, send_ready, sent, without};
+ghost use Rattle.word.specs.Requests.{channel_of, choose, is_ready, no_channel, partner, receive_ready, send_ready, without};
 ghost use Rattle.word.specs.Values.{Close, Make, Receive, Request as AnyRequest, Select, Send};
 ghost use Rattle.word.specs.Views.{reply_of, request_of};
 ghost use Rattle.channel_core.specs.Channels.{Does, IsAlone, IsOfChannels, IsTold, IsServed, Others, Receives, Sends, Serves, after_passing, capacity_of, clause_at, length_of, partner_of, shared_with};
 
 use crate::channel::Channel;
-use crate::outcome::{Outcome, Woken};
-use crate::sleepers::{
-    Partner, Sleeper, copy_of, enter, find_partner, leave, leave_all, woken_by_close,
-};
+use crate::outcome::{Outcome, Woken, got, sent};
+use crate::rows::copy_of;
+use crate::sleepers::{Partner, Sleepers};
 use go_text::Memory;
 use std::alloc::Global;
 use std::marker::Model;
@@ -25,7 +24,7 @@ pub struct Channels {
     alloc: Global,
     /// Channel c is at place c; place 0 is no channel's.
     channels: Vec<Channel>,
-    asleep: Vec<Sleeper>,
+    asleep: Sleepers,
 }
 
 impl Model for Channels {
@@ -35,7 +34,7 @@ impl Model for Channels {
 
     ghost Value = { ChannelsValue };
 
-    ghost view = { λ c. record { channels = c.channels.items; asleep = c.asleep.items } };
+    ghost view = { λ c. record { channels = c.channels.items; asleep = c.asleep } };
 
     ghost invariant = { λ c. length c.channels.items ≤ MAX_CHANNELS + 1 };
 }
@@ -50,7 +49,7 @@ impl Channels {
         Ok(Channels {
             alloc,
             channels,
-            asleep: Vec::new(alloc),
+            asleep: Sleepers::new(alloc),
         })
     }
 
@@ -144,8 +143,7 @@ impl Channels {
             return Ok(Outcome::Panics(Panic::CloseOfClosed, 0));
         }
         let zero = self.zero(chan);
-        let woken = woken_by_close(self.alloc, self.asleep.as_slice(), chan, &zero)?;
-        leave_all(&mut self.asleep, woken.as_slice());
+        let woken = self.asleep.close(chan, &zero)?;
         close_channel(self.channels.as_mut_slice(), chan);
         Ok(Outcome::Done(Reply::Nothing, woken))
     }
@@ -263,14 +261,14 @@ impl Channels {
     fn can_send(&self, chan: u32) -> bool
         ensures { (o : Others) (n c : ℕ) (q : AnyRequest) → result ≡ send_ready (shared_with o self.now) n c q chan }
     {
-        self.is_closed(chan) || self.has_room(chan) || self.partner(chan, false).is_some()
+        self.is_closed(chan) || self.has_room(chan) || self.asleep.has_partner(chan, false)
     }
 
     /// Whether a receive on a channel is ready.
     fn can_receive(&self, chan: u32) -> bool
         ensures { (o : Others) (n c : ℕ) (q : AnyRequest) → result ≡ receive_ready (shared_with o self.now) n c q chan }
     {
-        self.is_closed(chan) || self.has_items(chan) || self.partner(chan, true).is_some()
+        self.is_closed(chan) || self.has_items(chan) || self.asleep.has_partner(chan, true)
     }
 
     /// A send that is ready.
@@ -290,7 +288,7 @@ impl Channels {
         match self.partner(chan, false) {
             Some(partner) => {
                 let woken = woken(self.alloc, partner.number, got(partner.case, item, true))?;
-                leave(&mut self.asleep, partner.number);
+                self.asleep.leave(partner.number);
                 Ok(Outcome::Done(sent(clause), woken))
             }
             None => {
@@ -304,7 +302,7 @@ impl Channels {
     fn partner(&self, chan: u32, sends: bool) -> Option<Partner>
         ensures { result ≡ option_map partner_of (partner chan sends self.now.asleep) }
     {
-        find_partner(self.asleep.as_slice(), chan, sends)
+        self.asleep.partner(chan, sends)
     }
 
     /// A receive that is ready.
@@ -332,7 +330,7 @@ impl Channels {
         let woken = woken(self.alloc, number, sent(case))?;
         let offered = item_or_empty(self.alloc, item);
         let received = pass_through(self.channels.as_mut_slice(), chan, offered)?;
-        leave(&mut self.asleep, number);
+        self.asleep.leave(number);
         Ok(Outcome::Done(got(clause, received, true), woken))
     }
 
@@ -356,7 +354,7 @@ impl Channels {
         ensures asleep { OnOk result (self.new ≡ record self.old { asleep = without self.old.asleep number ++ record { number = number; request = request_of request } ∷ [] }) }
         ensures memory { OnErr result (self.new ≡ self.old) }
     {
-        enter(&mut self.asleep, Sleeper::new(number, request))?;
+        self.asleep.enter(number, request)?;
         Ok(Outcome::Sleeps)
     }
 
@@ -477,24 +475,4 @@ fn woken(alloc: Global, number: u64, reply: Reply) -> Result<Vec<Woken>, Memory>
     let mut woken = Vec::new(alloc);
     woken.push(Woken::new(number, reply))?;
     Ok(woken)
-}
-
-/// What a sender is told, in a clause of a select, or outside of one where that is 0.
-fn sent(clause: usize) -> Reply
-    ensures { reply_of result ≡ sent clause }
-{
-    if clause == 0 {
-        return Reply::Nothing;
-    }
-    Reply::Clause(clause, None)
-}
-
-/// What a receiver is told, in a clause of a select, or outside of one where that is 0.
-fn got(clause: usize, item: Item, ok: bool) -> Reply
-    ensures { reply_of result ≡ got clause item ok }
-{
-    if clause == 0 {
-        return Reply::Received(item, ok);
-    }
-    Reply::Clause(clause, Some((item, ok)))
 }

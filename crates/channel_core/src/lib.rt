@@ -4,6 +4,8 @@
 mod channel;
 mod channels;
 mod outcome;
+mod places;
+mod rows;
 mod sleepers;
 
 pub use channels::Channels;

@@ -1,8 +1,13 @@
 //! What became of a request to a channel.
 
+ghost use Rattle.std.specs.Prelude.{◌≡◌};
+ghost use Rattle.word.specs.Requests.{got, sent};
+ghost use Rattle.word.specs.Views.{reply_of};
+
 use std::marker::Model;
 use word::panic::Panic;
 use word::request::Reply;
+use word::value::Item;
 
 /// One that was asleep, and what it is told.
 #[derive(Drop)]
@@ -57,4 +62,24 @@ pub enum Outcome {
     Sleeps,
     /// It panics, in the clause of this number; 0 outside a select.
     Panics(Panic, usize),
+}
+
+/// What a sender is told, in a clause of a select, or outside of one where that is 0.
+pub(crate) fn sent(clause: usize) -> Reply
+    ensures { reply_of result ≡ sent clause }
+{
+    if clause == 0 {
+        return Reply::Nothing;
+    }
+    Reply::Clause(clause, None)
+}
+
+/// What a receiver is told, in a clause of a select, or outside of one where that is 0.
+pub(crate) fn got(clause: usize, item: Item, ok: bool) -> Reply
+    ensures { reply_of result ≡ got clause item ok }
+{
+    if clause == 0 {
+        return Reply::Received(item, ok);
+    }
+    Reply::Clause(clause, Some((item, ok)))
 }

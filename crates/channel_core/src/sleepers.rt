@@ -1,19 +1,29 @@
 //! Goroutines that sleep at channels.
 
-ghost use Rattle.std.specs.Prelude.{◌≡◌, ◌+◌, ◌≤◌, [], ◌∷◌, ◌++◌, IfOk, OnErr, OnOk, option_map, length, vec_capacity, vec_len};
-ghost use Rattle.word.specs.Requests.{clause_offers, close_reply, first_offer, first_on, offers, partner, partners, without, without_all};
+ghost use Rattle.std.specs.Prelude.{◌≡◌, ◌≢◌, ℕ, ◌∷◌, [], ◌++◌, false, IfNone, IfOk, IfSome, None, OnErr, OnOk, Some, cond, length, option_map};
+ghost use Rattle.std.specs.List.{filter};
+ghost use Rattle.std.specs.Option.{is_some};
+ghost use Rattle.sleep_queue.specs.Queue.{owned};
+ghost use Rattle.word.specs.Requests.{got, partner, partners, without, without_all};
+ghost use Rattle.word.specs.Values.{Closed};
 ghost use Rattle.word.specs.Views.{reply_of, request_of};
-ghost use Rattle.channel_core.specs.Channels.{closed_for, is_offer, partner_of};
+ghost use Rattle.channel_core.specs.Asleep.{is_not_of, placed, placed_all};
+ghost use Rattle.channel_core.specs.Channels.{closed_for, partner_of};
 
-use crate::outcome::Woken;
-use std::alloc::{AllocError, Global};
+use crate::outcome::{Woken, got};
+use crate::places::Places;
+use crate::rows::{copy_of, enter_all, leave_all, row_on};
+use go_text::Memory;
+use slab::Slab;
+use sleep_queue::SleepQueues;
+use std::alloc::Global;
 use std::marker::Model;
-use word::request::{Case, Reply, Request};
+use word::request::{Reply, Request};
 use word::value::Item;
 
 /// A goroutine that sleeps, and what it asked.
 #[derive(Drop)]
-pub struct Sleeper {
+pub(crate) struct Sleeper {
     number: u64,
     request: Request,
 }
@@ -27,6 +37,24 @@ impl Model for Sleeper {
     ghost view = { λ s. record { number = s.number; request = request_of s.request } };
 }
 
+impl Sleeper {
+    ghost use Rattle.word.specs.Values.{Sleeper as AnySleeper};
+
+    /// Goroutine `number`, which sleeps at this request.
+    fn new(number: u64, request: Request) -> Sleeper
+        ensures { result ≡ record { number = number; request = request_of request } }
+    {
+        Sleeper { number, request }
+    }
+
+    /// The goroutine's number.
+    fn number(&self) -> u64
+        ensures { result ≡ self.now.number }
+    {
+        self.number
+    }
+}
+
 /// Whom a request meets: a sleeper's number, the clause that is served (0 outside a select), and what it sends.
 #[derive(Drop)]
 pub struct Partner {
@@ -35,165 +63,175 @@ pub struct Partner {
     pub item: Option<Item>,
 }
 
-impl Sleeper {
-    ghost use Rattle.word.specs.Values.{Sleeper as AnySleeper, Offer};
-
-    /// Goroutine `number`, which sleeps at this request.
-    pub(crate) fn new(number: u64, request: Request) -> Sleeper
-        ensures { result ≡ record { number = number; request = request_of request } }
-    {
-        Sleeper { number, request }
-    }
-
-    /// The goroutine's number.
-    pub(crate) fn number(&self) -> u64
-        ensures { result ≡ self.now.number }
-    {
-        self.number
-    }
-
-    /// What a close of a channel tells it, by its first offer there: a receiver the zero item, a sender that its item is
-    /// not accepted. None where it has no offer there.
-    fn at_close(&self, chan: u32, zero: &Item) -> Option<Reply>
-        ensures { option_map reply_of result ≡ option_map (close_reply zero.now) (first_on chan (offers self.now.request)) }
-    {
-        match &self.request {
-            Request::Send(Some(to), _) if *to == chan => Some(Reply::Closed),
-            Request::Receive(Some(from)) if *from == chan => {
-                Some(Reply::Received(zero.copy(), false))
-            }
-            Request::Select(cases, _) => clause_at_close(cases.as_slice(), chan, zero),
-            _ => None,
-        }
-    }
-
-    /// Its first offer on a channel, to send or to receive.
-    fn meets(&self, chan: u32, sends: bool) -> Option<Partner>
-        ensures { result ≡ option_map (λ (o : Offer). partner_of (self.now, o)) (first_offer chan sends (offers self.now.request)) }
-    {
-        let number = self.number;
-        match &self.request {
-            Request::Send(Some(to), item) if sends && *to == chan => Some(Partner {
-                number,
-                case: 0,
-                item: Some(item.copy()),
-            }),
-            Request::Receive(Some(from)) if !sends && *from == chan => Some(Partner {
-                number,
-                case: 0,
-                item: None,
-            }),
-            Request::Select(cases, _) => first_clause(number, cases.as_slice(), chan, sends),
-            _ => None,
-        }
-    }
-}
-
-/// The first of a sleeper's clauses that is on a channel, and is to send or to receive.
-fn first_clause(number: u64, cases: &[Case], chan: u32, sends: bool) -> Option<Partner>
-    ensures { result ≡ option_map (λ o. record { number = number; case = o.case; item = o.item }) (first_offer chan sends (clause_offers 1 cases.now)) }
-{
-    for i in 0..cases.len() {
-        let case = &cases[i];
-        if is_offer(case, chan, sends) {
-            return Some(Partner {
-                number,
-                case: i + 1,
-                item: copy_of(&case.item),
-            });
-        }
-    }
-    None
-}
-
-/// What a close of a channel tells one that sleeps at a select, by its first clause there.
-fn clause_at_close(cases: &[Case], chan: u32, zero: &Item) -> Option<Reply>
-    ensures { option_map reply_of result ≡ option_map (close_reply zero.now) (first_on chan (clause_offers 1 cases.now)) }
-{
-    for i in 0..cases.len() {
-        let case = &cases[i];
-        if case.chan == Some(chan) {
-            if case.item.is_some() {
-                return Some(Reply::Closed);
-            }
-            return Some(Reply::Clause(i + 1, Some((zero.copy(), false))));
-        }
-    }
-    None
-}
-
-/// Whether a clause is on a channel, and is to send or to receive.
-fn is_offer(case: &Case, chan: u32, sends: bool) -> bool
-    ensures { result ≡ is_offer chan sends case.now }
-{
-    case.chan == Some(chan) && case.item.is_some() == sends
-}
-
-/// A second item that is the same.
-pub(crate) fn copy_of(item: &Option<Item>) -> Option<Item>
-    ensures { result ≡ item.now }
-{
-    match item {
-        Some(item) => Some(item.copy()),
-        None => None,
-    }
-}
-
-/// The first sleeper with an offer on a channel, to send or to receive, and its first such offer.
-pub(crate) fn find_partner(asleep: &[Sleeper], chan: u32, sends: bool) -> Option<Partner>
-    ensures { result ≡ option_map partner_of (partner chan sends asleep.now) }
-{
-    for sleeper in asleep {
-        if let Some(found) = sleeper.meets(chan, sends) {
-            return Some(found);
-        }
-    }
-    None
-}
-
-/// Takes out those of this number.
-pub(crate) fn leave(asleep: &mut Vec<Sleeper>, number: u64)
-    ensures others { asleep.new.items ≡ without asleep.old.items number }
-    ensures bound { vec_len asleep.new ≤ vec_len asleep.old }
-    ensures room { vec_capacity asleep.new ≡ vec_capacity asleep.old }
-{
-    asleep.retain(|sleeper| sleeper.number() != number);
-}
-
-/// Those who are woken by a close of a channel, and what they are told.
-pub(crate) fn woken_by_close(
+/// Those who are asleep, in the order in which they fell asleep. Whom a request meets is found without a search.
+#[derive(Drop)]
+pub(crate) struct Sleepers {
     alloc: Global,
-    asleep: &[Sleeper],
-    chan: u32,
-    zero: &Item,
-) -> Result<Vec<Woken>, AllocError>
-    ensures { IfOk result (λ woken. woken.items ≡ closed_for zero.now (partners chan asleep.now)) }
-{
-    let mut woken = Vec::new(alloc);
-    for sleeper in asleep {
-        if let Some(reply) = sleeper.at_close(chan, zero) {
-            woken.push(Woken::new(sleeper.number(), reply))?;
+    /// The sleepers, by their keys.
+    slots: Slab<Sleeper>,
+    /// Their keys, by their numbers.
+    places: Places,
+    /// In row 0 all sleepers, and in each other row the offers on one channel to send, or to receive. The number of an offer
+    /// is its sleeper's key.
+    queues: SleepQueues,
+}
+
+impl Model for Sleepers {
+    ghost use Rattle.std.specs.Prelude.{List};
+    ghost use Rattle.slab.specs.Slab.{get, slab_len};
+    ghost use Rattle.sleep_queue.specs.Queue.{owned};
+    ghost use Rattle.word.specs.Values.{Sleeper as AnySleeper};
+    ghost use Rattle.channel_core.specs.Asleep.{IsAsleep, asleep_of, keys_in, placed};
+
+    ghost Value = { List AnySleeper };
+
+    ghost view = { λ s. asleep_of (get s.slots) (keys_in (placed s.queues)) };
+
+    ghost invariant = { λ s. IsAsleep (get s.slots) (owned s.places) (placed s.queues) (slab_len s.slots) };
+}
+
+impl Sleepers {
+    ghost use Rattle.std.specs.Prelude.{ℕ};
+    ghost use Rattle.word.specs.Values.{Sleeper as AnySleeper};
+
+    /// Nobody.
+    pub(crate) fn new(alloc: Global) -> Sleepers
+        ensures { result ≡ [] }
+    {
+        Sleepers {
+            alloc,
+            slots: Slab::new(alloc),
+            places: Places::new(alloc),
+            queues: SleepQueues::new(alloc),
         }
     }
-    Ok(woken)
-}
 
-/// Takes out all those who are woken.
-pub(crate) fn leave_all(asleep: &mut Vec<Sleeper>, woken: &[Woken])
-    ensures { asleep.new.items ≡ without_all asleep.old.items woken.now }
-{
-    for one in woken {
-        leave(asleep, one.number());
+    /// How many are asleep.
+    pub(crate) fn len(&self) -> usize
+        ensures { result ≡ length self.now }
+    {
+        self.slots.len()
+    }
+
+    /// The first sleeper with an offer on a channel, to send or to receive, and its first such offer.
+    pub(crate) fn partner(&self, chan: u32, sends: bool) -> Option<Partner>
+        ensures { result ≡ option_map partner_of (partner chan sends self.now) }
+    {
+        let Some(offer) = self.queues.first(row_on(chan, sends)) else {
+            return None;
+        };
+        let Some(sleeper) = self.slots.get(offer.number as usize) else {
+            unreachable!()
+        };
+        Some(Partner {
+            number: sleeper.number(),
+            case: offer.case,
+            item: copy_of(&offer.item),
+        })
+    }
+
+    /// Whether a sleeper has an offer on a channel, to send or to receive.
+    pub(crate) fn has_partner(&self, chan: u32, sends: bool) -> bool
+        ensures { result ≡ is_some (partner chan sends self.now) }
+    {
+        self.queues.first(row_on(chan, sends)).is_some()
+    }
+
+    /// Puts goroutine `number` at the back, in place of any of its number.
+    pub(crate) fn enter(&mut self, number: u64, request: Request) -> Result<(), Memory>
+        ensures ok { OnOk result (self.new ≡ without self.old number ++ record { number = number; request = request_of request } ∷ []) }
+        ensures memory { OnErr result (self.new ≡ self.old) }
+    {
+        self.slots.reserve(1)?;
+        let key = self.slots.vacant_key();
+        let before = place(&mut self.queues, &mut self.places, number, key, &request)?;
+        self.slots.insert_reserved(Sleeper::new(number, request));
+        if let Some(old) = before {
+            self.slots.remove(old);
+            leave_all(&mut self.queues, old as u64);
+        }
+        Ok(())
+    }
+
+    /// Takes out the one of this number.
+    pub(crate) fn leave(&mut self, number: u64)
+        ensures { self.new ≡ without self.old number }
+    {
+        if let Some(key) = self.places.remove(number) {
+            self.slots.remove(key);
+            leave_all(&mut self.queues, key as u64);
+        }
+    }
+
+    /// Takes out all who have an offer on a channel, and tells what a close tells them.
+    pub(crate) fn close(&mut self, chan: u32, zero: &Item) -> Result<Vec<Woken>, Memory>
+        ensures woken { IfOk result (λ woken. woken.items ≡ closed_for zero.now (partners chan self.old)) }
+        ensures left { IfOk result (λ woken. self.new ≡ without_all self.old woken.items) }
+        ensures memory { OnErr result (self.new ≡ self.old) }
+    {
+        let mut woken = Vec::new(self.alloc);
+        if self.first_at_close(chan, zero).is_none() {
+            return Ok(woken);
+        }
+        woken.reserve(self.len())?;
+        while let Some(first) = self.first_at_close(chan, zero) {
+            self.leave(first.number());
+            woken.push_reserved(first);
+        }
+        Ok(woken)
+    }
+
+    /// The first who has an offer on a channel, and what a close of it tells by its first one: a receiver the zero item, a
+    /// sender that its item is not accepted.
+    fn first_at_close(&self, chan: u32, zero: &Item) -> Option<Woken>
+        ensures none { IfNone result (partners chan self.now ≡ []) }
+        ensures some { IfSome result (λ w. closed_for zero.now (partners chan self.now) ≡ w ∷ closed_for zero.now (partners chan (without self.now w.0))) }
+    {
+        let (receives, sends) = (row_on(chan, false), row_on(chan, true));
+        let Some(offer) = self.queues.first_of_two(receives, sends) else {
+            return None;
+        };
+        let Some(sleeper) = self.slots.get(offer.number as usize) else {
+            unreachable!()
+        };
+        let reply = reply_at_close(offer.case, offer.item.is_some(), zero);
+        Some(Woken::new(sleeper.number(), reply))
     }
 }
 
-/// Puts one at the back, in place of any of its number.
-pub(crate) fn enter(asleep: &mut Vec<Sleeper>, sleeper: Sleeper) -> Result<(), AllocError>
-    ensures ok { OnOk result (asleep.new.items ≡ without asleep.old.items sleeper.number ++ sleeper ∷ []) }
-    ensures err { OnErr result (asleep.new.items ≡ asleep.old.items) }
+/// The sleeper of a key, which has this number and asks this, enters its rows: the key that its number had before. All or
+/// nothing is done.
+fn place(
+    queues: &mut SleepQueues,
+    places: &mut Places,
+    number: u64,
+    key: usize,
+    request: &Request,
+) -> Result<Option<usize>, Memory>
+    requires { filter (is_not_of key) (placed queues.old) ≡ placed queues.old }
+    ensures before { IfOk result (λ before. before ≡ owned places.old number) }
+    ensures rows { OnOk result (placed queues.new ≡ placed queues.old ++ placed_all key (request_of request.now)) }
+    ensures own { OnOk result (owned places.new number ≡ Some key) }
+    ensures others { OnOk result ((n : ℕ) → n ≢ number → owned places.new n ≡ owned places.old n) }
+    ensures same_rows { OnErr result (placed queues.new ≡ placed queues.old) }
+    ensures same_places { OnErr result (places.new ≡ places.old) }
 {
-    asleep.reserve(1)?;
-    leave(asleep, sleeper.number());
-    asleep.push_reserved(sleeper);
-    Ok(())
+    enter_all(queues, key as u64, request)?;
+    match places.insert(number, key) {
+        Ok(before) => Ok(before),
+        Err(memory) => {
+            leave_all(queues, key as u64);
+            Err(memory)
+        }
+    }
+}
+
+/// What a close tells one that offers to send, or to receive, by a clause of its select, or outside of one where that is 0.
+fn reply_at_close(case: usize, sends: bool, zero: &Item) -> Reply
+    ensures { reply_of result ≡ cond sends Closed (got case zero.now false) }
+{
+    if sends {
+        return Reply::Closed;
+    }
+    got(case, zero.copy(), false)
 }

@@ -29,16 +29,16 @@ use Rattle.codegen_base.proofs.Expressions.{Holding}
 use Rattle.codegen_base.proofs.Fields.{AllWide, AllTyped}
 use Rattle.codegen_base.proofs.Seen.{seen}
 use Rattle.codegen_base.proofs.Typing.{FieldsKnown}
-use Rattle.codegen_follows.proofs.Stands.{nowhere, View, variables, Fine, IsOn, LeadsOn, Fits, Sits, Live}
-use Rattle.codegen_follows.proofs.Begun.{FineBehind, parts, sits_all, SitsSoon}
-use Rattle.codegen_steps.proofs.Returned.{YieldKnown, Gives, AllWait}
-use Rattle.codegen_fine_expression.proofs.Operands.{Grounds}
-use Rattle.codegen_fine_operation.proofs.Operations.{Functions}
-use Rattle.codegen_fine_expression.proofs.Places.{housed_of}
-use Rattle.codegen_fine_simple.proofs.Layouts.{longer_no, Begins, begins_before}
-use Rattle.codegen_fine_simple.proofs.Growing.{longer_statements, longer_unless}
-use Rattle.codegen_fine_statement.proofs.Numbering.{numbered_body}
-use Rattle.codegen_fine_simple.proofs.Returns.{IsResult}
+use Rattle.codegen_statements.proofs.Stands.{nowhere, View, variables, Fine, IsOn, LeadsOn, Fits, Sits, Live}
+use Rattle.codegen_statements.proofs.Begun.{FineBehind, parts, sits_all, SitsSoon}
+use Rattle.codegen_statements.proofs.Returned.{YieldKnown, Gives, AllWait}
+use Rattle.codegen_fine.proofs.Operands.{Grounds}
+use Rattle.codegen_fine.proofs.Operations.{Functions}
+use Rattle.codegen_fine.proofs.Places.{housed_of}
+use Rattle.codegen_fine.proofs.Layouts.{longer_no, Begins, begins_before}
+use Rattle.codegen_fine.proofs.Growing.{longer_statements, longer_unless}
+use Rattle.codegen_fine.proofs.Numbering.{numbered_body}
+use Rattle.codegen_fine.proofs.Returns.{IsResult}
 use Rattle.codegen_fine.proofs.Finished.{typed_body}
 use Rattle.codegen_fine.proofs.Wholes.{parameters_fit}
 use Rattle.codegen_fine.proofs.Signatures.{parameters_locals}

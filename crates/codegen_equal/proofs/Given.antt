@@ -18,10 +18,10 @@ use Rattle.codegen_base.proofs.Known.{FieldsNoted, VariablesNoted, worth_noted}
 use Rattle.codegen_base.proofs.Noted.{Noted}
 use Rattle.codegen_base.proofs.Typing.{Free, FieldsKnown, broken, nodes_end, worth_there, not_false}
 use Rattle.codegen_base.proofs.Called.{same_count}
-use Rattle.codegen_requests.proofs.Channels.{channel_of}
-use Rattle.codegen_requests.proofs.Sets.{given_long}
-use Rattle.codegen_fine_simple.proofs.Layouts.{declarable_parts}
-use Rattle.codegen_fine_operation.proofs.Makes.{type_outside}
+use Rattle.codegen_statements.proofs.Channels.{channel_of}
+use Rattle.codegen_statements.proofs.Sets.{given_long}
+use Rattle.codegen_fine.proofs.Layouts.{declarable_parts}
+use Rattle.codegen_fine.proofs.Makes.{type_outside}
 
 -- the type that a value of a type takes
 typed_default : (o : Option ValueType) → default_type (option_map Typed o) ≡ o

@@ -14,11 +14,11 @@ use Rattle.codegen_base.proofs.Typing.{Free}
 use Rattle.plan.specs.Plan.{tables, table_count}
 use Rattle.plan.proofs.Lists.{behind}
 use Rattle.plan.proofs.Tables.{tables_size}
-use Rattle.codegen_fine_expression.proofs.Operands.{Grounds}
-use Rattle.codegen_fine_operation.proofs.Operations.{Functions}
-use Rattle.codegen_fine_simple.proofs.Simples.{Prints}
-use Rattle.codegen_fine_expression.proofs.Noting.{tops_grow}
-use Rattle.codegen_fine_statement.proofs.Bodies.{prints_front, prints_back}
+use Rattle.codegen_fine.proofs.Operands.{Grounds}
+use Rattle.codegen_fine.proofs.Operations.{Functions}
+use Rattle.codegen_fine.proofs.Simples.{Prints}
+use Rattle.codegen_fine.proofs.Noting.{tops_grow}
+use Rattle.codegen_fine.proofs.Bodies.{prints_front, prints_back}
 use Rattle.codegen_fine.proofs.Wholes.{IsFine}
 use Rattle.codegen_fine.proofs.Programs.{AllFine}
 use Rattle.codegen_base.specs.Grammar.{PostsTops}

@@ -24,8 +24,8 @@ use Rattle.codegen_base.proofs.Fields.{AllWide}
 use Rattle.codegen_base.proofs.Likeness.{like_length, like_long, fitted_like, kinds_zeros, kinds_long}
 use Rattle.codegen_base.proofs.Seen.{seen}
 use Rattle.codegen_base.proofs.Static.{IsPlaced}
-use Rattle.codegen_steps.proofs.Returned.{like_none}
-use Rattle.codegen_fine_expression.proofs.Emitted.{all_kinds}
+use Rattle.codegen_statements.proofs.Returned.{like_none}
+use Rattle.codegen_fine.proofs.Emitted.{all_kinds}
 
 -- ---- words
 

@@ -7,3 +7,16 @@ pub mod Structs
 pub mod Shapes
 pub mod Filled
 pub mod Main
+pub use Rattle.codegen_fine_statement.proofs.Emitted
+pub use Rattle.codegen_fine_statement.proofs.Noting
+pub use Rattle.codegen_fine_statement.proofs.Operands
+pub use Rattle.codegen_fine_statement.proofs.Places
+pub use Rattle.codegen_fine_statement.proofs.Makes
+pub use Rattle.codegen_fine_statement.proofs.Operations
+pub use Rattle.codegen_fine_statement.proofs.Growing
+pub use Rattle.codegen_fine_statement.proofs.Layouts
+pub use Rattle.codegen_fine_statement.proofs.Returns
+pub use Rattle.codegen_fine_statement.proofs.Simples
+pub use Rattle.codegen_fine_statement.proofs.Variables
+pub use Rattle.codegen_fine_statement.proofs.Bodies
+pub use Rattle.codegen_fine_statement.proofs.Numbering

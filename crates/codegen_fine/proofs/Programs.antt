@@ -16,10 +16,10 @@ use Rattle.codegen_base.proofs.Typing.{Free}
 use Rattle.plan.specs.Plan.{tables, table_count}
 use Rattle.plan.proofs.Lists.{behind}
 use Rattle.plan.proofs.Tables.{all_made, tables_size}
-use Rattle.codegen_fine_expression.proofs.Operands.{Grounds}
-use Rattle.codegen_fine_operation.proofs.Operations.{Functions}
-use Rattle.codegen_fine_simple.proofs.Simples.{Prints}
-use Rattle.codegen_fine_expression.proofs.Noting.{tops_grow}
+use Rattle.codegen_fine_statement.proofs.Operands.{Grounds}
+use Rattle.codegen_fine_statement.proofs.Operations.{Functions}
+use Rattle.codegen_fine_statement.proofs.Simples.{Prints}
+use Rattle.codegen_fine_statement.proofs.Noting.{tops_grow}
 use Rattle.codegen_fine_statement.proofs.Bodies.{prints_front, prints_back}
 use Rattle.codegen_fine.proofs.Wholes.{IsFine, typed_function}
 

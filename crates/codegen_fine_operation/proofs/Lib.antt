@@ -6,3 +6,15 @@ pub mod Changes
 pub mod Givens
 pub mod Rights
 pub mod Makes
+pub use Rattle.codegen_fine_expression.proofs.Conditions
+pub use Rattle.codegen_fine_expression.proofs.Emitted
+pub use Rattle.codegen_fine_expression.proofs.Keeping
+pub use Rattle.codegen_fine_expression.proofs.Noting
+pub use Rattle.codegen_fine_expression.proofs.Operands
+pub use Rattle.codegen_fine_expression.proofs.Places
+pub use Rattle.codegen_fine_expression.proofs.Pushing
+pub use Rattle.codegen_fine_expression.proofs.Requests
+pub use Rattle.codegen_fine_expression.proofs.Sees
+pub use Rattle.codegen_fine_expression.proofs.Spots
+pub use Rattle.codegen_fine_expression.proofs.Wide
+pub use Rattle.codegen_fine_expression.proofs.WordKinds

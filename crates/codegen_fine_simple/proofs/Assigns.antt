@@ -26,15 +26,15 @@ use Rattle.codegen_base.specs.Statements.{Spot, Dropped, Local, assigns, spot_of
 use Rattle.codegen_base.proofs.Alike.{kind_if, Alike, own_alike}
 use Rattle.codegen_base.proofs.Noted.{Noted}
 use Rattle.codegen_base.proofs.Typing.{Free, broken}
-use Rattle.codegen_fine_expression.proofs.Sees.{Sees}
+use Rattle.codegen_fine_operation.proofs.Sees.{Sees}
 use Rattle.plan.specs.Plan.{Plan, Skip}
 use Rattle.plan.proofs.Typed.{Allowed, Typed}
-use Rattle.codegen_fine_expression.proofs.Pushing.{Puts}
-use Rattle.codegen_fine_expression.proofs.Operands.{Grounds}
-use Rattle.codegen_fine_expression.proofs.Emitted.{all_kinds}
+use Rattle.codegen_fine_operation.proofs.Pushing.{Puts}
+use Rattle.codegen_fine_operation.proofs.Operands.{Grounds}
+use Rattle.codegen_fine_operation.proofs.Emitted.{all_kinds}
 use Rattle.codegen_fine_operation.proofs.Operations.{Functions}
-use Rattle.codegen_fine_expression.proofs.Spots.{joined, SpotFits, SpotsFit, assigns_typed}
-use Rattle.codegen_fine_expression.proofs.Places.{IsHoused, AllHoused, found_housed, drop_housed, housed_of, place_leads, place_alike}
+use Rattle.codegen_fine_operation.proofs.Spots.{joined, SpotFits, SpotsFit, assigns_typed}
+use Rattle.codegen_fine_operation.proofs.Places.{IsHoused, AllHoused, found_housed, drop_housed, housed_of, place_leads, place_alike}
 use Rattle.codegen_fine_operation.proofs.Givens.{WantHas, WantsFail, WantsNoted, WellTaken, taken, taken_all, worths, given_alike}
 use Rattle.codegen_fine_operation.proofs.Rights.{RightNoted, Takes, typed_right}
 use Rattle.codegen_fine_simple.proofs.Layouts.{own_same, Begins, Room, AllTaken, NamesFit, names_fit}

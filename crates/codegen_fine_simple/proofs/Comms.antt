@@ -28,15 +28,15 @@ use Rattle.codegen_base.proofs.Noted.{Noted}
 use Rattle.codegen_base.proofs.Typing.{Free, broken, fits, nodes_end, worth_there}
 use Rattle.plan.specs.Plan.{Skip}
 use Rattle.plan.proofs.Typed.{Allowed, Typed}
-use Rattle.codegen_fine_expression.proofs.Sees.{Sees, worth_sees}
-use Rattle.codegen_fine_expression.proofs.Pushing.{Puts, puts_both}
-use Rattle.codegen_fine_expression.proofs.Operands.{Grounds, shape_within}
-use Rattle.codegen_fine_expression.proofs.Emitted.{all_kinds, typed_pushes}
+use Rattle.codegen_fine_operation.proofs.Sees.{Sees, worth_sees}
+use Rattle.codegen_fine_operation.proofs.Pushing.{Puts, puts_both}
+use Rattle.codegen_fine_operation.proofs.Operands.{Grounds, shape_within}
+use Rattle.codegen_fine_operation.proofs.Emitted.{all_kinds, typed_pushes}
 use Rattle.codegen_fine_operation.proofs.Operations.{Functions, IsChannel, channel_there}
-use Rattle.codegen_fine_expression.proofs.Requests.{shape_is}
+use Rattle.codegen_fine_operation.proofs.Requests.{shape_is}
 use Rattle.codegen_fine_operation.proofs.Simple.{discards_typed}
-use Rattle.codegen_fine_expression.proofs.Spots.{joined, SpotsFit, assigns_typed}
-use Rattle.codegen_fine_expression.proofs.Places.{housed_of}
+use Rattle.codegen_fine_operation.proofs.Spots.{joined, SpotsFit, assigns_typed}
+use Rattle.codegen_fine_operation.proofs.Places.{housed_of}
 use Rattle.codegen_fine_operation.proofs.Rights.{default_typed, typed_given}
 use Rattle.codegen_fine_simple.proofs.Layouts.{Begins, Room}
 use Rattle.codegen_fine_simple.proofs.Assigns.{joined_kinds, place_want, places_want, places_taken, names_want, names_taken, want_of, places_fit, places_fail, places_noted, names_fail, names_noted, defines_fit, defined_alike}

@@ -25,10 +25,10 @@ use Rattle.codegen_base.proofs.Assigned.{counted_words}
 use Rattle.codegen_base.proofs.Likeness.{kinds_long}
 use Rattle.codegen_base.proofs.Noted.{Noted}
 use Rattle.plan.proofs.Lists.{Stand, whole, split}
-use Rattle.codegen_fine_expression.proofs.Operands.{Grounds}
+use Rattle.codegen_fine_operation.proofs.Operands.{Grounds}
 use Rattle.codegen_fine_operation.proofs.Makes.{noted_there}
-use Rattle.codegen_fine_expression.proofs.Places.{IsHoused, AllHoused, found_housed, drop_housed}
-use Rattle.codegen_fine_expression.proofs.Spots.{SpotFits, SpotsFit}
+use Rattle.codegen_fine_operation.proofs.Places.{IsHoused, AllHoused, found_housed, drop_housed}
+use Rattle.codegen_fine_operation.proofs.Spots.{SpotFits, SpotsFit}
 
 drop_append : (n : ℕ) (vs : List Variable) (v : Variable) → n ≤ length vs → drop n (vs ++ v ∷ []) ≡ drop n vs ++ v ∷ []
 drop_append zero vs v le = refl

@@ -20,12 +20,12 @@ use Rattle.codegen_base.proofs.Noted.{Noted, Grows}
 use Rattle.codegen_base.proofs.Typing.{Free, fits, broken, nodes_end, worth_there}
 use Rattle.plan.specs.Plan.{Stop}
 use Rattle.plan.proofs.Typed.{Allowed, Typed}
-use Rattle.codegen_fine_expression.proofs.Sees.{Sees, worth_sees}
-use Rattle.codegen_fine_expression.proofs.WordKinds.{assignable_kinds}
-use Rattle.codegen_fine_expression.proofs.Operands.{Grounds}
+use Rattle.codegen_fine_operation.proofs.Sees.{Sees, worth_sees}
+use Rattle.codegen_fine_operation.proofs.WordKinds.{assignable_kinds}
+use Rattle.codegen_fine_operation.proofs.Operands.{Grounds}
 use Rattle.codegen_fine_operation.proofs.Operations.{Functions}
 use Rattle.codegen_fine_operation.proofs.Branches.{typed_return}
-use Rattle.codegen_fine_expression.proofs.Places.{housed_of}
+use Rattle.codegen_fine_operation.proofs.Places.{housed_of}
 use Rattle.codegen_fine_operation.proofs.Givens.{operation_end, typed_one}
 use Rattle.codegen_fine_simple.proofs.Layouts.{Room}
 use Rattle.codegen_fine_operation.proofs.Makes.{right_noted}

@@ -13,10 +13,10 @@ use Rattle.codegen_base.specs.Grammar.{IsStill}
 use Rattle.codegen_base.proofs.Alike.{Alike}
 use Rattle.codegen_base.proofs.Noted.{Grows}
 use Rattle.codegen_base.proofs.Typing.{Free}
-use Rattle.codegen_fine_expression.proofs.Sees.{Sees}
-use Rattle.codegen_fine_expression.proofs.Operands.{Grounds}
+use Rattle.codegen_fine_operation.proofs.Sees.{Sees}
+use Rattle.codegen_fine_operation.proofs.Operands.{Grounds}
 use Rattle.codegen_fine_operation.proofs.Operations.{Functions}
-use Rattle.codegen_fine_expression.proofs.Places.{housed_of}
+use Rattle.codegen_fine_operation.proofs.Places.{housed_of}
 use Rattle.codegen_fine_simple.proofs.Layouts.{Begins, Room}
 use Rattle.codegen_fine_operation.proofs.Simple.{typed_call_alone, typed_close, typed_receive_alone, typed_send}
 use Rattle.codegen_fine_operation.proofs.Printed.{typed_print}

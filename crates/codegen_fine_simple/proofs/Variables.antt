@@ -27,12 +27,12 @@ use Rattle.codegen_base.proofs.Alike.{kind_if, Alike, own_alike}
 use Rattle.codegen_base.proofs.Noted.{Noted}
 use Rattle.codegen_base.proofs.Typing.{Free, broken}
 use Rattle.plan.proofs.Typed.{Typed}
-use Rattle.codegen_fine_expression.proofs.Pushing.{Puts, puts_both, puts_zeros}
-use Rattle.codegen_fine_expression.proofs.Operands.{Grounds}
-use Rattle.codegen_fine_expression.proofs.Emitted.{all_kinds}
+use Rattle.codegen_fine_operation.proofs.Pushing.{Puts, puts_both, puts_zeros}
+use Rattle.codegen_fine_operation.proofs.Operands.{Grounds}
+use Rattle.codegen_fine_operation.proofs.Emitted.{all_kinds}
 use Rattle.codegen_fine_operation.proofs.Operations.{Functions}
-use Rattle.codegen_fine_expression.proofs.Spots.{SpotsFit}
-use Rattle.codegen_fine_expression.proofs.Places.{housed_of}
+use Rattle.codegen_fine_operation.proofs.Spots.{SpotsFit}
+use Rattle.codegen_fine_operation.proofs.Places.{housed_of}
 use Rattle.codegen_fine_operation.proofs.Givens.{WantsFail, WantsNoted, taken_all}
 use Rattle.codegen_fine_operation.proofs.Rights.{RightNoted, typed_right}
 use Rattle.codegen_fine_simple.proofs.Layouts.{OwnSame, own_same, own_declared, AllOthers, twice_parts, Begins, Room, AllTaken, names_fit}

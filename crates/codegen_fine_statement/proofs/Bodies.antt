@@ -19,14 +19,14 @@ use Rattle.codegen_base.proofs.Typing.{Free, nodes_end, worth_there}
 use Rattle.plan.specs.Plan.{Plan, Skip, Seq, IfElse, IfThen, reaches_end, turns}
 use Rattle.plan.proofs.Tables.{Tabled}
 use Rattle.plan.proofs.Typed.{Allowed, in_loop, Typed}
-use Rattle.codegen_fine_expression.proofs.Sees.{Sees, worth_sees}
-use Rattle.codegen_fine_expression.proofs.Operands.{Grounds}
-use Rattle.codegen_fine_operation.proofs.Operations.{Functions}
-use Rattle.codegen_fine_operation.proofs.Branches.{typed_test}
-use Rattle.codegen_fine_expression.proofs.Places.{housed_of}
+use Rattle.codegen_fine_simple.proofs.Sees.{Sees, worth_sees}
+use Rattle.codegen_fine_simple.proofs.Operands.{Grounds}
+use Rattle.codegen_fine_simple.proofs.Operations.{Functions}
+use Rattle.codegen_fine_simple.proofs.Branches.{typed_test}
+use Rattle.codegen_fine_simple.proofs.Places.{housed_of}
 use Rattle.codegen_fine_simple.proofs.Layouts.{Longer, Begins, begins_before, Room, room_entering, room_leaving}
 use Rattle.codegen_fine_simple.proofs.Simples.{Prints, typed_still, typed_simple}
-use Rattle.codegen_fine_expression.proofs.Conditions.{condition_fits}
+use Rattle.codegen_fine_simple.proofs.Conditions.{condition_fits}
 use Rattle.codegen_base.proofs.Before.{before_tabled, pushes_before}
 
 -- ---- print tables

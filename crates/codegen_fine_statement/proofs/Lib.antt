@@ -4,3 +4,17 @@ pub mod Selects
 pub mod Statements
 pub mod Ranges
 pub mod Limits
+pub use Rattle.codegen_fine_simple.proofs.Emitted
+pub use Rattle.codegen_fine_simple.proofs.Keeping
+pub use Rattle.codegen_fine_simple.proofs.Noting
+pub use Rattle.codegen_fine_simple.proofs.Operands
+pub use Rattle.codegen_fine_simple.proofs.Places
+pub use Rattle.codegen_fine_simple.proofs.Pushing
+pub use Rattle.codegen_fine_simple.proofs.Wide
+pub use Rattle.codegen_fine_simple.proofs.Makes
+pub use Rattle.codegen_fine_simple.proofs.Operations
+pub use Rattle.codegen_fine_simple.proofs.Growing
+pub use Rattle.codegen_fine_simple.proofs.Layouts
+pub use Rattle.codegen_fine_simple.proofs.Returns
+pub use Rattle.codegen_fine_simple.proofs.Simples
+pub use Rattle.codegen_fine_simple.proofs.Variables

@@ -32,14 +32,14 @@ use Rattle.codegen_base.proofs.Typing.{Free, nodes_end}
 use Rattle.plan.specs.Plan.{Skip, Do, Seq, Cycle, reaches_end, turns}
 use Rattle.plan.proofs.Tables.{Tabled}
 use Rattle.plan.proofs.Typed.{in_loop, Typed}
-use Rattle.codegen_fine_expression.proofs.Sees.{worth_sees}
-use Rattle.codegen_fine_expression.proofs.Pushing.{drops_typed, puts_locals}
-use Rattle.codegen_fine_expression.proofs.Operands.{Grounds}
-use Rattle.codegen_fine_operation.proofs.Operations.{Functions, channel_there}
-use Rattle.codegen_fine_expression.proofs.Requests.{receives_typed}
-use Rattle.codegen_fine_expression.proofs.Spots.{SpotFits, stand_range, stores_typed, ticks_typed}
-use Rattle.codegen_fine_expression.proofs.Places.{housed_of}
-use Rattle.codegen_fine_operation.proofs.Givens.{taken, typed_taken}
+use Rattle.codegen_fine_simple.proofs.Sees.{worth_sees}
+use Rattle.codegen_fine_simple.proofs.Pushing.{drops_typed, puts_locals}
+use Rattle.codegen_fine_simple.proofs.Operands.{Grounds}
+use Rattle.codegen_fine_simple.proofs.Operations.{Functions, channel_there}
+use Rattle.codegen_fine_simple.proofs.Requests.{receives_typed}
+use Rattle.codegen_fine_simple.proofs.Spots.{SpotFits, stand_range, stores_typed, ticks_typed}
+use Rattle.codegen_fine_simple.proofs.Places.{housed_of}
+use Rattle.codegen_fine_simple.proofs.Givens.{taken, typed_taken}
 use Rattle.codegen_fine_simple.proofs.Layouts.{own_same, longer_no, Begins, begins_before, Room, room_entering, room_leaving, new_housed, room_declaring, names_fit}
 use Rattle.codegen_fine_simple.proofs.Assigns.{place_want, places_fit, places_fail, places_noted}
 use Rattle.codegen_fine_simple.proofs.Variables.{alike_values, variables_are, taken_alike}

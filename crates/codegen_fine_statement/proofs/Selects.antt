@@ -25,10 +25,10 @@ use Rattle.plan.specs.Plan.{Skip, Choose, starts, entries}
 use Rattle.plan.proofs.Steps.{below_of, top_of_is}
 use Rattle.plan.proofs.Tables.{Tabled}
 use Rattle.plan.proofs.Typed.{Allowed, in_select, Typed}
-use Rattle.codegen_fine_expression.proofs.Sees.{Sees, worth_sees}
-use Rattle.codegen_fine_expression.proofs.Pushing.{Puts, puts_both}
-use Rattle.codegen_fine_expression.proofs.Operands.{Grounds}
-use Rattle.codegen_fine_operation.proofs.Operations.{Functions}
+use Rattle.codegen_fine_simple.proofs.Sees.{Sees, worth_sees}
+use Rattle.codegen_fine_simple.proofs.Pushing.{Puts, puts_both}
+use Rattle.codegen_fine_simple.proofs.Operands.{Grounds}
+use Rattle.codegen_fine_simple.proofs.Operations.{Functions}
 use Rattle.codegen_fine_simple.proofs.Layouts.{Room}
 use Rattle.codegen_fine_simple.proofs.Comms.{comm_fine}
 use Rattle.codegen_base.proofs.Before.{before_tabled, clauses_before}

@@ -24,19 +24,19 @@ use Rattle.codegen_base.proofs.Noted.{Noted, Grows, grows_on}
 use Rattle.codegen_base.proofs.Typing.{Free, broken, not_false}
 use Rattle.plan.specs.Plan.{Skip, reaches_end}
 use Rattle.plan.proofs.Typed.{Allowed, in_loop, in_select, Typed}
-use Rattle.codegen_fine_expression.proofs.Operands.{Grounds}
-use Rattle.codegen_fine_operation.proofs.Operations.{Functions}
-use Rattle.codegen_fine_operation.proofs.Branches.{typed_go}
-use Rattle.codegen_fine_expression.proofs.Places.{housed_of}
+use Rattle.codegen_fine_simple.proofs.Operands.{Grounds}
+use Rattle.codegen_fine_simple.proofs.Operations.{Functions}
+use Rattle.codegen_fine_simple.proofs.Branches.{typed_go}
+use Rattle.codegen_fine_simple.proofs.Places.{housed_of}
 use Rattle.codegen_fine_simple.proofs.Layouts.{Longer, longer_on, begins_before, Room, room_entering, room_leaving}
-use Rattle.codegen_fine_operation.proofs.Rights.{RightNoted}
-use Rattle.codegen_fine_operation.proofs.Makes.{written, written_noted, right_noted}
+use Rattle.codegen_fine_simple.proofs.Rights.{RightNoted}
+use Rattle.codegen_fine_simple.proofs.Makes.{written, written_noted, right_noted}
 use Rattle.codegen_fine_simple.proofs.Variables.{typed_typed, typed_untyped}
 use Rattle.codegen_fine_simple.proofs.Simples.{typed_simple}
 use Rattle.codegen_fine_simple.proofs.Growing.{longer_post, longer, longer_statements, longer_otherwise, longer_ways, longer_default, longer_as, longer_kept}
-use Rattle.codegen_fine_expression.proofs.Noting.{given_grows, first_grows, statements_grow, otherwise_grows, clauses_grow}
+use Rattle.codegen_fine_simple.proofs.Noting.{given_grows, first_grows, statements_grow, otherwise_grows, clauses_grow}
 use Rattle.codegen_fine_statement.proofs.Bodies.{prints_front, prints_back, IsMade, IsMadeAlike, Fits, fits_first, fits_rest, fits_as, made_followed, made_ended, runs_if, runs_else, runs_loop, typed_any, typed_post}
-use Rattle.codegen_fine_expression.proofs.Sees.{Sees}
+use Rattle.codegen_fine_simple.proofs.Sees.{Sees}
 use Rattle.codegen_fine_simple.proofs.Comms.{comm_fine, comm_made}
 use Rattle.codegen_fine_statement.proofs.Selects.{alike_step, alike_right, alike_clauses, comm_same, WaysOf, join_way, last_way, typed_choice}
 use Rattle.codegen_fine_simple.proofs.Returns.{IsResult, typed_returned}

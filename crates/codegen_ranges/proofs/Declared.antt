@@ -13,7 +13,7 @@ use Rattle.codegen_base.proofs.Alike.{alike_declared, last_append}
 use Rattle.codegen_base.proofs.Assigned.{placed_new}
 use Rattle.codegen_base.proofs.Fields.{AllWide}
 use Rattle.codegen_base.proofs.Noted.{Noted}
-use Rattle.codegen_follows.proofs.Stands.{View, scope_of, variables, Fine}
+use Rattle.codegen_requests.proofs.Stands.{View, scope_of, variables, Fine}
 
 same_some : {A : Type 0} (a b : A) → Some a ≡ Some b → a ≡ b
 same_some a b e = ap (from a) e where

@@ -37,10 +37,10 @@ use Rattle.codegen_base.proofs.Passed.{AllFit}
 use Rattle.codegen_base.proofs.Seen.{seen}
 use Rattle.codegen_base.proofs.Static.{seen_alike}
 use Rattle.codegen_base.proofs.Typing.{Free, FieldsKnown, Fits, fits, broken, nodes_end, worth_there}
-use Rattle.codegen_follows.proofs.Stands.{Around, View, scope_of, variables, Together, IsOn, Fine}
-use Rattle.codegen_follows.proofs.Valued.{Goes}
-use Rattle.codegen_follows.proofs.Follows.{Held, Sitting, Rest}
-use Rattle.codegen_steps.proofs.Returned.{Gives}
+use Rattle.codegen_requests.proofs.Stands.{Around, View, scope_of, variables, Together, IsOn, Fine}
+use Rattle.codegen_requests.proofs.Valued.{Goes}
+use Rattle.codegen_requests.proofs.Follows.{Held, Sitting, Rest}
+use Rattle.codegen_requests.proofs.Returned.{Gives}
 use Rattle.codegen_requests.proofs.Channels.{Grounds}
 use Rattle.codegen_requests.proofs.Calling.{Wait, AllThere, Starting}
 use Rattle.codegen_requests.proofs.Places.{known_named}

@@ -23,9 +23,9 @@ use Rattle.codegen_base.proofs.Fields.{AllWide}
 use Rattle.codegen_base.proofs.Likeness.{kinds_long}
 use Rattle.codegen_base.proofs.Seen.{seen_one, seen, last_split}
 use Rattle.codegen_base.proofs.Assigned.{IsSpot, behind_destination, behind_all, AreSpots}
-use Rattle.codegen_steps.proofs.Paths.{held_whole}
-use Rattle.codegen_steps.proofs.Ranged.{own_block}
-use Rattle.codegen_follows.proofs.Stands.{View, scope_of, variables, Fine}
+use Rattle.codegen_requests.proofs.Paths.{held_whole}
+use Rattle.codegen_requests.proofs.Ranged.{own_block}
+use Rattle.codegen_requests.proofs.Stands.{View, scope_of, variables, Fine}
 
 pub neither : (a b : Bool) → (a || b) ≡ false → (a ≡ false) × (b ≡ false)
 neither true b e = absurd cc

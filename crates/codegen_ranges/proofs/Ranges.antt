@@ -41,13 +41,13 @@ use Rattle.codegen_base.proofs.Fields.{AllWide, AllTyped}
 use Rattle.codegen_base.proofs.Likeness.{kinds_long}
 use Rattle.codegen_base.proofs.Seen.{Like, seen}
 use Rattle.codegen_base.proofs.Typing.{Free, FieldsKnown}
-use Rattle.codegen_follows.proofs.Stands.{Around, View, scope_of, variables, Together, Inner, Doing, Fine, IsOn, LeadsOn, Items, RangingAt, Sits, opened, item_view}
-use Rattle.codegen_follows.proofs.Begun.{FineBehind, take_front, inner_opened, fine_opened, seen_opened}
-use Rattle.codegen_follows.proofs.Grown.{grown_statements}
-use Rattle.codegen_follows.proofs.Valued.{Goes}
-use Rattle.codegen_follows.proofs.Follows.{Held, Sitting, Back, Rest, map_reached, end_sits, inner_same, lands}
+use Rattle.codegen_requests.proofs.Stands.{Around, View, scope_of, variables, Together, Inner, Doing, Fine, IsOn, LeadsOn, Items, RangingAt, Sits, opened, item_view}
+use Rattle.codegen_requests.proofs.Begun.{FineBehind, take_front, inner_opened, fine_opened, seen_opened}
+use Rattle.codegen_requests.proofs.Grown.{grown_statements}
+use Rattle.codegen_requests.proofs.Valued.{Goes}
+use Rattle.codegen_requests.proofs.Follows.{Held, Sitting, Back, Rest, map_reached, end_sits, inner_same, lands}
 use Rattle.checker_base.specs.Expressions.{ExpressionHas, ChannelHas, nodes_of, default_type}
-use Rattle.codegen_steps.proofs.Outers.{has_same, worth_same}
+use Rattle.codegen_requests.proofs.Outers.{has_same, worth_same}
 use Rattle.codegen_requests.proofs.Channels.{Grounds, IsChannel, shape_is, runs, channel_there, channel_goes}
 
 -- the variable `_` is found by no other name

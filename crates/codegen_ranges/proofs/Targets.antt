@@ -37,16 +37,16 @@ use Rattle.codegen_base.proofs.Fields.{AllWide, AllTyped}
 use Rattle.codegen_base.proofs.Likeness.{kinds_long}
 use Rattle.codegen_base.proofs.Seen.{seen, seen_one, seen_lookup}
 use Rattle.codegen_base.proofs.Typing.{Free, FieldsKnown, broken, nodes_end}
-use Rattle.codegen_steps.proofs.Outers.{has_same, worth_same}
-use Rattle.codegen_steps.proofs.Paths.{AllKnown}
+use Rattle.codegen_requests.proofs.Outers.{has_same, worth_same}
+use Rattle.codegen_requests.proofs.Paths.{AllKnown}
 use Rattle.codegen_requests.proofs.Channels.{Grounds, IsChannel, channel_there}
 use Rattle.codegen_requests.proofs.Places.{places_are, places_stay}
 use Rattle.codegen_requests.proofs.Sets.{typed_suit}
-use Rattle.codegen_follows.proofs.Stands.{Around, View, scope_of, variables, Together, Doing, Fine, IsOn, Items, Assigning, RangingAt, item_view}
-use Rattle.codegen_follows.proofs.Begun.{FineBehind, take_front}
-use Rattle.codegen_follows.proofs.Grown.{grown_statements}
-use Rattle.codegen_follows.proofs.Valued.{Goes}
-use Rattle.codegen_follows.proofs.Follows.{Held, Sitting, Back, Rest, map_reached}
+use Rattle.codegen_requests.proofs.Stands.{Around, View, scope_of, variables, Together, Doing, Fine, IsOn, Items, Assigning, RangingAt, item_view}
+use Rattle.codegen_requests.proofs.Begun.{FineBehind, take_front}
+use Rattle.codegen_requests.proofs.Grown.{grown_statements}
+use Rattle.codegen_requests.proofs.Valued.{Goes}
+use Rattle.codegen_requests.proofs.Follows.{Held, Sitting, Back, Rest, map_reached}
 use Rattle.codegen_ranges.proofs.Declared.{fine_declared}
 use Rattle.codegen_ranges.proofs.Ranges.{unfound, other_than_blank, kept_view, channel, fine_item, loop_at, kept_goes}
 

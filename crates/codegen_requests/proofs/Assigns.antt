@@ -36,9 +36,9 @@ use Rattle.codegen_base.proofs.Passed.{AllFit}
 use Rattle.codegen_base.proofs.Seen.{seen}
 use Rattle.codegen_base.proofs.Assigned.{all_words_of, behind_all, AreSpots}
 use Rattle.codegen_base.proofs.Typing.{Free, FieldsKnown, Fits, broken, not_false}
-use Rattle.codegen_follows.proofs.Stands.{Around, View, scope_of, variables, Together, IsOn, Fine, Taking, Storing, Sits}
-use Rattle.codegen_follows.proofs.Valued.{Goes}
-use Rattle.codegen_follows.proofs.Follows.{Held, Sitting, Rest}
+use Rattle.codegen_steps.proofs.Stands.{Around, View, scope_of, variables, Together, IsOn, Fine, Taking, Storing, Sits}
+use Rattle.codegen_steps.proofs.Valued.{Goes}
+use Rattle.codegen_steps.proofs.Follows.{Held, Sitting, Rest}
 use Rattle.codegen_steps.proofs.Returned.{Gives}
 use Rattle.codegen_requests.proofs.Channels.{Grounds}
 use Rattle.codegen_requests.proofs.Calling.{Wait, AllThere, Starting, all_go}

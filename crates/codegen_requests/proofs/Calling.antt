@@ -36,9 +36,9 @@ use Rattle.codegen_base.proofs.Passed.{AllFit, EvalsAll, values_goes}
 use Rattle.codegen_base.proofs.Seen.{seen}
 use Rattle.codegen_base.proofs.Assigned.{AreLike, all_words_of}
 use Rattle.codegen_base.proofs.Typing.{Free, FieldsKnown}
-use Rattle.codegen_follows.proofs.Stands.{Around, View, scope_of, variables, Together, IsOn, Fine, Taking}
-use Rattle.codegen_follows.proofs.Valued.{Goes, before}
-use Rattle.codegen_follows.proofs.Follows.{Held, Sitting, Rest}
+use Rattle.codegen_steps.proofs.Stands.{Around, View, scope_of, variables, Together, IsOn, Fine, Taking}
+use Rattle.codegen_steps.proofs.Valued.{Goes, before}
+use Rattle.codegen_steps.proofs.Follows.{Held, Sitting, Rest}
 use Rattle.codegen_steps.proofs.Returned.{Gives, result_types, IsUsed, Waits, AllWait}
 use Rattle.codegen_requests.proofs.Channels.{Grounds}
 use Rattle.codegen_requests.proofs.Requests.{asked}

@@ -40,8 +40,8 @@ use Rattle.codegen_base.proofs.Seen.{seen}
 use Rattle.codegen_base.proofs.Static.{seen_alike}
 use Rattle.codegen_base.proofs.Typing.{Free, FieldsKnown, broken, nodes_end, worth_there}
 use Rattle.codegen_base.proofs.Expressions.{Holding}
-use Rattle.codegen_follows.proofs.Stands.{Around, View, scope_of, variables, IsOn, Fine}
-use Rattle.codegen_follows.proofs.Valued.{Goes, value_here, valued_then, own_goes}
+use Rattle.codegen_steps.proofs.Stands.{Around, View, scope_of, variables, IsOn, Fine}
+use Rattle.codegen_steps.proofs.Valued.{Goes, value_here, valued_then, own_goes}
 use Rattle.codegen_steps.proofs.Returned.{YieldKnown}
 
 -- what is so of a program: the elements of its channels are noted, and take few words

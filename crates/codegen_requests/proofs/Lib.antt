@@ -6,3 +6,17 @@ pub mod Returns
 pub mod Places
 pub mod Assigns
 pub mod Sets
+pub use Rattle.codegen_steps.proofs.Begun
+pub use Rattle.codegen_steps.proofs.Follows
+pub use Rattle.codegen_steps.proofs.Grown
+pub use Rattle.codegen_steps.proofs.Stands
+pub use Rattle.codegen_steps.proofs.Unwound
+pub use Rattle.codegen_steps.proofs.Valued
+pub use Rattle.codegen_steps.proofs.Branches
+pub use Rattle.codegen_steps.proofs.Loops
+pub use Rattle.codegen_steps.proofs.Outers
+pub use Rattle.codegen_steps.proofs.Paths
+pub use Rattle.codegen_steps.proofs.Ranged
+pub use Rattle.codegen_steps.proofs.Returned
+pub use Rattle.codegen_steps.proofs.Stored
+pub use Rattle.codegen_steps.proofs.Taken

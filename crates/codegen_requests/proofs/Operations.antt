@@ -31,9 +31,9 @@ use Rattle.codegen_base.proofs.Fields.{AllWide, AllTyped}
 use Rattle.codegen_base.proofs.Noted.{Noted}
 use Rattle.codegen_base.proofs.Seen.{seen}
 use Rattle.codegen_base.proofs.Typing.{Free, FieldsKnown, broken}
-use Rattle.codegen_follows.proofs.Stands.{Around, View, scope_of, variables, Together, IsOn, Fine, Taking}
-use Rattle.codegen_follows.proofs.Valued.{Goes}
-use Rattle.codegen_follows.proofs.Follows.{Held, Sitting, Rest}
+use Rattle.codegen_steps.proofs.Stands.{Around, View, scope_of, variables, Together, IsOn, Fine, Taking}
+use Rattle.codegen_steps.proofs.Valued.{Goes}
+use Rattle.codegen_steps.proofs.Follows.{Held, Sitting, Rest}
 use Rattle.codegen_steps.proofs.Returned.{YieldKnown, Gives, result_types, IsUsed}
 use Rattle.codegen_requests.proofs.Channels.{Grounds, IsChannel, channel_there, laid}
 use Rattle.codegen_requests.proofs.Requests.{made_there, receive_goes, length_goes, capacity_goes, make_goes}

@@ -27,7 +27,7 @@ use Rattle.codegen_base.proofs.Static.{AllKnown}
 use Rattle.codegen_base.proofs.Assigned.{IsSpot, behind_destination, behind_all, AreSpots}
 use Rattle.codegen_base.proofs.Typing.{Free, broken}
 use Rattle.codegen_steps.proofs.Paths.{AllKnown as FieldsKnown, leads}
-use Rattle.codegen_follows.proofs.Stands.{View, scope_of, variables, Fine}
+use Rattle.codegen_steps.proofs.Stands.{View, scope_of, variables, Fine}
 
 pub known_named : (vs : List Variable) (name : List ℕ) (v : Variable) → AllKnown vs → last_named vs name ≡ Some v → v.kind ≡ Some (known v.kind)
 known_named [] name v k e = absurd cc

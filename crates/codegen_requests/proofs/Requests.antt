@@ -46,9 +46,9 @@ use Rattle.codegen_base.proofs.Likeness.{kinds_zeros, kinds_long, like_long, is_
 use Rattle.codegen_base.proofs.Noted.{Noted}
 use Rattle.codegen_base.proofs.Seen.{Like, seen}
 use Rattle.codegen_base.proofs.Typing.{Free, FieldsKnown, Fits, fits, broken, nodes_end, worth_there, int_type, not_false}
-use Rattle.codegen_follows.proofs.Stands.{Around, View, scope_of, variables, Together, IsOn, Fine, Taking, Asking, requesting}
-use Rattle.codegen_follows.proofs.Valued.{Goes, before, value_here, valued_then, value_goes}
-use Rattle.codegen_follows.proofs.Follows.{Held, Sitting, Rest}
+use Rattle.codegen_steps.proofs.Stands.{Around, View, scope_of, variables, Together, IsOn, Fine, Taking, Asking, requesting}
+use Rattle.codegen_steps.proofs.Valued.{Goes, before, value_here, valued_then, value_goes}
+use Rattle.codegen_steps.proofs.Follows.{Held, Sitting, Rest}
 use Rattle.codegen_requests.proofs.Channels.{Grounds, shape_is, IsChannel, channel_there, channel_goes}
 
 abbrev make_asked : ℤ → Words → Next CodeFrames

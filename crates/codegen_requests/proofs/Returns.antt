@@ -37,9 +37,9 @@ use Rattle.codegen_base.proofs.Fields.{AllWide, AllTyped}
 use Rattle.codegen_base.proofs.Likeness.{kinds_long, assignable_zeros}
 use Rattle.codegen_base.proofs.Seen.{seen}
 use Rattle.codegen_base.proofs.Typing.{Free, FieldsKnown, Fits, fits, broken, nodes_end, worth_there}
-use Rattle.codegen_follows.proofs.Stands.{Around, View, scope_of, variables, Together, IsOn, Fine, Taking, all_wide, Sits}
-use Rattle.codegen_follows.proofs.Valued.{Goes, value_goes}
-use Rattle.codegen_follows.proofs.Follows.{Held, Sitting, Rest}
+use Rattle.codegen_steps.proofs.Stands.{Around, View, scope_of, variables, Together, IsOn, Fine, Taking, all_wide, Sits}
+use Rattle.codegen_steps.proofs.Valued.{Goes, value_goes}
+use Rattle.codegen_steps.proofs.Follows.{Held, Sitting, Rest}
 use Rattle.codegen_steps.proofs.Returned.{YieldKnown, Gives, result_types}
 use Rattle.codegen_requests.proofs.Channels.{Grounds}
 use Rattle.codegen_requests.proofs.Requests.{receive_goes}

@@ -32,12 +32,12 @@ use Rattle.codegen_base.proofs.Fields.{AllWide, AllTyped}
 use Rattle.codegen_base.proofs.Likeness.{fitted_like}
 use Rattle.codegen_base.proofs.Seen.{seen}
 use Rattle.codegen_base.proofs.Typing.{FieldsKnown}
-use Rattle.codegen_follows.proofs.Stands.{Around, View, variables, Together, opened, Begins, Taking, purpose_of, in_way, WayAt, WaysAt, Choosing}
-use Rattle.codegen_follows.proofs.Begun.{FineBehind, inner_opened, seen_opened, sits_all}
-use Rattle.codegen_follows.proofs.Unwound.{together_on}
-use Rattle.codegen_follows.proofs.Valued.{Goes}
-use Rattle.codegen_follows.proofs.Follows.{Held, Sitting, Back, Rest, blocks_same, inner_same, with_stack}
-use Rattle.codegen_steps.proofs.Taken.{same_reply, parted_words, parted_like, taken_lands}
+use Rattle.codegen_ranges.proofs.Stands.{Around, View, variables, Together, opened, Begins, Taking, purpose_of, in_way, WayAt, WaysAt, Choosing}
+use Rattle.codegen_ranges.proofs.Begun.{FineBehind, inner_opened, seen_opened, sits_all}
+use Rattle.codegen_ranges.proofs.Unwound.{together_on}
+use Rattle.codegen_ranges.proofs.Valued.{Goes}
+use Rattle.codegen_ranges.proofs.Follows.{Held, Sitting, Back, Rest, blocks_same, inner_same, with_stack}
+use Rattle.codegen_ranges.proofs.Taken.{same_reply, parted_words, parted_like, taken_lands}
 
 -- ---- the clauses of a table
 

@@ -33,16 +33,16 @@ use Rattle.codegen_base.proofs.Fields.{AllWide}
 use Rattle.codegen_base.proofs.Likeness.{kinds_long}
 use Rattle.codegen_base.proofs.Seen.{seen, seen_lookup, rising_up}
 use Rattle.codegen_base.proofs.Typing.{Free, FieldsKnown}
-use Rattle.codegen_steps.proofs.Outers.{worth_same}
-use Rattle.codegen_steps.proofs.Paths.{AllKnown}
-use Rattle.codegen_requests.proofs.Channels.{Grounds, IsChannel}
-use Rattle.codegen_requests.proofs.Places.{places_are, places_stay}
-use Rattle.codegen_requests.proofs.Sets.{AreTyped, typed_default, typed_suit as places_suit}
+use Rattle.codegen_ranges.proofs.Outers.{worth_same}
+use Rattle.codegen_ranges.proofs.Paths.{AllKnown}
+use Rattle.codegen_ranges.proofs.Channels.{Grounds, IsChannel}
+use Rattle.codegen_ranges.proofs.Places.{places_are, places_stay}
+use Rattle.codegen_ranges.proofs.Sets.{AreTyped, typed_default, typed_suit as places_suit}
 use Rattle.codegen_ranges.proofs.Names.{AreNew, new_names, names_are}
 use Rattle.codegen_ranges.proofs.Defined.{once, typed_suit as names_suit}
-use Rattle.codegen_follows.proofs.Stands.{Around, View, scope_of, variables, Together, Makes, Fine, IsOn, Assigning, Taking, all_wide, purpose_of, opened, behind}
-use Rattle.codegen_follows.proofs.Begun.{FineBehind, fine_opened, take_front}
-use Rattle.codegen_follows.proofs.Grown.{grown_comm}
+use Rattle.codegen_ranges.proofs.Stands.{Around, View, scope_of, variables, Together, Makes, Fine, IsOn, Assigning, Taking, all_wide, purpose_of, opened, behind}
+use Rattle.codegen_ranges.proofs.Begun.{FineBehind, fine_opened, take_front}
+use Rattle.codegen_ranges.proofs.Grown.{grown_comm}
 
 -- where a clause of a select stands: how many words of the frame are taken, and the numbers of the tables
 pub record Beside : Type 0 where

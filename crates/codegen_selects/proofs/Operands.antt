@@ -40,10 +40,10 @@ use Rattle.codegen_base.proofs.Fields.{AllWide, AllTyped}
 use Rattle.codegen_base.proofs.Likeness.{kinds_long, like_long}
 use Rattle.codegen_base.proofs.Seen.{seen}
 use Rattle.codegen_base.proofs.Typing.{Free, FieldsKnown, Fits, fits, nodes_end, worth_there}
-use Rattle.codegen_steps.proofs.Outers.{has_same, worth_same}
-use Rattle.codegen_requests.proofs.Channels.{Grounds, IsChannel, shape_is, channel_there, channel_goes}
-use Rattle.codegen_follows.proofs.Stands.{Around, View, scope_of, variables, IsOn, Fine, within}
-use Rattle.codegen_follows.proofs.Valued.{Goes, value_goes, value_here, valued_then}
+use Rattle.codegen_ranges.proofs.Outers.{has_same, worth_same}
+use Rattle.codegen_ranges.proofs.Channels.{Grounds, IsChannel, shape_is, channel_there, channel_goes}
+use Rattle.codegen_ranges.proofs.Stands.{Around, View, scope_of, variables, IsOn, Fine, within}
+use Rattle.codegen_ranges.proofs.Valued.{Goes, value_goes, value_here, valued_then}
 use Rattle.codegen_selects.proofs.Comms.{comm_channel}
 
 -- how many clauses wait for something

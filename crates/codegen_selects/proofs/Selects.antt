@@ -26,13 +26,13 @@ use Rattle.plan.proofs.Steps.{spots}
 use Rattle.codegen_base.proofs.Fields.{AllWide, AllTyped}
 use Rattle.codegen_base.proofs.Seen.{seen}
 use Rattle.codegen_base.proofs.Typing.{FieldsKnown}
-use Rattle.codegen_steps.proofs.Paths.{AllKnown}
-use Rattle.codegen_requests.proofs.Channels.{Grounds}
-use Rattle.codegen_follows.proofs.Stands.{Around, View, scope_of, variables, Together, IsOn, Fine, Fits, Doing, Choosing, in_way, behind}
-use Rattle.codegen_follows.proofs.Begun.{FineBehind}
-use Rattle.codegen_follows.proofs.Grown.{grown_default}
-use Rattle.codegen_follows.proofs.Valued.{Goes}
-use Rattle.codegen_follows.proofs.Follows.{Held, Sitting, Rest}
+use Rattle.codegen_ranges.proofs.Paths.{AllKnown}
+use Rattle.codegen_ranges.proofs.Channels.{Grounds}
+use Rattle.codegen_ranges.proofs.Stands.{Around, View, scope_of, variables, Together, IsOn, Fine, Fits, Doing, Choosing, in_way, behind}
+use Rattle.codegen_ranges.proofs.Begun.{FineBehind}
+use Rattle.codegen_ranges.proofs.Grown.{grown_default}
+use Rattle.codegen_ranges.proofs.Valued.{Goes}
+use Rattle.codegen_ranges.proofs.Follows.{Held, Sitting, Rest}
 use Rattle.codegen_selects.proofs.Comms.{Beside}
 use Rattle.codegen_selects.proofs.Operands.{AllOffered, clauses_go}
 use Rattle.codegen_selects.proofs.Ways.{plan_of, default_laid, ways_laid}

@@ -37,11 +37,11 @@ use Rattle.codegen_base.proofs.Fields.{AllWide, AllTyped}
 use Rattle.codegen_base.proofs.Likeness.{kinds_zeros}
 use Rattle.codegen_base.proofs.Seen.{seen}
 use Rattle.codegen_base.proofs.Typing.{Free, FieldsKnown}
-use Rattle.codegen_steps.proofs.Paths.{AllKnown}
-use Rattle.codegen_requests.proofs.Channels.{Grounds, IsChannel, shape_is}
-use Rattle.codegen_follows.proofs.Stands.{Around, View, scope_of, variables, opened, IsOn, Fine, Fits, within, AllMake, ClausesMake, Live, in_way, WayAt, WaysAt}
-use Rattle.codegen_follows.proofs.Begun.{FineBehind, fine_opened, prints_front, prints_back}
-use Rattle.codegen_follows.proofs.Grown.{Grown, grown_statements, grown_ways, grown_comm}
+use Rattle.codegen_ranges.proofs.Paths.{AllKnown}
+use Rattle.codegen_ranges.proofs.Channels.{Grounds, IsChannel, shape_is}
+use Rattle.codegen_ranges.proofs.Stands.{Around, View, scope_of, variables, opened, IsOn, Fine, Fits, within, AllMake, ClausesMake, Live, in_way, WayAt, WaysAt}
+use Rattle.codegen_ranges.proofs.Begun.{FineBehind, fine_opened, prints_front, prints_back}
+use Rattle.codegen_ranges.proofs.Grown.{Grown, grown_statements, grown_ways, grown_comm}
 use Rattle.codegen_selects.proofs.Comms.{Beside, beside, fine_beside, comm_channel, comm_view, comm_together, comm_fine, kind_item, received_types, comm_taking}
 use Rattle.codegen_selects.proofs.Operands.{comm_count, comm_waited}
 

@@ -17,19 +17,19 @@ use Rattle.plan.proofs.Steps.{spots}
 use Rattle.codegen_base.proofs.Fields.{AllWide, AllTyped}
 use Rattle.codegen_base.proofs.Seen.{seen}
 use Rattle.codegen_base.proofs.Typing.{FieldsKnown}
-use Rattle.codegen_follows.proofs.Grown.{grown}
-use Rattle.codegen_steps.proofs.Paths.{AllKnown}
-use Rattle.codegen_follows.proofs.Stands.{Around, View, scope_of, variables, Together, behind, Doing}
-use Rattle.codegen_follows.proofs.Valued.{Goes}
-use Rattle.codegen_follows.proofs.Follows.{Held, Sitting, Rest}
-use Rattle.codegen_steps.proofs.Returned.{Gives}
-use Rattle.codegen_requests.proofs.Channels.{Grounds}
-use Rattle.codegen_requests.proofs.Requests.{close_goes, send_goes}
-use Rattle.codegen_requests.proofs.Calling.{Wait, AllThere, Starting}
-use Rattle.codegen_requests.proofs.Returns.{call_alone_goes, receive_alone_goes}
-use Rattle.codegen_requests.proofs.Sets.{assign_goes}
+use Rattle.codegen_selects.proofs.Grown.{grown}
+use Rattle.codegen_selects.proofs.Paths.{AllKnown}
+use Rattle.codegen_selects.proofs.Stands.{Around, View, scope_of, variables, Together, behind, Doing}
+use Rattle.codegen_selects.proofs.Valued.{Goes}
+use Rattle.codegen_selects.proofs.Follows.{Held, Sitting, Rest}
+use Rattle.codegen_selects.proofs.Returned.{Gives}
+use Rattle.codegen_selects.proofs.Channels.{Grounds}
+use Rattle.codegen_selects.proofs.Requests.{close_goes, send_goes}
+use Rattle.codegen_selects.proofs.Calling.{Wait, AllThere, Starting}
+use Rattle.codegen_selects.proofs.Returns.{call_alone_goes, receive_alone_goes}
+use Rattle.codegen_selects.proofs.Sets.{assign_goes}
 use Rattle.codegen_statements.proofs.Printed.{print_goes}
-use Rattle.codegen_ranges.proofs.Defined.{define_goes}
+use Rattle.codegen_selects.proofs.Defined.{define_goes}
 use Rattle.codegen_statements.proofs.Updated.{increment_goes, decrement_goes, update_goes}
 
 plus_none : (n : ℕ) → n + 0 ≡ n

@@ -5,3 +5,13 @@ pub mod Alone
 pub mod Typed
 pub mod Statements
 pub mod Step
+pub use Rattle.codegen_selects.proofs.Begun
+pub use Rattle.codegen_selects.proofs.Grown
+pub use Rattle.codegen_selects.proofs.Stands
+pub use Rattle.codegen_selects.proofs.Valued
+pub use Rattle.codegen_selects.proofs.Paths
+pub use Rattle.codegen_selects.proofs.Returned
+pub use Rattle.codegen_selects.proofs.Calling
+pub use Rattle.codegen_selects.proofs.Channels
+pub use Rattle.codegen_selects.proofs.Sets
+pub use Rattle.codegen_selects.proofs.Defined

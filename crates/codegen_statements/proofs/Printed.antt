@@ -39,11 +39,11 @@ use Rattle.codegen_base.proofs.Fields.{AllWide, AllTyped}
 use Rattle.codegen_base.proofs.Likeness.{is_int as is_int_word, is_bool}
 use Rattle.codegen_base.proofs.Seen.{Like, seen}
 use Rattle.codegen_base.proofs.Typing.{Free, FieldsKnown, Fits, broken, nodes_end, worth_there, not_false}
-use Rattle.codegen_follows.proofs.Stands.{Around, View, scope_of, variables, Together, IsOn, Fine}
-use Rattle.codegen_follows.proofs.Valued.{Goes, value_here, valued_then, value_goes}
-use Rattle.codegen_follows.proofs.Follows.{Held, Sitting, Rest}
-use Rattle.codegen_requests.proofs.Channels.{Grounds}
-use Rattle.codegen_requests.proofs.Requests.{asked}
+use Rattle.codegen_selects.proofs.Stands.{Around, View, scope_of, variables, Together, IsOn, Fine}
+use Rattle.codegen_selects.proofs.Valued.{Goes, value_here, valued_then, value_goes}
+use Rattle.codegen_selects.proofs.Follows.{Held, Sitting, Rest}
+use Rattle.codegen_selects.proofs.Channels.{Grounds}
+use Rattle.codegen_selects.proofs.Requests.{asked}
 
 -- a value that is printed is one word
 record IsPrinted (structs : Structs) (w : Worth) : Type 0 where

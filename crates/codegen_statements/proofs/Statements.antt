@@ -16,20 +16,20 @@ use Rattle.plan.proofs.Steps.{spots}
 use Rattle.codegen_base.proofs.Fields.{AllWide, AllTyped}
 use Rattle.codegen_base.proofs.Seen.{seen}
 use Rattle.codegen_base.proofs.Typing.{FieldsKnown}
-use Rattle.codegen_follows.proofs.Grown.{grown}
-use Rattle.codegen_steps.proofs.Paths.{AllKnown}
-use Rattle.codegen_follows.proofs.Stands.{Around, View, scope_of, variables, Together, behind, Doing}
-use Rattle.codegen_follows.proofs.Begun.{FineBehind}
-use Rattle.codegen_follows.proofs.Valued.{Goes}
-use Rattle.codegen_follows.proofs.Follows.{Held, Sitting, Back, Rest, empty_goes, block_goes, break_goes, continue_goes}
-use Rattle.codegen_steps.proofs.Branches.{if_goes}
-use Rattle.codegen_steps.proofs.Returned.{YieldKnown, Gives}
-use Rattle.codegen_steps.proofs.Loops.{forever_goes, while_goes, clauses_first_goes, clauses_bare_goes}
-use Rattle.codegen_requests.proofs.Channels.{Grounds}
-use Rattle.codegen_requests.proofs.Calling.{Wait, AllThere, Starting, go_goes}
-use Rattle.codegen_requests.proofs.Returns.{return_goes}
-use Rattle.codegen_ranges.proofs.Ranges.{bare_range_goes}
-use Rattle.codegen_ranges.proofs.Targets.{define_range_goes, assign_range_goes}
+use Rattle.codegen_selects.proofs.Grown.{grown}
+use Rattle.codegen_selects.proofs.Paths.{AllKnown}
+use Rattle.codegen_selects.proofs.Stands.{Around, View, scope_of, variables, Together, behind, Doing}
+use Rattle.codegen_selects.proofs.Begun.{FineBehind}
+use Rattle.codegen_selects.proofs.Valued.{Goes}
+use Rattle.codegen_selects.proofs.Follows.{Held, Sitting, Back, Rest, empty_goes, block_goes, break_goes, continue_goes}
+use Rattle.codegen_selects.proofs.Branches.{if_goes}
+use Rattle.codegen_selects.proofs.Returned.{YieldKnown, Gives}
+use Rattle.codegen_selects.proofs.Loops.{forever_goes, while_goes, clauses_first_goes, clauses_bare_goes}
+use Rattle.codegen_selects.proofs.Channels.{Grounds}
+use Rattle.codegen_selects.proofs.Calling.{Wait, AllThere, Starting, go_goes}
+use Rattle.codegen_selects.proofs.Returns.{return_goes}
+use Rattle.codegen_selects.proofs.Ranges.{bare_range_goes}
+use Rattle.codegen_selects.proofs.Targets.{define_range_goes, assign_range_goes}
 use Rattle.codegen_selects.proofs.Selects.{select_goes}
 use Rattle.codegen_statements.proofs.Untyped.{untyped_goes}
 use Rattle.codegen_statements.proofs.Typed.{typed_values_go, typed_zeros_go, typed_operation_goes}

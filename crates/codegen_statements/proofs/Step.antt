@@ -19,17 +19,17 @@ use Rattle.plan.proofs.Steps.{spots}
 use Rattle.codegen_base.proofs.Fields.{AllWide, AllTyped}
 use Rattle.codegen_base.proofs.Seen.{seen}
 use Rattle.codegen_base.proofs.Typing.{FieldsKnown}
-use Rattle.codegen_steps.proofs.Paths.{AllKnown}
-use Rattle.codegen_follows.proofs.Stands.{Around, View, variables, Begins, Sits}
-use Rattle.codegen_follows.proofs.Begun.{FineBehind}
-use Rattle.codegen_follows.proofs.Valued.{Goes}
-use Rattle.codegen_follows.proofs.Follows.{Held, end_block_goes, decide_goes, head_goes, turn_goes, again_goes, end_select_goes}
-use Rattle.codegen_steps.proofs.Stored.{store_goes}
-use Rattle.codegen_steps.proofs.Taken.{ask_goes}
-use Rattle.codegen_steps.proofs.Ranged.{next_goes, round_goes, item_ends}
-use Rattle.codegen_steps.proofs.Returned.{YieldKnown, Gives, AllWait, AllSitting, give_goes, end_goes}
-use Rattle.codegen_requests.proofs.Channels.{Grounds}
-use Rattle.codegen_requests.proofs.Calling.{AllThere, Starting}
+use Rattle.codegen_selects.proofs.Paths.{AllKnown}
+use Rattle.codegen_selects.proofs.Stands.{Around, View, variables, Begins, Sits}
+use Rattle.codegen_selects.proofs.Begun.{FineBehind}
+use Rattle.codegen_selects.proofs.Valued.{Goes}
+use Rattle.codegen_selects.proofs.Follows.{Held, end_block_goes, decide_goes, head_goes, turn_goes, again_goes, end_select_goes}
+use Rattle.codegen_selects.proofs.Stored.{store_goes}
+use Rattle.codegen_selects.proofs.Taken.{ask_goes}
+use Rattle.codegen_selects.proofs.Ranged.{next_goes, round_goes, item_ends}
+use Rattle.codegen_selects.proofs.Returned.{YieldKnown, Gives, AllWait, AllSitting, give_goes, end_goes}
+use Rattle.codegen_selects.proofs.Channels.{Grounds}
+use Rattle.codegen_selects.proofs.Calling.{AllThere, Starting}
 use Rattle.codegen_selects.proofs.Chosen.{choose_goes}
 use Rattle.codegen_statements.proofs.Statements.{statement_goes}
 

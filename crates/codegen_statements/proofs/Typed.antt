@@ -43,16 +43,16 @@ use Rattle.codegen_base.proofs.Assigned.{AreLike, all_words_of}
 use Rattle.codegen_base.proofs.Expressions.{zeros_goes}
 use Rattle.codegen_base.proofs.Seen.{seen}
 use Rattle.codegen_base.proofs.Typing.{Free, FieldsKnown, fits, broken, nodes_end, worth_there}
-use Rattle.codegen_follows.proofs.Stands.{Around, View, scope_of, variables, Together, IsOn, Fine, Storing, Sits}
-use Rattle.codegen_follows.proofs.Valued.{Goes}
-use Rattle.codegen_follows.proofs.Follows.{Held, Sitting, Rest}
-use Rattle.codegen_requests.proofs.Channels.{Grounds}
-use Rattle.codegen_requests.proofs.Requests.{type_anywhere}
-use Rattle.codegen_steps.proofs.Returned.{Gives}
-use Rattle.codegen_requests.proofs.Calling.{Wait, AllThere, Starting}
-use Rattle.codegen_requests.proofs.Assigns.{values_go, kept_types, operation_go}
-use Rattle.codegen_requests.proofs.Sets.{AreTyped, RightNoted, given_long, given_typed}
-use Rattle.codegen_ranges.proofs.Names.{neither, AllNamesSuit, NameSuits, names_are, AreNew, new_names}
+use Rattle.codegen_selects.proofs.Stands.{Around, View, scope_of, variables, Together, IsOn, Fine, Storing, Sits}
+use Rattle.codegen_selects.proofs.Valued.{Goes}
+use Rattle.codegen_selects.proofs.Follows.{Held, Sitting, Rest}
+use Rattle.codegen_selects.proofs.Channels.{Grounds}
+use Rattle.codegen_selects.proofs.Requests.{type_anywhere}
+use Rattle.codegen_selects.proofs.Returned.{Gives}
+use Rattle.codegen_selects.proofs.Calling.{Wait, AllThere, Starting}
+use Rattle.codegen_selects.proofs.Assigns.{values_go, kept_types, operation_go}
+use Rattle.codegen_selects.proofs.Sets.{AreTyped, RightNoted, given_long, given_typed}
+use Rattle.codegen_selects.proofs.Names.{neither, AllNamesSuit, NameSuits, names_are, AreNew, new_names}
 use Rattle.codegen_statements.proofs.Untyped.{declared_there}
 
 module _ (file : File) (elements : List Element) (all : AllWide (globals file).structs) (known_fields : (s : Scope) → FieldsKnown (globals file) s) (code : Code) (result : Yield) (f : CodeFunction) (ls : Words) (view : View) (fine : Fine file elements all code result f view) where

@@ -26,15 +26,15 @@ use Rattle.plan.proofs.Steps.{spots as code_spots}
 use Rattle.codegen_base.proofs.Fields.{AllWide, AllTyped}
 use Rattle.codegen_base.proofs.Seen.{seen}
 use Rattle.codegen_base.proofs.Typing.{Free, FieldsKnown, broken}
-use Rattle.codegen_follows.proofs.Stands.{Around, View, scope_of, variables, Together, IsOn, Fine}
-use Rattle.codegen_follows.proofs.Valued.{Goes}
-use Rattle.codegen_follows.proofs.Follows.{Held, Sitting, Rest}
-use Rattle.codegen_steps.proofs.Returned.{Gives}
-use Rattle.codegen_requests.proofs.Channels.{Grounds}
-use Rattle.codegen_requests.proofs.Calling.{Wait, AllThere, Starting}
-use Rattle.codegen_requests.proofs.Sets.{RightNoted}
-use Rattle.codegen_ranges.proofs.Names.{neither, AreNew, new_names}
-use Rattle.codegen_ranges.proofs.Defined.{names_go}
+use Rattle.codegen_selects.proofs.Stands.{Around, View, scope_of, variables, Together, IsOn, Fine}
+use Rattle.codegen_selects.proofs.Valued.{Goes}
+use Rattle.codegen_selects.proofs.Follows.{Held, Sitting, Rest}
+use Rattle.codegen_selects.proofs.Returned.{Gives}
+use Rattle.codegen_selects.proofs.Channels.{Grounds}
+use Rattle.codegen_selects.proofs.Calling.{Wait, AllThere, Starting}
+use Rattle.codegen_selects.proofs.Sets.{RightNoted}
+use Rattle.codegen_selects.proofs.Names.{neither, AreNew, new_names}
+use Rattle.codegen_selects.proofs.Defined.{names_go}
 
 -- names that a declaration may have
 pub record IsDeclared (s : Scope) (names : List (List ℕ)) : Type 0 where

@@ -52,11 +52,11 @@ use Rattle.codegen_base.proofs.Seen.{seen, seen_one, seen_lookup, found_below}
 use Rattle.codegen_base.proofs.Assigned.{AreSpots}
 use Rattle.codegen_base.proofs.Typing.{Free, FieldsKnown, fits, broken, made, nodes_end, worth_there}
 use Rattle.codegen_base.proofs.Expressions.{found_like}
-use Rattle.codegen_steps.proofs.Paths.{AllKnown}
-use Rattle.codegen_follows.proofs.Stands.{Around, View, scope_of, variables, Together, IsOn, Fine, Storing, Sits}
-use Rattle.codegen_follows.proofs.Valued.{Goes, E, valued_by}
-use Rattle.codegen_follows.proofs.Follows.{Held, Sitting, Rest}
-use Rattle.codegen_requests.proofs.Places.{Reaches, reaches, places_are, places_stay}
+use Rattle.codegen_selects.proofs.Paths.{AllKnown}
+use Rattle.codegen_selects.proofs.Stands.{Around, View, scope_of, variables, Together, IsOn, Fine, Storing, Sits}
+use Rattle.codegen_selects.proofs.Valued.{Goes, E, valued_by}
+use Rattle.codegen_selects.proofs.Follows.{Held, Sitting, Rest}
+use Rattle.codegen_selects.proofs.Places.{Reaches, reaches, places_are, places_stay}
 
 -- ---- a part of a part
 

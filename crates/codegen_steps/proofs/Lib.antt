@@ -8,3 +8,9 @@ pub mod Outers
 pub mod Simples
 pub mod Loops
 pub mod Branches
+pub use Rattle.codegen_follows.proofs.Begun
+pub use Rattle.codegen_follows.proofs.Follows
+pub use Rattle.codegen_follows.proofs.Grown
+pub use Rattle.codegen_follows.proofs.Stands
+pub use Rattle.codegen_follows.proofs.Unwound
+pub use Rattle.codegen_follows.proofs.Valued

@@ -4,6 +4,7 @@
 pub mod call_stack;
 pub mod fetch;
 pub mod frame;
+mod fused;
 mod instrs;
 pub mod outcome;
 pub mod request;

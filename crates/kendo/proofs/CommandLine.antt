@@ -1,8 +1,10 @@
 -- What the getters of a command's values read.
-use Rattle.std.proofs.Common.{◌≡◌, ℕ, ◌<◌, ◌^◌, List, Option, Some, None, Result, Ok, Err, refl, sym, ap, ap₂, subst, ◌∙◌}
-use Rattle.std.specs.Prelude.{option_map, codes}
+use Rattle.std.proofs.Common.{Bool, false, ◌≡◌, ℕ, ◌<◌, ◌^◌, List, Option, Some, None, Result, Ok, Err, refl, sym, ap, ap₂, subst, ◌∙◌}
+use Rattle.std.specs.Prelude.{◌↔◌, IsTrue, option_map, codes}
 use Rattle.std.specs.Str.Parse.{ParsesUnsigned}
+use Rattle.std.proofs.lemmas.Bool.{false≢true}
 use Rattle.std.proofs.lemmas.Option.{none-some}
+use Rattle.std.specs.Bool.{Decides}
 use Rattle.clap.specs.Words.{ReadsOne, Row, Text, first_of}
 use Rattle.kendo.specs.declared.arguments.Invocation.{Invocation}
 use Rattle.kendo.specs.CommandLine.{Does, IsAsked, IsNumberThere}
@@ -36,10 +38,19 @@ both_parts {A = A} {B = B} f g (Some x) a b first second =
 -- a command that does this with these files asks for all of it
 pub asked : (found : Option (Text × List Row)) (name : Text) (rows : List Row) (invocation : Invocation) → found ≡ Some (name, rows)
     → Does name rows invocation.subcommand → Some invocation.file.now ≡ first_of (codes "FILE") rows
-    → option_map (λ path. path.now) invocation.trace ≡ first_of (codes "trace") rows → IsAsked found (Some invocation)
-asked found name rows invocation is does file trace = subst (λ x. IsAsked x (Some invocation)) (sym is) (does, sym file, sym trace)
+    → option_map (λ path. path.now) invocation.trace ≡ first_of (codes "trace") rows
+    → (IsTrue invocation.explains ↔ (first_of (codes "explain") rows ≡ Some (codes "true"))) → IsAsked found (Some invocation)
+asked found name rows invocation is does file trace explains = subst (λ x. IsAsked x (Some invocation)) (sym is) (does, sym file, sym trace, explains)
 
 -- without a file it asks for nothing
 pub not_asked : (found : Option (Text × List Row)) (name : Text) (rows : List Row) → found ≡ Some (name, rows)
     → None ≡ first_of (codes "FILE") rows → IsAsked found None
 not_asked found name rows is no_file = subst (λ x. IsAsked x None) (sym is) (λ invocation asks. none-some _ (no_file ∙ asks.1))
+
+-- an option that is there with a text, which is tested
+pub flag_there : (set : Bool) (value wanted : List ℕ) (found : Option (List ℕ)) → Some value ≡ found → Decides set (value ≡ wanted) → IsTrue set ↔ (found ≡ Some wanted)
+flag_there set value wanted found is tests = ((λ yes. sym is ∙ ap Some (tests.0 yes)), (λ same. tests.1 (some_same value wanted (is ∙ same))))
+
+-- one that is not there
+pub flag_missing : (wanted : List ℕ) (found : Option (List ℕ)) → None ≡ found → IsTrue false ↔ (found ≡ Some wanted)
+flag_missing wanted found is = ((λ yes. absurd (false≢true yes)), (λ same. absurd (none-some wanted (is ∙ same))))

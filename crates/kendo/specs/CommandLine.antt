@@ -1,8 +1,8 @@
 -- The command line: the commands that are taken, and what the words of one ask for.
-use Rattle.std.specs.Prelude.{◌≡◌, ℕ, ◌<◌, ◌-◌, ◌^◌, List, [], ◌∷◌, Option, Some, None, option_map, false, true, codes}
+use Rattle.std.specs.Prelude.{◌≡◌, ◌↔◌, IsTrue, ℕ, ◌<◌, ◌-◌, ◌^◌, List, [], ◌∷◌, Option, Some, None, option_map, false, true, codes}
 use Rattle.std.specs.Str.Parse.{IsNumeral, digits_value, without_leading_plus}
 use Rattle.clap.specs.Words.{App, Row, Rule, Text, first_of, new_app, new_rule, one_of, with_rule, with_subcommand}
-use Rattle.clap.specs.declared.builder.action.ArgAction.TheVariants.{Set}
+use Rattle.clap.specs.declared.builder.action.ArgAction.TheVariants.{Set, SetTrue}
 use Rattle.clap.specs.declared.builder.command.Command.{Command}
 use Rattle.clap.specs.declared.builder.command.Command.TheViews.{out-Command}
 use Rattle.clap.specs.declared.builder.value_parser.ValueParser.TheVariants.{Unsigned}
@@ -25,9 +25,13 @@ number name default = record (new_rule name) {
   defaults = default ∷ [];
 }
 
--- kendo check FILE
+-- whether it is also told in a sentence what is wrong
+abbrev pub explain : Rule
+explain = record (new_rule (codes "explain")) { long = Some (codes "explain"); action = Some SetTrue }
+
+-- kendo check FILE [--explain]
 abbrev pub check : App
-check = with_rule (new_app (codes "check")) file
+check = with_rule (with_rule (new_app (codes "check")) file) explain
 
 -- kendo list FILE
 abbrev pub list : App
@@ -44,13 +48,17 @@ limit = number (codes "limit") (codes "1099511627776")
 abbrev pub trace : Rule
 trace = record (new_rule (codes "trace")) { long = Some (codes "trace"); value_names = 1 }
 
--- kendo reference FILE [--limit L]
+-- kendo reference FILE [--limit L] [--explain]
 abbrev pub reference : App
-reference = with_rule (with_rule (new_app (codes "reference")) file) limit
+reference = with_rule (with_rule (with_rule (new_app (codes "reference")) file) limit) explain
 
 -- kendo run FILE [--workers N] [--limit L] [--trace TRACE]
+abbrev pub plain_run : App
+plain_run = with_rule (with_rule (with_rule (with_rule (new_app (codes "run")) file) workers) limit) trace
+
+-- kendo run FILE [--workers N] [--limit L] [--trace TRACE] [--explain]
 abbrev pub run : App
-run = with_rule (with_rule (with_rule (with_rule (new_app (codes "run")) file) workers) limit) trace
+run = with_rule plain_run explain
 
 -- one of the four has to be there
 abbrev pub kendo : App
@@ -77,11 +85,12 @@ Does name rows (subcommands.Reference limit) = (name ≡ codes "reference") × I
 Does name rows (subcommands.Run workers limit) =
     (name ≡ codes "run") × IsNumber (one_of (codes "workers") rows) workers × IsNumber (one_of (codes "limit") rows) limit
 
--- the same with the file, and with the file of the trace where one was named
+-- the same with the file, with the file of the trace where one was named, and whether what is wrong is explained
 abbrev pub Asks : Text × List Row → Invocation → Type 0
 Asks (name, rows) invocation =
     Does name rows invocation.subcommand × (first_of (codes "FILE") rows ≡ Some invocation.file.now)
     × (first_of (codes "trace") rows ≡ option_map (λ path. path.now) invocation.trace)
+    × (IsTrue invocation.explains ↔ (first_of (codes "explain") rows ≡ Some (codes "true")))
 
 -- the number that the text is, or none where it is no number
 abbrev pub IsNumberThere : Option Text → Option ℕ → Type 0

@@ -1,8 +1,8 @@
 //! The command line.
 
-ghost use Rattle.std.specs.Prelude.{◌≡◌, false, codes, IfOk};
-ghost use Rattle.clap.specs.Words.{app_of, found_of, one_of, rows_of, rule_of, subcommand_rows_of};
-ghost use Rattle.kendo.specs.CommandLine.{IsAsked, IsDone, IsLocal, IsNumberThere, check, file, kendo, limit, list, number, reference, run, trace, workers};
+ghost use Rattle.std.specs.Prelude.{◌≡◌, ◌↔◌, false, codes, IfOk, IsTrue, Some};
+ghost use Rattle.clap.specs.Words.{app_of, first_of, found_of, one_of, rows_of, rule_of, subcommand_rows_of, with_rule};
+ghost use Rattle.kendo.specs.CommandLine.{IsAsked, IsDone, IsLocal, IsNumberThere, check, explain, file, kendo, limit, list, number, plain_run, reference, run, trace, workers};
 
 use clap::{Arg, ArgAction, ArgMatches, Command, value_parser};
 use std::alloc::{AllocError, Global};
@@ -14,6 +14,8 @@ pub struct Invocation<'a> {
     pub file: &'a str,
     /// The path of the file that the trace goes to, as it was typed, where it was.
     pub trace: Option<&'a str>,
+    /// Whether it is also told in a sentence what is wrong with the text.
+    pub explains: bool,
     /// What is done with it.
     pub subcommand: Subcommand,
 }
@@ -108,14 +110,34 @@ fn trace_argument<'a>(alloc: Global) -> Arg<'a>
         .help("Writes each operation with its logical time to this file")
 }
 
+/// The option that asks for a sentence on what is wrong.
+fn explain_argument<'a>(alloc: Global) -> Arg<'a>
+    ensures rule { rule_of result ≡ explain }
+    ensures local { result.global ≡ false }
+{
+    Arg::new(alloc, "explain")
+        .long("explain")
+        .help("Tells in a sentence what is wrong with the text, and shows the place")
+        .action(ArgAction::SetTrue)
+}
+
+/// A command that also takes this option.
+fn explained<'a>(alloc: Global, command: Command<'a>) -> Result<Command<'a>, AllocError>
+    ensures app { IfOk result (λ c. app_of c ≡ with_rule (app_of command.entry) explain) }
+    ensures local { IsLocal command.entry → IfOk result IsLocal }
+{
+    command.arg(explain_argument(alloc))
+}
+
 /// The command that checks a text.
 fn check_command<'a>(alloc: Global) -> Result<Command<'a>, AllocError>
     ensures app { IfOk result (λ c. app_of c ≡ check) }
     ensures local { IfOk result IsLocal }
 {
-    Command::new(alloc, "check")
+    let command = Command::new(alloc, "check")
         .about("Checks whether a text is a program")
-        .arg(file_argument(alloc))
+        .arg(file_argument(alloc))?;
+    explained(alloc, command)
 }
 
 /// The command that lists a program's code.
@@ -133,15 +155,25 @@ fn reference_command<'a>(alloc: Global) -> Result<Command<'a>, AllocError>
     ensures app { IfOk result (λ c. app_of c ≡ reference) }
     ensures local { IfOk result IsLocal }
 {
-    Command::new(alloc, "reference")
+    let command = Command::new(alloc, "reference")
         .about("Interprets a program as it stands")
         .arg(file_argument(alloc))?
-        .arg(limit_argument(alloc))
+        .arg(limit_argument(alloc))?;
+    explained(alloc, command)
 }
 
 /// The command that runs a program.
 fn run_command<'a>(alloc: Global) -> Result<Command<'a>, AllocError>
     ensures app { IfOk result (λ c. app_of c ≡ run) }
+    ensures local { IfOk result IsLocal }
+{
+    let command = plain_run_command(alloc)?;
+    explained(alloc, command)
+}
+
+/// The same without the option that all commands have which tell what is wrong with a text.
+fn plain_run_command<'a>(alloc: Global) -> Result<Command<'a>, AllocError>
+    ensures app { IfOk result (λ c. app_of c ≡ plain_run) }
     ensures local { IfOk result IsLocal }
 {
     Command::new(alloc, "run")
@@ -176,6 +208,16 @@ fn option_number(matches: &ArgMatches<'_>, name: &str) -> Option<u64>
     matches.get_one::<u64>(name)
 }
 
+/// Whether an option without a value is there.
+fn is_set(matches: &ArgMatches<'_>, name: &str) -> bool
+    ensures { IsTrue result ↔ (first_of name.now (rows_of (found_of matches.now)) ≡ Some (codes "true")) }
+{
+    match matches.get_str(name) {
+        Some(value) => value == "true",
+        None => false,
+    }
+}
+
 /// What the command of a name does, with the values that it has.
 fn subcommand_named(name: &str, matches: &ArgMatches<'_>) -> Option<Subcommand>
     ensures { IsDone name.now (rows_of (found_of matches.now)) result }
@@ -201,9 +243,11 @@ pub(crate) fn invocation_of<'a>(matches: &ArgMatches<'a>) -> Option<Invocation<'
     let (name, matches) = matches.subcommand()?;
     let subcommand = subcommand_named(name, matches)?;
     let trace = matches.get_str("trace");
+    let explains = is_set(matches, "explain");
     Some(Invocation {
         file: matches.get_str("FILE")?,
         trace,
+        explains,
         subcommand,
     })
 }

@@ -15,6 +15,7 @@ mod tracing;
 
 use arguments::{Invocation, Subcommand, command, invocation_of};
 use clap::error::ErrorKind;
+use diagnostic::explanation;
 use go_text::source::MAX_LENGTH;
 use go_text::{Fault, Memory};
 use kendo_base::{Gate, check_bytes, list_bytes, reference_bytes, report, run_bytes};
@@ -142,17 +143,10 @@ fn perform(
         }
     };
     let Some(path) = invocation.trace else {
-        return answer(
-            rt,
-            leave,
-            alloc,
-            invocation.subcommand,
-            bytes,
-            Trace::Dropped,
-        );
+        return answer(rt, leave, alloc, invocation, bytes, Trace::Dropped);
     };
     match create(rt, alloc, path) {
-        Ok(trace) => answer(rt, leave, alloc, invocation.subcommand, bytes, trace),
+        Ok(trace) => answer(rt, leave, alloc, invocation, bytes, trace),
         Err(error) => {
             complain(rt, alloc, "create", path, &error)?;
             Ok(USAGE)
@@ -176,22 +170,53 @@ fn complain(
     Ok(())
 }
 
-/// Does with the text what the command says, and tells how it ended.
+/// Does with the text what the command says, and tells how it ended. What is wrong with the text is explained behind that, where
+/// it was asked for: line and status are the same.
 #[tactic(auto, using(crate::proofs::Findings::told))]
 fn answer(
     rt: &HostRuntime,
     leave: &(impl Threads + Wait + Sync),
     alloc: Global,
-    subcommand: Subcommand,
+    invocation: &Invocation<'_>,
     bytes: Vec<u8>,
     trace: Trace,
 ) -> Result<u8, Memory>
-    ensures { IfOk result (λ status. (status ≡ USAGE) ⊎ Tells subcommand status) }
+    ensures { IfOk result (λ status. (status ≡ USAGE) ⊎ Tells invocation.now.subcommand status) }
 {
-    let outcome = find(rt, leave, alloc, subcommand, bytes, trace);
+    let kept = kept_text(alloc, invocation, bytes.as_slice());
+    let outcome = find(rt, leave, alloc, invocation.subcommand, bytes, trace);
     let (line, status) = report(alloc, &outcome)?;
     tell(rt, line.as_slice());
+    explain(rt, alloc, invocation.file, kept, &outcome);
     Ok(status)
+}
+
+/// A copy of the text, where it may have to be explained what is wrong with it.
+fn kept_text(alloc: Global, invocation: &Invocation<'_>, bytes: &[u8]) -> Option<Vec<u8>> {
+    if !invocation.explains {
+        return None;
+    }
+    bytes.to_vec(alloc).ok()
+}
+
+/// Tells on standard error, in a sentence, what is wrong with the text that was kept. Where memory or the stream is refused,
+/// nothing else changes.
+fn explain(
+    rt: &HostRuntime,
+    alloc: Global,
+    path: &str,
+    kept: Option<Vec<u8>>,
+    outcome: &Result<End, Fault>,
+) {
+    if let (Some(bytes), Err(fault)) = (kept, outcome) {
+        let text = match String::from_utf8(bytes) {
+            Ok(text) => text,
+            Err(_) => String::new(alloc),
+        };
+        if let Ok(told) = explanation(alloc, path, text.as_str(), fault) {
+            tell(rt, told.as_slice());
+        }
+    }
 }
 
 /// What the command finds in the text, which it checks, lists, interprets or runs.

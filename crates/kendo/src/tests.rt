@@ -28,6 +28,7 @@ fn accepted_words(rt: HostRuntime) -> Result<(), Fail> {
         let wanted = Invocation {
             file,
             trace,
+            explains: false,
             subcommand,
         };
         assert_eq!(rt; invocation, wanted);
@@ -58,6 +59,7 @@ fn accepted_commands_of_a_file(rt: HostRuntime) -> Result<(), Fail> {
         let wanted = Invocation {
             file,
             trace: None,
+            explains: false,
             subcommand,
         };
         assert_eq!(rt; invocation, wanted);

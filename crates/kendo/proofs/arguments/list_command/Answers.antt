@@ -1,4 +1,4 @@
-use Rattle.std.proofs.Common.{codes, false, ap, ap₂, ◌≡◌, ◌∙◌, ◌||◌}
+use Rattle.std.proofs.Common.{codes, ap, ap₂, ◌≡◌, ◌∙◌, ◌||◌}
 use Rattle.std.proofs.lemmas.Result.{IfOk-weaker}
 use Rattle.clap.specs.Words.{app_of, new_app, with_rule}
 use Rattle.clap.specs.Simple.{app_of_fields}

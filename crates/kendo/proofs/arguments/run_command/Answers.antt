@@ -1,24 +1,12 @@
-use Rattle.std.proofs.Common.{codes, false, ap, ap₂, ◌≡◌, ◌∙◌, ◌||◌}
+use Rattle.std.proofs.Common.{ap, ◌∙◌}
 use Rattle.std.proofs.lemmas.Result.{IfOk-weaker}
-use Rattle.clap.specs.Words.{app_of, new_app, with_rule}
-use Rattle.clap.specs.Simple.{app_of_fields}
-use Rattle.clap.specs.declared.builder.command.Command.TheViews.{out-Command}
-use Rattle.kendo.specs.CommandLine.{file, limit, workers}
+use Rattle.clap.specs.Words.{with_rule}
+use Rattle.kendo.specs.CommandLine.{explain}
 use Rattle.kendo.proofs.arguments.run_command.Goals as goal
 
 pub returns-clause-app : goal.returns-clause-app
 returns-clause-app c =
-    let named : app_of c.about.result ≡ new_app (codes "run") = ap app_of_fields c.about.ensures ∙ c.new.ensures.app in
-    let with_file : app_of c.in_ok-arg.field-0 ≡ with_rule (new_app (codes "run")) file = c.in_ok-arg.ensures.shape c.file_argument.ensures.local ∙ ap₂ with_rule named c.file_argument.ensures.rule in
-    let with_workers : app_of c.in_ok-arg-2.field-0 ≡ with_rule (with_rule (new_app (codes "run")) file) workers =
-    c.in_ok-arg-2.ensures.shape c.workers_argument.ensures.local ∙ ap₂ with_rule with_file c.workers_argument.ensures.rule in
-    let with_limit : app_of c.in_ok-arg-3.field-0 ≡ with_rule (with_rule (with_rule (new_app (codes "run")) file) workers) limit =
-    c.in_ok-arg-3.ensures.shape c.limit_argument.ensures.local ∙ ap₂ with_rule with_workers c.limit_argument.ensures.rule in
-    IfOk-weaker c.arg-4.result _ _ (λ made adds. adds.shape c.trace_argument.ensures.local ∙ ap₂ with_rule with_limit c.trace_argument.ensures.rule) c.arg-4.ensures
+    IfOk-weaker c.explained.result _ _ (λ made adds. adds ∙ ap (λ a. with_rule a explain) c.in_ok-command.ensures.app) c.explained.ensures.app
 
 pub returns-clause-local : goal.returns-clause-local
-returns-clause-local c =
-    let with_file : (out-Command c.in_ok-arg.field-0).has_globals ≡ false = c.in_ok-arg.ensures.globals ∙ ap₂ ◌||◌ (ap (λ f. f.has_globals) c.about.ensures ∙ c.new.ensures.local) c.file_argument.ensures.local in
-    let with_workers : (out-Command c.in_ok-arg-2.field-0).has_globals ≡ false = c.in_ok-arg-2.ensures.globals ∙ ap₂ ◌||◌ with_file c.workers_argument.ensures.local in
-    let with_limit : (out-Command c.in_ok-arg-3.field-0).has_globals ≡ false = c.in_ok-arg-3.ensures.globals ∙ ap₂ ◌||◌ with_workers c.limit_argument.ensures.local in
-    IfOk-weaker c.arg-4.result _ _ (λ made adds. adds.globals ∙ ap₂ ◌||◌ with_limit c.trace_argument.ensures.local) c.arg-4.ensures
+returns-clause-local c = c.explained.ensures.local c.in_ok-command.ensures.local

@@ -1,6 +1,0 @@
-use Rattle.std.proofs.Common.{◌≡◌, suc, drop}
-use Rattle.word.specs.Requests.{clause_offers, first_on}
-use Rattle.channel_core.proofs.sleepers.clause_at_close.Given as goal
-
-abbrev pub invariant-loop-i : goal.invariant-loop-i
-invariant-loop-i l = first_on l.chan (clause_offers (suc l.i) (drop l.i l.cases)) ≡ first_on l.chan (clause_offers 1 l.cases)

@@ -1,6 +1,0 @@
-use Rattle.std.proofs.Common.{◌≡◌, drop}
-use Rattle.word.specs.Requests.{partner}
-use Rattle.channel_core.proofs.sleepers.find_partner.Given as goal
-
-abbrev pub invariant-loop-sleeper : goal.invariant-loop-sleeper
-invariant-loop-sleeper l = partner l.chan l.sends (drop l.sleeper-index l.asleep) ≡ partner l.chan l.sends l.asleep

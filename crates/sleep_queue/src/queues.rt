@@ -1,0 +1,270 @@
+//! Rows of offers.
+
+ghost use Rattle.std.specs.Prelude.{◌≡◌, ◌≢◌, ℕ, ◌+◌, ◌*◌, ◌<◌, ◌≤◌, List, Option, None, Some, [], ◌∷◌, ◌++◌, length, IfOk, IfNone, IfSome, OnErr, OnOk, OnSome, option_copied, option_map};
+ghost use Rattle.std.specs.List.{filter};
+ghost use Rattle.sleep_queue.specs.Queue.{Waiting, first, head_at, head_with, head_without, is_at, is_in_either, is_not_of, is_of, is_other, node_at, row_of, sooner, without_first};
+
+use crate::offer::{Node, Offer};
+use crate::owners::Owners;
+use crate::rings::Rings;
+use go_text::Memory;
+use slab::Slab;
+use std::alloc::Global;
+use std::marker::Model;
+use std::sync::ledger::Ledger;
+use steps::Steps;
+
+/// Rows of offers, each in the order in which its offers entered. An offer leaves from anywhere, and all offers of a
+/// goroutine leave together; nothing is searched.
+#[derive(Drop)]
+pub struct SleepQueues {
+    slots: Slab<Node>,
+    /// Above the stamp of each offer.
+    time: u64,
+    /// Each row is a ring of the keys of its offers.
+    rows: Rings,
+    /// Each row's first offer.
+    heads: Vec<Option<usize>>,
+    /// Each goroutine's offers are a ring of their keys.
+    own: Rings,
+    /// Each goroutine's first offer.
+    owners: Owners,
+}
+
+impl Model for SleepQueues {
+    ghost use Rattle.sleep_queue.specs.Queue.{IsQueues, QueuesValue, in_order};
+    ghost use Rattle.std.specs.Prelude.{length};
+
+    ghost Value = { QueuesValue };
+
+    ghost view = { λ q. record { rows = length q.heads.items; waiting = in_order q.slots.slots q.time } };
+
+    ghost invariant = { λ q. IsQueues q.slots.slots q.time q.rows.next q.heads.items q.own.next q.owners };
+}
+
+impl SleepQueues {
+    /// No rows.
+    pub fn new(alloc: Global) -> SleepQueues
+        ensures { result ≡ record { rows = 0; waiting = [] } }
+    {
+        SleepQueues {
+            slots: Slab::new(alloc),
+            time: 0,
+            rows: Rings::new(alloc),
+            heads: Vec::new(alloc),
+            own: Rings::new(alloc),
+            owners: Owners::new(alloc),
+        }
+    }
+
+    /// Two more rows, which are empty: the number of the first.
+    pub fn add_rows(&mut self) -> Result<usize, Memory>
+        ensures row { IfOk result (λ row. row ≡ self.old.rows) }
+        ensures ok { OnOk result (self.new ≡ record self.old { rows = self.old.rows + 2 }) }
+        ensures memory { OnErr result (self.new ≡ self.old) }
+    {
+        self.heads.reserve(2)?;
+        let row = self.heads.len();
+        self.heads.push_reserved(None);
+        self.heads.push_reserved(None);
+        Ok(row)
+    }
+
+    /// How many rows there are.
+    pub fn rows(&self) -> usize
+        ensures { result ≡ self.now.rows }
+    {
+        self.heads.len()
+    }
+
+    /// An offer enters a row at its back: its key.
+    pub fn enter(&mut self, row: usize, offer: Offer) -> Result<usize, Memory>
+        requires { row < self.old.rows }
+        ensures ok { IfOk result (λ key. self.new ≡ record self.old { waiting = self.old.waiting ++ record { key = key; row = row; offer = offer } ∷ [] }) }
+        ensures memory { OnErr result (self.new ≡ self.old) }
+    {
+        let Some(later) = later(self.time) else {
+            return Err(Memory);
+        };
+        self.slots.reserve(1)?;
+        let key = self.slots.vacant_key();
+        self.rows.cover(key)?;
+        self.own.cover(key)?;
+        let first = self.owners.join(offer.number, key)?;
+        self.own.join(key, first);
+        let head = head_of(self.heads.as_slice(), row);
+        self.rows.join(key, head);
+        set_head(&mut self.heads, row, head_with(head, key));
+        let stamp = self.time;
+        self.slots.insert_reserved(Node { row, stamp, offer });
+        self.time = later;
+        Ok(key)
+    }
+
+    /// The first offer of a row.
+    pub fn first(&self, row: usize) -> Option<&Offer>
+        ensures { option_copied result ≡ option_map (λ (w : Waiting). w.offer) (first (row_of row self.now.waiting)) }
+    {
+        let Some(key) = head_of(self.heads.as_slice(), row) else {
+            return None;
+        };
+        match self.slots.get(key) {
+            Some(node) => Some(&node.offer),
+            None => None,
+        }
+    }
+
+    /// The first offer of two rows: the one that entered first.
+    pub fn first_of_two(&self, row: usize, other: usize) -> Option<&Offer>
+        ensures { option_copied result ≡ option_map (λ (w : Waiting). w.offer) (first (filter (is_in_either row other) self.now.waiting)) }
+    {
+        let heads = self.heads.as_slice();
+        match sooner(
+            front(&self.slots, heads, row),
+            front(&self.slots, heads, other),
+        ) {
+            Some(node) => Some(&node.offer),
+            None => None,
+        }
+    }
+
+    /// The offer of this key leaves its row.
+    pub fn leave(&mut self, key: usize) -> Option<Offer>
+        ensures left { self.new ≡ record self.old { waiting = filter (is_other key) self.old.waiting } }
+        ensures offer { result ≡ option_map (λ (w : Waiting). w.offer) (first (filter (is_at key) self.old.waiting)) }
+    {
+        if !self.slots.contains(key) {
+            return None;
+        }
+        let after = self.rows.part(key);
+        let next = self.own.part(key);
+        let node = self.slots.remove(key);
+        self.owners.part(node.offer.number, key, next);
+        let head = head_of(self.heads.as_slice(), node.row);
+        set_head(&mut self.heads, node.row, head_without(head, key, after));
+        Some(node.offer)
+    }
+
+    /// The key of a row's first offer.
+    fn first_key(&self, row: usize) -> Option<usize>
+        ensures none { IfNone result (first (row_of row self.now.waiting) ≡ None) }
+        ensures some { IfSome result (λ key. (w : Waiting) × (first (row_of row self.now.waiting) ≡ Some w) × (first (filter (is_at key) self.now.waiting) ≡ Some w) × (w.key ≡ key)) }
+    {
+        let _ = &self.slots;
+        match head_of(self.heads.as_slice(), row) {
+            Some(key) => Some(key),
+            None => None,
+        }
+    }
+
+    /// The first offer of a row leaves it.
+    pub fn take_first(&mut self, row: usize) -> Option<Offer>
+        ensures offer { result ≡ option_map (λ (w : Waiting). w.offer) (first (row_of row self.old.waiting)) }
+        ensures left { self.new ≡ record self.old { waiting = without_first (first (row_of row self.old.waiting)) self.old.waiting } }
+    {
+        match self.first_key(row) {
+            Some(key) => self.leave(key),
+            None => None,
+        }
+    }
+
+    /// The key of a goroutine's first offer.
+    fn first_of(&self, number: u64) -> Option<usize>
+        ensures none { IfNone result (filter (is_not_of number) self.now.waiting ≡ self.now.waiting) }
+        ensures own { IfSome result (λ key. filter (is_not_of number) (filter (is_other key) self.now.waiting) ≡ filter (is_not_of number) self.now.waiting) }
+        ensures fewer { IfSome result (λ key. length (filter (is_of number) (filter (is_other key) self.now.waiting)) < length (filter (is_of number) self.now.waiting)) }
+    {
+        let _ = &self.slots;
+        match self.owners.get(number) {
+            Some(key) => Some(key),
+            None => None,
+        }
+    }
+
+    /// All offers of a goroutine leave their rows. For each at most three offers are touched: itself and those beside it in
+    /// its row. Those beside it among the goroutine's own leave too.
+    pub fn leave_all<L: Ledger>(&mut self, number: u64, steps: &mut Steps<L>)
+        ensures left { self.new ≡ record self.old { waiting = filter (is_not_of number) self.old.waiting } }
+        ensures steps { steps.new ≤ steps.old + 3 * length (filter (is_of number) self.old.waiting) }
+    {
+        while let Some(key) = self.first_of(number) {
+            steps.add();
+            steps.add();
+            steps.add();
+            self.leave(key);
+        }
+    }
+}
+
+/// The time after this one; none after the last.
+fn later(time: u64) -> Option<u64>
+    ensures { IfSome result (λ t. t ≡ time + 1) }
+{
+    time.checked_add(1)
+}
+
+/// The first offer of a row.
+fn head_of(heads: &[Option<usize>], row: usize) -> Option<usize>
+    ensures { result ≡ head_at heads.now row }
+{
+    if row < heads.len() { heads[row] } else { None }
+}
+
+/// The first offer of a row, with its stamp.
+fn front<'a>(slots: &'a Slab<Node>, heads: &[Option<usize>], row: usize) -> Option<&'a Node>
+    ensures { option_copied result ≡ node_at slots.now.slots (head_at heads.now row) }
+{
+    match head_of(heads, row) {
+        Some(key) => slots.get(key),
+        None => None,
+    }
+}
+
+/// The one of two offers that entered first.
+fn sooner<'a>(node: Option<&'a Node>, other: Option<&'a Node>) -> Option<&'a Node>
+    ensures { option_copied result ≡ sooner (option_copied node.entry) (option_copied other.entry) }
+{
+    match (node, other) {
+        (Some(first), Some(second)) => {
+            if second.stamp < first.stamp {
+                Some(second)
+            } else {
+                Some(first)
+            }
+        }
+        (Some(first), None) => Some(first),
+        (None, second) => second,
+    }
+}
+
+/// The row's first offer is this.
+fn set_head(heads: &mut Vec<Option<usize>>, row: usize, head: Option<usize>)
+    requires { IfSome head (λ h. row < length heads.old.items) }
+    ensures row { head_at heads.new.items row ≡ head }
+    ensures others { (q : ℕ) → q ≢ row → head_at heads.new.items q ≡ head_at heads.old.items q }
+    ensures rows { length heads.new.items ≡ length heads.old.items }
+{
+    if row < heads.len() {
+        heads[row] = head;
+    }
+}
+
+/// The head of a row that offer `key` enters.
+fn head_with(head: Option<usize>, key: usize) -> Option<usize>
+    ensures { result ≡ head_with head key }
+{
+    match head {
+        Some(first) => Some(first),
+        None => Some(key),
+    }
+}
+
+/// The head of a row that offer `key` leaves, which `after` followed.
+fn head_without(head: Option<usize>, key: usize, after: usize) -> Option<usize>
+    ensures { result ≡ head_without head key after }
+{
+    match head {
+        Some(first) if first == key => { if after == key { None } else { Some(after) } }
+        other => other,
+    }
+}

@@ -1,0 +1,20 @@
+use Rattle.std.proofs.Common.{◌≡◌, ◌∷◌, ◌+◌, suc, ℕ, map, drop, arith, drop-cons}
+use Rattle.syntax.specs.View.{top_of}
+use Rattle.spans.specs.Words.{top_step}
+use Rattle.spans.specs.Places.{top_spans, tops_spans}
+use Rattle.spans.proofs.Walks.{next_count, next_spans}
+use Rattle.spans.proofs.file.tops_spans.Goals as goal
+
+pub loop-top-preserved : goal.loop-top-preserved
+loop-top-preserved c =
+    let tokens = c.args.tokens.now in
+    let count = c.loop-top.count in
+    let first = top_of c.top-item.result in
+    let rest = drop (suc c.loop-top.top-index) c.args.tops.now in
+    let more : c.loop-top.top-index + 1 ≡ suc c.loop-top.top-index = omega arith in
+    let cut : drop c.loop-top.top-index c.args.tops.now ≡ c.top-item.result ∷ rest = rw c.top-item.is (drop-cons c.args.tops.now c.loop-top.top-index _ c.loop-top-test.true) in
+    rw more (
+      next_count top_step first (map top_of rest) count (c.in_ok-count.field-0 + 1) _ (omega (arith, c.in_ok-count.ensures.count)) (rw cut at c.loop-top.invariant.0),
+      next_spans (λ (at : ℕ). tops_spans tokens at (map top_of rest)) c.loop-top.spans.items (top_spans tokens (c.args.at + count) first) _ c.top_spans.new.spans.items (c.args.at + count + top_step first) (c.args.at + (count + (c.in_ok-count.field-0 + 1)))
+          c.in_ok-count.ensures.spans (omega (arith, c.in_ok-count.ensures.count)) (rw cut at c.loop-top.invariant.1),
+    )

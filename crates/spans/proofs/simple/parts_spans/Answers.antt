@@ -1,0 +1,20 @@
+use Rattle.std.proofs.Common.{◌≡◌, ◌∷◌, ◌+◌, suc, ℕ, map, drop, arith, drop-cons}
+use Rattle.syntax.specs.View.{part_of}
+use Rattle.spans.specs.Words.{part_step}
+use Rattle.spans.specs.Places.{part_spans, parts_spans}
+use Rattle.spans.proofs.Walks.{next_count, next_spans}
+use Rattle.spans.proofs.simple.parts_spans.Goals as goal
+
+pub loop-part-preserved : goal.loop-part-preserved
+loop-part-preserved c =
+    let tokens = c.args.tokens.now in
+    let count = c.loop-part.count in
+    let first = part_of c.part-item.result in
+    let rest = drop (suc c.loop-part.part-index) c.args.parts.now in
+    let more : c.loop-part.part-index + 1 ≡ suc c.loop-part.part-index = omega arith in
+    let cut : drop c.loop-part.part-index c.args.parts.now ≡ c.part-item.result ∷ rest = rw c.part-item.is (drop-cons c.args.parts.now c.loop-part.part-index _ c.loop-part-test.true) in
+    rw more (
+      next_count part_step first (map part_of rest) count (c.in_ok-count.field-0 + 1) _ (omega (arith, c.in_ok-count.ensures.count)) (rw cut at c.loop-part.invariant.0),
+      next_spans (λ (at : ℕ). parts_spans tokens at (map part_of rest)) c.loop-part.spans.items (part_spans tokens (c.args.at + count) first) _ c.part_spans.new.spans.items (c.args.at + count + part_step first) (c.args.at + (count + (c.in_ok-count.field-0 + 1)))
+          c.in_ok-count.ensures.spans (omega (arith, c.in_ok-count.ensures.count)) (rw cut at c.loop-part.invariant.1),
+    )

@@ -1,0 +1,20 @@
+use Rattle.std.proofs.Common.{◌≡◌, [], ◌∷◌, ◌+◌, suc, ℕ, map, drop, arith, drop-cons}
+use Rattle.syntax.specs.View.{place_of}
+use Rattle.spans.specs.Words.{place_step}
+use Rattle.spans.specs.Places.{place_span, places_spans}
+use Rattle.spans.proofs.Walks.{next_count, next_spans}
+use Rattle.spans.proofs.simple.places_spans.Goals as goal
+
+pub loop-place-preserved : goal.loop-place-preserved
+loop-place-preserved c =
+    let tokens = c.args.tokens.now in
+    let count = c.loop-place.count in
+    let first = place_of c.place-item.result in
+    let rest = drop (suc c.loop-place.place-index) c.args.places.now in
+    let more : c.loop-place.place-index + 1 ≡ suc c.loop-place.place-index = omega arith in
+    let cut : drop c.loop-place.place-index c.args.places.now ≡ c.place-item.result ∷ rest = rw c.place-item.is (drop-cons c.args.places.now c.loop-place.place-index _ c.loop-place-test.true) in
+    rw more (
+      next_count place_step first (map place_of rest) count (c.in_ok-count.field-0 + 1) _ (omega (arith, c.in_ok-count.ensures.count)) (rw cut at c.loop-place.invariant.0),
+      next_spans (λ (at : ℕ). places_spans tokens at (map place_of rest)) c.loop-place.spans.items (place_span tokens (c.args.at + count) first ∷ []) _ c.place_span.new.spans.items (c.args.at + count + place_step first) (c.args.at + (count + (c.in_ok-count.field-0 + 1)))
+          c.in_ok-count.ensures.spans (omega (arith, c.in_ok-count.ensures.count)) (rw cut at c.loop-place.invariant.1),
+    )
