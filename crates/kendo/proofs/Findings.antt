@@ -1,8 +1,8 @@
 -- What a command finds in a text, and the exit status that tells it.
 use Rattle.std.proofs.Common.{◌≡◌, ℕ, ◌⊎◌, inl, inr, List, Result, Ok, Err, IfOk, IfErr, IsErrOf, refl, sym, ap, subst, arith}
 use Rattle.kendo.specs.Answers.{EndsAs, Finds, HasReading, IsReason, IsStatus, Tells}
-use Rattle.kendo.specs.declared.arguments.Subcommand.{Subcommand}
-use Rattle.kendo.specs.declared.arguments.Subcommand.TheVariants as subcommands
+use Rattle.command_line.specs.declared.arguments.Subcommand.{Subcommand}
+use Rattle.command_line.specs.declared.arguments.Subcommand.TheVariants as subcommands
 use Rattle.kendo_base.specs.Outcome.{fault_status, report_status}
 use Rattle.kendo_base.specs.Reading.{HasNoReading, IsOfText, IsRefusal, IsWhy}
 use Rattle.worker_pool.specs.Runs.{IsWorkers}

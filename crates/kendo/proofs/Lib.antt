@@ -1,3 +1,2 @@
-pub mod CommandLine
 pub mod Findings
 pub mod Obeying

@@ -11,8 +11,8 @@ use Rattle.clap.specs.declared.error.kind.ErrorKind.TheVariants as kinds
 use Rattle.clap.specs.declared.parser.matches.ArgMatches.{ArgMatches}
 use Rattle.kendo.proofs.Findings.{told_status}
 use Rattle.kendo.specs.Answers.{IsStatus, Obeys, WasDone, WasNothing, WasShown, ShowsAs, Tells}
-use Rattle.kendo.specs.CommandLine.{IsAsked, kendo}
-use Rattle.kendo.specs.declared.arguments.Invocation.{Invocation}
+use Rattle.command_line.specs.CommandLine.{IsAsked, kendo}
+use Rattle.command_line.specs.declared.arguments.Invocation.{Invocation}
 
 fails : (app : App) (words : List Text) (parsed : Result ArgMatches Error) → app ≡ kendo → (is_simple_and_free app ≡ true → FailsBy (fault_of app words) parsed) → FailsBy (fault_of kendo words) parsed
 fails app words parsed is f = subst (λ (a : App). is_simple_and_free a ≡ true → FailsBy (fault_of a words) parsed) is f refl

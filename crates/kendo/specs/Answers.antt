@@ -7,10 +7,10 @@ use Rattle.clap.specs.Words.{Text}
 use Rattle.clap.specs.declared.error.kind.ErrorKind.{ErrorKind}
 use Rattle.clap.specs.declared.error.kind.ErrorKind.TheVariants as kinds
 use Rattle.meaning.specs.Source.{source_kind}
-use Rattle.kendo.specs.CommandLine.{IsAsked, kendo}
-use Rattle.kendo.specs.declared.arguments.Subcommand.{Subcommand}
-use Rattle.kendo.specs.declared.arguments.Subcommand.TheVariants as subcommands
-use Rattle.kendo.specs.declared.arguments.Invocation.{Invocation}
+use Rattle.command_line.specs.CommandLine.{IsAsked, kendo}
+use Rattle.command_line.specs.declared.arguments.Subcommand.{Subcommand}
+use Rattle.command_line.specs.declared.arguments.Subcommand.TheVariants as subcommands
+use Rattle.command_line.specs.declared.arguments.Invocation.{Invocation}
 use Rattle.kendo_base.specs.Outcome.{report_status}
 use Rattle.kendo_base.specs.Reading.{HasNoReading, IsWhy, Reads}
 use Rattle.worker_pool.specs.Runs.{IsWorkers}

@@ -1,3 +1,2 @@
-pub mod CommandLine
 pub mod Answers
 pub mod Traces

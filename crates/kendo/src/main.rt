@@ -8,13 +8,10 @@ ghost use Rattle.kendo_base.specs.Reading.{HasNoReading, IsOfText, IsRefusal, Is
 ghost use Rattle.worker_pool.specs.Runs.{IsWorkers};
 ghost use Rattle.one_thread.specs.Worlds.{IsLimit};
 
-mod arguments;
-#[cfg(test)]
-mod tests;
 mod tracing;
 
-use arguments::{Invocation, Subcommand, command, invocation_of};
 use clap::error::ErrorKind;
+use command_line::arguments::{Invocation, Subcommand, command, invocation_of};
 use diagnostic::explanation;
 use go_text::source::MAX_LENGTH;
 use go_text::{Fault, Memory};

@@ -1,6 +1,6 @@
 use Rattle.std.proofs.Common.{sym, subst}
 use Rattle.kendo.specs.Answers.{Finds}
-use Rattle.kendo.specs.declared.arguments.Subcommand.{Subcommand}
+use Rattle.command_line.specs.declared.arguments.Subcommand.{Subcommand}
 use Rattle.kendo.proofs.Findings.{reference_finds, run_finds}
 use Rattle.kendo.proofs.find.Goals as goal
 

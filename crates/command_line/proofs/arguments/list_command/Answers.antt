@@ -2,7 +2,7 @@ use Rattle.std.proofs.Common.{codes, ap, ap₂, ◌≡◌, ◌∙◌, ◌||◌}
 use Rattle.std.proofs.lemmas.Result.{IfOk-weaker}
 use Rattle.clap.specs.Words.{app_of, new_app, with_rule}
 use Rattle.clap.specs.Simple.{app_of_fields}
-use Rattle.kendo.proofs.arguments.list_command.Goals as goal
+use Rattle.command_line.proofs.arguments.list_command.Goals as goal
 
 pub returns-clause-app : goal.returns-clause-app
 returns-clause-app c =

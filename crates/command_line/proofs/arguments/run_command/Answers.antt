@@ -1,8 +1,8 @@
 use Rattle.std.proofs.Common.{ap, ◌∙◌}
 use Rattle.std.proofs.lemmas.Result.{IfOk-weaker}
 use Rattle.clap.specs.Words.{with_rule}
-use Rattle.kendo.specs.CommandLine.{explain}
-use Rattle.kendo.proofs.arguments.run_command.Goals as goal
+use Rattle.command_line.specs.CommandLine.{explain}
+use Rattle.command_line.proofs.arguments.run_command.Goals as goal
 
 pub returns-clause-app : goal.returns-clause-app
 returns-clause-app c =

@@ -2,8 +2,8 @@ use Rattle.std.proofs.Common.{codes, true, ap, ap₂, ◌≡◌, ◌∙◌}
 use Rattle.std.proofs.lemmas.Result.{IfOk-weaker}
 use Rattle.clap.specs.Words.{App, app_of, new_app, with_subcommand}
 use Rattle.clap.specs.Simple.{app_of_fields}
-use Rattle.kendo.specs.CommandLine.{check, list, reference}
-use Rattle.kendo.proofs.arguments.command.Goals as goal
+use Rattle.command_line.specs.CommandLine.{check, list, reference}
+use Rattle.command_line.proofs.arguments.command.Goals as goal
 
 pub returns : goal.returns
 returns c =

@@ -1,8 +1,8 @@
 use Rattle.std.specs.Str.Parse.{ParsesUnsigned, ExplainsUnsignedError, HasUnsignedDigitsIfOk}
 use Rattle.clap.specs.Words.{found_of}
 use Rattle.clap.proofs.WalkLemmas.{one_text-rows}
-use Rattle.kendo.proofs.CommandLine.{number_read}
-use Rattle.kendo.proofs.arguments.option_number.Goals as goal
+use Rattle.command_line.proofs.CommandLine.{number_read}
+use Rattle.command_line.proofs.arguments.option_number.Goals as goal
 
 pub returns : goal.returns
 returns c =

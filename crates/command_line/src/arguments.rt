@@ -2,7 +2,7 @@
 
 ghost use Rattle.std.specs.Prelude.{◌≡◌, ◌↔◌, false, codes, IfOk, IsTrue, Some};
 ghost use Rattle.clap.specs.Words.{app_of, first_of, found_of, one_of, rows_of, rule_of, subcommand_rows_of, with_rule};
-ghost use Rattle.kendo.specs.CommandLine.{IsAsked, IsDone, IsLocal, IsNumberThere, check, explain, file, kendo, limit, list, number, plain_run, reference, run, trace, workers};
+ghost use Rattle.command_line.specs.CommandLine.{IsAsked, IsDone, IsLocal, IsNumberThere, check, explain, file, kendo, limit, list, number, plain_run, reference, run, trace, workers};
 
 use clap::{Arg, ArgAction, ArgMatches, Command, value_parser};
 use std::alloc::{AllocError, Global};
@@ -185,7 +185,7 @@ fn plain_run_command<'a>(alloc: Global) -> Result<Command<'a>, AllocError>
 }
 
 /// The command that `main` reads its words with.
-pub(crate) fn command<'a>(alloc: Global) -> Result<Command<'a>, AllocError>
+pub fn command<'a>(alloc: Global) -> Result<Command<'a>, AllocError>
     ensures { IfOk result (λ c. app_of c ≡ kendo) }
 {
     let check = check_command(alloc)?;
@@ -237,7 +237,7 @@ fn subcommand_named(name: &str, matches: &ArgMatches<'_>) -> Option<Subcommand>
 }
 
 /// What the words ask for.
-pub(crate) fn invocation_of<'a>(matches: &ArgMatches<'a>) -> Option<Invocation<'a>>
+pub fn invocation_of<'a>(matches: &ArgMatches<'a>) -> Option<Invocation<'a>>
     ensures { IsAsked (subcommand_rows_of matches.now) result }
 {
     let (name, matches) = matches.subcommand()?;

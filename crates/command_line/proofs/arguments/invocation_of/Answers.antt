@@ -1,9 +1,9 @@
 use Rattle.std.proofs.Common.{rules, ◌∙◌, ap, codes, sym, subst, option_map}
 use Rattle.clap.specs.Words.{found_of, rows_of}
 use Rattle.clap.proofs.WalkLemmas.{first_value-rows}
-use Rattle.kendo.specs.CommandLine.{IsAsked}
-use Rattle.kendo.proofs.CommandLine.{asked, both_parts, not_asked}
-use Rattle.kendo.proofs.arguments.invocation_of.Goals as goal
+use Rattle.command_line.specs.CommandLine.{IsAsked}
+use Rattle.command_line.proofs.CommandLine.{asked, both_parts, not_asked}
+use Rattle.command_line.proofs.arguments.invocation_of.Goals as goal
 
 pub returns-in_err-get_str : goal.returns-in_err-get_str
 returns-in_err-get_str c =

@@ -3,8 +3,8 @@ use Rattle.std.proofs.lemmas.Bool.Decides.{Decides-eqb}
 use Rattle.std.proofs.lemmas.Slice.Eq.{slice_eq-Decides}
 use Rattle.clap.specs.Words.{found_of}
 use Rattle.clap.proofs.WalkLemmas.{first_value-rows}
-use Rattle.kendo.proofs.CommandLine.{flag_missing, flag_there}
-use Rattle.kendo.proofs.arguments.is_set.Goals as goal
+use Rattle.command_line.proofs.CommandLine.{flag_missing, flag_there}
+use Rattle.command_line.proofs.arguments.is_set.Goals as goal
 
 pub returns-in-Some : goal.returns-in-Some
 returns-in-Some c =

@@ -3,8 +3,8 @@ use Rattle.std.proofs.lemmas.Result.{IfOk-weaker}
 use Rattle.clap.specs.Words.{app_of, new_app, with_rule}
 use Rattle.clap.specs.Simple.{app_of_fields}
 use Rattle.clap.specs.declared.builder.command.Command.TheViews.{out-Command}
-use Rattle.kendo.specs.CommandLine.{explain, file, limit}
-use Rattle.kendo.proofs.arguments.reference_command.Goals as goal
+use Rattle.command_line.specs.CommandLine.{explain, file, limit}
+use Rattle.command_line.proofs.arguments.reference_command.Goals as goal
 
 pub returns-clause-app : goal.returns-clause-app
 returns-clause-app c =

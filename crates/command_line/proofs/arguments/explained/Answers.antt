@@ -1,7 +1,7 @@
 use Rattle.std.proofs.Common.{ap, ap₂, ◌∙◌, ◌||◌}
 use Rattle.std.proofs.lemmas.Result.{IfOk-weaker}
 use Rattle.clap.specs.Words.{app_of, with_rule}
-use Rattle.kendo.proofs.arguments.explained.Goals as goal
+use Rattle.command_line.proofs.arguments.explained.Goals as goal
 
 pub returns-clause-app : goal.returns-clause-app
 returns-clause-app c =

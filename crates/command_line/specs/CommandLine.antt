@@ -6,9 +6,9 @@ use Rattle.clap.specs.declared.builder.action.ArgAction.TheVariants.{Set, SetTru
 use Rattle.clap.specs.declared.builder.command.Command.{Command}
 use Rattle.clap.specs.declared.builder.command.Command.TheViews.{out-Command}
 use Rattle.clap.specs.declared.builder.value_parser.ValueParser.TheVariants.{Unsigned}
-use Rattle.kendo.specs.declared.arguments.Subcommand.{Subcommand}
-use Rattle.kendo.specs.declared.arguments.Subcommand.TheVariants as subcommands
-use Rattle.kendo.specs.declared.arguments.Invocation.{Invocation}
+use Rattle.command_line.specs.declared.arguments.Subcommand.{Subcommand}
+use Rattle.command_line.specs.declared.arguments.Subcommand.TheVariants as subcommands
+use Rattle.command_line.specs.declared.arguments.Invocation.{Invocation}
 
 -- ---- the commands that are taken
 

@@ -6,8 +6,8 @@ use Rattle.std.proofs.lemmas.Bool.{false≢true}
 use Rattle.std.proofs.lemmas.Option.{none-some}
 use Rattle.std.specs.Bool.{Decides}
 use Rattle.clap.specs.Words.{ReadsOne, Row, Text, first_of}
-use Rattle.kendo.specs.declared.arguments.Invocation.{Invocation}
-use Rattle.kendo.specs.CommandLine.{Does, IsAsked, IsNumberThere}
+use Rattle.command_line.specs.declared.arguments.Invocation.{Invocation}
+use Rattle.command_line.specs.CommandLine.{Does, IsAsked, IsNumberThere}
 
 -- what reads a text as an unsigned number of 64 bits reads the number that it is
 pub number_read : {E : Type 0} (gives : List ℕ → Result ℕ E → Type 0) (text same : Option (List ℕ)) → text ≡ same → (result : Option ℕ) → (text ≡ None → result ≡ None)
