@@ -1,8 +1,8 @@
 use Rattle.std.proofs.Common.{◌≡◌, ◌∙◌, ◌<◌, length, drop, ap, rules}
 use Rattle.std.proofs.lemmas.List.{take_rest}
 use Rattle.bytecode.specs.Machine.{Frame}
-use Rattle.goroutine_vm_base.proofs.Asking.{go_for}
-use Rattle.goroutine_vm_base.proofs.request.go.Goals as goal
+use Rattle.goroutine_vm_request.proofs.Asking.{go_for}
+use Rattle.goroutine_vm_request.proofs.request.go.Goals as goal
 
 pub returns : goal.returns
 returns c = λ callers.

@@ -7,8 +7,9 @@ use Rattle.bytecode.specs.declared.instr.WordKind.{WordKind}
 use Rattle.bytecode.specs.Machine.{Frame, zero_of}
 use Rattle.word.specs.declared.value.Word.{Word}
 use Rattle.word.specs.declared.value.Word.TheVariants.{Int}
-use Rattle.goroutine_vm_base.proofs.Asking.{make_for, drop_one}
-use Rattle.goroutine_vm_base.proofs.request.make.Goals as goal
+use Rattle.goroutine_vm_base.proofs.Quick.{drop_one}
+use Rattle.goroutine_vm_request.proofs.Asking.{make_for}
+use Rattle.goroutine_vm_request.proofs.request.make.Goals as goal
 
 pub returns-in_ok-words-in-Int : goal.returns-in_ok-words-in-Int
 returns-in_ok-words-in-Int c = λ callers.

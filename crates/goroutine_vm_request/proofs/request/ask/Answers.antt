@@ -3,8 +3,8 @@ use Rattle.std.proofs.lemmas.List.{take_rest}
 use Rattle.std.proofs.lemmas.Option.{slice_get-get_or}
 use Rattle.bytecode.specs.Code.{PrintTable}
 use Rattle.bytecode.specs.Machine.{Frame, printed}
-use Rattle.goroutine_vm_base.proofs.Asking.{print_for}
-use Rattle.goroutine_vm_base.proofs.request.ask.Goals as goal
+use Rattle.goroutine_vm_request.proofs.Asking.{print_for}
+use Rattle.goroutine_vm_request.proofs.request.ask.Goals as goal
 
 pub returns-in-Apply : goal.returns-in-Apply
 returns-in-Apply c = rw c.in-Apply.is (c.panic_of.ensures c.args.code.now c.args.callers.now)
