@@ -1,7 +1,7 @@
 //! What a goroutine asks.
 #![tactic(auto)]
 
-mod request;
+mod asked;
 mod select;
 
-pub use request::{is_asking, request};
+pub use asked::{is_asking, request};

@@ -204,6 +204,7 @@ pub fn request(
     requires { IsVerified code.now }
     ensures { IfOk result (λ o. AsksFor (code_next code.now (frame.now ∷ callers.now)) o) }
 {
+    frame.quiet();
     let have = frame.stack().len();
     match fetch(code, frame) {
         None => Ok(None),
@@ -222,6 +223,7 @@ pub fn is_asking(at_limit: bool, code: &Code, frame: &Frame, callers: &CallStack
     requires sound { code_next code.now (frame.now ∷ callers.now) ≡ Stuck → ⊥ }
     ensures { result ≡ stops at_limit (code_next code.now (frame.now ∷ callers.now)) }
 {
+    frame.quiet();
     let have = frame.stack().len();
     match fetch(code, frame) {
         None => false,
