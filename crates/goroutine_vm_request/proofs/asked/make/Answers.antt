@@ -18,7 +18,8 @@ returns-in_ok-words-in-Int c = λ callers.
     let lt : c.args.shape < length shapes = search rules in
     let here : slice_get c.args.code.now.shapes c.args.shape ≡ Some ks = ap (λ (xs : List (List WordKind)). slice_get xs c.args.shape) (sym c.shapes-shapes.ensures) ∙ slice_get-get_or shapes c.args.shape ks lt ∙ ap Some (sym c.index-shapes-shape.is) in
     let short : length ks ≤ 16 = omega (arith, c.if-kinds-gt-MAX_WORDS.false, ap length c.kinds-kinds.ensures) in
-    let one : drop c.args.at c.args.frame.now.stack ≡ Int c.in-Int.size ∷ [] = drop_one c.args.frame.now.stack c.args.at (Int c.in-Int.size) c.requires (subst (λ (st : List Word). Int c.in-Int.size ≡ get_or st c.args.at (Int c.in-Int.size)) c.stack.ensures (subst (λ (w : Word). w ≡ get_or c.stack.result.now c.args.at w) c.in-Int.is c.index.ensures)) in
+    let word : Int c.in-Int.size ≡ get_or c.stack.result.now c.args.at (Int c.in-Int.size) = search rules in
+    let one : drop c.args.at c.args.frame.now.stack ≡ Int c.in-Int.size ∷ [] = drop_one c.args.frame.now.stack c.args.at (Int c.in-Int.size) c.requires (subst (λ (st : List Word). Int c.in-Int.size ≡ get_or st c.args.at (Int c.in-Int.size)) c.stack.ensures word) in
     let same : to_z w64 (of_z w64 c.in-Int.size) ≡ c.in-Int.size = search (rules, to_z-of_z) in
     let item : c.new.result ≡ map zero_of ks = c.new.ensures ∙ c.deref.ensures.value ∙ c.in_ok-words-in-Int.ensures ∙ ap (map zero_of) c.kinds-kinds.ensures in
     make_for c.args.code.now.shapes c.args.shape ks (drop c.args.at c.args.frame.now.stack) c.in-Int.size (to_z w64 (of_z w64 c.in-Int.size)) c.new.result here short one same item
