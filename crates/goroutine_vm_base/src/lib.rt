@@ -7,7 +7,5 @@ pub mod frame;
 mod fused;
 mod instrs;
 pub mod outcome;
-pub mod request;
 pub mod run;
-pub mod select;
 pub mod step;

@@ -5,8 +5,8 @@ ghost use Rattle.bytecode.specs.Machine.{Frames, instr_next};
 ghost use Rattle.bytecode.specs.Rules.{IsVerified};
 ghost use Rattle.goroutine_vm_base.specs.Steps.{AsksFor};
 
-use crate::frame::Frame;
 use bytecode::{Code, Instr};
+use goroutine_vm_base::frame::Frame;
 use operands::select::cases;
 use std::alloc::{AllocError, Global};
 use word::request::Request;
@@ -25,7 +25,7 @@ pub(crate) fn select(
 {
     match code.selects().get(table as usize) {
         None => Ok(None),
-        Some(table) => match cases(alloc, code, table.clauses(), &frame.stack[at..])? {
+        Some(table) => match cases(alloc, code, table.clauses(), &frame.stack()[at..])? {
             None => Ok(None),
             Some(cases) => Ok(Some(Request::Select(cases, table.default().is_some()))),
         },

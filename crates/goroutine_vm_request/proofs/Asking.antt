@@ -19,12 +19,6 @@ use Rattle.word.specs.Values.{Make, Go, Print}
 use Rattle.word.specs.Kinds.{Slides, Ticks, Asks, Stuck}
 use Rattle.bytecode.proofs.Options.{get_some}
 
-pub drop_one : (st : List Word) (at : ℕ) (w : Word) → at + 1 ≡ length st → w ≡ get_or st at w → drop at st ≡ w ∷ []
-drop_one [] at w h e = absurd (omega (arith, h))
-drop_one (x ∷ []) zero w h e = ap (λ (y : Word). y ∷ []) (sym e)
-drop_one (x ∷ (y ∷ st)) zero w h e = absurd (omega (arith, h))
-drop_one (x ∷ st) (suc at) w h e = drop_one st at w (omega (arith, h)) e
-
 pub make_for : (shapes : List (List WordKind)) (s : ℕ) (ks : List WordKind) (top : List Word) (n m : ℤ) (item : List Word) → slice_get shapes s ≡ Some ks → length ks ≤ 16 → top ≡ Int n ∷ [] → m ≡ n → item ≡ map zero_of ks
     → AsksFor (if_there (slice_get shapes s) (λ xs. if_within (length xs) 16 (on_int top (λ x. Asks (Make x (map zero_of xs)))))) (Some (asked.Make m item))
 make_for shapes s ks top n m item here short one same is =

@@ -3,8 +3,8 @@ use Rattle.std.proofs.lemmas.List.{take_rest}
 use Rattle.std.proofs.lemmas.Option.{slice_get-get_or}
 use Rattle.bytecode.specs.Code.{PrintTable}
 use Rattle.bytecode.specs.Machine.{Frame, printed}
-use Rattle.goroutine_vm_base.proofs.Asking.{print_for}
-use Rattle.goroutine_vm_base.proofs.request.ask.Goals as goal
+use Rattle.goroutine_vm_request.proofs.Asking.{print_for}
+use Rattle.goroutine_vm_request.proofs.asked.ask.Goals as goal
 
 pub returns-in-Apply : goal.returns-in-Apply
 returns-in-Apply c = rw c.in-Apply.is (c.panic_of.ensures c.args.code.now c.args.callers.now)
@@ -25,8 +25,7 @@ pub returns-in_ok-text-in-Print : goal.returns-in_ok-text-in-Print
 returns-in_ok-text-in-Print c =
     let prints : List PrintTable = c.prints-prints.result.now in
     let table : PrintTable = c.index-prints-table.result in
-    let view : c.frame.inside.stack.items ≡ c.args.frame.now.stack = ap (λ (x : Frame). x.stack) c.frame.view_is in
-    let words : take (length c.deref.result.now - c.args.at) (drop c.args.at c.deref.result.now) ≡ drop c.args.at c.args.frame.now.stack = take_rest c.deref.result.now c.args.at ∙ ap (drop c.args.at) (c.deref.ensures.value ∙ view) in
+    let words : take (length c.stack.result.now - c.args.at) (drop c.args.at c.stack.result.now) ≡ drop c.args.at c.args.frame.now.stack = take_rest c.stack.result.now c.args.at ∙ ap (drop c.args.at) c.stack.ensures in
     let lt : c.in-Print.table < length prints = search rules in
     let here : slice_get c.args.code.now.prints c.in-Print.table ≡ Some table = ap (λ (xs : List PrintTable). slice_get xs c.in-Print.table) (sym c.prints-prints.ensures) ∙ slice_get-get_or prints c.in-Print.table table lt ∙ ap Some (sym c.index-prints-table.is) in
     let text : c.in_ok-text-in-Print.text.items ≡ printed table (drop c.args.at c.args.frame.now.stack) = c.in_ok-text-in-Print.ensures ∙ ap (printed table) words in

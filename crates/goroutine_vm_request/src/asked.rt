@@ -9,11 +9,11 @@ ghost use Rattle.goroutine_vm_base.specs.Steps.{AsksFor, FitsAt, IsChannelOn, st
 ghost use Rattle.word.specs.declared.value.Word.{Word as WordValue};
 ghost use Rattle.word.specs.Kinds.{Stuck};
 
-use crate::call_stack::CallStack;
-use crate::fetch::fetch;
-use crate::frame::Frame;
 use crate::select::select;
 use bytecode::{Code, Instr};
+use goroutine_vm_base::call_stack::CallStack;
+use goroutine_vm_base::fetch::fetch;
+use goroutine_vm_base::frame::Frame;
 use operands::kinds::zeros;
 use operands::print::print;
 use std::alloc::{AllocError, Global};
@@ -42,7 +42,7 @@ fn make(
     if kinds.len() > MAX_WORDS {
         return Ok(None);
     }
-    match frame.stack[at] {
+    match frame.stack()[at] {
         Word::Int(size) => {
             let words = zeros(alloc, kinds)?;
             Ok(Some(Request::Make(size, Item::new(alloc, &words))))
@@ -66,7 +66,7 @@ fn go(
     if function as usize >= code.functions().len() {
         return Ok(None);
     }
-    let args = Vec::from_slice(alloc, &frame.stack[at..])?;
+    let args = Vec::from_slice(alloc, &frame.stack()[at..])?;
     Ok(Some(Request::Go(function, args)))
 }
 
@@ -76,7 +76,7 @@ fn send(alloc: Global, frame: &Frame, shape: u32, at: usize) -> Option<Request>
     ensures { (code : CodeValue) → (callers : Frames) → AsksFor (instr_next code frame.now callers (take at frame.now.stack) (drop at frame.now.stack) (Instr.Send shape)) result }
 {
     let _shape = shape;
-    match &frame.stack[at..] {
+    match &frame.stack()[at..] {
         [Word::Chan(chan), item @ ..] => {
             if item.len() > MAX_WORDS {
                 return None;
@@ -92,7 +92,7 @@ fn channel(frame: &Frame, at: usize) -> Option<Option<u32>>
     requires { at + 1 ≡ length frame.now.stack }
     ensures { IsChannelOn (drop at frame.now.stack) result }
 {
-    match frame.stack[at] {
+    match frame.stack()[at] {
         Word::Chan(chan) => Some(chan),
         Word::Int(_) => None,
         Word::Bool(_) => None,
@@ -134,7 +134,7 @@ fn ask(
             if table as usize >= prints.len() {
                 return Ok(None);
             }
-            let text = print(alloc, &prints[table as usize], &frame.stack[at..])?;
+            let text = print(alloc, &prints[table as usize], &frame.stack()[at..])?;
             Ok(Some(Request::Print(text)))
         }
         Instr::Select(table) => Ok(select(alloc, code, frame, table, at)?),
@@ -147,8 +147,8 @@ fn panic_of(frame: &Frame, op: Op, at: usize) -> Option<Request>
     requires { at + count (operands op) ≡ length frame.now.stack }
     ensures { (code : CodeValue) → (callers : Frames) → AsksFor (instr_next code frame.now callers (take at frame.now.stack) (drop at frame.now.stack) (Instr.Apply op)) result }
 {
-    let last = frame.stack.len() - 1;
-    match checked_apply(op, frame.stack[at], frame.stack[last]) {
+    let last = frame.stack().len() - 1;
+    match checked_apply(op, frame.stack()[at], frame.stack()[last]) {
         Some(Err(cause)) => Some(Request::Panic(cause)),
         Some(Ok(_)) => None,
         None => None,
@@ -204,7 +204,8 @@ pub fn request(
     requires { IsVerified code.now }
     ensures { IfOk result (λ o. AsksFor (code_next code.now (frame.now ∷ callers.now)) o) }
 {
-    let have = frame.stack.len();
+    frame.quiet();
+    let have = frame.stack().len();
     match fetch(code, frame) {
         None => Ok(None),
         Some((i, wanted)) => {
@@ -222,7 +223,8 @@ pub fn is_asking(at_limit: bool, code: &Code, frame: &Frame, callers: &CallStack
     requires sound { code_next code.now (frame.now ∷ callers.now) ≡ Stuck → ⊥ }
     ensures { result ≡ stops at_limit (code_next code.now (frame.now ∷ callers.now)) }
 {
-    let have = frame.stack.len();
+    frame.quiet();
+    let have = frame.stack().len();
     match fetch(code, frame) {
         None => false,
         Some((i, wanted)) => {

@@ -1,0 +1,16 @@
+use Rattle.std.proofs.Common.{◌≡◌, ℕ, ◌∙◌, ◌-◌, ◌≤◌, List, length, Some, ap, sym, arith}
+use Rattle.goroutine_vm_base.specs.Steps.{Fetched, stops}
+use Rattle.goroutine_vm_base.proofs.Fetching.{next_instr}
+use Rattle.word.specs.declared.value.Word.{Word}
+use Rattle.goroutine_vm_request.proofs.asked.is_asking.Goals as goal
+
+pub returns-else-have-wanted : goal.returns-else-have-wanted
+returns-else-have-wanted c =
+    let code = c.args.code.now in
+    let x = c.args.frame.now in
+    let wanted = c.in-Some.wanted in
+    let view = ap (λ (l : List Word). length l) c.stack-have.ensures in
+    let enough : wanted ≤ length x.stack = omega (arith, view, c.if-have-wanted.false) in
+    let fetched : Fetched code x (Some (c.in-Some.i, wanted)) = c.in-Some.ensures.fetched in
+    let next = next_instr code x c.args.callers.now c.in-Some.i wanted c.quiet.ensures fetched (length c.stack-have.result.now - wanted) (ap (λ (n : ℕ). n - wanted) view) enough in
+    c.asks.ensures code (λ e. c.requires.sound (next ∙ e)) ∙ ap (stops c.args.at_limit) (sym next)
