@@ -61,8 +61,7 @@ impl ClockTable {
         Ok((ClockTable { words }, BookSeat { seat }))
     }
 
-    /// Stores the state's clock in the word of a slot that is not lent, and then makes the lease's seat. Without memory for
-    /// the seat the slot is still free, with that clock.
+    /// Stores the state's clock in the word of a slot that is not lent, and then makes the lease's seat.
     pub fn lend(
         &self,
         seat: &mut BookSeat,
@@ -79,13 +78,13 @@ impl ClockTable {
         ensures looks { looks_of seat.new.seat.me.0 ≡ looks_of seat.old.seat.me.0 }
         ensures row { OnOk result (rows_of seat.new.seat.me.0 ≡ slice_set (rows_of seat.old.seat.me.0) slot (Lent (loan_for code.now limit number state.now) state.now.clock)) }
         ensures lease { IfOk result (λ l. (l.seat.table_id ≡ seat.old.seat.table_id) × (l.slot ≡ slot) × (loan_of l.seat.me.0 ≡ loan_for code.now limit number state.now) × (l.clock ≡ state.now.clock)) }
-        ensures err { OnErr result (rows_of seat.new.seat.me.0 ≡ slice_set (rows_of seat.old.seat.me.0) slot (Home state.now.clock)) }
+        ensures memory { OnErr result (rows_of seat.new.seat.me.0 ≡ rows_of seat.old.seat.me.0) }
     {
+        let words = Arc::try_clone(&self.words)?;
         let clock = state.clock().time();
         self.words
             .shared
             .store::<Stores>(&mut seat.seat, slot, clock);
-        let words = Arc::try_clone(&self.words)?;
         let lease = cut::<Brand>(&words, &mut seat.seat, code, limit, slot, number, state);
         Ok(LeaseSeat {
             words,

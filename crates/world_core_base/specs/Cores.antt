@@ -161,6 +161,10 @@ IsFreeIn rows n state = slice_index_or rows n None ≡ Some (free_row state)
 abbrev pub IsLentRow : Rows → ℕ → State → Type 0
 IsLentRow rows n base = (row : Row State) × (slice_index_or rows n None ≡ Some row) × (is_some row.lease ≡ true) × (row.state ≡ base)
 
+-- goroutine n is awake, and lent
+abbrev pub HasLease : Rows → ℕ → Type 0
+HasLease rows n = (row : Row State) × (slice_index_or rows n None ≡ Some row) × (is_some row.lease ≡ true)
+
 -- ---- states that are taken out
 
 abbrev pub or_taken : Option (Row State) → Option (Row State) → Option State

@@ -1,6 +1,6 @@
 //! The world of a run, without its lists of events and bytes.
 
-ghost use Rattle.std.specs.Prelude.{◌≡◌, ◌≢◌, ℕ, ◌+◌, ◌-◌, ◌<◌, ◌≤◌, ◌^◌, [], ◌∷◌, ◌++◌, IfNone, IfOk, IfSome, OnErr, OnOk, None, Some, true, length, map, option_map, slice_index_or, slice_set, vec_capacity, vec_len};
+ghost use Rattle.std.specs.Prelude.{◌≡◌, ◌≢◌, ℕ, ◌+◌, ◌-◌, ◌<◌, ◌≤◌, ◌^◌, ◌↔◌, [], ◌∷◌, ◌++◌, IsTrue, IfNone, IfOk, IfSome, OnErr, OnOk, None, Some, true, length, map, option_map, slice_index_or, slice_set, vec_capacity, vec_len};
 ghost use Rattle.std.specs.Option.{is_some};
 ghost use Rattle.bytecode.specs.Machine.{code_kind};
 ghost use Rattle.bytecode.specs.Rules.{IsFrameOf, IsVerified};
@@ -8,8 +8,8 @@ ghost use Rattle.channel_core.specs.Channels.{Does, IsOfChannels};
 ghost use Rattle.word.specs.Kinds.{told};
 ghost use Rattle.word.specs.Values.{End as EndRequest, Go as GoRequest, Panic as PanicRequest, Print as PrintRequest, Reply as AnyReply};
 ghost use Rattle.word.specs.Views.{reply_of, request_of};
-ghost use Rattle.world_core_base.specs.Cores.{Asks, FitsCore, IsAsked, IsAway, IsFreeIn, IsHere, Performs, answered_rows, bytes_of, last_request, left_beds, meant_after, most_partners, most_woken, opened_core, printed_by, put_back, state_of, taken_out, to_lend, woken_rows};
-ghost use Rattle.world_core_base.specs.Slots.{FitsAll, FitsRow, IsUnlent, back_row, free_row, lent_row, raised_row, stepped_rows};
+ghost use Rattle.world_core_base.specs.Cores.{Asks, FitsCore, IsAsked, IsAway, HasLease, IsFreeIn, IsHere, Performs, answered_rows, bytes_of, last_request, left_beds, meant_after, most_partners, most_woken, opened_core, printed_by, put_back, state_of, taken_out, to_lend, woken_rows};
+ghost use Rattle.world_core_base.specs.Slots.{FitsAll, FitsRow, IsBefore, IsUnlent, back_row, free_row, lent_row, raised_row, stepped_rows};
 
 use crate::rows::{
     answer_row, doze, lend_row, put_at, raise_row, stay_row, step_row, take_at, wake,
@@ -19,7 +19,7 @@ use crate::turns::least_free;
 use channel_core::{Channels, Outcome as Came, Woken};
 use go_text::Memory;
 use goroutine_vm::{GoState, spawn_state};
-use logical_clock::{Clock, LAST};
+use logical_clock::{Clock, Key, LAST};
 use std::alloc::Global;
 use std::marker::Model;
 use turn_rule::Step;
@@ -162,6 +162,32 @@ impl Core {
             unreachable!()
         };
         Some((key.number, state))
+    }
+
+    /// Whether goroutine `number` is awake, and lent.
+    pub fn is_lent(&self, number: u64) -> bool
+        ensures { IsTrue result ↔ HasLease self.now.rows number }
+    {
+        match self.rows.get(number as usize) {
+            Some(Some(slot)) => slot.is_lent(),
+            _ => false,
+        }
+    }
+
+    /// Whether goroutine `number` is awake, another one than that of the key, and the key is not below its floor.
+    pub fn stands_before(&self, number: u64, key: Key) -> bool
+        ensures { IsTrue result ↔ IsBefore self.now.rows key number }
+    {
+        match self.rows.get(number as usize) {
+            Some(Some(slot)) => {
+                let floor = Key {
+                    clock: slot.floor(),
+                    number,
+                };
+                number != key.number && !key.is_before(&floor)
+            }
+            _ => false,
+        }
     }
 
     /// The floor of goroutine `number`, if it is lent, becomes the clock that a look found.

@@ -127,6 +127,16 @@ impl Slot {
         self.floor
     }
 
+    /// Whether it is lent.
+    pub fn is_lent(&self) -> bool
+        ensures { result ≡ is_some self.now.lease }
+    {
+        match &self.standing {
+            Standing::Lent | Standing::Ahead(_, _) => true,
+            Standing::Free | Standing::Parked => false,
+        }
+    }
+
     /// The state of a goroutine that is not lent.
     pub fn state(&self) -> &GoState
         requires { self.now.lease ≡ None }
