@@ -1,5 +1,5 @@
 -- The rule of the table of clocks, and what each step does to the seats.
-use Rattle.std.specs.Prelude.{◌≡◌, false, ℕ, ◌+◌, ◌<◌, ◌≤◌, List, [], ◌∷◌, length, replicate, slice_index, slice_index_or, slice_set, Some, None, MatchOption}
+use Rattle.std.specs.Prelude.{◌≡◌, false, ℕ, ◌+◌, ◌<◌, ◌≤◌, List, [], length, replicate, slice_index, slice_index_or, slice_set, Some, None, MatchOption}
 use Rattle.bytecode.specs.Code.{Code}
 use Rattle.goroutine_vm.specs.Advance.{steps}
 use Rattle.bytecode.specs.Machine.{Frames}

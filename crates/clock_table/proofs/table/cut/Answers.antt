@@ -1,7 +1,7 @@
-use Rattle.std.proofs.Common.{rules, ap, le_refl, subst, arith, ◌<◌}
+use Rattle.std.proofs.Common.{ap, le_refl, subst, arith, ◌<◌}
 use Rattle.atomic_table.specs.Seated.{TableId}
 use Rattle.clock_table.specs.Clocks.{rows_of, looks_of, loan_for}
-use Rattle.clock_table.proofs.Moves.{lends_as, after_lend}
+use Rattle.clock_table.proofs.Moves.{lends_as}
 use Rattle.clock_table.proofs.table.cut.Goals as goal
 
 pub split_seat-requires : goal.split_seat-requires

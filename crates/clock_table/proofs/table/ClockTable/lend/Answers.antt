@@ -1,4 +1,4 @@
-use Rattle.std.proofs.Common.{rules, ap, ◌∙◌, slice_set}
+use Rattle.std.proofs.Common.{ap, ◌∙◌, slice_set}
 use Rattle.std.proofs.lemmas.List.{set-set}
 use Rattle.clock_table.specs.declared.view.Row.TheVariants.{Lent}
 use Rattle.clock_table.specs.Clocks.{rows_of, looks_of, loan_for}

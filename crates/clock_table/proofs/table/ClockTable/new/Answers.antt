@@ -1,4 +1,4 @@
-use Rattle.std.proofs.Common.{rules, ap, ◌∙◌}
+use Rattle.std.proofs.Common.{ap, ◌∙◌}
 use Rattle.clock_table.specs.Clocks.{rows_of}
 use Rattle.clock_table.proofs.Moves.{opens}
 use Rattle.clock_table.proofs.table.ClockTable.new.Goals as goal
