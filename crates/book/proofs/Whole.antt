@@ -1,5 +1,5 @@
 -- Each call of a book leaves it a book.
-use Rattle.std.proofs.Common.{◌≡◌, ℕ, ◌+◌, ◌<◌, ◌≤◌, ◌^◌, Bool, true, false, List, [], length, Option, Some, None, refl, sym, ap, ◌∙◌, subst}
+use Rattle.std.proofs.Common.{◌≡◌, ℕ, ◌+◌, ◌<◌, ◌≤◌, ◌^◌, Bool, true, false, List, [], ◌∷◌, length, Option, Some, None, refl, sym, ap, ◌∙◌, subst}
 use Rattle.std.specs.Prelude.{slice_index_or, slice_set}
 use Rattle.std.specs.Option.{is_some}
 use Rattle.std.proofs.lemmas.List.{set-get_or, set-set}
@@ -105,7 +105,7 @@ looks_run old new h =
 
 -- one look more
 pub looks_more : (old mid : Desk) (x : Sighting) → OnlyLooks old mid → IsSight mid x → OnlyLooks old (seen_desk x mid)
-looks_more old mid x h s = (_, (mid, h.1, s, refl))
+looks_more old mid x h s = (x ∷ h.0, (mid, h.1, s, refl))
 
 -- somebody stands before the least parked key, and is not lent, or was seen
 pub waits_by : (old new : Desk) (n : ℕ) (k : Key) → IsDesk new → OnlyLooks old new → new.core.ending ≡ None → least (keys waiting_clock 0 new.core.rows) ≡ Some k → IsBefore new.core.rows k n → (HasLease new.core.rows n → IsSeen old new n) → Waits old n new

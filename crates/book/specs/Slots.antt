@@ -4,7 +4,8 @@ use Rattle.std.specs.Option.{is_some}
 use Rattle.bytecode.specs.Code.{Code}
 use Rattle.clock_table.specs.declared.view.Loan.{Loan}
 use Rattle.clock_table.specs.declared.view.Row.{Row as Word}
-use Rattle.clock_table.specs.Clocks.{IsFree, IsLentOn, loan_for, row as word_at}
+use Rattle.clock_table.specs.declared.view.Row.TheVariants.{Home, Lent, Back}
+use Rattle.clock_table.specs.Clocks.{IsLentOn, loan_for, row as word_at}
 use Rattle.turn_rule.specs.declared.Row.{Row}
 use Rattle.world_core.specs.Cores.{IsLentRow}
 use Rattle.world_core.specs.Slots.{State}
@@ -18,9 +19,15 @@ place_of places n = slice_index_or places n 0
 abbrev pub is_used : List Bool → ℕ → Bool
 is_used used s = slice_index_or used s true
 
+-- whether the slot is not lent
+abbrev pub is_home : Word → Bool
+is_home (Home c) = true
+is_home (Lent loan seen) = false
+is_home (Back was loan c) = false
+
 -- a slot that is not given to a lease is not lent
 abbrev pub AreFree : List Bool → List Word → Type 0
-AreFree used words = (s : ℕ) → is_used used s ≡ false → IsFree (word_at words s)
+AreFree used words = (s : ℕ) → is_used used s ≡ false → is_home (word_at words s) ≡ true
 
 -- goroutine n's place is slot s, and the other places are as they were
 pub record IsPlaced (old new : List ℕ) (n s : ℕ) : Type 0 where

@@ -1,10 +1,11 @@
 //! The book of a run.
 
-ghost use Rattle.std.specs.Prelude.{◌≡◌, ◌+◌, ◌<◌, ◌≤◌, ◌^◌, ◌↔◌, ◌⊎◌, [], IfErr, IfNone, IfOk, IfSome, IsErrOf, None, OnErr, OnOk, Some, length};
+ghost use Rattle.std.specs.Prelude.{◌≡◌, ◌+◌, ◌<◌, ◌≤◌, ◌^◌, ◌↔◌, ◌⊎◌, [], IfErr, IfNone, IfOk, IfSome, IsErrOf, IsTrue, MatchOption, None, OnErr, OnOk, Some, length, true};
 ghost use Rattle.std.specs.Arc.{arc_value};
 ghost use Rattle.output.specs.Progress.{piece_run};
 ghost use Rattle.output.specs.declared.piece.Kind.TheVariants.{Output, Trace};
 ghost use Rattle.logical_clock.specs.Order.{keys, least};
+ghost use Rattle.turn_rule.specs.Schedule.{has_turn};
 ghost use Rattle.clock_table.specs.Clocks.{IsFree, WasLent, loan_for, row as word_at};
 ghost use Rattle.clock_table.specs.Seats.{table_of};
 ghost use Rattle.world_core.specs.Slots.{IsBefore, waiting_clock};
@@ -180,16 +181,16 @@ impl<B: BookName> Book<B> {
         ensures none { IfNone result (OnlyLooks self.old self.new × HasTurn self.new.core key.number) }
         ensures some { IfSome result (λ n. Waits self.old n self.new) }
     {
-        let Some(number) = blocker(self.core.rows(), key) else {
+        let Some(number) = self.blocker(key) else {
             return None;
         };
-        if !self.core.is_lent(number) {
+        if !self.is_lent(number) {
             return Some(number);
         }
         if let Some(lent) = self.look_before(key) {
             return Some(lent);
         }
-        blocker(self.core.rows(), key)
+        self.blocker(key)
     }
 
     /// Looks at the clocks of those who are lent and stand before the key, up to one that then still does.
@@ -198,16 +199,45 @@ impl<B: BookName> Book<B> {
         ensures none { IfNone result (OnlyLooks self.old self.new × IsNobodyLent self.new.core.rows key) }
         ensures some { IfSome result (λ n. IsSeen self.old self.new n × IsBefore self.new.core.rows key n) }
     {
-        for place in 0..self.core.rows().len() {
+        for place in 0..self.count() {
             let number = place as u64;
-            if self.core.is_lent(number) && self.core.stands_before(number, key) {
+            if self.is_lent(number) && self.stands_before(number, key) {
                 self.look(number);
-                if self.core.stands_before(number, key) {
+                if self.stands_before(number, key) {
                     return Some(number);
                 }
             }
         }
         None
+    }
+
+    /// Who stands before the key; none where it has the turn.
+    fn blocker(&self, key: Key) -> Option<u64>
+        ensures stands { IsDesk self.now }
+        ensures blocker { MatchOption result (has_turn key 0 self.now.core.rows ≡ true) (λ n. IsBefore self.now.core.rows key n) }
+    {
+        blocker(self.core.rows(), key)
+    }
+
+    /// How many places the rows of goroutines have.
+    fn count(&self) -> usize
+        ensures { result ≡ length self.now.core.rows }
+    {
+        self.core.rows().len()
+    }
+
+    /// Whether goroutine `number` is awake, and lent.
+    fn is_lent(&self, number: u64) -> bool
+        ensures { IsTrue result ↔ HasLease self.now.core.rows number }
+    {
+        self.core.is_lent(number)
+    }
+
+    /// Whether goroutine `number` is awake, another one than that of the key, and the key is not below its floor.
+    fn stands_before(&self, number: u64, key: Key) -> bool
+        ensures { IsTrue result ↔ IsBefore self.now.core.rows key number }
+    {
+        self.core.stands_before(number, key)
     }
 
     /// Looks at the clock that is published of goroutine `number`, which is lent: it is its floor then.
