@@ -1,5 +1,5 @@
 -- Each call of a book leaves it a book.
-use Rattle.std.proofs.Common.{◌≡◌, ℕ, ◌+◌, ◌<◌, ◌≤◌, ◌^◌, Bool, true, false, List, [], ◌∷◌, length, Option, Some, None, refl, sym, ap, ◌∙◌, subst}
+use Rattle.std.proofs.Common.{◌≡◌, ℕ, ◌+◌, ◌<◌, ◌≤◌, ◌^◌, Bool, true, false, cond, List, [], ◌∷◌, length, Option, Some, None, refl, sym, ap, ◌∙◌, subst}
 use Rattle.std.specs.Prelude.{slice_index_or, slice_set}
 use Rattle.std.specs.Option.{is_some}
 use Rattle.std.proofs.lemmas.List.{set-get_or, set-set}
@@ -7,6 +7,7 @@ use Rattle.bytecode.specs.Code.{Code}
 use Rattle.bytecode.specs.Machine.{code_kind}
 use Rattle.bytecode.specs.Rules.{IsVerified}
 use Rattle.clock_table.specs.declared.view.Row.{Row as Word}
+use Rattle.clock_table.specs.declared.view.Row.TheVariants.{Home}
 use Rattle.clock_table.specs.Clocks.{IsFree, IsLentOn, WasLent, loan_for, row as word_at}
 use Rattle.goroutine_vm.specs.Advance.{IsStateOf}
 use Rattle.logical_clock.specs.declared.key.Key.{Key}
@@ -15,10 +16,11 @@ use Rattle.turn_rule.specs.declared.Row.{Row}
 use Rattle.turn_rule.specs.Schedule.{has_turn}
 use Rattle.turn_rule.specs.Turns.{Leads}
 use Rattle.word.specs.declared.request.Event.{Event as Recorded}
+use Rattle.word.specs.Kinds.{asks}
 use Rattle.word.specs.Worlds.{rules}
 use Rattle.world_core.specs.Cores.{CoreValue, HasLease, HasTurn, IsFreeIn}
 use Rattle.world_core.specs.Slots.{State, Rows, FitsRow, IsBefore, back_row, free_row, lent_row, waiting_clock}
-use Rattle.book.specs.Desks.{CommitsNext, Desk, Held, IsDesk, IsLent, IsNobodyLent, IsSeen, IsSight, KeepsLeases, Looks, OnlyLooks, Sighting, StandsBefore, Waits, brought, lent_desk, opened_desk, seen_desk}
+use Rattle.book.specs.Desks.{CommitsNext, Desk, Held, IsDesk, IsLent, IsNobodyLent, IsSeen, IsSight, KeepsLeases, Looks, OnlyLooks, Sighting, StandsBefore, Waits, back_core, brought, lent_desk, opened_desk, seen_desk}
 use Rattle.book.specs.Slots.{IsBook, IsPlaced, IsTied, SamePlaces, place_of}
 use Rattle.book.proofs.Books.{brought_by, lent_is_desk, opened_is_desk, output_taken, trace_taken, waits_free, waits_key}
 use Rattle.book.proofs.Looks.{IsKept, held_below, looks_keep, seen_is_desk, still_there}
@@ -77,6 +79,20 @@ module _ (code : Code) (limit : ℕ) where
 -- a state that was lent and comes back at once
 pub taken_back : (rows : Rows) (n : ℕ) (s : State) → IsFreeIn rows n s → slice_set (slice_set rows n (Some (lent_row s))) n (Some (back_row s false)) ≡ rows
 taken_back rows n s free = set-set rows n (Some (lent_row s)) (Some (back_row s false)) ∙ ap (slice_set rows n) (sym free) ∙ set-get_or rows n None
+
+-- what bring makes of a desk
+pub brought_before : (d : Desk) (l : Held) (core : CoreValue) (words : List Word) (n : ℕ) (s : State) (parked : Bool) → is_some d.core.ending ≡ false → l.code ≡ d.code → l.limit ≡ d.limit → n ≡ l.number → s ≡ l.present → parked ≡ is_some (asks (code_kind l.code) l.limit l.present)
+    → core ≡ record d.core { rows = slice_set d.core.rows n (Some (back_row s parked)) } → words ≡ slice_set d.words l.slot (Home l.published) → record d { core = core; words = words } ≡ brought d l
+brought_before d l core words n s parked e code limit en es ep ec ew =
+    let ep' : parked ≡ is_some (asks (code_kind d.code) d.limit l.present) = ep ∙ (λ i. is_some (asks (code_kind (code i)) (limit i) l.present)) in
+    let made : core ≡ record d.core { rows = slice_set d.core.rows l.number (Some (back_row l.present (is_some (asks (code_kind d.code) d.limit l.present)))) } = ec ∙ (λ i. record d.core { rows = slice_set d.core.rows (en i) (Some (back_row (es i) (ep' i))) }) in
+    let kept : core ≡ back_core d l = made ∙ ap (λ (b : Bool). cond b d.core (record d.core { rows = slice_set d.core.rows l.number (Some (back_row l.present (is_some (asks (code_kind d.code) d.limit l.present)))) })) (sym e) in
+    (λ i. record d { core = kept i; words = ew i })
+
+pub brought_after : (d : Desk) (l : Held) (words : List Word) → is_some d.core.ending ≡ true → words ≡ slice_set d.words l.slot (Home l.published) → record d { words = words } ≡ brought d l
+brought_after d l words e ew =
+    let kept : d.core ≡ back_core d l = ap (λ (b : Bool). cond b d.core (record d.core { rows = slice_set d.core.rows l.number (Some (back_row l.present (is_some (asks (code_kind d.code) d.limit l.present)))) })) (sym e) in
+    (λ i. record d { core = kept i; words = ew i })
 
 -- ---- settling
 

@@ -133,8 +133,9 @@ impl<B: BookName> Book<B> {
         let number = lease.number();
         let (program, present, seat) = lease.into_parts();
         self.slots.take_back(program, seat);
-        if self.core.ending().is_none() {
-            self.core.take_back(number, present, parked);
+        match self.core.ending() {
+            None => self.core.take_back(number, present, parked),
+            Some(_) => {}
         }
     }
 
@@ -151,7 +152,7 @@ impl<B: BookName> Book<B> {
         let Some(key) = least_parked(self.core.rows()) else {
             return Ok(self.nobody_parked());
         };
-        if let Some(number) = self.first_before(key) {
+        if let Some(number) = self.first_before(&key) {
             return Ok(Settled::Waiting(number));
         }
         Ok(self.commit(key.number)?)
@@ -167,18 +168,19 @@ impl<B: BookName> Book<B> {
         let Some(number) = first_awake(self.core.rows()) else {
             return Settled::Ended(End::Deadlock);
         };
-        if self.core.is_lent(number) {
-            self.look(number);
+        if !self.is_lent(number) {
+            return Settled::Waiting(number);
         }
+        self.look(number);
         Settled::Waiting(number)
     }
 
     /// Who stands before the key of the goroutine that is parked first, if not only until a look at the clocks that are
     /// published.
-    fn first_before(&mut self, key: Key) -> Option<u64>
+    fn first_before(&mut self, key: &Key) -> Option<u64>
         requires ending { self.old.core.ending ≡ None }
-        requires least { least (keys waiting_clock 0 self.old.core.rows) ≡ Some key }
-        ensures none { IfNone result (OnlyLooks self.old self.new × HasTurn self.new.core key.number) }
+        requires least { least (keys waiting_clock 0 self.old.core.rows) ≡ Some key.now }
+        ensures none { IfNone result (OnlyLooks self.old self.new × HasTurn self.new.core key.now.number) }
         ensures some { IfSome result (λ n. Waits self.old n self.new) }
     {
         let Some(number) = self.blocker(key) else {
@@ -194,10 +196,10 @@ impl<B: BookName> Book<B> {
     }
 
     /// Looks at the clocks of those who are lent and stand before the key, up to one that then still does.
-    fn look_before(&mut self, key: Key) -> Option<u64>
+    fn look_before(&mut self, key: &Key) -> Option<u64>
         requires { self.old.core.ending ≡ None }
-        ensures none { IfNone result (OnlyLooks self.old self.new × IsNobodyLent self.new.core.rows key) }
-        ensures some { IfSome result (λ n. IsSeen self.old self.new n × IsBefore self.new.core.rows key n) }
+        ensures none { IfNone result (OnlyLooks self.old self.new × IsNobodyLent self.new.core.rows key.now) }
+        ensures some { IfSome result (λ n. IsSeen self.old self.new n × IsBefore self.new.core.rows key.now n) }
     {
         for place in 0..self.count() {
             let number = place as u64;
@@ -212,11 +214,11 @@ impl<B: BookName> Book<B> {
     }
 
     /// Who stands before the key; none where it has the turn.
-    fn blocker(&self, key: Key) -> Option<u64>
+    fn blocker(&self, key: &Key) -> Option<u64>
         ensures stands { IsDesk self.now }
-        ensures blocker { MatchOption result (has_turn key 0 self.now.core.rows ≡ true) (λ n. IsBefore self.now.core.rows key n) }
+        ensures blocker { MatchOption result (has_turn key.now 0 self.now.core.rows ≡ true) (λ n. IsBefore self.now.core.rows key.now n) }
     {
-        blocker(self.core.rows(), key)
+        blocker(self.core.rows(), *key)
     }
 
     /// How many places the rows of goroutines have.
@@ -234,10 +236,10 @@ impl<B: BookName> Book<B> {
     }
 
     /// Whether goroutine `number` is awake, another one than that of the key, and the key is not below its floor.
-    fn stands_before(&self, number: u64, key: Key) -> bool
-        ensures { IsTrue result ↔ IsBefore self.now.core.rows key number }
+    fn stands_before(&self, number: u64, key: &Key) -> bool
+        ensures { IsTrue result ↔ IsBefore self.now.core.rows key.now number }
     {
-        self.core.stands_before(number, key)
+        self.core.stands_before(number, *key)
     }
 
     /// Looks at the clock that is published of goroutine `number`, which is lent: it is its floor then.
