@@ -12,8 +12,8 @@ home zero s = refl
 home (suc n) zero = refl
 home (suc n) (suc s) = home n s
 
-pub all_home : (used : List Bool) (words : List Word) → words ≡ opening_rows 1024 → AreFree used words
-all_home used words e s free = subst (λ (ws : List Word). is_home (word_at ws s) ≡ true) (sym e) (home 1024 s)
+pub all_home : (n : ℕ) (used : List Bool) (words : List Word) → words ≡ opening_rows n → AreFree used words
+all_home n used words e s free = subst (λ (ws : List Word). is_home (word_at ws s) ≡ true) (sym e) (home n s)
 
-pub as_many : (used : List Bool) (words : List Word) → used ≡ replicate 1024 false → words ≡ opening_rows 1024 → length used ≡ length words
-as_many used words u w = ap length u ∙ length-replicate {A = Bool} 1024 false ∙ sym (ap length w ∙ length-replicate {A = Word} 1024 (Home 0))
+pub as_many : (n : ℕ) (used : List Bool) (words : List Word) → used ≡ replicate n false → words ≡ opening_rows n → length used ≡ length words
+as_many n used words u w = ap length u ∙ length-replicate {A = Bool} n false ∙ sym (ap length w ∙ length-replicate {A = Word} n (Home 0))

@@ -10,6 +10,6 @@ invariant_of-result g c =
     record {
       table_is = c.requires;
       seat_is = blank.own ∙ c.requires;
-      size = as_many used (words_of blank.seat) (c.in_ok-used.ensures.items_if_clones_equal (λ y e. e)) blank.home;
-      free = all_home used (words_of blank.seat) blank.home;
+      size = as_many 1024 used (words_of blank.seat) (c.in_ok-used.ensures.items_if_clones_equal (λ y e. e)) blank.home;
+      free = all_home 1024 used (words_of blank.seat) blank.home;
     }
