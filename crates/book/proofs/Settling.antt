@@ -1,7 +1,7 @@
 -- What settling comes to, after its looks.
 use Rattle.std.proofs.Common.{◌≡◌, ◌≢◌, ℕ, suc, ◌<◌, ◌≤◌, true, false, List, [], ◌∷◌, length, Option, Some, None, refl, sym, ap, ◌∙◌, subst, inl, inr, arith, get_or-set_same, get_or-set_other}
-use Rattle.std.specs.Prelude.{IfSome, slice_index_or, slice_set, option_map}
-use Rattle.std.specs.Option.{is_some}
+use Rattle.std.specs.Prelude.{IfNone, IfSome, slice_index_or, slice_set, option_map}
+use Rattle.std.specs.Option.{MatchOption, is_some}
 use Rattle.std.proofs.lemmas.Bool.{true≢false, cases_eq, cases_lt}
 use Rattle.std.proofs.lemmas.List.{get_or_past}
 use Rattle.logical_clock.specs.declared.key.Key.{Key}
@@ -125,3 +125,13 @@ waits_other old new n k h going e only nobody before = waits_by old new n k h on
 
 pub turn_after : (old new : Desk) (k : Key) → old.core.ending ≡ None → least (keys waiting_clock 0 old.core.rows) ≡ Some k → OnlyLooks old new → has_turn k 0 new.core.rows ≡ true → HasTurn new.core k.number
 turn_after old new k going e only turn = turn_by new k (looks_ending old new only going) (looks_least old new (Some k) only e) turn
+
+-- ---- answers that may be there
+
+pub when_none : (A : Type 0) (B : ℕ → Type 0) (C : Type 0) (o : Option ℕ) → MatchOption o A B → (A → C) → IfNone o C
+when_none A B C None m f = f m
+when_none A B C (Some x) m f = tt
+
+pub when_some : (A : Type 0) (B C : ℕ → Type 0) (o : Option ℕ) → MatchOption o A B → ((n : ℕ) → B n → C n) → IfSome o C
+when_some A B C None m f = tt
+when_some A B C (Some x) m f = f x m

@@ -10,7 +10,7 @@ ghost use Rattle.clock_table.specs.Clocks.{IsFree, WasLent, loan_for, row as wor
 ghost use Rattle.clock_table.specs.Seats.{table_of};
 ghost use Rattle.world_core.specs.Slots.{IsBefore, waiting_clock};
 ghost use Rattle.world_core.specs.Cores.{HasLease, HasTurn, IsFreeIn, to_lend};
-ghost use Rattle.book.specs.Desks.{IsDesk, IsLent, IsNobodyLent, IsPiece, IsSeen, IsSight, IsTracePiece, KeepsLeases, OnlyLooks, Settles, Sighting, Waits, brought, lent_desk, opened_desk, seen_desk};
+ghost use Rattle.book.specs.Desks.{CommitsNext, IsDesk, IsLent, IsNobodyLent, IsPiece, IsSeen, IsSight, IsTracePiece, KeepsLeases, OnlyLooks, Settles, Sighting, Waits, brought, lent_desk, opened_desk, seen_desk};
 
 use crate::blank::Blank;
 use crate::lease::Lease;
@@ -27,6 +27,7 @@ use std::sync::Arc;
 use tracer::{append_line, reserve_line};
 use verifier::Verified;
 use word::end::End;
+use word::request::Event;
 use world_core::{Core, blocker, first_awake, least_parked};
 
 /// The book of a run: what is committed, who is lent, and the bytes of the output and of the trace that were not yet taken
@@ -155,7 +156,7 @@ impl<B: BookName> Book<B> {
         if let Some(number) = self.first_before(&key) {
             return Ok(Settled::Waiting(number));
         }
-        Ok(self.commit(key.number)?)
+        Ok(Settled::Committed(self.commit(key.number)?))
     }
 
     /// What a settling comes to where nobody is parked.
@@ -253,9 +254,9 @@ impl<B: BookName> Book<B> {
     }
 
     /// Performs the request of the goroutine that has the turn.
-    fn commit(&mut self, number: u64) -> Result<Settled, Memory>
+    fn commit(&mut self, number: u64) -> Result<Event, Memory>
         requires { HasTurn self.old.core number }
-        ensures settles { IfOk result (λ s. Settles self.old s self.new) }
+        ensures commits { IfOk result (λ event. CommitsNext self.old event self.new) }
         ensures leases { OnOk result (KeepsLeases self.old self.new) }
         ensures memory { OnErr result (self.new ≡ self.old) }
     {
@@ -268,7 +269,7 @@ impl<B: BookName> Book<B> {
             &mut self.pending,
         )?;
         append_line(&mut self.lines, &event);
-        Ok(Settled::Committed(event))
+        Ok(event)
     }
 
     /// The bytes of the output that were committed and not yet taken out.

@@ -10,8 +10,8 @@ use Rattle.book.specs.Slots.{IsBook}
 use Rattle.book.proofs.Whole.{book_brings, book_out, brought_after, brought_before}
 use Rattle.book.proofs.book_model.Book.bring.Goals as goal
 
-pub invariant_of-self-in-None : goal.invariant_of-self-in-None
-invariant_of-self-in-None g c =
+pub invariant_of-self : goal.invariant_of-self
+invariant_of-self g c =
     let b = c.self.inside in
     let d : Desk = record { code = arc_value b.program; limit = b.limit; core = b.core; taken = b.taken; pending = b.pending.items; traced = b.traced; lines = b.lines.items; words = words_of b.slots.seat; looks = seat_looks b.slots.seat } in
     let h = c.self.invariant in
@@ -25,8 +25,8 @@ invariant_of-self-in-None g c =
     let is = brought_before d l c.take_back-in-None.new.self (words_of c.take_back.new.self.seat) c.number-number.result c.into_parts-program.result.1 c.is_asking-parked.result going (sym out.code) (sym out.limit) c.number-number.ensures parts.present c.is_asking-parked.ensures c.take_back-in-None.ensures words in
     rw (c.take_back.ensures.looks, c.take_back.ensures.places) (subst (λ (x : Desk). IsBook g.B.BookName.code g.B.BookName.limit x b.slots.places.items) (sym is) back)
 
-pub invariant_of-self-in-Some : goal.invariant_of-self-in-Some
-invariant_of-self-in-Some g c =
+pub invariant_of-self-in-Some-1 : goal.invariant_of-self-in-Some-1
+invariant_of-self-in-Some-1 g c =
     let b = c.self.inside in
     let d : Desk = record { code = arc_value b.program; limit = b.limit; core = b.core; taken = b.taken; pending = b.pending.items; traced = b.traced; lines = b.lines.items; words = words_of b.slots.seat; looks = seat_looks b.slots.seat } in
     let h = c.self.invariant in

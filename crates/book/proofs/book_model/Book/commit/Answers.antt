@@ -8,7 +8,7 @@ use Rattle.world_core.specs.Cores.{Performs, bytes_of}
 use Rattle.world_core.specs.Cores.{FitsCore, HasTurn}
 use Rattle.book.specs.Desks.{Desk}
 use Rattle.book.proofs.Books.{asks_at, committed, commits_keeps}
-use Rattle.book.proofs.Whole.{book_commits, looks_none}
+use Rattle.book.proofs.Whole.{book_commits}
 use Rattle.book.proofs.book_model.Book.commit.Goals as goal
 
 -- a vector has less than 2^63 items
@@ -55,4 +55,4 @@ returns g c =
     let trace_room : length lines.items < 2 ^ 64 = few lines.len lines.cap lines.items lines.ok.0 lines.ok.1 lines.small in
     let r = committed d c.args.number event new pending.items lines.items c.self.invariant.desk turn done fits c.in_ok-event.ensures.output line room trace_room in
     let after : Desk = record d { core = new; pending = pending.items; lines = lines.items } in
-    rw (← c.self.view_is) (record { settles = (d, looks_none d, r.1); leases = commits_keeps d after event c.self.invariant.desk r.1; memory = tt })
+    rw (← c.self.view_is) (record { commits = r.1; leases = commits_keeps d after event c.self.invariant.desk r.1; memory = tt })
