@@ -1,5 +1,5 @@
 -- What settling comes to, after its looks.
-use Rattle.std.proofs.Common.{◌≡◌, ◌≢◌, ℕ, suc, ◌<◌, ◌≤◌, true, false, List, [], ◌∷◌, length, Option, Some, None, refl, sym, ap, ◌∙◌, subst, inl, inr, arith, get_or-set_same, get_or-set_other}
+use Rattle.std.proofs.Common.{◌≡◌, ◌≢◌, ℕ, ◌+◌, ◌<◌, ◌≤◌, true, false, List, [], ◌∷◌, length, Option, Some, None, refl, sym, ap, ◌∙◌, subst, inl, inr, arith, get_or-set_same, get_or-set_other}
 use Rattle.std.specs.Prelude.{IfNone, IfSome, slice_index_or, slice_set, option_map}
 use Rattle.std.specs.Option.{MatchOption, is_some}
 use Rattle.std.proofs.lemmas.Bool.{true≢false, cases_eq, cases_lt}
@@ -84,7 +84,7 @@ other_lent rows n p k lent =
 
 -- those up to n are clear, once n, which was looked at, stands before the key no longer
 pub clear_seen : (mid new : Desk) (n : ℕ) (key : Key) → (x : Sighting) × (x.number ≡ n) × IsSight mid x × (new ≡ seen_desk x mid) → (IsBefore new.core.rows key n → ⊥) → ((k : ℕ) → k < n → HasLease mid.core.rows k → IsBefore mid.core.rows key k → ⊥)
-    → (k : ℕ) → k < suc n → HasLease new.core.rows k → IsBefore new.core.rows key k → ⊥
+    → (k : ℕ) → k < n + 1 → HasLease new.core.rows k → IsBefore new.core.rows key k → ⊥
 clear_seen mid new n key s past all k lt lent before = elim (cases_eq k n) [
   | inl same ↦ past (subst (IsBefore new.core.rows key) same before)
   | inr other ↦
@@ -97,7 +97,7 @@ clear_seen mid new n key s past all k lt lent before = elim (cases_eq k n) [
 
 -- or n is not lent, or does not stand before the key
 pub clear_more : (d : Desk) (n : ℕ) (key : Key) → (HasLease d.core.rows n → IsBefore d.core.rows key n → ⊥) → ((k : ℕ) → k < n → HasLease d.core.rows k → IsBefore d.core.rows key k → ⊥)
-    → (k : ℕ) → k < suc n → HasLease d.core.rows k → IsBefore d.core.rows key k → ⊥
+    → (k : ℕ) → k < n + 1 → HasLease d.core.rows k → IsBefore d.core.rows key k → ⊥
 clear_more d n key past all k lt lent before = elim (cases_eq k n) [
   | inl same ↦ past (subst (HasLease d.core.rows) same lent) (subst (IsBefore d.core.rows key) same before)
   | inr other ↦ all k (omega (arith, lt, other)) lent before
