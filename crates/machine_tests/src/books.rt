@@ -22,13 +22,14 @@ use word::request::{Event, EventOutcome};
 const LIMIT: u64 = 1 << 40;
 
 /// What a run begins with.
+#[derive(Drop)]
 struct Start {
     blank: Blank,
     program: Arc<Verified>,
 }
 
 /// The beginning of this program's run.
-fn start(alloc: Global, bodies: &[Body]) -> Result<Start, Fault> {
+fn begin(alloc: Global, bodies: &[Body]) -> Result<Start, Fault> {
     let program = Arc::new(alloc, program(alloc, bodies)?)?;
     let blank = Blank::new(alloc)?;
     Ok(Start { blank, program })
@@ -118,7 +119,7 @@ fn has_written<B: BookName>(book: &mut Book<B>, text: &str) -> bool {
 
 #[test]
 fn item_is_handed_over(rt: HostRuntime) -> Result<(), Fail> {
-    hand_over::<Brand, HostRuntime>(&rt, start(rt.alloc(), &HANDS_OVER)?)
+    hand_over::<Brand, HostRuntime>(&rt, begin(rt.alloc(), &HANDS_OVER)?)
 }
 
 /// Each event of a hand-over.
@@ -145,7 +146,7 @@ fn hand_over<B: BookName, R: Abort>(rt: &R, start: Start) -> Result<(), Fail>
 
 #[test]
 fn smaller_floor_is_waited_for(rt: HostRuntime) -> Result<(), Fail> {
-    wait_for_floors::<Brand, HostRuntime>(&rt, start(rt.alloc(), &HANDS_OVER)?)
+    wait_for_floors::<Brand, HostRuntime>(&rt, begin(rt.alloc(), &HANDS_OVER)?)
 }
 
 /// Whoever is lent and stands before the next event is waited for, until it has published a later clock.
@@ -168,7 +169,7 @@ fn wait_for_floors<B: BookName, R: Abort>(rt: &R, start: Start) -> Result<(), Fa
 
 #[test]
 fn nobody_is_awake(rt: HostRuntime) -> Result<(), Fail> {
-    wait_for_good::<Brand, HostRuntime>(&rt, start(rt.alloc(), &WAITS_FOR_GOOD)?)
+    wait_for_good::<Brand, HostRuntime>(&rt, begin(rt.alloc(), &WAITS_FOR_GOOD)?)
 }
 
 /// A deadlock.
@@ -185,7 +186,7 @@ fn wait_for_good<B: BookName, R: Abort>(rt: &R, start: Start) -> Result<(), Fail
 
 #[test]
 fn goroutine_1025_is_one_too_many(rt: HostRuntime) -> Result<(), Fail> {
-    start_too_many::<Brand, HostRuntime>(&rt, start(rt.alloc(), &STARTS_MORE)?)
+    start_too_many::<Brand, HostRuntime>(&rt, begin(rt.alloc(), &STARTS_MORE)?)
 }
 
 /// One goroutine too many.
