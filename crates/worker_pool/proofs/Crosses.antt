@@ -25,6 +25,7 @@ use Rattle.world_core_base.specs.contracts.slot.Away.TheInside as away
 use Rattle.book.specs.declared.name.BookName.{Ghosts as BookGhosts}
 use Rattle.worker_pool.specs.contracts.locked.Locked as Locked
 use Rattle.worker_pool.specs.contracts.run_book.RunBook as RunBook
+use Rattle.worker_pool.specs.contracts.run_name.OfRun as OfRun
 use Rattle.worker_pool.specs.contracts.shared.Shared as Shared
 use Rattle.worker_pool.specs.declared.run_name.RunName.{Ghosts}
 
@@ -89,7 +90,7 @@ book_send B g = view_send _ _ _ _ _ (book_inside B g)
 locked_send : (B : RattleType) (g : Ghosts B.Denot) → IsSend B → IsSend (Locked.the_row B g)
 locked_send B g s =
     recorded_send (Locked.the_field B g).row _ _ (Locked.the_type B g).to_one (struct_send (shape (Locked.the_type B g)) (
-      struct_send (shape (RunBook.the_type B g)) (book_send _ _, tt),
+      struct_send (shape (RunBook.the_type B g)) (book_send (OfRun.the_row B) _, tt),
       (ledger.the_send _ _, (ledger.the_send _ _, (search sendable, (search sendable, (search sendable, (search sendable, tt)))))),
     ))
 
