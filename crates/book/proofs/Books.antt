@@ -9,6 +9,9 @@ use Rattle.std.proofs.lemmas.Option.{none-some}
 use Rattle.bytecode.specs.Code.{Code}
 use Rattle.bytecode.specs.Machine.{Frames, code_kind}
 use Rattle.bytecode.specs.Rules.{IsVerified}
+use Rattle.clock_table.specs.declared.view.Row.{Row as Word}
+use Rattle.clock_table.specs.declared.view.Row.TheVariants.{Home, Lent}
+use Rattle.clock_table.specs.Clocks.{IsLentOn, loan_for}
 use Rattle.goroutine_vm.specs.Advance.{IsStateOf}
 use Rattle.logical_clock.specs.declared.key.Key.{Key}
 use Rattle.logical_clock.specs.Order.{is_before, keys, least}
@@ -33,7 +36,7 @@ use Rattle.world_core.specs.Slots.{State, Rows, FitsRow, IsAwake, IsNobodyAwake,
 use Rattle.world_core.proofs.Leases.{core_fits_set, core_set, opened_fits}
 use Rattle.world_core.proofs.Others.{performed_other}
 use Rattle.world_core.proofs.Scheduling.{deserted}
-use Rattle.book.specs.Desks.{Desk, CommitsNext, IsDesk, IsPiece, IsTracePiece, IsEnd, KeepsLeases, StandsBefore, Held, IsLent, opened_desk, lent_desk}
+use Rattle.book.specs.Desks.{Desk, CommitsNext, IsDesk, IsPiece, IsTracePiece, IsEnd, KeepsLeases, StandsBefore, Held, IsLent, brought, opened_desk, lent_desk}
 use Rattle.book.proofs.Desks.{lend_keeps, bring_keeps, lent_other, row_awake, settle_keeps, parked_asks, waits_alone, waits_before, nobody_awake}
 
 abbrev rules_of : Desk → Rules State (Rest Frames)
@@ -57,8 +60,25 @@ opened_is_desk code limit v le =
 
 -- ---- lend and bring
 
-pub lent_is_desk : (d : Desk) (n : ℕ) (s : State) → IsDesk d → IsFreeIn d.core.rows n s → IsDesk (lent_desk d n s)
-lent_is_desk d n s h free =
+-- words and looks count for nothing here
+pub worded : (d : Desk) (words : List Word) (looks : ℕ) → IsDesk d → IsDesk (record d { words = words; looks = looks })
+worded d words looks h =
+    let a = h.at.2 in
+    record {
+      verified = h.verified;
+      limit = h.limit;
+      many = h.many;
+      room = h.room;
+      trace_room = h.trace_room;
+      fits = h.fits;
+      at = (h.at.0, h.at.1, record { stands = a.stands; core = a.core; size = a.size; bytes = a.bytes; trace_size = a.trace_size; trace_bytes = a.trace_bytes });
+    }
+
+abbrev lent_core : Desk → ℕ → State → Desk
+lent_core d n s = record d { core = record d.core { rows = slice_set d.core.rows n (Some (lent_row s)) } }
+
+lent_row_is_desk : (d : Desk) (n : ℕ) (s : State) → IsDesk d → IsFreeIn d.core.rows n s → IsDesk (lent_core d n s)
+lent_row_is_desk d n s h free =
     let r = rules_of d in
     let m = h.at.1 in
     let a = h.at.2 in
@@ -71,13 +91,13 @@ lent_is_desk d n s h free =
       many = h.many;
       room = h.room;
       trace_room = h.trace_room;
-      fits = core_fits_set d.code d.limit d.core n (Some (lent_row s)) h.fits (record { state = fits.state; present = fits.state; asks = λ e. absurd (true≢false (sym e)) });
+      fits = core_fits_set d.code d.limit d.core n (Some (lent_row s)) h.fits (record { state = fits.state; present = fits.state; asks = λ e. absurd (true≢false (sym e)); unlent = λ e. absurd (true≢false (sym e)) });
       at = (
         h.at.0,
         at_row r (lend r) m n,
         record {
           stands = lend_keeps r (laws (code_kind d.code) d.limit) m (moment (code_kind d.code) d.limit h.at.0) n a.stands;
-          core = subst (λ (o : Option (Row State)). IsCoreOf (record m { rows = slice_set m.rows n o }) (lent_desk d n s).core) (sym row) (core_set m d.core n (Some (lent_row s)) a.core);
+          core = subst (λ (o : Option (Row State)). IsCoreOf (record m { rows = slice_set m.rows n o }) (lent_core d n s).core) (sym row) (core_set m d.core n (Some (lent_row s)) a.core);
           size = a.size;
           bytes = a.bytes;
           trace_size = a.trace_size;
@@ -85,6 +105,9 @@ lent_is_desk d n s h free =
         },
       );
     }
+
+pub lent_is_desk : (d : Desk) (l : Held) → IsDesk d → IsFreeIn d.core.rows l.number l.base → IsDesk (lent_desk d l)
+lent_is_desk d l h free = worded (lent_core d l.number l.base) (lent_desk d l).words d.looks (lent_row_is_desk d l.number l.base h free)
 
 abbrev back_row : Desk → State → Row State
 back_row d s = record { state = s; floor = s.clock; lease = None; parked = is_some (asks (code_kind d.code) d.limit s) }
@@ -102,7 +125,7 @@ brought_is_desk d n row s h here leads fits =
       many = h.many;
       room = h.room;
       trace_room = h.trace_room;
-      fits = core_fits_set d.code d.limit d.core n (Some (back_row d s)) h.fits (record { state = fits; present = tt; asks = λ e. e });
+      fits = core_fits_set d.code d.limit d.core n (Some (back_row d s)) h.fits (record { state = fits; present = tt; asks = λ e. e; unlent = λ e. refl });
       at = (
         h.at.0,
         record m { rows = slice_set m.rows n (Some (back_row d s)) },
@@ -127,7 +150,7 @@ asks_at d n h t =
     let a = h.at.2 in
     let p = parked_asks (rules_of d) (laws (code_kind d.code) d.limit) h.at.1 (moment (code_kind d.code) d.limit h.at.0) a.stands t.key (least_in d h.at.1 a.core (Some t.key) t.least) in
     let here : slice_index_or d.core.rows n None ≡ Some p.0 = subst (λ (rows : Rows). slice_index_or rows n None ≡ Some p.0) (sym a.core.rows) (subst (λ k. slice_index_or h.at.1.rows k None ≡ Some p.0) t.number p.1) in
-    record { row = p.0; here = here; state = (subst (FitsRow d.code d.limit) here (h.fits.rows n)).state; asks = p.4 }
+    record { row = p.0; here = here; state = (subst (FitsRow d.code d.limit) here (h.fits.rows n)).state; asks = p.4; unlent = (subst (FitsRow d.code d.limit) here (h.fits.rows n)).unlent p.2 }
 
 at_end : {A : Type 0} (xs : List A) (x : A) → slice_get (xs ++ x ∷ []) (length xs) ≡ Some x
 at_end [] x = refl
@@ -218,6 +241,8 @@ commits d n event new h t done fits room trace_room =
         taken = refl;
         lines = refl;
         traced = refl;
+        words = refl;
+        looks = refl;
       },
     )
 
@@ -256,6 +281,7 @@ commits_keeps d e event h c l out =
       code = c.code ∙ out.code;
       limit = c.limit ∙ out.limit;
       row = (lent.0, ap (λ (rows : Rows). slice_index_or rows k None) (c.performs m a.core).core.rows ∙ stays, lent.2, lent.3);
+      word = rw (c.code, c.limit, c.words) out.word;
     }
 
 abbrev begun : Desk → ℕ → Whole State (Rest Frames)
@@ -379,18 +405,27 @@ trace_taken d count left h whole none =
     }
 
 -- the row that was lent is lent
-pub lent_is_lent : (rows : Rows) (n : ℕ) (s : State) → IsFreeIn rows n s → IsLentRow (slice_set rows n (Some (lent_row s))) n s
+lent_is_lent : (rows : Rows) (n : ℕ) (s : State) → IsFreeIn rows n s → IsLentRow (slice_set rows n (Some (lent_row s))) n s
 lent_is_lent rows n s free = elim (cases_lt n (length rows)) [
   | inl l ↦ (lent_row s, get_or-set_same rows n (Some (lent_row s)) None l, refl, refl)
   | inr l ↦ absurd (true≢false (sym (ap is_some (sym (get_or_past rows n None l) ∙ free))))
 ]
 
-pub brought_by : (d : Desk) (l : Held) (s : State) (n : ℕ) (parked : Bool) (new : CoreValue) → IsDesk d → IsLent d l → IsStateOf l.code l.limit l.present → Leads (rules (code_kind l.code) l.limit) l.base l.present → s ≡ l.present → n ≡ l.number → parked ≡ is_some (asks (code_kind l.code) l.limit l.present)
-    → new ≡ record d.core { rows = slice_set d.core.rows n (Some (record { state = s; floor = s.clock; lease = None; parked = parked })) } → IsDesk (record d { core = new })
-brought_by d l s n parked new h lent fits leads es en ep e =
-    let row = lent.row.0 in
-    let fits' : IsStateOf d.code d.limit s = rw (lent.code, lent.limit, es) fits in
-    let leads' : Leads (rules (code_kind d.code) d.limit) row.state s = rw (lent.code, lent.limit, es, lent.row.3) leads in
-    let here : slice_index_or d.core.rows n None ≡ Some row = rw en lent.row.1 in
-    let asks' : parked ≡ is_some (asks (code_kind d.code) d.limit s) = rw (lent.code, lent.limit, es) ep in
-    subst (λ core. IsDesk (record d { core = core })) (sym (e ∙ ap (λ b. record d.core { rows = slice_set d.core.rows n (Some (record { state = s; floor = s.clock; lease = None; parked = b })) }) asks')) (brought_is_desk d n row s h here leads' fits')
+pub lease_is_lent : (d : Desk) (l : Held) → IsFreeIn d.core.rows l.number l.base → l.code ≡ d.code → l.limit ≡ d.limit → l.slot < length d.words → IsLent (lent_desk d l) l
+lease_is_lent d l free code limit size =
+    let loan = loan_for d.code d.limit l.number l.base in
+    record {
+      code = sym code;
+      limit = sym limit;
+      row = lent_is_lent d.core.rows l.number l.base free;
+      word = subst (IsLentOn loan) (sym (get_or-set_same d.words l.slot (Lent loan l.base.clock) (Home 0) size)) refl;
+    }
+
+-- a lease that is out comes back
+pub brought_by : (d : Desk) (l : Held) (b : Bool) → is_some d.core.ending ≡ b → IsDesk d → IsLent d l → IsStateOf d.code d.limit l.present → Leads (rules (code_kind d.code) d.limit) l.base l.present → IsDesk (brought d l)
+brought_by d l true e h out fits leads = rw e (worded d (brought d l).words d.looks h)
+brought_by d l false e h out fits leads =
+    let row = out.row.0 in
+    let leads' : Leads (rules (code_kind d.code) d.limit) row.state l.present = rw out.row.3 leads in
+    let back = brought_is_desk d l.number row l.present h out.row.1 leads' fits in
+    rw e (worded (record d { core = record d.core { rows = slice_set d.core.rows l.number (Some (back_row d l.present)) } }) (brought d l).words d.looks back)

@@ -1,9 +1,13 @@
 -- The book of a run.
-use Rattle.std.specs.Prelude.{◌≡◌, ℕ, ◌+◌, ◌*◌, ◌≤◌, ◌^◌, ◌++◌, false, true, cond, [], List, length, drop, take, Some, None, slice_get, slice_index_or, slice_set}
-use Rattle.std.specs.Option.{is_some, MatchOption}
+use Rattle.std.specs.Prelude.{◌≡◌, ℕ, ◌+◌, ◌*◌, ◌≤◌, ◌^◌, ◌++◌, false, true, cond, [], List, ◌∷◌, length, drop, take, Some, None, IfSome, slice_get, slice_index_or, slice_set}
+use Rattle.std.specs.Option.{is_some, option_map, MatchOption}
 use Rattle.bytecode.specs.Code.{Code}
 use Rattle.bytecode.specs.Machine.{code_kind}
 use Rattle.bytecode.specs.Rules.{IsVerified}
+use Rattle.clock_table.specs.declared.view.Row.{Row as Word}
+use Rattle.clock_table.specs.declared.view.Row.TheVariants.{Home, Lent}
+use Rattle.clock_table.specs.Clocks.{IsLentOn, RowFits, loan_for, looked, opening_rows, row as word_at}
+use Rattle.logical_clock.specs.declared.key.Key.{Key}
 use Rattle.logical_clock.specs.Order.{is_before, keys, least}
 use Rattle.turn_rule.specs.declared.Row.{Row}
 use Rattle.turn_rule.specs.Schedule.{Stands}
@@ -16,8 +20,8 @@ use Rattle.word.specs.Worlds.{end_of, moment, rules}
 use Rattle.tracer.specs.Trace.{trace, traceline}
 use Rattle.book.specs.declared.settled.Settled.{Settled}
 use Rattle.book.specs.declared.settled.Settled.TheVariants.{Committed, Waiting, Ended}
-use Rattle.world_core.specs.Cores.{CodeMachine, CoreValue, FitsCore, HasTurn, IsCoreOf, IsLentRow, Performs, bytes_of, opened_core, shared_of}
-use Rattle.world_core.specs.Slots.{State, lent_row, waiting_clock}
+use Rattle.world_core.specs.Cores.{CodeMachine, CoreValue, FitsCore, HasLease, HasTurn, IsCoreOf, IsLentRow, Performs, bytes_of, opened_core, shared_of}
+use Rattle.world_core.specs.Slots.{IsBefore, Rows, State, lent_row, raised_row, waiting_clock}
 
 -- ---- what is seen of the one-thread run of a code
 
@@ -58,6 +62,9 @@ pub record Desk : Type 0 where
   -- the same of the trace
   pub traced : ℕ
   pub lines : List ℕ
+  -- what is known of the word of each slot, and how many looks were made
+  pub words : List Word
+  pub looks : ℕ
 
 -- the machine m is this desk's, and stands where the one-thread run does after n moves
 pub record IsAt (d : Desk) (n : ℕ) (m : CodeMachine) : Type 0 where
@@ -77,7 +84,7 @@ pub record IsDesk (d : Desk) : Type 0 where
   pub fits : FitsCore d.code d.limit d.core
   pub at : (n : ℕ) × (m : CodeMachine) × IsAt d n m
 
--- no event is committed, and goroutine 1 is alone
+-- no event is committed, goroutine 1 is alone, and no slot is lent
 abbrev pub opened_desk : Code → ℕ → Desk
 opened_desk code limit = record {
   code = code;
@@ -87,6 +94,8 @@ opened_desk code limit = record {
   pending = [];
   traced = 0;
   lines = [];
+  words = opening_rows 1024;
+  looks = 0;
 }
 
 -- ---- leases
@@ -98,34 +107,84 @@ pub record Held : Type 0 where
   pub number : ℕ
   pub base : State
   pub present : State
+  -- its slot of the table, and the clock that it published last
+  pub slot : ℕ
+  pub published : ℕ
 
--- goroutine n is lent in this state
-abbrev pub lent_desk : Desk → ℕ → State → Desk
-lent_desk d n state = record d { core = record d.core { rows = slice_set d.core.rows n (Some (lent_row state)) } }
+-- the goroutine is lent in this state, and its clock stands in the slot's word
+abbrev pub lent_desk : Desk → Held → Desk
+lent_desk d l = record d {
+  core = record d.core { rows = slice_set d.core.rows l.number (Some (lent_row l.base)) };
+  words = slice_set d.words l.slot (Lent (loan_for d.code d.limit l.number l.base) l.base.clock);
+}
 
--- the lease is out: of this program and limit, and the lent goroutine is still in the lent state
+-- the lease is out: of this program and limit, the lent goroutine is still in the lent state, and the slot's word is the lease's
 pub record IsLent (d : Desk) (l : Held) : Type 0 where
   pub code : d.code ≡ l.code
   pub limit : d.limit ≡ l.limit
   pub row : IsLentRow d.core.rows l.number l.base
+  pub word : IsLentOn (loan_for d.code d.limit l.number l.base) (word_at d.words l.slot)
 
 -- a lease that is out stays out
 abbrev pub KeepsLeases : Desk → Desk → Type 0
 KeepsLeases old new = (l : Held) → IsLent old l → IsLent new l
 
 -- the present state is put back, before an end
-abbrev pub brought : Desk → Held → Desk
-brought d l =
-    cond (is_some d.core.ending) d (record d {
-      core = record d.core {
-        rows = slice_set d.core.rows l.number (Some (record {
-          state = l.present;
-          floor = l.present.clock;
-          lease = None;
-          parked = is_some (asks (code_kind d.code) d.limit l.present);
-        }));
-      };
+abbrev pub back_core : Desk → Held → CoreValue
+back_core d l =
+    cond (is_some d.core.ending) d.core (record d.core {
+      rows = slice_set d.core.rows l.number (Some (record {
+        state = l.present;
+        floor = l.present.clock;
+        lease = None;
+        parked = is_some (asks (code_kind d.code) d.limit l.present);
+      }));
     })
+
+-- and the slot's word is no longer lent
+abbrev pub brought : Desk → Held → Desk
+brought d l = record d { core = back_core d l; words = slice_set d.words l.slot (Home l.published) }
+
+-- ---- looks at published clocks
+
+-- a look at the word of goroutine `number`, in this slot, found this clock
+pub record Sighting : Type 0 where
+  pub number : ℕ
+  pub slot : ℕ
+  pub found : ℕ
+
+-- the goroutine is lent, the slot's word is its lease's, and held that clock
+pub record IsSight (d : Desk) (x : Sighting) : Type 0 where
+  pub row : Row State
+  pub here : slice_index_or d.core.rows x.number None ≡ Some row
+  pub lent : is_some row.lease ≡ true
+  pub word : IsLentOn (loan_for d.code d.limit x.number row.state) (word_at d.words x.slot)
+  pub held : RowFits x.found (word_at d.words x.slot)
+
+-- its floor is the clock that was found
+abbrev pub seen_desk : Sighting → Desk → Desk
+seen_desk x d = record d {
+  core = record d.core { rows = slice_set d.core.rows x.number (option_map (raised_row x.found) (slice_index_or d.core.rows x.number None)) };
+  words = slice_set d.words x.slot (looked x.found (word_at d.words x.slot));
+  looks = d.looks + 1;
+}
+
+-- these looks were made one after the other, the last one first
+abbrev pub Looks : Desk → List Sighting → Desk → Type 0
+Looks old [] new = new ≡ old
+Looks old (x ∷ xs) new = (mid : Desk) × Looks old xs mid × IsSight mid x × (new ≡ seen_desk x mid)
+
+-- nothing but looks was made
+abbrev pub OnlyLooks : Desk → Desk → Type 0
+OnlyLooks old new = (seen : List Sighting) × Looks old seen new
+
+-- the last look was at n, and found its floor
+pub record IsSeen (old new : Desk) (n : ℕ) : Type 0 where
+  pub sight : Sighting
+  pub earlier : List Sighting
+  pub looks : Looks old (sight ∷ earlier) new
+  pub number : sight.number ≡ n
+  pub floor : IfSome (slice_index_or new.core.rows n None) (λ (row : Row State). row.floor ≡ sight.found)
 
 -- ---- settling
 
@@ -151,10 +210,22 @@ pub record CommitsNext (old : Desk) (event : Recorded) (new : Desk) : Type 0 whe
   pub taken : new.taken ≡ old.taken
   pub lines : new.lines ≡ old.lines ++ traceline (event_of event)
   pub traced : new.traced ≡ old.traced
+  pub words : new.words ≡ old.words
+  pub looks : new.looks ≡ old.looks
 
--- one event more, and the run's next one; or somebody who stands before it; or the run's end
+-- nobody who is lent stands before the key
+abbrev pub IsNobodyLent : Rows → Key → Type 0
+IsNobodyLent rows k = (n : ℕ) → HasLease rows n → IsBefore rows k n → ⊥
+
+-- n stands before the next event, and if it is lent, its floor is what a look has found now
+pub record Waits (old : Desk) (n : ℕ) (new : Desk) : Type 0 where
+  pub only : OnlyLooks old new
+  pub stands : StandsBefore new.core n
+  pub seen : HasLease new.core.rows n → IsSeen old new n
+
+-- looks, and one event more, the run's next one; or looks, and somebody who stands before it; or the run's end
 abbrev pub Settles : Desk → Settled → Desk → Type 0
-Settles old (Committed event) new = CommitsNext old event new
-Settles old (Waiting n) new = (new ≡ old) × StandsBefore old.core n
+Settles old (Committed event) new = (mid : Desk) × OnlyLooks old mid × CommitsNext mid event new
+Settles old (Waiting n) new = Waits old n new
 Settles old (Ended ending) new =
     (new ≡ old) × IsEnd old.code old.limit old.core.events (old.taken + length old.pending) (old.traced + length old.lines) ending

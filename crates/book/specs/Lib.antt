@@ -1,1 +1,4 @@
 pub mod Desks
+pub mod Leases
+pub mod Names
+pub mod Slots

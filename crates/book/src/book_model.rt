@@ -1,18 +1,24 @@
 //! The book of a run.
 
-ghost use Rattle.std.specs.Prelude.{◌≡◌, ◌+◌, ◌<◌, ◌≤◌, ◌^◌, ◌↔◌, ◌⊎◌, [], IfErr, IfNone, IfOk, IfSome, IsErrOf, IsOk, IsTrue, None, OnErr, OnOk, Some, length, slice_set};
+ghost use Rattle.std.specs.Prelude.{◌≡◌, ◌+◌, ◌<◌, ◌≤◌, ◌^◌, ◌↔◌, ◌⊎◌, [], IfErr, IfNone, IfOk, IfSome, IsErrOf, IsTrue, MatchOption, None, OnErr, OnOk, Some, length, true};
 ghost use Rattle.std.specs.Arc.{arc_value};
 ghost use Rattle.output.specs.Progress.{piece_run};
 ghost use Rattle.output.specs.declared.piece.Kind.TheVariants.{Output, Trace};
 ghost use Rattle.logical_clock.specs.Order.{keys, least};
-ghost use Rattle.world_core.specs.Slots.{waiting_clock};
-ghost use Rattle.world_core.specs.Cores.{HasTurn, IsFreeIn, to_lend};
-ghost use Rattle.book.specs.Desks.{IsDesk, IsLent, IsPiece, IsTracePiece, KeepsLeases, Settles, brought, lent_desk, opened_desk};
+ghost use Rattle.turn_rule.specs.Schedule.{has_turn};
+ghost use Rattle.clock_table.specs.Clocks.{IsFree, WasLent, loan_for, row as word_at};
+ghost use Rattle.clock_table.specs.Seats.{table_of};
+ghost use Rattle.world_core.specs.Slots.{IsBefore, waiting_clock};
+ghost use Rattle.world_core.specs.Cores.{HasLease, HasTurn, IsFreeIn, to_lend};
+ghost use Rattle.book.specs.Desks.{CommitsNext, IsDesk, IsLent, IsNobodyLent, IsPiece, IsSeen, IsSight, IsTracePiece, KeepsLeases, OnlyLooks, Settles, Sighting, Waits, brought, lent_desk, opened_desk, seen_desk};
 
+use crate::blank::Blank;
 use crate::lease::Lease;
+use crate::name::BookName;
 use crate::settled::Settled;
-use go_text::{Fault, Memory, NotYours};
-use logical_clock::LAST;
+use crate::slots::Slots;
+use go_text::{Fault, Memory};
+use logical_clock::{Clock, Key, LAST};
 use output::{Kind, Piece};
 use std::alloc::Global;
 use std::marker::Model;
@@ -21,12 +27,13 @@ use std::sync::Arc;
 use tracer::{append_line, reserve_line};
 use verifier::Verified;
 use word::end::End;
+use word::request::Event;
 use world_core::{Core, blocker, first_awake, least_parked};
 
 /// The book of a run: what is committed, who is lent, and the bytes of the output and of the trace that were not yet taken
 /// out.
 #[derive(Drop)]
-pub struct Book {
+pub struct Book<B: BookName> {
     alloc: Global,
     program: Arc<Verified>,
     limit: u64,
@@ -39,22 +46,28 @@ pub struct Book {
     traced: u128,
     /// The bytes of the trace that were not.
     lines: Vec<u8>,
+    /// The clocks that leases publish.
+    slots: Slots<B>,
 }
 
-impl Model for Book {
+impl<B: BookName> Model for Book<B> {
     ghost use Rattle.std.specs.Arc.{arc_value};
-    ghost use Rattle.book.specs.Desks.{Desk, IsDesk};
+    ghost use Rattle.clock_table.specs.Seats.{rows as words_of, seat_looks};
+    ghost use Rattle.book.specs.Desks.{Desk};
+    ghost use Rattle.book.specs.Slots.{IsBook};
 
     ghost Value = { Desk };
 
-    ghost view = { λ b. record { code = arc_value b.program; limit = b.limit; core = b.core; taken = b.taken; pending = b.pending.items; traced = b.traced; lines = b.lines.items } };
+    ghost view = { λ b. record { code = arc_value b.program; limit = b.limit; core = b.core; taken = b.taken; pending = b.pending.items; traced = b.traced; lines = b.lines.items; words = words_of b.slots.seat; looks = seat_looks b.slots.seat } };
 
-    ghost invariant = { λ b. IsDesk (record { code = arc_value b.program; limit = b.limit; core = b.core; taken = b.taken; pending = b.pending.items; traced = b.traced; lines = b.lines.items }) };
+    ghost invariant = { λ b. IsBook B.code B.limit (record { code = arc_value b.program; limit = b.limit; core = b.core; taken = b.taken; pending = b.pending.items; traced = b.traced; lines = b.lines.items; words = words_of b.slots.seat; looks = seat_looks b.slots.seat }) b.slots.places.items };
 }
 
-impl Book {
-    /// The book of this program under this clock limit, 1 to 2^62: no event is committed, and goroutine 1 is alone.
-    pub fn open(alloc: Global, program: Arc<Verified>, limit: u64) -> Result<Book, Fault>
+impl<B: BookName> Book<B> {
+    /// The book of this program under this clock limit, 1 to 2^62: no event is committed, goroutine 1 is alone, and no slot of
+    /// its table is lent.
+    pub fn open(blank: Blank, program: Arc<Verified>, limit: u64) -> Result<Book<B>, Fault>
+        requires { (arc_value program ≡ B.code) × (limit ≡ B.limit) × (table_of blank.table ≡ B.table) }
         ensures book { IfOk result (λ book. book ≡ opened_desk (arc_value program) limit) }
         ensures bad_limit { IsErrOf result Fault.BadLimit ↔ ((limit ≡ 0) ⊎ (2 ^ 62 < limit)) }
         ensures only { IfErr result (λ e. (e ≡ Fault.BadLimit) ⊎ (e ≡ Fault.Memory)) }
@@ -62,7 +75,9 @@ impl Book {
         if limit == 0 || limit > LAST {
             return Err(Fault::BadLimit);
         }
+        let alloc = blank.alloc;
         let core = Core::open(alloc, &program)?;
+        let slots = Slots::new(blank)?;
         Ok(Book {
             alloc,
             program,
@@ -72,6 +87,7 @@ impl Book {
             pending: Vec::new(alloc),
             traced: 0,
             lines: Vec::new(alloc),
+            slots,
         })
     }
 
@@ -84,104 +100,163 @@ impl Book {
     }
 
     /// Lends the goroutine of least key of those that are awake and neither lent nor parked; none where there is none, or
-    /// the run has ended.
-    pub fn lend(&mut self) -> Result<Option<Lease>, Memory>
+    /// the run has ended. Its clock is published before its lease exists.
+    pub fn lend(&mut self) -> Result<Option<Lease<B>>, Memory>
         ensures none { IfOk result (λ found. IfNone found ((to_lend self.old.core ≡ None) × (self.new ≡ self.old))) }
         ensures key { IfOk result (λ found. IfSome found (λ l. to_lend self.old.core ≡ Some (record { clock = l.base.clock; number = l.number }))) }
-        ensures lease { IfOk result (λ found. IfSome found (λ l. IsFreeIn self.old.core.rows l.number l.base × (l.present ≡ l.base) × IsLent self.new l)) }
-        ensures lent { IfOk result (λ found. IfSome found (λ l. self.new ≡ lent_desk self.old l.number l.base)) }
+        ensures lease { IfOk result (λ found. IfSome found (λ l. IsFreeIn self.old.core.rows l.number l.base × (l.present ≡ l.base) × (l.published ≡ l.base.clock) × IsLent self.new l)) }
+        ensures free { IfOk result (λ found. IfSome found (λ l. IsFree (word_at self.old.words l.slot))) }
+        ensures lent { IfOk result (λ found. IfSome found (λ l. self.new ≡ lent_desk self.old l)) }
         ensures memory { OnErr result (self.new ≡ self.old) }
     {
-        let program = Arc::try_clone(&self.program)?;
-        let Some((number, base, present)) = self.core.lend_least(self.alloc)? else {
+        let Some((number, state)) = self.core.lend_least() else {
             return Ok(None);
         };
-        Ok(Some(Lease::new(self.alloc, program, self.limit, number, base, present)))
-    }
-
-    /// Puts the present state of a lease back; after an end that changes nothing. A lease that is not out, as one of
-    /// another book, is handed back.
-    pub fn bring(&mut self, lease: Lease) -> Result<(), (Lease, NotYours)>
-        ensures variant { IsOk result ↔ IsLent self.old lease }
-        ensures ok { OnOk result (self.new ≡ brought self.old lease) }
-        ensures err { IfErr result (λ e. (e.0 ≡ lease) × (self.new ≡ self.old)) }
-    {
-        if !self.is_out(&lease) {
-            return Err((lease, NotYours));
+        match self.slots.lend(&self.program, self.limit, number, &state) {
+            Ok((program, seat)) => {
+                let lease = Lease::new(self.alloc, program, self.limit, number, state, seat);
+                Ok(Some(lease))
+            }
+            Err(Memory) => {
+                self.core.take_back(number, state, false);
+                Err(Memory)
+            }
         }
-        self.bring_own(lease);
-        Ok(())
     }
 
-    /// Whether the lease is out: of this program and limit, and its goroutine is lent in the state that it began with.
-    pub fn is_out(&self, lease: &Lease) -> bool
-        ensures { IsTrue result ↔ IsLent self.now lease.now }
+    /// Puts the present state of a lease back; after an end that changes nothing but its slot, which is free again.
+    pub fn bring(&mut self, lease: Lease<B>)
+        ensures out { IsLent self.old lease }
+        ensures looks { WasLent (loan_for self.old.code self.old.limit lease.number lease.base) lease.published (word_at self.old.words lease.slot) }
+        ensures brought { self.new ≡ brought self.old lease }
     {
-        self.program.code().is_same(lease.program().code())
-            && self.limit == lease.limit()
-            && self.core.is_lent(lease.number(), lease.base())
-    }
-
-    /// Whether a lease of this program and limit is out, without a look at the program.
-    pub fn is_own_out(&self, lease: &Lease) -> bool
-        requires code { self.now.code ≡ lease.now.code }
-        requires limit { self.now.limit ≡ lease.now.limit }
-        ensures { IsTrue result ↔ IsLent self.now lease.now }
-    {
-        let number = lease.number();
-        self.core.is_lent(number, lease.base())
-    }
-
-    /// Puts the present state of a lease back that is out, without a look at the program.
-    pub fn bring_own(&mut self, lease: Lease)
-        requires { IsLent self.old lease }
-        ensures { self.new ≡ brought self.old lease }
-    {
-        if self.core.ending().is_some() {
-            return;
-        }
         let parked = lease.is_asking();
         let number = lease.number();
-        self.core.take_back(number, lease.into_present(), parked);
+        let (program, present, seat) = lease.into_parts();
+        self.slots.take_back(program, seat);
+        match self.core.ending() {
+            None => self.core.take_back(number, present, parked),
+            Some(_) => {}
+        }
     }
 
     /// Commits the next event of the one-thread run, or tells who stands before it, or how the run has ended. Every lease
-    /// that is out stays out.
+    /// that is out stays out. Nobody who is lent is waited for before a look at the clock that is published of it.
     pub fn settle(&mut self) -> Result<Settled, Memory>
         ensures settles { IfOk result (λ s. Settles self.old s self.new) }
         ensures leases { KeepsLeases self.old self.new }
-        ensures memory { OnErr result (self.new ≡ self.old) }
+        ensures memory { OnErr result (OnlyLooks self.old self.new) }
     {
         if let Some(end) = self.core.ending() {
             return Ok(Settled::Ended(end));
         }
-        let rows = self.core.rows();
-        let Some(key) = least_parked(rows) else {
+        let Some(key) = least_parked(self.core.rows()) else {
             return Ok(self.nobody_parked());
         };
-        let first = key.number;
-        if let Some(number) = blocker(rows, key) {
+        if let Some(number) = self.first_before(&key) {
             return Ok(Settled::Waiting(number));
         }
-        Ok(self.commit(first)?)
+        Ok(Settled::Committed(self.commit(key.number)?))
     }
 
     /// What a settling comes to where nobody is parked.
-    fn nobody_parked(&self) -> Settled
-        requires ending { self.now.core.ending ≡ None }
-        requires parked { least (keys waiting_clock 0 self.now.core.rows) ≡ None }
-        ensures { Settles self.now result self.now }
+    fn nobody_parked(&mut self) -> Settled
+        requires ending { self.old.core.ending ≡ None }
+        requires parked { least (keys waiting_clock 0 self.old.core.rows) ≡ None }
+        ensures settles { Settles self.old result self.new }
+        ensures leases { KeepsLeases self.old self.new }
     {
-        match first_awake(self.core.rows()) {
-            Some(number) => Settled::Waiting(number),
-            None => Settled::Ended(End::Deadlock),
+        let Some(number) = first_awake(self.core.rows()) else {
+            return Settled::Ended(End::Deadlock);
+        };
+        if !self.is_lent(number) {
+            return Settled::Waiting(number);
         }
+        self.look(number);
+        Settled::Waiting(number)
+    }
+
+    /// Who stands before the key of the goroutine that is parked first, if not only until a look at the clocks that are
+    /// published.
+    fn first_before(&mut self, key: &Key) -> Option<u64>
+        requires ending { self.old.core.ending ≡ None }
+        requires least { least (keys waiting_clock 0 self.old.core.rows) ≡ Some key.now }
+        ensures none { IfNone result (OnlyLooks self.old self.new × HasTurn self.new.core key.now.number) }
+        ensures some { IfSome result (λ n. Waits self.old n self.new) }
+    {
+        let Some(number) = self.blocker(key) else {
+            return None;
+        };
+        if !self.is_lent(number) {
+            return Some(number);
+        }
+        if let Some(lent) = self.look_before(key) {
+            return Some(lent);
+        }
+        self.blocker(key)
+    }
+
+    /// Looks at the clocks of those who are lent and stand before the key, up to one that then still does.
+    fn look_before(&mut self, key: &Key) -> Option<u64>
+        requires { self.old.core.ending ≡ None }
+        ensures none { IfNone result (OnlyLooks self.old self.new × IsNobodyLent self.new.core.rows key.now) }
+        ensures some { IfSome result (λ n. IsSeen self.old self.new n × IsBefore self.new.core.rows key.now n) }
+    {
+        for place in 0..self.count() {
+            let number = place as u64;
+            if self.is_lent(number) && self.stands_before(number, key) {
+                self.look(number);
+                if self.stands_before(number, key) {
+                    return Some(number);
+                }
+            }
+        }
+        None
+    }
+
+    /// Who stands before the key; none where it has the turn.
+    fn blocker(&self, key: &Key) -> Option<u64>
+        ensures stands { IsDesk self.now }
+        ensures blocker { MatchOption result (has_turn key.now 0 self.now.core.rows ≡ true) (λ n. IsBefore self.now.core.rows key.now n) }
+    {
+        blocker(self.core.rows(), *key)
+    }
+
+    /// How many places the rows of goroutines have.
+    fn count(&self) -> usize
+        ensures { result ≡ length self.now.core.rows }
+    {
+        self.core.rows().len()
+    }
+
+    /// Whether goroutine `number` is awake, and lent.
+    fn is_lent(&self, number: u64) -> bool
+        ensures { IsTrue result ↔ HasLease self.now.core.rows number }
+    {
+        self.core.is_lent(number)
+    }
+
+    /// Whether goroutine `number` is awake, another one than that of the key, and the key is not below its floor.
+    fn stands_before(&self, number: u64, key: &Key) -> bool
+        ensures { IsTrue result ↔ IsBefore self.now.core.rows key.now number }
+    {
+        self.core.stands_before(number, *key)
+    }
+
+    /// Looks at the clock that is published of goroutine `number`, which is lent: it is its floor then.
+    fn look(&mut self, number: u64)
+        requires lent { HasLease self.old.core.rows number }
+        requires ending { self.old.core.ending ≡ None }
+        ensures { (x : Sighting) × (x.number ≡ number) × IsSight self.old x × (self.new ≡ seen_desk x self.old) }
+    {
+        let found = self.slots.look(number);
+        self.core.raise(number, Clock::at(found));
     }
 
     /// Performs the request of the goroutine that has the turn.
-    fn commit(&mut self, number: u64) -> Result<Settled, Memory>
+    fn commit(&mut self, number: u64) -> Result<Event, Memory>
         requires { HasTurn self.old.core number }
-        ensures settles { IfOk result (λ s. Settles self.old s self.new) }
+        ensures commits { IfOk result (λ event. CommitsNext self.old event self.new) }
         ensures leases { OnOk result (KeepsLeases self.old self.new) }
         ensures memory { OnErr result (self.new ≡ self.old) }
     {
@@ -194,7 +269,7 @@ impl Book {
             &mut self.pending,
         )?;
         append_line(&mut self.lines, &event);
-        Ok(Settled::Committed(event))
+        Ok(event)
     }
 
     /// The bytes of the output that were committed and not yet taken out.

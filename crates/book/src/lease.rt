@@ -8,71 +8,64 @@ ghost use Rattle.std.specs.Arc.{arc_value};
 ghost use Rattle.turn_rule.specs.Turns.{Leads};
 ghost use Rattle.word.specs.Kinds.{asks};
 ghost use Rattle.word.specs.Worlds.{rules};
+ghost use Rattle.clock_table.specs.Clocks.{loan_for};
+ghost use Rattle.clock_table.specs.Seats.{lease_clock, lease_loan, lease_slot, lease_table};
 
+use crate::name::BookName;
+use clock_table::LeaseSeat;
 use go_text::Memory;
 use goroutine_vm::{GoState, Stop};
 use logical_clock::Key;
 use std::alloc::Global;
-use std::marker::Model;
+use std::marker::{Model, PhantomData};
+use std::snapshot::Snapshot;
 use std::sync::Arc;
 use verifier::Verified;
 
-/// A goroutine that is lent: it makes its local steps outside the book.
+/// A goroutine that is lent: it makes its local steps outside the book, and publishes its clock. Of the state in which it
+/// was lent there is no copy: contracts alone see it.
 #[derive(Drop)]
-pub struct Lease {
+pub struct Lease<B: BookName> {
     alloc: Global,
     program: Arc<Verified>,
     limit: u64,
     number: u64,
-    base: GoState,
+    base: Snapshot<GoState>,
     present: GoState,
+    seat: LeaseSeat,
+    of: PhantomData<B>,
 }
 
-impl Model for Lease {
-    ghost use Rattle.std.specs.Prelude.{◌≤◌, ◌^◌};
-    ghost use Rattle.std.specs.Arc.{arc_value};
+impl<B: BookName> Model for Lease<B> {
     ghost use Rattle.book.specs.Desks.{Held};
-    ghost use Rattle.bytecode.specs.Machine.{code_kind};
-    ghost use Rattle.goroutine_vm.specs.Advance.{IsStateOf};
-    ghost use Rattle.turn_rule.specs.Turns.{Leads};
-    ghost use Rattle.word.specs.Worlds.{rules};
+    ghost use Rattle.book.specs.Leases.{IsHeldBy};
+    ghost use Rattle.std.specs.Arc.{arc_value};
+    ghost use Rattle.clock_table.specs.Seats.{lease_clock, lease_slot};
 
     ghost Value = { Held };
 
-    ghost view = { λ l. record { code = arc_value l.program; limit = l.limit; number = l.number; base = l.base; present = l.present } };
+    ghost view = { λ l. record { code = arc_value l.program; limit = l.limit; number = l.number; base = l.base.value; present = l.present; slot = lease_slot l.seat; published = lease_clock l.seat } };
 
-    ghost invariant = { λ l. IsStateOf (arc_value l.program) l.limit l.present × Leads (rules (code_kind (arc_value l.program)) l.limit) l.base l.present };
+    ghost invariant = { λ l. IsHeldBy B.table B.code B.limit (record { code = arc_value l.program; limit = l.limit; number = l.number; base = l.base.value; present = l.present; slot = lease_slot l.seat; published = lease_clock l.seat }) l.seat };
 }
 
-impl Lease {
-    /// At most `quantum` local steps, up to a request; answers whether the goroutine then stands at one.
+impl<B: BookName> Lease<B> {
+    /// At most `quantum` local steps, up to a request; answers whether the goroutine then stands at one. Its clock is
+    /// published then.
     pub fn work(&mut self, quantum: u32) -> Result<bool, Memory>
         ensures asks { IfOk result (λ asking. asking ≡ is_some (asks (code_kind self.old.code) self.old.limit self.new.present)) }
         ensures quantum { IfOk result (λ asking. asking ≡ false → steps self.old.code self.old.limit quantum self.old.present ≡ self.new.present) }
         ensures steps { Goes self.old.code self.old.limit quantum self.old.present self.new.present }
-        ensures same { self.new ≡ record self.old { present = self.new.present } }
+        ensures same { self.new ≡ record self.old { present = self.new.present; published = self.new.present.clock } }
     {
-        match self
+        let stop = self
             .present
-            .advance(self.alloc, &self.program, self.limit, quantum)?
-        {
+            .advance(self.alloc, &self.program, self.limit, quantum);
+        self.seat.advance(&self.present);
+        match stop? {
             Stop::AtOp(_) => Ok(true),
             Stop::Quantum => Ok(false),
         }
-    }
-
-    /// The program that it runs.
-    pub fn program(&self) -> &Verified
-        ensures { result.now ≡ self.now.code }
-    {
-        &self.program
-    }
-
-    /// The clock limit of its run.
-    pub fn limit(&self) -> u64
-        ensures { result ≡ self.now.limit }
-    {
-        self.limit
     }
 
     /// The goroutine's number.
@@ -82,51 +75,11 @@ impl Lease {
         self.number
     }
 
-    /// The state in which it was lent.
-    pub fn base(&self) -> &GoState
-        ensures { result.now ≡ self.now.base }
-    {
-        &self.base
-    }
-
     /// Whether the goroutine stands at a request.
     pub fn is_asking(&self) -> bool
         ensures { result ≡ is_some (asks (code_kind self.now.code) self.now.limit self.now.present) }
     {
         self.present.is_asking(&self.program, self.limit)
-    }
-
-    /// The state to which it led, by local steps alone.
-    pub fn into_present(self) -> GoState
-        ensures present { result ≡ self.present }
-        ensures state { IsStateOf self.code self.limit self.present }
-        ensures leads { Leads (rules (code_kind self.code) self.limit) self.base self.present }
-    {
-        let Lease { present, .. } = self;
-        present
-    }
-
-    /// A goroutine that is lent in this state, of which these are two copies.
-    pub(crate) fn new(
-        alloc: Global,
-        program: Arc<Verified>,
-        limit: u64,
-        number: u64,
-        base: GoState,
-        present: GoState,
-    ) -> Lease
-        requires state { IsStateOf (arc_value program) limit base }
-        requires same { present ≡ base }
-        ensures { result ≡ record { code = arc_value program; limit = limit; number = number; base = base; present = base } }
-    {
-        Lease {
-            alloc,
-            program,
-            limit,
-            number,
-            base,
-            present,
-        }
     }
 
     /// The goroutine's clock and number.
@@ -136,6 +89,49 @@ impl Lease {
         Key {
             clock: self.present.clock(),
             number: self.number,
+        }
+    }
+
+    /// The program, the state to which local steps alone led, and the seat at the table.
+    pub(crate) fn into_parts(self) -> (Arc<Verified>, GoState, LeaseSeat)
+        ensures program { (arc_value result.0 ≡ B.code) × (self.code ≡ B.code) × (self.limit ≡ B.limit) }
+        ensures present { result.1 ≡ self.present }
+        ensures state { IsStateOf self.code self.limit self.present }
+        ensures leads { Leads (rules (code_kind self.code) self.limit) self.base self.present }
+        ensures seat { (lease_table result.2 ≡ B.table) × (lease_loan result.2 ≡ loan_for self.code self.limit self.number self.base) × (lease_slot result.2 ≡ self.slot) × (lease_clock result.2 ≡ self.published) }
+    {
+        let Lease {
+            program,
+            present,
+            seat,
+            ..
+        } = self;
+        (program, present, seat)
+    }
+
+    /// A goroutine that is lent in this state.
+    pub(crate) fn new(
+        alloc: Global,
+        program: Arc<Verified>,
+        limit: u64,
+        number: u64,
+        present: GoState,
+        seat: LeaseSeat,
+    ) -> Lease<B>
+        requires run { (arc_value program ≡ B.code) × (limit ≡ B.limit) }
+        requires state { IsStateOf (arc_value program) limit present }
+        requires seat { (lease_table seat ≡ B.table) × (lease_loan seat ≡ loan_for (arc_value program) limit number present) × (lease_clock seat ≡ present.clock) }
+        ensures { result ≡ record { code = arc_value program; limit = limit; number = number; base = present; present = present; slot = lease_slot seat; published = present.clock } }
+    {
+        Lease {
+            alloc,
+            program,
+            limit,
+            number,
+            base: Snapshot::of(&present),
+            present,
+            seat,
+            of: PhantomData,
         }
     }
 }

@@ -1,12 +1,18 @@
 //! The events of a run, as lines.
 
+ghost use Rattle.std.specs.Prelude.{◌≡◌};
+ghost use Rattle.std.specs.Arc.{arc_value};
+ghost use Rattle.clock_table.specs.Seats.{table_of};
+
 use crate::flaw::Flaw;
 use crate::reading::program;
-use book::{Book, Settled};
+use book::{Blank, Book, BookName, Settled};
 use go_text::Fault;
 use std::alloc::Global;
+use std::marker::Brand;
 use std::sync::Arc;
 use tracer::line;
+use verifier::Verified;
 
 /// How many local steps a lease makes before it is brought back: the fewest, so that there are the most turns.
 const QUANTUM: u32 = 1;
@@ -14,7 +20,19 @@ const QUANTUM: u32 = 1;
 /// The lines of the events that settling commits, up to this clock limit.
 pub(crate) fn settled_lines(alloc: Global, text: &[u8], limit: u64) -> Result<Vec<u8>, Flaw> {
     let program = Arc::new(alloc, program(alloc, text)?)?;
-    let mut book = Book::open(alloc, program, limit)?;
+    lines_of::<Brand>(alloc, Blank::new(alloc)?, program, limit)
+}
+
+/// The lines of the run of this name.
+fn lines_of<B: BookName>(
+    alloc: Global,
+    blank: Blank,
+    program: Arc<Verified>,
+    limit: u64,
+) -> Result<Vec<u8>, Flaw>
+    requires { (arc_value program ≡ B.code) × (limit ≡ B.limit) × (table_of blank.table ≡ B.table) }
+{
+    let mut book = Book::<B>::open(blank, program, limit)?;
     let mut lines = Vec::new(alloc);
     for _ in 0..u64::MAX {
         match turn(&mut book)? {
@@ -30,13 +48,11 @@ pub(crate) fn settled_lines(alloc: Global, text: &[u8], limit: u64) -> Result<Ve
 }
 
 /// Lends one goroutine and brings it back, or, where none is to be lent, settles.
-fn turn(book: &mut Book) -> Result<Option<Settled>, Fault> {
+fn turn<B: BookName>(book: &mut Book<B>) -> Result<Option<Settled>, Fault> {
     let Some(mut lease) = book.lend()? else {
         return Ok(Some(book.settle()?));
     };
     lease.work(QUANTUM)?;
-    match book.bring(lease) {
-        Ok(()) => Ok(None),
-        Err(_) => Err(Fault::NotYours),
-    }
+    book.bring(lease);
+    Ok(None)
 }

@@ -1,23 +1,31 @@
 -- What the threads of a run share may cross to another thread.
 use denote.RattleType.{RattleType}
-use denote.Param.Send.{IsSend, IsSync, view_send, recorded_send, recorded_sync, struct_send, struct_sync, sendable}
+use denote.Param.Send.{IsSend, IsSync, view_send, recorded_send, recorded_sync, struct_send, struct_sync, enum_send, sendable}
 use denote.Struct.Declared.{shape}
+use denote.Enum.Declared as enum
 use Rattle.std.proofs.Crossing.{crosses}
 use Rattle.std.proofs.sync.ledger.Book.TheSendSync as ledger
 use Rattle.std.specs.contracts.sync.Mutex as Mutex
+use Rattle.book.proofs.slots.Slots.TheSendSync.{the_field_send as slots_send}
 use Rattle.book.specs.contracts.book_model.Book as Book
 use Rattle.book.specs.contracts.book_model.Book.TheInside as book
 use Rattle.channel_core.proofs.channels.Channels.TheSendSync.{the_send as channels_send}
 use Rattle.goroutine_vm.proofs.state.GoState.TheSendSync.{the_send as state_send}
 use Rattle.verifier.proofs.verified.Verified.TheSendSync.{the_send as verified_send, the_sync as verified_sync}
 use Rattle.word.proofs.end.End.TheSendSync.{the_send as end_send}
-use Rattle.world_core_base.proofs.slot.Slot.TheSendSync.{the_send as slot_send}
+use Rattle.logical_clock.proofs.clock.Clock.TheSendSync.{the_send as clock_send}
+use Rattle.world_core_base.proofs.slot.Standing.TheSendSync.{the_field_send as standing_send}
 use Rattle.world_core_base.specs.contracts.core_model.Core as Core
 use Rattle.world_core_base.specs.contracts.core_model.Core.TheInside as core
+use Rattle.world_core_base.specs.contracts.slot.Held as Held
+use Rattle.world_core_base.specs.contracts.slot.Slot as Slot
+use Rattle.world_core_base.specs.contracts.slot.Slot.TheInside as slot
 use Rattle.world_core_base.specs.contracts.slot.Away as Away
 use Rattle.world_core_base.specs.contracts.slot.Away.TheInside as away
+use Rattle.book.specs.declared.name.BookName.{Ghosts as BookGhosts}
 use Rattle.worker_pool.specs.contracts.locked.Locked as Locked
 use Rattle.worker_pool.specs.contracts.run_book.RunBook as RunBook
+use Rattle.worker_pool.specs.contracts.run_name.OfRun as OfRun
 use Rattle.worker_pool.specs.contracts.shared.Shared as Shared
 use Rattle.worker_pool.specs.declared.run_name.RunName.{Ghosts}
 
@@ -26,6 +34,15 @@ away_inside = recorded_send away.the_field.row _ _ away.the_type.to_one (struct_
 
 away_send : IsSend Away.the_row
 away_send = view_send _ _ _ _ _ away_inside
+
+held_send : IsSend Held.the_field.row
+held_send = enum_send (enum.shape Held.the_type) ((search (sendable, crosses, state_send) depth 20, tt), ((search (sendable, crosses) depth 20, tt), tt))
+
+slot_inside : IsSend slot.the_row
+slot_inside = recorded_send slot.the_field.row _ _ slot.the_type.to_one (struct_send (shape slot.the_type) (held_send, (search (sendable, crosses, clock_send) depth 20, (standing_send, tt))))
+
+slot_send : IsSend Slot.the_row
+slot_send = view_send _ _ _ _ _ slot_inside
 
 core_inside : IsSend core.the_row
 core_inside =
@@ -46,22 +63,34 @@ core_inside =
 core_send : IsSend Core.the_row
 core_send = view_send _ _ _ _ _ core_inside
 
-book_inside : IsSend book.the_row
-book_inside = recorded_send book.the_field.row _ _ book.the_type.to_one (struct_send (shape book.the_type) (
+book_inside : (B : RattleType) (g : BookGhosts B.Denot) → IsSend (book.the_row B g)
+book_inside B g = recorded_send (book.the_field B g).row _ _ (book.the_type B g).to_one (struct_send (shape (book.the_type B g)) (
   search sendable,
   (
     search (sendable, crosses, verified_send, verified_sync) depth 20,
-    (search sendable, (core_send, (search sendable, (search (sendable, crosses) depth 20, (search sendable, (search (sendable, crosses) depth 20, tt)))))),
+    (
+      search sendable,
+      (
+        core_send,
+        (
+          search sendable,
+          (
+            search (sendable, crosses) depth 20,
+            (search sendable, (search (sendable, crosses) depth 20, (slots_send B g, tt))),
+          ),
+        ),
+      ),
+    ),
   ),
 ))
 
-book_send : IsSend Book.the_row
-book_send = view_send _ _ _ _ _ book_inside
+book_send : (B : RattleType) (g : BookGhosts B.Denot) → IsSend (Book.the_row B g)
+book_send B g = view_send _ _ _ _ _ (book_inside B g)
 
 locked_send : (B : RattleType) (g : Ghosts B.Denot) → IsSend B → IsSend (Locked.the_row B g)
 locked_send B g s =
     recorded_send (Locked.the_field B g).row _ _ (Locked.the_type B g).to_one (struct_send (shape (Locked.the_type B g)) (
-      struct_send (shape (RunBook.the_type B g)) (book_send, (search (sendable, crosses) depth 20, tt)),
+      struct_send (shape (RunBook.the_type B g)) (book_send (OfRun.the_row B) _, tt),
       (ledger.the_send _ _, (ledger.the_send _ _, (search sendable, (search sendable, (search sendable, (search sendable, tt)))))),
     ))
 

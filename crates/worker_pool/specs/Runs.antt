@@ -1,7 +1,7 @@
 -- What a run writes, and what goes between its threads.
 use Rattle.std.specs.Prelude.{◌≡◌, ℕ, ◌+◌, ◌≤◌, [], List, Option, Some, Result, IfOk, drop, length, take}
 use Rattle.std.specs.Io.KnownBytes.{Appends}
-use Rattle.book.specs.Desks.{Desk, opened_desk}
+use Rattle.book.specs.Desks.{Desk}
 use Rattle.bytecode.specs.Code.{Code}
 use Rattle.bytecode.specs.Machine.{code_kind}
 use Rattle.go_text.specs.declared.fault.Fault.{Fault}
@@ -65,9 +65,6 @@ pub record ComesOf (run : Run) (old new : Option (List ℕ)) (outcome : Result E
 
 -- ---- the run of a name
 
-abbrev pub no_code : Code
-no_code = record { functions = []; shapes = []; prints = []; selects = [] }
-
 -- its output
 abbrev pub output_run : Code → ℕ → Run
 output_run code limit = record { program = code; limit = limit; kind = Output }
@@ -87,9 +84,8 @@ pub record IsOfRun (program : Code) (most : ℕ) (d : Desk) : Type 0 where
   pub code : d.code ≡ program
   pub limit : d.limit ≡ most
 
--- a run of this code begins: no event is committed, and nothing was written
-pub record IsStart (code : Code) (limit : ℕ) (d : Desk) (printed traced : Progress) : Type 0 where
-  pub book : d ≡ opened_desk code limit
+-- a run of this code begins: nothing was written
+pub record IsStart (code : Code) (limit : ℕ) (printed traced : Progress) : Type 0 where
   pub printed_run : run_of printed ≡ output_run code limit
   pub traced_run : run_of traced ≡ trace_run code limit
   pub printed_place : progress_place printed ≡ 0

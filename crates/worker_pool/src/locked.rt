@@ -6,8 +6,8 @@ ghost use Rattle.worker_pool.specs.Runs.{IsHanded, output_run, trace_run};
 
 use crate::handed::Handed;
 use crate::run_book::RunBook;
-use crate::run_name::{Printed, RunName, Traced};
-use crate::turn::{Back, Lent, Turn};
+use crate::run_name::{Printed, RunLease, RunName, Traced};
+use crate::turn::{Back, Turn};
 use go_text::Memory;
 use output::Piece;
 use std::sync::ledger::{Book, Share};
@@ -95,8 +95,8 @@ impl<B: RunName> Locked<B> {
     pub fn take_back(&mut self, back: Back<B>) {
         match back {
             Back::Begun => {}
-            Back::Asking(lent) => self.bring(lent),
-            Back::Running(lent) => self.bring(lent),
+            Back::Asking(lease) => self.bring(lease),
+            Back::Running(lease) => self.bring(lease),
             Back::NoMemory => self.stop(),
         }
     }
@@ -107,7 +107,7 @@ impl<B: RunName> Locked<B> {
             return Turn::Leave;
         }
         match self.run.lend() {
-            Ok(Some(lent)) => Turn::Work(lent),
+            Ok(Some(lease)) => Turn::Work(lease),
             Ok(None) => self.idle_turn(),
             Err(Memory) => {
                 self.stop();
@@ -147,8 +147,8 @@ impl<B: RunName> Locked<B> {
     }
 
     /// Puts a lease back, and commits all that can be committed.
-    fn bring(&mut self, lent: Lent<B>) {
-        self.run.bring(lent);
+    fn bring(&mut self, lease: RunLease<B>) {
+        self.run.bring(lease);
         match self.run.settle_all() {
             Ok(end) => self.over = self.over || end.is_some(),
             Err(Memory) => self.stop(),

@@ -4,6 +4,7 @@ ghost use Rattle.std.specs.Prelude.{◌≡◌, ◌⊎◌, ◌↔◌, IfErr, IfOk
 ghost use denote.Param.Send.{IsSend, IsSync};
 ghost use Rattle.std.specs.Arc.{arc_value};
 ghost use Rattle.bytecode.specs.Machine.{code_kind};
+ghost use Rattle.clock_table.specs.Seats.{table_of};
 ghost use Rattle.one_thread.specs.Worlds.{BeginsOutput, IsLimit, IsWhole};
 ghost use Rattle.output.specs.Progress.{progress_place, run_of};
 ghost use Rattle.tracer.specs.Trace.{BeginsTrace, IsWholeTrace};
@@ -15,13 +16,12 @@ use crate::run_name::{Printed, RunName, Traced};
 use crate::shared::Shared;
 use crate::worker::work;
 use crate::writing::{Reach, write_run};
-use book::Book;
+use book::Blank;
 use go_text::Fault;
 use output::{Kind, Progress};
 use std::alloc::Global;
 use std::marker::Brand;
-use std::sync::ledger::Blank;
-use std::sync::{Arc, Wait};
+use std::sync::{Arc, Wait, ledger};
 use std::thread;
 use std::thread::Threads;
 use verifier::Verified;
@@ -64,30 +64,35 @@ pub fn run<R: Threads + Wait + Sync, G: Gate + Sync, O: Write, T: Write>(
 /// What a run begins with.
 #[derive(Drop)]
 struct Start {
-    book: Book,
+    blank: Blank,
+    program: Arc<Verified>,
+    limit: u64,
     printed: Progress,
     traced: Progress,
-    printed_ledger: Blank,
-    traced_ledger: Blank,
+    printed_ledger: ledger::Blank,
+    traced_ledger: ledger::Blank,
 }
 
 impl Start {
     /// The beginning of this program's run.
     fn new(alloc: Global, program: Arc<Verified>, limit: u64) -> Result<Start, Fault>
         requires { IsLimit limit }
-        ensures start { IfOk result (λ start. IsStart (arc_value program) limit start.book start.printed start.traced) }
+        ensures run { IfOk result (λ start. (arc_value start.program ≡ arc_value program) × (start.limit ≡ limit)) }
+        ensures start { IfOk result (λ start. IsStart (arc_value program) limit start.printed start.traced) }
         ensures ledgers { IfOk result (λ start. (start.printed_ledger.parts ≡ 1) × (start.traced_ledger.parts ≡ 1)) }
         ensures only { IfErr result (λ fault. fault ≡ Fault.Memory) }
     {
         let printed = Progress::new(Arc::try_clone(&program)?, limit, Kind::Output);
         let traced = Progress::new(Arc::try_clone(&program)?, limit, Kind::Trace);
-        let book = Book::open(alloc, program, limit)?;
+        let blank = Blank::new(alloc)?;
         Ok(Start {
-            book,
+            blank,
+            program,
+            limit,
             printed,
             traced,
-            printed_ledger: Blank::new(1),
-            traced_ledger: Blank::new(1),
+            printed_ledger: ledger::Blank::new(1),
+            traced_ledger: ledger::Blank::new(1),
         })
     }
 }
@@ -101,7 +106,9 @@ fn run_named<B: RunName + Send, R: Threads + Wait + Sync, G: Gate + Sync, O: Wri
     out: &mut O,
     trace: &mut T,
 ) -> Result<End, Fault>
-    requires start { IsStart B.code B.limit start.book start.printed start.traced }
+    requires name { (arc_value start.program ≡ B.code) × (start.limit ≡ B.limit) × (table_of start.blank.table ≡ B.table) }
+    requires limit { IsLimit start.limit }
+    requires start { IsStart B.code B.limit start.printed start.traced }
     requires printed { (start.printed_ledger.name ≡ B.printed) × (start.printed_ledger.parts ≡ 1) }
     requires traced { (start.traced_ledger.name ≡ B.traced) × (start.traced_ledger.parts ≡ 1) }
     ensures output { ComesOf (output_run B.code B.limit) (O.contents out.old) (O.contents out.new) result }
@@ -110,15 +117,18 @@ fn run_named<B: RunName + Send, R: Threads + Wait + Sync, G: Gate + Sync, O: Wri
     ensures only { IfErr result (λ fault. (fault ≡ Fault.Memory) ⊎ (fault ≡ Fault.Write)) }
 {
     let Start {
-        book,
+        blank,
+        program,
+        limit,
         printed,
         traced,
         printed_ledger,
         traced_ledger,
     } = start;
+    let run = RunBook::open(blank, program, limit)?;
     let (printed_book, printed_share) = printed_ledger.open::<Printed<B>>();
     let (traced_book, traced_share) = traced_ledger.open::<Traced<B>>();
-    let shared: Shared<B> = Shared::new(RunBook::new(book), printed_book, traced_book);
+    let shared: Shared<B> = Shared::new(run, printed_book, traced_book);
     let writing = Writing {
         rt,
         shared: &shared,

@@ -1,54 +1,52 @@
 //! The book of the run of a name.
 
-ghost use Rattle.std.specs.Prelude.{◌≡◌, ◌+◌, [], IfOk, IfSome, OnErr, OnOk, length};
+ghost use Rattle.std.specs.Prelude.{◌≡◌, ◌+◌, [], IfErr, IfOk, IfSome, OnErr, OnOk, length};
+ghost use Rattle.std.specs.Arc.{arc_value};
+ghost use Rattle.book.specs.Desks.{opened_desk};
+ghost use Rattle.clock_table.specs.Seats.{table_of};
+ghost use Rattle.one_thread.specs.Worlds.{IsLimit};
 ghost use Rattle.worker_pool.specs.Handing.{HasEnded, KeepsTaken};
 ghost use Rattle.worker_pool.specs.Runs.{IsHanded, IsOfRun, output_run, trace_run};
 
-use crate::run_name::RunName;
-use crate::turn::Lent;
-use book::{Book, Settled};
-use go_text::Memory;
+use crate::run_name::{OfRun, RunLease, RunName};
+use book::{Blank, Book, Settled};
+use go_text::{Fault, Memory};
 use output::Piece;
-use std::marker::PhantomData;
+use std::sync::Arc;
+use verifier::Verified;
 use word::end::End;
 
 /// The book of this run.
 #[derive(Drop)]
 pub(crate) struct RunBook<B: RunName> {
-    pub book: Book,
-    of: PhantomData<B>,
+    pub book: Book<OfRun<B>>,
     pub ghost ours: { IsOfRun B.code B.limit book },
 }
 
 impl<B: RunName> RunBook<B> {
-    /// This book, which is the run's.
-    pub fn new(book: Book) -> RunBook<B>
-        requires { IsOfRun B.code B.limit book }
-        ensures { result.book ≡ book }
+    /// The book of the run, of which no event is committed.
+    pub fn open(blank: Blank, program: Arc<Verified>, limit: u64) -> Result<RunBook<B>, Fault>
+        requires name { (arc_value program ≡ B.code) × (limit ≡ B.limit) × (table_of blank.table ≡ B.table) }
+        requires limit { IsLimit limit }
+        ensures book { IfOk result (λ run. run.book ≡ opened_desk B.code B.limit) }
+        ensures only { IfErr result (λ fault. fault ≡ Fault.Memory) }
     {
-        RunBook {
-            book,
-            of: PhantomData,
-        }
+        let book = Book::open(blank, program, limit)?;
+        Ok(RunBook { book })
     }
 
     /// Lends a goroutine, if there is one to be lent.
-    pub fn lend(&mut self) -> Result<Option<Lent<B>>, Memory>
+    pub fn lend(&mut self) -> Result<Option<RunLease<B>>, Memory>
         ensures { KeepsTaken self.old.book self.new.book }
     {
-        match self.book.lend()? {
-            Some(lease) => Ok(Some(Lent::new(lease))),
-            None => Ok(None),
-        }
+        self.book.lend()
     }
 
-    /// Puts a lease back. One that is not out is let go: it is of no use to the run.
-    pub fn bring(&mut self, lent: Lent<B>)
+    /// Puts a lease back.
+    pub fn bring(&mut self, lease: RunLease<B>)
         ensures { KeepsTaken self.old.book self.new.book }
     {
-        if self.book.is_own_out(&lent.lease) {
-            self.book.bring_own(lent.lease);
-        }
+        self.book.bring(lease);
     }
 
     /// Commits all that can be committed, and answers the end, where the run has ended.

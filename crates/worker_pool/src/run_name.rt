@@ -1,12 +1,17 @@
 //! Names of runs, which proofs alone see.
 
+use book::{BookName, Lease};
 use std::marker::{Brand, PhantomData};
 use std::sync::ledger::Ledger;
 
-/// Which run it is: its code, its clock limit, and the ledgers of its output and of its trace. Each call of `run` names its own.
+/// Which run it is: the table of clocks of its book, its code, its clock limit, and the ledgers of its output and of its trace.
+/// Each call of `run` names its own.
 pub(crate) trait RunName {
     ghost use Rattle.std.specs.Prelude.{ℕ};
+    ghost use Rattle.atomic_table.specs.Seated.{TableId};
     ghost use Rattle.bytecode.specs.Code.{Code};
+
+    ghost table: { TableId };
 
     ghost code: { Code };
 
@@ -18,7 +23,9 @@ pub(crate) trait RunName {
 }
 
 impl RunName for Brand {
-    ghost use Rattle.worker_pool.specs.Runs.{no_code};
+    ghost use Rattle.book.specs.Names.{no_code, no_table};
+
+    ghost table = { no_table };
 
     ghost code = { no_code };
 
@@ -28,6 +35,23 @@ impl RunName for Brand {
 
     ghost traced = { 0 };
 }
+
+/// The book of the run of this name.
+#[derive(Drop)]
+pub(crate) struct OfRun<B: RunName> {
+    of: PhantomData<B>,
+}
+
+impl<B: RunName> BookName for OfRun<B> {
+    ghost table = { B.table };
+
+    ghost code = { B.code };
+
+    ghost limit = { B.limit };
+}
+
+/// A lease of the run of this name.
+pub(crate) type RunLease<B> = Lease<OfRun<B>>;
 
 /// The ledger of the bytes of output that were handed out: the lock has the book, the thread that writes the one share.
 #[derive(Drop)]

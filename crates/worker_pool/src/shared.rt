@@ -5,8 +5,8 @@ ghost use Rattle.std.specs.Prelude.{◌≡◌, ◌+◌, IfOk, length};
 use crate::handed::Handed;
 use crate::locked::Locked;
 use crate::run_book::RunBook;
-use crate::run_name::{Printed, RunName, Traced};
-use crate::turn::{Back, Lent, Turn};
+use crate::run_name::{Printed, RunLease, RunName, Traced};
+use crate::turn::{Back, Turn};
 use crate::worker::Nap;
 use go_text::Memory;
 use std::sync::ledger::{Book, Share};
@@ -43,7 +43,7 @@ impl<B: RunName> Shared<B> {
     }
 
     /// Takes what a worker comes back with, and gives it its next lease, as soon as there is one; none once the run is over.
-    pub fn next_lease<R: Wait>(&self, rt: &R, back: Back<B>, nap: &mut Nap) -> Option<Lent<B>> {
+    pub fn next_lease<R: Wait>(&self, rt: &R, back: Back<B>, nap: &mut Nap) -> Option<RunLease<B>> {
         let mut locked = self.locked.lock(rt);
         if locked.is_watched() && matches!(&back, Back::Running(_)) {
             self.watching.notify_one();
@@ -51,11 +51,11 @@ impl<B: RunName> Shared<B> {
         locked.take_back(back);
         for _ in rt.forever() {
             match locked.turn() {
-                Turn::Work(lent) => {
+                Turn::Work(lease) => {
                     if locked.wants_watch() {
                         self.waiting.notify_one();
                     }
-                    return Some(lent);
+                    return Some(lease);
                 }
                 Turn::Watch => {
                     locked = sleep(rt, &self.watching, locked, nap.take());

@@ -1,32 +1,6 @@
 //! What a worker does next, and with what it comes back.
 
-ghost use Rattle.std.specs.Prelude.{◌≡◌};
-
-use crate::run_name::RunName;
-use book::Lease;
-use std::marker::PhantomData;
-
-/// A lease of this run.
-#[derive(Drop)]
-pub(crate) struct Lent<B: RunName> {
-    pub lease: Lease,
-    of: PhantomData<B>,
-    pub ghost code: { lease.code ≡ B.code },
-    pub ghost limit: { lease.limit ≡ B.limit },
-}
-
-impl<B: RunName> Lent<B> {
-    /// This lease, which is of the run.
-    pub fn new(lease: Lease) -> Lent<B>
-        requires code { lease.code ≡ B.code }
-        requires limit { lease.limit ≡ B.limit }
-    {
-        Lent {
-            lease,
-            of: PhantomData,
-        }
-    }
-}
+use crate::run_name::{RunLease, RunName};
 
 /// With what a worker comes back.
 #[derive(Drop)]
@@ -34,9 +8,9 @@ pub(crate) enum Back<B: RunName> {
     /// With nothing, since it begins.
     Begun,
     /// With a lease whose goroutine asks.
-    Asking(Lent<B>),
+    Asking(RunLease<B>),
     /// With a lease whose goroutine can go on at once.
-    Running(Lent<B>),
+    Running(RunLease<B>),
     /// With no lease, since memory was refused to it.
     NoMemory,
 }
@@ -45,7 +19,7 @@ pub(crate) enum Back<B: RunName> {
 #[derive(Drop)]
 pub(crate) enum Turn<B: RunName> {
     /// It works this lease.
-    Work(Lent<B>),
+    Work(RunLease<B>),
     /// It naps, and looks again: nobody else does.
     Watch,
     /// It waits until it is woken: somebody else watches.

@@ -1,9 +1,9 @@
 //! A worker.
 
 use crate::gate::Gate;
-use crate::run_name::RunName;
+use crate::run_name::{RunLease, RunName};
 use crate::shared::Shared;
-use crate::turn::{Back, Lent};
+use crate::turn::Back;
 use std::sync::Wait;
 use std::time::Duration;
 
@@ -55,9 +55,9 @@ fn work_leases<B: RunName, R: Wait, G: Gate>(rt: &R, shared: &Shared<B>, gate: &
     let mut back = Back::Begun;
     for _ in rt.forever() {
         match shared.next_lease(rt, back, &mut nap) {
-            Some(lent) => {
-                gate.at_lent(worker, lent.lease.number());
-                back = worked(lent);
+            Some(lease) => {
+                gate.at_lent(worker, lease.number());
+                back = worked(lease);
             }
             None => return,
         }
@@ -68,11 +68,10 @@ fn work_leases<B: RunName, R: Wait, G: Gate>(rt: &R, shared: &Shared<B>, gate: &
 }
 
 /// Works a lease, outside every lock.
-fn worked<B: RunName>(lent: Lent<B>) -> Back<B> {
-    let mut lent = lent;
-    match lent.lease.work(QUANTUM) {
-        Ok(true) => Back::Asking(lent),
-        Ok(false) => Back::Running(lent),
+fn worked<B: RunName>(mut lease: RunLease<B>) -> Back<B> {
+    match lease.work(QUANTUM) {
+        Ok(true) => Back::Asking(lease),
+        Ok(false) => Back::Running(lease),
         Err(_) => Back::NoMemory,
     }
 }

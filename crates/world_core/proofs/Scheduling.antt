@@ -62,7 +62,7 @@ turn_asks code limit core n fits t =
     let p = parked_row (slice_index_or core.rows t.key.number None) t.key.clock (waiting_found core.rows t.key t.least) in
     let here : slice_index_or core.rows n None ≡ Some p.0 = subst (λ k. slice_index_or core.rows k None ≡ Some p.0) t.number p.1 in
     let row = subst (FitsRow code limit) here (fits.rows n) in
-    record { row = p.0; here = here; state = row.state; asks = row.asks p.2 }
+    record { row = p.0; here = here; state = row.state; asks = row.asks p.2; unlent = row.unlent p.2 }
 
 pub none_of : {A : Type 0} (o : Option A) → ((x : A) → o ≡ Some x → ⊥) → o ≡ None
 none_of None h = refl

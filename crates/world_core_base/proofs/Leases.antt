@@ -48,7 +48,7 @@ fits_set code limit rows n row all fits k = elim (cases_eq k n) [
 
 -- one that may be lent
 pub free_fits : (code : Code) (limit : ℕ) (s : State) → IsStateOf code limit s → IsRowOf code limit (free_row s)
-free_fits code limit s h = record { state = h; present = tt; asks = λ e. absurd (true≢false (sym e)) }
+free_fits code limit s h = record { state = h; present = tt; asks = λ e. absurd (true≢false (sym e)); unlent = λ e. refl }
 
 -- so does a core
 pub core_fits_set : (code : Code) (limit : ℕ) (core : CoreValue) (n : ℕ) (row : Option (Row State)) → FitsCore code limit core → FitsRow code limit row → FitsCore code limit (record core { rows = slice_set core.rows n row })

@@ -98,6 +98,7 @@ pub record Asks (code : Code) (limit : ℕ) (rows : Rows) (n : ℕ) : Type 0 whe
   pub here : slice_index_or rows n None ≡ Some row
   pub state : IsStateOf code limit row.state
   pub asks : is_some (asks (code_kind code) limit row.state) ≡ true
+  pub unlent : row.lease ≡ None
 
 -- after so many events, what goroutine n's request means: a return of goroutine 1 is an exit, and event number 2^62 is exhausted
 abbrev pub meant_after : ℕ → ℕ → Request → Request
@@ -113,6 +114,7 @@ pub record IsAsked (code : Code) (limit : ℕ) (core : CoreValue) (n clock : ℕ
   pub request : asks (code_kind code) limit row.state ≡ Some what
   pub verified : IsVerified code
   pub meant : means ≡ meant_after core.events n what
+  pub unlent : row.lease ≡ None
 
 -- what ends a run: an exit, or the clock limit
 abbrev pub last_request : Bool → Request
@@ -158,6 +160,10 @@ IsFreeIn rows n state = slice_index_or rows n None ≡ Some (free_row state)
 -- goroutine n is lent in this state
 abbrev pub IsLentRow : Rows → ℕ → State → Type 0
 IsLentRow rows n base = (row : Row State) × (slice_index_or rows n None ≡ Some row) × (is_some row.lease ≡ true) × (row.state ≡ base)
+
+-- goroutine n is awake, and lent
+abbrev pub HasLease : Rows → ℕ → Type 0
+HasLease rows n = (row : Row State) × (slice_index_or rows n None ≡ Some row) × (is_some row.lease ≡ true)
 
 -- ---- states that are taken out
 

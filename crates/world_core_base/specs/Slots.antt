@@ -13,6 +13,8 @@ use Rattle.turn_rule.specs.declared.Step.TheVariants.{Lend, Local, Publish, Look
 use Rattle.turn_rule.specs.Schedule.{give_back, lend, local, look, publish}
 use Rattle.word.specs.Kinds.{Clocked, asks}
 use Rattle.word.specs.Worlds.{rules}
+use Rattle.world_core_base.specs.declared.slot.Held.{Held}
+use Rattle.world_core_base.specs.declared.slot.Held.TheVariants.{Here, Gone}
 use Rattle.world_core_base.specs.declared.slot.Standing.{Standing}
 use Rattle.world_core_base.specs.declared.slot.Standing.TheVariants.{Free, Lent, Ahead, Parked}
 use Rattle.world_core_base.specs.declared.turns.Among.{Among}
@@ -45,9 +47,26 @@ is_parked Parked = true
 -- a floor is the state's clock, but of one that runs ahead
 abbrev pub IsFloor : Standing → ℕ → State → Type 0
 IsFloor Free floor state = floor ≡ state.clock
-IsFloor Lent floor state = floor ≡ state.clock
+IsFloor Lent floor state = Unit {0}
 IsFloor (Ahead present published) floor state = Unit {0}
 IsFloor Parked floor state = floor ≡ state.clock
+
+-- the state, also of one that was moved out
+abbrev pub held_state : Held → State
+held_state (Here state) = state
+held_state (Gone kept) = kept.value
+
+-- the state is moved out only of one that is lent
+abbrev pub IsHeld : Held → Standing → Type 0
+IsHeld (Here state) standing = Unit {0}
+IsHeld (Gone kept) Free = ⊥
+IsHeld (Gone kept) Lent = Unit {0}
+IsHeld (Gone kept) (Ahead present published) = ⊥
+IsHeld (Gone kept) Parked = ⊥
+
+-- if a goroutine stands here, it is not lent
+abbrev pub IsUnlent : Option (Row State) → Type 0
+IsUnlent row = IfSome row (λ row. row.lease ≡ None)
 
 -- the clock of one that is awake, neither lent nor parked
 abbrev pub free_clock : Option (Row State) → Option ℕ
@@ -82,15 +101,20 @@ back_row state parked = record { state = state; floor = state.clock; lease = Non
 abbrev pub free_row : State → Row State
 free_row state = record { state = state; floor = state.clock; lease = None; parked = false }
 
+-- one whose floor is the clock that a look found
+abbrev pub raised_row : ℕ → Row State → Row State
+raised_row clock row = record row { floor = clock }
+
 -- one that is lent in this state
 abbrev pub lent_row : State → Row State
 lent_row state = record { state = state; floor = state.clock; lease = Some (record { present = state; published = state.clock }); parked = false }
 
--- a goroutine of this code and limit; who is parked asks
+-- a goroutine of this code and limit; who is parked asks, and is not lent
 pub record IsRowOf (code : Code) (limit : ℕ) (row : Row State) : Type 0 where
   pub state : IsStateOf code limit row.state
   pub present : IfSome row.lease (λ l. IsStateOf code limit l.present)
   pub asks : row.parked ≡ true → is_some (asks (code_kind code) limit row.state) ≡ true
+  pub unlent : row.parked ≡ true → row.lease ≡ None
 
 abbrev pub FitsRow : Code → ℕ → Option (Row State) → Type 0
 FitsRow code limit row = IfSome row (IsRowOf code limit)

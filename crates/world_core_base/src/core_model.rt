@@ -1,22 +1,25 @@
 //! The world of a run, without its lists of events and bytes.
 
-ghost use Rattle.std.specs.Prelude.{◌≡◌, ◌≢◌, ℕ, ◌+◌, ◌-◌, ◌<◌, ◌≤◌, ◌^◌, ◌↔◌, [], ◌∷◌, ◌++◌, IsTrue, IfNone, IfOk, IfSome, OnErr, OnOk, None, Some, length, map, option_map, slice_index_or, slice_set, vec_capacity, vec_len};
+ghost use Rattle.std.specs.Prelude.{◌≡◌, ◌≢◌, ℕ, ◌+◌, ◌-◌, ◌<◌, ◌≤◌, ◌^◌, ◌↔◌, [], ◌∷◌, ◌++◌, IsTrue, IfNone, IfOk, IfSome, OnErr, OnOk, None, Some, true, length, map, option_map, slice_index_or, slice_set, vec_capacity, vec_len};
+ghost use Rattle.std.specs.Option.{is_some};
 ghost use Rattle.bytecode.specs.Machine.{code_kind};
 ghost use Rattle.bytecode.specs.Rules.{IsFrameOf, IsVerified};
 ghost use Rattle.channel_core.specs.Channels.{Does, IsOfChannels};
 ghost use Rattle.word.specs.Kinds.{told};
 ghost use Rattle.word.specs.Values.{End as EndRequest, Go as GoRequest, Panic as PanicRequest, Print as PrintRequest, Reply as AnyReply};
 ghost use Rattle.word.specs.Views.{reply_of, request_of};
-ghost use Rattle.world_core_base.specs.Cores.{Asks, FitsCore, IsAsked, IsAway, IsFreeIn, IsHere, IsLentRow, Performs, answered_rows, bytes_of, last_request, left_beds, meant_after, most_partners, most_woken, opened_core, printed_by, put_back, state_of, taken_out, to_lend, woken_rows};
-ghost use Rattle.world_core_base.specs.Slots.{FitsAll, FitsRow, back_row, free_row, lent_row, stepped_rows};
+ghost use Rattle.world_core_base.specs.Cores.{Asks, FitsCore, IsAsked, IsAway, HasLease, IsFreeIn, IsHere, Performs, answered_rows, bytes_of, last_request, left_beds, meant_after, most_partners, most_woken, opened_core, printed_by, put_back, state_of, taken_out, to_lend, woken_rows};
+ghost use Rattle.world_core_base.specs.Slots.{FitsAll, FitsRow, IsBefore, IsUnlent, back_row, free_row, lent_row, raised_row, stepped_rows};
 
-use crate::rows::{answer_row, doze, lend_row, put_at, stay_row, step_row, take_at, wake};
+use crate::rows::{
+    answer_row, doze, lend_row, put_at, raise_row, stay_row, step_row, take_at, wake,
+};
 use crate::slot::{Away, Slot};
 use crate::turns::least_free;
 use channel_core::{Channels, Outcome as Came, Woken};
 use go_text::Memory;
 use goroutine_vm::{GoState, spawn_state};
-use logical_clock::{Clock, LAST};
+use logical_clock::{Clock, Key, LAST};
 use std::alloc::Global;
 use std::marker::Model;
 use turn_rule::Step;
@@ -142,34 +145,57 @@ impl Core {
         }
     }
 
-    /// Lends the least of those that are neither lent nor parked: its number, and two copies of its state.
-    pub fn lend_least(&mut self, alloc: Global) -> Result<Option<(u64, GoState, GoState)>, Memory>
-        ensures none { IfOk result (λ found. IfNone found ((to_lend self.old ≡ None) × (self.new ≡ self.old))) }
-        ensures key { IfOk result (λ found. IfSome found (λ l. to_lend self.old ≡ Some (record { clock = l.1.clock; number = l.0 }))) }
-        ensures free { IfOk result (λ found. IfSome found (λ l. IsFreeIn self.old.rows l.0 l.1 × (l.2 ≡ l.1))) }
-        ensures lent { IfOk result (λ found. IfSome found (λ l. self.new ≡ record self.old { rows = slice_set self.old.rows l.0 (Some (lent_row l.1)) })) }
-        ensures memory { OnErr result (self.new ≡ self.old) }
+    /// Lends the least of those that are neither lent nor parked: its number, and its state, which is moved out.
+    pub fn lend_least(&mut self) -> Option<(u64, GoState)>
+        ensures none { IfNone result ((to_lend self.old ≡ None) × (self.new ≡ self.old)) }
+        ensures key { IfSome result (λ l. to_lend self.old ≡ Some (record { clock = l.1.clock; number = l.0 })) }
+        ensures free { IfSome result (λ l. IsFreeIn self.old.rows l.0 l.1) }
+        ensures lent { IfSome result (λ l. self.new ≡ record self.old { rows = slice_set self.old.rows l.0 (Some (lent_row l.1)) }) }
     {
         if self.ending.is_some() {
-            return Ok(None);
+            return None;
         }
         let Some(key) = least_free(self.rows.as_slice()) else {
-            return Ok(None);
+            return None;
         };
-        let Some((base, present)) = lend_row(alloc, self.rows.as_mut_slice(), key.number)? else {
+        let Some(state) = lend_row(self.rows.as_mut_slice(), key.number) else {
             unreachable!()
         };
-        Ok(Some((key.number, base, present)))
+        Some((key.number, state))
     }
 
-    /// Whether goroutine `number` is lent in this state.
-    pub fn is_lent(&self, number: u64, base: &GoState) -> bool
-        ensures { IsTrue result ↔ IsLentRow self.now.rows number base.now }
+    /// Whether goroutine `number` is awake, and lent.
+    pub fn is_lent(&self, number: u64) -> bool
+        ensures { IsTrue result ↔ HasLease self.now.rows number }
     {
         match self.rows.get(number as usize) {
-            Some(Some(slot)) => slot.is_lent_in(base),
+            Some(Some(slot)) => slot.is_lent(),
             _ => false,
         }
+    }
+
+    /// Whether goroutine `number` is awake, another one than that of the key, and the key is not below its floor.
+    pub fn stands_before(&self, number: u64, key: Key) -> bool
+        ensures { IsTrue result ↔ IsBefore self.now.rows key number }
+    {
+        match self.rows.get(number as usize) {
+            Some(Some(slot)) => {
+                let floor = Key {
+                    clock: slot.floor(),
+                    number,
+                };
+                number != key.number && !key.is_before(&floor)
+            }
+            _ => false,
+        }
+    }
+
+    /// The floor of goroutine `number`, if it is lent, becomes the clock that a look found.
+    pub fn raise(&mut self, number: u64, clock: Clock)
+        requires { IfSome (slice_index_or self.old.rows number None) (λ row. is_some row.lease ≡ true) }
+        ensures { self.new ≡ record self.old { rows = slice_set self.old.rows number (option_map (raised_row clock) (slice_index_or self.old.rows number None)) } }
+    {
+        raise_row(self.rows.as_mut_slice(), number, clock);
     }
 
     /// Puts goroutine `number` back in this state, parked or not.
@@ -490,6 +516,7 @@ impl Core {
     /// Goroutine `number`'s request is done: it goes on with this reply, at this clock.
     fn go_on(&mut self, code: &Verified, number: u64, reply: Reply, later: Clock)
         requires frame { IfSome (slice_index_or self.old.rows number None) (λ row. IsFrameOf code.now row.state.state) }
+        requires unlent { IsUnlent (slice_index_or self.old.rows number None) }
         requires events { self.old.events < 2 ^ 62 }
         ensures { self.new ≡ record self.old { rows = answered_rows code.now self.old.rows number later (reply_of reply); events = self.old.events + 1 } }
     {
@@ -499,7 +526,8 @@ impl Core {
 
     /// Goroutine `number`'s request ends the run, and it stays as it was.
     fn stop(&mut self, number: u64, end: End)
-        requires { self.old.events < 2 ^ 62 }
+        requires events { self.old.events < 2 ^ 62 }
+        requires unlent { IsUnlent (slice_index_or self.old.rows number None) }
         ensures { self.new ≡ record self.old {
           rows = slice_set self.old.rows number (option_map (λ row. free_row row.state) (slice_index_or self.old.rows number None));
           events = self.old.events + 1;
@@ -549,7 +577,8 @@ impl Core {
 
     /// Goroutine `number` falls asleep.
     fn fall_asleep(&mut self, number: u64)
-        requires { self.old.events < 2 ^ 62 }
+        requires events { self.old.events < 2 ^ 62 }
+        requires unlent { IsUnlent (slice_index_or self.old.rows number None) }
         ensures { self.new ≡ record self.old {
           rows = slice_set self.old.rows number None;
           beds = slice_set self.old.beds number (option_map (λ row. row.state) (slice_index_or self.old.rows number None));

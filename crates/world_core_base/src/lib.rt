@@ -7,6 +7,6 @@ mod slot;
 mod turns;
 
 pub use core_model::Core;
-pub use slot::{Away, Slot, Standing};
+pub use slot::{Away, Held, Slot, Standing};
 pub use turn_rule::Step;
 pub use turns::{blocker, first_awake, least_parked};

@@ -1,13 +1,14 @@
 //! Rows of awake goroutines and the states of those who are asleep, goroutine n at place n.
 
-ghost use Rattle.std.specs.Prelude.{◌≡◌, ℕ, ◌+◌, ◌≤◌, ◌++◌, IfNone, IfOk, IfSome, OnErr, OnOk, None, Some, length, map, option_map, slice_index_or, slice_set, vec_capacity, vec_len};
+ghost use Rattle.std.specs.Prelude.{◌≡◌, ℕ, ◌+◌, ◌≤◌, ◌++◌, IfNone, IfOk, IfSome, OnErr, OnOk, None, Some, true, length, map, option_map, slice_index_or, slice_set, vec_capacity, vec_len};
+ghost use Rattle.std.specs.Option.{is_some};
 ghost use Rattle.bytecode.specs.Machine.{code_kind};
 ghost use Rattle.bytecode.specs.Rules.{IsFrameOf};
 ghost use Rattle.word.specs.Kinds.{told};
 ghost use Rattle.word.specs.Values.{Reply as AnyReply};
 ghost use Rattle.word.specs.Views.{reply_of};
 ghost use Rattle.world_core_base.specs.Cores.{IsFreeIn, answered_rows, left_beds, woken_rows};
-ghost use Rattle.world_core_base.specs.Slots.{FitsAll, FitsRow, free_clock, free_row, lent_row, stepped_rows};
+ghost use Rattle.world_core_base.specs.Slots.{FitsAll, FitsRow, IsUnlent, free_clock, free_row, lent_row, raised_row, stepped_rows};
 
 use crate::slot::Slot;
 use channel_core::Woken;
@@ -28,7 +29,8 @@ pub(crate) fn answer_row(
     reply: Reply,
     clock: Clock,
 )
-    requires { IfSome (slice_index_or rows.old number None) (λ row. IsFrameOf code.now row.state.state) }
+    requires frame { IfSome (slice_index_or rows.old number None) (λ row. IsFrameOf code.now row.state.state) }
+    requires unlent { IsUnlent (slice_index_or rows.old number None) }
     ensures { rows.new ≡ answered_rows code.now rows.old number clock (reply_of reply) }
 {
     if (number as usize) < rows.len() {
@@ -85,10 +87,14 @@ fn wake_one(
 
 /// A goroutine that is awake falls asleep in its state.
 pub(crate) fn doze(rows: &mut [Option<Slot>], beds: &mut [Option<GoState>], number: u64)
+    requires { IsUnlent (slice_index_or rows.old number None) }
     ensures rows { rows.new ≡ slice_set rows.old number None }
     ensures beds { beds.new ≡ slice_set beds.old number (option_map (λ row. row.state) (slice_index_or rows.old number None)) }
 {
-    let bed = take_at(rows, number).map(|slot| slot.into_state());
+    let bed = match take_at(rows, number) {
+        Some(slot) => Some(slot.into_state()),
+        None => None,
+    };
     put_at(beds, number, bed);
 }
 
@@ -114,6 +120,7 @@ pub(crate) fn put_at<T: Drop>(places: &mut [Option<T>], number: u64, item: Optio
 
 /// A goroutine is as it was, though its request was performed: the run ends.
 pub(crate) fn stay_row(rows: &mut [Option<Slot>], number: u64)
+    requires { IsUnlent (slice_index_or rows.old number None) }
     ensures { rows.new ≡ slice_set rows.old number (option_map (λ row. free_row row.state) (slice_index_or rows.old number None)) }
 {
     if (number as usize) < rows.len() {
@@ -123,21 +130,17 @@ pub(crate) fn stay_row(rows: &mut [Option<Slot>], number: u64)
     }
 }
 
-pub(crate) fn lend_row(
-    alloc: Global,
-    rows: &mut [Option<Slot>],
-    number: u64,
-) -> Result<Option<(GoState, GoState)>, Memory>
-    ensures none { IfOk result (λ found. IfNone found ((free_clock (slice_index_or rows.old number None) ≡ None) × (rows.new ≡ rows.old))) }
-    ensures some { IfOk result (λ found. IfSome found (λ l. (l.1 ≡ l.0) × IsFreeIn rows.old number l.0 × (rows.new ≡ slice_set rows.old number (Some (lent_row l.0))))) }
-    ensures memory { OnErr result (rows.new ≡ rows.old) }
+/// Lends goroutine `number`, if it may be lent: its state is moved out.
+pub(crate) fn lend_row(rows: &mut [Option<Slot>], number: u64) -> Option<GoState>
+    ensures none { IfNone result ((free_clock (slice_index_or rows.old number None) ≡ None) × (rows.new ≡ rows.old)) }
+    ensures some { IfSome result (λ s. IsFreeIn rows.old number s × (rows.new ≡ slice_set rows.old number (Some (lent_row s)))) }
 {
     if (number as usize) < rows.len() {
         if let Some(slot) = &mut rows[number as usize] {
-            return Ok(slot.lend(alloc)?);
+            return slot.lend();
         }
     }
-    Ok(None)
+    None
 }
 
 /// One step of goroutine `number`, as a schedule names it.
@@ -160,4 +163,16 @@ pub(crate) fn step_row(
         }
     }
     Ok(())
+}
+
+/// The floor of a goroutine that is lent becomes the clock that a look found.
+pub(crate) fn raise_row(rows: &mut [Option<Slot>], number: u64, clock: Clock)
+    requires { IfSome (slice_index_or rows.old number None) (λ row. is_some row.lease ≡ true) }
+    ensures { rows.new ≡ slice_set rows.old number (option_map (raised_row clock) (slice_index_or rows.old number None)) }
+{
+    if (number as usize) < rows.len() {
+        if let Some(slot) = &mut rows[number as usize] {
+            slot.raise(clock);
+        }
+    }
 }

@@ -1,6 +1,6 @@
 //! An awake goroutine in a world.
 
-ghost use Rattle.std.specs.Prelude.{◌≡◌, ◌↔◌, IsTrue, IfNone, IfOk, IfSome, OnErr, OnOk, None, Some, true, cond};
+ghost use Rattle.std.specs.Prelude.{◌≡◌, IfNone, IfOk, IfSome, OnErr, OnOk, None, Some, true, cond};
 ghost use Rattle.std.specs.Option.{is_some};
 ghost use Rattle.bytecode.specs.Machine.{code_kind};
 ghost use Rattle.bytecode.specs.Rules.{IsFrameOf};
@@ -10,7 +10,7 @@ ghost use Rattle.turn_rule.specs.Schedule.{give_back, lend, local, look, publish
 ghost use Rattle.word.specs.Kinds.{asks, told};
 ghost use Rattle.word.specs.Worlds.{rules};
 ghost use Rattle.word.specs.Views.{reply_of};
-ghost use Rattle.world_core_base.specs.Slots.{IsRowOf, back_row, free_clock, free_row, lent_row, stepped_row};
+ghost use Rattle.world_core_base.specs.Slots.{IsRowOf, back_row, free_clock, free_row, lent_row, raised_row, stepped_row};
 
 use go_text::Memory;
 use goroutine_vm::GoState;
@@ -28,7 +28,7 @@ use word::request::Reply;
 pub enum Standing {
     /// It may be lent.
     Free,
-    /// It is lent away; the slot keeps the state in which it was.
+    /// It is lent away; contracts still see the state in which it was.
     Lent,
     /// It is lent: its present state, and the clock that was last published.
     Ahead(GoState, Clock),
@@ -36,24 +36,33 @@ pub enum Standing {
     Parked,
 }
 
+/// The state of an awake goroutine, or what contracts still see of it.
+#[derive(Drop)]
+pub enum Held {
+    /// It is here.
+    Here(GoState),
+    /// It was moved out; this has no bytes.
+    Gone(Snapshot<GoState>),
+}
+
 /// An awake goroutine: its state, or that in which it was lent.
 #[derive(Drop)]
 pub struct Slot {
-    state: GoState,
+    held: Held,
     /// A clock that its next request is not below.
     floor: Clock,
     standing: Standing,
 }
 
 impl Model for Slot {
-    ghost use Rattle.world_core_base.specs.Slots.{IsFloor, State, is_parked, lease_of};
+    ghost use Rattle.world_core_base.specs.Slots.{IsFloor, IsHeld, State, held_state, is_parked, lease_of};
     ghost use Rattle.turn_rule.specs.declared.Row.{Row};
 
     ghost Value = { Row State };
 
-    ghost view = { λ s. record { state = s.state; floor = s.floor; lease = lease_of s.standing s.state; parked = is_parked s.standing } };
+    ghost view = { λ s. record { state = held_state s.held; floor = s.floor; lease = lease_of s.standing (held_state s.held); parked = is_parked s.standing } };
 
-    ghost invariant = { λ s. IsFloor s.standing s.floor s.state };
+    ghost invariant = { λ s. IsFloor s.standing s.floor (held_state s.held) × IsHeld s.held s.standing };
 }
 
 impl Slot {
@@ -75,7 +84,7 @@ impl Slot {
             Standing::Free
         };
         Slot {
-            state,
+            held: Held::Here(state),
             floor,
             standing,
         }
@@ -86,7 +95,12 @@ impl Slot {
         ensures { result ≡ cond self.now.parked (Some self.now.state.clock) None }
     {
         match &self.standing {
-            Standing::Parked => Some(self.state.clock()),
+            Standing::Parked => {
+                let Held::Here(state) = &self.held else {
+                    unreachable!()
+                };
+                Some(state.clock())
+            }
             Standing::Free | Standing::Lent | Standing::Ahead(_, _) => None,
         }
     }
@@ -96,7 +110,12 @@ impl Slot {
         ensures { result ≡ free_clock (Some self.now) }
     {
         match &self.standing {
-            Standing::Free => Some(self.state.clock()),
+            Standing::Free => {
+                let Held::Here(state) = &self.held else {
+                    unreachable!()
+                };
+                Some(state.clock())
+            }
             Standing::Lent | Standing::Ahead(_, _) | Standing::Parked => None,
         }
     }
@@ -108,58 +127,88 @@ impl Slot {
         self.floor
     }
 
-    /// The goroutine's state, or that in which it was lent.
-    pub fn state(&self) -> &GoState
-        ensures { result.now ≡ self.now.state }
-    {
-        &self.state
-    }
-
-    /// The goroutine's state, or that in which it was lent.
-    pub fn into_state(self) -> GoState
-        ensures { result ≡ self.state }
-    {
-        let Slot { state, .. } = self;
-        state
-    }
-
-    /// Lends it, if it may be lent: two copies of its state.
-    pub fn lend(&mut self, alloc: Global) -> Result<Option<(GoState, GoState)>, AllocError>
-        ensures none { IfOk result (λ found. IfNone found ((free_clock (Some self.old) ≡ None) × (self.new ≡ self.old))) }
-        ensures some { IfOk result (λ found. IfSome found (λ l. (l.1 ≡ l.0) × (self.old ≡ free_row l.0) × (self.new ≡ lent_row l.0))) }
-        ensures memory { OnErr result (self.new ≡ self.old) }
+    /// Whether it is lent.
+    pub fn is_lent(&self) -> bool
+        ensures { result ≡ is_some self.now.lease }
     {
         match &self.standing {
-            Standing::Free => {
-                let base = self.state.try_clone(alloc)?;
-                let present = self.state.try_clone(alloc)?;
-                self.standing = Standing::Lent;
-                Ok(Some((base, present)))
-            }
-            Standing::Lent | Standing::Ahead(_, _) | Standing::Parked => Ok(None),
+            Standing::Lent | Standing::Ahead(_, _) => true,
+            Standing::Free | Standing::Parked => false,
+        }
+    }
+
+    /// The state of a goroutine that is not lent.
+    pub fn state(&self) -> &GoState
+        requires { self.now.lease ≡ None }
+        ensures { result.now ≡ self.now.state }
+    {
+        match &self.held {
+            Held::Here(state) => state,
+            Held::Gone(_) => unreachable!(),
+        }
+    }
+
+    /// The state of a goroutine that is not lent.
+    pub fn into_state(self) -> GoState
+        requires { self.lease ≡ None }
+        ensures { result ≡ self.state }
+    {
+        let Slot { held, .. } = self;
+        match held {
+            Held::Here(state) => state,
+            Held::Gone(_) => unreachable!(),
+        }
+    }
+
+    /// Lends it, if it may be lent: its state is moved out.
+    pub fn lend(&mut self) -> Option<GoState>
+        ensures none { IfNone result ((free_clock (Some self.old) ≡ None) × (self.new ≡ self.old)) }
+        ensures some { IfSome result (λ s. (self.old ≡ free_row s) × (self.new ≡ lent_row s)) }
+    {
+        match &self.standing {
+            Standing::Free => {}
+            Standing::Lent | Standing::Ahead(_, _) | Standing::Parked => return None,
+        }
+        let gone = match &self.held {
+            Held::Here(state) => Held::Gone(Snapshot::of(state)),
+            Held::Gone(_) => unreachable!(),
+        };
+        self.standing = Standing::Lent;
+        match mem::replace(&mut self.held, gone) {
+            Held::Here(state) => Some(state),
+            Held::Gone(_) => unreachable!(),
         }
     }
 
     /// Its request is done: it goes on with this reply, at this clock.
     pub fn answer(&mut self, code: &Verified, reply: Reply, clock: Clock)
-        requires { IsFrameOf code.now self.old.state.state }
+        requires frame { IsFrameOf code.now self.old.state.state }
+        requires unlent { self.old.lease ≡ None }
         ensures { self.new ≡ free_row (told (code_kind code.now) self.old.state clock (reply_of reply)) }
     {
-        self.state.answer(code, reply, clock);
+        match &mut self.held {
+            Held::Here(state) => state.answer(code, reply, clock),
+            Held::Gone(_) => unreachable!(),
+        }
         self.floor = clock;
         self.standing = Standing::Free;
     }
 
     /// It is as it was, though its request was performed: the run ends.
     pub fn stay(&mut self)
+        requires { self.old.lease ≡ None }
         ensures { self.new ≡ free_row self.old.state }
     {
-        self.floor = self.state.clock();
+        match &self.held {
+            Held::Here(state) => self.floor = state.clock(),
+            Held::Gone(_) => unreachable!(),
+        }
         self.standing = Standing::Free;
     }
 
     /// One step of its goroutine, as a schedule names it: it is lent, makes a local step, publishes its clock, is looked at
-    /// or comes back. A step that doesn't apply changes nothing, nor does one that needs memory and gets none.
+    /// or comes back. A step that doesn't apply changes nothing, nor does one that needs memory and gets none, or a state
+    /// that was moved out.
     pub fn step(
         &mut self,
         alloc: Global,
@@ -179,14 +228,8 @@ impl Slot {
                 self.publish(code, limit);
                 Ok(())
             }
-            Step::Look(_) => {
-                self.look(code, limit);
-                Ok(())
-            }
-            Step::Return(_) => {
-                self.give_back(code, limit);
-                Ok(())
-            }
+            Step::Look(_) => self.look(code, limit),
+            Step::Return(_) => self.give_back(code, limit),
             Step::Settle => Ok(()),
         }
     }
@@ -199,8 +242,11 @@ impl Slot {
         ensures fits { OnOk result (IsRowOf code.now limit self.new) }
     {
         if let Standing::Free = &self.standing {
-            let present = self.state.try_clone(alloc)?;
-            self.standing = Standing::Ahead(present, self.state.clock());
+            let Held::Here(state) = &self.held else {
+                unreachable!()
+            };
+            let present = state.try_clone(alloc)?;
+            self.standing = Standing::Ahead(present, state.clock());
         }
         Ok(())
     }
@@ -215,8 +261,11 @@ impl Slot {
         match &mut self.standing {
             Standing::Free | Standing::Parked => {}
             Standing::Lent => {
-                let present = after_step(alloc, code, limit, &self.state)?;
-                self.standing = Standing::Ahead(present, self.state.clock());
+                let Held::Here(state) = &self.held else {
+                    return Err(Memory);
+                };
+                let present = after_step(alloc, code, limit, state)?;
+                self.standing = Standing::Ahead(present, state.clock());
             }
             Standing::Ahead(present, _) => {
                 let next = after_step(alloc, code, limit, present)?;
@@ -238,56 +287,78 @@ impl Slot {
     }
 
     /// The floor of one that is lent becomes the clock that it published last.
-    fn look(&mut self, code: &Verified, limit: u64)
+    fn look(&mut self, code: &Verified, limit: u64) -> Result<(), Memory>
         requires { IsRowOf code.now limit self.old }
-        ensures ok { self.new ≡ look (rules (code_kind code.now) limit) self.old self.old.lease }
-        ensures fits { IsRowOf code.now limit self.new }
+        ensures ok { OnOk result (self.new ≡ look (rules (code_kind code.now) limit) self.old self.old.lease) }
+        ensures memory { OnErr result (self.new ≡ self.old) }
+        ensures fits { OnOk result (IsRowOf code.now limit self.new) }
     {
-        if let Standing::Ahead(_, published) = &self.standing {
-            self.floor = *published;
+        match &self.standing {
+            Standing::Free | Standing::Parked => {}
+            Standing::Lent => match &self.held {
+                Held::Here(state) => self.floor = state.clock(),
+                Held::Gone(_) => return Err(Memory),
+            },
+            Standing::Ahead(_, published) => self.floor = *published,
+        }
+        Ok(())
+    }
+
+    /// The floor of one that is lent becomes the clock that a look found.
+    pub fn raise(&mut self, clock: Clock)
+        requires { is_some self.old.lease ≡ true }
+        ensures { self.new ≡ raised_row clock self.old }
+    {
+        match &self.standing {
+            Standing::Free | Standing::Parked => unreachable!(),
+            Standing::Lent | Standing::Ahead(_, _) => self.floor = clock,
         }
     }
 
     /// One that is lent comes back in its present state, and is parked if it stands at a request.
-    fn give_back(&mut self, code: &Verified, limit: u64)
+    fn give_back(&mut self, code: &Verified, limit: u64) -> Result<(), Memory>
         requires { IsRowOf code.now limit self.old }
-        ensures ok { self.new ≡ give_back (rules (code_kind code.now) limit) self.old self.old.lease }
-        ensures fits { IsRowOf code.now limit self.new }
+        ensures ok { OnOk result (self.new ≡ give_back (rules (code_kind code.now) limit) self.old self.old.lease) }
+        ensures memory { OnErr result (self.new ≡ self.old) }
+        ensures fits { OnOk result (IsRowOf code.now limit self.new) }
     {
+        if let Held::Gone(_) = &self.held {
+            return Err(Memory);
+        }
         match mem::replace(&mut self.standing, Standing::Free) {
             Standing::Free => {}
             Standing::Parked => self.standing = Standing::Parked,
-            Standing::Lent => self.come_back(code, limit),
+            Standing::Lent => {
+                if let Held::Here(state) = &self.held {
+                    self.floor = state.clock();
+                }
+                self.come_back(code, limit);
+            }
             Standing::Ahead(present, _) => {
                 self.floor = present.clock();
-                self.state = present;
+                self.held = Held::Here(present);
                 self.come_back(code, limit);
             }
         }
+        Ok(())
     }
 
     /// It stands in its state again, parked or not.
     fn come_back(&mut self, code: &Verified, limit: u64)
-        requires { IsStateOf code.now limit self.old.state }
+        requires state { IsStateOf code.now limit self.old.state }
+        requires unlent { self.old.lease ≡ None }
         ensures ok { self.new ≡ record { state = self.old.state; floor = self.old.state.clock; lease = None; parked = is_some (asks (code_kind code.now) limit self.old.state) } }
     {
-        let parked = self.state.is_asking(code, limit);
-        self.floor = self.state.clock();
+        let Held::Here(state) = &self.held else {
+            unreachable!()
+        };
+        let parked = state.is_asking(code, limit);
+        self.floor = state.clock();
         self.standing = if parked {
             Standing::Parked
         } else {
             Standing::Free
         };
-    }
-
-    /// Whether it is lent in this state.
-    pub fn is_lent_in(&self, base: &GoState) -> bool
-        ensures { IsTrue result ↔ ((is_some self.now.lease ≡ true) × (self.now.state ≡ base.now)) }
-    {
-        match &self.standing {
-            Standing::Lent | Standing::Ahead(_, _) => self.state.is_same(base),
-            Standing::Free | Standing::Parked => false,
-        }
     }
 }
 
@@ -298,11 +369,10 @@ impl Slot {
         ensures state { result.0 ≡ self.state }
         ensures away { result.1 ≡ self }
     {
-        let Slot {
-            state,
-            standing,
-            ..
-        } = self;
+        let Slot { held, standing, .. } = self;
+        let Held::Here(state) = held else {
+            unreachable!()
+        };
         let kept = Snapshot::of(&state);
         let parked = matches!(&standing, Standing::Parked);
         (state, Away { kept, parked })

@@ -1,26 +1,38 @@
-use Rattle.std.proofs.Common.{◌≡◌, subst}
+use Rattle.std.proofs.Common.{◌≡◌, ℕ, subst}
 use Rattle.std.specs.Prelude.{Result}
 use Rattle.std.specs.Arc.{arc_value}
-use Rattle.book.specs.Desks.{Desk}
+use Rattle.bytecode.specs.Code.{Code}
 use Rattle.worker_pool.specs.Runs.{ComesOf, output_run, trace_run}
 use Rattle.worker_pool.proofs.pool.run.Goals as goal
 
 pub returns-clause-begins : goal.returns-clause-begins
 returns-clause-begins g c =
-    let came = subst (λ (d : Desk). ComesOf (output_run d.code d.limit) (g.O.Write.contents c.args.out.now) (g.O.Write.contents c.run_named.new.out) c.run_named.result) c.in_ok-start.ensures.start.book c.run_named.ensures.output in
+    let run = c.in_ok-start.ensures.run in
+    let known = g.O.Write.contents c.args.out.now in
+    let new = g.O.Write.contents c.run_named.new.out in
+    let came = subst (λ (code : Code). ComesOf (output_run code c.args.limit) known new c.run_named.result) run.0 (subst (λ (l : ℕ). ComesOf (output_run (arc_value c.in_ok-start.start.program) l) known new c.run_named.result) run.1 c.run_named.ensures.output) in
     came.begins
 
 pub returns-clause-whole : goal.returns-clause-whole
 returns-clause-whole g c =
-    let came = subst (λ (d : Desk). ComesOf (output_run d.code d.limit) (g.O.Write.contents c.args.out.now) (g.O.Write.contents c.run_named.new.out) c.run_named.result) c.in_ok-start.ensures.start.book c.run_named.ensures.output in
+    let run = c.in_ok-start.ensures.run in
+    let known = g.O.Write.contents c.args.out.now in
+    let new = g.O.Write.contents c.run_named.new.out in
+    let came = subst (λ (code : Code). ComesOf (output_run code c.args.limit) known new c.run_named.result) run.0 (subst (λ (l : ℕ). ComesOf (output_run (arc_value c.in_ok-start.start.program) l) known new c.run_named.result) run.1 c.run_named.ensures.output) in
     came.all
 
 pub returns-clause-traces : goal.returns-clause-traces
 returns-clause-traces g c =
-    let came = subst (λ (d : Desk). ComesOf (trace_run d.code d.limit) (g.T.Write.contents c.args.trace.now) (g.T.Write.contents c.run_named.new.trace) c.run_named.result) c.in_ok-start.ensures.start.book c.run_named.ensures.trace in
+    let run = c.in_ok-start.ensures.run in
+    let known = g.T.Write.contents c.args.trace.now in
+    let new = g.T.Write.contents c.run_named.new.trace in
+    let came = subst (λ (code : Code). ComesOf (trace_run code c.args.limit) known new c.run_named.result) run.0 (subst (λ (l : ℕ). ComesOf (trace_run (arc_value c.in_ok-start.start.program) l) known new c.run_named.result) run.1 c.run_named.ensures.trace) in
     came.begins
 
 pub returns-clause-traced : goal.returns-clause-traced
 returns-clause-traced g c =
-    let came = subst (λ (d : Desk). ComesOf (trace_run d.code d.limit) (g.T.Write.contents c.args.trace.now) (g.T.Write.contents c.run_named.new.trace) c.run_named.result) c.in_ok-start.ensures.start.book c.run_named.ensures.trace in
+    let run = c.in_ok-start.ensures.run in
+    let known = g.T.Write.contents c.args.trace.now in
+    let new = g.T.Write.contents c.run_named.new.trace in
+    let came = subst (λ (code : Code). ComesOf (trace_run code c.args.limit) known new c.run_named.result) run.0 (subst (λ (l : ℕ). ComesOf (trace_run (arc_value c.in_ok-start.start.program) l) known new c.run_named.result) run.1 c.run_named.ensures.trace) in
     came.all

@@ -1,22 +1,65 @@
-use Rattle.std.proofs.Common.{◌≡◌, Some, refl, sym}
+use Rattle.std.proofs.Common.{◌≡◌, Some, false, ap, refl, sym, ◌∙◌}
 use Rattle.std.specs.Prelude.{slice_set}
 use Rattle.std.specs.Arc.{arc_value}
-use Rattle.book.specs.Desks.{Desk}
-use Rattle.world_core.specs.Slots.{lent_row}
-use Rattle.book.proofs.Books.{lent_is_desk, lent_is_lent}
+use Rattle.bytecode.specs.Code.{Code}
+use Rattle.clock_table.specs.declared.view.Row.TheVariants.{Lent}
+use Rattle.clock_table.specs.Clocks.{loan_for}
+use Rattle.clock_table.specs.Seats.{lease_slot, rows as words_of, seat_looks}
+use Rattle.world_core.specs.Cores.{CoreValue, IsFreeIn}
+use Rattle.world_core.specs.Slots.{Rows, back_row, lent_row}
+use Rattle.book.specs.Desks.{Desk, Held, lent_desk}
+use Rattle.book.proofs.Books.{lease_is_lent}
+use Rattle.book.proofs.Whole.{book_lends, book_places, taken_back}
 use Rattle.book.proofs.book_model.Book.lend.Goals as goal
 
-pub invariant_of-self-2 : goal.invariant_of-self-2
-invariant_of-self-2 c =
+pub invariant_of-self-in-Ok : goal.invariant_of-self-in-Ok
+invariant_of-self-in-Ok g c =
     let b = c.self.inside in
-    let d : Desk = record { code = arc_value b.program; limit = b.limit; core = b.core; taken = b.taken; pending = b.pending.items; traced = b.traced; lines = b.lines.items } in
-    let lent : c.lend_least.new.self ≡ record b.core { rows = slice_set b.core.rows c.in-Some.number (Some (lent_row c.in-Some.base)) } = rw c.in-Some.is at c.in_ok-number.ensures.lent in
-    let free = rw c.in-Some.is at c.in_ok-number.ensures.free in
-    rw lent (lent_is_desk d c.in-Some.number c.in-Some.base c.self.invariant free.0)
+    let d : Desk = record { code = arc_value b.program; limit = b.limit; core = b.core; taken = b.taken; pending = b.pending.items; traced = b.traced; lines = b.lines.items; words = words_of b.slots.seat; looks = seat_looks b.slots.seat } in
+    let h = c.self.invariant in
+    let n = c.in-Some.number in
+    let s = c.in-Some.state in
+    let free : IsFreeIn d.core.rows n s = c.in-Some.ensures.free in
+    let lent : c.lend_least.new.self ≡ record d.core { rows = slice_set d.core.rows n (Some (lent_row s)) } = c.in-Some.ensures.lent in
+    let slot = lease_slot c.in-Ok.seat in
+    let l : Held = record { code = arc_value c.in-Ok.program; limit = b.limit; number = n; base = s; present = s; slot = slot; published = s.clock } in
+    let words : words_of c.lend.new.self.seat ≡ (lent_desk d l).words = c.in-Ok.ensures.words ∙ ap (λ (code : Code). slice_set d.words slot (Lent (loan_for code d.limit n s) s.clock)) (sym h.code_is) in
+    rw (lent, words, c.in-Ok.ensures.looks) (book_lends g.B.BookName.code g.B.BookName.limit d b.slots.places.items c.lend.new.self.places.items l h free c.in-Ok.ensures.free.0 c.in-Ok.ensures.free.1 c.in-Ok.ensures.place)
 
-pub returns-clause-lease : goal.returns-clause-lease
-returns-clause-lease c =
+pub invariant_of-self-in-Err : goal.invariant_of-self-in-Err
+invariant_of-self-in-Err g c =
     let b = c.self.inside in
-    let lent : c.lend_least.new.self ≡ record b.core { rows = slice_set b.core.rows c.in-Some.number (Some (lent_row c.in-Some.base)) } = rw c.in-Some.is at c.in_ok-number.ensures.lent in
-    let free = rw c.in-Some.is at c.in_ok-number.ensures.free in
-    rw (c.new.ensures, lent, ← c.self.view_is) (free.0, refl, record { code = sym c.in_ok-program.ensures; limit = refl; row = lent_is_lent b.core.rows c.in-Some.number c.in-Some.base free.0 })
+    let d : Desk = record { code = arc_value b.program; limit = b.limit; core = b.core; taken = b.taken; pending = b.pending.items; traced = b.traced; lines = b.lines.items; words = words_of b.slots.seat; looks = seat_looks b.slots.seat } in
+    let h = c.self.invariant in
+    let n = c.in-Some.number in
+    let s = c.in-Some.state in
+    let free : IsFreeIn d.core.rows n s = c.in-Some.ensures.free in
+    let lent : c.lend_least.new.self ≡ record d.core { rows = slice_set d.core.rows n (Some (lent_row s)) } = c.in-Some.ensures.lent in
+    let core : c.take_back.new.self ≡ d.core = c.take_back.ensures ∙ ap (λ (core : CoreValue). record core { rows = slice_set core.rows n (Some (back_row s false)) }) lent ∙ ap (λ (rows : Rows). record d.core { rows = rows }) (taken_back d.core.rows n s free) in
+    rw (core, c.in-Err.ensures.memory.0, c.in-Err.ensures.looks) (book_places g.B.BookName.code g.B.BookName.limit d b.slots.places.items c.lend.new.self.places.items c.in-Err.ensures.memory.1 h)
+
+pub returns-in-Ok-clause-lease : goal.returns-in-Ok-clause-lease
+returns-in-Ok-clause-lease g c =
+    let b = c.self.inside in
+    let d : Desk = record { code = arc_value b.program; limit = b.limit; core = b.core; taken = b.taken; pending = b.pending.items; traced = b.traced; lines = b.lines.items; words = words_of b.slots.seat; looks = seat_looks b.slots.seat } in
+    let h = c.self.invariant in
+    let n = c.in-Some.number in
+    let s = c.in-Some.state in
+    let free : IsFreeIn d.core.rows n s = c.in-Some.ensures.free in
+    let lent : c.lend_least.new.self ≡ record d.core { rows = slice_set d.core.rows n (Some (lent_row s)) } = c.in-Some.ensures.lent in
+    let slot = lease_slot c.in-Ok.seat in
+    let l : Held = record { code = arc_value c.in-Ok.program; limit = b.limit; number = n; base = s; present = s; slot = slot; published = s.clock } in
+    let words : words_of c.lend.new.self.seat ≡ (lent_desk d l).words = c.in-Ok.ensures.words ∙ ap (λ (code : Code). slice_set d.words slot (Lent (loan_for code d.limit n s) s.clock)) (sym h.code_is) in
+    rw (c.new-lease.ensures, lent, words, c.in-Ok.ensures.looks, ← c.self.view_is) (free, refl, refl, lease_is_lent d l free (c.in-Ok.ensures.program ∙ sym h.code_is) refl c.in-Ok.ensures.free.0)
+
+pub returns-in-Err-clause-memory : goal.returns-in-Err-clause-memory
+returns-in-Err-clause-memory g c =
+    let b = c.self.inside in
+    let d : Desk = record { code = arc_value b.program; limit = b.limit; core = b.core; taken = b.taken; pending = b.pending.items; traced = b.traced; lines = b.lines.items; words = words_of b.slots.seat; looks = seat_looks b.slots.seat } in
+    let h = c.self.invariant in
+    let n = c.in-Some.number in
+    let s = c.in-Some.state in
+    let free : IsFreeIn d.core.rows n s = c.in-Some.ensures.free in
+    let lent : c.lend_least.new.self ≡ record d.core { rows = slice_set d.core.rows n (Some (lent_row s)) } = c.in-Some.ensures.lent in
+    let core : c.take_back.new.self ≡ d.core = c.take_back.ensures ∙ ap (λ (core : CoreValue). record core { rows = slice_set core.rows n (Some (back_row s false)) }) lent ∙ ap (λ (rows : Rows). record d.core { rows = rows }) (taken_back d.core.rows n s free) in
+    (λ i. record d { core = core i; words = c.in-Err.ensures.memory.0 i; looks = c.in-Err.ensures.looks i }) ∙ c.self.view_is

@@ -1,25 +1,26 @@
-use Rattle.std.proofs.Common.{◌≡◌, ◌+◌, length, None, Some, rules, refl, sym, ◌∙◌, subst}
+use Rattle.std.proofs.Common.{◌≡◌, ◌+◌, length, None, Some, refl, sym, ◌∙◌, subst}
 use Rattle.std.specs.Arc.{arc_value}
-use Rattle.logical_clock.specs.Order.{keys, least}
-use Rattle.book.specs.Desks.{Desk, IsEnd, StandsBefore}
-use Rattle.world_core.specs.Slots.{Rows, IsBefore, waiting_clock}
-use Rattle.book.proofs.Books.{ended_desk, waits_key}
+use Rattle.clock_table.specs.Seats.{rows as words_of, seat_looks}
+use Rattle.book.specs.Desks.{Desk, IsEnd, KeepsLeases}
+use Rattle.book.proofs.Books.{ended_desk}
+use Rattle.book.proofs.Whole.{looks_leases}
 use Rattle.book.proofs.book_model.Book.settle.Goals as goal
 
 pub returns-in-Some-clause-settles : goal.returns-in-Some-clause-settles
-returns-in-Some-clause-settles c =
+returns-in-Some-clause-settles g c =
     let b = c.self.inside in
-    let d : Desk = record { code = arc_value b.program; limit = b.limit; core = b.core; taken = b.taken; pending = b.pending.items; traced = b.traced; lines = b.lines.items } in
+    let d : Desk = record { code = arc_value b.program; limit = b.limit; core = b.core; taken = b.taken; pending = b.pending.items; traced = b.traced; lines = b.lines.items; words = words_of b.slots.seat; looks = seat_looks b.slots.seat } in
     let e = c.in-Some.end in
-    (refl, subst (λ (x : Desk). IsEnd x.code x.limit x.core.events (x.taken + length x.pending) (x.traced + length x.lines) e) c.self.view_is (ended_desk d e c.self.invariant (sym c.ending.ensures ∙ c.in-Some.is)))
+    (refl, subst (λ (x : Desk). IsEnd x.code x.limit x.core.events (x.taken + length x.pending) (x.traced + length x.lines) e) c.self.view_is (ended_desk d e c.self.invariant.desk (sym c.ending.ensures ∙ c.in-Some.is)))
 
-pub returns-in-Some-blocker-clause-settles : goal.returns-in-Some-blocker-clause-settles
-returns-in-Some-blocker-clause-settles c =
-    let b = c.self.inside in
-    let d : Desk = record { code = arc_value b.program; limit = b.limit; core = b.core; taken = b.taken; pending = b.pending.items; traced = b.traced; lines = b.lines.items } in
-    let n = c.in-Some-blocker.number in
-    let k = c.in-Some-least_parked.key in
-    let going : d.core.ending ≡ None = search rules in
-    let first : least (keys waiting_clock 0 d.core.rows) ≡ Some k = subst (λ (rows : Rows). least (keys waiting_clock 0 rows) ≡ Some k) c.rows-rows.ensures (sym c.in-Some-least_parked.ensures.least) in
-    let before : IsBefore d.core.rows k n = subst (λ (rows : Rows). IsBefore rows k n) c.rows-rows.ensures c.in-Some-blocker.ensures.1 in
-    (refl, subst (λ (x : Desk). StandsBefore x.core n) c.self.view_is (waits_key d n k c.self.invariant going first before))
+pub returns-in-Some-first_before-clause-leases : goal.returns-in-Some-first_before-clause-leases
+returns-in-Some-first_before-clause-leases g c = looks_leases c.args.self.now c.first_before.new.self c.in-Some-first_before.ensures.some.only
+
+pub returns-in_err-commit-clause-leases : goal.returns-in_err-commit-clause-leases
+returns-in_err-commit-clause-leases g c = subst (KeepsLeases c.args.self.now) (sym c.in_err-commit.ensures.memory) (looks_leases c.args.self.now c.first_before.new.self c.in_default-first_before.ensures.none.0)
+
+pub returns-clause-settles : goal.returns-clause-settles
+returns-clause-settles g c = (c.first_before.new.self, c.in_default-first_before.ensures.none.0, c.in_ok-commit.ensures.commits)
+
+pub returns-clause-leases : goal.returns-clause-leases
+returns-clause-leases g c = λ l out. c.in_ok-commit.ensures.leases l (looks_leases c.args.self.now c.first_before.new.self c.in_default-first_before.ensures.none.0 l out)

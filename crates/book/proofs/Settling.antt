@@ -1,0 +1,137 @@
+-- What settling comes to, after its looks.
+use Rattle.std.proofs.Common.{◌≡◌, ◌≢◌, ℕ, ◌+◌, ◌<◌, ◌≤◌, true, false, List, [], ◌∷◌, length, Option, Some, None, refl, sym, ap, ◌∙◌, subst, inl, inr, arith, get_or-set_same, get_or-set_other}
+use Rattle.std.specs.Prelude.{IfNone, IfSome, slice_index_or, slice_set, option_map}
+use Rattle.std.specs.Option.{MatchOption, is_some}
+use Rattle.std.proofs.lemmas.Bool.{true≢false, cases_eq, cases_lt}
+use Rattle.std.proofs.lemmas.List.{get_or_past}
+use Rattle.logical_clock.specs.declared.key.Key.{Key}
+use Rattle.logical_clock.specs.Order.{keys, least}
+use Rattle.turn_rule.specs.declared.Row.{Row}
+use Rattle.turn_rule.specs.Schedule.{has_turn}
+use Rattle.world_core.specs.Cores.{HasLease, HasTurn}
+use Rattle.world_core.specs.Slots.{State, Rows, IsAwake, IsBefore, raised_row, waiting_clock}
+use Rattle.book.specs.Desks.{Desk, IsDesk, IsNobodyLent, IsSeen, IsSight, Looks, OnlyLooks, Sighting, StandsBefore, Waits, seen_desk}
+use Rattle.book.proofs.Books.{waits_free, waits_key}
+use Rattle.book.proofs.Looks.{looks_keep, raised_rows, seen_is_desk, still_there, was_there}
+use Rattle.book.proofs.Whole.{looks_ending, looks_least, looks_more, looks_none, turn_by, waits_by}
+
+pub looks_desk : (old : Desk) (seen : List Sighting) (new : Desk) → IsDesk old → Looks old seen new → IsDesk new
+looks_desk old [] new h e = subst IsDesk (sym e) h
+looks_desk old (x ∷ xs) new h l = subst IsDesk (sym l.3) (seen_is_desk l.0 x (looks_desk old xs l.0 h l.1) l.2)
+
+pub looks_size : (old new : Desk) → OnlyLooks old new → length new.core.rows ≡ length old.core.rows
+looks_size old new h = (looks_keep old h.0 new h.1).size
+
+-- the floor of one that was looked at is what was found
+within : (rows : Rows) (n : ℕ) (row : Row State) → slice_index_or rows n None ≡ Some row → n < length rows
+within rows n row e = elim (cases_lt n (length rows)) [
+  | inl l ↦ l
+  | inr l ↦ absurd (true≢false (ap is_some (sym e ∙ get_or_past rows n None l)))
+]
+
+seen_floor : (d : Desk) (x : Sighting) → IsSight d x → IfSome (slice_index_or (seen_desk x d).core.rows x.number None) (λ (row : Row State). row.floor ≡ x.found)
+seen_floor d x s =
+    let at : slice_index_or (seen_desk x d).core.rows x.number None ≡ Some (raised_row x.found s.row) = get_or-set_same d.core.rows x.number (option_map (raised_row x.found) (slice_index_or d.core.rows x.number None)) None (within d.core.rows x.number s.row s.here) ∙ ap (option_map (raised_row x.found)) s.here in
+    subst (λ (o : Option (Row State)). IfSome o (λ (row : Row State). row.floor ≡ x.found)) (sym at) refl
+
+pub seen_last : (old mid : Desk) (x : Sighting) (n : ℕ) → OnlyLooks old mid → x.number ≡ n → IsSight mid x → IsSeen old (seen_desk x mid) n
+seen_last old mid x n only number s = record {
+  sight = x;
+  earlier = only.0;
+  looks = (mid, only.1, s, refl);
+  number = number;
+  floor = subst (λ (k : ℕ). IfSome (slice_index_or (seen_desk x mid).core.rows k None) (λ (row : Row State). row.floor ≡ x.found)) number (seen_floor mid x s);
+}
+
+-- ---- nobody is parked
+
+-- one that is not lent is waited for
+pub waits_unlent : (d : Desk) (n : ℕ) → IsDesk d → d.core.ending ≡ None → least (keys waiting_clock 0 d.core.rows) ≡ None → IsAwake d.core.rows n → (HasLease d.core.rows n → ⊥) → Waits d n d
+waits_unlent d n h going none awake unlent = record { only = looks_none d; stands = waits_free d n h going none awake; seen = λ lent. absurd (unlent lent) }
+
+-- one that is lent, once it was looked at
+pub waits_lent : (d new : Desk) (n : ℕ) → IsDesk d → d.core.ending ≡ None → least (keys waiting_clock 0 d.core.rows) ≡ None → IsAwake d.core.rows n → (x : Sighting) × (x.number ≡ n) × IsSight d x × (new ≡ seen_desk x d) → Waits d n new
+waits_lent d new n h going none awake s =
+    let x = s.0 in
+    let only = looks_more d d x (looks_none d) s.2 in
+    let there = still_there d.core.rows x.number x.found n awake.0 awake.1 in
+    subst (Waits d n) (sym s.3) (record {
+      only = only;
+      stands = waits_free (seen_desk x d) n (seen_is_desk d x h s.2) (looks_ending d (seen_desk x d) only going) (looks_least d (seen_desk x d) None only none) (there.0, there.1);
+      seen = λ lent. seen_last d d x n (looks_none d) s.1 s.2;
+    })
+
+-- ---- somebody is parked
+
+-- who is looked at stands before the key no longer, or still
+pub seen_only : (old mid new : Desk) (n : ℕ) → OnlyLooks old mid → (x : Sighting) × (x.number ≡ n) × IsSight mid x × (new ≡ seen_desk x mid) → OnlyLooks old new
+seen_only old mid new n only s = subst (OnlyLooks old) (sym s.3) (looks_more old mid s.0 only s.2)
+
+pub seen_now : (old mid new : Desk) (n : ℕ) → OnlyLooks old mid → (x : Sighting) × (x.number ≡ n) × IsSight mid x × (new ≡ seen_desk x mid) → IsSeen old new n
+seen_now old mid new n only s = subst (λ (d : Desk). IsSeen old d n) (sym s.3) (seen_last old mid s.0 n only s.1 s.2)
+
+pub seen_ending : (mid new : Desk) (n : ℕ) → mid.core.ending ≡ None → (x : Sighting) × (x.number ≡ n) × IsSight mid x × (new ≡ seen_desk x mid) → new.core.ending ≡ None
+seen_ending mid new n going s = ap (λ (d : Desk). d.core.ending) s.3 ∙ going
+
+-- the others stand where they stood
+other_before : (rows : Rows) (n p k : ℕ) (key : Key) → k ≢ n → IsBefore (raised_rows rows n p) key k → IsBefore rows key k
+other_before rows n p k key ne b = (b.0, sym (get_or-set_other rows n k (option_map (raised_row p) (slice_index_or rows n None)) None ne) ∙ b.1, b.2, b.3)
+
+other_lent : (rows : Rows) (n p k : ℕ) → HasLease (raised_rows rows n p) k → HasLease rows k
+other_lent rows n p k lent =
+    let w = was_there rows n p k lent.0 lent.1 in
+    (w.0, w.1, ap is_some (sym w.2.lease) ∙ lent.2)
+
+-- those up to n are clear, once n, which was looked at, stands before the key no longer
+pub clear_seen : (mid new : Desk) (n : ℕ) (key : Key) → (x : Sighting) × (x.number ≡ n) × IsSight mid x × (new ≡ seen_desk x mid) → (IsBefore new.core.rows key n → ⊥) → ((k : ℕ) → k < n → HasLease mid.core.rows k → IsBefore mid.core.rows key k → ⊥)
+    → (k : ℕ) → k < n + 1 → HasLease new.core.rows k → IsBefore new.core.rows key k → ⊥
+clear_seen mid new n key s past all k lt lent before = elim (cases_eq k n) [
+  | inl same ↦ past (subst (IsBefore new.core.rows key) same before)
+  | inr other ↦
+      let x = s.0 in
+      let ne : k ≢ x.number = λ q. other (q ∙ s.1) in
+      let lent' : HasLease (raised_rows mid.core.rows x.number x.found) k = subst (λ (d : Desk). HasLease d.core.rows k) s.3 lent in
+      let before' : IsBefore (raised_rows mid.core.rows x.number x.found) key k = subst (λ (d : Desk). IsBefore d.core.rows key k) s.3 before in
+      all k (omega (arith, lt, other)) (other_lent mid.core.rows x.number x.found k lent') (other_before mid.core.rows x.number x.found k key ne before')
+]
+
+-- or n is not lent, or does not stand before the key
+pub clear_more : (d : Desk) (n : ℕ) (key : Key) → (HasLease d.core.rows n → IsBefore d.core.rows key n → ⊥) → ((k : ℕ) → k < n → HasLease d.core.rows k → IsBefore d.core.rows key k → ⊥)
+    → (k : ℕ) → k < n + 1 → HasLease d.core.rows k → IsBefore d.core.rows key k → ⊥
+clear_more d n key past all k lt lent before = elim (cases_eq k n) [
+  | inl same ↦ past (subst (HasLease d.core.rows) same lent) (subst (IsBefore d.core.rows key) same before)
+  | inr other ↦ all k (omega (arith, lt, other)) lent before
+]
+
+-- so nobody who is lent is left, once all are passed
+pub clear_all : (d : Desk) (size : ℕ) (key : Key) → length d.core.rows ≡ size → ((k : ℕ) → k < size → HasLease d.core.rows k → IsBefore d.core.rows key k → ⊥) → IsNobodyLent d.core.rows key
+clear_all d size key same all k lent before =
+    let l = within d.core.rows k lent.0 lent.1 in
+    all k (omega (arith, l, same)) lent before
+
+-- one that is not lent is waited for without a look
+pub waits_first : (d : Desk) (n : ℕ) (k : Key) → IsDesk d → d.core.ending ≡ None → least (keys waiting_clock 0 d.core.rows) ≡ Some k → IsBefore d.core.rows k n → (HasLease d.core.rows n → ⊥) → Waits d n d
+waits_first d n k h going e before unlent = waits_by d d n k h (looks_none d) going e before (λ lent. absurd (unlent lent))
+
+-- one that is lent, after a look at it
+pub waits_seen : (old new : Desk) (n : ℕ) (k : Key) → IsDesk old → old.core.ending ≡ None → least (keys waiting_clock 0 old.core.rows) ≡ Some k → IsSeen old new n → IsBefore new.core.rows k n → Waits old n new
+waits_seen old new n k h going e seen before =
+    let only : OnlyLooks old new = (seen.sight ∷ seen.earlier, seen.looks) in
+    waits_by old new n k (looks_desk old only.0 new h only.1) only (looks_ending old new only going) (looks_least old new (Some k) only e) before (λ lent. seen)
+
+-- one that is not lent, where no lent one stands before the key any longer
+pub waits_other : (old new : Desk) (n : ℕ) (k : Key) → IsDesk new → old.core.ending ≡ None → least (keys waiting_clock 0 old.core.rows) ≡ Some k → OnlyLooks old new → IsNobodyLent new.core.rows k → IsBefore new.core.rows k n → Waits old n new
+waits_other old new n k h going e only nobody before = waits_by old new n k h only (looks_ending old new only going) (looks_least old new (Some k) only e) before (λ lent. absurd (nobody n lent before))
+
+pub turn_after : (old new : Desk) (k : Key) → old.core.ending ≡ None → least (keys waiting_clock 0 old.core.rows) ≡ Some k → OnlyLooks old new → has_turn k 0 new.core.rows ≡ true → HasTurn new.core k.number
+turn_after old new k going e only turn = turn_by new k (looks_ending old new only going) (looks_least old new (Some k) only e) turn
+
+-- ---- answers that may be there
+
+pub when_none : (A : Type 0) (B : ℕ → Type 0) (C : Type 0) (o : Option ℕ) → MatchOption o A B → (A → C) → IfNone o C
+when_none A B C None m f = f m
+when_none A B C (Some x) m f = tt
+
+pub when_some : (A : Type 0) (B C : ℕ → Type 0) (o : Option ℕ) → MatchOption o A B → ((n : ℕ) → B n → C n) → IfSome o C
+when_some A B C None m f = tt
+when_some A B C (Some x) m f = f x m

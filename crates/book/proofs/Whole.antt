@@ -1,0 +1,131 @@
+-- Each call of a book leaves it a book.
+use Rattle.std.proofs.Common.{◌≡◌, ℕ, ◌+◌, ◌<◌, ◌≤◌, ◌^◌, Bool, true, false, cond, List, [], ◌∷◌, length, Option, Some, None, refl, sym, ap, ◌∙◌, subst}
+use Rattle.std.specs.Prelude.{slice_index_or, slice_set}
+use Rattle.std.specs.Option.{is_some}
+use Rattle.std.proofs.lemmas.List.{set-get_or, set-set}
+use Rattle.bytecode.specs.Code.{Code}
+use Rattle.bytecode.specs.Machine.{code_kind}
+use Rattle.bytecode.specs.Rules.{IsVerified}
+use Rattle.clock_table.specs.declared.view.Row.{Row as Word}
+use Rattle.clock_table.specs.declared.view.Row.TheVariants.{Home}
+use Rattle.clock_table.specs.Clocks.{IsFree, IsLentOn, WasLent, loan_for, row as word_at}
+use Rattle.goroutine_vm.specs.Advance.{IsStateOf}
+use Rattle.logical_clock.specs.declared.key.Key.{Key}
+use Rattle.logical_clock.specs.Order.{keys, least}
+use Rattle.turn_rule.specs.declared.Row.{Row}
+use Rattle.turn_rule.specs.Schedule.{has_turn}
+use Rattle.turn_rule.specs.Turns.{Leads}
+use Rattle.word.specs.declared.request.Event.{Event as Recorded}
+use Rattle.word.specs.Kinds.{asks}
+use Rattle.word.specs.Worlds.{rules}
+use Rattle.world_core.specs.Cores.{CoreValue, HasLease, HasTurn, IsFreeIn}
+use Rattle.world_core.specs.Slots.{State, Rows, FitsRow, IsBefore, back_row, free_row, lent_row, waiting_clock}
+use Rattle.book.specs.Desks.{CommitsNext, Desk, Held, IsDesk, IsLent, IsNobodyLent, IsSeen, IsSight, KeepsLeases, Looks, OnlyLooks, Sighting, StandsBefore, Waits, back_core, brought, lent_desk, opened_desk, seen_desk}
+use Rattle.book.specs.Slots.{IsBook, IsPlaced, IsTied, SamePlaces, place_of}
+use Rattle.book.proofs.Books.{brought_by, lent_is_desk, opened_is_desk, output_taken, trace_taken, waits_free, waits_key}
+use Rattle.book.proofs.Looks.{IsKept, held_below, looks_keep, seen_is_desk, still_there}
+use Rattle.book.proofs.Ties.{brought_tied, committed_tied, is_out, lent_tied, opened_tied, same_tied, seen_tied, taken_tied, was_on}
+
+module _ (code : Code) (limit : ℕ) where
+  pub book_opens : limit ≤ 2 ^ 62 → IsVerified code → IsBook code limit (opened_desk code limit) []
+  book_opens le v = record { desk = opened_is_desk code limit v le; tied = opened_tied code limit; code_is = refl; limit_is = refl }
+
+  pub book_lends : (d : Desk) (places new : List ℕ) (l : Held) → IsBook code limit d places → IsFreeIn d.core.rows l.number l.base → l.slot < length d.words → IsFree (word_at d.words l.slot) → IsPlaced places new l.number l.slot → IsBook code limit (lent_desk d l) new
+  book_lends d places new l h free size home placed = record {
+    desk = lent_is_desk d l h.desk free;
+    tied = lent_tied d places new l h.tied free size home placed;
+    code_is = h.code_is;
+    limit_is = h.limit_is;
+  }
+
+  -- the state that is lent fits
+  pub lent_fits : (d : Desk) (places : List ℕ) (n : ℕ) (s : State) → IsBook code limit d places → IsFreeIn d.core.rows n s → IsStateOf d.code d.limit s
+  lent_fits d places n s h free = (subst (FitsRow d.code d.limit) free (h.desk.fits.rows n)).state
+
+  pub book_places : (d : Desk) (places new : List ℕ) → SamePlaces places new → IsBook code limit d places → IsBook code limit d new
+  book_places d places new same h = record { desk = h.desk; tied = same_tied d places new same h.tied; code_is = h.code_is; limit_is = h.limit_is }
+
+  -- who has a seat is out, and comes back
+  pub book_out : (d : Desk) (places : List ℕ) (l : Held) → IsBook code limit d places → l.code ≡ code → l.limit ≡ limit → WasLent (loan_for l.code l.limit l.number l.base) l.published (word_at d.words l.slot) → IsLent d l
+  book_out d places l h c m was =
+      let same : loan_for l.code l.limit l.number l.base ≡ loan_for d.code d.limit l.number l.base = (λ i. loan_for ((c ∙ sym h.code_is) i) ((m ∙ sym h.limit_is) i) l.number l.base) in
+      is_out d places l h.tied (c ∙ sym h.code_is) (m ∙ sym h.limit_is) (was_on (loan_for d.code d.limit l.number l.base) l.published (word_at d.words l.slot) (subst (λ x. WasLent x l.published (word_at d.words l.slot)) same was))
+
+  pub book_brings : (d : Desk) (places : List ℕ) (l : Held) → IsBook code limit d places → IsLent d l → IsStateOf l.code l.limit l.present → Leads (rules (code_kind l.code) l.limit) l.base l.present → IsBook code limit (brought d l) places
+  book_brings d places l h out fits leads = record {
+    desk = brought_by d l (is_some d.core.ending) refl h.desk out (rw (out.code, out.limit) fits) (rw (out.code, out.limit) leads);
+    tied = brought_tied d places l (is_some d.core.ending) refl h.tied out;
+    code_is = h.code_is;
+    limit_is = h.limit_is;
+  }
+
+  pub book_looks : (d : Desk) (places : List ℕ) (x : Sighting) → IsBook code limit d places → IsSight d x → IsBook code limit (seen_desk x d) places
+  book_looks d places x h s = record { desk = seen_is_desk d x h.desk s; tied = seen_tied d places x h.tied; code_is = h.code_is; limit_is = h.limit_is }
+
+  pub book_commits : (d : Desk) (places : List ℕ) (event : Recorded) (core : CoreValue) (pending lines : List ℕ) → IsBook code limit d places → IsDesk (record d { core = core; pending = pending; lines = lines }) → CommitsNext d event (record d { core = core; pending = pending; lines = lines })
+      → IsBook code limit (record d { core = core; pending = pending; lines = lines }) places
+  book_commits d places event core pending lines h new c = record { desk = new; tied = committed_tied d places event core pending lines h.desk c h.tied; code_is = h.code_is; limit_is = h.limit_is }
+
+  pub book_takes_output : (d : Desk) (places : List ℕ) (count : ℕ) (left : List ℕ) → IsBook code limit d places → count ≡ length d.pending → left ≡ [] → IsBook code limit (record d { taken = d.taken + count; pending = left }) places
+  book_takes_output d places count left h whole none = record { desk = output_taken d count left h.desk whole none; tied = taken_tied d places (d.taken + count) d.traced left d.lines h.tied; code_is = h.code_is; limit_is = h.limit_is }
+
+  pub book_takes_trace : (d : Desk) (places : List ℕ) (count : ℕ) (left : List ℕ) → IsBook code limit d places → count ≡ length d.lines → left ≡ [] → IsBook code limit (record d { traced = d.traced + count; lines = left }) places
+  book_takes_trace d places count left h whole none = record { desk = trace_taken d count left h.desk whole none; tied = taken_tied d places d.taken (d.traced + count) d.pending left h.tied; code_is = h.code_is; limit_is = h.limit_is }
+
+  -- the word at a lent goroutine's place
+  pub book_words : (d : Desk) (places : List ℕ) (n : ℕ) → IsBook code limit d places → d.core.ending ≡ None → (lent : HasLease d.core.rows n) → IsLentOn (loan_for d.code d.limit n lent.0.state) (word_at d.words (place_of places n))
+  book_words d places n h going lent = h.tied.lent (ap is_some going) n lent.0 lent.1 lent.2
+
+-- a state that was lent and comes back at once
+pub taken_back : (rows : Rows) (n : ℕ) (s : State) → IsFreeIn rows n s → slice_set (slice_set rows n (Some (lent_row s))) n (Some (back_row s false)) ≡ rows
+taken_back rows n s free = set-set rows n (Some (lent_row s)) (Some (back_row s false)) ∙ ap (slice_set rows n) (sym free) ∙ set-get_or rows n None
+
+-- what bring makes of a desk
+pub brought_before : (d : Desk) (l : Held) (core : CoreValue) (words : List Word) (n : ℕ) (s : State) (parked : Bool) → is_some d.core.ending ≡ false → l.code ≡ d.code → l.limit ≡ d.limit → n ≡ l.number → s ≡ l.present → parked ≡ is_some (asks (code_kind l.code) l.limit l.present)
+    → core ≡ record d.core { rows = slice_set d.core.rows n (Some (back_row s parked)) } → words ≡ slice_set d.words l.slot (Home l.published) → record d { core = core; words = words } ≡ brought d l
+brought_before d l core words n s parked e code limit en es ep ec ew =
+    let ep' : parked ≡ is_some (asks (code_kind d.code) d.limit l.present) = ep ∙ (λ i. is_some (asks (code_kind (code i)) (limit i) l.present)) in
+    let made : core ≡ record d.core { rows = slice_set d.core.rows l.number (Some (back_row l.present (is_some (asks (code_kind d.code) d.limit l.present)))) } = ec ∙ (λ i. record d.core { rows = slice_set d.core.rows (en i) (Some (back_row (es i) (ep' i))) }) in
+    let kept : core ≡ back_core d l = made ∙ ap (λ (b : Bool). cond b d.core (record d.core { rows = slice_set d.core.rows l.number (Some (back_row l.present (is_some (asks (code_kind d.code) d.limit l.present)))) })) (sym e) in
+    (λ i. record d { core = kept i; words = ew i })
+
+pub brought_after : (d : Desk) (l : Held) (words : List Word) → is_some d.core.ending ≡ true → words ≡ slice_set d.words l.slot (Home l.published) → record d { words = words } ≡ brought d l
+brought_after d l words e ew =
+    let kept : d.core ≡ back_core d l = ap (λ (b : Bool). cond b d.core (record d.core { rows = slice_set d.core.rows l.number (Some (back_row l.present (is_some (asks (code_kind d.code) d.limit l.present)))) })) (sym e) in
+    (λ i. record d { core = kept i; words = ew i })
+
+-- ---- settling
+
+pub looks_none : (d : Desk) → OnlyLooks d d
+looks_none d = ([], refl)
+
+pub looks_leases : (old new : Desk) → OnlyLooks old new → KeepsLeases old new
+looks_leases old new h = (looks_keep old h.0 new h.1).leases
+
+pub looks_ending : (old new : Desk) → OnlyLooks old new → old.core.ending ≡ None → new.core.ending ≡ None
+looks_ending old new h e = ap (λ (d : Desk). d.core.ending) (looks_keep old h.0 new h.1).rest ∙ e
+
+pub looks_least : (old new : Desk) (o : Option Key) → OnlyLooks old new → least (keys waiting_clock 0 old.core.rows) ≡ o → least (keys waiting_clock 0 new.core.rows) ≡ o
+looks_least old new o h e = (looks_keep old h.0 new h.1).least ∙ e
+
+-- what looks leave as it was, as the crates above read it
+pub looks_taken : (old new : Desk) → OnlyLooks old new → (new.taken ≡ old.taken) × (new.traced ≡ old.traced) × (new.pending ≡ old.pending) × (new.lines ≡ old.lines)
+looks_taken old new h =
+    let e = (looks_keep old h.0 new h.1).rest in
+    (ap (λ (d : Desk). d.taken) e, ap (λ (d : Desk). d.traced) e, ap (λ (d : Desk). d.pending) e, ap (λ (d : Desk). d.lines) e)
+
+pub looks_run : (old new : Desk) → OnlyLooks old new → (new.code ≡ old.code) × (new.limit ≡ old.limit)
+looks_run old new h =
+    let e = (looks_keep old h.0 new h.1).rest in
+    (ap (λ (d : Desk). d.code) e, ap (λ (d : Desk). d.limit) e)
+
+-- one look more
+pub looks_more : (old mid : Desk) (x : Sighting) → OnlyLooks old mid → IsSight mid x → OnlyLooks old (seen_desk x mid)
+looks_more old mid x h s = (x ∷ h.0, (mid, h.1, s, refl))
+
+-- somebody stands before the least parked key, and is not lent, or was seen
+pub waits_by : (old new : Desk) (n : ℕ) (k : Key) → IsDesk new → OnlyLooks old new → new.core.ending ≡ None → least (keys waiting_clock 0 new.core.rows) ≡ Some k → IsBefore new.core.rows k n → (HasLease new.core.rows n → IsSeen old new n) → Waits old n new
+waits_by old new n k h only going e before seen = record { only = only; stands = waits_key new n k h going e before; seen = seen }
+
+pub turn_by : (d : Desk) (k : Key) → d.core.ending ≡ None → least (keys waiting_clock 0 d.core.rows) ≡ Some k → has_turn k 0 d.core.rows ≡ true → HasTurn d.core k.number
+turn_by d k going e turn = record { key = k; number = refl; least = e; turn = turn; going = going }

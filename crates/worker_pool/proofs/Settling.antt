@@ -1,0 +1,43 @@
+-- What calls of a book leave as it was.
+use Rattle.std.proofs.Common.{◌≡◌, ap, ◌∙◌}
+use Rattle.book.specs.Desks.{Desk, OnlyLooks, Settles}
+use Rattle.book.specs.declared.settled.Settled.{Settled}
+use Rattle.book.specs.declared.settled.Settled.TheVariants.{Committed, Waiting, Ended}
+use Rattle.book.proofs.Whole.{looks_run, looks_taken}
+use Rattle.bytecode.specs.Code.{Code}
+use Rattle.worker_pool.specs.Handing.{KeepsTaken}
+use Rattle.worker_pool.specs.Runs.{IsOfRun}
+use Rattle.std.specs.Prelude.{ℕ, IfOk, OnErr, Result, Ok, Err}
+use Rattle.go_text.specs.declared.fault.Memory.{Memory}
+
+pub looks_keep_taken : (old new : Desk) → OnlyLooks old new → KeepsTaken old new
+looks_keep_taken old new h =
+    let t = looks_taken old new h in
+    record { taken = t.0; traced = t.1 }
+
+pub settles_keep_taken : (old new : Desk) (s : Settled) → Settles old s new → KeepsTaken old new
+settles_keep_taken old new (Committed event) h =
+    let t = looks_taken old h.0 h.1 in
+    record { taken = h.2.taken ∙ t.0; traced = h.2.traced ∙ t.1 }
+settles_keep_taken old new (Waiting n) h = looks_keep_taken old new h.only
+settles_keep_taken old new (Ended end) h = record { taken = ap (λ (d : Desk). d.taken) h.0; traced = ap (λ (d : Desk). d.traced) h.0 }
+
+pub looks_keep_run : (code : Code) (limit : ℕ) (old new : Desk) → OnlyLooks old new → IsOfRun code limit old → IsOfRun code limit new
+looks_keep_run code limit old new h is =
+    let r = looks_run old new h in
+    record { code = r.0 ∙ is.code; limit = r.1 ∙ is.limit }
+
+pub settles_keep_run : (code : Code) (limit : ℕ) (old new : Desk) (s : Settled) → Settles old s new → IsOfRun code limit old → IsOfRun code limit new
+settles_keep_run code limit old new (Committed event) h is =
+    let mid = looks_keep_run code limit old h.0 h.1 is in
+    record { code = h.2.code ∙ mid.code; limit = h.2.limit ∙ mid.limit }
+settles_keep_run code limit old new (Waiting n) h is = looks_keep_run code limit old new h.only is
+settles_keep_run code limit old new (Ended end) h is = record { code = ap (λ (d : Desk). d.code) h.0 ∙ is.code; limit = ap (λ (d : Desk). d.limit) h.0 ∙ is.limit }
+
+-- whatever a settling answers, the book is of the run
+pub settled_keeps_run : (code : Code) (limit : ℕ) (old new : Desk) (r : Result Settled Memory) → IfOk r (λ s. Settles old s new) → OnErr r (OnlyLooks old new) → IsOfRun code limit old → IsOfRun code limit new
+settled_keeps_run code limit old new (Ok s) h e is = settles_keep_run code limit old new s h is
+settled_keeps_run code limit old new (Err x) h e is = looks_keep_run code limit old new e is
+
+pub kept_taken : (a b c : Desk) → KeepsTaken a b → KeepsTaken b c → KeepsTaken a c
+kept_taken a b c h k = record { taken = k.taken ∙ h.taken; traced = k.traced ∙ h.traced }

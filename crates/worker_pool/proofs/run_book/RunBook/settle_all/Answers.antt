@@ -1,0 +1,14 @@
+use Rattle.worker_pool.proofs.Settling.{kept_taken, looks_keep_taken, settled_keeps_run, settles_keep_taken}
+use Rattle.worker_pool.proofs.run_book.RunBook.settle_all.Goals as goal
+
+pub invariant_of-self : goal.invariant_of-self
+invariant_of-self g c = record { ours = settled_keeps_run g.B.RunName.code g.B.RunName.limit c.events.self.book c.settle.new.self c.settle.result c.settle.ensures.settles c.settle.ensures.memory c.events.self.ours }
+
+pub returns-in_err-settle-clause-taken : goal.returns-in_err-settle-clause-taken
+returns-in_err-settle-clause-taken g c = kept_taken c.args.self.now.book c.events.self.book c.settle.new.self c.events.invariant (looks_keep_taken c.events.self.book c.settle.new.self c.in_err-settle.ensures.memory)
+
+pub returns-in-Waiting-clause-taken : goal.returns-in-Waiting-clause-taken
+returns-in-Waiting-clause-taken g c = kept_taken c.args.self.now.book c.events.self.book c.settle.new.self c.events.invariant (settles_keep_taken c.events.self.book c.settle.new.self c.in_ok-settle.field-0 c.in_ok-settle.ensures.settles)
+
+pub events-preserved : goal.events-preserved
+events-preserved g c = kept_taken c.args.self.now.book c.events.self.book c.settle.new.self c.events.invariant (settles_keep_taken c.events.self.book c.settle.new.self c.in_ok-settle.field-0 c.in_ok-settle.ensures.settles)
