@@ -4,7 +4,7 @@ ghost use Rattle.std.specs.Prelude.{Some};
 
 use crate::flaw::{Flaw, same};
 use crate::row::LIMIT;
-use crate::run::Open;
+use crate::run::{Open, differs};
 use go_text::{Fault, Place, Span};
 use kendo_base::{report, run_bytes};
 use std::alloc::Global;
@@ -67,14 +67,26 @@ pub(crate) fn check_failing_writers<R: Threads + Wait + Sync>(
         (5, "12\n3", "kendo: 14 Write\n"),
         (6, "12\n3\n", ""),
     ] {
-        let mut out = Slow::new(alloc, fails_at);
-        let mut trace = Flagged::new(Vec::new(alloc));
-        let bytes = Vec::from_slice(alloc, TWO_PRINTS.as_bytes())?;
-        let outcome = run_bytes(rt, alloc, bytes, LIMIT, 4, &Open, &mut out, &mut trace);
-        check_report(alloc, &outcome, line, if line.is_empty() { 0 } else { 6 })?;
-        same(alloc, "the output", written.as_bytes(), &out.taken)?;
+        check_failing_writer(rt, alloc, fails_at, written, line)?;
     }
     Ok(())
+}
+
+/// Sees whether a run whose output fails at this call writes this, and tells this line.
+fn check_failing_writer<R: Threads + Wait + Sync>(
+    rt: &R,
+    alloc: Global,
+    fails_at: u64,
+    written: &str,
+    line: &str,
+) -> Result<(), Flaw> {
+    let bytes = Vec::from_slice(alloc, TWO_PRINTS.as_bytes())?;
+    let mut out = Slow::new(alloc, fails_at);
+    let mut trace = Flagged::new(Vec::new(alloc));
+    let outcome = run_bytes(rt, alloc, bytes, LIMIT, 4, &Open, &mut out, &mut trace);
+    drop(trace);
+    check_report(alloc, &outcome, line, if line.is_empty() { 0 } else { 6 })?;
+    same(alloc, "the output", written.as_bytes(), &out.taken)
 }
 
 /// Sees whether a run whose trace can't be written stops there, and tells it.
@@ -92,14 +104,26 @@ pub(crate) fn check_failing_traces<R: Threads + Wait + Sync>(
         ),
         (34, "0 1 print 3\n1 1 print 2\n2 1 exit\n", ""),
     ] {
-        let mut out = Flagged::new(Vec::new(alloc));
-        let mut trace = Slow::new(alloc, fails_at);
-        let bytes = Vec::from_slice(alloc, TWO_PRINTS.as_bytes())?;
-        let outcome = run_bytes(rt, alloc, bytes, LIMIT, 4, &Open, &mut out, &mut trace);
-        check_report(alloc, &outcome, line, if line.is_empty() { 0 } else { 6 })?;
-        same(alloc, "the trace", written.as_bytes(), &trace.taken)?;
+        check_failing_trace(rt, alloc, fails_at, written, line)?;
     }
     Ok(())
+}
+
+/// Sees whether a run whose trace fails at this call writes this of it, and tells this line.
+fn check_failing_trace<R: Threads + Wait + Sync>(
+    rt: &R,
+    alloc: Global,
+    fails_at: u64,
+    written: &str,
+    line: &str,
+) -> Result<(), Flaw> {
+    let bytes = Vec::from_slice(alloc, TWO_PRINTS.as_bytes())?;
+    let mut out = Flagged::new(Vec::new(alloc));
+    let mut trace = Slow::new(alloc, fails_at);
+    let outcome = run_bytes(rt, alloc, bytes, LIMIT, 4, &Open, &mut out, &mut trace);
+    drop(out);
+    check_report(alloc, &outcome, line, if line.is_empty() { 0 } else { 6 })?;
+    same(alloc, "the trace", written.as_bytes(), &trace.taken)
 }
 
 /// Sees whether each panic has its line, and its status.
@@ -143,6 +167,8 @@ fn check_report(
 ) -> Result<(), Flaw> {
     let (told, code) = report(alloc, outcome).map_err(Fault::from)?;
     same(alloc, "the line on standard error", line.as_bytes(), &told)?;
-    let (wanted, came) = (status.to_string(alloc)?, code.to_string(alloc)?);
-    same(alloc, "the exit status", wanted.as_bytes(), came.as_bytes())
+    if code == status {
+        return Ok(());
+    }
+    differs(alloc, "the exit status", status, code)
 }

@@ -51,12 +51,27 @@ fn check_run<R: Files + AllocGlobal + Threads + Wait + Sync>(
     file: &RowFile<'_>,
 ) -> Result<(), Flaw> {
     let text = file.text(rt)?;
+    let output = output(rt, file)?;
+    check_row(rt, file, &text, &output)
+}
+
+/// What the `.out` beside a file tells: nothing where there is none.
+fn output<R: Files + AllocGlobal>(rt: &R, file: &RowFile<'_>) -> Result<Vec<u8>, Flaw> {
+    match file.beside(rt, "out")? {
+        Some(output) => Ok(output),
+        None => Ok(Vec::new(rt.alloc())),
+    }
+}
+
+/// Sees whether the runs of a text are what its `.row` tells, and write this.
+fn check_row<R: Files + AllocGlobal + Threads + Wait + Sync>(
+    rt: &R,
+    file: &RowFile<'_>,
+    text: &[u8],
+    output: &[u8],
+) -> Result<(), Flaw> {
     let row = file.row(rt)?;
-    let output = match file.beside(rt, "out")? {
-        Some(output) => output,
-        None => Vec::new(rt.alloc()),
-    };
-    check_runs(rt, rt.alloc(), &text, &row, &output)
+    check_runs(rt, rt.alloc(), text, &row, output)
 }
 
 /// Sees whether a text has the events that its `.trace` tells: those that settling commits, and those that a run writes, with
@@ -65,29 +80,73 @@ fn check_trace<R: Files + AllocGlobal + Threads + Wait + Sync>(
     rt: &R,
     file: &RowFile<'_>,
 ) -> Result<(), Flaw> {
-    let alloc = rt.alloc();
-    let (text, wanted, row) = (file.text(rt)?, file.bytes(rt)?, file.row(rt)?);
-    let settled = settled_lines(alloc, &text, row.limit)?;
-    same_lines(alloc, "the events that are settled", &wanted, &settled)?;
+    let text = file.text(rt)?;
+    let wanted = file.bytes(rt)?;
+    check_events(rt, file, &text, &wanted)
+}
+
+/// Sees whether a text has these events, up to the limit of its row.
+fn check_events<R: Files + AllocGlobal + Threads + Wait + Sync>(
+    rt: &R,
+    file: &RowFile<'_>,
+    text: &[u8],
+    wanted: &[u8],
+) -> Result<(), Flaw> {
+    let row = file.row(rt)?;
+    check_settled(rt.alloc(), text, row.limit, wanted)?;
     for workers in row.workers.iter() {
-        let ran = Ran::of(rt, alloc, &text, row.limit, *workers)?;
-        let what = format!(in alloc; "the trace (--workers {workers})")?;
-        same_lines(alloc, &what, &wanted, &ran.trace)?;
+        check_traced(rt, rt.alloc(), text, row.limit, *workers, wanted)?;
     }
     Ok(())
 }
 
+/// Sees whether settling commits these events of a text.
+fn check_settled(alloc: Global, text: &[u8], limit: u64, wanted: &[u8]) -> Result<(), Flaw> {
+    let settled = settled_lines(alloc, text, limit)?;
+    same_lines(alloc, "the events that are settled", wanted, &settled)
+}
+
+/// Sees whether a run of a text with so many workers writes these events.
+fn check_traced<R: Threads + Wait + Sync>(
+    rt: &R,
+    alloc: Global,
+    text: &[u8],
+    limit: u64,
+    workers: u64,
+    wanted: &[u8],
+) -> Result<(), Flaw> {
+    let what = format!(in alloc; "the trace (--workers {workers})")?;
+    let ran = Ran::of(rt, alloc, text, limit, workers)?;
+    same_lines(alloc, &what, wanted, &ran.trace)
+}
+
 /// Sees whether what a file tells is made of its text.
 fn check_made<R: Files + AllocGlobal>(rt: &R, file: &RowFile<'_>, made: Made) -> Result<(), Flaw> {
-    let alloc = rt.alloc();
-    let text = file.text(rt)?;
     let wanted = file.bytes(rt)?;
     let (what, came) = match made {
-        Made::Listing => ("the listing", listing(alloc, &text)?),
-        Made::Spans => ("the spans", spans(alloc, &text)?),
-        Made::Tokens => ("the tokens", tokens(alloc, &text)?),
+        Made::Listing => ("the listing", listing_of(rt, file)?),
+        Made::Spans => ("the spans", spans_of(rt, file)?),
+        Made::Tokens => ("the tokens", tokens_of(rt, file)?),
     };
-    same_lines(alloc, what, &wanted, &came)
+    same_lines(rt.alloc(), what, &wanted, &came)
+}
+
+/// The listing of a file's text.
+fn listing_of<R: Files + AllocGlobal>(rt: &R, file: &RowFile<'_>) -> Result<Vec<u8>, Flaw> {
+    let text = file.text(rt)?;
+    listing(rt.alloc(), &text)
+}
+
+/// The spans of the nodes of a file's text.
+fn spans_of<R: Files + AllocGlobal>(rt: &R, file: &RowFile<'_>) -> Result<Vec<u8>, Flaw> {
+    let text = file.text(rt)?;
+    spans(rt.alloc(), &text)
+}
+
+/// The tokens of a file's text.
+fn tokens_of<R: Files + AllocGlobal>(rt: &R, file: &RowFile<'_>) -> Result<Vec<u8>, Flaw> {
+    let text = file.text(rt)?;
+    tokens(rt.alloc(), &text)
 }
 
 /// Compares what came with the lines of a file. Where its first line is `..`, the others are the last ones alone.

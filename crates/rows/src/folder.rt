@@ -8,7 +8,7 @@ use std::rt::Files;
 use std::{fs, io};
 
 /// What a file of a row is, by its extension.
-#[derive(Clone, Copy, Debug, PartialEq, Eq)]
+#[derive(Clone, Copy, PartialEq, Eq)]
 pub(crate) enum FileKind {
     /// `.go`: a text.
     Text,
@@ -27,7 +27,7 @@ pub(crate) enum FileKind {
 }
 
 /// What is made of a text.
-#[derive(Clone, Copy, Debug, PartialEq, Eq)]
+#[derive(Clone, Copy, PartialEq, Eq)]
 pub(crate) enum Made {
     /// `.list`: the listing of its code.
     Listing,

@@ -7,7 +7,7 @@ use std::alloc::{AllocError, Global};
 pub(crate) const LIMIT: u64 = 1_099_511_627_776;
 
 /// How a text is run, and what is to come of it besides its output.
-#[derive(Debug, Drop)]
+#[derive(Drop)]
 pub(crate) struct Row {
     /// The clock limit.
     pub limit: u64,

@@ -22,7 +22,7 @@ impl Gate for Open {
 }
 
 /// What came of a run.
-#[derive(Debug, Drop)]
+#[derive(Drop)]
 pub(crate) struct Ran {
     pub outcome: Result<End, Fault>,
     /// The line on standard error, with its newline, or nothing.
@@ -79,13 +79,24 @@ impl Ran {
 
     /// Compares the run with what a row tells, and its output with what was wanted.
     fn check(&self, alloc: Global, row: &Row, output: &[u8], how: &str) -> Result<(), Flaw> {
-        let what = format!(in alloc; "the line on standard error ({how})")?;
-        self.check_line(alloc, &what, row.error.as_str())?;
+        self.check_error(alloc, row.error.as_str(), how)?;
+        self.check_output(alloc, output, how)?;
+        self.check_status(alloc, row.status, how)
+    }
+
+    /// Compares the output of the run with this one.
+    fn check_output(&self, alloc: Global, wanted: &[u8], how: &str) -> Result<(), Flaw> {
         let what = format!(in alloc; "the output ({how})")?;
-        same(alloc, &what, output, &self.output)?;
+        same(alloc, &what, wanted, &self.output)
+    }
+
+    /// Compares the exit status of the run with this one.
+    fn check_status(&self, alloc: Global, wanted: u8, how: &str) -> Result<(), Flaw> {
+        if self.status == wanted {
+            return Ok(());
+        }
         let what = format!(in alloc; "the exit status ({how})")?;
-        let (wanted, came) = (row.status.to_string(alloc)?, self.status.to_string(alloc)?);
-        same(alloc, &what, wanted.as_bytes(), came.as_bytes())
+        differs(alloc, &what, wanted, self.status)
     }
 
     /// Checks the text of the run, and compares what the check finds with what the run found: the same refusal, or a program.
@@ -97,6 +108,12 @@ impl Ran {
         };
         let line = checked_line(alloc, text)?;
         same(alloc, "the line on standard error (check)", wanted, &line)
+    }
+
+    /// Compares the line on standard error with this one.
+    fn check_error(&self, alloc: Global, wanted: &str, how: &str) -> Result<(), Flaw> {
+        let what = format!(in alloc; "the line on standard error ({how})")?;
+        self.check_line(alloc, &what, wanted)
     }
 
     /// Compares the line on standard error, where the wanted one ends in `..` no more than its beginning.
@@ -113,6 +130,13 @@ impl Ran {
     }
 }
 
+/// Tells two numbers that are not the same.
+pub(crate) fn differs(alloc: Global, what: &str, wanted: u8, came: u8) -> Result<(), Flaw> {
+    let wanted = wanted.to_string(alloc)?;
+    let came = came.to_string(alloc)?;
+    same(alloc, what, wanted.as_bytes(), came.as_bytes())
+}
+
 /// Runs a text with each number of workers of its row, and compares what comes of it.
 pub(crate) fn check_runs<R: Threads + Wait + Sync>(
     rt: &R,
@@ -123,12 +147,24 @@ pub(crate) fn check_runs<R: Threads + Wait + Sync>(
 ) -> Result<(), Flaw> {
     check_interpreted(alloc, text, row, output)?;
     for workers in row.workers.iter() {
-        let ran = Ran::of(rt, alloc, text, row.limit, *workers)?;
-        let how = format!(in alloc; "--workers {workers}")?;
-        ran.check(alloc, row, output, &how)?;
-        ran.check_found(alloc, text)?;
+        check_ran(rt, alloc, text, row, *workers, output)?;
     }
     Ok(())
+}
+
+/// Runs a text with so many workers, and compares what comes of it.
+fn check_ran<R: Threads + Wait + Sync>(
+    rt: &R,
+    alloc: Global,
+    text: &[u8],
+    row: &Row,
+    workers: u64,
+    output: &[u8],
+) -> Result<(), Flaw> {
+    let how = format!(in alloc; "--workers {workers}")?;
+    let ran = Ran::of(rt, alloc, text, row.limit, workers)?;
+    ran.check(alloc, row, output, &how)?;
+    ran.check_found(alloc, text)
 }
 
 /// Runs a text by the interpreter too, and compares what comes of it. It has no workers.

@@ -25,7 +25,7 @@ enum Told<'a> {
 }
 
 /// What stands before and behind each text of the lines to come.
-#[derive(Debug, Drop)]
+#[derive(Drop)]
 pub(crate) struct Table {
     before: Vec<u8>,
     after: Vec<u8>,
