@@ -4,10 +4,17 @@
 ghost use Rattle.std.specs.Prelude.{◌≡◌, ◌++◌, IfOk, codes, decimal, string_bytes};
 ghost use Rattle.diagnostic.specs.Diagnostics.{IsDiagnostic, heading_at, place_of, position_of};
 
+mod assigning;
+mod channel;
+mod counting;
 mod excerpt;
 mod expected;
+mod naming;
+mod operator;
 mod phrase;
+mod place;
 mod sentence;
+mod typing;
 
 use crate::excerpt::push_excerpt;
 use crate::sentence::push_sentence;

@@ -2,6 +2,7 @@
 
 use crate::expected::push_expected;
 use crate::phrase::{Phrase, phrase_of_limit, phrase_of_rule};
+use crate::typing::typing_sentence;
 use go_text::{Fault, Memory, Place};
 use std::alloc::{AllocError, Global};
 
@@ -17,8 +18,11 @@ pub(crate) fn push_sentence(
 ) -> Result<(), Memory> {
     match *fault {
         Fault::Syntax(place) => push_syntax(alloc, said, text, place),
-        Fault::Typing { rule, place, .. } => {
-            Ok(push_phrase(said, phrase_of_rule(rule), piece_at(text, place))?)
+        Fault::Typing { rule, node, place } => {
+            match typing_sentence(alloc, text, rule, node)? {
+                Some(sentence) => Ok(said.extend_from_slice(sentence.as_slice())?),
+                None => Ok(push_phrase(said, phrase_of_rule(rule), piece_at(text, place))?),
+            }
         }
         Fault::Limit { kind, place, .. } => {
             Ok(push_phrase(said, phrase_of_limit(kind), piece_at(text, place))?)

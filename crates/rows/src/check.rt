@@ -2,7 +2,7 @@
 
 use crate::flaw::{Flaw, same};
 use crate::folder::{FileKind, Made, RowFile};
-use crate::reading::{listing, spans, tokens};
+use crate::reading::{explained, listing, spans, tokens};
 use crate::run::{Ran, check_runs};
 use crate::trace::settled_lines;
 use std::alloc::Global;
@@ -83,6 +83,10 @@ fn check_made<R: Files + AllocGlobal>(rt: &R, file: &RowFile<'_>, made: Made) ->
     let text = file.text(rt)?;
     let wanted = file.bytes(rt)?;
     let (what, came) = match made {
+        Made::Explanation => (
+            "the explanation",
+            explained(alloc, file.text_name(), &text)?,
+        ),
         Made::Listing => ("the listing", listing(alloc, &text)?),
         Made::Spans => ("the spans", spans(alloc, &text)?),
         Made::Tokens => ("the tokens", tokens(alloc, &text)?),
