@@ -3,14 +3,15 @@
 use crate::place::Setting;
 use checker_base::operand::worth;
 use checker_base::worth::Worth;
-use diagnostic_scope::given::{Given, Made, Role, element_of, place_type};
+use diagnostic_scope::given::{
+    Given, Made, Role, element_of, function_named, place_type, struct_named,
+};
 use diagnostic_scope::operand::{push_made, push_operand};
 use diagnostic_scope::search::Filled;
 use diagnostic_scope::unit::Unit;
 use diagnostic_scope::words::{Words, push_expression, push_type};
 use std::alloc::AllocError;
 use syntax::{CommNode, ExpressionNode, OperationNode, RangeTarget};
-use type_table::layout::{function_number, number_of};
 use type_table::table::TypeTable;
 use type_table::value_type::{ValueType, type_in};
 
@@ -58,10 +59,7 @@ fn push_value(said: &mut Words, at: Setting<'_, '_>, value: Given<'_>) -> Result
 /// The type of the value of an operation.
 fn kind_made<'a>(at: Setting<'_, 'a>, operation: &'a OperationNode) -> Option<ValueType<'a>> {
     match operation {
-        OperationNode::Call(function, _) => {
-            let number = function_number(at.table, function.bytes.as_slice())?;
-            at.table.functions.get(number)?.result
-        }
+        OperationNode::Call(function, _) => { function_named(at.table, function)?.result }
         OperationNode::Receive(channel) => element_of(at.table, at.scene, channel),
         OperationNode::Make(written, _) => type_in(at.table, &at.scene.visible, written),
         OperationNode::Length(_) | OperationNode::Capacity(_) => Some(ValueType::Int),
@@ -82,8 +80,9 @@ fn push_operation_value(
 
 /// The type of the field that a literal's value is for.
 fn field_type<'a>(at: Setting<'_, 'a>, filled: Filled<'_>) -> Option<ValueType<'a>> {
-    let number = number_of(at.table, filled.literal.bytes.as_slice())?;
-    let field = at.table.structs.get(number)?.fields.get(filled.index)?;
+    let field = struct_named(at.table, filled.literal)?
+        .fields
+        .get(filled.index)?;
     Some(field.kind)
 }
 

@@ -3,7 +3,7 @@
 use crate::place::Setting;
 use checker_base::operand::worth;
 use checker_base::worth::Worth;
-use diagnostic_scope::given::Called;
+use diagnostic_scope::given::{Called, function_named, struct_named};
 use diagnostic_scope::operand::{push_operand, push_worth};
 use diagnostic_scope::unit::Unit;
 use diagnostic_scope::words::{Words, push_call, push_type};
@@ -75,8 +75,7 @@ fn push_arguments(
     at: Setting<'_, '_>,
     called: Called<'_>,
 ) -> Result<bool, AllocError> {
-    let number = function_number(at.table, called.function.bytes.as_slice());
-    let Some(entry) = number.and_then(|number| at.table.functions.get(number)) else {
+    let Some(entry) = function_named(at.table, called.function) else {
         return Ok(false);
     };
     let values = called.arguments.values.as_slice();
@@ -99,8 +98,7 @@ fn push_literal(
     name: &Name,
     values: usize,
 ) -> Result<bool, AllocError> {
-    let number = number_of(at.table, name.bytes.as_slice());
-    let Some(entry) = number.and_then(|number| at.table.structs.get(number)) else {
+    let Some(entry) = struct_named(at.table, name) else {
         return Ok(false);
     };
     let many = values > entry.fields.len();

@@ -105,7 +105,7 @@ fn push_no_field(
 }
 
 /// The name at the end of a type.
-fn last_name(written: &TypeNode) -> &Name {
+pub(crate) fn last_name(written: &TypeNode) -> &Name {
     match written {
         TypeNode::Named(name) => name,
         TypeNode::Parenthesized(inner) | TypeNode::Channel(_, inner) => last_name(inner),

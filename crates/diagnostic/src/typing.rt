@@ -7,6 +7,7 @@ ghost use Rattle.syntax.specs.View.{file_of};
 use crate::assigning::{push_constant, push_nil, push_unfit};
 use crate::channel::{push_direction, push_no_channel, push_unmade};
 use crate::counting::{push_called, push_numbers, push_returned};
+use crate::declaring::push_declaration;
 use crate::naming::{push_invisible, push_redeclared, push_unassigned};
 use crate::operator::{push_operands, push_operator};
 use crate::place::Setting;
@@ -99,6 +100,9 @@ fn push_in(
     requires small { size (file_of file.now) < 2 ^ 32 }
 {
     let tops = file.tops.as_slice();
+    if push_declaration(said, tops, rule, node)? {
+        return Ok(true);
+    }
     let table = match table_of(alloc, tops) {
         Ok(table) => table,
         Err(Refusal::Memory) => return Err(Memory),

@@ -11,7 +11,8 @@ use syntax::{
     ArgumentsNode, CommNode, ExpressionNode, Name, NodeId, OperationNode, PartNode, PlaceNode,
     RangeTarget, ReturnNode, RightNode, SimpleNode,
 };
-use type_table::layout::function_number;
+use type_table::entry::{FunctionEntry, StructEntry};
+use type_table::layout::{function_number, number_of};
 use type_table::scope::own_variable;
 use type_table::table::TypeTable;
 use type_table::value_type::{ValueType, element_in, type_in};
@@ -122,10 +123,8 @@ impl<'a> Parts<'a> {
         function: &'a Name,
         arguments: &'a ArgumentsNode,
     ) -> Result<(), AllocError> {
-        let number = function_number(table, function.bytes.as_slice());
-        let entry = number.and_then(|number| table.functions.get(number));
         for (index, value) in arguments.values.iter().enumerate() {
-            let wanted = entry.and_then(|entry| entry.parameters.get(index).copied());
+            let wanted = parameter_type(table, function, index);
             self.take(value, Role::Argument(function), wanted)?;
         }
         self.called = Some(Called {
@@ -310,6 +309,37 @@ pub fn parts_of<'a>(
     };
     parts.take_unit(alloc, table, scene)?;
     Ok(parts)
+}
+
+/// The function of this name, if there is one.
+pub fn function_named<'s, 'a>(
+    table: &'s TypeTable<'a>,
+    name: &Name,
+) -> Option<&'s FunctionEntry<'a>> {
+    match function_number(table, name.bytes.as_slice()) {
+        Some(number) => table.functions.get(number),
+        None => None,
+    }
+}
+
+/// The struct type of this name, if there is one.
+pub fn struct_named<'s, 'a>(table: &'s TypeTable<'a>, name: &Name) -> Option<&'s StructEntry<'a>> {
+    match number_of(table, name.bytes.as_slice()) {
+        Some(number) => table.structs.get(number),
+        None => None,
+    }
+}
+
+/// The type of a parameter of the function of this name.
+fn parameter_type<'a>(
+    table: &TypeTable<'a>,
+    function: &Name,
+    index: usize,
+) -> Option<ValueType<'a>> {
+    match function_named(table, function) {
+        Some(entry) => entry.parameters.get(index).copied(),
+        None => None,
+    }
 }
 
 /// The type of the elements of a channel, if the expression is one.

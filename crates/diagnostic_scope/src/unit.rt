@@ -237,6 +237,22 @@ pub fn declared_end(first: NodeId, declared: &[DeclaredNode]) -> NodeId {
     end
 }
 
+/// The fields or parameters among these whose nodes, which have numbers from `first` on, have this one among them.
+pub fn declared_at<'a>(
+    node: NodeId,
+    first: NodeId,
+    declared: &'a [DeclaredNode],
+) -> Option<&'a DeclaredNode> {
+    let mut end = first;
+    for one in declared {
+        end = after(type_end(end, &one.type_node));
+        if node < end {
+            return Some(one);
+        }
+    }
+    None
+}
+
 /// Passes a function. What is wrong with it as a whole is told at its last node.
 fn pass_function<'a>(node: NodeId, first: NodeId, function: &'a FunctionNode) -> Passed<'a> {
     let parameters = declared_end(first, function.parameters.as_slice());
