@@ -3,14 +3,15 @@
 use crate::place::Setting;
 use diagnostic_scope::operand::push_worth;
 use diagnostic_scope::unit::Unit;
-use diagnostic_scope::words::{Words, push_expression, push_place};
+use diagnostic_scope::words::{Words, push_expression, push_place, push_type};
 use std::alloc::AllocError;
 use syntax::{
     CommNode, ExpressionNode, Name, OperationNode, PlaceNode, RangeTarget, SimpleNode, TypeNode,
 };
-use type_table::layout::{function_number, number_of};
+use type_table::layout::{field_of, function_number, number_of};
 use type_table::scope::{Visible, is_blank, is_reserved, own_variable, variable_named};
 use type_table::table::TypeTable;
+use type_table::value_type::ValueType;
 
 /// Whether a name is that of a type.
 fn is_type(table: &TypeTable<'_>, name: &[u8]) -> bool {
@@ -167,18 +168,45 @@ pub(crate) fn push_invisible(said: &mut Words, at: Setting<'_, '_>) -> Result<bo
     }
 }
 
+/// Tells of the first field in a place that is not there.
+fn push_no_path(
+    said: &mut Words,
+    at: Setting<'_, '_>,
+    place: &PlaceNode,
+    kind: ValueType<'_>,
+) -> Result<bool, AllocError> {
+    let mut kind = kind;
+    for field in place.fields.iter() {
+        match field_of(at.table, kind, field.bytes.as_slice()) {
+            Some(selected) => kind = selected.kind,
+            None => {
+                push_place(said, place)?;
+                said.text(" undefined (type ")?;
+                push_type(said, at.table, kind)?;
+                said.text(" has no field ")?;
+                said.name(field)?;
+                said.text(")")?;
+                return Ok(true);
+            }
+        }
+    }
+    Ok(false)
+}
+
 /// Tells of a place that is no variable, and no field of one.
 pub(crate) fn push_unassigned(said: &mut Words, at: Setting<'_, '_>) -> Result<bool, AllocError> {
     let Some(place) = place_at(at) else {
         return Ok(false);
     };
-    if is_blank(place.name.bytes.as_slice()) {
+    let name = place.name.bytes.as_slice();
+    if is_blank(name) {
         said.text("cannot use _ as value")?;
         return Ok(true);
     }
-    push_place(said, place)?;
-    said.text(" undefined: there is no such field")?;
-    Ok(true)
+    match variable_named(at.table, &at.scene.visible, name) {
+        Some(entry) => push_no_path(said, at, place, entry.kind),
+        None => Ok(false),
+    }
 }
 
 /// The names that a unit declares.
