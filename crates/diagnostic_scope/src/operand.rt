@@ -54,9 +54,13 @@ fn is_untyped_bool(expression: &ExpressionNode) -> bool {
     }
 }
 
-/// Whether an expression is an integer as it is written.
+/// Whether an expression is an integer as it is written, or one behind a minus.
 fn is_integer(expression: &ExpressionNode) -> bool {
-    matches!(expression, ExpressionNode::Integer(_))
+    match expression {
+        ExpressionNode::Integer(_) => true,
+        ExpressionNode::Unary(UnaryOperator::Negate, inner) => is_integer(inner),
+        _ => false,
+    }
 }
 
 /// Puts what a value is behind its text: ` (variable of type int)`.
