@@ -4,19 +4,11 @@
 ghost use Rattle.std.specs.Prelude.{◌≡◌, ◌++◌, IfOk, codes, decimal, string_bytes};
 ghost use Rattle.diagnostic.specs.Diagnostics.{IsDiagnostic, heading_at, place_of, position_of};
 
-mod assigning;
-mod channel;
-mod counting;
-mod declaring;
 mod excerpt;
 mod expected;
 mod hint;
-mod naming;
-mod operator;
 mod phrase;
-mod place;
 mod sentence;
-mod typing;
 
 use crate::excerpt::push_excerpt;
 use crate::hint::hint_of;

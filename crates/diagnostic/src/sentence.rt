@@ -2,7 +2,7 @@
 
 use crate::expected::push_expected;
 use crate::phrase::{Phrase, phrase_of_limit, phrase_of_rule};
-use crate::typing::typing_sentence;
+use diagnostic_typing::typing_sentence;
 use go_text::{Fault, Memory, Place};
 use std::alloc::{AllocError, Global};
 

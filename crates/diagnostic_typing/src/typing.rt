@@ -1,4 +1,4 @@
-//! What is wrong where a typing rule is broken, in the words of Go, with names and types as the programmer wrote them.
+//! The sentence on a rule that is broken.
 
 ghost use Rattle.std.specs.Prelude.{◌^◌, ◌<◌};
 ghost use Rattle.syntax.specs.Measures.{size};
@@ -122,7 +122,7 @@ fn push_in(
 }
 
 /// What is wrong where a rule is broken at this node of a text's tree: `None` where nothing is known of it but the rule.
-pub(crate) fn typing_sentence(
+pub fn typing_sentence(
     alloc: Global,
     text: &str,
     rule: Rule,
