@@ -6,16 +6,19 @@ ghost use Rattle.diagnostic.specs.Diagnostics.{IsDiagnostic, heading_at, place_o
 
 mod excerpt;
 mod expected;
+mod hint;
 mod phrase;
 mod sentence;
 
 use crate::excerpt::push_excerpt;
-use crate::sentence::push_sentence;
+use crate::hint::hint_of;
+use crate::sentence::{push, push_sentence};
 use go_text::{Fault, Memory, Place, Position};
 use std::alloc::{AllocError, Global};
 
 /// What is wrong with a text: `FILE:LINE:COLUMN: SENTENCE` where the fault has a place, else `FILE: SENTENCE`. Behind it, where
-/// there is a place, stand its line of the text and a line with marks under the place. FILE is the path as it was typed.
+/// there is a place, stand its line of the text and a line with marks under the place, and where one is known a line `hint: ..`
+/// that tells what to write instead. FILE is the path as it was typed.
 ///
 /// # Errors
 ///
@@ -29,9 +32,20 @@ pub fn explanation(alloc: Global, path: &str, text: &str, fault: &Fault) -> Resu
     if let Some(place) = place {
         push_excerpt(&mut said, text, place.span)?;
     }
+    push_hint(&mut said, text, fault)?;
     let mut whole = heading.into_bytes();
     whole.extend_from_slice(said.as_slice())?;
     Ok(whole)
+}
+
+/// `hint: ` and what to write instead, with a newline, where that is known.
+fn push_hint(said: &mut Vec<u8>, text: &str, fault: &Fault) -> Result<(), AllocError> {
+    if let Some(hint) = hint_of(text, fault) {
+        push(said, "hint: ")?;
+        push(said, hint)?;
+        push(said, "\n")?;
+    }
+    Ok(())
 }
 
 /// `FILE: `, or `FILE:LINE:COLUMN: ` where line and column are known.

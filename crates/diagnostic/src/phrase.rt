@@ -71,7 +71,7 @@ pub(crate) fn phrase_of_rule(rule: Rule) -> Phrase {
         Rule::Returned => Phrase::plain(
             "a return has a value exactly where its function has a result",
         ),
-        Rule::Terminating => Phrase::plain("missing return at the end of a function with a result"),
+        Rule::Terminating => Phrase::plain("missing return"),
         Rule::Branch => Phrase::around("", " is not in a loop (break also stands in a select)"),
         Rule::Called => Phrase::around(
             "",

@@ -2,6 +2,7 @@
 
 use crate::expected::push_expected;
 use crate::phrase::{Phrase, phrase_of_limit, phrase_of_rule};
+use diagnostic_typing::typing_sentence;
 use go_text::{Fault, Memory, Place};
 use std::alloc::{AllocError, Global};
 
@@ -17,8 +18,11 @@ pub(crate) fn push_sentence(
 ) -> Result<(), Memory> {
     match *fault {
         Fault::Syntax(place) => push_syntax(alloc, said, text, place),
-        Fault::Typing { rule, place, .. } => {
-            Ok(push_phrase(said, phrase_of_rule(rule), piece_at(text, place))?)
+        Fault::Typing { rule, node, place } => {
+            match typing_sentence(alloc, text, rule, node)? {
+                Some(sentence) => Ok(said.extend_from_slice(sentence.as_slice())?),
+                None => Ok(push_phrase(said, phrase_of_rule(rule), piece_at(text, place))?),
+            }
         }
         Fault::Limit { kind, place, .. } => {
             Ok(push_phrase(said, phrase_of_limit(kind), piece_at(text, place))?)
@@ -134,6 +138,15 @@ fn has_other_escape(line: &[u8]) -> bool {
     false
 }
 
+/// A token as it is told of.
+fn spoken(found: &str) -> &str {
+    match found {
+        "," => "comma",
+        ";" => "semicolon",
+        _ => found,
+    }
+}
+
 /// What was found where no tree goes on, and what could stand there.
 fn push_syntax(alloc: Global, said: &mut Vec<u8>, text: &str, place: Place) -> Result<(), Memory> {
     let found = piece_at(text, place);
@@ -143,32 +156,8 @@ fn push_syntax(alloc: Global, said: &mut Vec<u8>, text: &str, place: Place) -> R
     } else if found.is_empty() {
         push(said, "newline")?;
     } else {
-        push(said, found)?;
+        push(said, spoken(found))?;
     }
     let from = place.span.from as usize;
-    push_expected(alloc, said, text.get(..from).unwrap_or(""))?;
-    if let Some(hint) = hint_for(found) {
-        push(said, hint)?;
-    }
-    Ok(())
-}
-
-/// What to write in place of common Go that is not in the language.
-fn hint_for(found: &str) -> Option<&'static str> {
-    if found.starts_with("\"") {
-        return Some(" (strings stand only in print and println)");
-    }
-    match found {
-        "import" => Some(" (there are no imports: println and print are built in)"),
-        "switch" => Some(" (there is no switch: write if and else)"),
-        "func" => Some(" (there are no closures: declare a function)"),
-        "[" => Some(" (there are no slices, arrays and generics)"),
-        "map" => Some(" (there are no maps: a goroutine can keep what it is sent)"),
-        "*" | "&" => Some(" (there are no pointers)"),
-        "<-" => Some(" (a receive stands alone or as the whole right side)"),
-        "defer" | "goto" | "fallthrough" | "const" | "interface" => {
-            Some(" (this is not in the language)")
-        }
-        _ => None,
-    }
+    push_expected(alloc, said, text.get(..from).unwrap_or(""))
 }

@@ -2,7 +2,7 @@
 
 use crate::flaw::{Flaw, same};
 use crate::folder::{FileKind, Made, RowFile};
-use crate::reading::{listing, spans, tokens};
+use crate::reading::{explained, listing, spans, tokens};
 use crate::run::{Ran, check_runs};
 use crate::trace::settled_lines;
 use std::alloc::Global;
@@ -124,11 +124,18 @@ fn check_traced<R: Threads + Wait + Sync>(
 fn check_made<R: Files + AllocGlobal>(rt: &R, file: &RowFile<'_>, made: Made) -> Result<(), Flaw> {
     let wanted = file.bytes(rt)?;
     let (what, came) = match made {
+        Made::Explanation => ("the explanation", explanation_of(rt, file)?),
         Made::Listing => ("the listing", listing_of(rt, file)?),
         Made::Spans => ("the spans", spans_of(rt, file)?),
         Made::Tokens => ("the tokens", tokens_of(rt, file)?),
     };
     same_lines(rt.alloc(), what, &wanted, &came)
+}
+
+/// What `--explain` says of a file's text.
+fn explanation_of<R: Files + AllocGlobal>(rt: &R, file: &RowFile<'_>) -> Result<Vec<u8>, Flaw> {
+    let text = file.text(rt)?;
+    explained(rt.alloc(), file.text_name(), &text)
 }
 
 /// The listing of a file's text.

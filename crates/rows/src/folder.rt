@@ -29,6 +29,8 @@ pub(crate) enum FileKind {
 /// What is made of a text.
 #[derive(Clone, Copy, PartialEq, Eq)]
 pub(crate) enum Made {
+    /// `.explained`: what `--explain` says of it.
+    Explanation,
     /// `.list`: the listing of its code.
     Listing,
     /// `.spans`: the spans of its tree's nodes.
@@ -46,6 +48,7 @@ impl FileKind {
             "texts" => Some(FileKind::Table),
             "row" => Some(FileKind::Row),
             "out" => Some(FileKind::Output),
+            "explained" => Some(FileKind::Made(Made::Explanation)),
             "list" => Some(FileKind::Made(Made::Listing)),
             "spans" => Some(FileKind::Made(Made::Spans)),
             "tokens" => Some(FileKind::Made(Made::Tokens)),
@@ -87,7 +90,7 @@ impl<'a> RowFile<'a> {
     }
 
     /// The name of its text.
-    fn text_name(&self) -> &'a str {
+    pub(crate) fn text_name(&self) -> &'a str {
         match self.stem.split_once('.') {
             Some((text, _)) => text,
             None => self.stem,

@@ -2,7 +2,7 @@
 //!
 //! A row is a text, `NAME.go` or `NAME.gen`, and files beside it that tell what comes of it: `NAME.row` how it is run and how
 //! that ends, `NAME.out` what it writes, `NAME.trace`, `NAME.list`, `NAME.spans` and `NAME.tokens` its events, its listing,
-//! its nodes and its tokens. A `NAME.texts` is a table of small texts. docs/TESTING.md has the forms.
+//! its nodes and its tokens, `NAME.explained` what `--explain` says of it. A `NAME.texts` is a table of small texts. docs/TESTING.md has the forms.
 //!
 //! The rows lie in the folders of `data`, where the program is run. The repository's examples are rows too: those of
 //! `data/examples` are copies of the folder `examples` at the top.

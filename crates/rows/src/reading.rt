@@ -7,8 +7,9 @@ ghost use Rattle.syntax.specs.Spans.{tree_of};
 use crate::flaw::{Flaw, shown};
 use checker::check;
 use codegen::compile;
+use diagnostic::explanation;
 use go_text::{Fault, Source, Span};
-use kendo_base::list_bytes;
+use kendo_base::{check_bytes, list_bytes};
 use parser::parse;
 use scanner::{Token, scan};
 use std::alloc::Global;
@@ -46,6 +47,19 @@ fn placed(alloc: Global, text: &[u8], span: Span) -> Result<String, Flaw> {
         .unwrap_or(b"".as_slice());
     let bytes = shown(alloc, bytes, 0)?;
     Ok(format!(in alloc; "{from} {to} {bytes}")?)
+}
+
+/// What `--explain` says of a text in the file of this name, `.go` left out: nothing where it is a program.
+pub(crate) fn explained(alloc: Global, name: &str, text: &[u8]) -> Result<Vec<u8>, Flaw> {
+    let Err(fault) = check_bytes(alloc, Vec::from_slice(alloc, text)?) else {
+        return Ok(Vec::new(alloc));
+    };
+    let path = format!(in alloc; "{name}.go")?;
+    let shown = match String::from_utf8(Vec::from_slice(alloc, text)?) {
+        Ok(shown) => shown,
+        Err(_) => String::new(alloc),
+    };
+    Ok(explanation(alloc, path.as_str(), shown.as_str(), &fault).map_err(Fault::from)?)
 }
 
 /// The listing of a text's code.

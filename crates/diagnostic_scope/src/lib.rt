@@ -1,0 +1,11 @@
+//! Where a node of a tree stands, and what is visible there: what sentences about a fault are made of. No contract says what
+//! is found.
+#![tactic(auto)]
+
+pub mod given;
+mod number;
+pub mod operand;
+pub mod scene;
+pub mod search;
+pub mod unit;
+pub mod words;

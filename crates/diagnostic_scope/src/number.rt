@@ -1,0 +1,123 @@
+//! The numbers of a tree's nodes, which are counted in postorder. A number that would be too large is the largest one.
+
+use syntax::{
+    CommNode, ExpressionNode, NodeId, OperationNode, PartNode, RightNode, SimpleNode, TypeNode,
+};
+
+/// The number behind a node.
+pub(crate) fn after(node: NodeId) -> NodeId {
+    node.saturating_add(1)
+}
+
+/// The number behind the nodes of a type.
+pub(crate) fn type_end(first: NodeId, written: &TypeNode) -> NodeId {
+    match written {
+        TypeNode::Named(_) => after(first),
+        TypeNode::Parenthesized(inner) | TypeNode::Channel(_, inner) => {
+            after(type_end(first, inner))
+        }
+    }
+}
+
+/// The number behind the nodes of an expression.
+#[cycle(expression_end)]
+pub(crate) fn expression_end(first: NodeId, expression: &ExpressionNode) -> NodeId {
+    match expression {
+        ExpressionNode::Integer(_) | ExpressionNode::Named(_) => after(first),
+        ExpressionNode::Parenthesized(inner)
+        | ExpressionNode::Selection(inner, _)
+        | ExpressionNode::Unary(_, inner) => after(expression_end(first, inner)),
+        ExpressionNode::Composite(_, values, _) => after(values_end(first, values.as_slice())),
+        ExpressionNode::Binary(_, left, right) => {
+            after(expression_end(expression_end(first, left), right))
+        }
+    }
+}
+
+/// The number behind the nodes of expressions.
+#[cycle(expression_end)]
+pub(crate) fn values_end(first: NodeId, values: &[ExpressionNode]) -> NodeId {
+    let mut end = first;
+    for value in values {
+        end = expression_end(end, value);
+    }
+    end
+}
+
+/// The number behind the nodes of an expression that may be left out.
+fn optional_end(first: NodeId, expression: &Option<ExpressionNode>) -> NodeId {
+    match expression {
+        None => first,
+        Some(expression) => expression_end(first, expression),
+    }
+}
+
+/// The number behind the nodes of an operation.
+pub(crate) fn operation_end(first: NodeId, operation: &OperationNode) -> NodeId {
+    match operation {
+        OperationNode::Call(_, arguments) => after(values_end(first, arguments.values.as_slice())),
+        OperationNode::Receive(channel)
+        | OperationNode::Length(channel)
+        | OperationNode::Capacity(channel) => after(expression_end(first, channel)),
+        OperationNode::Make(written, size) => after(optional_end(type_end(first, written), size)),
+    }
+}
+
+/// The number behind the nodes of a right side.
+pub(crate) fn right_end(first: NodeId, right: &RightNode) -> NodeId {
+    match right {
+        RightNode::Operation(operation) => operation_end(first, operation),
+        RightNode::Values(values) => values_end(first, values.as_slice()),
+    }
+}
+
+/// The number behind the node of an argument of a print.
+pub(crate) fn part_end(first: NodeId, part: &PartNode) -> NodeId {
+    match part {
+        PartNode::Value(value) => expression_end(first, value),
+        PartNode::Text(_) => after(first),
+    }
+}
+
+/// The number behind the nodes of arguments of a print.
+fn parts_end(first: NodeId, parts: &[PartNode]) -> NodeId {
+    let mut end = first;
+    for part in parts {
+        end = part_end(end, part);
+    }
+    end
+}
+
+/// The number behind so many places, each of which is a node.
+pub(crate) fn places_end(first: NodeId, places: usize) -> NodeId {
+    first.saturating_add(u32::try_from(places).unwrap_or(u32::MAX))
+}
+
+/// The number behind the nodes of a simple statement.
+pub(crate) fn simple_end(first: NodeId, simple: &SimpleNode) -> NodeId {
+    let last = match simple {
+        SimpleNode::Call(_, arguments) => values_end(first, arguments.values.as_slice()),
+        SimpleNode::Close(channel) | SimpleNode::Receive(channel) => expression_end(first, channel),
+        SimpleNode::Print(_, parts, _) => parts_end(first, parts.as_slice()),
+        SimpleNode::Send(channel, value) => expression_end(expression_end(first, channel), value),
+        SimpleNode::Increment(_) | SimpleNode::Decrement(_) => after(first),
+        SimpleNode::Assign(places, right) => right_end(places_end(first, places.len()), right),
+        SimpleNode::Define(_, right) => right_end(first, right),
+        SimpleNode::Update(_, _, value) => expression_end(after(first), value),
+    };
+    after(last)
+}
+
+/// The number behind the nodes of what a clause of a `select` waits for.
+pub(crate) fn comm_end(first: NodeId, comm: &CommNode) -> NodeId {
+    let last = match comm {
+        CommNode::Send(channel, value) => expression_end(expression_end(first, channel), value),
+        CommNode::Receive(channel) => expression_end(first, channel),
+        CommNode::Define(_, _, channel) => after(expression_end(first, channel)),
+        CommNode::Assign(_, None, channel) => after(expression_end(places_end(first, 1), channel)),
+        CommNode::Assign(_, Some(_), channel) => {
+            after(expression_end(places_end(first, 2), channel))
+        }
+    };
+    after(last)
+}

@@ -1,0 +1,142 @@
+//! What is said of a value: its text, what kind of value it is, and its type.
+
+use crate::scene::Scene;
+use crate::words::{Words, push_expression, push_operation, push_type};
+use checker_base::operand::worth;
+use checker_base::worth::Worth;
+use std::alloc::AllocError;
+use syntax::{BinaryOperator, ExpressionNode, OperationNode, UnaryOperator};
+use type_table::scope::is_truth;
+use type_table::table::TypeTable;
+use type_table::value_type::ValueType;
+
+/// Whether an expression is a variable, or a field of one.
+fn is_variable(expression: &ExpressionNode) -> bool {
+    match expression {
+        ExpressionNode::Named(name) => !is_truth(name.bytes.as_slice()),
+        ExpressionNode::Parenthesized(inner) | ExpressionNode::Selection(inner, _) => {
+            is_variable(inner)
+        }
+        _ => false,
+    }
+}
+
+/// Whether an expression is the name of a truth value.
+fn is_truth_value(expression: &ExpressionNode) -> bool {
+    match expression {
+        ExpressionNode::Named(name) => is_truth(name.bytes.as_slice()),
+        ExpressionNode::Parenthesized(inner) | ExpressionNode::Unary(_, inner) => {
+            is_truth_value(inner)
+        }
+        _ => false,
+    }
+}
+
+/// Whether an expression is an untyped bool, as a comparison is.
+fn is_untyped_bool(expression: &ExpressionNode) -> bool {
+    match expression {
+        ExpressionNode::Named(name) => is_truth(name.bytes.as_slice()),
+        ExpressionNode::Parenthesized(inner) => is_untyped_bool(inner),
+        ExpressionNode::Unary(UnaryOperator::Not, inner) => is_untyped_bool(inner),
+        ExpressionNode::Binary(operator, left, right) => match operator {
+            BinaryOperator::Equal
+            | BinaryOperator::NotEqual
+            | BinaryOperator::Less
+            | BinaryOperator::LessEqual
+            | BinaryOperator::Greater
+            | BinaryOperator::GreaterEqual => true,
+            BinaryOperator::LogicalAnd | BinaryOperator::LogicalOr => {
+                is_untyped_bool(left) && is_untyped_bool(right)
+            }
+            _ => false,
+        },
+        _ => false,
+    }
+}
+
+/// Whether an expression is an integer as it is written, or one behind a minus.
+fn is_integer(expression: &ExpressionNode) -> bool {
+    match expression {
+        ExpressionNode::Integer(_) => true,
+        ExpressionNode::Unary(UnaryOperator::Negate, inner) => is_integer(inner),
+        _ => false,
+    }
+}
+
+/// Puts what a value is behind its text: ` (variable of type int)`.
+fn push_typed(
+    said: &mut Words,
+    table: &TypeTable<'_>,
+    expression: &ExpressionNode,
+    kind: ValueType<'_>,
+) -> Result<(), AllocError> {
+    if is_truth_value(expression) {
+        return said.text(" (untyped bool constant)");
+    }
+    if is_untyped_bool(expression) {
+        return said.text(" (untyped bool value)");
+    }
+    let variable = is_variable(expression);
+    said.text(if variable {
+        " (variable of type "
+    } else {
+        " (value of type "
+    })?;
+    push_type(said, table, kind)?;
+    said.text(")")
+}
+
+/// Puts a value behind what is there, as `x (variable of type int)`.
+pub fn push_operand(
+    said: &mut Words,
+    table: &TypeTable<'_>,
+    scene: &Scene<'_>,
+    expression: &ExpressionNode,
+) -> Result<(), AllocError> {
+    push_expression(said, expression)?;
+    match worth(table, &scene.visible, expression) {
+        Some(Worth::Typed(kind)) => push_typed(said, table, expression, kind),
+        Some(Worth::Constant(_)) if is_integer(expression) => said.text(" (untyped int constant)"),
+        Some(Worth::Constant(value)) => {
+            said.text(" (untyped int constant ")?;
+            said.number(value)?;
+            said.text(")")
+        }
+        _ => Ok(()),
+    }
+}
+
+/// Puts the type of a value behind what is there, as `int` or `untyped int`.
+pub fn push_worth(
+    said: &mut Words,
+    table: &TypeTable<'_>,
+    scene: &Scene<'_>,
+    expression: &ExpressionNode,
+) -> Result<(), AllocError> {
+    match worth(table, &scene.visible, expression) {
+        Some(Worth::Typed(_)) if is_untyped_bool(expression) => said.text("untyped bool"),
+        Some(Worth::Typed(kind)) => push_type(said, table, kind),
+        Some(Worth::Constant(_)) => said.text("untyped int"),
+        Some(Worth::Nil) => said.text("untyped nil"),
+        None => said.text("unknown type"),
+    }
+}
+
+/// Puts an operation and the type of its value behind what is there.
+pub fn push_made(
+    said: &mut Words,
+    table: &TypeTable<'_>,
+    operation: &OperationNode,
+    kind: Option<ValueType<'_>>,
+) -> Result<(), AllocError> {
+    push_operation(said, operation)?;
+    let Some(kind) = kind else {
+        return Ok(());
+    };
+    said.text(match operation {
+        OperationNode::Receive(_) => " (comma, ok expression of type ",
+        _ => " (value of type ",
+    })?;
+    push_type(said, table, kind)?;
+    said.text(")")
+}

@@ -1,0 +1,214 @@
+//! Operands that do not fit their operator.
+
+use crate::place::Setting;
+use checker_base::operand::worth;
+use checker_base::worth::Worth;
+use diagnostic_scope::given::place_type;
+use diagnostic_scope::operand::{push_operand, push_worth};
+use diagnostic_scope::unit::Unit;
+use diagnostic_scope::words::{
+    Words, operator_text, push_expression, push_place, push_type, unary_text,
+};
+use std::alloc::AllocError;
+use syntax::{BinaryOperator, ExpressionNode, PlaceNode, SimpleNode, UnaryOperator};
+use type_table::value_type::ValueType;
+
+/// What an operand is worth to an operator.
+#[derive(Clone, Copy, PartialEq, Eq)]
+enum Sort {
+    Int,
+    Bool,
+    Struct,
+    Channel,
+    Nil,
+    Unknown,
+}
+
+/// The sort of a type.
+fn sort_of_type(kind: ValueType<'_>) -> Sort {
+    match kind {
+        ValueType::Int => Sort::Int,
+        ValueType::Bool => Sort::Bool,
+        ValueType::Struct(_) => Sort::Struct,
+        ValueType::Channel(_, _) => Sort::Channel,
+    }
+}
+
+/// The sort of an operand.
+fn sort_of(at: Setting<'_, '_>, expression: &ExpressionNode) -> Sort {
+    match worth(at.table, &at.scene.visible, expression) {
+        Some(Worth::Typed(kind)) => sort_of_type(kind),
+        Some(Worth::Constant(_)) => Sort::Int,
+        Some(Worth::Nil) => Sort::Nil,
+        None => Sort::Unknown,
+    }
+}
+
+/// Puts that an operator is not defined on an operand behind what is there.
+fn push_undefined_on(
+    said: &mut Words,
+    at: Setting<'_, '_>,
+    operator: &str,
+    operand: &ExpressionNode,
+) -> Result<(), AllocError> {
+    said.text("operator ")?;
+    said.text(operator)?;
+    said.text(" not defined on ")?;
+    push_operand(said, at.table, at.scene, operand)
+}
+
+/// Puts the two types of operands that do not go together behind what is there.
+fn push_mismatch(
+    said: &mut Words,
+    at: Setting<'_, '_>,
+    left: &ExpressionNode,
+    right: &ExpressionNode,
+) -> Result<(), AllocError> {
+    said.text(" (mismatched types ")?;
+    push_worth(said, at.table, at.scene, left)?;
+    said.text(" and ")?;
+    push_worth(said, at.table, at.scene, right)?;
+    said.text(")")
+}
+
+/// Tells of an operator between two operands.
+fn push_binary(
+    said: &mut Words,
+    at: Setting<'_, '_>,
+    operator: BinaryOperator,
+    left: &ExpressionNode,
+    right: &ExpressionNode,
+    whole: &ExpressionNode,
+) -> Result<(), AllocError> {
+    said.text("invalid operation: ")?;
+    let (one, other) = (sort_of(at, left), sort_of(at, right));
+    if one == other && one == Sort::Struct {
+        push_expression(said, whole)?;
+        return said.text(" (structs are not compared: compare their fields)");
+    }
+    if one == other && one != Sort::Channel {
+        return push_undefined_on(said, at, operator_text(operator), left);
+    }
+    push_expression(said, whole)?;
+    push_mismatch(said, at, left, right)
+}
+
+/// Tells of an operator before an operand.
+fn push_unary(
+    said: &mut Words,
+    at: Setting<'_, '_>,
+    operator: UnaryOperator,
+    operand: &ExpressionNode,
+) -> Result<(), AllocError> {
+    said.text("invalid operation: ")?;
+    push_undefined_on(said, at, unary_text(operator), operand)
+}
+
+/// Puts a place, what is done to it, and its type behind what is there.
+fn push_step(
+    said: &mut Words,
+    at: Setting<'_, '_>,
+    place: &PlaceNode,
+    step: &str,
+) -> Result<(), AllocError> {
+    said.text("invalid operation: ")?;
+    push_place(said, place)?;
+    said.text(step)?;
+    if let Some(kind) = place_type(at.table, at.scene, place) {
+        said.text(" (non-numeric type ")?;
+        push_type(said, at.table, kind)?;
+        said.text(")")?;
+    }
+    Ok(())
+}
+
+/// Puts an assignment with an operator, and its two types, behind what is there.
+fn push_update(
+    said: &mut Words,
+    at: Setting<'_, '_>,
+    place: &PlaceNode,
+    operator: BinaryOperator,
+    value: &ExpressionNode,
+) -> Result<(), AllocError> {
+    said.text("invalid operation: ")?;
+    let kind = place_type(at.table, at.scene, place);
+    if kind.map(sort_of_type) == Some(sort_of(at, value)) {
+        said.text("operator ")?;
+        said.text(operator_text(operator))?;
+        said.text(" not defined on ")?;
+        push_place(said, place)?;
+        said.text(" (variable of type ")?;
+        push_worth(said, at.table, at.scene, value)?;
+        return said.text(")");
+    }
+    push_place(said, place)?;
+    said.text(" ")?;
+    said.text(operator_text(operator))?;
+    said.text("= ")?;
+    push_expression(said, value)?;
+    if let Some(kind) = kind {
+        said.text(" (mismatched types ")?;
+        push_type(said, at.table, kind)?;
+        said.text(" and ")?;
+        push_worth(said, at.table, at.scene, value)?;
+        said.text(")")?;
+    }
+    Ok(())
+}
+
+/// Tells of operands that do not fit their operator.
+pub(crate) fn push_operands(said: &mut Words, at: Setting<'_, '_>) -> Result<bool, AllocError> {
+    match at.part() {
+        Some(whole @ ExpressionNode::Binary(operator, left, right)) => {
+            push_binary(said, at, *operator, left, right, whole)?;
+            return Ok(true);
+        }
+        Some(ExpressionNode::Unary(operator, operand)) => {
+            push_unary(said, at, *operator, operand)?;
+            return Ok(true);
+        }
+        _ => {}
+    }
+    match at.scene.found.unit {
+        Unit::Simple(SimpleNode::Increment(place)) => push_step(said, at, place, "++")?,
+        Unit::Simple(SimpleNode::Decrement(place)) => push_step(said, at, place, "--")?,
+        Unit::Simple(SimpleNode::Update(place, operator, value)) => {
+            push_update(said, at, place, *operator, value)?;
+        }
+        _ => return Ok(false),
+    }
+    Ok(true)
+}
+
+/// Tells of a right operand that is zero, or negative where it counts a shift.
+fn push_right(
+    said: &mut Words,
+    at: Setting<'_, '_>,
+    operator: BinaryOperator,
+    right: &ExpressionNode,
+) -> Result<bool, AllocError> {
+    match operator {
+        BinaryOperator::Divide | BinaryOperator::Remainder => {
+            said.text("invalid operation: division by zero")?;
+        }
+        BinaryOperator::ShiftLeft | BinaryOperator::ShiftRight => {
+            said.text("invalid operation: negative shift count ")?;
+            push_operand(said, at.table, at.scene, right)?;
+        }
+        _ => return Ok(false),
+    }
+    Ok(true)
+}
+
+/// Tells of an operator whose constant right operand can not stand there.
+pub(crate) fn push_operator(said: &mut Words, at: Setting<'_, '_>) -> Result<bool, AllocError> {
+    if let Some(ExpressionNode::Binary(operator, _, right)) = at.part() {
+        return push_right(said, at, *operator, right);
+    }
+    match at.scene.found.unit {
+        Unit::Simple(SimpleNode::Update(_, operator, value)) => {
+            push_right(said, at, *operator, value)
+        }
+        _ => Ok(false),
+    }
+}

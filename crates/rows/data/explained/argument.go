@@ -1,0 +1,9 @@
+package main
+
+func main() {
+	f(true)
+}
+
+func f(n int) {
+	println(n)
+}

@@ -1,0 +1,10 @@
+package main
+
+func main() {
+	c := make(chan int, 1)
+	f(c)
+}
+
+func f(c <-chan int) {
+	close(c)
+}

@@ -1,0 +1,11 @@
+package main
+
+type point struct {
+	x, y int
+}
+
+func main() {
+	p := point{1, 2}
+	q := point{1, 2}
+	println(p == q)
+}

@@ -1,0 +1,9 @@
+package main
+
+func main() {
+	if n := 1; n > 2 {
+		println(n)
+	} else {
+		n = true
+	}
+}

@@ -1,0 +1,8 @@
+package main
+
+type nothing struct {
+}
+
+func main() {
+	println(1)
+}

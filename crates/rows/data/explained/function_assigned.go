@@ -1,0 +1,9 @@
+package main
+
+func main() {
+	f = 3
+}
+
+func f() int {
+	return 1
+}

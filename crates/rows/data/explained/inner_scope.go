@@ -1,0 +1,9 @@
+package main
+
+func main() {
+	x := 1
+	if x > 0 {
+		x := true
+		println(x + 1)
+	}
+}

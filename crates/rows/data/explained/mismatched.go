@@ -1,0 +1,7 @@
+package main
+
+func main() {
+	x := 1
+	b := true
+	println(x + b)
+}

@@ -1,0 +1,7 @@
+package main
+
+func main() {
+	a := true
+	b := false
+	println(a + b)
+}

@@ -1,0 +1,6 @@
+package main
+
+func main() {
+	int := 3
+	println(int)
+}

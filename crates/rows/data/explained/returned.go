@@ -1,0 +1,10 @@
+package main
+
+func main() {
+	n := f()
+	println(n)
+}
+
+func f() int {
+	return true
+}

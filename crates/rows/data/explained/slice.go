@@ -1,0 +1,6 @@
+package main
+
+func main() {
+	xs := []int{1, 2}
+	println(len(xs))
+}

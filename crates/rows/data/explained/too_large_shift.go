@@ -1,0 +1,6 @@
+package main
+
+func main() {
+	var n int = 1 << 63
+	println(n)
+}

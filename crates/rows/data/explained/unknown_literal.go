@@ -1,0 +1,6 @@
+package main
+
+func main() {
+	p := pair{1}
+	println(p.x)
+}
