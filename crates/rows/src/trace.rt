@@ -20,7 +20,8 @@ const QUANTUM: u32 = 1;
 /// The lines of the events that settling commits, up to this clock limit.
 pub(crate) fn settled_lines(alloc: Global, text: &[u8], limit: u64) -> Result<Vec<u8>, Flaw> {
     let program = Arc::new(alloc, program(alloc, text)?)?;
-    lines_of::<Brand>(alloc, Blank::new(alloc)?, program, limit)
+    let blank = Blank::new(alloc).map_err(Fault::from)?;
+    lines_of::<Brand>(alloc, blank, program, limit)
 }
 
 /// The lines of the run of this name.
