@@ -2,5 +2,3 @@
 #![tactic(auto)]
 
 pub mod arguments;
-#[cfg(test)]
-mod tests;

@@ -2,11 +2,11 @@
 
 ghost use Rattle.std.specs.Prelude.{Some};
 
-use crate::flaw::{Flaw, same};
-use crate::row::LIMIT;
 use crate::run::{Open, differs};
 use go_text::{Fault, Place, Span};
 use kendo_base::{report, run_bytes};
+use row_format::flaw::{Flaw, same};
+use row_format::row::LIMIT;
 use std::alloc::Global;
 use std::sync::Wait;
 use std::thread::Threads;

@@ -1,10 +1,10 @@
 //! What a file tells of its text, and whether that comes of it.
 
-use crate::flaw::{Flaw, same};
-use crate::folder::{FileKind, Made, RowFile};
 use crate::reading::{explained, listing, spans, tokens};
 use crate::run::{Ran, check_runs};
 use crate::trace::settled_lines;
+use row_format::flaw::{Flaw, same};
+use row_format::folder::{FileKind, Made, RowFile};
 use std::alloc::Global;
 use std::rt::Files;
 use std::sync::Wait;
@@ -19,8 +19,8 @@ pub(crate) fn check<R: Files + AllocGlobal + Threads + Wait + Sync>(
 ) -> Result<(), Flaw> {
     match file.kind {
         FileKind::Text => check_told(file, names),
-        // Its lines tell something of texts of their own.
-        FileKind::Table => Ok(()),
+        // Its lines tell something of their own.
+        FileKind::Table | FileKind::Words => Ok(()),
         FileKind::Generated => match file.beside(rt, "go")? {
             Some(_) => Err(Flaw::Stranger),
             None => check_told(file, names),

@@ -2,7 +2,8 @@
 //!
 //! A row is a text, `NAME.go` or `NAME.gen`, and files beside it that tell what comes of it: `NAME.row` how it is run and how
 //! that ends, `NAME.out` what it writes, `NAME.trace`, `NAME.list`, `NAME.spans` and `NAME.tokens` its events, its listing,
-//! its nodes and its tokens, `NAME.explained` what `--explain` says of it. A `NAME.texts` is a table of small texts. docs/TESTING.md has the forms.
+//! its nodes and its tokens, `NAME.explained` what `--explain` says of it. A `NAME.texts` is a table of small texts, a `NAME.words`
+//! one of command lines. docs/TESTING.md has the forms.
 //!
 //! The rows lie in the folders of `data`, where the program is run. The repository's examples are rows too: those of
 //! `data/examples` are copies of the folder `examples` at the top.
@@ -10,25 +11,23 @@
 
 mod calls;
 mod check;
-mod flaw;
-mod folder;
 mod reading;
-mod row;
 mod run;
 mod table;
 mod trace;
-mod written;
+mod words;
 
 use calls::{check_failing_traces, check_failing_writers, check_panics, check_refusals};
 use check::check;
-use flaw::Flaw;
-use folder::{FileKind, RowFile, names, utf8};
+use row_format::flaw::Flaw;
+use row_format::folder::{FileKind, RowFile, names, utf8};
 use std::process::ExitCode;
 use std::rt::{Env, Files};
 use std::sync::Wait;
 use std::thread::Threads;
 use std::{env, io};
 use table::Table;
+use words::check_words;
 
 fn main(rt: HostRuntime) -> ExitCode {
     match start(&rt) {
@@ -124,9 +123,7 @@ impl Report {
             match RowFile::new(folder, name.as_str()) {
                 Some(file) => {
                     self.tell(rt, path.as_str(), check(rt, &file, names))?;
-                    if file.kind == FileKind::Table {
-                        self.table(rt, &file, path.as_str())?;
-                    }
+                    self.lines(rt, &file, path.as_str())?;
                 }
                 None => self.tell(rt, path.as_str(), Err(Flaw::Stranger))?,
             }
@@ -134,22 +131,45 @@ impl Report {
         Ok(())
     }
 
-    /// The lines of a table.
-    fn table<R: Files + AllocGlobal + Print + Threads + Wait + Sync>(
+    /// The lines of a table; other files have none of their own.
+    fn lines<R: Files + AllocGlobal + Print + Threads + Wait + Sync>(
         &mut self,
         rt: &R,
         file: &RowFile<'_>,
         path: &str,
     ) -> io::Result<()> {
-        let lines = match file.bytes(rt).and_then(utf8) {
-            Ok(lines) => lines,
-            Err(flaw) => return self.tell(rt, path, Err(flaw)),
-        };
+        if !file.kind.has_lines() {
+            return Ok(());
+        }
+        match file.bytes(rt).and_then(utf8) {
+            Ok(lines) if file.kind == FileKind::Words => self.words(rt, path, lines.as_str()),
+            Ok(lines) => self.table(rt, path, lines.as_str()),
+            Err(flaw) => self.tell(rt, path, Err(flaw)),
+        }
+    }
+
+    /// The lines of a table of texts.
+    fn table<R: AllocGlobal + Print + Threads + Wait + Sync>(
+        &mut self,
+        rt: &R,
+        path: &str,
+        lines: &str,
+    ) -> io::Result<()> {
         let mut table = Table::new(rt.alloc());
         for (before, line) in lines.lines().enumerate() {
             let number = before.saturating_add(1);
             let name = format!(in rt.alloc(); "{path}:{number}")?;
             self.tell(rt, name.as_str(), table.check_line(rt, rt.alloc(), line))?;
+        }
+        Ok(())
+    }
+
+    /// The lines of a table of command lines.
+    fn words<R: AllocGlobal + Print>(&mut self, rt: &R, path: &str, lines: &str) -> io::Result<()> {
+        for (before, line) in lines.lines().enumerate() {
+            let number = before.saturating_add(1);
+            let name = format!(in rt.alloc(); "{path}:{number}")?;
+            self.tell(rt, name.as_str(), check_words(rt.alloc(), line))?;
         }
         Ok(())
     }

@@ -4,13 +4,13 @@ ghost use Rattle.std.specs.Prelude.{IfOk};
 ghost use Rattle.codegen_base.specs.Grammar.{IsGrammatical, IsLimited};
 ghost use Rattle.syntax.specs.Spans.{tree_of};
 
-use crate::flaw::{Flaw, shown};
 use checker::check;
 use codegen::compile;
 use diagnostic::explanation;
 use go_text::{Fault, Source, Span};
 use kendo_base::{check_bytes, list_bytes};
 use parser::parse;
+use row_format::flaw::{Flaw, shown};
 use scanner::{Token, scan};
 use std::alloc::Global;
 use syntax::Tree;

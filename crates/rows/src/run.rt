@@ -1,9 +1,9 @@
 //! Runs of a text, and whether they are what a row tells.
 
-use crate::flaw::{Flaw, same};
-use crate::row::Row;
 use go_text::Fault;
 use kendo_base::{Gate, check_bytes, reference_bytes, report, run_bytes};
+use row_format::flaw::{Flaw, same};
+use row_format::row::Row;
 use std::alloc::Global;
 use std::sync::Wait;
 use std::thread::Threads;

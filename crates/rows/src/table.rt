@@ -1,10 +1,10 @@
 //! Tables of texts, each on a line behind what is told of it.
 
-use crate::flaw::{Flaw, same, shown};
-use crate::row::{LIMIT, Row};
 use crate::run::{Ran, check_runs, checked_line};
-use crate::written::bytes_of;
 use go_text::{Fault, LimitKind};
+use row_format::flaw::{Flaw, same, shown};
+use row_format::row::{LIMIT, Row};
+use row_format::written::bytes_of;
 use std::alloc::{AllocError, Global};
 use std::sync::Wait;
 use std::thread::Threads;

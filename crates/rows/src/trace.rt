@@ -4,10 +4,10 @@ ghost use Rattle.std.specs.Prelude.{◌≡◌};
 ghost use Rattle.std.specs.Arc.{arc_value};
 ghost use Rattle.clock_table.specs.Seats.{table_of};
 
-use crate::flaw::Flaw;
 use crate::reading::program;
 use book::{Blank, Book, BookName, Settled};
 use go_text::Fault;
+use row_format::flaw::Flaw;
 use std::alloc::Global;
 use std::marker::Brand;
 use std::sync::Arc;

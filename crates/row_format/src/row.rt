@@ -4,11 +4,11 @@ use crate::flaw::Flaw;
 use std::alloc::{AllocError, Global};
 
 /// The clock limit where a row tells none.
-pub(crate) const LIMIT: u64 = 1_099_511_627_776;
+pub const LIMIT: u64 = 1_099_511_627_776;
 
 /// How a text is run, and what is to come of it besides its output.
 #[derive(Drop)]
-pub(crate) struct Row {
+pub struct Row {
     /// The clock limit.
     pub limit: u64,
     /// The numbers of workers, with each of which the text is run.
@@ -21,7 +21,7 @@ pub(crate) struct Row {
 
 impl Row {
     /// The row that tells nothing: a run that finishes.
-    pub(crate) fn new(alloc: Global) -> Result<Row, AllocError> {
+    pub fn new(alloc: Global) -> Result<Row, AllocError> {
         Ok(Row {
             limit: LIMIT,
             workers: Vec::from_slice(alloc, &[1, 2, 64])?,
@@ -31,7 +31,7 @@ impl Row {
     }
 
     /// What the lines of a `.row` tell.
-    pub(crate) fn parse(alloc: Global, text: &str) -> Result<Row, Flaw> {
+    pub fn parse(alloc: Global, text: &str) -> Result<Row, Flaw> {
         let mut row = Row::new(alloc)?;
         for (before, line) in text.lines().enumerate() {
             if !row.take(alloc, line)? {

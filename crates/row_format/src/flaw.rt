@@ -13,7 +13,7 @@ const BEFORE: usize = 20;
 
 /// Why a file of rows fails.
 #[derive(Debug, Drop, Error)]
-pub(crate) enum Flaw {
+pub enum Flaw {
     /// A folder has no rows in its folders.
     #[error("it has no rows")]
     NoRows,
@@ -85,7 +85,7 @@ impl<T: Drop> From<AllocFailed<T>> for Flaw {
 }
 
 /// Compares what came with what was wanted; `what` names it.
-pub(crate) fn same(alloc: Global, what: &str, wanted: &[u8], came: &[u8]) -> Result<(), Flaw> {
+pub fn same(alloc: Global, what: &str, wanted: &[u8], came: &[u8]) -> Result<(), Flaw> {
     if wanted == came {
         return Ok(());
     }
@@ -100,7 +100,7 @@ pub(crate) fn same(alloc: Global, what: &str, wanted: &[u8], came: &[u8]) -> Res
 }
 
 /// Some bytes in quotes, from shortly before a place on.
-pub(crate) fn shown(alloc: Global, bytes: &[u8], at: usize) -> Result<String, AllocError> {
+pub fn shown(alloc: Global, bytes: &[u8], at: usize) -> Result<String, AllocError> {
     let from = at.saturating_sub(BEFORE).min(bytes.len());
     let rest = &bytes[from..];
     let piece = String::from_utf8_lossy(alloc, &rest[..rest.len().min(SHOWN)])?;

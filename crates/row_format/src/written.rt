@@ -5,7 +5,7 @@ use std::alloc::Global;
 
 /// The bytes that a written text stands for: `\n`, `\t` and `\\`, `\xHH` for one byte, `\N<PIECE>` for N times the piece as
 /// it stands, and all else for itself.
-pub(crate) fn bytes_of(alloc: Global, written: &str) -> Result<Vec<u8>, Flaw> {
+pub fn bytes_of(alloc: Global, written: &str) -> Result<Vec<u8>, Flaw> {
     let mut bytes = Vec::new(alloc);
     let mut is_escape = false;
     for piece in written.split('\\') {

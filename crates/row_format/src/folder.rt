@@ -9,13 +9,15 @@ use std::{fs, io};
 
 /// What a file of a row is, by its extension.
 #[derive(Clone, Copy, PartialEq, Eq)]
-pub(crate) enum FileKind {
+pub enum FileKind {
     /// `.go`: a text.
     Text,
     /// `.gen`: a text as it is written.
     Generated,
     /// `.texts`: a table of texts.
     Table,
+    /// `.words`: a table of command lines.
+    Words,
     /// `.row`: how a text is run, and how that ends.
     Row,
     /// `.out`: what its run writes.
@@ -28,7 +30,7 @@ pub(crate) enum FileKind {
 
 /// What is made of a text.
 #[derive(Clone, Copy, PartialEq, Eq)]
-pub(crate) enum Made {
+pub enum Made {
     /// `.explained`: what `--explain` says of it.
     Explanation,
     /// `.list`: the listing of its code.
@@ -46,6 +48,7 @@ impl FileKind {
             "go" => Some(FileKind::Text),
             "gen" => Some(FileKind::Generated),
             "texts" => Some(FileKind::Table),
+            "words" => Some(FileKind::Words),
             "row" => Some(FileKind::Row),
             "out" => Some(FileKind::Output),
             "explained" => Some(FileKind::Made(Made::Explanation)),
@@ -55,6 +58,11 @@ impl FileKind {
             "trace" => Some(FileKind::Trace),
             _ => None,
         }
+    }
+
+    /// Whether such a file has lines that are each looked at for themselves.
+    pub fn has_lines(self) -> bool {
+        matches!(self, FileKind::Table | FileKind::Words)
     }
 
     /// Whether such a file tells something of the text beside it.
@@ -68,7 +76,7 @@ impl FileKind {
 
 /// A file of a folder: `TEXT.EXTENSION`, or `TEXT.CASE.EXTENSION` where a text has several rows.
 #[derive(Clone, Copy)]
-pub(crate) struct RowFile<'a> {
+pub struct RowFile<'a> {
     folder: &'a str,
     /// The name without its extension.
     stem: &'a str,
@@ -78,7 +86,7 @@ pub(crate) struct RowFile<'a> {
 
 impl<'a> RowFile<'a> {
     /// The file of this name, if rows have such files.
-    pub(crate) fn new(folder: &'a str, name: &'a str) -> Option<RowFile<'a>> {
+    pub fn new(folder: &'a str, name: &'a str) -> Option<RowFile<'a>> {
         let (stem, extension) = name.rsplit_once('.')?;
         let kind = FileKind::of(extension)?;
         Some(RowFile {
@@ -90,7 +98,7 @@ impl<'a> RowFile<'a> {
     }
 
     /// The name of its text.
-    pub(crate) fn text_name(&self) -> &'a str {
+    pub fn text_name(&self) -> &'a str {
         match self.stem.split_once('.') {
             Some((text, _)) => text,
             None => self.stem,
@@ -98,7 +106,7 @@ impl<'a> RowFile<'a> {
     }
 
     /// Whether one of these files of its folder tells something of this text.
-    pub(crate) fn is_told(&self, names: &[String]) -> bool {
+    pub fn is_told(&self, names: &[String]) -> bool {
         names.iter().any(|name| match RowFile::new(self.folder, name.as_str()) {
             Some(other) => other.kind.tells() && other.text_name() == self.stem,
             None => false,
@@ -106,7 +114,7 @@ impl<'a> RowFile<'a> {
     }
 
     /// Its text.
-    pub(crate) fn text<R: Files + AllocGlobal>(&self, rt: &R) -> Result<Vec<u8>, Flaw> {
+    pub fn text<R: Files + AllocGlobal>(&self, rt: &R) -> Result<Vec<u8>, Flaw> {
         if let Some(text) = self.read(rt, self.text_name(), "go")? {
             return Ok(text);
         }
@@ -117,7 +125,7 @@ impl<'a> RowFile<'a> {
     }
 
     /// The file beside it of the same name, but for this extension.
-    pub(crate) fn beside<R: Files + AllocGlobal>(
+    pub fn beside<R: Files + AllocGlobal>(
         &self,
         rt: &R,
         extension: &str,
@@ -126,7 +134,7 @@ impl<'a> RowFile<'a> {
     }
 
     /// The file itself.
-    pub(crate) fn bytes<R: Files + AllocGlobal>(&self, rt: &R) -> Result<Vec<u8>, Flaw> {
+    pub fn bytes<R: Files + AllocGlobal>(&self, rt: &R) -> Result<Vec<u8>, Flaw> {
         match self.read(rt, self.stem, self.extension)? {
             Some(bytes) => Ok(bytes),
             None => Err(Flaw::Stranger),
@@ -134,7 +142,7 @@ impl<'a> RowFile<'a> {
     }
 
     /// What is told of its runs.
-    pub(crate) fn row<R: Files + AllocGlobal>(&self, rt: &R) -> Result<Row, Flaw> {
+    pub fn row<R: Files + AllocGlobal>(&self, rt: &R) -> Result<Row, Flaw> {
         match self.beside(rt, "row")? {
             Some(lines) => Row::parse(rt.alloc(), utf8(lines)?.as_str()),
             None => Ok(Row::new(rt.alloc())?),
@@ -168,12 +176,12 @@ fn generated(alloc: Global, written: Vec<u8>) -> Result<Vec<u8>, Flaw> {
 }
 
 /// The text of a file that is no program.
-pub(crate) fn utf8(bytes: Vec<u8>) -> Result<String, Flaw> {
+pub fn utf8(bytes: Vec<u8>) -> Result<String, Flaw> {
     String::from_utf8(bytes).map_err(|_| Flaw::NotUtf8)
 }
 
 /// The names of what lies in a folder, sorted.
-pub(crate) fn names<R: Files + AllocGlobal + Clone + Drop>(
+pub fn names<R: Files + AllocGlobal + Clone + Drop>(
     rt: &R,
     folder: &str,
 ) -> io::Result<Vec<String>> {

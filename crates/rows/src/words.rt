@@ -1,0 +1,47 @@
+//! Command lines, and what comes of each.
+
+use command_line::arguments::{command, invocation_of};
+use row_format::flaw::{Flaw, same};
+use row_format::written::bytes_of;
+use std::alloc::{AllocError, Global};
+
+/// Takes a line: an empty one or a comment; or sees whether what a line tells of its words comes of them.
+pub(crate) fn check_words(alloc: Global, line: &str) -> Result<(), Flaw> {
+    if line.is_empty() || line.starts_with('#') {
+        return Ok(());
+    }
+    let Some((words, told)) = line.split_once('\t') else {
+        return Err(Flaw::Form);
+    };
+    check_answer(alloc, words, &bytes_of(alloc, told)?)
+}
+
+/// Sees whether what comes of words begins so.
+fn check_answer(alloc: Global, words: &str, wanted: &[u8]) -> Result<(), Flaw> {
+    let came = answer(alloc, words)?;
+    let came = came.as_bytes();
+    let beginning = &came[..came.len().min(wanted.len())];
+    same(alloc, "what comes of the words", wanted, beginning)
+}
+
+/// What the words ask for, or what is shown of them, behind the stream on which it is.
+fn answer(alloc: Global, line: &str) -> Result<String, AllocError> {
+    let words: Vec<&str> = line.split(' ').collect(alloc)?;
+    match command(alloc)?.try_get_matches_from(words.as_slice()) {
+        Ok(matches) => {
+            let asked = invocation_of(&matches);
+            format!(in alloc; "{asked:?}")
+        }
+        Err(error) => shown(alloc, &error),
+    }
+}
+
+/// What is shown of a command line that asks for nothing.
+fn shown(alloc: Global, error: &clap::Error) -> Result<String, AllocError> {
+    let stream = if error.use_stderr() {
+        "stderr"
+    } else {
+        "stdout"
+    };
+    format!(in alloc; "{stream} {error}")
+}
