@@ -115,11 +115,13 @@ fn names(alloc: Global, code: &Code) -> Result<Vec<String>, AllocError> {
 fn next<B: BookName>(book: &mut Book<B>) -> Result<Settled, Memory>
     ensures { IfOk result (λ settled. Comes book.old settled book.new) }
 {
-    let settled = book.settle()?;
-    if matches!(&settled, Settled::Waiting(_)) {
-        go_on(book)?;
+    match book.settle()? {
+        Settled::Waiting(number) => {
+            go_on(book)?;
+            Ok(Settled::Waiting(number))
+        }
+        settled => Ok(settled),
     }
-    Ok(settled)
 }
 
 /// The goroutine of least key makes local steps, up to a request.
