@@ -28,6 +28,7 @@ fn accepted_words(rt: HostRuntime) -> Result<(), Fail> {
         let wanted = Invocation {
             file,
             trace,
+            out: None,
             explains: false,
             subcommand,
         };
@@ -48,6 +49,12 @@ fn accepted_commands_of_a_file(rt: HostRuntime) -> Result<(), Fail> {
                 limit: 1_099_511_627_776,
             },
         ),
+        (
+            "timeline",
+            Subcommand::Timeline {
+                limit: 1_099_511_627_776,
+            },
+        ),
     ] {
         let words = ["kendo", name, file];
         let Ok(matches) = command(rt.alloc())?.try_get_matches_from(words.as_slice()) else {
@@ -59,6 +66,7 @@ fn accepted_commands_of_a_file(rt: HostRuntime) -> Result<(), Fail> {
         let wanted = Invocation {
             file,
             trace: None,
+            out: None,
             explains: false,
             subcommand,
         };
@@ -135,6 +143,12 @@ fn shown_texts(rt: HostRuntime) -> Result<(), Fail> {
             true,
             "error: unexpected argument '--trace' found",
         ),
+        (
+            "kendo run a.go --out b.svg",
+            true,
+            "error: unexpected argument '--out' found",
+        ),
+        ("kendo --version", false, "kendo 0.1.0"),
         (
             "kendo --help",
             false,
