@@ -39,8 +39,9 @@ both_parts {A = A} {B = B} f g (Some x) a b first second =
 pub asked : (found : Option (Text × List Row)) (name : Text) (rows : List Row) (invocation : Invocation) → found ≡ Some (name, rows)
     → Does name rows invocation.subcommand → Some invocation.file.now ≡ first_of (codes "FILE") rows
     → option_map (λ path. path.now) invocation.trace ≡ first_of (codes "trace") rows
+    → option_map (λ path. path.now) invocation.out ≡ first_of (codes "out") rows
     → (IsTrue invocation.explains ↔ (first_of (codes "explain") rows ≡ Some (codes "true"))) → IsAsked found (Some invocation)
-asked found name rows invocation is does file trace explains = subst (λ x. IsAsked x (Some invocation)) (sym is) (does, sym file, sym trace, explains)
+asked found name rows invocation is does file trace out explains = subst (λ x. IsAsked x (Some invocation)) (sym is) (does, sym file, sym trace, sym out, explains)
 
 -- without a file it asks for nothing
 pub not_asked : (found : Option (Text × List Row)) (name : Text) (rows : List Row) → found ≡ Some (name, rows)

@@ -60,11 +60,27 @@ plain_run = with_rule (with_rule (with_rule (with_rule (new_app (codes "run")) f
 abbrev pub run : App
 run = with_rule plain_run explain
 
--- one of the four has to be there
+-- which file a picture goes to
+abbrev pub out : Rule
+out = record (new_rule (codes "out")) { long = Some (codes "out"); value_names = 1 }
+
+-- kendo timeline FILE [--limit L] [--out OUT]
+abbrev pub timeline : App
+timeline = with_rule (with_rule (with_rule (new_app (codes "timeline")) file) limit) out
+
+-- a command has to be there; kendo --version tells the version
+abbrev pub named : App
+named =
+    let plain = new_app (codes "kendo") in
+    record plain { top = record plain.top { subcommand_required = true; has_version = true } }
+
+-- the commands that make no run of the code
+abbrev pub first_commands : App
+first_commands = with_subcommand (with_subcommand (with_subcommand named check.top) list.top) reference.top
+
+-- all five
 abbrev pub kendo : App
-kendo =
-    let named = new_app (codes "kendo") in
-    with_subcommand (with_subcommand (with_subcommand (with_subcommand (record named { top = record named.top { subcommand_required = true } }) check.top) list.top) reference.top) run.top
+kendo = with_subcommand (with_subcommand first_commands timeline.top) run.top
 
 -- no argument of the command is taken by its subcommands too
 abbrev pub IsLocal : Command → Type 0
@@ -82,14 +98,16 @@ abbrev pub Does : (name : Text) → List Row → Subcommand → Type 0
 Does name rows subcommands.Check = name ≡ codes "check"
 Does name rows subcommands.List = name ≡ codes "list"
 Does name rows (subcommands.Reference limit) = (name ≡ codes "reference") × IsNumber (one_of (codes "limit") rows) limit
+Does name rows (subcommands.Timeline limit) = (name ≡ codes "timeline") × IsNumber (one_of (codes "limit") rows) limit
 Does name rows (subcommands.Run workers limit) =
     (name ≡ codes "run") × IsNumber (one_of (codes "workers") rows) workers × IsNumber (one_of (codes "limit") rows) limit
 
--- the same with the file, with the file of the trace where one was named, and whether what is wrong is explained
+-- the same with the file, with the files of the trace and of the picture where they were named, and whether what is wrong is explained
 abbrev pub Asks : Text × List Row → Invocation → Type 0
 Asks (name, rows) invocation =
     Does name rows invocation.subcommand × (first_of (codes "FILE") rows ≡ Some invocation.file.now)
     × (first_of (codes "trace") rows ≡ option_map (λ path. path.now) invocation.trace)
+    × (first_of (codes "out") rows ≡ option_map (λ path. path.now) invocation.out)
     × (IsTrue invocation.explains ↔ (first_of (codes "explain") rows ≡ Some (codes "true")))
 
 -- the number that the text is, or none where it is no number

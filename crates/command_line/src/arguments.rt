@@ -2,10 +2,28 @@
 
 ghost use Rattle.std.specs.Prelude.{◌≡◌, ◌↔◌, false, codes, IfOk, IsTrue, Some};
 ghost use Rattle.clap.specs.Words.{app_of, first_of, found_of, one_of, rows_of, rule_of, subcommand_rows_of, with_rule};
-ghost use Rattle.command_line.specs.CommandLine.{IsAsked, IsDone, IsLocal, IsNumberThere, check, explain, file, kendo, limit, list, number, plain_run, reference, run, trace, workers};
+ghost use Rattle.command_line.specs.CommandLine.{IsAsked, IsDone, IsLocal, IsNumberThere, check, explain, file, first_commands, kendo, limit, list, named, number, out, plain_run, reference, run, timeline, trace, workers};
 
 use clap::{Arg, ArgAction, ArgMatches, Command, value_parser};
 use std::alloc::{AllocError, Global};
+
+/// The version of the program.
+const VERSION: &str = "0.1.0";
+
+/// What refusals and exit statuses mean.
+const STATUSES: &str =
+    "A text that is refused is told by a number: 1 TooLong, 2 NotUtf8, 3 BadCharacter, 4 BadNumber, 5 OpenString,\n\
+6 OpenComment, 7 Syntax, 8 TooDeep, 9 Type rule R (1 to 20), 10 Limit kind K (1 to 6), and where it is: --explain\n\
+tells it in words. docs/LANGUAGE.md lists the rules and the limits.\n\n\
+Exit status:\n  \
+0   the program finished, or its text was checked, listed or drawn\n  \
+1   the text is refused\n  \
+2   the program panicked, for a reason P1 to P9\n  \
+3   deadlock: every goroutine waits\n  \
+4   the limit of logical time was reached\n  \
+5   want of memory (13)\n  \
+6   an output refused bytes (14)\n  \
+64  the command line, a number of workers (15), a limit (16) or a file can't be used";
 
 /// A command line that was accepted: what is done with which file.
 #[derive(Clone, Copy, Debug, PartialEq, Eq)]
@@ -14,6 +32,8 @@ pub struct Invocation<'a> {
     pub file: &'a str,
     /// The path of the file that the trace goes to, as it was typed, where it was.
     pub trace: Option<&'a str>,
+    /// The path of the file that a picture goes to, as it was typed, where it was.
+    pub out: Option<&'a str>,
     /// Whether it is also told in a sentence what is wrong with the text.
     pub explains: bool,
     /// What is done with it.
@@ -30,6 +50,11 @@ pub enum Subcommand {
     /// It is interpreted as it stands.
     Reference {
         /// The last logical time; the interpreter judges whether it is 1 to 2^62.
+        limit: u64,
+    },
+    /// A picture is made of its run.
+    Timeline {
+        /// The last logical time; the recording judges whether it is 1 to 2^62.
         limit: u64,
     },
     /// It is run.
@@ -110,6 +135,16 @@ fn trace_argument<'a>(alloc: Global) -> Arg<'a>
         .help("Writes each operation with its logical time to this file")
 }
 
+/// The option that names the file which a picture of a run goes to.
+fn out_argument<'a>(alloc: Global) -> Arg<'a>
+    ensures rule { rule_of result ≡ out }
+    ensures local { result.global ≡ false }
+{
+    Arg::new(alloc, "out").long("out").value_name("OUT").help(
+        "Writes the picture to this file, as JSON where it ends in .json, else as SVG",
+    )
+}
+
 /// The option that asks for a sentence on what is wrong.
 fn explain_argument<'a>(alloc: Global) -> Arg<'a>
     ensures rule { rule_of result ≡ explain }
@@ -162,6 +197,18 @@ fn reference_command<'a>(alloc: Global) -> Result<Command<'a>, AllocError>
     explained(alloc, command)
 }
 
+/// The command that makes a picture of a run.
+fn timeline_command<'a>(alloc: Global) -> Result<Command<'a>, AllocError>
+    ensures app { IfOk result (λ c. app_of c ≡ timeline) }
+    ensures local { IfOk result IsLocal }
+{
+    Command::new(alloc, "timeline")
+        .about("Makes a picture of a run")
+        .arg(file_argument(alloc))?
+        .arg(limit_argument(alloc))?
+        .arg(out_argument(alloc))
+}
+
 /// The command that runs a program.
 fn run_command<'a>(alloc: Global) -> Result<Command<'a>, AllocError>
     ensures app { IfOk result (λ c. app_of c ≡ run) }
@@ -188,17 +235,33 @@ fn plain_run_command<'a>(alloc: Global) -> Result<Command<'a>, AllocError>
 pub fn command<'a>(alloc: Global) -> Result<Command<'a>, AllocError>
     ensures { IfOk result (λ c. app_of c ≡ kendo) }
 {
+    let timeline = timeline_command(alloc)?;
+    let run = run_command(alloc)?;
+    first_commands(alloc)?.subcommand(timeline)?.subcommand(run)
+}
+
+/// The same with the commands alone that make no run of the code.
+fn first_commands<'a>(alloc: Global) -> Result<Command<'a>, AllocError>
+    ensures { IfOk result (λ c. app_of c ≡ first_commands) }
+{
     let check = check_command(alloc)?;
     let list = list_command(alloc)?;
     let reference = reference_command(alloc)?;
-    let run = run_command(alloc)?;
-    Command::new(alloc, "kendo")
-        .about("Compiles and runs programs of a Go subset")
-        .subcommand_required(true)
+    named_command(alloc)
         .subcommand(check)?
         .subcommand(list)?
-        .subcommand(reference)?
-        .subcommand(run)
+        .subcommand(reference)
+}
+
+/// The same with no command, of which one has to be there.
+fn named_command<'a>(alloc: Global) -> Command<'a>
+    ensures { app_of result ≡ named }
+{
+    Command::new(alloc, "kendo")
+        .about("Compiles and runs programs of a Go subset")
+        .version(VERSION)
+        .after_help(STATUSES)
+        .subcommand_required(true)
 }
 
 /// The number that an option has.
@@ -228,6 +291,9 @@ fn subcommand_named(name: &str, matches: &ArgMatches<'_>) -> Option<Subcommand>
         "reference" => Some(Subcommand::Reference {
             limit: option_number(matches, "limit")?,
         }),
+        "timeline" => Some(Subcommand::Timeline {
+            limit: option_number(matches, "limit")?,
+        }),
         "run" => Some(Subcommand::Run {
             workers: option_number(matches, "workers")?,
             limit: option_number(matches, "limit")?,
@@ -243,10 +309,12 @@ pub fn invocation_of<'a>(matches: &ArgMatches<'a>) -> Option<Invocation<'a>>
     let (name, matches) = matches.subcommand()?;
     let subcommand = subcommand_named(name, matches)?;
     let trace = matches.get_str("trace");
+    let out = matches.get_str("out");
     let explains = is_set(matches, "explain");
     Some(Invocation {
         file: matches.get_str("FILE")?,
         trace,
+        out,
         explains,
         subcommand,
     })

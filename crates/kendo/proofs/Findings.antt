@@ -60,6 +60,20 @@ reference_finds limit text (Ok end) ends only refused why write bad_limit = ends
 reference_finds limit text (Err fault) ends (inl is) refused why write bad_limit = unreadable (subcommands.Reference limit) text fault is (refused is) (why is)
 reference_finds limit text (Err fault) ends (inr is) refused why write bad_limit = reference_reason limit text fault is write bad_limit
 
+-- a fault of a recording that is no refusal of the text
+timeline_reason : (limit : ℕ) (text : List ℕ) (fault : Fault) → (fault ≡ faults.Memory) ⊎ ((fault ≡ faults.Write) ⊎ (fault ≡ faults.BadLimit)) → (IsErrOf {T = End} (Err fault) faults.Write → HasReading text)
+    → (IsErrOf {T = End} (Err fault) faults.BadLimit → IsLimit limit → ⊥) → IsReason (subcommands.Timeline limit) text fault
+timeline_reason limit text fault (inl is) write bad_limit = subst (IsReason (subcommands.Timeline limit) text) (sym is) tt
+timeline_reason limit text fault (inr (inl is)) write bad_limit = subst (IsReason (subcommands.Timeline limit) text) (sym is) (write (ap (λ (f : Fault). Err f) is))
+timeline_reason limit text fault (inr (inr is)) write bad_limit = subst (IsReason (subcommands.Timeline limit) text) (sym is) (bad_limit (ap (λ (f : Fault). Err f) is))
+
+pub timeline_finds : (limit : ℕ) (text : List ℕ) (result : Result End Fault) → IfOk result (λ end. (end ≡ Finished) × IsLimit limit × HasReading text)
+    → IfErr result (λ fault. IsRefusal fault ⊎ ((fault ≡ faults.Memory) ⊎ ((fault ≡ faults.Write) ⊎ (fault ≡ faults.BadLimit)))) → IfErr result (λ fault. IsRefusal fault → HasNoReading text)
+    → IfErr result (λ fault. IsRefusal fault → IsWhy text fault) → (IsErrOf result faults.Write → HasReading text) → (IsErrOf result faults.BadLimit → IsLimit limit → ⊥) → Finds (subcommands.Timeline limit) text result
+timeline_finds limit text (Ok end) ends only refused why write bad_limit = ends
+timeline_finds limit text (Err fault) ends (inl is) refused why write bad_limit = unreadable (subcommands.Timeline limit) text fault is (refused is) (why is)
+timeline_finds limit text (Err fault) ends (inr is) refused why write bad_limit = timeline_reason limit text fault is write bad_limit
+
 -- a fault of a run that is no refusal of the text
 run_reason : (workers limit : ℕ) (text : List ℕ) (fault : Fault) → (fault ≡ faults.Memory) ⊎ ((fault ≡ faults.Write) ⊎ ((fault ≡ faults.BadWorkers) ⊎ (fault ≡ faults.BadLimit))) → (IsErrOf {T = End} (Err fault) faults.Write → HasReading text)
     → (IsErrOf {T = End} (Err fault) faults.BadWorkers → IsWorkers workers → ⊥) → (IsErrOf {T = End} (Err fault) faults.BadLimit → IsWorkers workers × (IsLimit limit → ⊥)) → IsReason (subcommands.Run workers limit) text fault

@@ -43,7 +43,8 @@ shown app words e (Err x) is f memory shows = shows
 shown_status : (kind : ErrorKind) (status : ℕ) → ShowsAs kind status → IsStatus status
 shown_status kinds.DisplayHelp status (inl is) = inl (omega (arith, is))
 shown_status kinds.DisplayHelp status (inr is) = inl (omega (arith, is))
-shown_status kinds.DisplayVersion status is = is
+shown_status kinds.DisplayVersion status (inl is) = inl (omega (arith, is))
+shown_status kinds.DisplayVersion status (inr is) = inl (omega (arith, is))
 shown_status kinds.InvalidValue status is = inr is
 shown_status kinds.UnknownArgument status is = inr is
 shown_status kinds.InvalidSubcommand status is = inr is

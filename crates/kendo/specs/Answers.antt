@@ -39,6 +39,8 @@ IsReason subcommands.Check text faults.BadWorkers = ⊥
 IsReason subcommands.Check text faults.BadLimit = ⊥
 IsReason (subcommands.Reference limit) text faults.BadWorkers = ⊥
 IsReason (subcommands.Reference limit) text faults.BadLimit = IsLimit limit → ⊥
+IsReason (subcommands.Timeline limit) text faults.BadWorkers = ⊥
+IsReason (subcommands.Timeline limit) text faults.BadLimit = IsLimit limit → ⊥
 IsReason subcommand text faults.Write = HasReading text
 IsReason subcommands.List text faults.BadWorkers = ⊥
 IsReason subcommands.List text faults.BadLimit = ⊥
@@ -48,11 +50,12 @@ IsReason subcommand text (faults.Unverified rule function place) = ⊥
 IsReason subcommand text faults.NotYours = ⊥
 IsReason subcommand text fault = HasNoReading text × IsWhy text fault
 
--- what the command finds in the text: that it has a reading, or how its run ends, or why neither
+-- what the command finds in the text: that it has a reading, or that a picture was made of its run, or how its run ends, or why none of these
 abbrev pub Finds : Subcommand → List ℕ → Result End Fault → Type 0
 Finds subcommands.Check text (Ok end) = (end ≡ Finished) × HasReading text
 Finds subcommands.List text (Ok end) = (end ≡ Finished) × HasReading text
 Finds (subcommands.Reference limit) text (Ok end) = IsLimit limit × EndsAs text limit end
+Finds (subcommands.Timeline limit) text (Ok end) = (end ≡ Finished) × IsLimit limit × HasReading text
 Finds (subcommands.Run workers limit) text (Ok end) = IsWorkers workers × IsLimit limit × EndsAs text limit end
 Finds subcommand text (Err fault) = IsReason subcommand text fault
 
@@ -64,10 +67,10 @@ Tells subcommand status = (text : List ℕ) × (outcome : Result End Fault) × F
 abbrev pub IsStatus : ℕ → Type 0
 IsStatus status = (status ≤ 6) ⊎ (status ≡ 64)
 
--- the exit status where help was asked for, or the words are refused for another reason
+-- the exit status where help or the version was asked for, or the words are refused for another reason
 abbrev pub ShowsAs : ErrorKind → ℕ → Type 0
 ShowsAs kinds.DisplayHelp status = (status ≡ 0) ⊎ (status ≡ 6)
-ShowsAs kinds.DisplayVersion status = IsStatus status
+ShowsAs kinds.DisplayVersion status = (status ≡ 0) ⊎ (status ≡ 6)
 ShowsAs kind status = status ≡ 64
 
 -- the exit status of a command line

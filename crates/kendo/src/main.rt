@@ -8,6 +8,8 @@ ghost use Rattle.kendo_base.specs.Reading.{HasNoReading, IsOfText, IsRefusal, Is
 ghost use Rattle.worker_pool.specs.Runs.{IsWorkers};
 ghost use Rattle.one_thread.specs.Worlds.{IsLimit};
 
+mod pictures;
+mod suggestion;
 mod tracing;
 
 use clap::error::ErrorKind;
@@ -16,6 +18,7 @@ use diagnostic::explanation;
 use go_text::source::MAX_LENGTH;
 use go_text::{Fault, Memory};
 use kendo_base::{Gate, check_bytes, list_bytes, reference_bytes, report, run_bytes};
+use pictures::{Format, format_of, picture};
 use std::alloc::Global;
 use std::fs::File;
 use std::io::{BufWriter, Read as _, Write as _};
@@ -23,6 +26,7 @@ use std::process::ExitCode;
 use std::sync::Wait;
 use std::thread::Threads;
 use std::{env, io};
+use suggestion::suggest;
 use tracing::{Trace, close, create};
 use word::Flagged;
 use word::end::End;
@@ -96,12 +100,17 @@ fn obey(
             Some(invocation) => perform(rt, leave, alloc, &invocation),
             None => Ok(USAGE),
         },
-        Err(error) => show(rt, &error),
+        Err(error) => show(rt, alloc, words, &error),
     }
 }
 
 /// Shows help on standard output, or what is wrong with the command line on standard error.
-fn show(rt: &HostRuntime, error: &clap::Error) -> Result<u8, Memory>
+fn show(
+    rt: &HostRuntime,
+    alloc: Global,
+    words: &[String],
+    error: &clap::Error,
+) -> Result<u8, Memory>
     ensures memory { IsErr result ↔ (kind_of error.now ≡ ErrorKind.OutOfMemory) }
     ensures shown { IfOk result (λ status. ShowsAs (kind_of error.now) status) }
 {
@@ -110,6 +119,7 @@ fn show(rt: &HostRuntime, error: &clap::Error) -> Result<u8, Memory>
     }
     let printed = error.print(rt);
     if error.use_stderr() {
+        suggest(rt, alloc, words, error);
         return Ok(USAGE);
     }
     match printed {
@@ -121,8 +131,8 @@ fn show(rt: &HostRuntime, error: &clap::Error) -> Result<u8, Memory>
     }
 }
 
-/// Checks, lists, interprets or runs the file, and tells how it ended. The file of a trace is created once the text was read,
-/// before anything is judged.
+/// Checks, lists, interprets, draws or runs the file, and tells how it ended. The file of a trace or of a picture is created once
+/// the text was read, before anything is judged.
 fn perform(
     rt: &HostRuntime,
     leave: &(impl Threads + Wait + Sync),
@@ -139,7 +149,7 @@ fn perform(
             return Ok(USAGE);
         }
     };
-    let Some(path) = invocation.trace else {
+    let Some(path) = invocation.trace.or(invocation.out) else {
         return answer(rt, leave, alloc, invocation, bytes, Trace::Dropped);
     };
     match create(rt, alloc, path) {
@@ -181,7 +191,16 @@ fn answer(
     ensures { IfOk result (λ status. (status ≡ USAGE) ⊎ Tells invocation.now.subcommand status) }
 {
     let kept = kept_text(alloc, invocation, bytes.as_slice());
-    let outcome = find(rt, leave, alloc, invocation.subcommand, bytes, trace);
+    let format = format_of(invocation.out);
+    let outcome = find(
+        rt,
+        leave,
+        alloc,
+        invocation.subcommand,
+        bytes,
+        trace,
+        format,
+    );
     let (line, status) = report(alloc, &outcome)?;
     tell(rt, line.as_slice());
     explain(rt, alloc, invocation.file, kept, &outcome);
@@ -216,7 +235,7 @@ fn explain(
     }
 }
 
-/// What the command finds in the text, which it checks, lists, interprets or runs.
+/// What the command finds in the text, which it checks, lists, interprets, draws or runs.
 #[tactic(auto, using(crate::proofs::Findings::check_finds, crate::proofs::Findings::list_finds))]
 fn find(
     rt: &HostRuntime,
@@ -225,6 +244,7 @@ fn find(
     subcommand: Subcommand,
     bytes: Vec<u8>,
     trace: Trace,
+    format: Format,
 ) -> Result<End, Fault>
     ensures { Finds subcommand bytes.items result }
 {
@@ -232,6 +252,7 @@ fn find(
         Subcommand::Check => check(alloc, bytes),
         Subcommand::List => list(rt, alloc, bytes),
         Subcommand::Reference { limit } => interpret(rt, alloc, bytes, limit),
+        Subcommand::Timeline { limit } => picture(rt, alloc, bytes, limit, format, trace),
         Subcommand::Run { workers, limit } => run(rt, leave, alloc, bytes, workers, limit, trace),
     }
 }

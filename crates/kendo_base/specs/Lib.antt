@@ -1,3 +1,4 @@
 pub mod Outcome
 pub mod Reading
 pub mod Listed
+pub mod Recorded

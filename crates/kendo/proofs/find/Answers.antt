@@ -1,7 +1,7 @@
 use Rattle.std.proofs.Common.{sym, subst}
 use Rattle.kendo.specs.Answers.{Finds}
 use Rattle.command_line.specs.declared.arguments.Subcommand.{Subcommand}
-use Rattle.kendo.proofs.Findings.{reference_finds, run_finds}
+use Rattle.kendo.proofs.Findings.{reference_finds, run_finds, timeline_finds}
 use Rattle.kendo.proofs.find.Goals as goal
 
 pub returns-in-Run : goal.returns-in-Run
@@ -15,3 +15,9 @@ returns-in-Reference g c =
     let r = c.interpret.ensures in
     let text = c.args.bytes.items in
     subst (λ (s : Subcommand). Finds s text c.interpret.result) (sym c.in-Reference.is) (reference_finds c.in-Reference.limit text c.interpret.result r.ends r.only r.refused r.why r.write r.limit)
+
+pub returns-in-Timeline : goal.returns-in-Timeline
+returns-in-Timeline g c =
+    let r = c.picture.ensures in
+    let text = c.args.bytes.items in
+    subst (λ (s : Subcommand). Finds s text c.picture.result) (sym c.in-Timeline.is) (timeline_finds c.in-Timeline.limit text c.picture.result r.pictured r.only r.refused r.why r.write r.limit)

@@ -14,4 +14,5 @@ pub returns : goal.returns
 returns c =
     let found = both_parts _ _ _ _ _ (ap (option_map (λ p. p.0.now)) (sym (c.in_ok-name.was)) ∙ c.subcommand.ensures.name) (ap (option_map (λ p. rows_of (found_of p.1.now))) (sym (c.in_ok-name.was)) ∙ c.subcommand.ensures.rows) in
     asked _ _ _ _ found (search rules) (ap (option_map (λ s. s.now)) (sym (c.in_ok-get_str.was)) ∙ c.get_str.ensures ∙ first_value-rows (found_of c.in_ok-name.matches.now) (codes "FILE"))
-    (c.get_str-trace.ensures ∙ first_value-rows (found_of c.in_ok-name.matches.now) (codes "trace")) c.is_set-explains.ensures
+    (c.get_str-trace.ensures ∙ first_value-rows (found_of c.in_ok-name.matches.now) (codes "trace"))
+    (c.get_str-out.ensures ∙ first_value-rows (found_of c.in_ok-name.matches.now) (codes "out")) c.is_set-explains.ensures

@@ -1,0 +1,30 @@
+# Completion of `kendo` for bash: source this file, or put it into a folder of bash-completion as `kendo`.
+
+_kendo() {
+    local current=${COMP_WORDS[COMP_CWORD]} previous=${COMP_WORDS[COMP_CWORD - 1]} options=
+    COMPREPLY=()
+    if [ "$COMP_CWORD" -eq 1 ]; then
+        mapfile -t COMPREPLY < <(compgen -W 'check list reference timeline run help --help --version' -- "$current")
+        return
+    fi
+    case $previous in
+        --workers | --limit) return ;;
+        --trace | --out)
+            mapfile -t COMPREPLY < <(compgen -f -- "$current")
+            return
+            ;;
+    esac
+    case ${COMP_WORDS[1]} in
+        check) options='--explain' ;;
+        list) options='' ;;
+        reference) options='--limit --explain' ;;
+        timeline) options='--limit --out' ;;
+        run) options='--workers --limit --trace --explain' ;;
+    esac
+    case $current in
+        -*) mapfile -t COMPREPLY < <(compgen -W "$options --help" -- "$current") ;;
+        *) mapfile -t COMPREPLY < <(compgen -f -X '!*.go' -- "$current"; compgen -d -S / -- "$current") ;;
+    esac
+}
+
+complete -o filenames -F _kendo kendo

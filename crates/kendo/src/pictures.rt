@@ -1,0 +1,103 @@
+//! Pictures of runs.
+
+ghost use Rattle.std.specs.Prelude.{◌≡◌, ◌⊎◌, IfErr, IfOk, IsErrOf};
+ghost use Rattle.kendo.specs.Answers.{HasReading};
+ghost use Rattle.kendo_base.specs.Reading.{HasNoReading, IsRefusal, IsWhy};
+ghost use Rattle.one_thread.specs.Worlds.{IsLimit};
+
+use crate::flush;
+use crate::tracing::Trace;
+use go_text::{Fault, Memory};
+use kendo_base::timeline_bytes;
+use std::alloc::Global;
+use timeline::{Recording, draw, trace_events};
+use word::end::End;
+use word::{Flagged, Write, write_all};
+
+/// How many events a drawing shows at most.
+const MOST_DRAWN: usize = 1_000;
+
+/// How many events JSON holds at most.
+const MOST_TRACED: usize = 100_000;
+
+/// The form of a picture.
+#[derive(Clone, Copy)]
+pub(crate) enum Format {
+    /// A drawing, as SVG.
+    Drawing,
+    /// JSON in the trace event format.
+    TraceEvents,
+}
+
+/// JSON where the path of the file ends in `.json`, else a drawing.
+pub(crate) fn format_of(path: Option<&str>) -> Format {
+    match path {
+        Some(path) if path.ends_with(".json") => Format::TraceEvents,
+        _ => Format::Drawing,
+    }
+}
+
+/// Writes a picture of the run of the text to its file, or to standard output where it has none.
+pub(crate) fn picture(
+    rt: &HostRuntime,
+    alloc: Global,
+    bytes: Vec<u8>,
+    limit: u64,
+    format: Format,
+    file: Trace,
+) -> Result<End, Fault>
+    ensures pictured { IfOk result (λ end. (end ≡ End.Finished) × IsLimit limit × HasReading bytes.items) }
+    ensures refused { IfErr result (λ fault. IsRefusal fault → HasNoReading bytes.items) }
+    ensures why { IfErr result (λ fault. IsRefusal fault → IsWhy bytes.items fault) }
+    ensures limit { IsErrOf result Fault.BadLimit → IsLimit limit → ⊥ }
+    ensures write { IsErrOf result Fault.Write → HasReading bytes.items }
+    ensures only { IfErr result (λ fault. IsRefusal fault ⊎ ((fault ≡ Fault.Memory) ⊎ ((fault ≡ Fault.Write) ⊎ (fault ≡ Fault.BadLimit)))) }
+{
+    let recording = timeline_bytes(alloc, bytes, limit, most_events(format))?;
+    show(rt, alloc, &recording, format, file)?;
+    Ok(End::Finished)
+}
+
+/// How many events a picture holds at most.
+fn most_events(format: Format) -> usize {
+    match format {
+        Format::Drawing => MOST_DRAWN,
+        Format::TraceEvents => MOST_TRACED,
+    }
+}
+
+/// Writes the picture of a recording.
+fn show(
+    rt: &HostRuntime,
+    alloc: Global,
+    recording: &Recording,
+    format: Format,
+    file: Trace,
+) -> Result<(), Fault>
+    ensures { IfErr result (λ fault. (fault ≡ Fault.Memory) ⊎ (fault ≡ Fault.Write)) }
+{
+    let text = text_of(alloc, recording, format)?;
+    match file {
+        Trace::Dropped => put(Flagged::new(rt.stdout()), text.as_str()),
+        Trace::Kept(file) => put(file, text.as_str()),
+    }
+}
+
+/// The text of a picture.
+fn text_of(alloc: Global, recording: &Recording, format: Format) -> Result<String, Memory> {
+    match format {
+        Format::Drawing => draw(alloc, recording),
+        Format::TraceEvents => trace_events(alloc, recording),
+    }
+}
+
+/// Writes a text, and what is still held back.
+fn put<W: std::io::Write + Drop>(out: Flagged<W>, text: &str) -> Result<(), Fault>
+    ensures { IfErr result (λ fault. fault ≡ Fault.Write) }
+{
+    let mut out = out;
+    match write_all(&mut out, text.as_bytes()) {
+        Ok(()) => flush(out),
+        Err(_) => Err(Fault::Write),
+    }
+}

@@ -1,0 +1,98 @@
+-- What a book has committed, step by step.
+use Rattle.std.proofs.Common.{◌≡◌, ℕ, zero, suc, ◌+◌, List, [], ◌∷◌, ◌++◌, Bool, true, false, cond, map, length, refl, sym, ap, ◌∙◌, subst, arith, length-append}
+use Rattle.std.specs.Prelude.{IfSome, Some, slice_get}
+use Rattle.std.proofs.lemmas.List.{map-append}
+use Rattle.std.specs.Option.{is_some}
+use Rattle.book.specs.Desks.{Desk, Held, IsEvent, OnlyLooks, Settles, Looks, IsSight, Sighting, brought, opened_desk, seen_desk}
+use Rattle.book.specs.declared.settled.Settled.{Settled}
+use Rattle.book.specs.declared.settled.Settled.TheVariants.{Committed, Waiting, Ended}
+use Rattle.bytecode.specs.Code.{Code}
+use Rattle.world_core.specs.Cores.{CoreValue}
+use Rattle.world_core.specs.Slots.{Rows}
+use Rattle.bytecode.specs.Machine.{code_kind}
+use Rattle.word.specs.declared.end.End.{End as Ending}
+use Rattle.word.specs.declared.request.Event.{Event as Recorded}
+use Rattle.word.specs.Values.{Event}
+use Rattle.word.specs.Views.{event_of}
+use Rattle.word.specs.Worlds.{end_of, moment}
+use Rattle.recorder.specs.Recorded.{AreAll, AreFirst, Comes, EndsAfter, HasRecorded, IsLater}
+use Rattle.recorder.proofs.First.{first_all, first_more}
+
+pub opened : (code : Code) (limit : ℕ) (d : Desk) → d ≡ opened_desk code limit → HasRecorded d.code d.limit d []
+opened code limit d is = subst (λ (e : Desk). HasRecorded e.code e.limit e []) (sym is) (record { code = refl; limit = refl; counted = refl; first = (0, refl) })
+
+-- looks commit nothing
+looks_later : (old : Desk) (seen : List Sighting) (new : Desk) → Looks old seen new → IsLater old new 0
+looks_later old [] new e = subst (λ (d : Desk). IsLater old d 0) (sym e) (record { code = refl; limit = refl; events = omega arith })
+looks_later old (x ∷ xs) new h =
+    let mid = looks_later old xs h.0 h.1 in
+    subst (λ (d : Desk). IsLater old d 0) (sym h.3) (record { code = mid.code; limit = mid.limit; events = mid.events })
+
+pub settles_comes : (old : Desk) (settled : Settled) (new : Desk) → Settles old settled new → Comes old settled new
+settles_comes old (Committed event) new h =
+    let looks = looks_later old h.1.0 h.0 h.1.1 in
+    let next = h.2 in
+    (record {
+      code = next.code ∙ looks.code;
+      limit = next.limit ∙ looks.limit;
+      events = let a = next.one_more in let b = looks.events in omega (arith, a, b);
+    }, subst (λ k. IsEvent old.code old.limit k (event_of event)) (let b = looks.events in omega (arith, b))
+      (subst (λ l. IsEvent old.code l h.0.core.events (event_of event)) looks.limit (subst (λ (c : Code). IsEvent c h.0.limit h.0.core.events (event_of event)) looks.code next.is_next)))
+settles_comes old (Waiting n) new h = looks_later old h.only.0 new h.only.1
+settles_comes old (Ended ending) new h = (subst (λ (d : Desk). IsLater old d 0) (sym h.0) (record { code = refl; limit = refl; events = omega arith }), (h.1.moves, h.1.events, h.1.ending))
+
+-- steps behind a settling that commits nothing
+pub later_still : (old mid new : Desk) → IsLater old mid 0 → IsLater mid new 0 → IsLater old new 0
+later_still old mid new one two = record {
+  code = two.code ∙ one.code;
+  limit = two.limit ∙ one.limit;
+  events = let a = one.events in let b = two.events in omega (arith, a, b);
+}
+
+cond_events : (b : Bool) (c : CoreValue) (rows : Rows) → (cond b c (record c { rows = rows })).events ≡ c.events
+cond_events true c rows = refl
+cond_events false c rows = refl
+
+pub brought_later : (old mid : Desk) (l : Held) → IsLater old mid 0 → IsLater old (brought mid l) 0
+brought_later old mid l m = record { code = m.code; limit = m.limit; events = cond_events (is_some mid.core.ending) mid.core _ ∙ m.events }
+
+one_longer : {A : Type 0} (xs : List A) (x : A) → length (xs ++ x ∷ []) ≡ length xs + 1
+one_longer xs x = length-append xs (x ∷ [])
+
+module _ (code : Code) (limit : ℕ) (old new : Desk) (events : List Recorded) (settled : Settled) (kept : HasRecorded code limit old events) (comes : Comes old settled new) where
+  abbrev seen : List Event
+  seen = map event_of events
+
+  added : (event : Recorded) → IsLater old new 1 × IsEvent old.code old.limit old.core.events (event_of event) → HasRecorded code limit new (events ++ event ∷ [])
+  added event came =
+      let all : map event_of (events ++ event ∷ []) ≡ seen ++ event_of event ∷ [] = map-append event_of events (event ∷ []) in
+      let here : IsEvent code limit (length seen) (event_of event) =
+      subst (λ k. IsEvent code limit k (event_of event)) kept.counted (subst (λ l. IsEvent code l old.core.events (event_of event)) kept.limit (subst (λ (c : Code). IsEvent c old.limit old.core.events (event_of event)) kept.code came.1)) in
+      record {
+        code = came.0.code ∙ kept.code;
+        limit = came.0.limit ∙ kept.limit;
+        counted = came.0.events ∙ ap (λ k. k + 1) kept.counted ∙ sym (one_longer seen (event_of event)) ∙ ap length (sym all);
+        first = subst (AreFirst (code_kind code) limit) (sym all) (first_more (code_kind code) limit seen (event_of event) kept.first here);
+      }
+
+  pub committed : (event : Recorded) → settled ≡ Committed event → HasRecorded code limit new (events ++ event ∷ [])
+  committed event is = added event (subst (λ (s : Settled). Comes old s new) is comes)
+
+  waited : IsLater old new 0 → HasRecorded code limit new events
+  waited came = record {
+    code = came.code ∙ kept.code;
+    limit = came.limit ∙ kept.limit;
+    counted = let z = came.events in let k = kept.counted in omega (arith, z, k);
+    first = kept.first;
+  }
+
+  pub waiting : (n : ℕ) → settled ≡ Waiting n → HasRecorded code limit new events
+  waiting n is = waited (subst (λ (s : Settled). Comes old s new) is comes)
+
+  ended : (ending : Ending) → EndsAfter old.code old.limit old.core.events ending → AreAll (code_kind code) limit seen ending
+  ended ending came =
+      first_all (code_kind code) limit seen ending kept.first
+      (subst (λ k. EndsAfter code limit k ending) kept.counted (subst (λ l. EndsAfter code l old.core.events ending) kept.limit (subst (λ (c : Code). EndsAfter c old.limit old.core.events ending) kept.code came)))
+
+  pub all_there : (ending : Ending) → settled ≡ Ended ending → AreAll (code_kind code) limit seen ending
+  all_there ending is = ended ending (subst (λ (s : Settled). Comes old s new) is comes).1

@@ -1,0 +1,75 @@
+-- The first events of a run, and one more of them.
+use Rattle.std.proofs.Common.{◌≡◌, ℕ, zero, suc, ◌+◌, ◌-◌, ◌≤◌, List, [], ◌∷◌, ◌++◌, map, length, take, drop, Option, Some, None, IfSome, refl, sym, ap, ◌∙◌, subst, arith}
+use Rattle.std.specs.Prelude.{slice_get, unwrap_or}
+use Rattle.std.proofs.Math.Seq.{take-length}
+use Rattle.std.proofs.lemmas.List.{map-append}
+use Rattle.turn_rule.specs.Schedule.{IsPrefixOf}
+use Rattle.turn_rule.specs.Turns.{World}
+use Rattle.turn_rule.proofs.Stable.{run_add}
+use Rattle.word.specs.declared.end.End.{End as Ending}
+use Rattle.word.specs.declared.request.Event.{Event as Recorded}
+use Rattle.word.specs.Kinds.{Clocked, GoroutineKind}
+use Rattle.word.specs.Values.{Event}
+use Rattle.word.specs.Views.{event_of}
+use Rattle.word.specs.Worlds.{Rest, end_of, moment, opening, rules}
+use Rattle.word.proofs.Laws.{laws}
+use Rattle.word.proofs.Records.{events_begin}
+use Rattle.recorder.specs.Recorded.{AreAll, AreFirst}
+
+-- ---- beginnings of lists
+
+taken_longer : {A : Type 0} (xs ys rest : List A) → take (length ys) xs ≡ ys → take (length ys) (xs ++ rest) ≡ ys
+taken_longer xs [] rest e = refl
+taken_longer [] (y ∷ ys) rest e = absurd cc
+taken_longer (x ∷ xs) (y ∷ ys) rest e =
+    let tail : take (length ys) xs ≡ ys = ap (drop 1) e in
+    ap (λ zs. x ∷ zs) (taken_longer xs ys rest tail) ∙ (ap (λ zs. x ∷ zs) (sym tail) ∙ e)
+
+got_longer : {A : Type 0} (xs rest : List A) (k : ℕ) (e : A) → slice_get xs k ≡ Some e → slice_get (xs ++ rest) k ≡ Some e
+got_longer [] rest k e is = absurd cc
+got_longer (x ∷ xs) rest zero e is = is
+got_longer (x ∷ xs) rest (suc k) e is = got_longer xs rest k e is
+
+taken_more : {A : Type 0} (xs ys : List A) (e : A) → take (length ys) xs ≡ ys → slice_get xs (length ys) ≡ Some e → take (length (ys ++ e ∷ [])) xs ≡ ys ++ e ∷ []
+taken_more [] [] e front is = absurd cc
+taken_more (x ∷ xs) [] e front is = ap (λ o. unwrap_or o e ∷ []) is
+taken_more [] (y ∷ ys) e front is = absurd cc
+taken_more (x ∷ xs) (y ∷ ys) e front is =
+    let tail : take (length ys) xs ≡ ys = ap (drop 1) front in
+    let same : x ∷ ys ≡ y ∷ ys = ap (λ zs. x ∷ zs) (sym tail) ∙ front in
+    ap (λ zs. x ∷ zs) (taken_more xs ys e tail is) ∙ ap (λ zs. zs ++ e ∷ []) same
+
+-- ---- events of a run
+
+module _ (K : GoroutineKind) (limit : ℕ) where
+  abbrev happened : ℕ → List Event
+  happened n = (moment K limit n).shared.shared.events
+
+  longer : (n m : ℕ) → n ≤ m → IsPrefixOf (happened n) (happened m)
+  longer n m le =
+      let z : n + (m - n) ≡ m = omega (arith, le) in
+      let p = events_begin K limit n (m - n) in
+      (p.0, p.1 ∙ ap (λ (x : World (Clocked K.State) (Rest K.State)). x.shared.shared.events) (sym (run_add (rules K limit) (laws K limit) n (m - n) (opening K)) ∙ ap (λ k. moment K limit k) z))
+
+  -- those at a moment are there later too
+  first_later : (events : List Event) (n m : ℕ) → n ≤ m → take (length events) (happened n) ≡ events → take (length events) (happened m) ≡ events
+  first_later events n m le front =
+      let p = longer n m le in
+      ap (take (length events)) (sym p.1) ∙ taken_longer (happened n) events p.0 front
+
+  got_later : (k : ℕ) (e : Event) (n m : ℕ) → n ≤ m → slice_get (happened n) k ≡ Some e → slice_get (happened m) k ≡ Some e
+  got_later k e n m le is =
+      let p = longer n m le in
+      ap (λ xs. slice_get xs k) (sym p.1) ∙ got_longer (happened n) p.0 k e is
+
+  pub first_more : (events : List Event) (e : Event) → AreFirst K limit events → (n : ℕ) × (slice_get (happened n) (length events) ≡ Some e) → AreFirst K limit (events ++ e ∷ [])
+  first_more events e first is =
+      let m = first.0 + is.0 in
+      (m, taken_more (happened m) events e (first_later events first.0 m (omega arith) first.1) (got_later (length events) e is.0 m (omega arith) is.1))
+
+  pub first_all : (events : List Event) (ending : Ending) → AreFirst K limit events → (n : ℕ) × (length (happened n) ≡ length events) × (end_of (moment K limit n) ≡ Some ending) → AreAll K limit events ending
+  first_all events ending first ends =
+      let m = first.0 + ends.0 in
+      let one = first_later events first.0 m (omega arith) first.1 in
+      let two = first_later (happened ends.0) ends.0 m (omega arith) (take-length (happened ends.0)) in
+      (ends.0, sym two ∙ ap (λ k. take k (happened m)) ends.1 ∙ one, ends.2)

@@ -1,0 +1,114 @@
+//! The picture of a run as JSON in the trace event format, which viewers of traces open.
+
+use crate::label::{end_label, event_label};
+use crate::lanes::{Arrow, Lane, Lanes, Passes};
+use crate::recording::Recording;
+use crate::writing::push_quoted;
+use go_text::Memory;
+use std::alloc::{AllocError, Global};
+use word::request::Event;
+
+/// The picture of a run in the trace event format: a thread for each goroutine, with a slice for its life and one for each sleep,
+/// an instant for each event, and a flow for each arrow. A microsecond stands for a unit of logical time.
+///
+/// # Errors
+///
+/// `Memory` where memory is refused.
+pub fn trace_events(alloc: Global, recording: &Recording) -> Result<String, Memory> {
+    let lanes = Lanes::of(alloc, recording)?;
+    let mut text = String::from_str(alloc, "{\"traceEvents\":[\n")?;
+    for lane in lanes.lanes.iter() {
+        push_lane(&mut text, recording, lane)?;
+    }
+    for event in recording.events.iter() {
+        push_event(alloc, &mut text, event)?;
+    }
+    for (flow, arrow) in lanes.arrows.iter().enumerate() {
+        push_flow(&mut text, flow, *arrow)?;
+    }
+    push_end(alloc, &mut text, recording, lanes.last)?;
+    Ok(text)
+}
+
+/// A thread: its name, and slices for its life and its sleeps.
+fn push_lane(text: &mut String, recording: &Recording, lane: &Lane) -> Result<(), AllocError> {
+    let number = lane.number;
+    let name = recording.first_function(lane.function);
+    write!(
+        text,
+        "{{\"ph\":\"M\",\"pid\":1,\"tid\":{number},\"ts\":0,\"name\":\"thread_name\",\"args\":{{\"name\":\"{number} {name}\"}}}},\n"
+    )?;
+    push_slice(text, number, name, lane.from, lane.to)?;
+    for sleep in lane.sleeps.iter() {
+        push_slice(text, number, "asleep", sleep.from, sleep.to)?;
+    }
+    Ok(())
+}
+
+/// A slice of a thread.
+fn push_slice(
+    text: &mut String,
+    number: u64,
+    name: &str,
+    from: u64,
+    to: u64,
+) -> Result<(), AllocError> {
+    let length = to.saturating_sub(from);
+    write!(
+        text,
+        "{{\"ph\":\"X\",\"pid\":1,\"tid\":{number},\"ts\":{from},\"dur\":{length},\"name\":\"{name}\"}},\n"
+    )
+}
+
+/// An instant of a thread.
+fn push_event(alloc: Global, text: &mut String, event: &Event) -> Result<(), AllocError> {
+    let (clock, number) = (event.clock.time(), event.number);
+    write!(
+        text,
+        "{{\"ph\":\"i\",\"s\":\"t\",\"pid\":1,\"tid\":{number},\"ts\":{clock},\"name\":\""
+    )?;
+    push_quoted(text, event_label(alloc, event)?.as_str())?;
+    text.push_str("\"},\n")
+}
+
+/// A flow from one thread to another.
+fn push_flow(text: &mut String, flow: usize, arrow: Arrow) -> Result<(), AllocError> {
+    let passes = arrow.passes;
+    push_flow_end(text, "s", flow, passes, arrow.from, arrow.leaves)?;
+    push_flow_end(text, "f", flow, passes, arrow.to, arrow.reaches)
+}
+
+/// One of the two ends of a flow.
+fn push_flow_end(
+    text: &mut String,
+    phase: &str,
+    flow: usize,
+    passes: Passes,
+    number: u64,
+    clock: u64,
+) -> Result<(), AllocError> {
+    let name = passes.name();
+    write!(
+        text,
+        "{{\"ph\":\"{phase}\",\"bp\":\"e\",\"pid\":1,\"tid\":{number},\"ts\":{clock},\"id\":{flow},\"cat\":\"goroutines\",\"name\":\"{name}\"}},\n"
+    )
+}
+
+/// How the run ended, and the name of the whole, behind which nothing stands.
+fn push_end(
+    alloc: Global,
+    text: &mut String,
+    recording: &Recording,
+    last: u64,
+) -> Result<(), AllocError> {
+    let ends = end_label(alloc, recording.end)?;
+    let count = recording.events.len();
+    write!(
+        text,
+        "{{\"ph\":\"i\",\"s\":\"g\",\"pid\":1,\"tid\":1,\"ts\":{last},\"name\":\"{ends}\"}},\n"
+    )?;
+    write!(
+        text,
+        "{{\"ph\":\"M\",\"pid\":1,\"tid\":1,\"ts\":0,\"name\":\"process_name\",\"args\":{{\"name\":\"{count} events, {ends}\"}}}}\n]}}\n"
+    )
+}

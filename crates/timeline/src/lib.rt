@@ -1,0 +1,16 @@
+//! Pictures of a run: its events as a drawing, and as a trace that viewers of traces open.
+#![tactic(auto)]
+
+mod drawing;
+mod json;
+mod label;
+mod lanes;
+mod marks;
+mod moves;
+mod recording;
+mod scale;
+mod writing;
+
+pub use drawing::draw;
+pub use json::trace_events;
+pub use recording::Recording;

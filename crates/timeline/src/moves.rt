@@ -1,0 +1,123 @@
+//! What an event moves from one goroutine to another.
+
+use go_text::Memory;
+use std::alloc::Global;
+use std::collections::VecDeque;
+use word::request::{Case, Event, EventOutcome, Reply, Request};
+
+/// What an event moves. A channel is named by its number, counted from 1.
+#[derive(Clone, Copy)]
+pub(crate) enum Move {
+    /// Nothing.
+    Nothing,
+    /// There is a channel more.
+    Channel,
+    /// A goroutine was started, which runs the function of this number.
+    Start(u32),
+    /// A channel was closed.
+    Close,
+    /// An item went into this channel.
+    Send(Option<u32>),
+    /// An item came out of this channel.
+    Receive(Option<u32>),
+}
+
+/// What an event moves.
+pub(crate) fn move_of(event: &Event) -> Move {
+    match &event.outcome {
+        EventOutcome::Done(reply) => done(&event.request, reply),
+        _ => Move::Nothing,
+    }
+}
+
+/// What a request moves that was done, and had this reply.
+fn done(request: &Request, reply: &Reply) -> Move {
+    match request {
+        Request::Make(..) => Move::Channel,
+        Request::Go(function, _) => Move::Start(*function),
+        Request::Close(_) => Move::Close,
+        Request::Send(channel, _) => Move::Send(*channel),
+        Request::Receive(channel) => received(*channel, reply),
+        Request::Select(cases, _) => selected(cases.as_slice(), reply),
+        _ => Move::Nothing,
+    }
+}
+
+/// What a receive moves: nothing where the channel is closed and empty.
+fn received(channel: Option<u32>, reply: &Reply) -> Move {
+    match reply {
+        Reply::Received(_, true) => Move::Receive(channel),
+        _ => Move::Nothing,
+    }
+}
+
+/// What a select moves: an item of the channel of the clause that it did, whose number counts from 1.
+fn selected(cases: &[Case], reply: &Reply) -> Move {
+    match reply {
+        Reply::Clause(number, None) => Move::Send(channel_of(cases, *number)),
+        Reply::Clause(number, Some((_, true))) => Move::Receive(channel_of(cases, *number)),
+        _ => Move::Nothing,
+    }
+}
+
+/// The channel of the clause of this number, counted from 1.
+fn channel_of(cases: &[Case], number: usize) -> Option<u32> {
+    match cases.get(number.saturating_sub(1)) {
+        Some(case) => case.chan,
+        None => None,
+    }
+}
+
+/// An item on its way: who sent it, and the clock there.
+#[derive(Clone, Copy)]
+pub(crate) struct Sent {
+    pub by: u64,
+    pub at: u64,
+}
+
+/// The items on their way, of each channel the first one sent first: they come out in that order.
+#[derive(Drop)]
+pub(crate) struct Items {
+    alloc: Global,
+    channels: Vec<VecDeque<Sent>>,
+}
+
+impl Items {
+    /// No channel is there yet.
+    pub(crate) fn new(alloc: Global) -> Items {
+        Items {
+            alloc,
+            channels: Vec::new(alloc),
+        }
+    }
+
+    /// There is a channel more, with nothing in it.
+    pub(crate) fn add_channel(&mut self) -> Result<(), Memory> {
+        self.channels.push(VecDeque::new(self.alloc))?;
+        Ok(())
+    }
+
+    /// An item goes into a channel.
+    pub(crate) fn put(&mut self, channel: Option<u32>, sent: Sent) -> Result<(), Memory> {
+        if let Some(items) = self.channels.get_mut(place(channel)) {
+            items.push_back(sent)?;
+        }
+        Ok(())
+    }
+
+    /// The item that comes out of a channel, where there is one.
+    pub(crate) fn take(&mut self, channel: Option<u32>) -> Option<Sent> {
+        match self.channels.get_mut(place(channel)) {
+            Some(items) => items.pop_front(),
+            None => None,
+        }
+    }
+}
+
+/// The place of a channel in the list of all; of `nil` one behind them.
+fn place(channel: Option<u32>) -> usize {
+    match channel {
+        Some(number) => (number as usize).saturating_sub(1),
+        None => usize::MAX,
+    }
+}

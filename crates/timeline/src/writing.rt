@@ -1,0 +1,38 @@
+//! Text that is put behind other text.
+
+use std::alloc::AllocError;
+
+/// The text as XML writes it within an element: `<`, `>`, `&` and `"` by their names, and a space for what XML can't hold.
+pub(crate) fn push_escaped(text: &mut String, more: &str) -> Result<(), AllocError> {
+    for letter in more.chars() {
+        match letter {
+            '<' => text.push_str("&lt;")?,
+            '>' => text.push_str("&gt;")?,
+            '&' => text.push_str("&amp;")?,
+            '"' => text.push_str("&quot;")?,
+            '\u{fffe}' | '\u{ffff}' => text.push(' ')?,
+            other => text.push(printable(other))?,
+        }
+    }
+    Ok(())
+}
+
+/// The text as JSON writes it within a string.
+pub(crate) fn push_quoted(text: &mut String, more: &str) -> Result<(), AllocError> {
+    for letter in more.chars() {
+        match letter {
+            '"' => text.push_str("\\\"")?,
+            '\\' => text.push_str("\\\\")?,
+            other => text.push(printable(other))?,
+        }
+    }
+    Ok(())
+}
+
+/// The letter, or a space for a control character.
+fn printable(letter: char) -> char {
+    if letter < ' ' {
+        return ' ';
+    }
+    letter
+}
