@@ -23,11 +23,11 @@ use std::alloc::Global;
 use word::end::End;
 
 /// The most moves of the run that is made once more.
-const MOST_MOVES: u64 = 20_000_000;
+const MOST_MOVES: u64 = 10_000_000;
 
 /// Where the goroutines of a program stand at the end of its run to a limit, a line each: of a deadlock each one that waits, of
 /// a panic the one that panicked, for this cause, with its calls, of exhausted time the one whose turn it was. Of a run that
-/// finishes nothing. Where the run has more than `MOST_MOVES` moves, that nothing is told. FILE is the path as it was typed.
+/// finishes nothing is told, and of one of more than `MOST_MOVES` moves only that it is too long. FILE is the path as it was typed.
 ///
 /// # Errors
 ///
@@ -62,7 +62,7 @@ pub fn end_explanation(
 /// That nothing is told.
 fn left_out(alloc: Global) -> Result<Vec<u8>, Memory> {
     let text = format!(in alloc;
-        "the run is too long to tell where its goroutines stand: it has more than {MOST_MOVES} steps\n"
+        "where goroutines stand is told of runs of at most {MOST_MOVES} steps\n"
     )?;
     Ok(text.into_bytes())
 }

@@ -1,6 +1,7 @@
 //! Where goroutines stand, in lines.
 
 use crate::scene::Scene;
+use crate::site::Site;
 use crate::watched::Placed;
 use go_text::Memory;
 use one_thread::Goroutine;
@@ -8,8 +9,11 @@ use reference_base::task::{Frame, Task};
 use std::alloc::Global;
 use word::request::Request;
 
-/// The most lines about one goroutine's calls, and the most goroutines that are told of.
-const MOST_LINES: usize = 50;
+/// The most goroutines that are told of.
+const MOST_GOROUTINES: usize = 50;
+
+/// The most calls of one goroutine that are told of.
+const MOST_CALLS: usize = 20;
 
 /// Puts text behind what is there.
 fn push(said: &mut Vec<u8>, text: &str) -> Result<(), Memory> {
@@ -53,26 +57,41 @@ pub(crate) fn push_waiting(
     scene: Scene<'_>,
     goroutines: &[Option<Goroutine<Placed<'_>>>],
 ) -> Result<(), Memory> {
+    let mut left: usize = 0;
     let mut told: usize = 0;
     for (number, place) in goroutines.iter().enumerate() {
         if let Some(goroutine) = place {
-            if told < MOST_LINES {
-                push_goroutine(alloc, said, scene, number as u64, "waits since", goroutine)?;
-                push_wish(alloc, said, goroutine.state.frames.as_slice())?;
-                push(said, "\n")?;
+            if told < MOST_GOROUTINES {
+                push_waiter(alloc, said, scene, number as u64, goroutine)?;
+                told = told.saturating_add(1);
+            } else {
+                left = left.saturating_add(1);
             }
-            told = told.saturating_add(1);
         }
     }
-    push_more(alloc, said, told, " more wait\n")
+    push_more(alloc, said, left, " more goroutines wait\n")
 }
 
-/// Puts how many more there are than were told of behind what is there, if any.
-fn push_more(alloc: Global, said: &mut Vec<u8>, all: usize, what: &str) -> Result<(), Memory> {
-    if all <= MOST_LINES {
+/// Puts that a goroutine waits behind what is there.
+fn push_waiter(
+    alloc: Global,
+    said: &mut Vec<u8>,
+    scene: Scene<'_>,
+    number: u64,
+    goroutine: &Goroutine<Placed<'_>>,
+) -> Result<(), Memory> {
+    push_goroutine(alloc, said, scene, number, "waits since", goroutine)?;
+    push_wish(alloc, said, goroutine.state.frames.as_slice())?;
+    push(said, "\n")
+}
+
+/// Puts that there are so many more, if any, behind what is there.
+fn push_more(alloc: Global, said: &mut Vec<u8>, left: usize, what: &str) -> Result<(), Memory> {
+    if left == 0 {
         return Ok(());
     }
-    push_number(alloc, said, (all - MOST_LINES) as u64)?;
+    push(said, "and ")?;
+    push_number(alloc, said, left as u64)?;
     push(said, what)
 }
 
@@ -145,14 +164,25 @@ fn push_calls(
     goroutine: &Goroutine<Placed<'_>>,
 ) -> Result<(), Memory> {
     let calls = goroutine.state.trail.calls(alloc)?;
-    for call in calls.iter().take(MOST_LINES) {
-        push(said, "  called from ")?;
-        scene.push_function(said, *call)?;
-        push(said, " at ")?;
-        scene.push_place(alloc, said, *call)?;
-        push(said, "\n")?;
+    for call in calls.iter().take(MOST_CALLS) {
+        push_call(alloc, said, scene, *call)?;
     }
-    push_more(alloc, said, calls.len(), " more calls\n")
+    let left = calls.len().saturating_sub(MOST_CALLS);
+    push_more(alloc, said, left, " more calls\n")
+}
+
+/// Puts where a call stands behind what is there.
+fn push_call(
+    alloc: Global,
+    said: &mut Vec<u8>,
+    scene: Scene<'_>,
+    call: Site<'_>,
+) -> Result<(), Memory> {
+    push(said, "  called from ")?;
+    scene.push_function(said, call)?;
+    push(said, " at ")?;
+    scene.push_place(alloc, said, call)?;
+    push(said, "\n")
 }
 
 /// Puts who came to the limit first, and where, behind what is there.
@@ -163,14 +193,7 @@ pub(crate) fn push_exhausted(
     number: u64,
     goroutine: &Goroutine<Placed<'_>>,
 ) -> Result<(), Memory> {
-    push_goroutine(
-        alloc,
-        said,
-        scene,
-        number,
-        "has reached the limit at",
-        goroutine,
-    )?;
-    push(said, "its time is used up\n")?;
+    push_goroutine(alloc, said, scene, number, "has reached", goroutine)?;
+    push(said, "logical time exhausted\n")?;
     scene.push_line(said, goroutine.state.trail.last())
 }
