@@ -91,7 +91,11 @@ fn pass_range<'a>(
 }
 
 /// Passes what stands between a `for` and its block.
-fn pass_for_header<'a>(node: NodeId, first: NodeId, header: &'a ForHeader) -> Passed<'a> {
+pub(crate) fn pass_for_header<'a>(
+    node: NodeId,
+    first: NodeId,
+    header: &'a ForHeader,
+) -> Passed<'a> {
     match header {
         ForHeader::Forever => Ok(first),
         ForHeader::While(condition) => pass_condition(node, first, true, condition),
@@ -126,7 +130,7 @@ fn pass_for<'a>(
 
 /// Passes an `if`.
 #[cycle(statement)]
-fn pass_if<'a>(node: NodeId, first: NodeId, branch: &'a IfNode) -> Passed<'a> {
+pub(crate) fn pass_if<'a>(node: NodeId, first: NodeId, branch: &'a IfNode) -> Passed<'a> {
     let start = match &branch.header {
         IfHeader::Bare | IfHeader::Semicolon => first,
         IfHeader::Simple(simple) => pass_simple(node, first, simple)?,
@@ -143,7 +147,7 @@ fn pass_if<'a>(node: NodeId, first: NodeId, branch: &'a IfNode) -> Passed<'a> {
 
 /// Passes a clause of a `select`.
 #[cycle(statement)]
-fn pass_clause<'a>(node: NodeId, first: NodeId, clause: &'a ClauseNode) -> Passed<'a> {
+pub(crate) fn pass_clause<'a>(node: NodeId, first: NodeId, clause: &'a ClauseNode) -> Passed<'a> {
     let start = match &clause.comm {
         None => first,
         Some(comm) => pass(node, first, comm_end(first, comm), Unit::Comm(comm))?,
@@ -190,7 +194,11 @@ fn pass_typed<'a>(
 
 /// Passes a statement.
 #[cycle(statement)]
-fn pass_statement<'a>(node: NodeId, first: NodeId, statement: &'a StatementNode) -> Passed<'a> {
+pub(crate) fn pass_statement<'a>(
+    node: NodeId,
+    first: NodeId,
+    statement: &'a StatementNode,
+) -> Passed<'a> {
     match statement {
         StatementNode::Empty => Ok(after(first)),
         StatementNode::Simple(simple) => pass_simple(node, first, simple),
@@ -220,7 +228,11 @@ fn pass_statement<'a>(node: NodeId, first: NodeId, statement: &'a StatementNode)
 
 /// Passes statements.
 #[cycle(statement)]
-fn pass_statements<'a>(node: NodeId, first: NodeId, body: &'a [StatementNode]) -> Passed<'a> {
+pub(crate) fn pass_statements<'a>(
+    node: NodeId,
+    first: NodeId,
+    body: &'a [StatementNode],
+) -> Passed<'a> {
     let mut end = first;
     for statement in body {
         end = pass_statement(node, end, statement)?;

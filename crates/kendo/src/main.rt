@@ -17,7 +17,7 @@ use command_line::arguments::{Invocation, Subcommand, command, invocation_of};
 use diagnostic::explanation;
 use go_text::source::MAX_LENGTH;
 use go_text::{Fault, Memory};
-use kendo_base::{Gate, check_bytes, list_bytes, reference_bytes, report, run_bytes};
+use kendo_base::{Gate, check_bytes, explain_end, list_bytes, reference_bytes, report, run_bytes};
 use pictures::{Format, format_of, picture};
 use std::alloc::Global;
 use std::fs::File;
@@ -203,7 +203,7 @@ fn answer(
     );
     let (line, status) = report(alloc, &outcome)?;
     tell(rt, line.as_slice());
-    explain(rt, alloc, invocation.file, kept, &outcome);
+    explain(rt, alloc, invocation, kept, outcome);
     Ok(status)
 }
 
@@ -215,24 +215,49 @@ fn kept_text(alloc: Global, invocation: &Invocation<'_>, bytes: &[u8]) -> Option
     bytes.to_vec(alloc).ok()
 }
 
-/// Tells on standard error, in a sentence, what is wrong with the text that was kept. Where memory or the stream is refused,
-/// nothing else changes.
+/// Tells on standard error what is wrong with the text that was kept, or where the goroutines stand at the end of its run. Where
+/// memory or the stream is refused, nothing else changes.
 fn explain(
     rt: &HostRuntime,
     alloc: Global,
-    path: &str,
+    invocation: &Invocation<'_>,
     kept: Option<Vec<u8>>,
-    outcome: &Result<End, Fault>,
+    outcome: Result<End, Fault>,
 ) {
-    if let (Some(bytes), Err(fault)) = (kept, outcome) {
-        let text = match String::from_utf8(bytes) {
-            Ok(text) => text,
-            Err(_) => String::new(alloc),
-        };
-        if let Ok(told) = explanation(alloc, path, text.as_str(), fault) {
-            tell(rt, told.as_slice());
+    let Some(bytes) = kept else {
+        return;
+    };
+    let told = match outcome {
+        Ok(end) => end_told(alloc, invocation, bytes, end),
+        Err(fault) => fault_told(alloc, invocation.file, bytes, &fault),
+    };
+    if let Ok(told) = told {
+        tell(rt, told.as_slice());
+    }
+}
+
+/// What is told of the end of a run.
+fn end_told(
+    alloc: Global,
+    invocation: &Invocation<'_>,
+    bytes: Vec<u8>,
+    end: End,
+) -> Result<Vec<u8>, Fault> {
+    match invocation.subcommand {
+        Subcommand::Check | Subcommand::List => Ok(Vec::new(alloc)),
+        Subcommand::Reference { limit } | Subcommand::Run { limit, .. } => {
+            explain_end(alloc, invocation.file, bytes, limit, end)
         }
     }
+}
+
+/// What is told of a text that is refused.
+fn fault_told(alloc: Global, path: &str, bytes: Vec<u8>, fault: &Fault) -> Result<Vec<u8>, Fault> {
+    let text = match String::from_utf8(bytes) {
+        Ok(text) => text,
+        Err(_) => String::new(alloc),
+    };
+    Ok(explanation(alloc, path, text.as_str(), fault)?)
 }
 
 /// What the command finds in the text, which it checks, lists, interprets, draws or runs.

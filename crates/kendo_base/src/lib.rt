@@ -2,6 +2,7 @@
 #![tactic(auto)]
 
 mod checking;
+mod explanation;
 mod interpretation;
 mod listing;
 pub mod outcome;
@@ -11,6 +12,7 @@ pub mod run;
 mod running;
 
 pub use checking::check_bytes;
+pub use explanation::explain_end;
 pub use interpretation::reference_bytes;
 pub use listing::list_bytes;
 pub use outcome::report;

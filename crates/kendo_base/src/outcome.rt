@@ -74,7 +74,7 @@ fn number_of_panic(cause: Panic) -> u8
 }
 
 /// What a panic says.
-fn text_of_panic(cause: Panic) -> &'static str
+pub(crate) fn text_of_panic(cause: Panic) -> &'static str
     ensures { result.now ≡ panic_text cause }
 {
     match cause {

@@ -132,10 +132,11 @@ fn check_made<R: Files + AllocGlobal>(rt: &R, file: &RowFile<'_>, made: Made) ->
     same_lines(rt.alloc(), what, &wanted, &came)
 }
 
-/// What `--explain` says of a file's text.
+/// What `--explain` says of a file's text, or of the end of its run up to the limit of its row.
 fn explanation_of<R: Files + AllocGlobal>(rt: &R, file: &RowFile<'_>) -> Result<Vec<u8>, Flaw> {
     let text = file.text(rt)?;
-    explained(rt.alloc(), file.text_name(), &text)
+    let row = file.row(rt)?;
+    explained(rt.alloc(), file.text_name(), &text, row.limit)
 }
 
 /// The listing of a file's text.

@@ -8,7 +8,7 @@ use checker::check;
 use codegen::compile;
 use diagnostic::explanation;
 use go_text::{Fault, Source, Span};
-use kendo_base::{check_bytes, list_bytes};
+use kendo_base::{explain_end, list_bytes, reference_bytes};
 use parser::parse;
 use row_format::flaw::{Flaw, shown};
 use scanner::{Token, scan};
@@ -16,6 +16,7 @@ use std::alloc::Global;
 use syntax::Tree;
 use verifier::{Verified, verify};
 use word::Flagged;
+use word::end::End;
 
 /// The tokens of a text, one a line: its kind, where it begins and ends, and its bytes.
 pub(crate) fn tokens(alloc: Global, text: &[u8]) -> Result<Vec<u8>, Flaw> {
@@ -49,17 +50,42 @@ fn placed(alloc: Global, text: &[u8], span: Span) -> Result<String, Flaw> {
     Ok(format!(in alloc; "{from} {to} {bytes}")?)
 }
 
-/// What `--explain` says of a text in the file of this name, `.go` left out: nothing where it is a program.
-pub(crate) fn explained(alloc: Global, name: &str, text: &[u8]) -> Result<Vec<u8>, Flaw> {
-    let Err(fault) = check_bytes(alloc, Vec::from_slice(alloc, text)?) else {
-        return Ok(Vec::new(alloc));
-    };
+/// What `--explain` says of a text in the file of this name, `.go` left out, or of the end of its run up to this limit: nothing
+/// where it is a program that finishes.
+pub(crate) fn explained(
+    alloc: Global,
+    name: &str,
+    text: &[u8],
+    limit: u64,
+) -> Result<Vec<u8>, Flaw> {
     let path = format!(in alloc; "{name}.go")?;
+    match end_of(alloc, text, limit) {
+        Ok(end) => {
+            let bytes = Vec::from_slice(alloc, text)?;
+            Ok(explain_end(alloc, path.as_str(), bytes, limit, end)?)
+        }
+        Err(fault) => refusal_explained(alloc, path.as_str(), text, &fault),
+    }
+}
+
+/// How the run of a text up to this limit ends.
+fn end_of(alloc: Global, text: &[u8], limit: u64) -> Result<End, Fault> {
+    let mut out = Flagged::new(Vec::new(alloc));
+    reference_bytes(alloc, Vec::from_slice(alloc, text)?, limit, &mut out)
+}
+
+/// What `--explain` says of a text that is refused.
+fn refusal_explained(
+    alloc: Global,
+    path: &str,
+    text: &[u8],
+    fault: &Fault,
+) -> Result<Vec<u8>, Flaw> {
     let shown = match String::from_utf8(Vec::from_slice(alloc, text)?) {
         Ok(shown) => shown,
         Err(_) => String::new(alloc),
     };
-    Ok(explanation(alloc, path.as_str(), shown.as_str(), &fault).map_err(Fault::from)?)
+    Ok(explanation(alloc, path, shown.as_str(), fault).map_err(Fault::from)?)
 }
 
 /// The listing of a text's code.

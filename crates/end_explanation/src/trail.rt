@@ -1,0 +1,183 @@
+//! Where the tasks of a goroutine stand.
+
+use crate::site::{Inside, Site};
+use diagnostic_scope::ends::{clause_first, else_first, loop_first, post_first, then_first};
+use go_text::Memory;
+use reference_base::operand::{one, truth_in};
+use reference_base::program::Program;
+use reference_base::task::{Frame, Task};
+use reference_value::fault::Stop;
+use std::alloc::Global;
+use syntax::NodeId;
+use syntax::node::IfNode;
+use word::request::Reply;
+
+/// Where the tasks of a goroutine's functions stand: of each function, the one called last behind, the site of each task, the
+/// next one last.
+#[derive(Drop)]
+pub(crate) struct Trail<'t> {
+    sites: Vec<Vec<Site<'t>>>,
+    /// The site of what was done last.
+    last: Site<'t>,
+}
+
+impl<'t> Trail<'t> {
+    /// The trail of a goroutine that begins with a function, the first node of whose body is this one.
+    pub(crate) fn new(
+        alloc: Global,
+        frames: &[Frame<'t>],
+        first: NodeId,
+    ) -> Result<Trail<'t>, Memory> {
+        let mut sites = Vec::new(alloc);
+        for frame in frames {
+            sites.push(sites_of(alloc, frame, first)?)?;
+        }
+        Ok(Trail {
+            sites,
+            last: Site::at(first),
+        })
+    }
+
+    /// The site of what was done last.
+    pub(crate) fn last(&self) -> Site<'t> {
+        self.last
+    }
+
+    /// The sites of the calls that are waited for, the last one first.
+    pub(crate) fn calls(&self, alloc: Global) -> Result<Vec<Site<'t>>, Memory> {
+        let mut calls = Vec::new(alloc);
+        for sites in self.sites.iter().rev().skip(1) {
+            if let Some(site) = sites.last() {
+                calls.push(*site)?;
+            }
+        }
+        Ok(calls)
+    }
+
+    /// The site of the next task.
+    pub(crate) fn next(&self) -> Option<Site<'t>> {
+        let sites = self.sites.last()?;
+        sites.last().copied()
+    }
+
+    /// The goroutine has done its next task. What came of it stands from `start` on, and a function that it calls from
+    /// `called` on.
+    pub(crate) fn follow(
+        &mut self,
+        alloc: Global,
+        frames: &[Frame<'t>],
+        start: NodeId,
+        called: NodeId,
+    ) -> Result<(), Memory> {
+        if let Some(site) = self.next() {
+            self.last = site;
+        }
+        if frames.len() < self.sites.len() {
+            let _gone = self.sites.pop();
+        }
+        let depth = self.sites.len();
+        if let (Some(sites), Some(frame)) = (
+            self.sites.last_mut(),
+            frames.get(depth.saturating_sub(1)),
+        ) {
+            settle(sites, frame.tasks.as_slice(), start)?;
+        }
+        if let Some(frame) = frames.get(depth) {
+            self.sites.push(sites_of(alloc, frame, called)?)?;
+        }
+        Ok(())
+    }
+}
+
+/// The sites of the tasks of a function that has just begun, the first node of whose body is this one.
+fn sites_of<'t>(alloc: Global, frame: &Frame<'t>, first: NodeId) -> Result<Vec<Site<'t>>, Memory> {
+    let mut sites = Vec::new(alloc);
+    settle(&mut sites, frame.tasks.as_slice(), first)?;
+    Ok(sites)
+}
+
+/// The sites of these tasks, where the last one of those before was done: what came of it stands from `start` on.
+fn settle<'t>(sites: &mut Vec<Site<'t>>, tasks: &[Task<'t>], start: NodeId) -> Result<(), Memory> {
+    let cause = match sites.pop() {
+        Some(site) => site,
+        None => Site::at(start),
+    };
+    let kept = sites.len().min(tasks.len());
+    sites.truncate(kept);
+    let mut next = start;
+    for task in tasks[kept..].iter().rev() {
+        let site = site_of(task, next, cause);
+        if begins(task) {
+            next = site.end();
+        }
+        sites.insert(kept, site)?;
+    }
+    Ok(())
+}
+
+/// The site of a task that came of a statement: the statement that stands from `next` on, or that which it came of.
+fn site_of<'t>(task: &Task<'t>, next: NodeId, cause: Site<'t>) -> Site<'t> {
+    match task {
+        Task::Do(one) => Site::of_statement(next, **one),
+        Task::Simply(one) => Site::of_simple(next, **one),
+        Task::Branch(one) => Site::of_if(next, **one),
+        Task::Enclose(_) => Site::at(next),
+        _ => cause,
+    }
+}
+
+/// Whether a task is a statement of its own.
+fn begins(task: &Task<'_>) -> bool {
+    matches!(
+        task,
+        Task::Do(_) | Task::Simply(_) | Task::Branch(_) | Task::Enclose(_)
+    )
+}
+
+/// Where what comes of the next task of a function stands.
+pub(crate) fn start<'t>(
+    alloc: Global,
+    program: &Program<'t>,
+    top: &Frame<'t>,
+    site: Site<'t>,
+) -> Result<NodeId, Memory> {
+    match (top.tasks.last(), site.inside) {
+        (Some(Task::Decide(_)), Inside::If(branch)) => chosen(alloc, program, top, site, branch),
+        (Some(Task::Head(_)), Inside::For(header)) => Ok(loop_first(site.first, header)),
+        (Some(Task::Again(_)), Inside::For(header)) => Ok(post_first(site.first, header)),
+        _ => Ok(site.first),
+    }
+}
+
+/// Where the branch of an `if` stands that is taken.
+fn chosen<'t>(
+    alloc: Global,
+    program: &Program<'t>,
+    top: &Frame<'t>,
+    site: Site<'t>,
+    branch: &'t IfNode,
+) -> Result<NodeId, Memory> {
+    match one(alloc, program, &top.scope, &branch.condition) {
+        Ok(word) if truth_in(word) => Ok(then_first(site.first, branch)),
+        Ok(_) => Ok(else_first(site.first, branch)),
+        Err(Stop::Panics(_)) => Ok(site.first),
+        Err(Stop::Memory) => Err(Memory),
+    }
+}
+
+/// Where what comes of a reply stands.
+pub(crate) fn replied(site: Site<'_>, reply: &Reply) -> NodeId {
+    match site.inside {
+        Inside::For(header) => loop_first(site.first, header),
+        Inside::Select(clauses) => clause_first(site.first, clauses, clause_of(reply)),
+        _ => site.first,
+    }
+}
+
+/// The number of a select's clause that was done, or 0 for its default.
+fn clause_of(reply: &Reply) -> usize {
+    match reply {
+        Reply::Clause(number, _) => *number,
+        _ => 0,
+    }
+}

@@ -1,0 +1,9 @@
+package main
+
+func main() {
+	down(0)
+}
+
+func down(n int) {
+	down(n + 1)
+}

@@ -1,0 +1,7 @@
+package main
+
+func main() {
+	for i := 3; i >= 0; i-- {
+		println(12 / i)
+	}
+}
