@@ -6,7 +6,7 @@ use unicode_width::UnicodeWidthStr;
 
 /// Puts the line of the text in which the span begins, and below it marks under the span, up to the end of that line, behind
 /// what is there. Tabs stand under tabs, so that the marks are under the span wherever a terminal has its tab stops.
-pub(crate) fn push_excerpt(said: &mut Vec<u8>, text: &str, span: Span) -> Result<(), Memory> {
+pub fn push_excerpt(said: &mut Vec<u8>, text: &str, span: Span) -> Result<(), Memory> {
     let from = span.from as usize;
     let Some(before) = text.get(..from) else {
         return Ok(());

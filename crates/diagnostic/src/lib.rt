@@ -10,7 +10,7 @@ mod hint;
 mod phrase;
 mod sentence;
 
-use crate::excerpt::push_excerpt;
+pub use crate::excerpt::push_excerpt;
 use crate::hint::hint_of;
 use crate::sentence::{push, push_sentence};
 use go_text::{Fault, Memory, Place, Position};

@@ -2,6 +2,7 @@
 //! is found.
 #![tactic(auto)]
 
+pub mod ends;
 pub mod given;
 mod number;
 pub mod operand;

@@ -1,0 +1,112 @@
+//! Where parts of statements begin and end, by the numbers of nodes.
+
+use crate::number::{comm_end, expression_end, simple_end, type_end};
+use crate::unit::{Walk, declared_end};
+use syntax::node::IfHeader;
+use syntax::{
+    ClauseNode, ForHeader, FunctionNode, IfNode, NodeId, SimpleNode, StatementNode, TopNode,
+};
+
+/// The number that no node has: a walk in search of it passes everything.
+const NOWHERE: NodeId = NodeId::MAX;
+
+/// The number behind the nodes of a statement. The one before it is the statement's own.
+pub fn statement_end(first: NodeId, statement: &StatementNode) -> NodeId {
+    let mut walk = Walk::new(NOWHERE, first);
+    walk.pass_statement(statement);
+    walk.end
+}
+
+/// The number behind the nodes of a simple statement.
+pub fn simple_statement_end(first: NodeId, simple: &SimpleNode) -> NodeId {
+    simple_end(first, simple)
+}
+
+/// The number behind the nodes of an `if`.
+pub fn if_end(first: NodeId, branch: &IfNode) -> NodeId {
+    let mut walk = Walk::new(NOWHERE, first);
+    walk.pass_if(branch);
+    walk.end
+}
+
+/// The first node of the block of an `if`.
+pub fn then_first(first: NodeId, branch: &IfNode) -> NodeId {
+    let condition = match &branch.header {
+        IfHeader::Bare | IfHeader::Semicolon => first,
+        IfHeader::Simple(simple) => simple_end(first, simple),
+    };
+    expression_end(condition, &branch.condition)
+}
+
+/// The first node of what stands behind the block of an `if`.
+pub fn else_first(first: NodeId, branch: &IfNode) -> NodeId {
+    let mut walk = Walk::new(NOWHERE, then_first(first, branch));
+    walk.pass_block(branch.body.as_slice());
+    walk.end
+}
+
+/// The first node of the body of a `for`.
+pub fn loop_first(first: NodeId, header: &ForHeader) -> NodeId {
+    let mut walk = Walk::new(NOWHERE, first);
+    walk.pass_header(header);
+    walk.end
+}
+
+/// The first node of what a `for` does behind each turn; of a `for` that does nothing there, of its body.
+pub fn post_first(first: NodeId, header: &ForHeader) -> NodeId {
+    let ForHeader::Clauses(start, condition, _) = header else {
+        return loop_first(first, header);
+    };
+    let middle = match start {
+        None => first,
+        Some(simple) => simple_end(first, simple),
+    };
+    match condition {
+        None => middle,
+        Some(condition) => expression_end(middle, condition),
+    }
+}
+
+/// The number behind the nodes of a clause of a `select`.
+fn clause_end(first: NodeId, clause: &ClauseNode) -> NodeId {
+    let mut walk = Walk::new(NOWHERE, first);
+    walk.pass_clause(clause);
+    walk.end
+}
+
+/// The first node of the statements of a `select`'s clause of this number, counted from 1 without the default, or of the
+/// default's where the number is 0. Where there is none, the number behind all clauses.
+pub fn clause_first(first: NodeId, clauses: &[ClauseNode], number: usize) -> NodeId {
+    let mut left = number;
+    let mut start = first;
+    for clause in clauses {
+        match &clause.comm {
+            None if number == 0 => return start,
+            None => {}
+            Some(comm) => {
+                if left == 1 {
+                    return comm_end(start, comm);
+                }
+                left = left.saturating_sub(1);
+            }
+        }
+        start = clause_end(start, clause);
+    }
+    start
+}
+
+/// The first node of the body of a function.
+pub fn function_first(first: NodeId, function: &FunctionNode) -> NodeId {
+    let parameters = declared_end(first, function.parameters.as_slice());
+    match &function.result {
+        None => parameters,
+        Some(written) => type_end(parameters, written),
+    }
+}
+
+/// The number behind the nodes of a declaration.
+pub fn top_end(first: NodeId, top: &TopNode) -> NodeId {
+    let mut walk = Walk::new(NOWHERE, first);
+    walk.pass_top(top);
+    walk.end
+}
