@@ -37,6 +37,7 @@ pub fn timeline_bytes(
     ensures why { IfErr result (λ fault. IsRefusal fault → IsWhy bytes.items fault) }
     ensures only { IfErr result (λ fault. IsRefusal fault ⊎ ((fault ≡ Fault.Memory) ⊎ (fault ≡ Fault.BadLimit))) }
     ensures recorded { IfOk result (λ made. (file : File) × Reads bytes.items file × IsRecorded (source_kind file) limit (map event_of made.events.items) made.end) }
+    ensures few { IfOk result (λ made. length made.events.items ≤ most) }
     ensures cut { IfOk result (λ made. IfNone made.end (most ≤ length made.events.items)) }
 {
     if limit < 1 || limit > 1 << 62 {
@@ -53,6 +54,7 @@ fn recorded(alloc: Global, typed: &Typed, limit: u64, most: usize) -> Result<Rec
     requires grammatical { IsGrammatical (tree_of (tree_in typed.now)) }
     requires lists { IsLimited (tree_of (tree_in typed.now)) }
     ensures recorded { IfOk result (λ made. IsRecorded (source_kind (tree_of (tree_in typed.now))) limit (map event_of made.events.items) made.end) }
+    ensures few { IfOk result (λ made. length made.events.items ≤ most) }
     ensures cut { IfOk result (λ made. IfNone made.end (most ≤ length made.events.items)) }
     ensures only { IfErr result (λ fault. fault ≡ Fault.Memory) }
 {

@@ -1,9 +1,8 @@
 -- What a book has committed, step by step.
-use Rattle.std.proofs.Common.{◌≡◌, ℕ, zero, suc, ◌+◌, List, [], ◌∷◌, ◌++◌, Bool, true, false, cond, map, length, refl, sym, ap, ◌∙◌, subst, arith, length-append}
-use Rattle.std.specs.Prelude.{IfSome, Some, slice_get}
+use Rattle.std.proofs.Common.{◌≡◌, ℕ, ◌+◌, List, [], ◌∷◌, ◌++◌, Bool, true, false, cond, map, length, refl, sym, ap, ◌∙◌, subst, arith, length-append}
 use Rattle.std.proofs.lemmas.List.{map-append}
 use Rattle.std.specs.Option.{is_some}
-use Rattle.book.specs.Desks.{Desk, Held, IsEvent, OnlyLooks, Settles, Looks, IsSight, Sighting, brought, opened_desk, seen_desk}
+use Rattle.book.specs.Desks.{Desk, Held, IsEvent, Settles, Looks, Sighting, brought, opened_desk}
 use Rattle.book.specs.declared.settled.Settled.{Settled}
 use Rattle.book.specs.declared.settled.Settled.TheVariants.{Committed, Waiting, Ended}
 use Rattle.bytecode.specs.Code.{Code}
@@ -14,7 +13,6 @@ use Rattle.word.specs.declared.end.End.{End as Ending}
 use Rattle.word.specs.declared.request.Event.{Event as Recorded}
 use Rattle.word.specs.Values.{Event}
 use Rattle.word.specs.Views.{event_of}
-use Rattle.word.specs.Worlds.{end_of, moment}
 use Rattle.recorder.specs.Recorded.{AreAll, AreFirst, Comes, EndsAfter, HasRecorded, IsLater}
 use Rattle.recorder.proofs.First.{first_all, first_more}
 
@@ -31,13 +29,15 @@ looks_later old (x ∷ xs) new h =
 pub settles_comes : (old : Desk) (settled : Settled) (new : Desk) → Settles old settled new → Comes old settled new
 settles_comes old (Committed event) new h =
     let looks = looks_later old h.1.0 h.0 h.1.1 in
-    let next = h.2 in
-    (record {
-      code = next.code ∙ looks.code;
-      limit = next.limit ∙ looks.limit;
-      events = let a = next.one_more in let b = looks.events in omega (arith, a, b);
-    }, subst (λ k. IsEvent old.code old.limit k (event_of event)) (let b = looks.events in omega (arith, b))
-      (subst (λ l. IsEvent old.code l h.0.core.events (event_of event)) looks.limit (subst (λ (c : Code). IsEvent c h.0.limit h.0.core.events (event_of event)) looks.code next.is_next)))
+    let next = h.2 in (
+      record {
+        code = next.code ∙ looks.code;
+        limit = next.limit ∙ looks.limit;
+        events = let a = next.one_more in let b = looks.events in omega (arith, a, b);
+      },
+      subst (λ k. IsEvent old.code old.limit k (event_of event)) (let b = looks.events in omega (arith, b))
+          (subst (λ l. IsEvent old.code l h.0.core.events (event_of event)) looks.limit (subst (λ (c : Code). IsEvent c h.0.limit h.0.core.events (event_of event)) looks.code next.is_next)),
+    )
 settles_comes old (Waiting n) new h = looks_later old h.only.0 new h.only.1
 settles_comes old (Ended ending) new h = (subst (λ (d : Desk). IsLater old d 0) (sym h.0) (record { code = refl; limit = refl; events = omega arith }), (h.1.moves, h.1.events, h.1.ending))
 
@@ -56,7 +56,7 @@ cond_events false c rows = refl
 pub brought_later : (old mid : Desk) (l : Held) → IsLater old mid 0 → IsLater old (brought mid l) 0
 brought_later old mid l m = record { code = m.code; limit = m.limit; events = cond_events (is_some mid.core.ending) mid.core _ ∙ m.events }
 
-one_longer : {A : Type 0} (xs : List A) (x : A) → length (xs ++ x ∷ []) ≡ length xs + 1
+pub one_longer : {A : Type 0} (xs : List A) (x : A) → length (xs ++ x ∷ []) ≡ length xs + 1
 one_longer xs x = length-append xs (x ∷ [])
 
 module _ (code : Code) (limit : ℕ) (old new : Desk) (events : List Recorded) (settled : Settled) (kept : HasRecorded code limit old events) (comes : Comes old settled new) where

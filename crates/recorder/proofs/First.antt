@@ -1,16 +1,13 @@
 -- The first events of a run, and one more of them.
-use Rattle.std.proofs.Common.{◌≡◌, ℕ, zero, suc, ◌+◌, ◌-◌, ◌≤◌, List, [], ◌∷◌, ◌++◌, map, length, take, drop, Option, Some, None, IfSome, refl, sym, ap, ◌∙◌, subst, arith}
+use Rattle.std.proofs.Common.{◌≡◌, ℕ, zero, suc, ◌+◌, ◌-◌, ◌≤◌, List, [], ◌∷◌, ◌++◌, length, take, drop, Some, refl, sym, ap, ◌∙◌, arith}
 use Rattle.std.specs.Prelude.{slice_get, unwrap_or}
 use Rattle.std.proofs.Math.Seq.{take-length}
-use Rattle.std.proofs.lemmas.List.{map-append}
 use Rattle.turn_rule.specs.Schedule.{IsPrefixOf}
 use Rattle.turn_rule.specs.Turns.{World}
 use Rattle.turn_rule.proofs.Stable.{run_add}
 use Rattle.word.specs.declared.end.End.{End as Ending}
-use Rattle.word.specs.declared.request.Event.{Event as Recorded}
 use Rattle.word.specs.Kinds.{Clocked, GoroutineKind}
 use Rattle.word.specs.Values.{Event}
-use Rattle.word.specs.Views.{event_of}
 use Rattle.word.specs.Worlds.{Rest, end_of, moment, opening, rules}
 use Rattle.word.proofs.Laws.{laws}
 use Rattle.word.proofs.Records.{events_begin}

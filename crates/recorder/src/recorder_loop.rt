@@ -34,6 +34,7 @@ pub fn record(
     requires { (1 ≤ limit) × (limit ≤ 2 ^ 62) }
     ensures first { IfOk result (λ made. AreFirst (code_kind (arc_value program)) limit (map event_of made.events.items)) }
     ensures all { IfOk result (λ made. IfSome made.end (AreAll (code_kind (arc_value program)) limit (map event_of made.events.items))) }
+    ensures few { IfOk result (λ made. length made.events.items ≤ most) }
     ensures cut { IfOk result (λ made. IfNone made.end (most ≤ length made.events.items)) }
     ensures only { IfErr result (λ fault. fault ≡ Fault.Memory) }
 {
@@ -54,6 +55,7 @@ fn record_named<B: BookName>(
     requires limit { (1 ≤ limit) × (limit ≤ 2 ^ 62) }
     ensures first { IfOk result (λ made. AreFirst (code_kind (arc_value program)) limit (map event_of made.events.items)) }
     ensures all { IfOk result (λ made. IfSome made.end (AreAll (code_kind (arc_value program)) limit (map event_of made.events.items))) }
+    ensures few { IfOk result (λ made. length made.events.items ≤ most) }
     ensures cut { IfOk result (λ made. IfNone made.end (most ≤ length made.events.items)) }
     ensures only { IfErr result (λ fault. fault ≡ Fault.Memory) }
 {
@@ -74,6 +76,7 @@ fn collect<B: BookName>(
     requires { HasRecorded book.code book.limit book [] }
     ensures first { IfOk result (λ made. AreFirst (code_kind book.code) book.limit (map event_of made.events.items)) }
     ensures all { IfOk result (λ made. IfSome made.end (AreAll (code_kind book.code) book.limit (map event_of made.events.items))) }
+    ensures few { IfOk result (λ made. length made.events.items ≤ most) }
     ensures cut { IfOk result (λ made. IfNone made.end (most ≤ length made.events.items)) }
 {
     let mut book = book;
