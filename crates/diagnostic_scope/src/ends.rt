@@ -1,20 +1,20 @@
 //! Where parts of statements begin and end, by the numbers of nodes.
 
-use crate::number::{after, comm_end, expression_end, simple_end, type_end};
-use crate::unit::{
-    declared_end, pass_clause, pass_for_header, pass_if, pass_statement, pass_statements, pass_top,
-};
+use crate::number::{comm_end, expression_end, simple_end, type_end};
+use crate::unit::{Walk, declared_end};
 use syntax::node::IfHeader;
 use syntax::{
     ClauseNode, ForHeader, FunctionNode, IfNode, NodeId, SimpleNode, StatementNode, TopNode,
 };
 
-/// The number that no node has: what does not stand there is passed.
+/// The number that no node has: a walk in search of it passes everything.
 const NOWHERE: NodeId = NodeId::MAX;
 
 /// The number behind the nodes of a statement. The one before it is the statement's own.
 pub fn statement_end(first: NodeId, statement: &StatementNode) -> NodeId {
-    pass_statement(NOWHERE, first, statement).unwrap_or(NOWHERE)
+    let mut walk = Walk::new(NOWHERE, first);
+    walk.pass_statement(statement);
+    walk.end
 }
 
 /// The number behind the nodes of a simple statement.
@@ -24,7 +24,9 @@ pub fn simple_statement_end(first: NodeId, simple: &SimpleNode) -> NodeId {
 
 /// The number behind the nodes of an `if`.
 pub fn if_end(first: NodeId, branch: &IfNode) -> NodeId {
-    pass_if(NOWHERE, first, branch).unwrap_or(NOWHERE)
+    let mut walk = Walk::new(NOWHERE, first);
+    walk.pass_if(branch);
+    walk.end
 }
 
 /// The first node of the block of an `if`.
@@ -38,17 +40,16 @@ pub fn then_first(first: NodeId, branch: &IfNode) -> NodeId {
 
 /// The first node of what stands behind the block of an `if`.
 pub fn else_first(first: NodeId, branch: &IfNode) -> NodeId {
-    after(statements_end(then_first(first, branch), branch.body.as_slice()))
-}
-
-/// The number behind the nodes of statements.
-fn statements_end(first: NodeId, body: &[StatementNode]) -> NodeId {
-    pass_statements(NOWHERE, first, body).unwrap_or(NOWHERE)
+    let mut walk = Walk::new(NOWHERE, then_first(first, branch));
+    walk.pass_block(branch.body.as_slice());
+    walk.end
 }
 
 /// The first node of the body of a `for`.
 pub fn loop_first(first: NodeId, header: &ForHeader) -> NodeId {
-    pass_for_header(NOWHERE, first, header).unwrap_or(NOWHERE)
+    let mut walk = Walk::new(NOWHERE, first);
+    walk.pass_header(header);
+    walk.end
 }
 
 /// The first node of what a `for` does behind each turn; of a `for` that does nothing there, of its body.
@@ -64,6 +65,13 @@ pub fn post_first(first: NodeId, header: &ForHeader) -> NodeId {
         None => middle,
         Some(condition) => expression_end(middle, condition),
     }
+}
+
+/// The number behind the nodes of a clause of a `select`.
+fn clause_end(first: NodeId, clause: &ClauseNode) -> NodeId {
+    let mut walk = Walk::new(NOWHERE, first);
+    walk.pass_clause(clause);
+    walk.end
 }
 
 /// The first node of the statements of a `select`'s clause of this number, counted from 1 without the default, or of the
@@ -82,7 +90,7 @@ pub fn clause_first(first: NodeId, clauses: &[ClauseNode], number: usize) -> Nod
                 left = left.saturating_sub(1);
             }
         }
-        start = pass_clause(NOWHERE, start, clause).unwrap_or(NOWHERE);
+        start = clause_end(start, clause);
     }
     start
 }
@@ -98,5 +106,7 @@ pub fn function_first(first: NodeId, function: &FunctionNode) -> NodeId {
 
 /// The number behind the nodes of a declaration.
 pub fn top_end(first: NodeId, top: &TopNode) -> NodeId {
-    pass_top(NOWHERE, first, top).unwrap_or(NOWHERE)
+    let mut walk = Walk::new(NOWHERE, first);
+    walk.pass_top(top);
+    walk.end
 }

@@ -9,7 +9,7 @@ use checker_operation::place::place;
 use std::alloc::{AllocError, Global};
 use syntax::{
     ArgumentsNode, CommNode, ExpressionNode, Name, NodeId, OperationNode, PartNode, PlaceNode,
-    RangeTarget, ReturnNode, RightNode, SimpleNode,
+    RangeTarget, ReturnNode, RightNode, SimpleNode, TypeNode,
 };
 use type_table::entry::{FunctionEntry, StructEntry};
 use type_table::layout::{function_number, number_of};
@@ -82,6 +82,45 @@ pub struct Parts<'a> {
     end: NodeId,
 }
 
+/// Where values go, which tells the types that are wanted.
+#[derive(Clone, Copy)]
+enum Target<'a> {
+    Places(&'a [PlaceNode]),
+    /// The names on the left of a `:=`.
+    Names(&'a [Name]),
+    /// So many new variables of this type.
+    Variables(Option<ValueType<'a>>, usize),
+    /// New variables, whose types are those of the values.
+    Untyped,
+    /// The parameters of the function of this name.
+    Parameters(&'a Name),
+}
+
+/// What values that go there are for.
+fn role_at(target: Target<'_>) -> Role<'_> {
+    match target {
+        Target::Places(_) | Target::Names(_) => Role::Assigned,
+        Target::Variables(_, _) | Target::Untyped => Role::Declared,
+        Target::Parameters(function) => Role::Argument(function),
+    }
+}
+
+/// The type that is wanted of the value with this number.
+fn wanted_at<'a>(
+    table: &TypeTable<'a>,
+    scene: &Scene<'a>,
+    target: Target<'a>,
+    index: usize,
+) -> Option<ValueType<'a>> {
+    match target {
+        Target::Places(places) => place_type(table, scene, places.get(index)?),
+        Target::Names(names) => name_type(table, scene, names.get(index)?),
+        Target::Variables(kind, count) => if index < count { kind } else { None },
+        Target::Untyped => None,
+        Target::Parameters(function) => parameter_type(table, function, index),
+    }
+}
+
 impl<'a> Parts<'a> {
     /// Takes a value.
     fn take(
@@ -103,15 +142,22 @@ impl<'a> Parts<'a> {
         Ok(())
     }
 
-    /// Takes values, for which these types are wanted.
+    /// Takes a channel from which one receives.
+    fn take_channel(&mut self, channel: &'a ExpressionNode) -> Result<(), AllocError> {
+        self.take(channel, Role::ReceivedFrom, None)
+    }
+
+    /// Takes values that go there.
     fn take_all(
         &mut self,
+        table: &TypeTable<'a>,
+        scene: &Scene<'a>,
         values: &'a [ExpressionNode],
-        role: Role<'a>,
-        wanted: &[Option<ValueType<'a>>],
+        target: Target<'a>,
     ) -> Result<(), AllocError> {
         for (index, value) in values.iter().enumerate() {
-            self.take(value, role, wanted.get(index).copied().flatten())?;
+            let wanted = wanted_at(table, scene, target, index);
+            self.take(value, role_at(target), wanted)?;
         }
         Ok(())
     }
@@ -120,13 +166,12 @@ impl<'a> Parts<'a> {
     fn take_call(
         &mut self,
         table: &TypeTable<'a>,
+        scene: &Scene<'a>,
         function: &'a Name,
         arguments: &'a ArgumentsNode,
     ) -> Result<(), AllocError> {
-        for (index, value) in arguments.values.iter().enumerate() {
-            let wanted = parameter_type(table, function, index);
-            self.take(value, Role::Argument(function), wanted)?;
-        }
+        let values = arguments.values.as_slice();
+        self.take_all(table, scene, values, Target::Parameters(function))?;
         self.called = Some(Called {
             node: self.end,
             function,
@@ -136,27 +181,48 @@ impl<'a> Parts<'a> {
         Ok(())
     }
 
+    /// Takes a `make`.
+    fn take_make(
+        &mut self,
+        written: &'a TypeNode,
+        size: &'a Option<ExpressionNode>,
+    ) -> Result<(), AllocError> {
+        self.end = type_end(self.end, written);
+        match size {
+            Some(size) => self.take(size, Role::Size, Some(ValueType::Int)),
+            None => Ok(()),
+        }
+    }
+
+    /// Takes the values in an operation.
+    fn take_operands(
+        &mut self,
+        table: &TypeTable<'a>,
+        scene: &Scene<'a>,
+        operation: &'a OperationNode,
+    ) -> Result<(), AllocError> {
+        match operation {
+            OperationNode::Call(function, arguments) => {
+                self.take_call(table, scene, function, arguments)
+            }
+            OperationNode::Receive(channel) => self.take_channel(channel),
+            OperationNode::Make(written, size) => self.take_make(written, size),
+            OperationNode::Length(of) => self.take(of, Role::Measured("len"), None),
+            OperationNode::Capacity(of) => self.take(of, Role::Measured("cap"), None),
+        }
+    }
+
     /// Takes an operation, whose value is for this.
     fn take_operation(
         &mut self,
         table: &TypeTable<'a>,
+        scene: &Scene<'a>,
         operation: &'a OperationNode,
         role: Role<'a>,
         wanted: Option<ValueType<'a>>,
     ) -> Result<(), AllocError> {
         let end = operation_end(self.end, operation);
-        match operation {
-            OperationNode::Call(function, arguments) => self.take_call(table, function, arguments)?,
-            OperationNode::Receive(channel) => self.take(channel, Role::ReceivedFrom, None)?,
-            OperationNode::Make(written, size) => {
-                self.end = type_end(self.end, written);
-                if let Some(size) = size {
-                    self.take(size, Role::Size, Some(ValueType::Int))?;
-                }
-            }
-            OperationNode::Length(of) => self.take(of, Role::Measured("len"), None)?,
-            OperationNode::Capacity(of) => self.take(of, Role::Measured("cap"), None)?,
-        }
+        self.take_operands(table, scene, operation)?;
         self.made = Some(Made {
             node: end.saturating_sub(1),
             operation,
@@ -167,30 +233,38 @@ impl<'a> Parts<'a> {
         Ok(())
     }
 
-    /// Takes a right side.
+    /// Takes a right side, whose values go there.
     fn take_right(
         &mut self,
         table: &TypeTable<'a>,
+        scene: &Scene<'a>,
         right: &'a RightNode,
-        role: Role<'a>,
-        wanted: &[Option<ValueType<'a>>],
+        target: Target<'a>,
     ) -> Result<(), AllocError> {
         match right {
             RightNode::Operation(operation) => {
-                let first = wanted.first().copied().flatten();
-                self.take_operation(table, operation, role, first)
+                let wanted = wanted_at(table, scene, target, 0);
+                self.take_operation(table, scene, operation, role_at(target), wanted)
             }
-            RightNode::Values(values) => self.take_all(values.as_slice(), role, wanted),
+            RightNode::Values(values) => self.take_all(table, scene, values.as_slice(), target),
+        }
+    }
+
+    /// Takes an argument of a print.
+    fn take_part(&mut self, part: &'a PartNode) -> Result<(), AllocError> {
+        match part {
+            PartNode::Value(value) => self.take(value, Role::Printed, None),
+            PartNode::Text(_) => {
+                self.end = part_end(self.end, part);
+                Ok(())
+            }
         }
     }
 
     /// Takes arguments of a print.
     fn take_printed(&mut self, parts: &'a [PartNode]) -> Result<(), AllocError> {
         for part in parts {
-            match part {
-                PartNode::Value(value) => self.take(value, Role::Printed, None)?,
-                PartNode::Text(_) => self.end = part_end(self.end, part),
-            }
+            self.take_part(part)?;
         }
         Ok(())
     }
@@ -207,35 +281,58 @@ impl<'a> Parts<'a> {
         self.take(value, Role::Sent, element_of(table, scene, channel))
     }
 
+    /// Takes the parts of an assignment.
+    fn take_assigned(
+        &mut self,
+        table: &TypeTable<'a>,
+        scene: &Scene<'a>,
+        places: &'a [PlaceNode],
+        right: &'a RightNode,
+    ) -> Result<(), AllocError> {
+        self.end = places_end(self.end, places.len());
+        self.take_right(table, scene, right, Target::Places(places))
+    }
+
+    /// Takes the value in an assignment with an operator.
+    fn take_update(&mut self, value: &'a ExpressionNode) -> Result<(), AllocError> {
+        self.end = after(self.end);
+        self.take(value, Role::Operand, None)
+    }
+
     /// Takes the parts of a simple statement.
     fn take_simple(
         &mut self,
-        alloc: Global,
         table: &TypeTable<'a>,
         scene: &Scene<'a>,
         simple: &'a SimpleNode,
     ) -> Result<(), AllocError> {
         match simple {
-            SimpleNode::Call(function, arguments) => self.take_call(table, function, arguments),
+            SimpleNode::Call(function, arguments) => {
+                self.take_call(table, scene, function, arguments)
+            }
             SimpleNode::Close(channel) => self.take(channel, Role::Closed, None),
             SimpleNode::Print(_, parts, _) => self.take_printed(parts.as_slice()),
-            SimpleNode::Receive(channel) => self.take(channel, Role::ReceivedFrom, None),
+            SimpleNode::Receive(channel) => self.take_channel(channel),
             SimpleNode::Send(channel, value) => self.take_send(table, scene, channel, value),
             SimpleNode::Increment(_) | SimpleNode::Decrement(_) => Ok(()),
             SimpleNode::Assign(places, right) => {
-                let wanted = place_types(alloc, table, scene, places.as_slice())?;
-                self.end = places_end(self.end, places.len());
-                self.take_right(table, right, Role::Assigned, wanted.as_slice())
+                self.take_assigned(table, scene, places.as_slice(), right)
             }
             SimpleNode::Define(names, right) => {
-                let wanted = name_types(alloc, table, scene, names.as_slice())?;
-                self.take_right(table, right, Role::Assigned, wanted.as_slice())
+                self.take_right(table, scene, right, Target::Names(names.as_slice()))
             }
-            SimpleNode::Update(_, _, value) => {
-                self.end = after(self.end);
-                self.take(value, Role::Operand, None)
-            }
+            SimpleNode::Update(_, _, value) => self.take_update(value),
         }
+    }
+
+    /// Takes the channel of a clause of a `select` that assigns what it receives to one place, or to two.
+    fn take_received(
+        &mut self,
+        other: &'a Option<PlaceNode>,
+        channel: &'a ExpressionNode,
+    ) -> Result<(), AllocError> {
+        self.end = places_end(self.end, if other.is_some() { 2 } else { 1 });
+        self.take_channel(channel)
     }
 
     /// Takes the parts of what a clause of a `select` waits for.
@@ -248,48 +345,69 @@ impl<'a> Parts<'a> {
         match comm {
             CommNode::Send(channel, value) => self.take_send(table, scene, channel, value),
             CommNode::Receive(channel) | CommNode::Define(_, _, channel) => {
-                self.take(channel, Role::ReceivedFrom, None)
+                self.take_channel(channel)
             }
-            CommNode::Assign(_, other, channel) => {
-                self.end = places_end(self.end, if other.is_some() { 2 } else { 1 });
-                self.take(channel, Role::ReceivedFrom, None)
+            CommNode::Assign(_, other, channel) => self.take_received(other, channel),
+        }
+    }
+
+    /// Takes the values of a `var` with a type.
+    fn take_typed(
+        &mut self,
+        table: &TypeTable<'a>,
+        scene: &Scene<'a>,
+        count: usize,
+        written: &'a TypeNode,
+        right: &'a RightNode,
+    ) -> Result<(), AllocError> {
+        let kind = type_in(table, &scene.visible, written);
+        self.end = type_end(self.end, written);
+        self.take_right(table, scene, right, Target::Variables(kind, count))
+    }
+
+    /// Takes the source of a range.
+    fn take_range(
+        &mut self,
+        target: &'a RangeTarget,
+        source: &'a ExpressionNode,
+    ) -> Result<(), AllocError> {
+        if let RangeTarget::Assign(_) = target {
+            self.end = after(self.end);
+        }
+        self.take(source, Role::Ranged, None)
+    }
+
+    /// Takes what a `return` gives.
+    fn take_returned(
+        &mut self,
+        table: &TypeTable<'a>,
+        scene: &Scene<'a>,
+        returned: &'a ReturnNode,
+    ) -> Result<(), AllocError> {
+        match returned {
+            ReturnNode::Nothing => Ok(()),
+            ReturnNode::Value(value) => self.take(value, Role::Returned, scene.result),
+            ReturnNode::Operation(operation) => {
+                self.take_operation(table, scene, operation, Role::Returned, scene.result)
             }
         }
     }
 
     /// Takes the parts of a unit.
-    fn take_unit(
-        &mut self,
-        alloc: Global,
-        table: &TypeTable<'a>,
-        scene: &Scene<'a>,
-    ) -> Result<(), AllocError> {
+    fn take_unit(&mut self, table: &TypeTable<'a>, scene: &Scene<'a>) -> Result<(), AllocError> {
         match scene.found.unit {
-            Unit::Simple(simple) => self.take_simple(alloc, table, scene, simple),
+            Unit::Simple(simple) => self.take_simple(table, scene, simple),
             Unit::Typed(names, written, Some(right)) => {
-                let kind = type_in(table, &scene.visible, written);
-                let wanted = same_types(alloc, kind, names.len())?;
-                self.end = type_end(self.end, written);
-                self.take_right(table, right, Role::Declared, wanted.as_slice())
+                self.take_typed(table, scene, names.len(), written, right)
             }
-            Unit::Untyped(_, right) => self.take_right(table, right, Role::Declared, &[]),
+            Unit::Untyped(_, right) => self.take_right(table, scene, right, Target::Untyped),
             Unit::Condition(in_for, condition) => {
                 self.take(condition, Role::Condition(in_for), Some(ValueType::Bool))
             }
-            Unit::Range(target, source) => {
-                if let RangeTarget::Assign(_) = target {
-                    self.end = after(self.end);
-                }
-                self.take(source, Role::Ranged, None)
-            }
+            Unit::Range(target, source) => self.take_range(target, source),
             Unit::Comm(comm) => self.take_comm(table, scene, comm),
-            Unit::Go(function, arguments) => self.take_call(table, function, arguments),
-            Unit::Return(ReturnNode::Value(value)) => {
-                self.take(value, Role::Returned, scene.result)
-            }
-            Unit::Return(ReturnNode::Operation(operation)) => {
-                self.take_operation(table, operation, Role::Returned, scene.result)
-            }
+            Unit::Go(function, arguments) => self.take_call(table, scene, function, arguments),
+            Unit::Return(returned) => self.take_returned(table, scene, returned),
             _ => Ok(()),
         }
     }
@@ -307,7 +425,7 @@ pub fn parts_of<'a>(
         called: None,
         end: scene.found.first,
     };
-    parts.take_unit(alloc, table, scene)?;
+    parts.take_unit(table, scene)?;
     Ok(parts)
 }
 
@@ -366,44 +484,10 @@ pub fn place_type<'a>(
     }
 }
 
-/// The types of places.
-fn place_types<'a>(
-    alloc: Global,
-    table: &TypeTable<'a>,
-    scene: &Scene<'a>,
-    places: &[PlaceNode],
-) -> Result<Vec<Option<ValueType<'a>>>, AllocError> {
-    let mut kinds = Vec::new(alloc);
-    for one in places {
-        kinds.push(place_type(table, scene, one))?;
+/// The type of the variable of this name on the left of a `:=`, if it was there before.
+fn name_type<'a>(table: &TypeTable<'a>, scene: &Scene<'a>, name: &Name) -> Option<ValueType<'a>> {
+    match own_variable(table, &scene.visible, name.bytes.as_slice()) {
+        Some(entry) => Some(entry.kind),
+        None => None,
     }
-    Ok(kinds)
-}
-
-/// The types of the names on the left of a `:=` that are there.
-fn name_types<'a>(
-    alloc: Global,
-    table: &TypeTable<'a>,
-    scene: &Scene<'a>,
-    names: &[Name],
-) -> Result<Vec<Option<ValueType<'a>>>, AllocError> {
-    let mut kinds = Vec::new(alloc);
-    for name in names {
-        let own = own_variable(table, &scene.visible, name.bytes.as_slice());
-        kinds.push(own.map(|entry| entry.kind))?;
-    }
-    Ok(kinds)
-}
-
-/// So many times this type.
-fn same_types<'a>(
-    alloc: Global,
-    kind: Option<ValueType<'a>>,
-    count: usize,
-) -> Result<Vec<Option<ValueType<'a>>>, AllocError> {
-    let mut kinds = Vec::new(alloc);
-    for _ in 0..count {
-        kinds.push(kind)?;
-    }
-    Ok(kinds)
 }

@@ -4,7 +4,6 @@ use crate::scene::Scene;
 use crate::words::{Words, push_expression, push_operation, push_type};
 use checker_base::operand::worth;
 use checker_base::worth::Worth;
-use std::alloc::AllocError;
 use syntax::{BinaryOperator, ExpressionNode, OperationNode, UnaryOperator};
 use type_table::scope::is_truth;
 use type_table::table::TypeTable;
@@ -32,24 +31,37 @@ fn is_truth_value(expression: &ExpressionNode) -> bool {
     }
 }
 
+/// Whether an operator compares its operands.
+fn compares(operator: BinaryOperator) -> bool {
+    matches!(
+        operator,
+        BinaryOperator::Equal
+            | BinaryOperator::NotEqual
+            | BinaryOperator::Less
+            | BinaryOperator::LessEqual
+            | BinaryOperator::Greater
+            | BinaryOperator::GreaterEqual
+    )
+}
+
+/// Whether an operator joins two bools.
+fn joins(operator: BinaryOperator) -> bool {
+    matches!(
+        operator,
+        BinaryOperator::LogicalAnd | BinaryOperator::LogicalOr
+    )
+}
+
 /// Whether an expression is an untyped bool, as a comparison is.
 fn is_untyped_bool(expression: &ExpressionNode) -> bool {
     match expression {
         ExpressionNode::Named(name) => is_truth(name.bytes.as_slice()),
         ExpressionNode::Parenthesized(inner) => is_untyped_bool(inner),
         ExpressionNode::Unary(UnaryOperator::Not, inner) => is_untyped_bool(inner),
-        ExpressionNode::Binary(operator, left, right) => match operator {
-            BinaryOperator::Equal
-            | BinaryOperator::NotEqual
-            | BinaryOperator::Less
-            | BinaryOperator::LessEqual
-            | BinaryOperator::Greater
-            | BinaryOperator::GreaterEqual => true,
-            BinaryOperator::LogicalAnd | BinaryOperator::LogicalOr => {
-                is_untyped_bool(left) && is_untyped_bool(right)
-            }
-            _ => false,
-        },
+        ExpressionNode::Binary(operator, left, right) => {
+            compares(*operator)
+                || (joins(*operator) && is_untyped_bool(left) && is_untyped_bool(right))
+        }
         _ => false,
     }
 }
@@ -69,21 +81,30 @@ fn push_typed(
     table: &TypeTable<'_>,
     expression: &ExpressionNode,
     kind: ValueType<'_>,
-) -> Result<(), AllocError> {
+) {
     if is_truth_value(expression) {
         return said.text(" (untyped bool constant)");
     }
     if is_untyped_bool(expression) {
         return said.text(" (untyped bool value)");
     }
-    let variable = is_variable(expression);
-    said.text(if variable {
+    said.text(if is_variable(expression) {
         " (variable of type "
     } else {
         " (value of type "
-    })?;
-    push_type(said, table, kind)?;
-    said.text(")")
+    });
+    push_type(said, table, kind);
+    said.text(")");
+}
+
+/// Puts what a constant is behind its text: its value, where the text is another.
+fn push_constant(said: &mut Words, expression: &ExpressionNode, value: i128) {
+    if is_integer(expression) {
+        return said.text(" (untyped int constant)");
+    }
+    said.text(" (untyped int constant ");
+    said.number(value);
+    said.text(")");
 }
 
 /// Puts a value behind what is there, as `x (variable of type int)`.
@@ -92,17 +113,12 @@ pub fn push_operand(
     table: &TypeTable<'_>,
     scene: &Scene<'_>,
     expression: &ExpressionNode,
-) -> Result<(), AllocError> {
-    push_expression(said, expression)?;
+) {
+    push_expression(said, expression);
     match worth(table, &scene.visible, expression) {
         Some(Worth::Typed(kind)) => push_typed(said, table, expression, kind),
-        Some(Worth::Constant(_)) if is_integer(expression) => said.text(" (untyped int constant)"),
-        Some(Worth::Constant(value)) => {
-            said.text(" (untyped int constant ")?;
-            said.number(value)?;
-            said.text(")")
-        }
-        _ => Ok(()),
+        Some(Worth::Constant(value)) => push_constant(said, expression, value),
+        _ => {}
     }
 }
 
@@ -112,7 +128,7 @@ pub fn push_worth(
     table: &TypeTable<'_>,
     scene: &Scene<'_>,
     expression: &ExpressionNode,
-) -> Result<(), AllocError> {
+) {
     match worth(table, &scene.visible, expression) {
         Some(Worth::Typed(_)) if is_untyped_bool(expression) => said.text("untyped bool"),
         Some(Worth::Typed(kind)) => push_type(said, table, kind),
@@ -128,15 +144,15 @@ pub fn push_made(
     table: &TypeTable<'_>,
     operation: &OperationNode,
     kind: Option<ValueType<'_>>,
-) -> Result<(), AllocError> {
-    push_operation(said, operation)?;
+) {
+    push_operation(said, operation);
     let Some(kind) = kind else {
-        return Ok(());
+        return;
     };
     said.text(match operation {
         OperationNode::Receive(_) => " (comma, ok expression of type ",
         _ => " (value of type ",
-    })?;
-    push_type(said, table, kind)?;
-    said.text(")")
+    });
+    push_type(said, table, kind);
+    said.text(")");
 }

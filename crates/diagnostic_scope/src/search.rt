@@ -3,52 +3,6 @@
 use crate::number::after;
 use syntax::{ExpressionNode, Name, NodeId};
 
-/// Searches an expression, whose nodes have numbers from `first` on, for a node. Answers the number behind it, or the part
-/// whose own node that is.
-#[cycle(search)]
-fn search<'a>(
-    node: NodeId,
-    first: NodeId,
-    expression: &'a ExpressionNode,
-) -> Result<NodeId, &'a ExpressionNode> {
-    let own = match expression {
-        ExpressionNode::Integer(_) | ExpressionNode::Named(_) => first,
-        ExpressionNode::Parenthesized(inner)
-        | ExpressionNode::Selection(inner, _)
-        | ExpressionNode::Unary(_, inner) => search(node, first, inner)?,
-        ExpressionNode::Composite(_, values, _) => search_all(node, first, values.as_slice())?,
-        ExpressionNode::Binary(_, left, right) => search(node, search(node, first, left)?, right)?,
-    };
-    if own == node {
-        Err(expression)
-    } else {
-        Ok(after(own))
-    }
-}
-
-/// Searches expressions.
-#[cycle(search)]
-fn search_all<'a>(
-    node: NodeId,
-    first: NodeId,
-    values: &'a [ExpressionNode],
-) -> Result<NodeId, &'a ExpressionNode> {
-    let mut end = first;
-    for value in values {
-        end = search(node, end, value)?;
-    }
-    Ok(end)
-}
-
-/// The part of an expression whose own node this is.
-pub fn part_at<'a>(
-    node: NodeId,
-    first: NodeId,
-    expression: &'a ExpressionNode,
-) -> Option<&'a ExpressionNode> {
-    search(node, first, expression).err()
-}
-
 /// A value that a literal gives a field.
 #[derive(Clone, Copy)]
 pub struct Filled<'a> {
@@ -59,46 +13,84 @@ pub struct Filled<'a> {
     pub value: &'a ExpressionNode,
 }
 
-/// Searches an expression for a literal that gives a field the value whose own node this is.
-#[cycle(fill)]
-fn fill<'a>(
+/// A walk past the nodes of an expression, in the order of their numbers, in search of one of them.
+#[derive(Drop)]
+struct Search<'a> {
     node: NodeId,
-    first: NodeId,
-    expression: &'a ExpressionNode,
-) -> Result<NodeId, Filled<'a>> {
-    let own = match expression {
-        ExpressionNode::Integer(_) | ExpressionNode::Named(_) => first,
-        ExpressionNode::Parenthesized(inner)
-        | ExpressionNode::Selection(inner, _)
-        | ExpressionNode::Unary(_, inner) => fill(node, first, inner)?,
-        ExpressionNode::Composite(name, values, _) => {
-            fill_all(node, first, name, values.as_slice())?
-        }
-        ExpressionNode::Binary(_, left, right) => fill(node, fill(node, first, left)?, right)?,
-    };
-    Ok(after(own))
+    /// The number behind the nodes that were passed.
+    end: NodeId,
+    /// The part whose own node it is, once that was passed.
+    part: Option<&'a ExpressionNode>,
+    /// The same part, if a literal gives it to a field.
+    filled: Option<Filled<'a>>,
 }
 
-/// Searches the values of a literal of this type.
-#[cycle(fill)]
-fn fill_all<'a>(
-    node: NodeId,
-    first: NodeId,
-    literal: &'a Name,
-    values: &'a [ExpressionNode],
-) -> Result<NodeId, Filled<'a>> {
-    let mut end = first;
-    for (index, value) in values.iter().enumerate() {
-        end = fill(node, end, value)?;
-        if end == after(node) {
-            return Err(Filled {
+impl<'a> Search<'a> {
+    /// A search of an expression, whose nodes have numbers from `first` on.
+    fn of(node: NodeId, first: NodeId, expression: &'a ExpressionNode) -> Search<'a> {
+        let mut search = Search {
+            node,
+            end: first,
+            part: None,
+            filled: None,
+        };
+        search.pass(expression);
+        search
+    }
+
+    /// Passes an expression.
+    #[cycle(search)]
+    fn pass(&mut self, expression: &'a ExpressionNode) {
+        match expression {
+            ExpressionNode::Integer(_) | ExpressionNode::Named(_) => {}
+            ExpressionNode::Parenthesized(inner)
+            | ExpressionNode::Selection(inner, _)
+            | ExpressionNode::Unary(_, inner) => self.pass(inner),
+            ExpressionNode::Composite(name, values, _) => self.pass_all(name, values.as_slice()),
+            ExpressionNode::Binary(_, left, right) => {
+                self.pass(left);
+                self.pass(right);
+            }
+        }
+        self.pass_own(expression);
+    }
+
+    /// Passes the values of a literal of this type.
+    #[cycle(search)]
+    fn pass_all(&mut self, literal: &'a Name, values: &'a [ExpressionNode]) {
+        for (index, value) in values.iter().enumerate() {
+            self.pass(value);
+            self.fill(literal, index, value);
+        }
+    }
+
+    /// Passes the own node of an expression, whose other nodes were passed.
+    fn pass_own(&mut self, expression: &'a ExpressionNode) {
+        if self.end == self.node && self.part.is_none() {
+            self.part = Some(expression);
+        }
+        self.end = after(self.end);
+    }
+
+    /// Keeps a value that was just passed, if it is what is sought.
+    fn fill(&mut self, literal: &'a Name, index: usize, value: &'a ExpressionNode) {
+        if self.end == after(self.node) && self.filled.is_none() {
+            self.filled = Some(Filled {
                 literal,
                 index,
                 value,
             });
         }
     }
-    Ok(end)
+}
+
+/// The part of an expression whose own node this is.
+pub fn part_at<'a>(
+    node: NodeId,
+    first: NodeId,
+    expression: &'a ExpressionNode,
+) -> Option<&'a ExpressionNode> {
+    Search::of(node, first, expression).part
 }
 
 /// The literal within an expression that gives a field the value whose own node this is.
@@ -107,5 +99,5 @@ pub fn filled_at<'a>(
     first: NodeId,
     expression: &'a ExpressionNode,
 ) -> Option<Filled<'a>> {
-    fill(node, first, expression).err()
+    Search::of(node, first, expression).filled
 }

@@ -39,205 +39,231 @@ pub struct Found<'a> {
     pub unit: Unit<'a>,
 }
 
-/// The number behind what a node does not stand in, or else the unit in which it stands.
-type Passed<'a> = Result<NodeId, Found<'a>>;
-
-/// Passes a unit whose nodes have the numbers from `first` to before `end`.
-fn pass<'a>(node: NodeId, first: NodeId, end: NodeId, unit: Unit<'a>) -> Passed<'a> {
-    if node < end {
-        Err(Found { first, unit })
-    } else {
-        Ok(end)
-    }
-}
-
-/// Passes a simple statement.
-fn pass_simple<'a>(node: NodeId, first: NodeId, simple: &'a SimpleNode) -> Passed<'a> {
-    pass(node, first, simple_end(first, simple), Unit::Simple(simple))
-}
-
-/// Passes a simple statement that may be left out.
-fn pass_optional<'a>(node: NodeId, first: NodeId, simple: &'a Option<SimpleNode>) -> Passed<'a> {
-    match simple {
-        None => Ok(first),
-        Some(simple) => pass_simple(node, first, simple),
-    }
-}
-
-/// Passes a condition; `in_for` says whether it is that of a `for`.
-fn pass_condition<'a>(
+/// A walk past the nodes of a file, in the order of their numbers, in search of one of them.
+#[derive(Drop)]
+pub(crate) struct Walk<'a> {
     node: NodeId,
-    first: NodeId,
-    in_for: bool,
-    condition: &'a ExpressionNode,
-) -> Passed<'a> {
-    let unit = Unit::Condition(in_for, condition);
-    pass(node, first, expression_end(first, condition), unit)
+    /// The number behind the nodes that were passed.
+    pub end: NodeId,
+    /// The unit in which the node stands, once that was passed.
+    pub found: Option<Found<'a>>,
 }
 
-/// Passes the head of a range.
-fn pass_range<'a>(
-    node: NodeId,
-    first: NodeId,
-    target: &'a RangeTarget,
-    source: &'a ExpressionNode,
-) -> Passed<'a> {
-    let start = match target {
-        RangeTarget::Nothing | RangeTarget::Define(_) => first,
-        RangeTarget::Assign(_) => after(first),
-    };
-    let unit = Unit::Range(target, source);
-    pass(node, first, expression_end(start, source), unit)
-}
-
-/// Passes what stands between a `for` and its block.
-pub(crate) fn pass_for_header<'a>(
-    node: NodeId,
-    first: NodeId,
-    header: &'a ForHeader,
-) -> Passed<'a> {
-    match header {
-        ForHeader::Forever => Ok(first),
-        ForHeader::While(condition) => pass_condition(node, first, true, condition),
-        ForHeader::Clauses(one, condition, post) => {
-            let middle = pass_optional(node, first, one)?;
-            let end = match condition {
-                None => middle,
-                Some(condition) => pass_condition(node, middle, true, condition)?,
-            };
-            pass_optional(node, end, post)
+impl<'a> Walk<'a> {
+    /// A walk that begins before the node `first`.
+    pub(crate) fn new(node: NodeId, first: NodeId) -> Walk<'a> {
+        Walk {
+            node,
+            end: first,
+            found: None,
         }
-        ForHeader::Range(target, source) => pass_range(node, first, target, source),
     }
-}
 
-/// Passes a `for`, whose own node tells of its range.
-#[cycle(statement)]
-fn pass_for<'a>(
-    node: NodeId,
-    first: NodeId,
-    header: &'a ForHeader,
-    body: &'a [StatementNode],
-) -> Passed<'a> {
-    let start = pass_for_header(node, first, header)?;
-    let block = pass_statements(node, start, body)?;
-    let end = after(after(block));
-    match header {
-        ForHeader::Range(target, source) => pass(node, first, end, Unit::Range(target, source)),
-        _ => Ok(end),
+    /// Passes a node that is none of a unit.
+    fn pass_node(&mut self) {
+        self.end = after(self.end);
     }
-}
 
-/// Passes an `if`.
-#[cycle(statement)]
-pub(crate) fn pass_if<'a>(node: NodeId, first: NodeId, branch: &'a IfNode) -> Passed<'a> {
-    let start = match &branch.header {
-        IfHeader::Bare | IfHeader::Semicolon => first,
-        IfHeader::Simple(simple) => pass_simple(node, first, simple)?,
-    };
-    let middle = pass_condition(node, start, false, &branch.condition)?;
-    let block = pass_statements(node, middle, branch.body.as_slice())?;
-    let behind = match &branch.otherwise {
-        ElseNode::Nothing => after(block),
-        ElseNode::Block(body) => { after(pass_statements(node, after(block), body.as_slice())?) }
-        ElseNode::If(other) => pass_if(node, after(block), other)?,
-    };
-    Ok(after(behind))
-}
-
-/// Passes a clause of a `select`.
-#[cycle(statement)]
-pub(crate) fn pass_clause<'a>(node: NodeId, first: NodeId, clause: &'a ClauseNode) -> Passed<'a> {
-    let start = match &clause.comm {
-        None => first,
-        Some(comm) => pass(node, first, comm_end(first, comm), Unit::Comm(comm))?,
-    };
-    let end = pass_statements(node, start, clause.body.as_slice())?;
-    Ok(after(end))
-}
-
-/// Passes the clauses of a `select`.
-#[cycle(statement)]
-fn pass_clauses<'a>(node: NodeId, first: NodeId, clauses: &'a [ClauseNode]) -> Passed<'a> {
-    let mut end = first;
-    for clause in clauses {
-        end = pass_clause(node, end, clause)?;
-    }
-    Ok(after(end))
-}
-
-/// Passes a `return`.
-fn pass_return<'a>(node: NodeId, first: NodeId, returned: &'a ReturnNode) -> Passed<'a> {
-    let end = match returned {
-        ReturnNode::Nothing => first,
-        ReturnNode::Operation(operation) => operation_end(first, operation),
-        ReturnNode::Value(value) => expression_end(first, value),
-    };
-    pass(node, first, after(end), Unit::Return(returned))
-}
-
-/// Passes a `var` with a type.
-fn pass_typed<'a>(
-    node: NodeId,
-    first: NodeId,
-    names: &'a [Name],
-    written: &'a TypeNode,
-    right: &'a Option<RightNode>,
-) -> Passed<'a> {
-    let start = type_end(first, written);
-    let end = match right {
-        None => start,
-        Some(right) => right_end(start, right),
-    };
-    pass(node, first, after(end), Unit::Typed(names, written, right))
-}
-
-/// Passes a statement.
-#[cycle(statement)]
-pub(crate) fn pass_statement<'a>(
-    node: NodeId,
-    first: NodeId,
-    statement: &'a StatementNode,
-) -> Passed<'a> {
-    match statement {
-        StatementNode::Empty => Ok(after(first)),
-        StatementNode::Simple(simple) => pass_simple(node, first, simple),
-        StatementNode::Typed(names, written, right) => {
-            pass_typed(node, first, names.as_slice(), written, right)
+    /// Passes a unit, whose nodes have the numbers from `first` to before `end`.
+    fn pass(&mut self, first: NodeId, end: NodeId, unit: Unit<'a>) {
+        self.end = end;
+        if self.node < end && self.found.is_none() {
+            self.found = Some(Found { first, unit });
         }
-        StatementNode::Untyped(names, right) => {
-            let unit = Unit::Untyped(names.as_slice(), right);
-            pass(node, first, after(right_end(first, right)), unit)
-        }
-        StatementNode::Block(body) => {
-            let end = pass_statements(node, first, body.as_slice())?;
-            Ok(after(after(end)))
-        }
-        StatementNode::If(branch) => pass_if(node, first, branch),
-        StatementNode::For(header, body) => pass_for(node, first, header, body.as_slice()),
-        StatementNode::Select(clauses) => pass_clauses(node, first, clauses.as_slice()),
-        StatementNode::Go(function, arguments) => {
-            let end = after(values_end(first, arguments.values.as_slice()));
-            pass(node, first, end, Unit::Go(function, arguments))
-        }
-        StatementNode::Return(returned) => pass_return(node, first, returned),
-        StatementNode::Break => pass(node, first, after(first), Unit::Break),
-        StatementNode::Continue => pass(node, first, after(first), Unit::Continue),
     }
-}
 
-/// Passes statements.
-#[cycle(statement)]
-pub(crate) fn pass_statements<'a>(
-    node: NodeId,
-    first: NodeId,
-    body: &'a [StatementNode],
-) -> Passed<'a> {
-    let mut end = first;
-    for statement in body {
-        end = pass_statement(node, end, statement)?;
+    /// Passes a simple statement.
+    fn pass_simple(&mut self, simple: &'a SimpleNode) {
+        self.pass(self.end, simple_end(self.end, simple), Unit::Simple(simple));
     }
-    Ok(end)
+
+    /// Passes a simple statement that may be left out.
+    fn pass_optional(&mut self, simple: &'a Option<SimpleNode>) {
+        if let Some(simple) = simple {
+            self.pass_simple(simple);
+        }
+    }
+
+    /// Passes a condition; `in_for` says whether it is that of a `for`.
+    fn pass_condition(&mut self, in_for: bool, condition: &'a ExpressionNode) {
+        let end = expression_end(self.end, condition);
+        self.pass(self.end, end, Unit::Condition(in_for, condition));
+    }
+
+    /// Passes the head of a range.
+    fn pass_range(&mut self, target: &'a RangeTarget, source: &'a ExpressionNode) {
+        let start = match target {
+            RangeTarget::Nothing | RangeTarget::Define(_) => self.end,
+            RangeTarget::Assign(_) => after(self.end),
+        };
+        let end = expression_end(start, source);
+        self.pass(self.end, end, Unit::Range(target, source));
+    }
+
+    /// Passes what stands between a `for` and its block.
+    pub(crate) fn pass_header(&mut self, header: &'a ForHeader) {
+        match header {
+            ForHeader::Forever => {}
+            ForHeader::While(condition) => self.pass_condition(true, condition),
+            ForHeader::Clauses(one, condition, post) => {
+                self.pass_optional(one);
+                if let Some(condition) = condition {
+                    self.pass_condition(true, condition);
+                }
+                self.pass_optional(post);
+            }
+            ForHeader::Range(target, source) => self.pass_range(target, source),
+        }
+    }
+
+    /// Passes a `for`, whose own node tells of its range.
+    #[cycle(statement)]
+    fn pass_for(&mut self, header: &'a ForHeader, body: &'a [StatementNode]) {
+        let first = self.end;
+        self.pass_header(header);
+        self.pass_block(body);
+        match header {
+            ForHeader::Range(target, source) => {
+                self.pass(first, after(self.end), Unit::Range(target, source));
+            }
+            _ => self.pass_node(),
+        }
+    }
+
+    /// Passes an `if`.
+    #[cycle(statement)]
+    pub(crate) fn pass_if(&mut self, branch: &'a IfNode) {
+        if let IfHeader::Simple(simple) = &branch.header {
+            self.pass_simple(simple);
+        }
+        self.pass_condition(false, &branch.condition);
+        self.pass_block(branch.body.as_slice());
+        match &branch.otherwise {
+            ElseNode::Nothing => {}
+            ElseNode::Block(body) => self.pass_block(body.as_slice()),
+            ElseNode::If(other) => self.pass_if(other),
+        }
+        self.pass_node();
+    }
+
+    /// Passes a clause of a `select`.
+    #[cycle(statement)]
+    pub(crate) fn pass_clause(&mut self, clause: &'a ClauseNode) {
+        if let Some(comm) = &clause.comm {
+            self.pass(self.end, comm_end(self.end, comm), Unit::Comm(comm));
+        }
+        self.pass_block(clause.body.as_slice());
+    }
+
+    /// Passes the clauses of a `select`.
+    #[cycle(statement)]
+    fn pass_clauses(&mut self, clauses: &'a [ClauseNode]) {
+        for clause in clauses {
+            self.pass_clause(clause);
+        }
+        self.pass_node();
+    }
+
+    /// Passes a `return`.
+    fn pass_return(&mut self, returned: &'a ReturnNode) {
+        let end = match returned {
+            ReturnNode::Nothing => self.end,
+            ReturnNode::Operation(operation) => operation_end(self.end, operation),
+            ReturnNode::Value(value) => expression_end(self.end, value),
+        };
+        self.pass(self.end, after(end), Unit::Return(returned));
+    }
+
+    /// Passes a `var` with a type.
+    fn pass_typed(
+        &mut self,
+        names: &'a [Name],
+        written: &'a TypeNode,
+        right: &'a Option<RightNode>,
+    ) {
+        let start = type_end(self.end, written);
+        let end = match right {
+            None => start,
+            Some(right) => right_end(start, right),
+        };
+        self.pass(self.end, after(end), Unit::Typed(names, written, right));
+    }
+
+    /// Passes a `var` with values alone.
+    fn pass_untyped(&mut self, names: &'a [Name], right: &'a RightNode) {
+        let end = after(right_end(self.end, right));
+        self.pass(self.end, end, Unit::Untyped(names, right));
+    }
+
+    /// Passes a `go`.
+    fn pass_go(&mut self, function: &'a Name, arguments: &'a ArgumentsNode) {
+        let end = after(values_end(self.end, arguments.values.as_slice()));
+        self.pass(self.end, end, Unit::Go(function, arguments));
+    }
+
+    /// Passes a statement that holds no other.
+    fn pass_leaf(&mut self, statement: &'a StatementNode) {
+        match statement {
+            StatementNode::Simple(simple) => self.pass_simple(simple),
+            StatementNode::Typed(names, written, right) => {
+                self.pass_typed(names.as_slice(), written, right);
+            }
+            StatementNode::Untyped(names, right) => self.pass_untyped(names.as_slice(), right),
+            StatementNode::Go(function, arguments) => self.pass_go(function, arguments),
+            StatementNode::Return(returned) => self.pass_return(returned),
+            StatementNode::Break => self.pass(self.end, after(self.end), Unit::Break),
+            StatementNode::Continue => self.pass(self.end, after(self.end), Unit::Continue),
+            _ => self.pass_node(),
+        }
+    }
+
+    /// Passes a statement.
+    #[cycle(statement)]
+    pub(crate) fn pass_statement(&mut self, statement: &'a StatementNode) {
+        match statement {
+            StatementNode::Block(body) => {
+                self.pass_block(body.as_slice());
+                self.pass_node();
+            }
+            StatementNode::If(branch) => self.pass_if(branch),
+            StatementNode::For(header, body) => self.pass_for(header, body.as_slice()),
+            StatementNode::Select(clauses) => self.pass_clauses(clauses.as_slice()),
+            _ => self.pass_leaf(statement),
+        }
+    }
+
+    /// Passes statements and the node of their block.
+    #[cycle(statement)]
+    pub(crate) fn pass_block(&mut self, body: &'a [StatementNode]) {
+        for statement in body {
+            self.pass_statement(statement);
+        }
+        self.pass_node();
+    }
+
+    /// Passes a function. What is wrong with it as a whole is told at its last node.
+    fn pass_function(&mut self, function: &'a FunctionNode) {
+        let first = self.end;
+        let parameters = declared_end(first, function.parameters.as_slice());
+        let head = match &function.result {
+            None => parameters,
+            Some(written) => type_end(parameters, written),
+        };
+        self.pass(first, head, Unit::Head(function));
+        self.pass_block(function.body.as_slice());
+        self.pass(first, after(self.end), Unit::Head(function));
+    }
+
+    /// Passes a declaration of a file.
+    pub(crate) fn pass_top(&mut self, top: &'a TopNode) {
+        match top {
+            TopNode::Struct(one) => {
+                let end = after(declared_end(self.end, one.fields.as_slice()));
+                self.pass(self.end, end, Unit::Struct(one));
+            }
+            TopNode::Function(function) => self.pass_function(function),
+        }
+    }
 }
 
 /// The number behind the nodes of fields or parameters.
@@ -263,27 +289,4 @@ pub fn declared_at<'a>(
         }
     }
     None
-}
-
-/// Passes a function. What is wrong with it as a whole is told at its last node.
-fn pass_function<'a>(node: NodeId, first: NodeId, function: &'a FunctionNode) -> Passed<'a> {
-    let parameters = declared_end(first, function.parameters.as_slice());
-    let head = match &function.result {
-        None => parameters,
-        Some(written) => type_end(parameters, written),
-    };
-    let start = pass(node, first, head, Unit::Head(function))?;
-    let body = pass_statements(node, start, function.body.as_slice())?;
-    pass(node, first, after(after(body)), Unit::Head(function))
-}
-
-/// Passes a declaration of a file.
-pub(crate) fn pass_top<'a>(node: NodeId, first: NodeId, top: &'a TopNode) -> Passed<'a> {
-    match top {
-        TopNode::Struct(one) => {
-            let end = after(declared_end(first, one.fields.as_slice()));
-            pass(node, first, end, Unit::Struct(one))
-        }
-        TopNode::Function(function) => pass_function(node, first, function),
-    }
 }

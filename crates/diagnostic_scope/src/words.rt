@@ -8,11 +8,13 @@ use syntax::{
 use type_table::table::TypeTable;
 use type_table::value_type::ValueType;
 
-/// What is said so far.
+/// What is said so far. Once a request for memory is refused nothing more is said, and `into_bytes` tells of it.
 #[derive(Drop)]
 pub struct Words {
     alloc: Global,
     bytes: Vec<u8>,
+    /// Whether a request for memory was refused.
+    is_cut: bool,
 }
 
 impl Words {
@@ -21,28 +23,48 @@ impl Words {
         Words {
             alloc,
             bytes: Vec::new(alloc),
+            is_cut: false,
         }
     }
 
+    /// Whether nothing is said, nor was to be said and refused.
+    pub fn is_empty(&self) -> bool {
+        self.bytes.is_empty() && !self.is_cut
+    }
+
     /// What is said, in UTF-8.
-    pub fn into_bytes(self) -> Vec<u8> {
-        self.bytes
+    ///
+    /// Errors: a request for memory was refused.
+    pub fn into_bytes(self) -> Result<Vec<u8>, AllocError> {
+        if self.is_cut {
+            return Err(AllocError);
+        }
+        Ok(self.bytes)
+    }
+
+    /// Puts bytes behind what is there.
+    fn put(&mut self, bytes: &[u8]) {
+        if !self.is_cut {
+            self.is_cut = self.bytes.extend_from_slice(bytes).is_err();
+        }
     }
 
     /// Puts text behind what is there.
-    pub fn text(&mut self, text: &str) -> Result<(), AllocError> {
-        self.bytes.extend_from_slice(text.as_bytes())
+    pub fn text(&mut self, text: &str) {
+        self.put(text.as_bytes());
     }
 
     /// Puts a name behind what is there.
-    pub fn name(&mut self, name: &Name) -> Result<(), AllocError> {
-        self.bytes.extend_from_slice(name.bytes.as_slice())
+    pub fn name(&mut self, name: &Name) {
+        self.put(name.bytes.as_slice());
     }
 
     /// Puts a number behind what is there.
-    pub fn number(&mut self, value: i128) -> Result<(), AllocError> {
-        let text = value.to_string(self.alloc)?;
-        self.text(text.as_str())
+    pub fn number(&mut self, value: i128) {
+        match value.to_string(self.alloc) {
+            Ok(text) => self.text(text.as_str()),
+            Err(_) => self.is_cut = true,
+        }
     }
 }
 
@@ -82,40 +104,48 @@ pub fn unary_text(operator: UnaryOperator) -> &'static str {
 }
 
 /// Puts an expression behind what is there; of a literal with values it puts the type alone.
-pub fn push_expression(said: &mut Words, expression: &ExpressionNode) -> Result<(), AllocError> {
+#[cycle(expression)]
+pub fn push_expression(said: &mut Words, expression: &ExpressionNode) {
     match expression {
         ExpressionNode::Integer(value) => push_integer(said, *value),
         ExpressionNode::Named(name) => said.name(name),
-        ExpressionNode::Parenthesized(inner) => {
-            said.text("(")?;
-            push_expression(said, inner)?;
-            said.text(")")
-        }
-        ExpressionNode::Selection(whole, field) => {
-            push_expression(said, whole)?;
-            said.text(".")?;
-            said.name(field)
-        }
-        ExpressionNode::Composite(name, values, _) => {
-            said.name(name)?;
-            said.text(if values.is_empty() { "{}" } else { "{…}" })
-        }
+        ExpressionNode::Parenthesized(inner) => push_between(said, "(", inner, ")"),
+        ExpressionNode::Selection(whole, field) => push_selection(said, whole, field),
+        ExpressionNode::Composite(name, values, _) => push_literal(said, name, values.is_empty()),
         ExpressionNode::Unary(operator, operand) => {
-            said.text(unary_text(*operator))?;
-            push_expression(said, operand)
+            push_between(said, unary_text(*operator), operand, "");
         }
         ExpressionNode::Binary(operator, left, right) => {
-            push_expression(said, left)?;
-            said.text(" ")?;
-            said.text(operator_text(*operator))?;
-            said.text(" ")?;
-            push_expression(said, right)
+            push_between(said, "", left, " ");
+            said.text(operator_text(*operator));
+            push_between(said, " ", right, "");
         }
     }
 }
 
+/// Puts an expression between two texts behind what is there.
+#[cycle(expression)]
+fn push_between(said: &mut Words, before: &str, expression: &ExpressionNode, behind: &str) {
+    said.text(before);
+    push_expression(said, expression);
+    said.text(behind);
+}
+
+/// Puts a field of an expression behind what is there.
+#[cycle(expression)]
+fn push_selection(said: &mut Words, whole: &ExpressionNode, field: &Name) {
+    push_between(said, "", whole, ".");
+    said.name(field);
+}
+
+/// Puts a literal behind what is there, its values as three dots.
+fn push_literal(said: &mut Words, name: &Name, is_empty: bool) {
+    said.name(name);
+    said.text(if is_empty { "{}" } else { "{…}" });
+}
+
 /// Puts an integer of the text behind what is there.
-fn push_integer(said: &mut Words, value: Option<u128>) -> Result<(), AllocError> {
+fn push_integer(said: &mut Words, value: Option<u128>) {
     match value.and_then(|value| i128::try_from(value).ok()) {
         Some(value) => said.number(value),
         None => said.text("constant"),
@@ -123,85 +153,74 @@ fn push_integer(said: &mut Words, value: Option<u128>) -> Result<(), AllocError>
 }
 
 /// Puts values behind what is there, with commas.
-fn push_values(said: &mut Words, values: &[ExpressionNode]) -> Result<(), AllocError> {
+fn push_values(said: &mut Words, values: &[ExpressionNode]) {
     for (index, value) in values.iter().enumerate() {
-        if index > 0 {
-            said.text(", ")?;
-        }
-        push_expression(said, value)?;
+        push_between(said, if index > 0 { ", " } else { "" }, value, "");
     }
-    Ok(())
 }
 
 /// Puts a call behind what is there.
-pub fn push_call(
-    said: &mut Words,
-    function: &Name,
-    arguments: &ArgumentsNode,
-) -> Result<(), AllocError> {
-    said.name(function)?;
-    said.text("(")?;
-    push_values(said, arguments.values.as_slice())?;
-    said.text(")")
+pub fn push_call(said: &mut Words, function: &Name, arguments: &ArgumentsNode) {
+    said.name(function);
+    said.text("(");
+    push_values(said, arguments.values.as_slice());
+    said.text(")");
 }
 
 /// Puts a built-in function's call with one argument behind what is there.
-fn push_measured(
-    said: &mut Words,
-    function: &str,
-    argument: &ExpressionNode,
-) -> Result<(), AllocError> {
-    said.text(function)?;
-    said.text("(")?;
-    push_expression(said, argument)?;
-    said.text(")")
+fn push_measured(said: &mut Words, function: &str, argument: &ExpressionNode) {
+    said.text(function);
+    push_between(said, "(", argument, ")");
+}
+
+/// Puts a `make` behind what is there.
+fn push_make(said: &mut Words, written: &TypeNode, size: &Option<ExpressionNode>) {
+    said.text("make(");
+    push_written(said, written);
+    match size {
+        Some(size) => push_between(said, ", ", size, ")"),
+        None => said.text(")"),
+    }
 }
 
 /// Puts an operation behind what is there.
-pub fn push_operation(said: &mut Words, operation: &OperationNode) -> Result<(), AllocError> {
+pub fn push_operation(said: &mut Words, operation: &OperationNode) {
     match operation {
         OperationNode::Call(function, arguments) => push_call(said, function, arguments),
-        OperationNode::Receive(channel) => {
-            said.text("<-")?;
-            push_expression(said, channel)
-        }
-        OperationNode::Make(written, size) => {
-            said.text("make(")?;
-            push_written(said, written)?;
-            if let Some(size) = size {
-                said.text(", ")?;
-                push_expression(said, size)?;
-            }
-            said.text(")")
-        }
+        OperationNode::Receive(channel) => push_between(said, "<-", channel, ""),
+        OperationNode::Make(written, size) => push_make(said, written, size),
         OperationNode::Length(of) => push_measured(said, "len", of),
         OperationNode::Capacity(of) => push_measured(said, "cap", of),
     }
 }
 
 /// Puts a place behind what is there.
-pub fn push_place(said: &mut Words, place: &PlaceNode) -> Result<(), AllocError> {
-    said.name(&place.name)?;
+pub fn push_place(said: &mut Words, place: &PlaceNode) {
+    said.name(&place.name);
     for field in place.fields.iter() {
-        said.text(".")?;
-        said.name(field)?;
+        said.text(".");
+        said.name(field);
     }
-    Ok(())
 }
 
 /// Puts a type behind what is there, in no more parentheses than it needs.
-pub fn push_written(said: &mut Words, written: &TypeNode) -> Result<(), AllocError> {
+#[cycle(written)]
+pub fn push_written(said: &mut Words, written: &TypeNode) {
     match written {
         TypeNode::Named(name) => said.name(name),
         TypeNode::Parenthesized(inner) => push_written(said, inner),
-        TypeNode::Channel(direction, element) => {
-            let parted = needs_parentheses(*direction, element);
-            said.text(channel_text(*direction))?;
-            said.text(if parted { "(" } else { "" })?;
-            push_written(said, element)?;
-            said.text(if parted { ")" } else { "" })
-        }
+        TypeNode::Channel(direction, element) => push_channel(said, *direction, element),
     }
+}
+
+/// Puts the type of a channel behind what is there.
+#[cycle(written)]
+fn push_channel(said: &mut Words, direction: Direction, element: &TypeNode) {
+    let parted = needs_parentheses(direction, element);
+    said.text(channel_text(direction));
+    said.text(if parted { "(" } else { "" });
+    push_written(said, element);
+    said.text(if parted { ")" } else { "" });
 }
 
 /// Whether a channel's element stands in parentheses: `chan (<-chan int)`.
@@ -223,11 +242,7 @@ fn channel_text(direction: Direction) -> &'static str {
 }
 
 /// Puts a type behind what is there.
-pub fn push_type(
-    said: &mut Words,
-    table: &TypeTable<'_>,
-    kind: ValueType<'_>,
-) -> Result<(), AllocError> {
+pub fn push_type(said: &mut Words, table: &TypeTable<'_>, kind: ValueType<'_>) {
     match kind {
         ValueType::Int => said.text("int"),
         ValueType::Bool => said.text("bool"),
@@ -235,12 +250,6 @@ pub fn push_type(
             Some(entry) => said.name(entry.name),
             None => said.text("struct"),
         },
-        ValueType::Channel(direction, element) => {
-            let parted = needs_parentheses(direction, element);
-            said.text(channel_text(direction))?;
-            said.text(if parted { "(" } else { "" })?;
-            push_written(said, element)?;
-            said.text(if parted { ")" } else { "" })
-        }
+        ValueType::Channel(direction, element) => push_channel(said, direction, element),
     }
 }

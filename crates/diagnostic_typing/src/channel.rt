@@ -4,67 +4,80 @@ use crate::place::Setting;
 use diagnostic_scope::given::Role;
 use diagnostic_scope::operand::push_operand;
 use diagnostic_scope::words::{Words, push_written};
-use std::alloc::AllocError;
-use syntax::OperationNode;
+use syntax::{OperationNode, TypeNode};
+
+/// What is said before an operand that is no channel.
+fn before_no_channel(role: Role<'_>) -> Option<&'static str> {
+    match role {
+        Role::SentTo => Some("invalid operation: cannot send to non-channel "),
+        Role::ReceivedFrom => Some("invalid operation: cannot receive from non-channel "),
+        Role::Closed => Some("invalid operation: cannot close non-channel "),
+        Role::Ranged => Some("cannot range over "),
+        Role::Measured(_) => Some("invalid argument: "),
+        _ => None,
+    }
+}
 
 /// Tells of the operand at the node of the fault, which is no channel.
-pub(crate) fn push_no_channel(said: &mut Words, at: Setting<'_, '_>) -> Result<bool, AllocError> {
+pub(crate) fn push_no_channel(said: &mut Words, at: Setting<'_, '_>) {
     let Some(value) = at.value() else {
-        return Ok(false);
+        return;
     };
-    match value.role {
-        Role::SentTo => said.text("invalid operation: cannot send to non-channel ")?,
-        Role::ReceivedFrom => said.text("invalid operation: cannot receive from non-channel ")?,
-        Role::Closed => said.text("invalid operation: cannot close non-channel ")?,
-        Role::Ranged => said.text("cannot range over ")?,
-        Role::Measured(_) => said.text("invalid argument: ")?,
-        _ => return Ok(false),
-    }
-    push_operand(said, at.table, at.scene, value.expression)?;
+    let Some(before) = before_no_channel(value.role) else {
+        return;
+    };
+    said.text(before);
+    push_operand(said, at.table, at.scene, value.expression);
     if let Role::Measured(function) = value.role {
-        said.text(" for built-in ")?;
-        said.text(function)?;
+        said.text(" for built-in ");
+        said.text(function);
     }
-    Ok(true)
+}
+
+/// What is said before a channel whose direction does not allow this.
+fn before_direction(role: Role<'_>) -> Option<&'static str> {
+    match role {
+        Role::SentTo => Some("invalid operation: cannot send to receive-only channel "),
+        Role::Closed => Some("invalid operation: cannot close receive-only channel "),
+        Role::ReceivedFrom => Some("invalid operation: cannot receive from send-only channel "),
+        Role::Ranged => Some("cannot range over "),
+        _ => None,
+    }
 }
 
 /// Tells of an operation that the direction of its channel does not allow.
-pub(crate) fn push_direction(said: &mut Words, at: Setting<'_, '_>) -> Result<bool, AllocError> {
+pub(crate) fn push_direction(said: &mut Words, at: Setting<'_, '_>) {
     let Some(value) = at.parts.values.first() else {
-        return Ok(false);
+        return;
     };
-    match value.role {
-        Role::SentTo => said.text("invalid operation: cannot send to receive-only channel ")?,
-        Role::Closed => said.text("invalid operation: cannot close receive-only channel ")?,
-        Role::ReceivedFrom => {
-            said.text("invalid operation: cannot receive from send-only channel ")?;
-        }
-        Role::Ranged => said.text("cannot range over ")?,
-        _ => return Ok(false),
-    }
-    push_operand(said, at.table, at.scene, value.expression)?;
+    let Some(before) = before_direction(value.role) else {
+        return;
+    };
+    said.text(before);
+    push_operand(said, at.table, at.scene, value.expression);
     if let Role::Ranged = value.role {
-        said.text(": receive from send-only channel")?;
+        said.text(": receive from send-only channel");
     }
-    Ok(true)
+}
+
+/// Tells of a `make` of what is no channel.
+fn push_no_make(said: &mut Words, written: &TypeNode) {
+    said.text("invalid argument: cannot make ");
+    push_written(said, written);
+    said.text("; type must be channel");
 }
 
 /// Tells of a `make` of no channel, or of its size.
-pub(crate) fn push_unmade(said: &mut Words, at: Setting<'_, '_>) -> Result<bool, AllocError> {
+pub(crate) fn push_unmade(said: &mut Words, at: Setting<'_, '_>) {
     if let Some(value) = at.value() {
-        said.text("invalid argument: size ")?;
-        push_operand(said, at.table, at.scene, value.expression)?;
-        said.text(" must be an int that is not negative")?;
-        return Ok(true);
+        said.text("invalid argument: size ");
+        push_operand(said, at.table, at.scene, value.expression);
+        return said.text(" must be an int that is not negative");
     }
     let Some(made) = at.parts.made else {
-        return Ok(false);
+        return;
     };
-    let OperationNode::Make(written, _) = made.operation else {
-        return Ok(false);
-    };
-    said.text("invalid argument: cannot make ")?;
-    push_written(said, written)?;
-    said.text("; type must be channel")?;
-    Ok(true)
+    if let OperationNode::Make(written, _) = made.operation {
+        push_no_make(said, written);
+    }
 }

@@ -7,175 +7,169 @@ use diagnostic_scope::given::{Called, function_named, struct_named};
 use diagnostic_scope::operand::{push_operand, push_worth};
 use diagnostic_scope::unit::Unit;
 use diagnostic_scope::words::{Words, push_call, push_type};
-use std::alloc::AllocError;
 use syntax::{ExpressionNode, Name, OperationNode, ReturnNode, RightNode, SimpleNode};
 use type_table::layout::{function_number, number_of};
 use type_table::scope::variable_named;
 use type_table::value_type::ValueType;
 
 /// Puts a number of things behind what is there.
-fn push_count(said: &mut Words, count: usize, one: &str, many: &str) -> Result<(), AllocError> {
-    said.number(i128::try_from(count).unwrap_or(0))?;
-    said.text(if count == 1 { one } else { many })
+fn push_count(said: &mut Words, count: usize, one: &str, many: &str) {
+    said.number(i128::try_from(count).unwrap_or(0));
+    said.text(if count == 1 { one } else { many });
 }
 
-/// Tells how many names or places there are, and how many values.
-fn push_assignment(said: &mut Words, places: usize, right: &RightNode) -> Result<(), AllocError> {
-    said.text("assignment mismatch: ")?;
-    push_count(said, places, " variable but ", " variables but ")?;
+/// Tells how many values a right side has.
+fn push_right(said: &mut Words, right: &RightNode) {
     match right {
         RightNode::Operation(OperationNode::Call(function, arguments)) => {
-            push_call(said, function, arguments)?;
-            said.text(" returns 1 value")
+            push_call(said, function, arguments);
+            said.text(" returns 1 value");
         }
         RightNode::Operation(_) => said.text("1 value"),
         RightNode::Values(values) => push_count(said, values.len(), " value", " values"),
     }
 }
 
-/// Puts types of values behind what is there, in parentheses.
-fn push_have(
-    said: &mut Words,
-    at: Setting<'_, '_>,
-    values: &[ExpressionNode],
-) -> Result<(), AllocError> {
-    said.text("(")?;
-    for (index, value) in values.iter().enumerate() {
-        if index > 0 {
-            said.text(", ")?;
-        }
-        match worth(at.table, &at.scene.visible, value) {
-            Some(Worth::Constant(_)) => said.text("number")?,
-            Some(Worth::Nil) => said.text("nil")?,
-            _ => push_worth(said, at.table, at.scene, value)?,
-        }
+/// Tells how many names or places there are, and how many values.
+fn push_assignment(said: &mut Words, places: usize, right: &RightNode) {
+    said.text("assignment mismatch: ");
+    push_count(said, places, " variable but ", " variables but ");
+    push_right(said, right);
+}
+
+/// Puts the type of a value that is given behind what is there.
+fn push_given(said: &mut Words, at: Setting<'_, '_>, value: &ExpressionNode) {
+    match worth(at.table, &at.scene.visible, value) {
+        Some(Worth::Constant(_)) => said.text("number"),
+        Some(Worth::Nil) => said.text("nil"),
+        _ => push_worth(said, at.table, at.scene, value),
     }
-    said.text(")")
+}
+
+/// Puts types of values behind what is there, in parentheses.
+fn push_have(said: &mut Words, at: Setting<'_, '_>, values: &[ExpressionNode]) {
+    said.text("(");
+    for (index, value) in values.iter().enumerate() {
+        said.text(if index > 0 { ", " } else { "" });
+        push_given(said, at, value);
+    }
+    said.text(")");
 }
 
 /// Puts types behind what is there, in parentheses.
-fn push_want(
-    said: &mut Words,
-    at: Setting<'_, '_>,
-    kinds: &[ValueType<'_>],
-) -> Result<(), AllocError> {
-    said.text("(")?;
+fn push_want(said: &mut Words, at: Setting<'_, '_>, kinds: &[ValueType<'_>]) {
+    said.text("(");
     for (index, kind) in kinds.iter().enumerate() {
-        if index > 0 {
-            said.text(", ")?;
-        }
-        push_type(said, at.table, *kind)?;
+        said.text(if index > 0 { ", " } else { "" });
+        push_type(said, at.table, *kind);
     }
-    said.text(")")
+    said.text(")");
 }
 
-/// Tells of a call with too many or too few arguments.
+/// Tells of a call with too many or too few arguments of a function with parameters of these types.
 fn push_arguments(
     said: &mut Words,
     at: Setting<'_, '_>,
     called: Called<'_>,
-) -> Result<bool, AllocError> {
-    let Some(entry) = function_named(at.table, called.function) else {
-        return Ok(false);
-    };
+    parameters: &[ValueType<'_>],
+) {
     let values = called.arguments.values.as_slice();
-    let many = values.len() > entry.parameters.len();
-    said.text(if many { "too many" } else { "not enough" })?;
-    said.text(" arguments in call to ")?;
-    said.name(called.function)?;
-    said.text(" (have ")?;
-    push_have(said, at, values)?;
-    said.text(", want ")?;
-    push_want(said, at, entry.parameters.as_slice())?;
-    said.text(")")?;
-    Ok(true)
+    let many = values.len() > parameters.len();
+    said.text(if many { "too many" } else { "not enough" });
+    said.text(" arguments in call to ");
+    said.name(called.function);
+    said.text(" (have ");
+    push_have(said, at, values);
+    said.text(", want ");
+    push_want(said, at, parameters);
+    said.text(")");
 }
 
 /// Tells of a literal with too many or too few values.
-fn push_literal(
-    said: &mut Words,
-    at: Setting<'_, '_>,
-    name: &Name,
-    values: usize,
-) -> Result<bool, AllocError> {
+fn push_literal(said: &mut Words, at: Setting<'_, '_>, name: &Name, values: usize) {
     let Some(entry) = struct_named(at.table, name) else {
-        return Ok(false);
+        return;
     };
     let many = values > entry.fields.len();
-    said.text(if many { "too many" } else { "too few" })?;
-    said.text(" values in struct literal of type ")?;
-    said.name(name)?;
-    Ok(true)
+    said.text(if many { "too many" } else { "too few" });
+    said.text(" values in struct literal of type ");
+    said.name(name);
+}
+
+/// Tells of an assignment or a declaration with too many or too few values.
+fn push_mismatch(said: &mut Words, unit: Unit<'_>) {
+    match unit {
+        Unit::Simple(SimpleNode::Assign(places, right)) => {
+            push_assignment(said, places.len(), right);
+        }
+        Unit::Simple(SimpleNode::Define(names, right)) => {
+            push_assignment(said, names.len(), right);
+        }
+        Unit::Typed(names, _, Some(right)) | Unit::Untyped(names, right) => {
+            push_assignment(said, names.len(), right);
+        }
+        _ => {}
+    }
 }
 
 /// Tells of too many or too few values.
-pub(crate) fn push_numbers(said: &mut Words, at: Setting<'_, '_>) -> Result<bool, AllocError> {
+pub(crate) fn push_numbers(said: &mut Words, at: Setting<'_, '_>) {
     if let Some(ExpressionNode::Composite(name, values, _)) = at.part() {
         return push_literal(said, at, name, values.len());
     }
-    if let Some(called) = at.parts.called {
-        if called.node == at.node {
-            return push_arguments(said, at, called);
-        }
+    let Some(called) = at.called() else {
+        return push_mismatch(said, at.scene.found.unit);
+    };
+    if let Some(entry) = function_named(at.table, called.function) {
+        push_arguments(said, at, called, entry.parameters.as_slice());
     }
-    match at.scene.found.unit {
-        Unit::Simple(SimpleNode::Assign(places, right)) => {
-            push_assignment(said, places.len(), right)?;
-        }
-        Unit::Simple(SimpleNode::Define(names, right)) => {
-            push_assignment(said, names.len(), right)?;
-        }
-        Unit::Typed(names, _, Some(right)) | Unit::Untyped(names, right) => {
-            push_assignment(said, names.len(), right)?;
-        }
-        _ => return Ok(false),
+}
+
+/// Tells of a value that is returned where there is no result.
+fn push_unwanted(said: &mut Words, at: Setting<'_, '_>, value: &ExpressionNode) {
+    said.text("too many return values (have (");
+    match worth(at.table, &at.scene.visible, value) {
+        Some(Worth::Constant(_)) => said.text("number"),
+        _ => push_worth(said, at.table, at.scene, value),
     }
-    Ok(true)
+    said.text("), want ())");
 }
 
 /// Tells of a `return` with a value too many or too few.
-pub(crate) fn push_returned(said: &mut Words, at: Setting<'_, '_>) -> Result<bool, AllocError> {
+pub(crate) fn push_returned(said: &mut Words, at: Setting<'_, '_>) {
     let Unit::Return(returned) = at.scene.found.unit else {
-        return Ok(false);
+        return;
     };
     match (returned, at.scene.result) {
         (ReturnNode::Nothing, Some(kind)) => {
-            said.text("not enough return values (have (), want (")?;
-            push_type(said, at.table, kind)?;
-            said.text("))")?;
+            said.text("not enough return values (have (), want (");
+            push_type(said, at.table, kind);
+            said.text("))");
         }
-        (ReturnNode::Value(value), None) => {
-            said.text("too many return values (have (")?;
-            match worth(at.table, &at.scene.visible, value) {
-                Some(Worth::Constant(_)) => said.text("number")?,
-                _ => push_worth(said, at.table, at.scene, value)?,
-            }
-            said.text("), want ())")?;
-        }
-        _ => said.text("too many return values")?,
+        (ReturnNode::Value(value), None) => push_unwanted(said, at, value),
+        _ => said.text("too many return values"),
     }
-    Ok(true)
+}
+
+/// Tells of a call of a variable of this type.
+fn push_variable(said: &mut Words, at: Setting<'_, '_>, name: &Name, kind: ValueType<'_>) {
+    said.text("invalid operation: cannot call non-function ");
+    said.name(name);
+    said.text(" (variable of type ");
+    push_type(said, at.table, kind);
+    said.text(")");
 }
 
 /// Tells of a call of what is no function.
-fn push_no_function(
-    said: &mut Words,
-    at: Setting<'_, '_>,
-    name: &Name,
-) -> Result<bool, AllocError> {
-    let variable = variable_named(at.table, &at.scene.visible, name.bytes.as_slice());
-    let Some(entry) = variable else {
-        said.text("cannot call ")?;
-        said.name(name)?;
-        said.text(": it is not a function (there are no conversions)")?;
-        return Ok(true);
-    };
-    said.text("invalid operation: cannot call non-function ")?;
-    said.name(name)?;
-    said.text(" (variable of type ")?;
-    push_type(said, at.table, entry.kind)?;
-    said.text(")")?;
-    Ok(true)
+fn push_no_function(said: &mut Words, at: Setting<'_, '_>, name: &Name) {
+    match variable_named(at.table, &at.scene.visible, name.bytes.as_slice()) {
+        Some(entry) => push_variable(said, at, name, entry.kind),
+        None => {
+            said.text("cannot call ");
+            said.name(name);
+            said.text(": it is not a function (there are no conversions)");
+        }
+    }
 }
 
 /// Whether a name stands for a function where the fault is.
@@ -186,24 +180,27 @@ fn is_function(at: Setting<'_, '_>, name: &Name) -> bool {
         && function_number(at.table, bytes).is_some()
 }
 
-/// Tells of a call of no function, of one without a result that is used as a value, and of what can't be printed.
-pub(crate) fn push_called(said: &mut Words, at: Setting<'_, '_>) -> Result<bool, AllocError> {
-    if let Some(called) = at.parts.called {
-        if called.node != at.node {
-            return Ok(false);
-        }
-        if !is_function(at, called.function) {
-            return push_no_function(said, at, called.function);
-        }
-        push_call(said, called.function, called.arguments)?;
-        said.text(" (no value) used as value")?;
-        return Ok(true);
-    }
+/// Tells of a value that can't be printed.
+fn push_unprinted(said: &mut Words, at: Setting<'_, '_>) {
     let Some(value) = at.value() else {
-        return Ok(false);
+        return;
     };
-    said.text("cannot print ")?;
-    push_operand(said, at.table, at.scene, value.expression)?;
-    said.text(": only ints, bools and strings are printed")?;
-    Ok(true)
+    said.text("cannot print ");
+    push_operand(said, at.table, at.scene, value.expression);
+    said.text(": only ints, bools and strings are printed");
+}
+
+/// Tells of a call of no function, of one without a result that is used as a value, and of what can't be printed.
+pub(crate) fn push_called(said: &mut Words, at: Setting<'_, '_>) {
+    let Some(called) = at.parts.called else {
+        return push_unprinted(said, at);
+    };
+    if called.node != at.node {
+        return;
+    }
+    if !is_function(at, called.function) {
+        return push_no_function(said, at, called.function);
+    }
+    push_call(said, called.function, called.arguments);
+    said.text(" (no value) used as value");
 }

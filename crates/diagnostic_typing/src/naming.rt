@@ -4,7 +4,6 @@ use crate::place::Setting;
 use diagnostic_scope::operand::push_worth;
 use diagnostic_scope::unit::Unit;
 use diagnostic_scope::words::{Words, push_expression, push_place, push_type};
-use std::alloc::AllocError;
 use syntax::{
     CommNode, ExpressionNode, Name, OperationNode, PlaceNode, RangeTarget, SimpleNode, TypeNode,
 };
@@ -27,82 +26,65 @@ fn is_known<'a>(table: &TypeTable<'a>, visible: &Visible<'a>, name: &[u8]) -> bo
 }
 
 /// Puts a name, and then text, behind what is there.
-fn push_about(said: &mut Words, name: &Name, text: &str) -> Result<bool, AllocError> {
-    said.name(name)?;
-    said.text(text)?;
-    Ok(true)
+fn push_about(said: &mut Words, name: &Name, text: &str) {
+    said.name(name);
+    said.text(text);
 }
 
 /// Tells that a name stands for nothing.
-fn push_undefined(said: &mut Words, name: &Name) -> Result<bool, AllocError> {
-    said.text("undefined: ")?;
-    said.name(name)?;
-    Ok(true)
+fn push_undefined(said: &mut Words, name: &Name) {
+    said.text("undefined: ");
+    said.name(name);
 }
 
 /// Tells of a name that was to be a value.
-fn push_no_value(said: &mut Words, at: Setting<'_, '_>, name: &Name) -> Result<bool, AllocError> {
+fn push_no_value(said: &mut Words, at: Setting<'_, '_>, name: &Name) {
     let bytes = name.bytes.as_slice();
     if is_blank(bytes) {
-        said.text("cannot use _ as value")?;
-        return Ok(true);
+        said.text("cannot use _ as value");
+    } else if is_type(at.table, bytes) {
+        push_about(said, name, " (type) is not an expression");
+    } else if function_number(at.table, bytes).is_some() {
+        let only = " is a function, not a variable: it can only be called";
+        push_about(said, name, only);
+    } else {
+        push_undefined(said, name);
     }
-    if is_type(at.table, bytes) {
-        return push_about(said, name, " (type) is not an expression");
-    }
-    if function_number(at.table, bytes).is_some() {
-        return push_about(
-            said,
-            name,
-            " is a function, not a variable: it can only be called",
-        );
-    }
-    push_undefined(said, name)
 }
 
 /// Tells of a name that was to be that of a type.
-fn push_no_type(said: &mut Words, at: Setting<'_, '_>, name: &Name) -> Result<bool, AllocError> {
+fn push_no_type(said: &mut Words, at: Setting<'_, '_>, name: &Name) {
     let bytes = name.bytes.as_slice();
     if is_type(at.table, bytes) && variable_named(at.table, &at.scene.visible, bytes).is_none() {
-        said.text("invalid composite literal type ")?;
-        said.name(name)?;
-        return Ok(true);
+        said.text("invalid composite literal type ");
+        said.name(name);
+    } else if is_known(at.table, &at.scene.visible, bytes) {
+        push_about(said, name, " is not a type");
+    } else {
+        push_undefined(said, name);
     }
-    if is_known(at.table, &at.scene.visible, bytes) {
-        return push_about(said, name, " is not a type");
-    }
-    push_undefined(said, name)
 }
 
 /// Tells of a name that was to be that of a variable.
-fn push_no_variable(
-    said: &mut Words,
-    at: Setting<'_, '_>,
-    name: &Name,
-) -> Result<bool, AllocError> {
+fn push_no_variable(said: &mut Words, at: Setting<'_, '_>, name: &Name) {
     if is_known(at.table, &at.scene.visible, name.bytes.as_slice()) {
-        said.text("cannot assign to ")?;
-        return push_about(said, name, ": it is not a variable");
+        said.text("cannot assign to ");
+        push_about(said, name, ": it is not a variable");
+    } else {
+        push_undefined(said, name);
     }
-    push_undefined(said, name)
 }
 
 /// Tells that an operand has no such field.
-fn push_no_field(
-    said: &mut Words,
-    at: Setting<'_, '_>,
-    whole: &ExpressionNode,
-    field: &Name,
-) -> Result<bool, AllocError> {
-    push_expression(said, whole)?;
-    said.text(".")?;
-    said.name(field)?;
-    said.text(" undefined (type ")?;
-    push_worth(said, at.table, at.scene, whole)?;
-    said.text(" has no field ")?;
-    said.name(field)?;
-    said.text(")")?;
-    Ok(true)
+fn push_no_field(said: &mut Words, at: Setting<'_, '_>, whole: &ExpressionNode, field: &Name) {
+    push_expression(said, whole);
+    said.text(".");
+    said.name(field);
+    said.text(" undefined (type ");
+    push_worth(said, at.table, at.scene, whole);
+    said.text(" has no field ");
+    said.name(field);
+    said.text(")");
 }
 
 /// The name at the end of a type.
@@ -146,66 +128,71 @@ pub(crate) fn place_at<'a>(at: Setting<'_, 'a>) -> Option<&'a PlaceNode> {
     }
 }
 
-/// Tells of what is not visible, or is not what is wanted there.
-pub(crate) fn push_invisible(said: &mut Words, at: Setting<'_, '_>) -> Result<bool, AllocError> {
+/// Tells of a part of an expression that is not visible, or is not what is wanted there. Answers whether it is such a part.
+fn push_in_part(said: &mut Words, at: Setting<'_, '_>) -> bool {
     match at.part() {
-        Some(ExpressionNode::Named(name)) => return push_no_value(said, at, name),
-        Some(ExpressionNode::Composite(name, _, _)) => return push_no_type(said, at, name),
-        Some(ExpressionNode::Selection(whole, field)) => {
-            return push_no_field(said, at, whole, field);
-        }
-        _ => {}
+        Some(ExpressionNode::Named(name)) => push_no_value(said, at, name),
+        Some(ExpressionNode::Composite(name, _, _)) => push_no_type(said, at, name),
+        Some(ExpressionNode::Selection(whole, field)) => push_no_field(said, at, whole, field),
+        _ => return false,
+    }
+    true
+}
+
+/// Tells of what is not visible, or is not what is wanted there.
+pub(crate) fn push_invisible(said: &mut Words, at: Setting<'_, '_>) {
+    if push_in_part(said, at) {
+        return;
     }
     if let Some(place) = place_at(at) {
         return push_no_variable(said, at, &place.name);
     }
-    match at.parts.called {
-        Some(called) if called.node == at.node => push_undefined(said, called.function),
-        _ => match written_in(at) {
-            Some(written) => push_no_type(said, at, last_name(written)),
-            None => Ok(false),
-        },
+    if let Some(called) = at.called() {
+        return push_undefined(said, called.function);
+    }
+    if let Some(written) = written_in(at) {
+        push_no_type(said, at, last_name(written));
     }
 }
 
-/// Tells of the first field in a place that is not there.
-fn push_no_path(
+/// Tells that a part of a place, which has this type, has no such field.
+fn push_no_such(
     said: &mut Words,
     at: Setting<'_, '_>,
     place: &PlaceNode,
     kind: ValueType<'_>,
-) -> Result<bool, AllocError> {
+    field: &Name,
+) {
+    push_place(said, place);
+    said.text(" undefined (type ");
+    push_type(said, at.table, kind);
+    said.text(" has no field ");
+    said.name(field);
+    said.text(")");
+}
+
+/// Tells of the first field in a place that is not there.
+fn push_no_path(said: &mut Words, at: Setting<'_, '_>, place: &PlaceNode, kind: ValueType<'_>) {
     let mut kind = kind;
     for field in place.fields.iter() {
         match field_of(at.table, kind, field.bytes.as_slice()) {
             Some(selected) => kind = selected.kind,
-            None => {
-                push_place(said, place)?;
-                said.text(" undefined (type ")?;
-                push_type(said, at.table, kind)?;
-                said.text(" has no field ")?;
-                said.name(field)?;
-                said.text(")")?;
-                return Ok(true);
-            }
+            None => return push_no_such(said, at, place, kind, field),
         }
     }
-    Ok(false)
 }
 
 /// Tells of a place that is no variable, and no field of one.
-pub(crate) fn push_unassigned(said: &mut Words, at: Setting<'_, '_>) -> Result<bool, AllocError> {
+pub(crate) fn push_unassigned(said: &mut Words, at: Setting<'_, '_>) {
     let Some(place) = place_at(at) else {
-        return Ok(false);
+        return;
     };
     let name = place.name.bytes.as_slice();
     if is_blank(name) {
-        said.text("cannot use _ as value")?;
-        return Ok(true);
+        return said.text("cannot use _ as value");
     }
-    match variable_named(at.table, &at.scene.visible, name) {
-        Some(entry) => push_no_path(said, at, place, entry.kind),
-        None => Ok(false),
+    if let Some(entry) = variable_named(at.table, &at.scene.visible, name) {
+        push_no_path(said, at, place, entry.kind);
     }
 }
 
@@ -236,24 +223,22 @@ fn refused_among<'a>(at: Setting<'_, 'a>, names: &'a [Name]) -> Option<&'a Name>
 }
 
 /// Tells of a name that may not be declared.
-pub(crate) fn push_refused(said: &mut Words, name: &Name) -> Result<bool, AllocError> {
+pub(crate) fn push_refused(said: &mut Words, name: &Name) {
     let bytes = name.bytes.as_slice();
     if is_blank(bytes) {
-        said.text("cannot declare _: functions, types and fields have names")?;
-        return Ok(true);
+        said.text("cannot declare _: functions, types and fields have names");
+    } else if is_reserved(bytes) {
+        said.text("cannot declare ");
+        push_about(said, name, ": the name is predeclared");
+    } else {
+        push_about(said, name, " redeclared in this block");
     }
-    if is_reserved(bytes) {
-        said.text("cannot declare ")?;
-        return push_about(said, name, ": the name is predeclared");
-    }
-    push_about(said, name, " redeclared in this block")
 }
 
 /// Tells of a variable that may not be declared.
-pub(crate) fn push_redeclared(said: &mut Words, at: Setting<'_, '_>) -> Result<bool, AllocError> {
+pub(crate) fn push_redeclared(said: &mut Words, at: Setting<'_, '_>) {
     let (names, one) = declared_in(at.scene.found.unit);
-    match refused_among(at, names).or(one) {
-        Some(name) => push_refused(said, name),
-        None => Ok(false),
+    if let Some(name) = refused_among(at, names).or(one) {
+        push_refused(said, name);
     }
 }

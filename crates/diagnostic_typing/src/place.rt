@@ -1,6 +1,6 @@
 //! The scene of a fault: what stands at its node, and what is visible there.
 
-use diagnostic_scope::given::{Given, Parts};
+use diagnostic_scope::given::{Called, Given, Made, Parts};
 use diagnostic_scope::scene::Scene;
 use diagnostic_scope::search::{Filled, filled_at, part_at};
 use syntax::{ExpressionNode, NodeId};
@@ -30,6 +30,22 @@ impl<'s, 'a> Setting<'s, 'a> {
         values
             .find(|value| value.first <= self.node && self.node < value.end)
             .copied()
+    }
+
+    /// The operation whose own node is that of the fault.
+    pub(crate) fn made(&self) -> Option<Made<'a>> {
+        match self.parts.made {
+            Some(made) if made.node == self.node => Some(made),
+            _ => None,
+        }
+    }
+
+    /// The call whose own node is that of the fault.
+    pub(crate) fn called(&self) -> Option<Called<'a>> {
+        match self.parts.called {
+            Some(called) if called.node == self.node => Some(called),
+            _ => None,
+        }
     }
 
     /// The expression whose own node is that of the fault.

@@ -14,46 +14,49 @@ use crate::place::Setting;
 use checker_base::refusal::Refusal;
 use checker_declaration::table::table_of;
 use diagnostic_scope::given::parts_of;
-use diagnostic_scope::scene::scene_at;
+use diagnostic_scope::scene::{Scene, scene_at};
 use diagnostic_scope::unit::Unit;
 use diagnostic_scope::words::Words;
 use go_text::{Fault, Memory, Rule, Source};
 use parser::parse;
 use scanner::scan;
-use std::alloc::{AllocError, Global};
+use std::alloc::Global;
 use syntax::{FileNode, NodeId, Tree};
+use type_table::table::TypeTable;
 
 /// Tells of a condition that is no bool.
-fn push_condition(said: &mut Words, at: Setting<'_, '_>) -> Result<bool, AllocError> {
-    let Unit::Condition(in_for, _) = at.scene.found.unit else {
-        return Ok(false);
-    };
-    said.text("non-boolean condition in ")?;
-    said.text(if in_for {
-        "for statement"
-    } else {
-        "if statement"
-    })?;
-    Ok(true)
+fn push_condition(said: &mut Words, at: Setting<'_, '_>) {
+    if let Unit::Condition(in_for, _) = at.scene.found.unit {
+        said.text("non-boolean condition in ");
+        said.text(if in_for {
+            "for statement"
+        } else {
+            "if statement"
+        });
+    }
 }
 
 /// Tells of a `break` or a `continue`.
-fn push_branch(said: &mut Words, at: Setting<'_, '_>) -> Result<bool, AllocError> {
+fn push_branch(said: &mut Words, at: Setting<'_, '_>) {
     match at.scene.found.unit {
-        Unit::Break => said.text("break is not in a loop or select")?,
-        Unit::Continue => said.text("continue is not in a loop")?,
-        _ => return Ok(false),
+        Unit::Break => said.text("break is not in a loop or select"),
+        Unit::Continue => said.text("continue is not in a loop"),
+        _ => {}
     }
-    Ok(true)
 }
 
-/// Tells how a rule is broken. Answers whether anything was said.
-fn push_rule(said: &mut Words, rule: Rule, at: Setting<'_, '_>) -> Result<bool, AllocError> {
+/// Tells how a rule is broken, if that is known.
+fn push_rule(said: &mut Words, rule: Rule, at: Setting<'_, '_>) {
     match rule {
         Rule::Declared => push_redeclared(said, at),
         Rule::Visible => push_invisible(said, at),
         Rule::Operands => push_operands(said, at),
-        Rule::Constant => Ok(push_constant(said, at)? || push_operator(said, at)?),
+        Rule::Constant => {
+            push_constant(said, at);
+            if said.is_empty() {
+                push_operator(said, at);
+            }
+        }
         Rule::Assignable => push_unfit(said, at),
         Rule::Numbers => push_numbers(said, at),
         Rule::Assigned => push_unassigned(said, at),
@@ -65,7 +68,7 @@ fn push_rule(said: &mut Words, rule: Rule, at: Setting<'_, '_>) -> Result<bool, 
         Rule::Branch => push_branch(said, at),
         Rule::Called => push_called(said, at),
         Rule::Made => push_unmade(said, at),
-        _ => Ok(false),
+        _ => {}
     }
 }
 
@@ -89,36 +92,50 @@ fn tree_of(alloc: Global, text: &str) -> Result<Option<Tree>, Memory> {
     }
 }
 
-/// Tells how a rule is broken at a node of a file. Answers whether anything was said.
+/// Tells how a rule is broken at a node within the functions of a file, if that is known.
+fn push_within(
+    alloc: Global,
+    said: &mut Words,
+    table: &TypeTable<'_>,
+    scene: &Scene<'_>,
+    rule: Rule,
+    node: NodeId,
+) -> Result<(), Memory> {
+    let parts = parts_of(alloc, table, scene)?;
+    let at = Setting {
+        table,
+        scene,
+        parts: &parts,
+        node,
+    };
+    push_rule(said, rule, at);
+    Ok(())
+}
+
+/// Tells how a rule is broken at a node of a file, if that is known.
 fn push_in(
     alloc: Global,
     said: &mut Words,
     file: &FileNode,
     rule: Rule,
     node: NodeId,
-) -> Result<bool, Memory>
+) -> Result<(), Memory>
     requires small { size (file_of file.now) < 2 ^ 32 }
 {
     let tops = file.tops.as_slice();
-    if push_declaration(said, tops, rule, node)? {
-        return Ok(true);
+    push_declaration(said, tops, rule, node);
+    if !said.is_empty() {
+        return Ok(());
     }
     let table = match table_of(alloc, tops) {
         Ok(table) => table,
         Err(Refusal::Memory) => return Err(Memory),
-        Err(Refusal::Flawed(_)) => return Ok(false),
+        Err(Refusal::Flawed(_)) => return Ok(()),
     };
-    let Some(scene) = scene_at(alloc, &table, tops, 0, node)? else {
-        return Ok(false);
-    };
-    let parts = parts_of(alloc, &table, &scene)?;
-    let at = Setting {
-        table: &table,
-        scene: &scene,
-        parts: &parts,
-        node,
-    };
-    Ok(push_rule(said, rule, at)?)
+    match scene_at(alloc, &table, tops, 0, node)? {
+        Some(scene) => push_within(alloc, said, &table, &scene, rule, node),
+        None => Ok(()),
+    }
 }
 
 /// What is wrong where a rule is broken at this node of a text's tree: `None` where nothing is known of it but the rule.
@@ -132,9 +149,9 @@ pub fn typing_sentence(
         return Ok(None);
     };
     let mut said = Words::new(alloc);
-    if push_in(alloc, &mut said, tree.file(), rule, node)? {
-        Ok(Some(said.into_bytes()))
-    } else {
-        Ok(None)
+    push_in(alloc, &mut said, tree.file(), rule, node)?;
+    if said.is_empty() {
+        return Ok(None);
     }
+    Ok(Some(said.into_bytes()?))
 }
