@@ -16,9 +16,8 @@ use crate::scene::Scene;
 use crate::sentence::{push_exhausted, push_panic, push_waiting};
 use crate::watched::{Placed, Watched};
 use checker::Typed;
-use go_text::{Fault, Memory, Source};
+use go_text::{Memory, Source};
 use one_thread::{Ended, Goroutine, last_moment};
-use reference::program_of;
 use std::alloc::Global;
 use word::end::End;
 
@@ -39,23 +38,20 @@ pub fn end_explanation(
     typed: &Typed,
     limit: u64,
     cause: &str,
-) -> Result<Vec<u8>, Fault>
+) -> Result<Vec<u8>, Memory>
     requires { limit ≤ 2 ^ 62 }
 {
-    let watched = Watched::new(
-        alloc,
-        reference::Source {
-            program: program_of(alloc, typed)?,
-        },
-    )?;
+    let watched = Watched::new(alloc, typed)?;
     let scene = Scene {
         path,
         source,
         tree: typed.tree(),
     };
-    match last_moment(alloc, &watched, limit, MOST_MOVES, &mut Nowhere)? {
-        Some(ended) => Ok(lines(alloc, scene, &ended, cause)?),
-        None => Ok(left_out(alloc)?),
+    let mut output = Nowhere;
+    match last_moment(alloc, &watched, limit, MOST_MOVES, &mut output) {
+        Ok(Some(ended)) => lines(alloc, scene, &ended, cause),
+        Ok(None) => left_out(alloc),
+        Err(_) => Err(Memory),
     }
 }
 

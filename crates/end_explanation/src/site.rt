@@ -49,7 +49,11 @@ impl<'t> Site<'t> {
 
     /// A statement.
     pub(crate) fn of_statement(first: NodeId, statement: &'t StatementNode) -> Site<'t> {
-        Site::before(first, statement_end(first, statement), inside(statement))
+        Site::before(
+            first,
+            statement_end(first, statement),
+            inside_statement(statement),
+        )
     }
 
     /// A simple statement.
@@ -70,7 +74,7 @@ impl<'t> Site<'t> {
 }
 
 /// What of a statement matters.
-fn inside<'t>(statement: &'t StatementNode) -> Inside<'t> {
+fn inside_statement<'t>(statement: &'t StatementNode) -> Inside<'t> {
     match statement {
         StatementNode::Simple(simple) => inside_simple(simple),
         StatementNode::Typed(_, _, Some(right)) | StatementNode::Untyped(_, right) => {

@@ -69,50 +69,75 @@ impl<'t> Trail<'t> {
         start: NodeId,
         called: NodeId,
     ) -> Result<(), Memory> {
-        if let Some(site) = self.next() {
-            self.last = site;
-        }
+        self.last = self.next().unwrap_or(self.last);
         if frames.len() < self.sites.len() {
             let _gone = self.sites.pop();
         }
-        let depth = self.sites.len();
-        if let (Some(sites), Some(frame)) = (
-            self.sites.last_mut(),
-            frames.get(depth.saturating_sub(1)),
-        ) {
-            settle(sites, frame.tasks.as_slice(), start)?;
-        }
-        if let Some(frame) = frames.get(depth) {
+        self.settle_top(alloc, frames, start)?;
+        if let Some(frame) = frames.get(self.sites.len()) {
             self.sites.push(sites_of(alloc, frame, called)?)?;
         }
+        Ok(())
+    }
+
+    /// The function that was called last has done a task.
+    fn settle_top(
+        &mut self,
+        alloc: Global,
+        frames: &[Frame<'t>],
+        start: NodeId,
+    ) -> Result<(), Memory> {
+        let Some(sites) = self.sites.pop() else {
+            return Ok(());
+        };
+        let Some(frame) = frames.get(self.sites.len()) else {
+            return Ok(());
+        };
+        let settled = settled(alloc, sites, frame.tasks.as_slice(), start)?;
+        self.sites.push(settled)?;
         Ok(())
     }
 }
 
 /// The sites of the tasks of a function that has just begun, the first node of whose body is this one.
 fn sites_of<'t>(alloc: Global, frame: &Frame<'t>, first: NodeId) -> Result<Vec<Site<'t>>, Memory> {
-    let mut sites = Vec::new(alloc);
-    settle(&mut sites, frame.tasks.as_slice(), first)?;
-    Ok(sites)
+    settled(alloc, Vec::new(alloc), frame.tasks.as_slice(), first)
 }
 
 /// The sites of these tasks, where the last one of those before was done: what came of it stands from `start` on.
-fn settle<'t>(sites: &mut Vec<Site<'t>>, tasks: &[Task<'t>], start: NodeId) -> Result<(), Memory> {
-    let cause = match sites.pop() {
-        Some(site) => site,
-        None => Site::at(start),
-    };
+fn settled<'t>(
+    alloc: Global,
+    mut sites: Vec<Site<'t>>,
+    tasks: &[Task<'t>],
+    start: NodeId,
+) -> Result<Vec<Site<'t>>, Memory> {
+    let cause = sites.pop().unwrap_or(Site::at(start));
     let kept = sites.len().min(tasks.len());
     sites.truncate(kept);
+    let added = added(alloc, &tasks[kept..], start, cause)?;
+    for site in added.iter().rev() {
+        sites.push(*site)?;
+    }
+    Ok(sites)
+}
+
+/// The sites of tasks that came of a statement, the next one first: what they do stands from `start` on.
+fn added<'t>(
+    alloc: Global,
+    tasks: &[Task<'t>],
+    start: NodeId,
+    cause: Site<'t>,
+) -> Result<Vec<Site<'t>>, Memory> {
+    let mut sites = Vec::new(alloc);
     let mut next = start;
-    for task in tasks[kept..].iter().rev() {
+    for task in tasks.iter().rev() {
         let site = site_of(task, next, cause);
         if begins(task) {
             next = site.end();
         }
-        sites.insert(kept, site)?;
+        sites.push(site)?;
     }
-    Ok(())
+    Ok(sites)
 }
 
 /// The site of a task that came of a statement: the statement that stands from `next` on, or that which it came of.

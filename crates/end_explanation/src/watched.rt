@@ -2,10 +2,11 @@
 
 use crate::site::{Inside, Site};
 use crate::trail::{Trail, replied, start};
+use checker::Typed;
 use diagnostic_scope::ends::{function_first, top_end};
 use go_text::Memory;
 use one_thread::{Interpreter, Step};
-use reference::Source;
+use reference::{Source, program_of};
 use reference_base::task::Frame;
 use std::alloc::Global;
 use syntax::{NodeId, TopNode};
@@ -27,10 +28,14 @@ pub(crate) struct Placed<'t> {
 }
 
 impl<'t> Watched<'t> {
-    /// A program, watched.
-    pub(crate) fn new(alloc: Global, source: Source<'t>) -> Result<Watched<'t>, Memory> {
-        let firsts = firsts_of(alloc, source.program.file.tops.as_slice())?;
-        Ok(Watched { source, firsts })
+    /// The program that a checked tree is.
+    pub(crate) fn new(alloc: Global, typed: &'t Typed) -> Result<Watched<'t>, Memory> {
+        let firsts = firsts_of(alloc, typed.tree().file().tops.as_slice())?;
+        let program = program_of(alloc, typed)?;
+        Ok(Watched {
+            source: Source { program },
+            firsts,
+        })
     }
 
     /// The first node of the body of the function of this number.

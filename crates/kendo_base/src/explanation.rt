@@ -1,5 +1,8 @@
 //! What is said of the end of a run.
 
+ghost use Rattle.std.specs.Prelude.{◌≡◌, ◌≤◌, ◌^◌, [], IfErr, IfOk};
+ghost use Rattle.kendo_base.specs.Reading.{HasNoReading, IsRefusal, IsWhy};
+
 use crate::outcome::text_of_panic;
 use crate::reading::read;
 use end_explanation::end_explanation;
@@ -17,15 +20,34 @@ pub fn explain_end(
     bytes: Vec<u8>,
     limit: u64,
     end: End,
-) -> Result<Vec<u8>, Fault> {
+) -> Result<Vec<u8>, Fault>
+    ensures finished { end ≡ End.Finished → IfOk result (λ told. told.items ≡ []) }
+    ensures refused { IfErr result (λ fault. IsRefusal fault → HasNoReading bytes.items) }
+    ensures why { IfErr result (λ fault. IsRefusal fault → IsWhy bytes.items fault) }
+{
     if limit < 1 || limit > 1 << 62 {
         return Err(Fault::BadLimit);
     }
-    let cause = match end {
-        End::Finished => return Ok(Vec::new(alloc)),
-        End::Panicked(cause) => text_of_panic(cause),
-        End::Deadlock | End::Exhausted => "",
-    };
+    match end {
+        End::Finished => Ok(Vec::new(alloc)),
+        End::Panicked(cause) => explain(alloc, path, bytes, limit, text_of_panic(cause)),
+        End::Deadlock | End::Exhausted => explain(alloc, path, bytes, limit, ""),
+    }
+}
+
+/// The same of a run that did not finish: of a panic for this cause.
+fn explain(
+    alloc: Global,
+    path: &str,
+    bytes: Vec<u8>,
+    limit: u64,
+    cause: &str,
+) -> Result<Vec<u8>, Fault>
+    requires { limit ≤ 2 ^ 62 }
+    ensures refused { IfErr result (λ fault. IsRefusal fault → HasNoReading bytes.items) }
+    ensures why { IfErr result (λ fault. IsRefusal fault → IsWhy bytes.items fault) }
+{
     let (source, typed) = read(alloc, bytes)?;
-    end_explanation(alloc, path, &source, &typed, limit, cause)
+    let told = end_explanation(alloc, path, &source, &typed, limit, cause)?;
+    Ok(told)
 }
