@@ -5,7 +5,7 @@ use Rattle.word.specs.Kinds.{at}
 use Rattle.world_core_base.specs.Cores.{CoreValue, IsAway, IsHere, opened_core, taken_out}
 use Rattle.world_core_base.specs.Slots.{free_row}
 use Rattle.world_core_base.proofs.Taking.{main_is_here}
-use Rattle.machine_tests.proofs.schedules.state_is_taken_out_and_put_back.Goals as goal
+use Rattle.machine_calls.proofs.schedules.state_is_taken_out_and_put_back.Goals as goal
 
 -- the state of goroutine 1, once it is taken out
 main_is_away : (code : Code) → IsAway (taken_out (opened_core code) 1) 1
