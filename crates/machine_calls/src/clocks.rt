@@ -8,7 +8,6 @@ ghost use Rattle.goroutine_vm.specs.Advance.{IsStateOf};
 use crate::checks::Checks;
 use crate::made::main_program;
 use crate::requests::main_state;
-use crate::workers::comes_to;
 use bytecode::Instr::Loop;
 use clock_table::{BookSeat, ClockTable, LeaseSeat};
 use go_text::{Fault, Memory};
@@ -123,6 +122,17 @@ fn watch(table: &ClockTable, seat: BookSeat, marks: &Marks) -> bool
             return true;
         }
         marks.looks.fetch_add(1, Ordering::SeqCst);
+        yield_now();
+    }
+    false
+}
+
+/// Waits for a while until the count is as high as that.
+pub(crate) fn comes_to(count: &AtomicU64, least: u64) -> bool {
+    for _ in 0..1_000_000 {
+        if count.load(Ordering::SeqCst) >= least {
+            return true;
+        }
         yield_now();
     }
     false

@@ -1,13 +1,14 @@
 //! Runs of a small program by several workers.
 
 use crate::checks::Checks;
+use crate::clocks::comes_to;
 use crate::made::program;
 use crate::programs::MEETS_TWICE;
 use go_text::{Fault, Memory};
 use std::alloc::Global;
 use std::sync::atomic::{AtomicU64, Ordering};
 use std::sync::{Arc, Wait};
-use std::thread::{Threads, yield_now};
+use std::thread::Threads;
 use word::end::End;
 use word::{Flagged, Write, WriteFault};
 use worker_pool::{Gate, run};
@@ -166,17 +167,6 @@ fn trace_fails<R: Threads + Wait + Sync>(rt: &R, alloc: Global) -> Result<bool, 
     let mut trace = Narrow::new();
     let outcome = attempt(rt, alloc, LIMIT, 64, &Open, &mut out, &mut trace);
     Ok(outcome == Err(Fault::Write) && trace.taken)
-}
-
-/// Waits for a while until the count is as high as that.
-pub(crate) fn comes_to(count: &AtomicU64, least: u64) -> bool {
-    for _ in 0..1_000_000 {
-        if count.load(Ordering::SeqCst) >= least {
-            return true;
-        }
-        yield_now();
-    }
-    false
 }
 
 /// The first leases of goroutines 2 and 3 are each held until the other is.
