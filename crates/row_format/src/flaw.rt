@@ -14,6 +14,9 @@ const BEFORE: usize = 20;
 /// Why a file of rows fails.
 #[derive(Debug, Drop, Error)]
 pub enum Flaw {
+    /// A call of a crate, named by what it must show, shows something else.
+    #[error("it does not hold")]
+    Call,
     /// A folder has no rows in its folders.
     #[error("it has no rows")]
     NoRows,

@@ -19,6 +19,8 @@ mod words;
 
 use calls::{check_failing_traces, check_failing_writers, check_panics, check_refusals};
 use check::check;
+use go_text::Fault;
+use machine_calls::failed_calls;
 use row_format::flaw::Flaw;
 use row_format::folder::{FileKind, RowFile, names, utf8};
 use std::process::ExitCode;
@@ -100,7 +102,22 @@ impl Report {
         self.tell(rt, "failing writers", check_failing_writers(rt, rt.alloc()))?;
         self.tell(rt, "failing traces", check_failing_traces(rt, rt.alloc()))?;
         self.tell(rt, "panics", check_panics(rt.alloc()))?;
-        self.tell(rt, "refusals", check_refusals(rt.alloc()))
+        self.tell(rt, "refusals", check_refusals(rt.alloc()))?;
+        self.machine_calls(rt)
+    }
+
+    /// Calls of the crates from code to runs.
+    fn machine_calls<R: AllocGlobal + Print + Threads + Wait + Sync>(
+        &mut self,
+        rt: &R,
+    ) -> io::Result<()> {
+        let Ok(names) = failed_calls(rt, rt.alloc()) else {
+            return self.tell(rt, "machine_calls", Err(Flaw::Refused(Fault::Memory)));
+        };
+        for name in names.iter() {
+            self.tell(rt, name, Err(Flaw::Call))?;
+        }
+        self.tell(rt, "machine_calls", Ok(()))
     }
 
     /// Prints that all holds, where it does, and answers whether it does.

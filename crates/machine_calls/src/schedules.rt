@@ -1,10 +1,10 @@
 //! Schedules, and the worlds that they lead to.
 
+use crate::checks::Checks;
 use crate::made::{Body, program};
 use crate::programs::{CLOSES_ON_A_SENDER, HANDS_OVER, MEETS_TWICE, WAITS_FOR_GOOD};
-use go_text::Fault;
+use go_text::{Fault, Memory};
 use std::alloc::{AllocError, Global};
-use std::test::Fail;
 use turn_rule::Step;
 use word::end::End;
 use word::panic::Panic;
@@ -106,41 +106,6 @@ const HANDED_OVER: [Told; 7] = [
     (6, 1, 'x', '.'),
 ];
 
-#[test]
-fn item_is_handed_over(rt: HostRuntime) -> Result<(), Fail> {
-    let alloc = rt.alloc();
-    let steps = rounds(alloc, 2, 9)?;
-    assert!(rt;
-        leads(
-            alloc,
-            &HANDS_OVER,
-            &steps,
-            &HANDED_OVER,
-            "7\n",
-            Some(End::Finished)
-        )?
-    );
-    Ok(())
-}
-
-#[test]
-fn nobody_is_awake(rt: HostRuntime) -> Result<(), Fail> {
-    let alloc = rt.alloc();
-    let steps = rounds(alloc, 1, 4)?;
-    let events = [(0, 1, 'm', '.'), (2, 1, '!', 's')];
-    assert!(rt;
-        leads(
-            alloc,
-            &WAITS_FOR_GOOD,
-            &steps,
-            &events,
-            "",
-            Some(End::Deadlock)
-        )?
-    );
-    Ok(())
-}
-
 const CLOSED: [Told; 6] = [
     (0, 1, 'm', '.'),
     (2, 1, 'g', '.'),
@@ -149,15 +114,6 @@ const CLOSED: [Told; 6] = [
     (5, 1, '?', 's'),
     (5, 2, 'p', 'p'),
 ];
-
-#[test]
-fn sender_that_a_close_wakes_panics(rt: HostRuntime) -> Result<(), Fail> {
-    let alloc = rt.alloc();
-    let steps = rounds(alloc, 2, 9)?;
-    let end = Some(End::Panicked(Panic::SendOnClosed));
-    assert!(rt; leads(alloc, &CLOSES_ON_A_SENDER, &steps, &CLOSED, "", end)?);
-    Ok(())
-}
 
 /// A schedule of `MEETS_TWICE` where goroutine 3 is parked before goroutine 2, whose key is less, and which publishes
 /// where it is before it comes back.
@@ -194,38 +150,76 @@ const WAITED_FOR: [Told; 5] = [
     (4, 2, 'w', '.'),
 ];
 
-#[test]
-fn goroutine_behind_its_floor_is_waited_for(rt: HostRuntime) -> Result<(), Fail> {
-    let alloc = rt.alloc();
+/// Steps that nobody can make.
+const FOOLISH: [Step; 7] = [
+    Step::Settle,
+    Step::Look(1),
+    Step::Return(1),
+    Step::Publish(1),
+    Step::Local(0),
+    Step::Lend(u64::MAX),
+    Step::Settle,
+];
+
+/// Whether goroutines that hand over an item do so.
+fn hands_over(alloc: Global) -> Result<bool, Fault> {
+    let steps = rounds(alloc, 2, 9)?;
+    let end = Some(End::Finished);
+    leads(alloc, &HANDS_OVER, &steps, &HANDED_OVER, "7\n", end)
+}
+
+/// Whether nobody is awake once the only goroutine sleeps.
+fn deadlocks(alloc: Global) -> Result<bool, Fault> {
+    let steps = rounds(alloc, 1, 4)?;
+    let events = [(0, 1, 'm', '.'), (2, 1, '!', 's')];
+    leads(
+        alloc,
+        &WAITS_FOR_GOOD,
+        &steps,
+        &events,
+        "",
+        Some(End::Deadlock),
+    )
+}
+
+/// Whether a sender panics that a close wakes.
+fn close_wakes(alloc: Global) -> Result<bool, Fault> {
+    let steps = rounds(alloc, 2, 9)?;
+    let end = Some(End::Panicked(Panic::SendOnClosed));
+    leads(alloc, &CLOSES_ON_A_SENDER, &steps, &CLOSED, "", end)
+}
+
+/// Whether a goroutine is waited for that is behind its floor.
+fn floor_holds(alloc: Global) -> Result<bool, Fault> {
     let steps = ahead_of_the_floor(alloc)?;
-    assert!(rt; leads(alloc, &MEETS_TWICE, &steps, &WAITED_FOR, "1\n", None)?);
-    Ok(())
+    leads(alloc, &MEETS_TWICE, &steps, &WAITED_FOR, "1\n", None)
 }
 
-#[test]
-fn foolish_steps_change_nothing(rt: HostRuntime) -> Result<(), Fail> {
-    let steps = [
-        Step::Settle,
-        Step::Look(1),
-        Step::Return(1),
-        Step::Publish(1),
-        Step::Local(0),
-        Step::Lend(u64::MAX),
-        Step::Settle,
-    ];
-    assert!(rt; leads(rt.alloc(), &HANDS_OVER, &steps, &[], "", None)?);
-    Ok(())
-}
-
-#[test]
-fn state_is_taken_out_and_put_back(rt: HostRuntime) -> Result<(), Fail> {
-    let alloc = rt.alloc();
+/// Whether a state is away once it is taken out, and here once it is put back.
+fn state_is_taken_out_and_put_back(alloc: Global) -> Result<bool, Fault> {
     let program = program(alloc, &HANDS_OVER)?;
     let mut core = Core::open(alloc, &program)?;
     let state = core.take_state(1);
-    assert_eq!(rt; first_awake(core.rows()), None);
+    let away = first_awake(core.rows());
     core.put_state(1, state);
-    assert_eq!(rt; first_awake(core.rows()), Some(1));
-    assert_eq!(rt; least_parked(core.rows()), None);
-    Ok(())
+    let here = first_awake(core.rows());
+    let parked = least_parked(core.rows());
+    Ok(away == None && here == Some(1) && parked == None)
+}
+
+/// Whether schedules lead where they must.
+pub(crate) fn check(alloc: Global, checks: &mut Checks) -> Result<(), Memory> {
+    checks.see("a schedule hands over an item", hands_over(alloc))?;
+    checks.see("nobody is awake", deadlocks(alloc))?;
+    checks.see("a sender that a close wakes panics", close_wakes(alloc))?;
+    checks.see(
+        "a goroutine behind its floor is waited for",
+        floor_holds(alloc),
+    )?;
+    let nothing = leads(alloc, &HANDS_OVER, &FOOLISH, &[], "", None);
+    checks.see("foolish steps change nothing", nothing)?;
+    checks.see(
+        "a state is taken out and put back",
+        state_is_taken_out_and_put_back(alloc),
+    )
 }

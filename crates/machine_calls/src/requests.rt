@@ -3,6 +3,7 @@
 ghost use Rattle.std.specs.Prelude.{◌≤◌, ◌^◌, IfOk};
 ghost use Rattle.goroutine_vm.specs.Advance.{IsStateOf};
 
+use crate::checks::Checks;
 use crate::made::main_program;
 use bytecode::Instr;
 use bytecode::Instr::*;
@@ -10,7 +11,6 @@ use go_text::{Fault, Memory};
 use goroutine_vm::{GoState, Stop};
 use logical_clock::{Clock, LAST};
 use std::alloc::Global;
-use std::test::Fail;
 use verifier::Verified;
 use word::apply::Op;
 use word::panic::Panic;
@@ -19,7 +19,7 @@ use word::value::{Item, Word};
 use world_core::Core;
 
 /// Goroutine 1 at its beginning.
-fn main_state(alloc: Global, program: &Verified, limit: u64) -> Result<GoState, Memory>
+pub(crate) fn main_state(alloc: Global, program: &Verified, limit: u64) -> Result<GoState, Memory>
     requires { limit ≤ 2 ^ 62 }
     ensures { IfOk result (IsStateOf program.now limit) }
 {
@@ -59,16 +59,23 @@ fn is_print(request: Option<Request>, text: &str) -> bool {
     }
 }
 
-/// The instructions of a `main`, what it prints first, and the time.
-const PRINTED: [(&[Instr], &str, u64); 10] = [
-    (&[Int(7), Print(0), Return], "7\n", 0),
-    (&[Bool(true), Print(1), Return], "true\n", 0),
+/// What is shown, the instructions of a `main`, what it prints first, and the time.
+const PRINTED: [(&str, &[Instr], &str, u64); 10] = [
+    ("an int is printed", &[Int(7), Print(0), Return], "7\n", 0),
     (
+        "a truth value is printed",
+        &[Bool(true), Print(1), Return],
+        "true\n",
+        0,
+    ),
+    (
+        "nil is nil",
         &[Nil(0), Nil(0), Apply(Op::EqChan), Print(1), Return],
         "true\n",
         0,
     ),
     (
+        "a local is stored and loaded",
         &[
             Int(5),
             Store(1, 1),
@@ -81,14 +88,31 @@ const PRINTED: [(&[Instr], &str, u64); 10] = [
         0,
     ),
     (
+        "an operand is picked",
         &[Int(1), Int(2), Int(3), Pick(3, 1, 1), Print(0), Return],
         "2\n",
         0,
     ),
-    (&[Int(1), Int(2), Discard(1), Print(0), Return], "1\n", 0),
-    (&[Tick, Int(8), Print(0), Return], "8\n", 1),
-    (&[Jump(2), Return, Int(4), Print(0), Return], "4\n", 0),
     (
+        "an operand is dropped",
+        &[Int(1), Int(2), Discard(1), Print(0), Return],
+        "1\n",
+        0,
+    ),
+    (
+        "a tick is counted",
+        &[Tick, Int(8), Print(0), Return],
+        "8\n",
+        1,
+    ),
+    (
+        "a jump skips",
+        &[Jump(2), Return, Int(4), Print(0), Return],
+        "4\n",
+        0,
+    ),
+    (
+        "a branch is taken where it is false",
         &[
             Bool(false),
             Unless(4),
@@ -101,21 +125,23 @@ const PRINTED: [(&[Instr], &str, u64); 10] = [
         "2\n",
         0,
     ),
-    (&[Int(-6), Call(1), Print(1), Return], "true\n", 1),
+    (
+        "a call takes its argument",
+        &[Int(-6), Call(1), Print(1), Return],
+        "true\n",
+        1,
+    ),
 ];
 
-#[test]
-fn instructions_do_what_they_say(rt: HostRuntime) -> Result<(), Fail> {
-    for (instrs, text, time) in &PRINTED {
-        let (request, when) = first_request(rt.alloc(), instrs)?;
-        assert!(rt; is_print(request, text) && when == *time, "{text}");
-    }
-    Ok(())
+/// Whether a `main` with these instructions prints this text first, at this time.
+fn prints_first(alloc: Global, instrs: &[Instr], text: &str, time: u64) -> Result<bool, Fault> {
+    let (request, when) = first_request(alloc, instrs)?;
+    Ok(is_print(request, text) && when == time)
 }
 
 /// What a request is called, with its channel's number or `nil`.
-fn called(request: &Option<Request>) -> &'static str {
-    match request {
+fn called(request: Option<Request>) -> &'static str {
+    match &request {
         Some(Request::Make(3, _)) => "make 3",
         Some(Request::Go(1, _)) => "go 1",
         Some(Request::Send(None, _)) => "send nil",
@@ -160,13 +186,10 @@ const ASKED: [(&[Instr], &str, u64); 10] = [
     (&[Call(0), Return], "panic of depth", 999),
 ];
 
-#[test]
-fn requests_are_asked_in_their_time(rt: HostRuntime) -> Result<(), Fail> {
-    for (instrs, name, time) in &ASKED {
-        let (request, when) = first_request(rt.alloc(), instrs)?;
-        assert!(rt; called(&request) == *name && when == *time, "{name}");
-    }
-    Ok(())
+/// Whether the first request of a `main` with these instructions is called so, at this time.
+fn asks_first(alloc: Global, instrs: &[Instr], name: &str, time: u64) -> Result<bool, Fault> {
+    let (request, when) = first_request(alloc, instrs)?;
+    Ok(called(request) == name && when == time)
 }
 
 /// The request to which a goroutine comes behind its next one, which is answered so at 5.
@@ -191,17 +214,31 @@ fn prints_after(alloc: Global, instrs: &[Instr], reply: Reply, text: &str) -> Re
     Ok(is_print(request, text) && state.clock().time() == 5)
 }
 
-#[test]
-fn answers_lead_on(rt: HostRuntime) -> Result<(), Fail> {
-    let alloc = rt.alloc();
+/// What a `main` does that receives on nil, prints the flag, and then the item.
+const RECEIVE: [Instr; 5] = [Nil(0), Receive(0), Print(1), Print(0), Return];
+
+fn check_answers(alloc: Global, checks: &mut Checks) -> Result<(), Memory> {
     let item = Item::new(alloc, &[Word::Int(9)]);
-    assert!(rt; prints_after(alloc, &SELECT, Reply::Clause(1, Some((item, true))), "9\n")?);
-    assert!(rt; prints_after(alloc, &SELECT, Reply::Clause(2, None), "1\n")?);
-    assert!(rt; prints_after(alloc, &SELECT, Reply::Default, "2\n")?);
-    let receive = [Nil(0), Receive(0), Print(1), Print(0), Return];
+    let reply = Reply::Clause(1, Some((item, true)));
+    checks.see(
+        "a select has received",
+        prints_after(alloc, &SELECT, reply, "9\n"),
+    )?;
+    let reply = Reply::Clause(2, None);
+    checks.see(
+        "a select has sent",
+        prints_after(alloc, &SELECT, reply, "1\n"),
+    )?;
+    checks.see(
+        "a select takes its default",
+        prints_after(alloc, &SELECT, Reply::Default, "2\n"),
+    )?;
     let item = Item::new(alloc, &[Word::Int(9)]);
-    assert!(rt; prints_after(alloc, &receive, Reply::Received(item, true), "true\n")?);
-    Ok(())
+    let reply = Reply::Received(item, true);
+    checks.see(
+        "a receive has its flag",
+        prints_after(alloc, &RECEIVE, reply, "true\n"),
+    )
 }
 
 /// Whether a goroutine goes on for two steps, up to this time.
@@ -231,12 +268,29 @@ fn is_exhausted(
     Ok(matches!(&stop, Stop::AtOp(Request::Exhausted)) && state.clock().time() == time)
 }
 
-#[test]
-fn loop_ends_at_the_limit(rt: HostRuntime) -> Result<(), Fail> {
-    let alloc = rt.alloc();
+/// Whether a loop without an end goes on up to the limit, and is exhausted there.
+fn loop_ends(alloc: Global) -> Result<bool, Fault> {
     let program = main_program(alloc, &[Loop(0)])?;
     let mut state = main_state(alloc, &program, 3)?;
-    assert!(rt; goes_on(alloc, &program, &mut state, 2)?);
-    assert!(rt; is_exhausted(alloc, &program, &mut state, 3)?);
-    Ok(())
+    Ok(ends(alloc, &program, &mut state)?)
+}
+
+/// Whether a goroutine goes on for two steps of two, and is exhausted by two more.
+fn ends(alloc: Global, program: &Verified, state: &mut GoState) -> Result<bool, Memory>
+    requires { IsStateOf program.now 3 state.old }
+{
+    let goes = goes_on(alloc, program, state, 2)?;
+    Ok(goes && is_exhausted(alloc, program, state, 3)?)
+}
+
+/// Whether goroutines ask, print and go on so.
+pub(crate) fn check(alloc: Global, checks: &mut Checks) -> Result<(), Memory> {
+    for (name, instrs, text, time) in &PRINTED {
+        checks.see(name, prints_first(alloc, instrs, text, *time))?;
+    }
+    for (instrs, name, time) in &ASKED {
+        checks.see(name, asks_first(alloc, instrs, name, *time))?;
+    }
+    check_answers(alloc, checks)?;
+    checks.see("a loop ends at the limit", loop_ends(alloc))
 }

@@ -2,13 +2,13 @@
 
 ghost use Rattle.std.specs.Prelude.{Some};
 
+use crate::checks::Checks;
 use crate::made::{Body, program};
 use bytecode::Instr::*;
-use go_text::Fault;
+use go_text::{Fault, Memory};
 use output::{DrainFault, Kind, Piece, Progress, drain};
 use std::alloc::Global;
 use std::sync::Arc;
-use std::test::Fail;
 use verifier::Verified;
 use word::{Write, WriteFault};
 
@@ -79,30 +79,37 @@ fn drained(
     Ok((fault, out.taken.len(), progress.place()))
 }
 
-#[test]
-fn bytes_are_written_until_the_writer_fails(rt: HostRuntime) -> Result<(), Fail> {
-    for (fails_at, fault, count) in [
-        (1, Some(DrainFault::Write), 0),
-        (2, Some(DrainFault::Write), 1),
-        (4, Some(DrainFault::Write), 3),
-        (9, None, 4),
-    ] {
-        let found = drained(rt.alloc(), (3, 9, Kind::Output, 0), fails_at)?;
-        assert_eq!(rt; found, (fault, count, count as u128));
-    }
-    Ok(())
+/// Whether this comes of it.
+fn is_drained(
+    alloc: Global,
+    origin: Origin,
+    fails_at: u64,
+    fault: Option<DrainFault>,
+    count: usize,
+) -> Result<bool, Fault> {
+    let found = drained(alloc, origin, fails_at)?;
+    Ok(found == (fault, count, count as u128))
 }
 
-#[test]
-fn pieces_of_other_runs_are_refused(rt: HostRuntime) -> Result<(), Fail> {
-    for origin in [
-        (4, 9, Kind::Output, 0),
-        (3, 8, Kind::Output, 0),
-        (3, 9, Kind::Trace, 0),
-        (3, 9, Kind::Output, 4),
+/// Whether bytes are written until the writer fails, and pieces of other runs refused.
+pub(crate) fn check(alloc: Global, checks: &mut Checks) -> Result<(), Memory> {
+    let origin = (3, 9, Kind::Output, 0);
+    for (name, fails_at, fault, count) in [
+        ("no byte is written", 1, Some(DrainFault::Write), 0),
+        ("one byte is written", 2, Some(DrainFault::Write), 1),
+        ("three bytes are written", 4, Some(DrainFault::Write), 3),
+        ("all bytes are written", 9, None, 4),
     ] {
-        let found = drained(rt.alloc(), origin, 9)?;
-        assert_eq!(rt; found, (Some(DrainFault::NotYours), 0, 0));
+        checks.see(name, is_drained(alloc, origin, fails_at, fault, count))?;
+    }
+    for (name, origin) in [
+        ("a piece of another program", (4, 9, Kind::Output, 0)),
+        ("a piece of another limit", (3, 8, Kind::Output, 0)),
+        ("a piece of another kind", (3, 9, Kind::Trace, 0)),
+        ("a piece of another place", (3, 9, Kind::Output, 4)),
+    ] {
+        let fault = Some(DrainFault::NotYours);
+        checks.see(name, is_drained(alloc, origin, 9, fault, 0))?;
     }
     Ok(())
 }

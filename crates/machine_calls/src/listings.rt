@@ -1,9 +1,11 @@
 //! What a listing shows.
 
+use crate::checks::Checks;
 use crate::made::main_code;
 use bytecode::Instr::*;
 use bytecode::{Instr, listing};
-use std::test::Fail;
+use go_text::{Fault, Memory};
+use std::alloc::Global;
 use word::apply::Op;
 
 /// Instructions of all forms of operands; in no order that a verifier takes.
@@ -45,10 +47,13 @@ func negative params 1 locals 1 result 1
      3 return
 ";
 
-#[test]
-fn functions_and_operands_are_listed(rt: HostRuntime) -> Result<(), Fail> {
-    let code = main_code(rt.alloc(), &INSTRS)?;
-    let text = listing(rt.alloc(), &code)?;
-    assert!(rt; text.as_slice() == LISTING.as_bytes());
-    Ok(())
+/// Whether functions and operands of all forms are listed.
+pub(crate) fn check(alloc: Global, checks: &mut Checks) -> Result<(), Memory> {
+    checks.see("functions and operands are listed", are_listed(alloc))
+}
+
+fn are_listed(alloc: Global) -> Result<bool, Fault> {
+    let code = main_code(alloc, &INSTRS)?;
+    let text = listing(alloc, &code)?;
+    Ok(text.as_slice() == LISTING.as_bytes())
 }

@@ -1,0 +1,236 @@
+//! Runs that books settle.
+
+ghost use Rattle.std.specs.Prelude.{◌≡◌, ◌^◌};
+ghost use Rattle.std.specs.Arc.{arc_value};
+ghost use Rattle.clock_table.specs.Seats.{table_of};
+
+use crate::checks::Checks;
+use crate::made::{Body, program};
+use crate::programs::{HANDS_OVER, STARTS_MORE, WAITS_FOR_GOOD};
+use book::{Blank, Book, BookName, Lease, Settled};
+use go_text::{Fault, Memory};
+use std::alloc::Global;
+use std::marker::Brand;
+use std::sync::Arc;
+use verifier::Verified;
+use word::end::End;
+use word::panic::Panic;
+use word::request::{Event, EventOutcome};
+
+/// A clock limit that is not reached.
+const LIMIT: u64 = 1 << 40;
+
+/// What is compared of a settling: the clock and the number of its event, and whether it sleeps.
+#[derive(Clone, Copy, PartialEq, Eq)]
+enum Seen {
+    Event(u64, u64, bool),
+    Waiting(u64),
+    Ended(End),
+    NoMemory,
+}
+
+/// What is done with a book, and what has to come of it.
+#[derive(Clone, Copy)]
+enum Move {
+    /// Whoever may be lent is lent and works, until all are parked; then the next settling comes to this.
+    Next(Seen),
+    /// The same so many times, whatever it comes to.
+    Skip(u32),
+    /// A settling comes to this.
+    Settle(Seen),
+    /// Whoever is lent and stands before the next event is waited for, until it has published a later clock.
+    WaitForFloors,
+    /// Nobody may be lent.
+    LendNobody,
+    /// So many events are settled.
+    Events(u64),
+    /// The output so far is this text.
+    Write(&'static str),
+}
+
+/// Each event of a hand-over.
+const HAND_OVER: [Move; 10] = [
+    Move::Next(Seen::Event(0, 1, false)),
+    Move::Next(Seen::Event(2, 1, false)),
+    Move::Next(Seen::Event(3, 1, true)),
+    Move::Next(Seen::Event(3, 2, false)),
+    Move::Next(Seen::Event(4, 2, false)),
+    Move::Next(Seen::Event(5, 1, false)),
+    Move::Next(Seen::Event(6, 1, false)),
+    Move::Next(Seen::Ended(End::Finished)),
+    Move::Events(7),
+    Move::Write("7\n"),
+];
+
+/// A deadlock.
+const DEADLOCK: [Move; 4] = [
+    Move::Next(Seen::Event(0, 1, false)),
+    Move::Next(Seen::Event(2, 1, true)),
+    Move::LendNobody,
+    Move::Settle(Seen::Ended(End::Deadlock)),
+];
+
+/// One goroutine too many.
+const TOO_MANY: [Move; 5] = [
+    Move::Skip(3066),
+    Move::Next(Seen::Event(1023, 1023, false)),
+    Move::Next(Seen::Event(1023, 1024, false)),
+    Move::Settle(Seen::Ended(End::Panicked(Panic::TooManyGoroutines))),
+    Move::Events(3068),
+];
+
+/// Whether books settle what they must.
+pub(crate) fn check(alloc: Global, checks: &mut Checks) -> Result<(), Memory> {
+    for (name, bodies, moves) in [
+        (
+            "a book hands over an item",
+            HANDS_OVER.as_slice(),
+            HAND_OVER.as_slice(),
+        ),
+        (
+            "a smaller floor is waited for",
+            &HANDS_OVER,
+            &[Move::Skip(2), Move::WaitForFloors],
+        ),
+        ("a book finds nobody awake", &WAITS_FOR_GOOD, &DEADLOCK),
+        ("goroutine 1025 is one too many", &STARTS_MORE, &TOO_MANY),
+    ] {
+        checks.see(name, holds(alloc, bodies, moves))?;
+    }
+    Ok(())
+}
+
+/// What a run begins with.
+#[derive(Drop)]
+struct Start {
+    blank: Blank,
+    program: Arc<Verified>,
+}
+
+/// The beginning of this program's run.
+fn begin(alloc: Global, bodies: &[Body]) -> Result<Start, Fault> {
+    let program = Arc::new(alloc, program(alloc, bodies)?)?;
+    let blank = Blank::new(alloc)?;
+    Ok(Start { blank, program })
+}
+
+/// Whether a book of this program moves so.
+fn holds(alloc: Global, bodies: &[Body], moves: &[Move]) -> Result<bool, Fault> {
+    let start = begin(alloc, bodies)?;
+    moves_as::<Brand>(start, moves)
+}
+
+/// Whether the book of this run moves so.
+fn moves_as<B: BookName>(start: Start, moves: &[Move]) -> Result<bool, Fault>
+    requires { (arc_value start.program ≡ B.code) × (2 ^ 40 ≡ B.limit) × (table_of start.blank.table ≡ B.table) }
+{
+    let Start { blank, program } = start;
+    let mut book: Book<B> = Book::open(blank, program, LIMIT)?;
+    Ok(makes_all(&mut book, moves))
+}
+
+fn makes_all<B: BookName>(book: &mut Book<B>, moves: &[Move]) -> bool {
+    for step in moves {
+        if !makes(book, *step) {
+            return false;
+        }
+    }
+    true
+}
+
+fn makes<B: BookName>(book: &mut Book<B>, step: Move) -> bool {
+    match step {
+        Move::Next(seen) => next(book) == seen,
+        Move::Skip(count) => skip(book, count),
+        Move::Settle(seen) => settled(book) == seen,
+        Move::WaitForFloors => waits_for_floors(book),
+        Move::LendNobody => is_nobody(book.lend()),
+        Move::Events(count) => book.events() == count,
+        Move::Write(text) => has_written(book, text),
+    }
+}
+
+/// What the next settling comes to where all are parked.
+fn next<B: BookName>(book: &mut Book<B>) -> Seen {
+    park_all(book);
+    settled(book)
+}
+
+/// Settles so often where all are parked.
+fn skip<B: BookName>(book: &mut Book<B>, count: u32) -> bool {
+    for _ in 0..count {
+        if next(book) == Seen::NoMemory {
+            return false;
+        }
+    }
+    true
+}
+
+/// Lends whoever may be lent, one by one, until each of them is parked.
+fn park_all<B: BookName>(book: &mut Book<B>) {
+    for _ in 0..10_000 {
+        match book.lend() {
+            Ok(Some(lease)) => work(book, lease),
+            _ => return,
+        }
+    }
+}
+
+/// Works on a lease, and brings it back.
+fn work<B: BookName>(book: &mut Book<B>, lease: Lease<B>) {
+    let mut lease = lease;
+    let _worked = lease.work(100).is_ok();
+    book.bring(lease);
+}
+
+/// Whether goroutines 1 and 2, which both may be lent, are waited for as they must.
+fn waits_for_floors<B: BookName>(book: &mut Book<B>) -> bool {
+    match (book.lend(), book.lend()) {
+        (Ok(Some(first)), Ok(Some(second))) => {
+            (first.number(), second.number()) == (1, 2) && waits_for(book, first)
+        }
+        _ => false,
+    }
+}
+
+/// Whether goroutine 1, of which this is the lease, is waited for until it is brought back, and then the other.
+fn waits_for<B: BookName>(book: &mut Book<B>, first: Lease<B>) -> bool {
+    let waiting = settled(book);
+    work(book, first);
+    let event = settled(book);
+    waiting == Seen::Waiting(1)
+        && event == Seen::Event(3, 1, true)
+        && settled(book) == Seen::Waiting(2)
+}
+
+/// What the next settling comes to.
+fn settled<B: BookName>(book: &mut Book<B>) -> Seen {
+    seen_in(book.settle())
+}
+
+fn seen_in(settled: Result<Settled, Memory>) -> Seen {
+    match settled {
+        Ok(Settled::Committed(event)) => event_seen(&event),
+        Ok(Settled::Waiting(number)) => Seen::Waiting(number),
+        Ok(Settled::Ended(end)) => Seen::Ended(end),
+        Err(Memory) => Seen::NoMemory,
+    }
+}
+
+fn event_seen(event: &Event) -> Seen {
+    let sleeps = matches!(&event.outcome, EventOutcome::Sleeps);
+    Seen::Event(event.clock.time(), event.number, sleeps)
+}
+
+/// Whether nobody was lent.
+fn is_nobody<B: BookName>(lent: Result<Option<Lease<B>>, Memory>) -> bool {
+    matches!(&lent, Ok(None))
+}
+
+/// Whether the output so far is this text.
+fn has_written<B: BookName>(book: &mut Book<B>, text: &str) -> bool {
+    match &book.take_output() {
+        Ok(piece) => piece.bytes.as_slice() == text.as_bytes(),
+        Err(_) => false,
+    }
+}

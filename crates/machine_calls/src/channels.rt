@@ -1,0 +1,243 @@
+//! What channels answer.
+
+use crate::checks::Checks;
+use channel_core::{Channels, Outcome, Woken};
+use go_text::{Fault, Memory};
+use std::alloc::Global;
+use word::panic::Panic;
+use word::request::{Case, Reply};
+use word::value::{Item, Word};
+
+/// The number of the one channel that is made.
+const ONE: Option<u32> = Some(1);
+
+/// A call, with the goroutine that makes it.
+#[derive(Clone, Copy)]
+enum Call {
+    /// Of a channel of this capacity.
+    Make(u64, i64),
+    /// Of an item of one number.
+    Send(u64, Option<u32>, i64),
+    Receive(u64, Option<u32>),
+    Close(Option<u32>),
+    /// A send of 1 or a receive, both on the one channel; or the default, if it has one.
+    Select(u64, bool),
+    Len(Option<u32>),
+    Cap(Option<u32>),
+    Asleep,
+}
+
+/// What a call says, in short.
+#[derive(Clone, Copy, PartialEq, Eq)]
+enum Seen {
+    NoMemory,
+    Sleeps,
+    Panics(Panic, usize),
+    Replied(Answer, Awake),
+    Count(i64),
+    Asleep(usize),
+}
+
+/// What the one that asked is told.
+#[derive(Clone, Copy, PartialEq, Eq)]
+enum Answer {
+    Channel(Option<u32>),
+    /// An item of one number, and the flag.
+    Item(i64, bool),
+    /// A clause that receives nothing.
+    Clause(usize),
+    Default,
+    Other,
+}
+
+/// How many were woken, and the number of the first, which is 0 if there is none.
+type Awake = (usize, u64);
+
+/// Nobody was woken.
+const NOBODY: Awake = (0, 0);
+
+/// What a call says that is done and wakes nobody.
+const DONE: Seen = Seen::Replied(Answer::Other, NOBODY);
+
+/// What the making of the one channel says.
+const MADE: Seen = Seen::Replied(Answer::Channel(ONE), NOBODY);
+
+/// Calls one behind the other, and what they say.
+type Talk = &'static [(Call, Seen)];
+
+const TALKS: [(&str, Talk); 7] = [
+    (
+        "a sender waits for its receiver",
+        &[
+            (Call::Make(1, 0), MADE),
+            (Call::Send(2, ONE, 7), Seen::Sleeps),
+            (
+                Call::Receive(1, ONE),
+                Seen::Replied(Answer::Item(7, true), (1, 2)),
+            ),
+        ],
+    ),
+    (
+        "a buffer keeps the order",
+        &[
+            (Call::Make(1, 2), MADE),
+            (Call::Send(1, ONE, 0), DONE),
+            (Call::Send(1, ONE, 1), DONE),
+            (Call::Send(1, ONE, 2), Seen::Sleeps),
+            (
+                Call::Receive(2, ONE),
+                Seen::Replied(Answer::Item(0, true), (1, 1)),
+            ),
+            (
+                Call::Receive(2, ONE),
+                Seen::Replied(Answer::Item(1, true), NOBODY),
+            ),
+            (
+                Call::Receive(2, ONE),
+                Seen::Replied(Answer::Item(2, true), NOBODY),
+            ),
+            (Call::Receive(2, ONE), Seen::Sleeps),
+        ],
+    ),
+    (
+        "a size out of range panics, and nil is never ready",
+        &[
+            (Call::Make(1, -1), Seen::Panics(Panic::ChannelSize, 0)),
+            (Call::Make(1, 65_537), Seen::Panics(Panic::ChannelSize, 0)),
+            (Call::Send(1, None, 1), Seen::Sleeps),
+            (Call::Receive(1, None), Seen::Sleeps),
+        ],
+    ),
+    (
+        "a close wakes all",
+        &[
+            (Call::Make(1, 0), MADE),
+            (Call::Receive(2, ONE), Seen::Sleeps),
+            (Call::Receive(3, ONE), Seen::Sleeps),
+            (Call::Asleep, Seen::Asleep(2)),
+            (Call::Close(ONE), Seen::Replied(Answer::Other, (2, 2))),
+            (Call::Asleep, Seen::Asleep(0)),
+        ],
+    ),
+    (
+        "a closed channel panics, and the close of nil",
+        &[
+            (Call::Make(1, 0), MADE),
+            (Call::Close(ONE), DONE),
+            (Call::Close(ONE), Seen::Panics(Panic::CloseOfClosed, 0)),
+            (Call::Close(None), Seen::Panics(Panic::CloseOfNil, 0)),
+            (Call::Send(1, ONE, 1), Seen::Panics(Panic::SendOnClosed, 0)),
+        ],
+    ),
+    (
+        "a select sleeps with all its clauses",
+        &[
+            (Call::Make(1, 0), MADE),
+            (
+                Call::Select(1, true),
+                Seen::Replied(Answer::Default, NOBODY),
+            ),
+            (Call::Select(1, false), Seen::Sleeps),
+            (
+                Call::Select(2, false),
+                Seen::Replied(Answer::Clause(1), (1, 1)),
+            ),
+            (Call::Asleep, Seen::Asleep(0)),
+        ],
+    ),
+    (
+        "channels have lengths and capacities",
+        &[
+            (Call::Make(1, 3), MADE),
+            (Call::Send(1, ONE, 5), DONE),
+            (Call::Len(ONE), Seen::Count(1)),
+            (Call::Cap(ONE), Seen::Count(3)),
+            (Call::Len(None), Seen::Count(0)),
+            (Call::Cap(None), Seen::Count(0)),
+        ],
+    ),
+];
+
+/// Whether new channels answer so.
+pub(crate) fn check(alloc: Global, checks: &mut Checks) -> Result<(), Memory> {
+    for (name, talk) in &TALKS {
+        checks.see(name, is_answered(alloc, talk))?;
+    }
+    Ok(())
+}
+
+fn is_answered(alloc: Global, talk: Talk) -> Result<bool, Fault> {
+    let mut channels = Channels::new(alloc)?;
+    Ok(answers(&mut channels, alloc, talk))
+}
+
+fn answers(channels: &mut Channels, alloc: Global, talk: Talk) -> bool {
+    for (call, wanted) in talk {
+        if said(channels, alloc, *call) != *wanted {
+            return false;
+        }
+    }
+    true
+}
+
+/// An item of one number.
+fn item(alloc: Global, number: i64) -> Item {
+    Item::new(alloc, [Word::Int(number)].as_slice())
+}
+
+/// What a call says.
+fn said(channels: &mut Channels, alloc: Global, call: Call) -> Seen {
+    match call {
+        Call::Make(number, size) => seen_in(channels.make(number, size, item(alloc, 0))),
+        Call::Send(number, chan, sent) => seen_in(channels.send(number, chan, item(alloc, sent))),
+        Call::Receive(number, chan) => seen_in(channels.receive(number, chan)),
+        Call::Close(chan) => seen_in(channels.close(chan)),
+        Call::Select(number, default) => selected(channels, alloc, number, default),
+        Call::Len(chan) => Seen::Count(channels.len(chan)),
+        Call::Cap(chan) => Seen::Count(channels.cap(chan)),
+        Call::Asleep => Seen::Asleep(channels.asleep()),
+    }
+}
+
+fn selected(channels: &mut Channels, alloc: Global, number: u64, default: bool) -> Seen {
+    let cases = [
+        Case {
+            chan: ONE,
+            item: Some(item(alloc, 1)),
+        },
+        Case {
+            chan: ONE,
+            item: None,
+        },
+    ];
+    seen_in(channels.select(number, cases.as_slice(), default))
+}
+
+fn seen_in(outcome: Result<Outcome, Memory>) -> Seen {
+    match outcome {
+        Ok(Outcome::Done(reply, woken)) => Seen::Replied(answer_of(&reply), awake(&woken)),
+        Ok(Outcome::Sleeps) => Seen::Sleeps,
+        Ok(Outcome::Panics(panic, clause)) => Seen::Panics(panic, clause),
+        Err(_) => Seen::NoMemory,
+    }
+}
+
+fn answer_of(reply: &Reply) -> Answer {
+    match reply {
+        Reply::Word(Word::Chan(number)) => Answer::Channel(*number),
+        Reply::Received(item, ok) => match item.words() {
+            [Word::Int(number)] => Answer::Item(*number, *ok),
+            _ => Answer::Other,
+        },
+        Reply::Clause(clause, None) => Answer::Clause(*clause),
+        Reply::Default => Answer::Default,
+        _ => Answer::Other,
+    }
+}
+
+fn awake(woken: &[Woken]) -> Awake {
+    match woken.first() {
+        Some(first) => (woken.len(), first.number()),
+        None => NOBODY,
+    }
+}

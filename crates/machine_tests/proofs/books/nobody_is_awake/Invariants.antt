@@ -1,7 +1,0 @@
-use Rattle.std.specs.Prelude.{◌^◌}
-use Rattle.std.specs.Arc.{arc_value}
-use Rattle.clock_table.specs.Seats.{table_of}
-use Rattle.machine_tests.proofs.books.nobody_is_awake.Given as goal
-
-abbrev pub ghosts-wait_for_good : goal.ghosts-wait_for_good
-ghosts-wait_for_good g a = record { table = table_of a.start.blank.table; code = arc_value a.start.program; limit = 2 ^ 40 }
