@@ -21,7 +21,7 @@ use Rattle.word.specs.Worlds.{Bed, Rest, end_of, is_deserted, moment, opening, r
 use Rattle.one_thread.specs.declared.goroutine.Goroutine.{Goroutine}
 use Rattle.one_thread.specs.declared.goroutine.Turn.TheVariants as turns
 use Rattle.one_thread.specs.Places.{AdvancesAt, IsAt, SleepOn, awake_in, awake_of, clock_of, clocked, here}
-use Rattle.one_thread.specs.Worlds.{Applies, BeginsOutput, Goes, IsAsked, IsOpen, IsWhole, IsWorldOf, LieIn, Stands, printed}
+use Rattle.one_thread.specs.Worlds.{Applies, BeginsOutput, Goes, IsAsked, IsLast, IsOpen, IsWhole, IsWorldOf, LieIn, Stands, printed}
 use Rattle.one_thread.proofs.After.{Known, after, applied, known, one_after}
 use Rattle.word.specs.declared.request.Request.{Request as Asked}
 use Rattle.word.proofs.Laws.{laws}
@@ -132,13 +132,16 @@ module _ {S : Type 0} (K : GoroutineKind) (held : S → K.State) (limit : ℕ) w
     pub begins : BeginsOutput K limit seen now
     begins = (st.moves, length w.shared.shared.output, subst (Appends seen now) (sym (take-length w.shared.shared.output)) st.written)
 
+    ends : least (keys clock_of 0 old) ≡ None → end_of w ≡ Some Deadlock
+    ends none =
+        ap (λ (o : Option Ending). cond (is_some o) o (cond (is_deserted (map is_some w.awake)) (Some Deadlock) None)) goes
+        ∙ ap (λ (b : Bool). cond b (Some Deadlock) None) (ap (λ (a : List (Option (Clocked K.State))). is_deserted (map is_some a)) (sym st.world.awake) ∙ deserted 0 old none)
+
     pub deadlock : least (keys clock_of 0 old) ≡ None → IsWhole K limit seen now Deadlock
-    deadlock none = (
-      st.moves,
-      st.written,
-      ap (λ (o : Option Ending). cond (is_some o) o (cond (is_deserted (map is_some w.awake)) (Some Deadlock) None)) goes
-          ∙ ap (λ (b : Bool). cond b (Some Deadlock) None) (ap (λ (a : List (Option (Clocked K.State))). is_deserted (map is_some a)) (sym st.world.awake) ∙ deserted 0 old none),
-    )
+    deadlock none = (st.moves, st.written, ends none)
+
+    pub deadlock_last : least (keys clock_of 0 old) ≡ None → IsLast K held limit None old
+    deadlock_last none = (st.moves, v, st.world, ends none)
 
     pub stepped : (key : Key) (place : ℕ) (new : List (Option (Goroutine S))) → least (keys clock_of 0 old) ≡ Some key → key.number ≡ place → AdvancesAt K held limit turns.Stepped old place new → Stands K held limit seen now new v
     stepped key place new is number h =

@@ -9,6 +9,7 @@ use Rattle.logical_clock.specs.Order.{keys, least}
 use Rattle.turn_rule.specs.Turns.{World}
 use Rattle.word.specs.Values.{Nothing, Request, Sleeper}
 use Rattle.word.specs.declared.end.End.{End as Ending}
+use Rattle.word.specs.declared.end.End.TheVariants.{Deadlock}
 use Rattle.word.specs.Kinds.{Clocked, GoroutineKind, asks, at, told}
 use Rattle.word.specs.Views.{reply_of}
 use Rattle.word.specs.Worlds.{Bed, Rest, end_of, in_bed, moment}
@@ -76,6 +77,11 @@ module _ {S : Type 0} (K : GoroutineKind) (held : S → K.State) where
   abbrev pub Goes : ℕ → Option (List ℕ) → Option (List ℕ) → List (Option (Goroutine S)) → SharedValue → Option Ending → Type 0
   Goes limit known now places v None = Stands limit known now places v
   Goes limit known now places v (Some ending) = IsWhole K limit known now ending
+
+  -- where nobody has a turn any more, the goroutines are those of a moment at which the run has ended in deadlock
+  abbrev pub IsLast : ℕ → Option Key → List (Option (Goroutine S)) → Type 0
+  IsLast limit None places = (n : ℕ) × (v : SharedValue) × IsWorldOf (moment K limit n) places v × (end_of (moment K limit n) ≡ Some Deadlock)
+  IsLast limit (Some key) places = Unit {0}
 
   -- the goroutine of least key asks this, and whoever goes on is at this clock
   pub record IsAsked (limit : ℕ) (places : List (Option (Goroutine S))) (place later : ℕ) (q : Request) : Type 0 where

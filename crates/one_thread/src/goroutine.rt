@@ -16,11 +16,11 @@ use word::request::{Reply, Request};
 
 /// A goroutine: its clock, whether it was woken at its send by a close, whether it is asleep, and its state.
 #[derive(Drop)]
-pub(crate) struct Goroutine<S: Drop> {
-    pub(crate) clock: Clock,
-    pub(crate) doomed: bool,
-    pub(crate) asleep: bool,
-    pub(crate) state: S,
+pub struct Goroutine<S: Drop> {
+    pub clock: Clock,
+    pub doomed: bool,
+    pub asleep: bool,
+    pub state: S,
 }
 
 /// What came of a goroutine's turn.

@@ -2,10 +2,13 @@
 //! always moves.
 #![tactic(auto)]
 
+mod ending;
 mod goroutine;
 mod interpreter;
 mod places;
 mod running;
 
+pub use ending::{Ended, last_moment};
+pub use goroutine::Goroutine;
 pub use interpreter::{Interpreter, Step};
 pub use running::run;

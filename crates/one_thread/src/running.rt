@@ -68,7 +68,7 @@ fn run_below<P: Interpreter, W: Write>(
 }
 
 /// Goroutine 1 alone, at `main`.
-fn opening<P: Interpreter>(
+pub(crate) fn opening<P: Interpreter>(
     alloc: Global,
     program: &P,
 ) -> Result<Vec<Option<Goroutine<P::State>>>, Memory>
@@ -142,7 +142,7 @@ fn moves<P: Interpreter, W: Write>(
 }
 
 /// One move, and the end of the run, where it has ended.
-fn one_move<P: Interpreter, W: Write>(
+pub(crate) fn one_move<P: Interpreter, W: Write>(
     alloc: Global,
     program: &P,
     places: &mut Vec<Option<Goroutine<P::State>>>,

@@ -6,4 +6,6 @@ mod program;
 mod run;
 mod source;
 
+pub use program::program_of;
 pub use run::run_source;
+pub use source::Source;

@@ -10,7 +10,7 @@ use reference_base::program::Program;
 use std::alloc::{AllocError, Global};
 
 /// The program that a checked tree is.
-pub(crate) fn program_of(alloc: Global, typed: &Typed) -> Result<Program<'_>, AllocError>
+pub fn program_of(alloc: Global, typed: &Typed) -> Result<Program<'_>, AllocError>
     ensures { IfOk result (λ program. file_of program.file.now ≡ tree_of (tree_in typed.now)) }
 {
     let table = typed.table(alloc)?;

@@ -12,10 +12,10 @@ use std::alloc::Global;
 use word::request::Reply;
 use word::value::Word;
 
-/// A program, interpreted.
+/// A program, interpreted. Its goroutines are functions that wait for one another, the one called last behind.
 #[derive(Drop)]
-pub(crate) struct Source<'t> {
-    pub(crate) program: Program<'t>,
+pub struct Source<'t> {
+    pub program: Program<'t>,
 }
 
 impl<'t> Interpreter for Source<'t> {

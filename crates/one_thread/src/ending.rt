@@ -1,0 +1,81 @@
+//! Where all goroutines stand when a run has ended.
+
+ghost use Rattle.std.specs.Prelude.{◌≡◌, ◌^◌, ◌≤◌, IfOk, IfSome, None, Some};
+ghost use Rattle.word.specs.Related.{kind_of};
+ghost use Rattle.one_thread.specs.Worlds.{IsLast, IsWhole};
+
+use crate::goroutine::Goroutine;
+use crate::interpreter::Interpreter;
+use crate::places::least;
+use crate::running::{one_move, opening};
+use go_text::Fault;
+use logical_clock::Key;
+use reference_world::Shared;
+use std::alloc::Global;
+use word::Write;
+use word::end::End;
+
+/// A run that has ended.
+#[derive(Drop)]
+pub struct Ended<S: Drop> {
+    /// How it ended.
+    pub end: End,
+    /// Whose turn was the last one, at which clock; none where nobody was awake.
+    pub turn: Option<Key>,
+    /// All goroutines that had not ended, goroutine n at place n.
+    pub goroutines: Vec<Option<Goroutine<S>>>,
+}
+
+/// Runs goroutine 1 at `main`, and all that come of it, up to the clock limit, as `run` does, but for at most so many moves,
+/// and answers where all goroutines stand when the run has ended; none where it has not ended by then.
+///
+/// Errors: `Write`; `Memory`.
+pub fn last_moment<P: Interpreter, W: Write>(
+    alloc: Global,
+    program: &P,
+    limit: u64,
+    most: u64,
+    output: &mut W,
+) -> Result<Option<Ended<P::State>>, Fault>
+    requires { limit ≤ 2 ^ 62 }
+    ensures whole { IfOk result (λ seen. IfSome seen (λ last. IsWhole (kind_of (P.parts program.now)) limit (W.contents output.old) (W.contents output.new) last.end)) }
+    ensures last { IfOk result (λ seen. IfSome seen (λ last. IsLast (kind_of (P.parts program.now)) (P.held program.now) limit last.turn last.goroutines.items)) }
+{
+    let mut goroutines = opening(alloc, program)?;
+    let mut shared = Shared::new(alloc)?;
+    for _ in 0..most {
+        let Some(turn) = least(goroutines.as_slice()) else {
+            return Ok(Some(deserted(goroutines)));
+        };
+        if let Some(end) = one_move(alloc, program, &mut goroutines, &mut shared, limit, output)? {
+            return Ok(Some(stopped(end, turn, goroutines)));
+        }
+    }
+    Ok(None)
+}
+
+/// Nobody is awake.
+fn deserted<S: Drop>(goroutines: Vec<Option<Goroutine<S>>>) -> Ended<S>
+    ensures end { result.end ≡ End.Deadlock }
+    ensures turn { result.turn ≡ None }
+    ensures goroutines { result.goroutines ≡ goroutines }
+{
+    Ended {
+        end: End::Deadlock,
+        turn: None,
+        goroutines,
+    }
+}
+
+/// The run has ended so, in this turn.
+fn stopped<S: Drop>(end: End, turn: Key, goroutines: Vec<Option<Goroutine<S>>>) -> Ended<S>
+    ensures end { result.end ≡ end }
+    ensures turn { result.turn ≡ Some turn }
+    ensures goroutines { result.goroutines ≡ goroutines }
+{
+    Ended {
+        end,
+        turn: Some(turn),
+        goroutines,
+    }
+}
