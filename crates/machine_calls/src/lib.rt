@@ -1,17 +1,14 @@
-//! Calls that no text makes, of the crates from code to runs, and what has to come of them.
+//! Calls that no text makes, of the crates from code to schedules, and what has to come of them.
 #![tactic(auto)]
 
-mod books;
 mod channels;
-mod checks;
-mod clocks;
+pub mod checks;
 mod listings;
-mod made;
+pub mod made;
 mod pieces;
-mod programs;
-mod requests;
+pub mod programs;
+pub mod requests;
 mod rules;
 mod schedules;
-mod workers;
 
-pub use checks::failed_calls;
+pub use checks::{Checks, make_calls};

@@ -8,20 +8,20 @@ use verifier::{Verified, verify};
 use word::apply::Op;
 
 /// A channel of ints.
-pub(crate) const INTS: WordKind = WordKind::Chan(0);
+pub const INTS: WordKind = WordKind::Chan(0);
 
 /// A channel of truth values.
-pub(crate) const BOOLS: WordKind = WordKind::Chan(1);
+pub const BOOLS: WordKind = WordKind::Chan(1);
 
 /// A function: its name, how many of its locals are parameters, the kinds of its locals and of its results, and its
 /// instructions.
 #[derive(Clone, Copy)]
-pub(crate) struct Body<'a> {
-    pub(crate) name: &'a str,
-    pub(crate) params: u32,
-    pub(crate) locals: &'a [WordKind],
-    pub(crate) results: &'a [WordKind],
-    pub(crate) instrs: &'a [Instr],
+pub struct Body<'a> {
+    pub name: &'a str,
+    pub params: u32,
+    pub locals: &'a [WordKind],
+    pub results: &'a [WordKind],
+    pub instrs: &'a [Instr],
 }
 
 /// Tells whether its parameter is below 0.
@@ -88,7 +88,7 @@ fn selects(alloc: Global) -> Result<Vec<SelectTable>, AllocError> {
 }
 
 /// The functions of these bodies.
-pub(crate) fn functions(alloc: Global, bodies: &[Body]) -> Result<Vec<Function>, AllocError> {
+pub fn functions(alloc: Global, bodies: &[Body]) -> Result<Vec<Function>, AllocError> {
     let mut functions = Vec::new(alloc);
     for body in bodies {
         functions.push(function(alloc, *body)?)?;
@@ -97,13 +97,13 @@ pub(crate) fn functions(alloc: Global, bodies: &[Body]) -> Result<Vec<Function>,
 }
 
 /// Code of these functions, and of the tables above.
-pub(crate) fn code(alloc: Global, bodies: &[Body]) -> Result<Code, AllocError> {
+pub fn code(alloc: Global, bodies: &[Body]) -> Result<Code, AllocError> {
     let code = Code::new(functions(alloc, bodies)?, shapes(alloc)?, prints(alloc)?);
     Ok(code.with_selects(selects(alloc)?))
 }
 
 /// Code of a `main` with two locals of kind int and these instructions, and of `negative`.
-pub(crate) fn main_code(alloc: Global, instrs: &[Instr]) -> Result<Code, AllocError> {
+pub fn main_code(alloc: Global, instrs: &[Instr]) -> Result<Code, AllocError> {
     let main = Body {
         name: "main",
         params: 0,
@@ -115,11 +115,11 @@ pub(crate) fn main_code(alloc: Global, instrs: &[Instr]) -> Result<Code, AllocEr
 }
 
 /// That code, verified.
-pub(crate) fn main_program(alloc: Global, instrs: &[Instr]) -> Result<Verified, Fault> {
+pub fn main_program(alloc: Global, instrs: &[Instr]) -> Result<Verified, Fault> {
     verify(alloc, main_code(alloc, instrs)?)
 }
 
 /// Code of these functions, verified.
-pub(crate) fn program(alloc: Global, bodies: &[Body]) -> Result<Verified, Fault> {
+pub fn program(alloc: Global, bodies: &[Body]) -> Result<Verified, Fault> {
     verify(alloc, code(alloc, bodies)?)
 }

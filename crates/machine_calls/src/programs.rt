@@ -14,7 +14,7 @@ const SENDS: Body = Body {
 };
 
 /// `c := make(chan int); go f(c); x := <-c; println(x)`, where `f` is `c <- 7`.
-pub(crate) const HANDS_OVER: [Body; 2] = [
+pub const HANDS_OVER: [Body; 2] = [
     Body {
         name: "main",
         params: 0,
@@ -42,7 +42,7 @@ pub(crate) const HANDS_OVER: [Body; 2] = [
 
 /// `d := make(chan bool); go a(d); go b(d); <-d; <-d`, where `a` is `x := 1; println(1); d <- true` and `b` the same
 /// without x and with 2.
-pub(crate) const MEETS_TWICE: [Body; 3] = [
+pub const MEETS_TWICE: [Body; 3] = [
     Body {
         name: "main",
         params: 0,
@@ -93,7 +93,7 @@ pub(crate) const MEETS_TWICE: [Body; 3] = [
 ];
 
 /// `c := make(chan int); c <- 1`.
-pub(crate) const WAITS_FOR_GOOD: [Body; 1] = [Body {
+pub const WAITS_FOR_GOOD: [Body; 1] = [Body {
     name: "main",
     params: 0,
     locals: &[INTS],
@@ -111,7 +111,7 @@ pub(crate) const WAITS_FOR_GOOD: [Body; 1] = [Body {
 }];
 
 /// `c := make(chan int); go f(c); x := 0; close(c); <-nil`, where `f` is `c <- 7`.
-pub(crate) const CLOSES_ON_A_SENDER: [Body; 2] = [
+pub const CLOSES_ON_A_SENDER: [Body; 2] = [
     Body {
         name: "main",
         params: 0,
@@ -149,7 +149,7 @@ const STARTS_ANOTHER: [Instr; 9] = [
 ];
 
 /// `main` and `f` are both `go f(); c := make(chan int); <-c`.
-pub(crate) const STARTS_MORE: [Body; 2] = [
+pub const STARTS_MORE: [Body; 2] = [
     Body {
         name: "main",
         params: 0,

@@ -19,7 +19,7 @@ use word::value::{Item, Word};
 use world_core::Core;
 
 /// Goroutine 1 at its beginning.
-pub(crate) fn main_state(alloc: Global, program: &Verified, limit: u64) -> Result<GoState, Memory>
+pub fn main_state(alloc: Global, program: &Verified, limit: u64) -> Result<GoState, Memory>
     requires { limit ≤ 2 ^ 62 }
     ensures { IfOk result (IsStateOf program.now limit) }
 {

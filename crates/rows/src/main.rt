@@ -20,7 +20,6 @@ mod words;
 use calls::{check_failing_traces, check_failing_writers, check_panics, check_refusals};
 use check::check;
 use go_text::Fault;
-use machine_calls::failed_calls;
 use row_format::flaw::Flaw;
 use row_format::folder::{FileKind, RowFile, names, utf8};
 use std::process::ExitCode;
@@ -30,6 +29,7 @@ use std::thread::Threads;
 use std::{env, io};
 use table::Table;
 use words::check_words;
+use worker_calls::failed_calls;
 
 fn main(rt: HostRuntime) -> ExitCode {
     match start(&rt) {

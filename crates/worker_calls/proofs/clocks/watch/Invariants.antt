@@ -1,6 +1,6 @@
 use Rattle.std.specs.Prelude.{◌≡◌, ◌<◌, length}
 use Rattle.clock_table.specs.Seats.{rows, seat_table, table_of}
-use Rattle.machine_calls.proofs.clocks.watch.Given as goal
+use Rattle.worker_calls.proofs.clocks.watch.Given as goal
 
 abbrev pub invariant-loop : goal.invariant-loop
 invariant-loop l = record {

@@ -1,10 +1,10 @@
 //! Runs of a small program by several workers.
 
-use crate::checks::Checks;
 use crate::clocks::comes_to;
-use crate::made::program;
-use crate::programs::MEETS_TWICE;
 use go_text::{Fault, Memory};
+use machine_calls::Checks;
+use machine_calls::made::program;
+use machine_calls::programs::MEETS_TWICE;
 use std::alloc::Global;
 use std::sync::atomic::{AtomicU64, Ordering};
 use std::sync::{Arc, Wait};

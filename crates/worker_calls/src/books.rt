@@ -4,11 +4,11 @@ ghost use Rattle.std.specs.Prelude.{◌≡◌, ◌^◌};
 ghost use Rattle.std.specs.Arc.{arc_value};
 ghost use Rattle.clock_table.specs.Seats.{table_of};
 
-use crate::checks::Checks;
-use crate::made::{Body, program};
-use crate::programs::{HANDS_OVER, STARTS_MORE, WAITS_FOR_GOOD};
 use book::{Blank, Book, BookName, Lease, Settled};
 use go_text::{Fault, Memory};
+use machine_calls::Checks;
+use machine_calls::made::{Body, program};
+use machine_calls::programs::{HANDS_OVER, STARTS_MORE, WAITS_FOR_GOOD};
 use std::alloc::Global;
 use std::marker::Brand;
 use std::sync::Arc;

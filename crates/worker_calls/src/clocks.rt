@@ -5,14 +5,14 @@ ghost use Rattle.clock_table.specs.Clocks.{loan_for};
 ghost use Rattle.clock_table.specs.Seats.{lease_clock, lease_loan, rows, seat_table, table_of};
 ghost use Rattle.goroutine_vm.specs.Advance.{IsStateOf};
 
-use crate::checks::Checks;
-use crate::made::main_program;
-use crate::requests::main_state;
 use bytecode::Instr::Loop;
 use clock_table::{BookSeat, ClockTable, LeaseSeat};
 use go_text::{Fault, Memory};
 use goroutine_vm::GoState;
 use logical_clock::LAST;
+use machine_calls::Checks;
+use machine_calls::made::main_program;
+use machine_calls::requests::main_state;
 use std::alloc::Global;
 use std::sync::atomic::{AtomicU64, Ordering};
 use std::thread;

@@ -3,7 +3,7 @@ use Rattle.std.specs.Prelude.{◌^◌}
 use Rattle.book.specs.Desks.{Held}
 use Rattle.book.proofs.Working.{may_reach, may_rise, worked}
 use Rattle.clock_table.specs.Seats.{lease_clock, lease_slot, lease_table}
-use Rattle.machine_calls.proofs.clocks.climb.Goals as goal
+use Rattle.worker_calls.proofs.clocks.climb.Goals as goal
 
 pub loop-init : goal.loop-init
 loop-init c = record {

@@ -1,7 +1,7 @@
 use Rattle.std.specs.Prelude.{◌^◌}
 use Rattle.book.specs.Leases.{IsHeldBy}
 use Rattle.clock_table.specs.Seats.{lease_clock, lease_slot, lease_table}
-use Rattle.machine_calls.proofs.clocks.climb.Given as goal
+use Rattle.worker_calls.proofs.clocks.climb.Given as goal
 
 abbrev pub invariant-loop : goal.invariant-loop
 invariant-loop l =

@@ -1,7 +1,7 @@
 use Rattle.std.specs.Prelude.{◌^◌}
 use Rattle.std.specs.Arc.{arc_value}
 use Rattle.clock_table.specs.Seats.{table_of}
-use Rattle.machine_calls.proofs.books.holds.Given as goal
+use Rattle.worker_calls.proofs.books.holds.Given as goal
 
 abbrev pub ghosts-moves_as : goal.ghosts-moves_as
 ghosts-moves_as a = record { table = table_of a.start.blank.table; code = arc_value a.start.program; limit = 2 ^ 40 }

@@ -1,0 +1,21 @@
+//! What fails.
+
+use crate::{books, clocks, workers};
+use go_text::Memory;
+use machine_calls::{Checks, make_calls};
+use std::alloc::Global;
+use std::sync::Wait;
+use std::thread::Threads;
+
+/// Makes all calls, those of `machine_calls` too, and answers the names of the checks that fail.
+pub fn failed_calls<R: Threads + Wait + Sync>(
+    rt: &R,
+    alloc: Global,
+) -> Result<Vec<&'static str>, Memory> {
+    let mut checks = Checks::new(alloc);
+    make_calls(alloc, &mut checks)?;
+    books::check(alloc, &mut checks)?;
+    clocks::check(rt, alloc, &mut checks)?;
+    workers::check(rt, alloc, &mut checks)?;
+    Ok(checks.into_failed())
+}

@@ -1,0 +1,9 @@
+//! Calls that no text makes, of books, clocks and workers, and what has to come of them.
+#![tactic(auto)]
+
+mod books;
+mod calls;
+mod clocks;
+mod workers;
+
+pub use calls::failed_calls;
