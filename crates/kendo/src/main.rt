@@ -244,7 +244,7 @@ fn end_told(
     end: End,
 ) -> Result<Vec<u8>, Fault> {
     match invocation.subcommand {
-        Subcommand::Check | Subcommand::List => Ok(Vec::new(alloc)),
+        Subcommand::Check | Subcommand::List | Subcommand::Timeline { .. } => Ok(Vec::new(alloc)),
         Subcommand::Reference { limit } | Subcommand::Run { limit, .. } => {
             explain_end(alloc, invocation.file, bytes, limit, end)
         }
