@@ -18,16 +18,25 @@ pub(crate) fn check_words(alloc: Global, line: &str) -> Result<(), Flaw> {
 
 /// Sees whether what comes of words begins so.
 fn check_answer(alloc: Global, words: &str, wanted: &[u8]) -> Result<(), Flaw> {
-    let came = answer(alloc, words)?;
+    let words = words_of(alloc, words)?;
+    let came = answer(alloc, words.as_slice())?;
     let came = came.as_bytes();
     let beginning = &came[..came.len().min(wanted.len())];
     same(alloc, "what comes of the words", wanted, beginning)
 }
 
+/// The words of a line.
+fn words_of(alloc: Global, line: &str) -> Result<Vec<String>, AllocError> {
+    let mut words = Vec::new(alloc);
+    for word in line.split(' ') {
+        words.push(word.to_string(alloc)?)?;
+    }
+    Ok(words)
+}
+
 /// What the words ask for, or what is shown of them, behind the stream on which it is.
-fn answer(alloc: Global, line: &str) -> Result<String, AllocError> {
-    let words: Vec<&str> = line.split(' ').collect(alloc)?;
-    match command(alloc)?.try_get_matches_from(words.as_slice()) {
+fn answer(alloc: Global, words: &[String]) -> Result<String, AllocError> {
+    match command(alloc)?.try_get_matches_from(words) {
         Ok(matches) => {
             let asked = invocation_of(&matches);
             format!(in alloc; "{asked:?}")
