@@ -18,7 +18,7 @@ use diagnostic::explanation;
 use go_text::source::MAX_LENGTH;
 use go_text::{Fault, Memory};
 use kendo_base::{Gate, check_bytes, explain_end, list_bytes, reference_bytes, report, run_bytes};
-use pictures::{Format, format_of, picture};
+use pictures::picture;
 use std::alloc::Global;
 use std::fs::File;
 use std::io::{BufWriter, Read as _, Write as _};
@@ -27,6 +27,7 @@ use std::sync::Wait;
 use std::thread::Threads;
 use std::{env, io};
 use suggestion::suggest;
+use timeline::Format;
 use tracing::{Trace, close, create};
 use word::Flagged;
 use word::end::End;
@@ -191,7 +192,7 @@ fn answer(
     ensures { IfOk result (λ status. (status ≡ USAGE) ⊎ Tells invocation.now.subcommand status) }
 {
     let kept = kept_text(alloc, invocation, bytes.as_slice());
-    let format = format_of(invocation.out);
+    let format = Format::of(invocation.out);
     let outcome = find(
         rt,
         leave,

@@ -7,35 +7,12 @@ ghost use Rattle.one_thread.specs.Worlds.{IsLimit};
 
 use crate::flush;
 use crate::tracing::Trace;
-use go_text::{Fault, Memory};
+use go_text::Fault;
 use kendo_base::timeline_bytes;
 use std::alloc::Global;
-use timeline::{Recording, draw, trace_events};
+use timeline::{Format, Recording};
 use word::end::End;
 use word::{Flagged, Write, write_all};
-
-/// How many events a drawing shows at most.
-const MOST_DRAWN: usize = 1_000;
-
-/// How many events JSON holds at most.
-const MOST_TRACED: usize = 100_000;
-
-/// The form of a picture.
-#[derive(Clone, Copy)]
-pub(crate) enum Format {
-    /// A drawing, as SVG.
-    Drawing,
-    /// JSON in the trace event format.
-    TraceEvents,
-}
-
-/// JSON where the path of the file ends in `.json`, else a drawing.
-pub(crate) fn format_of(path: Option<&str>) -> Format {
-    match path {
-        Some(path) if path.ends_with(".json") => Format::TraceEvents,
-        _ => Format::Drawing,
-    }
-}
 
 /// Writes a picture of the run of the text to its file, or to standard output where it has none.
 pub(crate) fn picture(
@@ -53,17 +30,9 @@ pub(crate) fn picture(
     ensures write { IsErrOf result Fault.Write → HasReading bytes.items }
     ensures only { IfErr result (λ fault. IsRefusal fault ⊎ ((fault ≡ Fault.Memory) ⊎ ((fault ≡ Fault.Write) ⊎ (fault ≡ Fault.BadLimit)))) }
 {
-    let recording = timeline_bytes(alloc, bytes, limit, most_events(format))?;
+    let recording = timeline_bytes(alloc, bytes, limit, format.most_events())?;
     show(rt, alloc, &recording, format, file)?;
     Ok(End::Finished)
-}
-
-/// How many events a picture holds at most.
-fn most_events(format: Format) -> usize {
-    match format {
-        Format::Drawing => MOST_DRAWN,
-        Format::TraceEvents => MOST_TRACED,
-    }
 }
 
 /// Writes the picture of a recording.
@@ -76,18 +45,10 @@ fn show(
 ) -> Result<(), Fault>
     ensures { IfErr result (λ fault. (fault ≡ Fault.Memory) ⊎ (fault ≡ Fault.Write)) }
 {
-    let text = text_of(alloc, recording, format)?;
+    let text = format.picture(alloc, recording)?;
     match file {
         Trace::Dropped => put(Flagged::new(rt.stdout()), text.as_str()),
         Trace::Kept(file) => put(file, text.as_str()),
-    }
-}
-
-/// The text of a picture.
-fn text_of(alloc: Global, recording: &Recording, format: Format) -> Result<String, Memory> {
-    match format {
-        Format::Drawing => draw(alloc, recording),
-        Format::TraceEvents => trace_events(alloc, recording),
     }
 }
 

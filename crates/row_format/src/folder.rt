@@ -31,6 +31,8 @@ pub enum FileKind {
 /// What is made of a text.
 #[derive(Clone, Copy, PartialEq, Eq)]
 pub enum Made {
+    /// `.svg`: the picture of its run, as a drawing.
+    Drawing,
     /// `.explained`: what `--explain` says of it.
     Explanation,
     /// `.list`: the listing of its code.
@@ -39,6 +41,8 @@ pub enum Made {
     Spans,
     /// `.tokens`: its tokens.
     Tokens,
+    /// `.json`: the picture of its run in the trace event format.
+    TraceEvents,
 }
 
 impl FileKind {
@@ -51,10 +55,12 @@ impl FileKind {
             "words" => Some(FileKind::Words),
             "row" => Some(FileKind::Row),
             "out" => Some(FileKind::Output),
+            "svg" => Some(FileKind::Made(Made::Drawing)),
             "explained" => Some(FileKind::Made(Made::Explanation)),
             "list" => Some(FileKind::Made(Made::Listing)),
             "spans" => Some(FileKind::Made(Made::Spans)),
             "tokens" => Some(FileKind::Made(Made::Tokens)),
+            "json" => Some(FileKind::Made(Made::TraceEvents)),
             "trace" => Some(FileKind::Trace),
             _ => None,
         }

@@ -1,6 +1,6 @@
 //! What a file tells of its text, and whether that comes of it.
 
-use crate::reading::{explained, listing, spans, tokens};
+use crate::reading::{explained, listing, picture, spans, tokens};
 use crate::run::{Ran, check_runs};
 use crate::trace::settled_lines;
 use row_format::flaw::{Flaw, same};
@@ -9,6 +9,7 @@ use std::alloc::Global;
 use std::rt::Files;
 use std::sync::Wait;
 use std::thread::Threads;
+use timeline::Format;
 
 /// Sees whether what a file tells comes of its text; of a text, whether one of these files of its folder tells something of
 /// it.
@@ -124,12 +125,25 @@ fn check_traced<R: Threads + Wait + Sync>(
 fn check_made<R: Files + AllocGlobal>(rt: &R, file: &RowFile<'_>, made: Made) -> Result<(), Flaw> {
     let wanted = file.bytes(rt)?;
     let (what, came) = match made {
+        Made::Drawing => ("the drawing", picture_of(rt, file, Format::Drawing)?),
         Made::Explanation => ("the explanation", explanation_of(rt, file)?),
         Made::Listing => ("the listing", listing_of(rt, file)?),
         Made::Spans => ("the spans", spans_of(rt, file)?),
         Made::Tokens => ("the tokens", tokens_of(rt, file)?),
+        Made::TraceEvents => ("the trace events", picture_of(rt, file, Format::TraceEvents)?),
     };
     same_lines(rt.alloc(), what, &wanted, &came)
+}
+
+/// The picture of the run of a file's text up to the limit of its row.
+fn picture_of<R: Files + AllocGlobal>(
+    rt: &R,
+    file: &RowFile<'_>,
+    format: Format,
+) -> Result<Vec<u8>, Flaw> {
+    let text = file.text(rt)?;
+    let row = file.row(rt)?;
+    picture(rt.alloc(), &text, row.limit, format)
 }
 
 /// What `--explain` says of a file's text, or of the end of its run up to the limit of its row.

@@ -8,12 +8,13 @@ use checker::check;
 use codegen::compile;
 use diagnostic::explanation;
 use go_text::{Fault, Source, Span};
-use kendo_base::{explain_end, list_bytes, reference_bytes};
+use kendo_base::{explain_end, list_bytes, reference_bytes, timeline_bytes};
 use parser::parse;
 use row_format::flaw::{Flaw, shown};
 use scanner::{Token, scan};
 use std::alloc::Global;
 use syntax::Tree;
+use timeline::Format;
 use verifier::{Verified, verify};
 use word::Flagged;
 use word::end::End;
@@ -48,6 +49,21 @@ fn placed(alloc: Global, text: &[u8], span: Span) -> Result<String, Flaw> {
         .unwrap_or(b"".as_slice());
     let bytes = shown(alloc, bytes, 0)?;
     Ok(format!(in alloc; "{from} {to} {bytes}")?)
+}
+
+/// The picture of the run of a text up to this limit.
+pub(crate) fn picture(
+    alloc: Global,
+    text: &[u8],
+    limit: u64,
+    format: Format,
+) -> Result<Vec<u8>, Flaw> {
+    let bytes = Vec::from_slice(alloc, text)?;
+    let recording = timeline_bytes(alloc, bytes, limit, format.most_events())?;
+    let picture = format
+        .picture(alloc, &recording)
+        .map_err(Fault::from)?;
+    Ok(picture.into_bytes())
 }
 
 /// What `--explain` says of a text in the file of this name, `.go` left out, or of the end of its run up to this limit: nothing

@@ -26,7 +26,7 @@ const TICKS: u64 = 70;
 /// # Errors
 ///
 /// `Memory` where memory is refused.
-pub fn draw(alloc: Global, recording: &Recording) -> Result<String, Memory> {
+pub(crate) fn draw(alloc: Global, recording: &Recording) -> Result<String, Memory> {
     let lanes = Lanes::of(alloc, recording)?;
     let scale = Scale::of(alloc, recording, LEFT)?;
     let mut text = String::new(alloc);

@@ -14,7 +14,7 @@ use word::request::Event;
 /// # Errors
 ///
 /// `Memory` where memory is refused.
-pub fn trace_events(alloc: Global, recording: &Recording) -> Result<String, Memory> {
+pub(crate) fn trace_events(alloc: Global, recording: &Recording) -> Result<String, Memory> {
     let lanes = Lanes::of(alloc, recording)?;
     let mut text = String::from_str(alloc, "{\"traceEvents\":[\n")?;
     for lane in lanes.lanes.iter() {

@@ -2,6 +2,7 @@
 #![tactic(auto)]
 
 mod drawing;
+mod format;
 mod json;
 mod label;
 mod lanes;
@@ -11,6 +12,5 @@ mod recording;
 mod scale;
 mod writing;
 
-pub use drawing::draw;
-pub use json::trace_events;
+pub use format::Format;
 pub use recording::Recording;
