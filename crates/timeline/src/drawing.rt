@@ -1,6 +1,6 @@
 //! The picture of a run as an SVG: a lane for each goroutine, and logical time to the right.
 
-use crate::label::{end_label, event_label};
+use crate::label::{count_label, end_label, event_label};
 use crate::lanes::{Arrow, Lane, Lanes, Sleep};
 use crate::marks::{HEAD, LEGEND, mark_of};
 use crate::recording::Recording;
@@ -235,10 +235,10 @@ fn push_foot(
     lowest: u64,
 ) -> Result<(), AllocError> {
     let (axis, under) = (lowest.saturating_add(28), lowest.saturating_add(62));
-    let count = recording.events.len();
+    let count = count_label(alloc, recording.events.len())?;
     let ends = end_label(alloc, recording.end)?;
     write!(
         text,
-        "<text class=\"small\" x=\"12\" y=\"{axis}\">logical time</text>\n<text x=\"12\" y=\"{under}\">{count} events, {ends}</text>\n</svg>\n"
+        "<text class=\"small\" x=\"12\" y=\"{axis}\">logical time</text>\n<text x=\"12\" y=\"{under}\">{count}, {ends}</text>\n</svg>\n"
     )
 }

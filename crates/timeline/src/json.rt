@@ -1,6 +1,6 @@
 //! The picture of a run as JSON in the trace event format, which viewers of traces open.
 
-use crate::label::{end_label, event_label};
+use crate::label::{count_label, end_label, event_label};
 use crate::lanes::{Arrow, Lane, Lanes, Passes};
 use crate::recording::Recording;
 use crate::writing::push_quoted;
@@ -102,13 +102,13 @@ fn push_end(
     last: u64,
 ) -> Result<(), AllocError> {
     let ends = end_label(alloc, recording.end)?;
-    let count = recording.events.len();
+    let count = count_label(alloc, recording.events.len())?;
     write!(
         text,
         "{{\"ph\":\"i\",\"s\":\"g\",\"pid\":1,\"tid\":1,\"ts\":{last},\"name\":\"{ends}\"}},\n"
     )?;
     write!(
         text,
-        "{{\"ph\":\"M\",\"pid\":1,\"tid\":1,\"ts\":0,\"name\":\"process_name\",\"args\":{{\"name\":\"{count} events, {ends}\"}}}}\n]}}\n"
+        "{{\"ph\":\"M\",\"pid\":1,\"tid\":1,\"ts\":0,\"name\":\"process_name\",\"args\":{{\"name\":\"{count}, {ends}\"}}}}\n]}}\n"
     )
 }

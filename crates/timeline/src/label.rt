@@ -73,6 +73,14 @@ fn on_channel(alloc: Global, what: &str, channel: Option<u32>) -> Result<String,
     }
 }
 
+/// How many events there are.
+pub(crate) fn count_label(alloc: Global, count: usize) -> Result<String, AllocError> {
+    if count == 1 {
+        return String::from_str(alloc, "1 event");
+    }
+    format!(in alloc; "{count} events")
+}
+
 /// How a run ended, or that there is more of it.
 pub(crate) fn end_label(alloc: Global, end: Option<End>) -> Result<String, AllocError> {
     match end {
