@@ -1,10 +1,10 @@
 //! What a file tells of its text, and whether that comes of it.
 
-use crate::reading::{explained, listing, picture, spans, tokens};
+use crate::reading::{explained, listing, picture, recorded_lines};
 use crate::run::{Ran, check_runs};
-use crate::trace::settled_lines;
 use row_format::flaw::{Flaw, same};
 use row_format::folder::{FileKind, Made, RowFile};
+use row_lines::{spans, tokens};
 use std::alloc::Global;
 use std::rt::Files;
 use std::sync::Wait;
@@ -75,8 +75,8 @@ fn check_row<R: Files + AllocGlobal + Threads + Wait + Sync>(
     check_runs(rt, rt.alloc(), text, &row, output)
 }
 
-/// Sees whether a text has the events that its `.trace` tells: those that settling commits, and those that a run writes, with
-/// each number of workers of its row.
+/// Sees whether a text has the events that its `.trace` tells: those that are settled on one thread, and those that a run writes,
+/// with each number of workers of its row.
 fn check_trace<R: Files + AllocGlobal + Threads + Wait + Sync>(
     rt: &R,
     file: &RowFile<'_>,
@@ -94,17 +94,17 @@ fn check_events<R: Files + AllocGlobal + Threads + Wait + Sync>(
     wanted: &[u8],
 ) -> Result<(), Flaw> {
     let row = file.row(rt)?;
-    check_settled(rt.alloc(), text, row.limit, wanted)?;
+    check_recorded(rt.alloc(), text, row.limit, wanted)?;
     for workers in row.workers.iter() {
         check_traced(rt, rt.alloc(), text, row.limit, *workers, wanted)?;
     }
     Ok(())
 }
 
-/// Sees whether settling commits these events of a text.
-fn check_settled(alloc: Global, text: &[u8], limit: u64, wanted: &[u8]) -> Result<(), Flaw> {
-    let settled = settled_lines(alloc, text, limit)?;
-    same_lines(alloc, "the events that are settled", wanted, &settled)
+/// Sees whether these events of a text are settled on one thread.
+fn check_recorded(alloc: Global, text: &[u8], limit: u64, wanted: &[u8]) -> Result<(), Flaw> {
+    let recorded = recorded_lines(alloc, text, limit)?;
+    same_lines(alloc, "the events that are settled", wanted, &recorded)
 }
 
 /// Sees whether a run of a text with so many workers writes these events.

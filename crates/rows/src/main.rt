@@ -14,21 +14,19 @@ mod check;
 mod reading;
 mod run;
 mod table;
-mod trace;
-mod words;
 
 use calls::{check_failing_traces, check_failing_writers, check_panics, check_refusals};
 use check::check;
 use go_text::Fault;
 use row_format::flaw::Flaw;
 use row_format::folder::{FileKind, RowFile, names, utf8};
+use row_lines::check_words;
 use std::process::ExitCode;
 use std::rt::{Env, Files};
 use std::sync::Wait;
 use std::thread::Threads;
 use std::{env, io};
 use table::Table;
-use words::check_words;
 use worker_calls::failed_calls;
 
 fn main(rt: HostRuntime) -> ExitCode {

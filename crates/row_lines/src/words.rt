@@ -6,7 +6,7 @@ use row_format::written::bytes_of;
 use std::alloc::{AllocError, Global};
 
 /// Takes a line: an empty one or a comment; or sees whether what a line tells of its words comes of them.
-pub(crate) fn check_words(alloc: Global, line: &str) -> Result<(), Flaw> {
+pub fn check_words(alloc: Global, line: &str) -> Result<(), Flaw> {
     if line.is_empty() || line.starts_with('#') {
         return Ok(());
     }
