@@ -171,7 +171,10 @@ impl GoState {
         if self.doomed || now >= limit {
             return 0;
         }
-        let (steps, ticks) = self.frames.run(alloc, code.code(), left, limit - now);
+        let table = code.superinstructions();
+        let (steps, ticks) = self
+            .frames
+            .run(alloc, code.code(), table, left, limit - now);
         self.clock = Clock::at(now + ticks);
         steps
     }

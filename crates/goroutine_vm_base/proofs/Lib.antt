@@ -3,3 +3,4 @@ pub mod Fetching
 pub mod Quick
 pub mod Stacks
 pub mod Several
+pub mod Superinstructions

@@ -3,6 +3,7 @@
 ghost use Rattle.std.specs.Prelude.{◌≡◌, ◌≢◌, ◌↔◌, ◌<◌, ◌≤◌, length, IsTrue, IfOk, IfErr, IfSome, IfNone, MatchOption, Some, slice_get};
 ghost use Rattle.bytecode.specs.Machine.{main_of};
 ghost use Rattle.bytecode.specs.Rules.{AreThere, Breaks, BrokenIn, HasMain, HasShapes, Holds, IsHeaded, IsSelect, IsShaped, IsShort, IsThere, IsVerified};
+ghost use Rattle.superinstruction.specs.Forms.{IsTableOf};
 ghost use Rattle.verifier.specs.Refusals.{IsRefused, NeverStuck, ShapesFine, PrintsFine, SelectsFine, FunctionsFine, ShapeBroken, SelectBroken};
 ghost use Rattle.verifier.specs.Tables.{Judged};
 
@@ -11,23 +12,26 @@ use bytecode::{Code, Function, MAX_CLAUSES, MAX_PARTS, Rule, SelectTable, WordKi
 use go_text::Fault;
 use std::alloc::{AllocError, Global};
 use std::marker::Model;
+use superinstruction::Superinstructions;
 use word::limits::MAX_WORDS;
 
-/// Code that keeps all rules of the verifier.
+/// Code that keeps all rules of the verifier, and its superinstructions; contracts see the code.
 #[derive(Drop)]
 pub struct Verified {
     code: Code,
+    superinstructions: Superinstructions,
 }
 
 impl Model for Verified {
     ghost use Rattle.bytecode.specs.Code.{Code as CodeValue};
     ghost use Rattle.bytecode.specs.Rules.{IsVerified};
+    ghost use Rattle.superinstruction.specs.Forms.{IsTableOf};
 
     ghost Value = { CodeValue };
 
     ghost view = { λ v. v.code };
 
-    ghost invariant = { λ v. IsVerified v.code };
+    ghost invariant = { λ v. IsVerified v.code × IsTableOf v.code v.superinstructions };
 }
 
 impl Verified {
@@ -37,6 +41,13 @@ impl Verified {
         ensures verified { IsVerified result.now }
     {
         &self.code
+    }
+
+    /// The superinstructions of the code.
+    pub fn superinstructions(&self) -> &Superinstructions
+        ensures { IsTableOf self.now result.now }
+    {
+        &self.superinstructions
     }
 
     /// The number of the function `main`.
@@ -72,7 +83,13 @@ pub fn verify(alloc: Global, code: Code) -> Result<Verified, Fault>
             function,
             place,
         }),
-        Ok(None) => Ok(Verified { code }),
+        Ok(None) => match Superinstructions::find(alloc, &code) {
+            Err(_) => Err(Fault::Memory),
+            Ok(superinstructions) => Ok(Verified {
+                code,
+                superinstructions,
+            }),
+        },
     }
 }
 

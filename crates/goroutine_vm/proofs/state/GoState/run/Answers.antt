@@ -4,8 +4,12 @@ use Rattle.bytecode.specs.Rules.{IsVerified}
 use Rattle.goroutine_vm_base.specs.Steps.{Runs}
 use Rattle.goroutine_vm.specs.Advance.{IsStateOf}
 use Rattle.goroutine_vm.proofs.Turns.{Ran, ran, same_view}
+use Rattle.superinstruction.specs.Forms.{IsTableOf}
 use Rattle.word.specs.Kinds.{Clocked, at}
 use Rattle.goroutine_vm.proofs.state.GoState.run.Goals as goal
+
+pub run-steps-requires : goal.run-steps-requires
+run-steps-requires c = subst (λ x. IsTableOf x c.superinstructions-table.result.now) (sym c.code.ensures.code) c.superinstructions-table.ensures
 
 ran_here : (c : goal.After-self-1) → Ran c.args.code.now c.args.limit (subst IsVerified c.code.ensures.code c.code.ensures.verified) c.args.self.now c.requires (ap (λ (s : Clocked Frames). s.doomed) (sym c.self.view_is) ∙ c.if-self.false) c.run-steps.result.0 c.run-steps.result.1 c.run-steps.new.self
 ran_here c =
