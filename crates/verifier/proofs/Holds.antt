@@ -16,7 +16,7 @@ use Rattle.bytecode.specs.declared.instr.Instr.TheVariants as instrs
 use Rattle.bytecode.specs.Rules.{IsHeaded, Misfit, BrokenIn, Holds, rule_of}
 use Rattle.verifier.specs.declared.paths.Inferred.{Inferred}
 use Rattle.verifier.specs.declared.paths.Inferred.TheVariants.{Full, BrokenAt, PartedAt}
-use Rattle.verifier.specs.Tables.{Ahead, Infers, Judged, judged_of, unknown, Going, Visited, Full'}
+use Rattle.verifier.specs.Tables.{Ahead, Infers, Judged, judged_of, Going, Visited, Full'}
 use Rattle.verifier_base.specs.Scans.{Scanned}
 use Rattle.bytecode.proofs.Options.{some_inj, none_some}
 use Rattle.std.proofs.lemmas.Option.{slice_get_within}
