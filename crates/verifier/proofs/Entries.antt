@@ -28,7 +28,7 @@ entry_other (x ∷ t) zero (suc m) v h = refl
 entry_other (x ∷ t) (suc n) zero v h = refl
 entry_other (x ∷ t) (suc n) (suc m) v h = entry_other t n m v (λ e. h (ap suc e))
 
-some_none : {A : Type 0} {x : A} → Some x ≡ None → ⊥
+pub some_none : {A : Type 0} {x : A} → Some x ≡ None → ⊥
 some_none e = cc
 
 pub unknown_set : (t : Table) (n : ℕ) (v : Vec WordKind) → n < length t → entry t n ≡ None → unknown (slice_set t n (Some v)) < unknown t
@@ -66,5 +66,5 @@ led New code f old new to ks h r p m =
     let v = m.1.0 in
     let same : v.items ≡ ks = m.1.1 in (
       subst (Reached code f) (sym m.1.2) (reached_set code f old to v m.0 h r (p.0, subst (λ x. Path code f p.0 to x) (sym same) p.1)),
-      subst (λ x. unknown x < unknown old) (sym m.1.2) (unknown_set old to v h m.0),
+      (subst (λ x. unknown x < unknown old) (sym m.1.2) (unknown_set old to v h m.0), m),
     )

@@ -16,7 +16,7 @@ use Rattle.bytecode.specs.declared.instr.Instr.TheVariants as instrs
 use Rattle.bytecode.specs.Rules.{IsHeaded, Misfit, BrokenIn, Holds, rule_of}
 use Rattle.verifier.specs.declared.paths.Inferred.{Inferred}
 use Rattle.verifier.specs.declared.paths.Inferred.TheVariants.{Full, BrokenAt, PartedAt}
-use Rattle.verifier.specs.Tables.{Infers, Judged, judged_of, unknown, Going, Visited, Full'}
+use Rattle.verifier.specs.Tables.{Ahead, Infers, Judged, judged_of, Going, Visited, Full'}
 use Rattle.verifier_base.specs.Scans.{Scanned}
 use Rattle.bytecode.proofs.Options.{some_inj, none_some}
 use Rattle.std.proofs.lemmas.Option.{slice_get_within}
@@ -26,13 +26,22 @@ entry_within [] n ks e = absurd (none_some e)
 entry_within (x ∷ t) zero ks e = omega arith
 entry_within (x ∷ t) (suc n) ks e = omega (arith, entry_within t n ks e)
 
+settled_on : (code : Code) (f : Function) (old new : Table) (place q : ℕ) → Ahead old new place → q ≤ place → Settled code f old q → Settled code f new q
+settled_on code f old new place q a l s ks e = let r = s ks (sym (a.same q l) ∙ e) in (r.0, r.1, r.2, λ k to h. a.kept to (afterwards code f r.0 k ks) (r.3 k to h))
+
 pub going : (grew : Bool) (code : Code) (f : Function) (old mid new : Table) (place : ℕ) → Going grew code f old mid place → Visited Settles code f mid new place → Going grew code f old new (place + 1)
-going true code f old mid new place g v = subst (λ t. unknown t < unknown old) (sym v.0) g
-going false code f old mid new place g v = (v.0 ∙ g.0, λ q h. elim (cases_eq q place) [ inl e ↦ subst (Settled code f new) (sym e) v.1 | inr n ↦ subst (λ t. Settled code f t q) (sym v.0) (g.1 q (grind (arith, h, n))) ])
+going true code f old mid new place g v = let w = v.0.fewer in omega (arith, g, w)
+going false code f old mid new place g v = (
+  let u = g.0 in let w = v.0.fewer in omega (arith, u, w),
+  λ q h. elim (cases_eq q place) [
+    | inl e ↦ subst (Settled code f new) (sym e) v.1
+    | inr n ↦ settled_on code f mid new place q v.0 (omega (arith, h)) (g.1 q (grind (arith, h, n)))
+  ],
+)
 
 pub gone : (grew : Bool) (code : Code) (f : Function) (old mid new : Table) (place : ℕ) → Going grew code f old mid place → Visited Grows code f mid new place → Going true code f old new (place + 1)
 gone true code f old mid new place g v = omega (arith, g, v)
-gone false code f old mid new place g v = subst (λ t. unknown new < unknown t) g.0 v
+gone false code f old mid new place g v = let u = g.0 in omega (arith, u, v)
 
 module _ (code : Code) (f : Function) (table : Table) (same : length table ≡ length f.instrs) (full : Full' code f table) where
   settled_at : (place : ℕ) (ks : List WordKind) → entry table place ≡ Some ks → (i : Instr) × (slice_get f.instrs place ≡ Some i) × Fits code f i ks × ((k to : ℕ) → slice_get (ways code i place) k ≡ Some to → entry table to ≡ Some (afterwards code f i k ks))

@@ -1,6 +1,6 @@
 -- The verifier's table of the kinds at each place of a function, and what its steps do to it, as the code does: these words
 -- are proved against the rules (bytecode's `Rules`), and claim nothing themselves.
-use Rattle.std.specs.Prelude.{◌≡◌, ℕ, suc, ◌+◌, ◌<◌, List, [], ◌∷◌, length, Option, Some, None, Bool, true, false, slice_get, slice_set}
+use Rattle.std.specs.Prelude.{◌≡◌, ℕ, suc, ◌+◌, ◌<◌, ◌≤◌, List, [], ◌∷◌, length, Option, Some, None, Bool, true, false, cond, nat_lt, slice_get, slice_set}
 use Rattle.std.specs.Global.{Vec}
 use Rattle.bytecode.specs.declared.instr.WordKind.{WordKind}
 use Rattle.bytecode.specs.declared.instr.Instr.{Instr}
@@ -54,15 +54,21 @@ Merged Same old new to ks = (new ≡ old) × (entry old to ≡ Some ks)
 Merged Differs old new to ks = (new ≡ old) × ((js : List WordKind) × (entry old to ≡ Some js) × (js ≡ ks → ⊥))
 Merged New old new to ks = (entry old to ≡ None) × ((v : Vec WordKind) × (v.items ≡ ks) × (new ≡ slice_set old to (Some v)))
 
+-- no entry is lost, and there are new ones behind a place alone
+pub record Ahead (old new : Table) (place : ℕ) : Type 0 where
+  pub kept : (p : ℕ) (ks : List WordKind) → entry old p ≡ Some ks → entry new p ≡ Some ks
+  pub same : (p : ℕ) → p ≤ place → entry new p ≡ entry old p
+  pub fewer : unknown new ≤ unknown old
+
 -- after a way to a place, on a path
 abbrev pub Led : Merge → Code → Function → Table → Table → ℕ → List WordKind → Type 0
 Led Same code f old new to ks = (new ≡ old) × (entry old to ≡ Some ks)
 Led Differs code f old new to ks = Parting code f to
-Led New code f old new to ks = unknown new < unknown old
+Led New code f old new to ks = (unknown new < unknown old) × Merged New old new to ks
 
 -- what a look at one place came to
 abbrev pub Visited : Visit → Code → Function → Table → Table → ℕ → Type 0
-Visited Settles code f old new place = (new ≡ old) × Settled code f new place
+Visited Settles code f old new place = Ahead old new place × Settled code f new place
 Visited Grows code f old new place = unknown new < unknown old
 Visited (Unfit rule) code f old new place = Misfit code f rule place
 Visited (Parts to) code f old new place = Parting code f to
@@ -83,22 +89,28 @@ Steps (Leads i ks at) code f table place = LeadsOn code f table place i ks.items
 abbrev pub AreReached : Code → Function → ℕ → Instr → List WordKind → Type 0
 AreReached code f place i ks = (k to : ℕ) → slice_get (ways code i place) k ≡ Some to → (n : ℕ) × Path code f n to (afterwards code f i k ks)
 
+-- what came of a way from one place to another: an entry made behind the first is looked at in the same pass
+abbrev pub onward_of : Merge → ℕ → ℕ → Onward
+onward_of Same place to = Kept
+onward_of New place to = cond (nat_lt place to) Kept Grown
+onward_of Differs place to = Apart to
+
 -- after the way of this number, where there is one
 abbrev pub Followed : Onward → Code → Function → Table → Table → ℕ → Instr → List WordKind → ℕ → Type 0
 Followed Kept code f old new place i ks number =
-    (new ≡ old) × ((to : ℕ) → slice_get (ways code i place) number ≡ Some to → entry new to ≡ Some (afterwards code f i number ks))
+    Ahead old new place × ((to : ℕ) → slice_get (ways code i place) number ≡ Some to → entry new to ≡ Some (afterwards code f i number ks))
 Followed Grown code f old new place i ks number = unknown new < unknown old
 Followed (Apart to) code f old new place i ks number = Parting code f to
 
 -- after so many ways of an instruction
 abbrev pub Spread : Bool → Code → Function → Table → Table → ℕ → Instr → List WordKind → ℕ → Type 0
 Spread false code f old new place i ks number =
-    (new ≡ old) × ((k to : ℕ) → k < number → slice_get (ways code i place) k ≡ Some to → entry new to ≡ Some (afterwards code f i k ks))
+    Ahead old new place × ((k to : ℕ) → k < number → slice_get (ways code i place) k ≡ Some to → entry new to ≡ Some (afterwards code f i k ks))
 Spread true code f old new place i ks number = unknown new < unknown old
 
 -- a sweep so far
 abbrev pub Going : Bool → Code → Function → Table → Table → ℕ → Type 0
-Going false code f old new place = (new ≡ old) × ((q : ℕ) → q < place → Settled code f new q)
+Going false code f old new place = (unknown new ≤ unknown old) × ((q : ℕ) → q < place → Settled code f new q)
 Going true code f old new place = unknown new < unknown old
 
 abbrev pub Swept : Sweep → Code → Function → Table → Table → Type 0

@@ -1,10 +1,10 @@
 //! The kinds on the operand stack at each place of a function, path by path.
 
-ghost use Rattle.std.specs.Prelude.{◌≡◌, ◌+◌, ℕ, ◌<◌, IfOk, OnErr, length, vec_len, slice_get, Some};
+ghost use Rattle.std.specs.Prelude.{◌≡◌, ◌+◌, ℕ, ◌<◌, IfOk, length, vec_len, slice_get, Some};
 ghost use Rattle.bytecode.specs.declared.instr.Instr.{Instr};
 ghost use Rattle.bytecode.specs.Effects.{count, wants};
 ghost use Rattle.bytecode.specs.Rules.{Named, Inside, Path, IsHeaded};
-ghost use Rattle.verifier.specs.Tables.{AreReached, Merged, Led, Followed, Visited, Steps, LeadsOn, Swept, Infers, Reached, Judged, judged_of};
+ghost use Rattle.verifier.specs.Tables.{AreReached, Merged, Led, Followed, Visited, Steps, LeadsOn, Swept, Infers, Reached, Judged, judged_of, onward_of};
 
 use bytecode::{Code, Function, Instr, Rule, WordKind, same_kinds};
 use std::alloc::{AllocError, Global};
@@ -19,49 +19,42 @@ pub enum Merge {
 }
 
 /// Enters the kinds at a place that has none.
-fn enter_kinds(
-    alloc: Global,
-    table: &mut Vec<Option<Vec<WordKind>>>,
-    to: usize,
-    kinds: &[WordKind],
-) -> Result<Merge, AllocError>
+fn enter_kinds(table: &mut Vec<Option<Vec<WordKind>>>, to: usize, kinds: Vec<WordKind>) -> Merge
     requires { to < vec_len table.old }
     ensures len { vec_len table.new ≡ vec_len table.old }
-    ensures err { OnErr result (table.new.items ≡ table.old.items) }
-    ensures ok { IfOk result (λ m. Merged m table.old.items table.new.items to kinds.now) }
+    ensures merged { Merged result table.old.items table.new.items to kinds.items }
 {
     if let Some(js) = &table[to] {
-        return if same_kinds(js, kinds) {
-            Ok(Merge::Same)
+        return if same_kinds(js, &kinds) {
+            Merge::Same
         } else {
-            Ok(Merge::Differs)
+            Merge::Differs
         };
     }
-    let ks = Vec::from_slice(alloc, kinds)?;
-    table[to] = Some(ks);
-    Ok(Merge::New)
+    table[to] = Some(kinds);
+    Merge::New
 }
 
 /// Enters the kinds with which a path leads to a place.
 #[tactic(auto, using(crate::proofs::Entries::led))]
 fn lead(
-    alloc: Global,
     code: &Code,
     f: &Function,
     table: &mut Vec<Option<Vec<WordKind>>>,
     to: usize,
-    kinds: &[WordKind],
-) -> Result<Merge, AllocError>
+    kinds: Vec<WordKind>,
+) -> Merge
     requires there { to < vec_len table.old }
-    requires path { (n : ℕ) × Path code.now f.now n to kinds.now }
+    requires path { (n : ℕ) × Path code.now f.now n to kinds.items }
     requires reached { Reached code.now f.now table.old.items }
     ensures len { vec_len table.new ≡ vec_len table.old }
     ensures reached { Reached code.now f.now table.new.items }
-    ensures ok { IfOk result (λ m. Led m code.now f.now table.old.items table.new.items to kinds.now) }
+    ensures there { to < length table.old.items }
+    ensures led { Led result code.now f.now table.old.items table.new.items to kinds.items }
 {
     let _ = code;
     let _ = f;
-    enter_kinds(alloc, table, to, kinds)
+    enter_kinds(table, to, kinds)
 }
 
 /// What a look at a place came to.
@@ -110,9 +103,29 @@ fn step_at(
 /// What came of one way of an instruction.
 #[derive(Clone, Copy)]
 pub enum Onward {
+    /// The place to which it leads has these kinds, and no place before it has new ones.
     Kept,
+    /// A place that this pass has looked at has kinds now.
     Grown,
+    /// The place has other kinds.
     Apart(usize),
+}
+
+/// What came of a way from one place to another. A place behind the first is looked at in the same pass.
+fn arrive(merge: Merge, place: usize, to: usize) -> Onward
+    ensures { result ≡ onward_of merge place to }
+{
+    match merge {
+        Merge::Same => Onward::Kept,
+        Merge::New => {
+            if place < to {
+                Onward::Kept
+            } else {
+                Onward::Grown
+            }
+        }
+        Merge::Differs => Onward::Apart(to),
+    }
 }
 
 /// Follows the way of this number.
@@ -141,11 +154,8 @@ fn follow(
         None => Ok(Onward::Kept),
         Some(to) => {
             let out = behind(alloc, code, f, i, number, kinds, at)?;
-            match lead(alloc, code, f, table, to, &out)? {
-                Merge::Same => Ok(Onward::Kept),
-                Merge::New => Ok(Onward::Grown),
-                Merge::Differs => Ok(Onward::Apart(to)),
-            }
+            let merge = lead(code, f, table, to, out);
+            Ok(arrive(merge, place, to))
         }
     }
 }

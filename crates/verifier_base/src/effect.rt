@@ -14,6 +14,10 @@ use word::apply::Op;
 pub enum Need {
     /// These kinds.
     These(Vec<WordKind>),
+    /// One word of this kind.
+    One(WordKind),
+    /// Two words of this kind.
+    Two(WordKind),
     /// So many words of any kind.
     Some(usize),
     /// A channel.
@@ -23,15 +27,15 @@ pub enum Need {
 }
 
 /// What an operator wants.
-fn operands(alloc: Global, op: Op) -> Result<Need, AllocError>
-    ensures ok { IfOk result (λ n. wants_of n ≡ operands_of op) }
+fn operands(op: Op) -> Need
+    ensures { wants_of result ≡ operands_of op }
 {
     match op {
-        Op::Neg | Op::Com => Ok(Need::These(vec![in alloc; WordKind::Int]?)),
-        Op::Not => Ok(Need::These(vec![in alloc; WordKind::Bool]?)),
-        Op::EqBool | Op::NeBool => Ok(Need::These(vec![in alloc; WordKind::Bool, WordKind::Bool]?)),
-        Op::EqChan | Op::NeChan => Ok(Need::Channels),
-        _ => Ok(Need::These(vec![in alloc; WordKind::Int, WordKind::Int]?)),
+        Op::Neg | Op::Com => Need::One(WordKind::Int),
+        Op::Not => Need::One(WordKind::Bool),
+        Op::EqBool | Op::NeBool => Need::Two(WordKind::Bool),
+        Op::EqChan | Op::NeChan => Need::Channels,
+        _ => Need::Two(WordKind::Int),
     }
 }
 
@@ -114,20 +118,20 @@ fn wanted(alloc: Global, code: &Code, f: &Function, i: Instr) -> Result<Need, Al
         }
         Instr::Pick(t, _, _) => Ok(Need::Some(t as usize)),
         Instr::Discard(n) => Ok(Need::Some(n as usize)),
-        Instr::Apply(op) => Ok(operands(alloc, op)?),
-        Instr::Unless(_) => Ok(Need::These(vec![in alloc; WordKind::Bool]?)),
+        Instr::Apply(op) => Ok(operands(op)),
+        Instr::Unless(_) => Ok(Need::One(WordKind::Bool)),
         Instr::Call(g) | Instr::Go(g) => {
             let params = params_of(&code.functions()[g as usize]);
             Ok(Need::These(Vec::from_slice(alloc, params)?))
         }
         Instr::Return => Ok(Need::These(Vec::from_slice(alloc, f.results())?)),
-        Instr::Make(_) => Ok(Need::These(vec![in alloc; WordKind::Int]?)),
+        Instr::Make(_) => Ok(Need::One(WordKind::Int)),
         Instr::Send(s) => {
             let mut kinds = vec![in alloc; WordKind::Chan(s)]?;
             kinds.extend_from_slice(kinds_of(code, s))?;
             Ok(Need::These(kinds))
         }
-        Instr::Receive(s) => Ok(Need::These(vec![in alloc; WordKind::Chan(s)]?)),
+        Instr::Receive(s) => Ok(Need::One(WordKind::Chan(s))),
         Instr::Close | Instr::Len | Instr::Cap => Ok(Need::Channel),
         Instr::Print(q) => {
             let kinds = printed_kinds(alloc, code.prints()[q as usize].parts())?;
@@ -148,8 +152,8 @@ fn amount(need: &Need) -> usize
     match need {
         Need::These(kinds) => kinds.len(),
         Need::Some(n) => *n,
-        Need::Channel => 1,
-        Need::Channels => 2,
+        Need::One(_) | Need::Channel => 1,
+        Need::Two(_) | Need::Channels => 2,
     }
 }
 
@@ -159,6 +163,8 @@ fn meets(need: &Need, top: &[WordKind]) -> bool
 {
     match need {
         Need::These(kinds) => same_kinds(top, kinds),
+        Need::One(kind) => same_kinds(top, &[*kind]),
+        Need::Two(kind) => same_kinds(top, &[*kind, *kind]),
         Need::Some(_) => true,
         Need::Channel => match top {
             [WordKind::Chan(_)] => true,
@@ -293,7 +299,8 @@ pub fn behind(
     requires at { at + count (wants code.now f.now i) ≡ length kinds.now }
     ensures ok { IfOk result (λ v. v.items ≡ afterwards code.now f.now i way kinds.now) }
 {
-    let mut out = Vec::from_slice(alloc, &kinds[..at])?;
+    let mut out = Vec::with_capacity(alloc, at + 1)?;
+    out.extend_from_slice(&kinds[..at])?;
     give(code, f, i, way, &kinds[at..], &mut out)?;
     Ok(out)
 }

@@ -3,7 +3,7 @@ use Rattle.verifier.specs.Tables.{kinds_at, entry}
 use Rattle.verifier.proofs.Entries.{entry_read}
 use Rattle.verifier.proofs.paths.enter_kinds.Goals as goal
 
-pub returns-clause-ok : goal.returns-clause-ok
-returns-clause-ok c =
+pub returns-clause-merged : goal.returns-clause-merged
+returns-clause-merged c =
     let e : entry c.args.table.now.items c.args.to ≡ None = entry_read c.args.table.now.items c.args.to _ (search rules) c.index.ensures ∙ ap (λ o. kinds_at (Some o)) c.in_default.is in
-    (e, (c.in_ok-ks.ks, c.in_ok-ks.ensures.items, refl))
+    (e, (c.args.kinds, refl, refl))
