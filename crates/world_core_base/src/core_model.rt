@@ -335,7 +335,7 @@ impl Core {
         ensures fits { FitsCore code.now limit self.new }
         ensures partners { result.partners.items ≡ [] }
     {
-        self.go_on(code, number, Reply::Nothing, next_time(clock, limit));
+        self.go_on(code, number, &Reply::Nothing, next_time(clock, limit));
         Event {
             clock,
             number,
@@ -376,7 +376,7 @@ impl Core {
         let later = next_time(clock, limit);
         let state = spawn_state(alloc, code, function as usize, args.as_slice(), later)?;
         self.add(state)?;
-        self.go_on(code, number, Reply::Nothing, later);
+        self.go_on(code, number, &Reply::Nothing, later);
         let outcome = EventOutcome::Done(Reply::Nothing);
         let request = Request::Go(function, args);
         Ok(event(clock, number, request, outcome, partners))
@@ -406,9 +406,9 @@ impl Core {
         match self.ask(number, &request)? {
             Came::Done(reply, woken) => {
                 let later = next_time(clock, limit);
-                let outcome = EventOutcome::Done(copy_of(&reply));
-                self.go_on(code, number, reply, later);
+                self.go_on(code, number, &reply, later);
                 self.wake_all(code, later, woken, &mut partners);
+                let outcome = EventOutcome::Done(reply);
                 Ok(event(clock, number, request, outcome, partners))
             }
             Came::Sleeps => {
@@ -514,11 +514,11 @@ impl Core {
 
 impl Core {
     /// Goroutine `number`'s request is done: it goes on with this reply, at this clock.
-    fn go_on(&mut self, code: &Verified, number: u64, reply: Reply, later: Clock)
+    fn go_on(&mut self, code: &Verified, number: u64, reply: &Reply, later: Clock)
         requires frame { IfSome (slice_index_or self.old.rows number None) (λ row. IsFrameOf code.now row.state.state) }
         requires unlent { IsUnlent (slice_index_or self.old.rows number None) }
         requires events { self.old.events < 2 ^ 62 }
-        ensures { self.new ≡ record self.old { rows = answered_rows code.now self.old.rows number later (reply_of reply); events = self.old.events + 1 } }
+        ensures { self.new ≡ record self.old { rows = answered_rows code.now self.old.rows number later (reply_of reply.now); events = self.old.events + 1 } }
     {
         answer_row(self.rows.as_mut_slice(), code, number, reply, later);
         self.events += 1;
@@ -648,20 +648,5 @@ fn most_woken(channels: &Channels, request: &Request) -> usize
     match request {
         Request::Close(_) => channels.asleep(),
         _ => 1,
-    }
-}
-
-/// A second reply that is the same.
-fn copy_of(reply: &Reply) -> Reply
-    ensures { reply_of result ≡ reply_of reply.now }
-{
-    match reply {
-        Reply::Nothing => Reply::Nothing,
-        Reply::Word(word) => Reply::Word(*word),
-        Reply::Received(item, ok) => Reply::Received(item.copy(), *ok),
-        Reply::Clause(clause, None) => Reply::Clause(*clause, None),
-        Reply::Clause(clause, Some((item, ok))) => Reply::Clause(*clause, Some((item.copy(), *ok))),
-        Reply::Default => Reply::Default,
-        Reply::Closed => Reply::Closed,
     }
 }

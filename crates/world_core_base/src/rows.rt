@@ -26,16 +26,16 @@ pub(crate) fn answer_row(
     rows: &mut [Option<Slot>],
     code: &Verified,
     number: u64,
-    reply: Reply,
+    reply: &Reply,
     clock: Clock,
 )
     requires frame { IfSome (slice_index_or rows.old number None) (λ row. IsFrameOf code.now row.state.state) }
     requires unlent { IsUnlent (slice_index_or rows.old number None) }
-    ensures { rows.new ≡ answered_rows code.now rows.old number clock (reply_of reply) }
+    ensures { rows.new ≡ answered_rows code.now rows.old number clock (reply_of reply.now) }
 {
     if (number as usize) < rows.len() {
         if let Some(slot) = &mut rows[number as usize] {
-            slot.answer(code, reply, clock);
+            slot.tell(code, reply, clock);
         }
     }
 }
@@ -58,7 +58,7 @@ pub(crate) fn wake(
     for one in woken {
         let number = one.number();
         partners.push_reserved(number);
-        wake_one(rows, beds, code, clock, number, one.into_reply());
+        wake_one(rows, beds, code, clock, number, one.reply());
     }
 }
 
@@ -69,15 +69,15 @@ fn wake_one(
     code: &Verified,
     clock: Clock,
     number: u64,
-    reply: Reply,
+    reply: &Reply,
 )
     requires { IfSome (slice_index_or beds.old number None) (λ s. IsFrameOf code.now s.state) }
-    ensures rows { rows.new ≡ slice_set rows.old number (option_map (λ s. free_row (told (code_kind code.now) s clock (reply_of reply))) (slice_index_or beds.old number None)) }
+    ensures rows { rows.new ≡ slice_set rows.old number (option_map (λ s. free_row (told (code_kind code.now) s clock (reply_of reply.now))) (slice_index_or beds.old number None)) }
     ensures beds { beds.new ≡ slice_set beds.old number None }
 {
     let slot = match take_at(beds, number) {
         Some(mut state) => {
-            state.answer(code, reply, clock);
+            state.tell(code, reply, clock);
             Some(Slot::free(state))
         }
         None => None,

@@ -14,8 +14,8 @@ ran_here c =
     let now : s.clock ≡ c.time-now.result = search rules in
     let ticks = c.run-steps.ensures.ticks in
     let room : s.clock + c.run-steps.result.1 ≤ c.args.limit = omega (arith, now, ticks, c.if-now-limit.false) in
-    ran code c.args.limit (subst IsVerified c.code.ensures.code c.code.ensures.verified) s c.requires (ap (λ (s : Clocked Frames). s.doomed) (sym c.self.view_is) ∙ c.if-self.false) c.run-steps.result.0 c.run-steps.result.1 c.self.inside.frames c.run-steps.new.self (ap (λ (s : Clocked Frames). s.state) (sym c.self.view_is))
-    (subst (λ x. Runs x c.run-steps.result.0 c.run-steps.result.1 c.self.inside.frames c.run-steps.new.self) c.code.ensures.code c.run-steps.ensures.runs) room
+    ran code c.args.limit (subst IsVerified c.code.ensures.code c.code.ensures.verified) s c.requires (ap (λ (s : Clocked Frames). s.doomed) (sym c.self.view_is) ∙ c.if-self.false) c.run-steps.result.0 c.run-steps.result.1 c.self.inside.frames.value c.run-steps.new.self (ap (λ (s : Clocked Frames). s.state) (sym c.self.view_is))
+    (subst (λ x. Runs x c.run-steps.result.0 c.run-steps.result.1 c.self.inside.frames.value c.run-steps.new.self) c.code.ensures.code c.run-steps.ensures.runs) room
 
 view_here : (c : goal.After-self-1) → ◌≡◌ {A = Clocked Frames} (at (c.args.self.now.clock + c.run-steps.result.1) c.run-steps.new.self) (record { clock = c.at-self-inside.result; doomed = c.self.inside.doomed; state = c.run-steps.new.self })
 view_here c =
