@@ -109,6 +109,7 @@ impl Channels {
     }
 
     /// The same of goroutine `number`, which asks this.
+    #[tactic(auto, using(crate::proofs::Deeds::send_done))]
     fn send_asked(
         &mut self,
         number: u64,
@@ -117,7 +118,7 @@ impl Channels {
         item: &Item,
     ) -> Result<Outcome, Memory>
         requires { request_of request.now ≡ Send chan item.now }
-        ensures does { IfOk result (λ outcome. Does self.old number (request_of request.now) outcome self.new) }
+        ensures does { IfOk result (λ outcome. Does self.old number (Send chan item.now) outcome self.new) }
         ensures memory { OnErr result (self.new ≡ self.old) }
     {
         let Some(chan) = chan else {
@@ -140,6 +141,7 @@ impl Channels {
     }
 
     /// The same of goroutine `number`, which asks this.
+    #[tactic(auto, using(crate::proofs::Deeds::receive_done))]
     fn receive_asked(
         &mut self,
         number: u64,
@@ -147,7 +149,7 @@ impl Channels {
         chan: Option<u32>,
     ) -> Result<Outcome, Memory>
         requires { request_of request.now ≡ Receive chan }
-        ensures does { IfOk result (λ outcome. Does self.old number (request_of request.now) outcome self.new) }
+        ensures does { IfOk result (λ outcome. Does self.old number (Receive chan) outcome self.new) }
         ensures memory { OnErr result (self.new ≡ self.old) }
     {
         let Some(chan) = chan else {
@@ -214,6 +216,7 @@ impl Channels {
     }
 
     /// The same of goroutine `number`, which asks this.
+    #[tactic(auto, using(crate::proofs::Deeds::select_done))]
     fn select_asked(
         &mut self,
         number: u64,
@@ -222,7 +225,7 @@ impl Channels {
         default: bool,
     ) -> Result<Outcome, Memory>
         requires { request_of request.now ≡ Select cases.now default }
-        ensures does { IfOk result (λ outcome. Does self.old number (request_of request.now) outcome self.new) }
+        ensures does { IfOk result (λ outcome. Does self.old number (Select cases.now default) outcome self.new) }
         ensures memory { OnErr result (self.new ≡ self.old) }
     {
         let Some(place) = self.first_ready(cases) else {
