@@ -1,6 +1,6 @@
 -- The slots of a slab as places in rings.
-use Rattle.std.proofs.Common.{◌≡◌, ◌≢◌, ℕ, zero, suc, ◌<◌, ◌≤◌, sym, ap, ◌∙◌, subst, arith, Bool, true, false, inl, inr, ◌⊎◌, refl, List, length}
-use Rattle.std.proofs.lemmas.Bool.{cases_eq, cases_Bool, both_ways, or_from, or_left, or_right}
+use Rattle.std.proofs.Common.{◌≡◌, ◌≢◌, ℕ, zero, suc, ◌<◌, ◌≤◌, sym, ap, ◌∙◌, subst, arith, Bool, true, false, inl, inr, refl, List, length}
+use Rattle.std.proofs.lemmas.Bool.{cases_eq, both_ways, or_from, or_left, or_right}
 use Rattle.std.proofs.lemmas.Bool.Decides.{nat_tests}
 use Rattle.std.specs.Prelude.{◌==◌, not, Option, Some, None, ◌+◌, slice_index_or, unwrap_or}
 use Rattle.std.specs.Option.{is_some}

@@ -87,7 +87,11 @@ impl NumberedKeys {
         ensures others { (n : ℕ) → n ≢ number → owned self.new n ≡ owned self.old n }
     {
         let first = self.get(number);
-        set_head(&mut self.keys, number as usize, head_without(first, key, after));
+        set_head(
+            &mut self.keys,
+            number as usize,
+            head_without(first, key, after),
+        );
     }
 
     /// Makes room for a number's key.
