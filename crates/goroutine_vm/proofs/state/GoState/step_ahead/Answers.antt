@@ -1,6 +1,4 @@
-use Rattle.std.proofs.Common.{◌≡◌, ◌≤◌, ℕ, Some, true, false, arith, subst, sym}
-use Rattle.word.specs.Kinds.{Clocked}
-use Rattle.bytecode.specs.Machine.{Frames}
+use Rattle.std.proofs.Common.{◌≡◌, ℕ, Some, true, false, arith, subst, sym}
 use Rattle.goroutine_vm.specs.Advance.{Bursts, IsAsking, steps}
 use Rattle.goroutine_vm.proofs.Turns.{goes_more, steps_add}
 use Rattle.goroutine_vm.proofs.state.GoState.step_ahead.Goals as goal
