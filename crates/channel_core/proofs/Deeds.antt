@@ -1,9 +1,7 @@
 -- What sends and receives do, branch by branch.
-use Rattle.std.proofs.Common.{◌≡◌, ◌∙◌, ℕ, Bool, true, false, not, List, [], ◌∷◌, ◌++◌, Option, Some, None, Result, Ok, Err, IfOk, OnOk, refl, sym, ap, subst}
-use Rattle.std.specs.Prelude.{◌==◌}
-use Rattle.std.specs.List.{filter}
+use Rattle.std.proofs.Common.{◌≡◌, ◌∙◌, ℕ, Bool, true, false, List, [], ◌∷◌, ◌++◌, Option, Some, None, Result, Ok, Err, IfOk, OnOk, refl, sym, ap, subst}
 use Rattle.word.specs.declared.request.Case.{Case}
-use Rattle.word.specs.Values.{Item, Request, Send, Receive, Select, Sleeper}
+use Rattle.word.specs.Values.{Item, Request, Send, Receive, Select}
 use Rattle.word.specs.Requests.{choose, receive_ready, send_ready, without}
 use Rattle.channel_core.specs.Channels.{ChannelsValue, Others, shared_with, Does, Sends, Receives, Serves}
 use Rattle.channel_core.specs.declared.outcome.Outcome.{Outcome}

@@ -1,5 +1,5 @@
-use Rattle.std.proofs.Common.{◌≡◌, ◌∙◌, ℕ, Option, sym, subst}
-use Rattle.word.specs.Values.{Item, Receive}
+use Rattle.std.proofs.Common.{◌∙◌, ℕ, Option, sym, subst}
+use Rattle.word.specs.Values.{Receive}
 use Rattle.channel_core.specs.Channels.{ChannelsValue, Does}
 use Rattle.channel_core.specs.declared.outcome.Outcome.TheVariants as outcomes
 use Rattle.channel_core.proofs.Deeds.{falls_asleep, receive_nil, receive_sleeps, with_sleeper}
@@ -15,6 +15,6 @@ returns-in_default-clause-does c =
 
 pub returns-then-not-can_receive-clause-does : goal.returns-then-not-can_receive-clause-does
 returns-then-not-can_receive-clause-does c =
-    falls_asleep c.args.self.now c.sleep-2.new.self c.args.number _ (Receive c.args.chan) c.sleep-2.result c.sleep-2.ensures.sleeps c.sleep-2.ensures.asleep c.requires
+    falls_asleep c.args.self.now c.sleep-then-not-can_receive.new.self c.args.number _ (Receive c.args.chan) c.sleep-then-not-can_receive.result c.sleep-then-not-can_receive.ensures.sleeps c.sleep-then-not-can_receive.ensures.asleep c.requires
     (subst (Sleeping c.args.self.now c.args.number) (sym c.in-Some.is)
     (receive_sleeps c.args.self.now c.args.number c.in-Some.chan (λ o m k q. sym c.if-not-can_receive.true ∙ c.can_receive.ensures o m k q)))

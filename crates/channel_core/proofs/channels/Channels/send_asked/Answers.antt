@@ -1,4 +1,4 @@
-use Rattle.std.proofs.Common.{◌≡◌, ◌∙◌, ℕ, Option, sym, subst}
+use Rattle.std.proofs.Common.{◌∙◌, ℕ, Option, sym, subst}
 use Rattle.word.specs.Values.{Item, Send}
 use Rattle.channel_core.specs.Channels.{ChannelsValue, Does}
 use Rattle.channel_core.specs.declared.outcome.Outcome.TheVariants as outcomes
@@ -15,6 +15,6 @@ returns-in_default-clause-does c =
 
 pub returns-then-not-can_send-clause-does : goal.returns-then-not-can_send-clause-does
 returns-then-not-can_send-clause-does c =
-    falls_asleep c.args.self.now c.sleep-2.new.self c.args.number _ (Send c.args.chan c.args.item.now) c.sleep-2.result c.sleep-2.ensures.sleeps c.sleep-2.ensures.asleep c.requires
+    falls_asleep c.args.self.now c.sleep-then-not-can_send.new.self c.args.number _ (Send c.args.chan c.args.item.now) c.sleep-then-not-can_send.result c.sleep-then-not-can_send.ensures.sleeps c.sleep-then-not-can_send.ensures.asleep c.requires
     (subst (Sleeping c.args.self.now c.args.number c.args.item.now) (sym c.in-Some.is)
     (send_sleeps c.args.self.now c.args.number c.in-Some.chan c.args.item.now (λ o m k q. sym c.if-not-can_send.true ∙ c.can_send.ensures o m k q)))

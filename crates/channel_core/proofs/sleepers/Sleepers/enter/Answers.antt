@@ -1,4 +1,4 @@
-use Rattle.std.proofs.Common.{◌≡◌, ◌++◌, ◌∷◌, [], List, ap, subst, sym, ◌∙◌}
+use Rattle.std.proofs.Common.{◌++◌, ◌∷◌, [], List, ap, subst, sym, ◌∙◌}
 use Rattle.std.specs.List.{filter}
 use Rattle.slab.specs.Slab.{Slab, Updates, get, slab_len}
 use Rattle.sleep_queue.specs.Queue.{owned}
@@ -6,7 +6,7 @@ use Rattle.std.specs.Prelude.{Some}
 use Rattle.word.specs.Requests.{without}
 use Rattle.word.specs.Values.{Sleeper}
 use Rattle.word.specs.Views.{request_of}
-use Rattle.channel_core.specs.Asleep.{IsAsleep, Placed, asleep_of, is_not_of, keys_in, placed}
+use Rattle.channel_core.specs.Asleep.{IsAsleep, asleep_of, is_not_of, keys_in, placed}
 use Rattle.channel_core.proofs.Kept.{nothing_of}
 use Rattle.channel_core.proofs.Slots.{enters_slab, replaces_slab, still_there}
 use Rattle.channel_core.proofs.sleepers.Sleepers.enter.Goals as goal
