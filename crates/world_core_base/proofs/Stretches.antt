@@ -1,5 +1,5 @@
 -- Stretches of rows in which nobody is awake.
-use Rattle.std.proofs.Common.{◌≡◌, ◌≢◌, ◌∙◌, ℕ, zero, suc, ◌+◌, ◌-◌, ◌*◌, ◌/◌, ◌<◌, ◌≤◌, Bool, true, false, List, [], ◌∷◌, ◌++◌, length, drop, Option, Some, None, ap, refl, sym, subst, arith, inl, inr, get_or-set_same, get_or-set_other}
+use Rattle.std.proofs.Common.{◌≡◌, ◌≢◌, ◌∙◌, ℕ, zero, suc, ◌+◌, ◌-◌, ◌*◌, ◌/◌, ◌<◌, ◌≤◌, Bool, true, false, List, [], ◌∷◌, ◌++◌, length, drop, Option, None, ap, refl, sym, arith, inl, inr, get_or-set_same, get_or-set_other}
 use Rattle.std.specs.Prelude.{slice_index_or, slice_set}
 use Rattle.std.proofs.lemmas.Bool.{cases_eq, cases_lt, true≢false}
 use Rattle.std.proofs.lemmas.List.{drop-drop, get_or-drop, set_past}
@@ -8,7 +8,9 @@ use Rattle.logical_clock.specs.declared.key.Key.{Key}
 use Rattle.logical_clock.specs.Order.{keys, least, with_key}
 use Rattle.turn_rule.specs.declared.Row.{Row}
 use Rattle.turn_rule.specs.Schedule.{has_turn}
-use Rattle.world_core_base.specs.Slots.{AreQuiet, IsQuietAt, Rows, State}
+use Rattle.world_core_base.specs.Slots.{AreQuiet, IsQuietAt, Rows, State, clock_among}
+use Rattle.world_core_base.specs.declared.turns.Among.{Among}
+use Rattle.world_core_base.specs.declared.turns.Among.TheVariants.{Free, Parked}
 
 -- ---- changes
 
@@ -25,7 +27,7 @@ quiet_kept quiet rows n row all same m q = elim (cases_eq m n) [
 unset : (quiet : List Bool) (s : ℕ) → slice_index_or (slice_set quiet s false) s false ≡ false
 unset quiet s = elim (cases_lt s (length quiet)) [
   | inl l ↦ get_or-set_same quiet s false false l
-  | inr l ↦ ap (λ (ys : List Bool). slice_index_or ys s false) (set_past quiet s false l) ∙ get_or-eq_default quiet s l
+  | inr l ↦ ap (λ (ys : List Bool). slice_index_or ys s false) (set_past quiet s false l) ∙ get_or-eq_default quiet false l
 ]
 
 -- somebody may be awake in the stretch of place n
@@ -77,9 +79,9 @@ none_up_to rows place empty k l =
     let same : (place / 32 * 32 + k) / 32 ≡ place / 32 = omega arith in
     get_or-drop (place / 32 * 32) rows k None ∙ empty (place / 32 * 32 + k) same
 
--- nor from a place of it on
-none_from : (rows : Rows) (place : ℕ) → IsQuietAt rows place → (k : ℕ) → k < place / 32 * 32 + 32 - place → slice_index_or (drop place rows) k None ≡ None
-none_from rows place empty k l =
+-- nor from a place of it on, as far as the stretch goes
+none_from : (rows : Rows) (place m : ℕ) → IsQuietAt rows place → m ≤ place / 32 * 32 + 32 - place → (k : ℕ) → k < m → slice_index_or (drop place rows) k None ≡ None
+none_from rows place m empty most k l =
     let same : (place + k) / 32 ≡ place / 32 = omega arith in
     get_or-drop place rows k None ∙ empty (place + k) same
 
@@ -113,17 +115,16 @@ passed_turns key (suc m) from (y ∷ ys) h =
     let at : suc from + m ≡ from + suc m = omega arith in
     ap (λ (x : Option (Row State)). has_turn key from (x ∷ ys)) (h 0 (omega arith)) ∙ rest ∙ ap (λ n. has_turn key n (drop m ys)) at
 
-pub turn_passed : (rows : Rows) (key : Key) (place : ℕ) → IsQuietAt rows place
-    → has_turn key place (drop place rows) ≡ has_turn key (place / 32 * 32 + 32) (drop (place / 32 * 32 + 32) rows)
-turn_passed rows key place empty =
-    let next = place / 32 * 32 + 32 in
-    let m = next - place in
-    let at : place + m ≡ next = omega arith in
-    passed_turns key m place (drop place rows) (none_from rows place empty) ∙ ap (λ (ys : Rows). has_turn key (place + m) ys) (drop-drop m place rows) ∙ ap (λ n. has_turn key n (drop n rows)) at
+pub turn_passed : (rows : Rows) (key : Key) (place m : ℕ) → IsQuietAt rows place → m ≤ place / 32 * 32 + 32 - place → has_turn key place (drop place rows) ≡ has_turn key (place + m) (drop (place + m) rows)
+turn_passed rows key place m empty most = passed_turns key m place (drop place rows) (none_from rows place m empty most) ∙ ap (λ (ys : Rows). has_turn key (place + m) ys) (drop-drop m place rows)
 
--- nobody is awake up to the end of a quiet stretch, if nobody is up to a place of it
-pub nobody_passed : (rows : Rows) (place : ℕ) → IsQuietAt rows place → ((n : ℕ) → n < place → slice_index_or rows n None ≡ None) → (n : ℕ) → n < place / 32 * 32 + 32 → slice_index_or rows n None ≡ None
-nobody_passed rows place empty before n l = elim (cases_lt n place) [
+-- nobody is awake up to a place of a quiet stretch, if nobody is up to an earlier one
+pub nobody_passed : (rows : Rows) (place m : ℕ) → IsQuietAt rows place → m ≤ place / 32 * 32 + 32 - place → ((n : ℕ) → n < place → slice_index_or rows n None ≡ None) → (n : ℕ) → n < place + m → slice_index_or rows n None ≡ None
+nobody_passed rows place m empty most before n l = elim (cases_lt n place) [
   | inl below ↦ before n below
   | inr past ↦ empty n (omega arith)
 ]
+
+pub none_among : (among : Among) → clock_among among None ≡ None
+none_among Parked = refl
+none_among Free = refl

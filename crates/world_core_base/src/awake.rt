@@ -1,6 +1,6 @@
 //! Rows of awake goroutines, in which a search passes by where nobody is awake.
 
-ghost use Rattle.std.specs.Prelude.{◌≡◌, ◌++◌, ◌∷◌, [], ◌<◌, ◌≤◌, ◌+◌, ◌/◌, ℕ, IfNone, IfOk, IfSome, MatchOption, None, OnErr, OnOk, Some, drop, false, length, option_map, slice_index_or, slice_set, true};
+ghost use Rattle.std.specs.Prelude.{◌≡◌, ◌++◌, ◌∷◌, [], ◌<◌, ◌≤◌, ◌+◌, ◌-◌, ◌*◌, ◌/◌, ℕ, IfNone, IfOk, IfSome, MatchOption, None, OnErr, OnOk, Some, drop, false, length, option_map, slice_index_or, slice_set, true};
 ghost use Rattle.std.specs.Option.{is_some};
 ghost use Rattle.bytecode.specs.Rules.{IsFrameOf};
 ghost use Rattle.logical_clock.specs.Order.{keys, least};
@@ -9,7 +9,7 @@ ghost use Rattle.word.specs.Views.{reply_of};
 ghost use Rattle.world_core_base.specs.Cores.{IsFreeIn, answered_rows};
 ghost use Rattle.world_core_base.specs.Slots.{AreQuiet, FitsAll, FitsRow, IsAwake, IsBefore, IsNobodyAwake, IsQuietAt, IsUnlent, Rows, clock_among, free_clock, free_row, lent_row, raised_row, stepped_rows};
 
-use crate::rows::{answer_row, lend_row, put_at, raise_row, stay_row, step_row, take_at};
+use crate::rows::{answer_row, lend_row, raise_row, stay_row, step_row, take_at};
 use crate::slot::Slot;
 use crate::turns::{Among, is_before_at, sooner_at};
 use go_text::Memory;
@@ -73,8 +73,9 @@ impl AwakeRows {
         ensures err { OnErr result (self.new ≡ self.old) }
     {
         self.slots.reserve(1)?;
-        add_stretch(&mut self.quiet, self.slots.len())?;
-        wake_stretch(self.quiet.as_mut_slice(), self.slots.len());
+        let place = self.slots.len();
+        add_stretch(&mut self.quiet, place)?;
+        wake_stretch(&mut self.quiet, place);
         self.slots.push_reserved(row);
         Ok(())
     }
@@ -93,8 +94,8 @@ impl AwakeRows {
     pub fn put(&mut self, number: u64, row: Option<Slot>)
         ensures { self.new ≡ slice_set self.old number row }
     {
-        wake_stretch(self.quiet.as_mut_slice(), number as usize);
-        put_at(self.slots.as_mut_slice(), number, row);
+        wake_stretch(&mut self.quiet, number as usize);
+        set_row(&mut self.slots, number, row);
     }
 
     /// A goroutine's request is done: it goes on with this reply, at this clock.
@@ -182,7 +183,7 @@ impl AwakeRows {
         let mut place = 0;
         while place < self.len() {
             if self.is_quiet(place) {
-                place = place / STRETCH * STRETCH + STRETCH;
+                place += left_in_stretch(place, self.len());
             } else {
                 if is_before_at(self.as_slice(), &key, place) {
                     return Some(place as u64);
@@ -200,7 +201,7 @@ impl AwakeRows {
         let mut place = 0;
         while place < self.len() {
             if self.is_quiet(place) {
-                place = place / STRETCH * STRETCH + STRETCH;
+                place += left_in_stretch(place, self.len());
             } else {
                 if let Some(_slot) = &self.slots[place] {
                     return Some(place as u64);
@@ -209,6 +210,30 @@ impl AwakeRows {
             }
         }
         None
+    }
+}
+
+/// Puts this at place `number`, where there is such a place.
+fn set_row(rows: &mut Vec<Option<Slot>>, number: u64, row: Option<Slot>)
+    ensures { rows.new.items ≡ slice_set rows.old.items number row }
+{
+    if (number as usize) < rows.len() {
+        rows[number as usize] = row;
+    }
+}
+
+/// How many of so many places are left in a stretch, from this one on.
+fn left_in_stretch(place: usize, len: usize) -> usize
+    requires { place < len }
+    ensures some { 0 < result }
+    ensures within { place + result ≤ len }
+    ensures stretch { result ≤ place / 32 * 32 + 32 - place }
+{
+    let rest = STRETCH - place % STRETCH;
+    if rest < len - place {
+        rest
+    } else {
+        len - place
     }
 }
 
@@ -223,8 +248,8 @@ fn add_stretch(quiet: &mut Vec<bool>, place: usize) -> Result<(), AllocError>
 }
 
 /// Somebody may be awake in the stretch of a place.
-fn wake_stretch(quiet: &mut [bool], place: usize)
-    ensures { quiet.new ≡ slice_set quiet.old (place / 32) false }
+fn wake_stretch(quiet: &mut Vec<bool>, place: usize)
+    ensures { quiet.new.items ≡ slice_set quiet.old.items (place / 32) false }
 {
     let stretch = place / STRETCH;
     if stretch < quiet.len() {
