@@ -28,7 +28,7 @@ use tracer::{append_line, reserve_line};
 use verifier::Verified;
 use word::end::End;
 use word::request::Event;
-use world_core::{Core, blocker, first_awake, least_parked};
+use world_core::Core;
 
 /// The book of a run: what is committed, who is lent, and the bytes of the output and of the trace that were not yet taken
 /// out.
@@ -150,7 +150,7 @@ impl<B: BookName> Book<B> {
         if let Some(end) = self.core.ending() {
             return Ok(Settled::Ended(end));
         }
-        let Some(key) = least_parked(self.core.rows()) else {
+        let Some(key) = self.core.least_parked() else {
             return Ok(self.nobody_parked());
         };
         if let Some(number) = self.first_before(&key) {
@@ -166,7 +166,7 @@ impl<B: BookName> Book<B> {
         ensures settles { Settles self.old result self.new }
         ensures leases { KeepsLeases self.old self.new }
     {
-        let Some(number) = first_awake(self.core.rows()) else {
+        let Some(number) = self.core.first_awake() else {
             return Settled::Ended(End::Deadlock);
         };
         if !self.is_lent(number) {
@@ -219,7 +219,7 @@ impl<B: BookName> Book<B> {
         ensures stands { IsDesk self.now }
         ensures blocker { MatchOption result (has_turn key.now 0 self.now.core.rows ≡ true) (λ n. IsBefore self.now.core.rows key.now n) }
     {
-        blocker(self.core.rows(), *key)
+        self.core.blocker(*key)
     }
 
     /// How many places the rows of goroutines have.

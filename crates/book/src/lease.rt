@@ -14,7 +14,7 @@ ghost use Rattle.clock_table.specs.Seats.{lease_clock, lease_loan, lease_slot, l
 use crate::name::BookName;
 use clock_table::LeaseSeat;
 use go_text::Memory;
-use goroutine_vm::{GoState, Stop};
+use goroutine_vm::GoState;
 use logical_clock::Key;
 use std::alloc::Global;
 use std::marker::{Model, PhantomData};
@@ -58,14 +58,11 @@ impl<B: BookName> Lease<B> {
         ensures steps { Goes self.old.code self.old.limit quantum self.old.present self.new.present }
         ensures same { self.new ≡ record self.old { present = self.new.present; published = self.new.present.clock } }
     {
-        let stop = self
+        let asking = self
             .present
-            .advance(self.alloc, &self.program, self.limit, quantum);
+            .step_ahead(self.alloc, &self.program, self.limit, quantum);
         self.seat.advance(&self.present);
-        match stop? {
-            Stop::AtOp(_) => Ok(true),
-            Stop::Quantum => Ok(false),
-        }
+        Ok(asking?)
     }
 
     /// The goroutine's number.

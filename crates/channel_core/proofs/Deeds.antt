@@ -1,9 +1,7 @@
 -- What sends and receives do, branch by branch.
-use Rattle.std.proofs.Common.{◌≡◌, ℕ, Bool, true, false, not, List, [], ◌∷◌, ◌++◌, Option, Some, None, refl, ap}
-use Rattle.std.specs.Prelude.{◌==◌}
-use Rattle.std.specs.List.{filter}
+use Rattle.std.proofs.Common.{◌≡◌, ◌∙◌, ℕ, Bool, true, false, List, [], ◌∷◌, ◌++◌, Option, Some, None, Result, Ok, Err, IfOk, OnOk, refl, sym, ap, subst}
 use Rattle.word.specs.declared.request.Case.{Case}
-use Rattle.word.specs.Values.{Item, Request, Send, Receive, Select, Sleeper}
+use Rattle.word.specs.Values.{Item, Request, Send, Receive, Select}
 use Rattle.word.specs.Requests.{choose, receive_ready, send_ready, without}
 use Rattle.channel_core.specs.Channels.{ChannelsValue, Others, shared_with, Does, Sends, Receives, Serves}
 use Rattle.channel_core.specs.declared.outcome.Outcome.{Outcome}
@@ -23,6 +21,20 @@ send_sleeps old n k item ready o c = rw (← ready o n c (Send (Some k) item)) r
 
 pub receive_sleeps : (old : ChannelsValue) (n k : ℕ) → ((o : Others) (m c : ℕ) (q : Request) → false ≡ receive_ready (shared_with o old) m c q k) → Does old n (Receive (Some k)) outcomes.Sleeps (with_sleeper old n (Receive (Some k)))
 receive_sleeps old n k ready o c = rw (← ready o n c (Receive (Some k))) refl
+
+-- one that asked p, and fell asleep, as q stands for it
+pub falls_asleep : {E : Type 0} (old new : ChannelsValue) (n : ℕ) (q p : Request) (r : Result Outcome E) → IfOk r (λ outcome. outcome ≡ outcomes.Sleeps) → OnOk r (new ≡ with_sleeper old n q) → q ≡ p
+    → Does old n p outcomes.Sleeps (with_sleeper old n p) → IfOk r (λ outcome. Does old n p outcome new)
+falls_asleep old new n q p (Ok outcome) sleeps asleep same does =
+    let at_p : new ≡ with_sleeper old n p = asleep ∙ ap (with_sleeper old n) same in
+    subst (λ (o : Outcome). Does old n p o new) (sym sleeps) (subst (λ (v : ChannelsValue). Does old n p outcomes.Sleeps v) (sym at_p) does)
+falls_asleep old new n q p (Err e) sleeps asleep same does = tt
+
+pub send_nil : (old : ChannelsValue) (n : ℕ) (item : Item) → Does old n (Send None item) outcomes.Sleeps (with_sleeper old n (Send None item))
+send_nil old n item o c = refl
+
+pub receive_nil : (old : ChannelsValue) (n : ℕ) → Does old n (Receive None) outcomes.Sleeps (with_sleeper old n (Receive None))
+receive_nil old n o c = refl
 
 -- ---- select
 

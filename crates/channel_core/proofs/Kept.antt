@@ -1,13 +1,13 @@
 -- Sleepers that leave and enter.
-use Rattle.std.proofs.Common.{◌≡◌, ◌≢◌, ℕ, suc, ◌+◌, Bool, true, false, not, List, [], ◌∷◌, ◌++◌, length, length-append, append_assoc, Option, Some, None, option_map, refl, sym, ap, ◌∙◌, subst, arith, inl, inr, ◌⊎◌}
-use Rattle.std.specs.Prelude.{◌==◌, cond, map, unwrap_or}
+use Rattle.std.proofs.Common.{◌≡◌, ◌≢◌, ℕ, ◌+◌, true, false, List, [], ◌∷◌, ◌++◌, length, length-append, Option, Some, None, option_map, refl, sym, ap, ◌∙◌, subst, arith, inl, inr}
+use Rattle.std.specs.Prelude.{◌==◌, cond, unwrap_or}
 use Rattle.std.specs.List.{filter}
 use Rattle.std.specs.Option.{is_some}
-use Rattle.std.proofs.lemmas.Bool.{cases_eq, cases_Bool, both_ways}
+use Rattle.std.proofs.lemmas.Bool.{cases_eq, both_ways}
 use Rattle.std.proofs.lemmas.List.{append-nil, map-append}
 use Rattle.std.proofs.lemmas.List.Elements.{filter-append}
 use Rattle.std.proofs.lemmas.Option.{none-some}
-use Rattle.word.specs.Values.{Request, Sleeper}
+use Rattle.word.specs.Values.{Sleeper}
 use Rattle.word.specs.Requests.{without}
 use Rattle.channel_core.specs.Asleep.{Placed, placed_all, is_not_of, keys_in, held, asleep_of, placed_by, has, AreDistinct, IsAsleep}
 use Rattle.channel_core.proofs.Keys.{same_key, other_key, is_not, without_same, without_other, absent, length_without, distinct_without, has_more_same, has_more_other, distinct_more, keys_in-append, one_key, keys_placed, placed_by-append, all_stay, filter-placed_by, placed_by-same, asleep_of-same, without_key, without_none}

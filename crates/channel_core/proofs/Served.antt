@@ -1,19 +1,19 @@
 -- Whom a request meets among those asleep.
-use Rattle.std.proofs.Common.{◌≡◌, ◌≢◌, ℕ, Bool, Bor, true, false, List, [], ◌∷◌, Option, Some, None, option_map, refl, sym, ap, ◌∙◌, subst, inl, inr, ◌⊎◌}
-use Rattle.std.specs.Prelude.{◌==◌, cond, count_by, map, option_copied, slice_index_or, unwrap_or}
+use Rattle.std.proofs.Common.{◌≡◌, ◌≢◌, ℕ, Bool, Bor, true, false, List, [], ◌∷◌, Option, Some, None, option_map, refl, sym, ap, ◌∙◌, subst, inl, inr}
+use Rattle.std.specs.Prelude.{cond, count_by, option_copied, slice_index_or, unwrap_or}
 use Rattle.std.specs.List.{filter}
 use Rattle.std.specs.Option.{is_some}
-use Rattle.std.proofs.lemmas.Bool.{cases_eq, cases_Bool, both_ways}
+use Rattle.std.proofs.lemmas.Bool.{cases_eq, cases_Bool}
 use Rattle.std.proofs.lemmas.Option.{none-some}
-use Rattle.word.specs.Values.{Closed, Item, Offer, Reply, Sleeper}
+use Rattle.word.specs.Values.{Closed, Item, Reply, Sleeper}
 use Rattle.word.specs.Requests.{got, partner}
 use Rattle.sleep_queue.specs.declared.offer.Offer.{Offer as Entry}
 use Rattle.sleep_queue.specs.Queue.{QueuesValue, Waiting, first, is_in_either, row_of}
-use Rattle.channel_core.specs.Asleep.{IsAsleep, Placed, asleep_of, has, held, is_not_of, keys_in, placed, placed_by, row_on}
+use Rattle.channel_core.specs.Asleep.{IsAsleep, Placed, asleep_of, has, held, is_not_of, keys_in, placed, row_on}
 use Rattle.channel_core.specs.Channels.{partner_of}
 use Rattle.channel_core.proofs.Keys.{dropped_one, goes, kept_one, stays}
 use Rattle.channel_core.proofs.Kept.{nothing_of, sleeper_at}
-use Rattle.channel_core.proofs.Meeting.{AreApart, Wakes, apart_by_keys, first_by, first_waiting, hit, miss, on_channel, on_row, partner_at, partner_first, told, wakes}
+use Rattle.channel_core.proofs.Meeting.{Wakes, apart_by_keys, first_by, first_waiting, hit, miss, on_channel, on_row, partner_at, partner_first, told, wakes}
 
 is_some-map : {A B : Type 0} (f : A → B) (o : Option A) → is_some (option_map f o) ≡ is_some o
 is_some-map f None = refl

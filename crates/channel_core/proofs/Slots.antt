@@ -1,11 +1,10 @@
 -- Sleepers in the slots of a slab.
-use Rattle.std.proofs.Common.{◌≡◌, ◌≢◌, ℕ, ◌+◌, List, [], ◌∷◌, ◌++◌, Option, Some, None, option_map, refl, sym, ap, ◌∙◌, subst, arith, inl, inr, ◌⊎◌}
+use Rattle.std.proofs.Common.{◌≡◌, ◌≢◌, ℕ, ◌+◌, List, [], ◌∷◌, ◌++◌, Option, Some, None, sym, ap, ◌∙◌, subst, arith}
 use Rattle.std.specs.List.{filter}
-use Rattle.std.proofs.lemmas.Bool.{cases_eq}
 use Rattle.std.proofs.lemmas.Option.{none-some}
 use Rattle.std.specs.Option.{is_some}
 use Rattle.slab.specs.Slab.{ContainsKey, Slab, get, slab_len, Updates}
-use Rattle.word.specs.Values.{Request, Sleeper}
+use Rattle.word.specs.Values.{Sleeper}
 use Rattle.word.specs.Requests.{without}
 use Rattle.channel_core.specs.Asleep.{IsAsleep, Placed, asleep_of, is_not_of, keys_in, placed_all}
 use Rattle.channel_core.proofs.Kept.{enters, entered_asleep, leaves, left_asleep, nobody, replaces, replaced_asleep, sleeper_of}

@@ -1,6 +1,5 @@
 -- The channels and sleepers of a world, and what a request to them does.
-use Rattle.std.specs.Prelude.{◌≡◌, ℕ, ℤ, ◌==◌, Bool, false, ◌&&◌, not, cond, List, [], ◌∷◌, ◌++◌, drop, length, map, slice_index_or, Option, Some, None}
-use Rattle.std.specs.Option.{is_some}
+use Rattle.std.specs.Prelude.{◌≡◌, ℕ, ℤ, List, [], ◌∷◌, ◌++◌, drop, length, map, slice_index_or, Option, Some, None}
 use Rattle.word.specs.declared.request.Case.{Case}
 use Rattle.word.specs.declared.end.End.{End as Ending}
 use Rattle.word.specs.declared.end.End.TheVariants.{Panicked}

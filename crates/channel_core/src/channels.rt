@@ -61,10 +61,12 @@ impl Channels {
     {
         match request {
             Request::Make(size, zero) => self.make(number, *size, zero.copy()),
-            Request::Send(chan, item) => self.send(number, *chan, item.copy()),
-            Request::Receive(chan) => self.receive(number, *chan),
+            Request::Send(chan, item) => self.send_asked(number, request, *chan, item),
+            Request::Receive(chan) => self.receive_asked(number, request, *chan),
             Request::Close(chan) => self.close(*chan),
-            Request::Select(cases, default) => self.select(number, cases.as_slice(), *default),
+            Request::Select(cases, default) => {
+                self.select_asked(number, request, cases.as_slice(), *default)
+            }
             Request::Len(chan) => Ok(self.counted(self.len(*chan))),
             Request::Cap(chan) => Ok(self.counted(self.cap(*chan))),
             _ => unreachable!(),
@@ -99,16 +101,31 @@ impl Channels {
 
     /// A send by goroutine `number` (Go: Send statements): to the first sleeper that receives, else into the buffer, else
     /// it sleeps. A send on a closed channel panics; on `nil` it sleeps for good.
-    #[tactic(auto, using(crate::proofs::Deeds::send_done, crate::proofs::Deeds::send_sleeps))]
     pub fn send(&mut self, number: u64, chan: Option<u32>, item: Item) -> Result<Outcome, Memory>
         ensures does { IfOk result (λ outcome. Does self.old number (Send chan item) outcome self.new) }
         ensures memory { OnErr result (self.new ≡ self.old) }
     {
+        self.perform(number, &Request::Send(chan, item))
+    }
+
+    /// The same of goroutine `number`, which asks this.
+    #[tactic(auto, using(crate::proofs::Deeds::send_done))]
+    fn send_asked(
+        &mut self,
+        number: u64,
+        request: &Request,
+        chan: Option<u32>,
+        item: &Item,
+    ) -> Result<Outcome, Memory>
+        requires { request_of request.now ≡ Send chan item.now }
+        ensures does { IfOk result (λ outcome. Does self.old number (Send chan item.now) outcome self.new) }
+        ensures memory { OnErr result (self.new ≡ self.old) }
+    {
         let Some(chan) = chan else {
-            return self.sleep(number, Request::Send(None, item));
+            return self.sleep(number, request);
         };
         if !self.can_send(chan) {
-            return self.sleep(number, Request::Send(Some(chan), item));
+            return self.sleep(number, request);
         }
         self.send_now(number, chan, item, 0)
     }
@@ -116,16 +133,30 @@ impl Channels {
     /// A receive by goroutine `number` (Go: Receive operator): of the buffer's front item, whose place the first sleeping
     /// sender's item takes, else of that item, else of the zero item where the channel is closed, else it sleeps. On `nil`
     /// it sleeps for good.
-    #[tactic(auto, using(crate::proofs::Deeds::receive_done, crate::proofs::Deeds::receive_sleeps))]
     pub fn receive(&mut self, number: u64, chan: Option<u32>) -> Result<Outcome, Memory>
         ensures does { IfOk result (λ outcome. Does self.old number (Receive chan) outcome self.new) }
         ensures memory { OnErr result (self.new ≡ self.old) }
     {
+        self.perform(number, &Request::Receive(chan))
+    }
+
+    /// The same of goroutine `number`, which asks this.
+    #[tactic(auto, using(crate::proofs::Deeds::receive_done))]
+    fn receive_asked(
+        &mut self,
+        number: u64,
+        request: &Request,
+        chan: Option<u32>,
+    ) -> Result<Outcome, Memory>
+        requires { request_of request.now ≡ Receive chan }
+        ensures does { IfOk result (λ outcome. Does self.old number (Receive chan) outcome self.new) }
+        ensures memory { OnErr result (self.new ≡ self.old) }
+    {
         let Some(chan) = chan else {
-            return self.sleep(number, Request::Receive(None));
+            return self.sleep(number, request);
         };
         if !self.can_receive(chan) {
-            return self.sleep(number, Request::Receive(Some(chan)));
+            return self.sleep(number, request);
         }
         self.receive_now(chan, 0)
     }
@@ -176,8 +207,24 @@ impl Channels {
 
     /// A select by goroutine `number` (Go: Select statements): the first clause in source order that is ready is done, else
     /// the default, else it sleeps with all its clauses, and being served withdraws them all.
-    #[tactic(auto, using(crate::proofs::Deeds::select_done, crate::proofs::Deeds::select_sleeps, crate::proofs::Deeds::select_nil))]
     pub fn select(&mut self, number: u64, cases: &[Case], default: bool) -> Result<Outcome, Memory>
+        ensures does { IfOk result (λ outcome. Does self.old number (Select cases.now default) outcome self.new) }
+        ensures memory { OnErr result (self.new ≡ self.old) }
+    {
+        let copy = copy_of_cases(self.alloc, cases)?;
+        self.perform(number, &Request::Select(copy, default))
+    }
+
+    /// The same of goroutine `number`, which asks this.
+    #[tactic(auto, using(crate::proofs::Deeds::select_done))]
+    fn select_asked(
+        &mut self,
+        number: u64,
+        request: &Request,
+        cases: &[Case],
+        default: bool,
+    ) -> Result<Outcome, Memory>
+        requires { request_of request.now ≡ Select cases.now default }
         ensures does { IfOk result (λ outcome. Does self.old number (Select cases.now default) outcome self.new) }
         ensures memory { OnErr result (self.new ≡ self.old) }
     {
@@ -185,10 +232,10 @@ impl Channels {
             if default {
                 return Ok(Outcome::Done(Reply::Default, Vec::new(self.alloc)));
             }
-            return self.sleep_in_select(number, cases, default);
+            return self.sleep(number, request);
         };
         let Some(outcome) = self.serve(number, &cases[place], place + 1)? else {
-            return self.sleep_in_select(number, cases, default);
+            return self.sleep(number, request);
         };
         Ok(outcome)
     }
@@ -229,25 +276,10 @@ impl Channels {
             return Ok(None);
         };
         let outcome = match &case.item {
-            Some(item) => self.send_now(number, chan, item.copy(), clause)?,
+            Some(item) => self.send_now(number, chan, item, clause)?,
             None => self.receive_now(chan, clause)?,
         };
         Ok(Some(outcome))
-    }
-
-    /// Goroutine `number` falls asleep at a select.
-    fn sleep_in_select(
-        &mut self,
-        number: u64,
-        cases: &[Case],
-        default: bool,
-    ) -> Result<Outcome, Memory>
-        ensures sleeps { IfOk result (λ outcome. outcome ≡ Outcome.Sleeps) }
-        ensures asleep { OnOk result (self.new ≡ record self.old { asleep = without self.old.asleep number ++ record { number = number; request = Select cases.now default } ∷ [] }) }
-        ensures memory { OnErr result (self.new ≡ self.old) }
-    {
-        let copy = copy_of_cases(self.alloc, cases)?;
-        self.sleep(number, Request::Select(copy, default))
     }
 
     /// How many goroutines are asleep.
@@ -276,10 +308,10 @@ impl Channels {
         &mut self,
         number: u64,
         chan: u32,
-        item: Item,
+        item: &Item,
         clause: usize,
     ) -> Result<Outcome, Memory>
-        ensures sends { IfOk result (λ outcome. Sends self.old number chan item clause outcome self.new) }
+        ensures sends { IfOk result (λ outcome. Sends self.old number chan item.now clause outcome self.new) }
         ensures memory { OnErr result (self.new ≡ self.old) }
     {
         if self.is_closed(chan) {
@@ -287,12 +319,13 @@ impl Channels {
         }
         match self.partner(chan, false) {
             Some(partner) => {
-                let woken = woken(self.alloc, partner.number, got(partner.case, item, true))?;
+                let reply = got(partner.case, item.copy(), true);
+                let woken = woken(self.alloc, partner.number, reply)?;
                 self.asleep.leave(partner.number);
                 Ok(Outcome::Done(sent(clause), woken))
             }
             None => {
-                push(self.channels.as_mut_slice(), chan, item)?;
+                push(self.channels.as_mut_slice(), chan, item.copy())?;
                 Ok(Outcome::Done(sent(clause), Vec::new(self.alloc)))
             }
         }
@@ -349,9 +382,9 @@ impl Channels {
     }
 
     /// Goroutine `number` falls asleep at this request.
-    fn sleep(&mut self, number: u64, request: Request) -> Result<Outcome, Memory>
+    fn sleep(&mut self, number: u64, request: &Request) -> Result<Outcome, Memory>
         ensures sleeps { IfOk result (λ outcome. outcome ≡ Outcome.Sleeps) }
-        ensures asleep { OnOk result (self.new ≡ record self.old { asleep = without self.old.asleep number ++ record { number = number; request = request_of request } ∷ [] }) }
+        ensures asleep { OnOk result (self.new ≡ record self.old { asleep = without self.old.asleep number ++ record { number = number; request = request_of request.now } ∷ [] }) }
         ensures memory { OnErr result (self.new ≡ self.old) }
     {
         self.asleep.enter(number, request)?;

@@ -4,7 +4,6 @@
 mod channel;
 mod channels;
 mod outcome;
-mod places;
 mod rows;
 mod sleepers;
 

@@ -45,6 +45,13 @@ impl Woken {
     }
 
     /// What it is told.
+    pub fn reply(&self) -> &Reply
+        ensures { reply_of result.now ≡ self.now.1 }
+    {
+        &self.reply
+    }
+
+    /// What it is told.
     pub fn into_reply(self) -> Reply
         ensures { reply_of result ≡ self.1 }
     {

@@ -11,21 +11,21 @@ ghost use Rattle.channel_core.specs.Asleep.{is_not_of, placed, placed_all};
 ghost use Rattle.channel_core.specs.Channels.{closed_for, partner_of};
 
 use crate::outcome::{Woken, got};
-use crate::places::Places;
 use crate::rows::{copy_of, enter_all, leave_all, row_on};
 use go_text::Memory;
 use slab::Slab;
-use sleep_queue::SleepQueues;
+use sleep_queue::{NumberedKeys, SleepQueues};
 use std::alloc::Global;
 use std::marker::Model;
+use std::snapshot::Snapshot;
 use word::request::{Reply, Request};
 use word::value::Item;
 
-/// A goroutine that sleeps, and what it asked.
+/// A goroutine that sleeps. What it asked contracts alone still see: what it offers stands in rows.
 #[derive(Drop)]
 pub(crate) struct Sleeper {
     number: u64,
-    request: Request,
+    request: Snapshot<Request>,
 }
 
 impl Model for Sleeper {
@@ -34,17 +34,20 @@ impl Model for Sleeper {
 
     ghost Value = { AnySleeper };
 
-    ghost view = { λ s. record { number = s.number; request = request_of s.request } };
+    ghost view = { λ s. record { number = s.number; request = request_of s.request.value } };
 }
 
 impl Sleeper {
     ghost use Rattle.word.specs.Values.{Sleeper as AnySleeper};
 
     /// Goroutine `number`, which sleeps at this request.
-    fn new(number: u64, request: Request) -> Sleeper
-        ensures { result ≡ record { number = number; request = request_of request } }
+    fn new(number: u64, request: &Request) -> Sleeper
+        ensures { result ≡ record { number = number; request = request_of request.now } }
     {
-        Sleeper { number, request }
+        Sleeper {
+            number,
+            request: Snapshot::of(request),
+        }
     }
 
     /// The goroutine's number.
@@ -70,7 +73,7 @@ pub(crate) struct Sleepers {
     /// The sleepers, by their keys.
     slots: Slab<Sleeper>,
     /// Their keys, by their numbers.
-    places: Places,
+    places: NumberedKeys,
     /// In row 0 all sleepers, and in each other row the offers on one channel to send, or to receive. The number of an offer
     /// is its sleeper's key.
     queues: SleepQueues,
@@ -101,7 +104,7 @@ impl Sleepers {
         Sleepers {
             alloc,
             slots: Slab::new(alloc),
-            places: Places::new(alloc),
+            places: NumberedKeys::new(alloc),
             queues: SleepQueues::new(alloc),
         }
     }
@@ -138,13 +141,13 @@ impl Sleepers {
     }
 
     /// Puts goroutine `number` at the back, in place of any of its number.
-    pub(crate) fn enter(&mut self, number: u64, request: Request) -> Result<(), Memory>
-        ensures ok { OnOk result (self.new ≡ without self.old number ++ record { number = number; request = request_of request } ∷ []) }
+    pub(crate) fn enter(&mut self, number: u64, request: &Request) -> Result<(), Memory>
+        ensures ok { OnOk result (self.new ≡ without self.old number ++ record { number = number; request = request_of request.now } ∷ []) }
         ensures memory { OnErr result (self.new ≡ self.old) }
     {
         self.slots.reserve(1)?;
         let key = self.slots.vacant_key();
-        let before = place(&mut self.queues, &mut self.places, number, key, &request)?;
+        let before = place(&mut self.queues, &mut self.places, number, key, request)?;
         self.slots.insert_reserved(Sleeper::new(number, request));
         if let Some(old) = before {
             self.slots.remove(old);
@@ -203,7 +206,7 @@ impl Sleepers {
 /// nothing is done.
 fn place(
     queues: &mut SleepQueues,
-    places: &mut Places,
+    places: &mut NumberedKeys,
     number: u64,
     key: usize,
     request: &Request,

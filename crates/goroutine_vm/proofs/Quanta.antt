@@ -108,3 +108,8 @@ module _ (code : Code) (limit : ℕ) (v : IsVerified code) where
   few_stop quantum n s t Quantum is same e h = λ still.
       let bound = few n s is (subst (λ (x : Clocked Frames). asks (code_kind code) limit x ≡ None) (sym e) h) (subst (λ (x : Clocked Frames). x.clock ≡ s.clock) (sym e) still) in
       omega (arith, bound, same)
+
+  pub few_ahead : (quantum : ℕ) (s t : Clocked Frames) (asking : Bool) (stop : Stop) → IsStateOf code limit s → asking ≡ is_some (asks (code_kind code) limit t)
+      → (asking ≡ false → steps code limit quantum s ≡ t) → IsStop code limit t stop → IsFew code quantum s stop t
+  few_ahead quantum s t asking (AtOp request) is a all h = tt
+  few_ahead quantum s t asking Quantum is a all h = few_stop quantum quantum s t Quantum is refl (all (a ∙ ap is_some h)) h

@@ -10,26 +10,26 @@ use bytecode::{Clause, Code, WordKind};
 use operands::width::clauses_of;
 use word::value::Word;
 
-/// An item of a shape and a truth value.
-pub(crate) fn tell_item(code: &Code, shape: u32, words: &[Word]) -> Told
+/// An item of a shape and a truth value are told.
+pub(crate) fn tell_item(told: &mut Told, code: &Code, shape: u32, words: &[Word])
     requires { IsVerified code.now }
-    ensures { result ≡ fitted (shape_kinds code.now shape ++ WordKind.Bool ∷ []) words.now }
+    ensures { told.new ≡ fitted (shape_kinds code.now shape ++ WordKind.Bool ∷ []) words.now }
 {
     match code.shapes().get(shape as usize) {
-        Some(shape) => tell_with_truth(shape.kinds(), words),
-        None => tell(&[WordKind::Bool], words),
+        Some(shape) => tell_with_truth(told, shape.kinds(), words),
+        None => tell(told, &[WordKind::Bool], words),
     }
 }
 
 /// What is told where a clause was done.
-fn tell_clause(code: &Code, clause: Option<Clause>, words: &[Word]) -> Told
+fn tell_clause(told: &mut Told, code: &Code, clause: Option<Clause>, words: &[Word])
     requires { IsVerified code.now }
-    ensures { result ≡ fitted (clause_gives code.now clause) words.now }
+    ensures { told.new ≡ fitted (clause_gives code.now clause) words.now }
 {
     match clause {
-        Some(Clause::Receive(shape, _)) => tell_item(code, shape, words),
-        Some(Clause::Send(_, _)) => Told::nothing(),
-        None => Told::nothing(),
+        Some(Clause::Receive(shape, _)) => tell_item(told, code, shape, words),
+        Some(Clause::Send(_, _)) => told.clear(),
+        None => told.clear(),
     }
 }
 
@@ -53,22 +53,22 @@ fn target(code: &Code, table: u32, way: usize) -> Option<usize>
     }
 }
 
-/// Where a select goes on, and what it is told there; none where it did no clause of its own.
+/// Where a select goes on, where it is told these words; none where it did no clause of its own.
 pub(crate) fn selected(
+    told: &mut Told,
     code: &Code,
     table: u32,
     chosen: Option<usize>,
     words: &[Word],
-) -> Option<(usize, Told)>
+) -> Option<usize>
     requires { IsVerified code.now }
-    ensures { let k = way_of (slice_get code.now.selects table) chosen in MatchOption result (slice_get (targets_in (slice_get code.now.selects table)) k ≡ None) (λ r. (slice_get (targets_in (slice_get code.now.selects table)) k ≡ Some r.0) × (r.1 ≡ fitted (clause_gives code.now (slice_get (clauses_in (slice_get code.now.selects table)) k)) words.now)) }
+    ensures { let k = way_of (slice_get code.now.selects table) chosen in MatchOption result (slice_get (targets_in (slice_get code.now.selects table)) k ≡ None) (λ to. (slice_get (targets_in (slice_get code.now.selects table)) k ≡ Some to) × (told.new ≡ fitted (clause_gives code.now (slice_get (clauses_in (slice_get code.now.selects table)) k)) words.now)) }
 {
     let way = way_taken(code, table, chosen);
-    match target(code, table, way) {
-        None => None,
-        Some(to) => {
-            let clause = clauses_of(code, table).get(way).copied();
-            Some((to, tell_clause(code, clause, words)))
-        }
-    }
+    let Some(to) = target(code, table, way) else {
+        return None;
+    };
+    let clause = clauses_of(code, table).get(way).copied();
+    tell_clause(told, code, clause, words);
+    Some(to)
 }

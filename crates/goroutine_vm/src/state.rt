@@ -27,7 +27,8 @@ use word::value::Word;
 pub struct GoState {
     clock: Clock,
     doomed: bool,
-    frames: Frames,
+    /// They lie apart, so that a goroutine is moved at the cost of a few words.
+    frames: Box<Frames>,
 }
 
 impl Model for GoState {
@@ -36,7 +37,7 @@ impl Model for GoState {
 
     ghost Value = { Clocked FramesValue };
 
-    ghost view = { λ s. record { clock = s.clock; doomed = s.doomed; state = s.frames } };
+    ghost view = { λ s. record { clock = s.clock; doomed = s.doomed; state = s.frames.value } };
 }
 
 /// Why the machine stopped.
@@ -63,7 +64,7 @@ pub fn spawn_state(
     Ok(GoState {
         clock,
         doomed: false,
-        frames,
+        frames: Box::new(alloc, frames)?,
     })
 }
 
@@ -83,7 +84,7 @@ impl GoState {
         Ok(GoState {
             clock: self.clock,
             doomed: self.doomed,
-            frames,
+            frames: Box::new(alloc, frames)?,
         })
     }
 
@@ -94,7 +95,7 @@ impl GoState {
         if self.clock != other.clock || self.doomed != other.doomed {
             return false;
         }
-        self.frames.is_same(&other.frames)
+        self.frames.is_same(other.frames.as_ref())
     }
 }
 
@@ -114,14 +115,32 @@ impl GoState {
         ensures few { IfOk result (λ stop. IsFew code.now quantum self.old stop self.new) }
         ensures state { IsStateOf code.now limit self.new }
     {
+        self.step_ahead(alloc, code, limit, quantum)?;
+        Ok(self.stop(alloc, code, limit)?)
+    }
+
+    /// The same steps: whether the goroutine then stands at a request, which is not made.
+    pub fn step_ahead(
+        &mut self,
+        alloc: Global,
+        code: &Verified,
+        limit: u64,
+        quantum: u32,
+    ) -> Result<bool, Memory>
+        requires { IsStateOf code.now limit self.old }
+        ensures asks { IfOk result (λ asking. asking ≡ is_some (asks (code_kind code.now) limit self.new)) }
+        ensures quantum { IfOk result (λ asking. asking ≡ false → steps code.now limit quantum self.old ≡ self.new) }
+        ensures steps { Goes code.now limit quantum self.old self.new }
+        ensures state { IsStateOf code.now limit self.new }
+    {
         let mut made = 0;
         while made < quantum {
             match self.burst(alloc, code, limit, quantum - made)? {
                 Some(steps) => made += steps,
-                None => return Ok(self.stop(alloc, code, limit)?),
+                None => return Ok(true),
             }
         }
-        Ok(self.stop(alloc, code, limit)?)
+        Ok(self.is_asking(code, limit))
     }
 
     /// The request at which the goroutine stands, or that it stands at none.
@@ -258,18 +277,27 @@ impl GoState {
         ensures told { self.new ≡ told (code_kind code.now) self.old clock (reply_of reply) }
         ensures frame { IsFrameOf code.now self.new.state }
     {
+        self.tell(code, &reply, clock);
+    }
+
+    /// The same, where the reply stays the caller's.
+    pub fn tell(&mut self, code: &Verified, reply: &Reply, clock: Clock)
+        requires { IsFrameOf code.now self.old.state }
+        ensures told { self.new ≡ told (code_kind code.now) self.old clock (reply_of reply.now) }
+        ensures frame { IsFrameOf code.now self.new.state }
+    {
         match reply {
             Reply::Closed => self.doom(clock),
             Reply::Nothing => self.go_on(code, None, &[], clock),
-            Reply::Word(word) => self.go_on(code, None, &[word], clock),
+            Reply::Word(word) => self.go_on(code, None, &[*word], clock),
             Reply::Received(item, ok) => {
-                let words = words_of(&item, ok);
+                let words = words_of(item, *ok);
                 self.go_on(code, None, words.words(), clock);
             }
-            Reply::Clause(clause, None) => self.go_on(code, Some(clause), &[], clock),
+            Reply::Clause(clause, None) => self.go_on(code, Some(*clause), &[], clock),
             Reply::Clause(clause, Some((item, ok))) => {
-                let words = words_of(&item, ok);
-                self.go_on(code, Some(clause), words.words(), clock);
+                let words = words_of(item, *ok);
+                self.go_on(code, Some(*clause), words.words(), clock);
             }
             Reply::Default => self.go_on(code, None, &[], clock),
         }

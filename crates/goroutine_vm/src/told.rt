@@ -54,6 +54,13 @@ impl Told {
         self.words().len()
     }
 
+    /// No words are left.
+    pub(crate) fn clear(&mut self)
+        ensures { self.new ≡ [] }
+    {
+        self.len = 0;
+    }
+
     /// A second list of the same words.
     pub(crate) fn copy(&self) -> Told
         ensures { result ≡ self.now }
@@ -74,26 +81,24 @@ impl Told {
     }
 }
 
-/// These words, of these kinds.
-pub(crate) fn tell(kinds: &[WordKind], words: &[Word]) -> Told
+/// These words alone are told, of these kinds.
+pub(crate) fn tell(told: &mut Told, kinds: &[WordKind], words: &[Word])
     requires { length kinds.now ≤ 17 }
-    ensures { result ≡ fitted_of kinds.now words.now }
+    ensures { told.new ≡ fitted_of kinds.now words.now }
 {
-    let mut told = Told::nothing();
+    told.clear();
     for index in 0..kinds.len() {
         told.push(word_at(kinds[index], words, index));
     }
-    told
 }
 
-/// These words, of these kinds, and a truth value behind them.
-pub(crate) fn tell_with_truth(kinds: &[WordKind], words: &[Word]) -> Told
+/// The same, and a truth value behind them.
+pub(crate) fn tell_with_truth(told: &mut Told, kinds: &[WordKind], words: &[Word])
     requires { length kinds.now ≤ 16 }
-    ensures { result ≡ fitted_of (kinds.now ++ WordKind.Bool ∷ []) words.now }
+    ensures { told.new ≡ fitted_of (kinds.now ++ WordKind.Bool ∷ []) words.now }
 {
-    let mut told = tell(kinds, words);
+    tell(told, kinds, words);
     told.push(word_at(WordKind::Bool, words, kinds.len()));
-    told
 }
 
 /// The words of an item, and whether it was sent behind them.

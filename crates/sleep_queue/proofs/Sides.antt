@@ -1,6 +1,6 @@
 -- The slots of a slab as places in rings.
-use Rattle.std.proofs.Common.{◌≡◌, ◌≢◌, ℕ, zero, suc, ◌<◌, ◌≤◌, sym, ap, ◌∙◌, subst, arith, Bool, true, false, inl, inr, ◌⊎◌, refl, List, length}
-use Rattle.std.proofs.lemmas.Bool.{cases_eq, cases_Bool, both_ways, or_from, or_left, or_right}
+use Rattle.std.proofs.Common.{◌≡◌, ◌≢◌, ℕ, zero, suc, ◌<◌, ◌≤◌, sym, ap, ◌∙◌, subst, arith, Bool, true, false, inl, inr, refl, List, length}
+use Rattle.std.proofs.lemmas.Bool.{cases_eq, both_ways, or_from, or_left, or_right}
 use Rattle.std.proofs.lemmas.Bool.Decides.{nat_tests}
 use Rattle.std.specs.Prelude.{◌==◌, not, Option, Some, None, ◌+◌, slice_index_or, unwrap_or}
 use Rattle.std.specs.Option.{is_some}
@@ -206,7 +206,7 @@ no_head [] (suc q) = refl
 no_head (h ∷ heads) zero = refl
 no_head (h ∷ heads) (suc q) = no_head heads q
 
-pub queues_more : (xs : List (Option Node)) (t : ℕ) (rows : List ℕ) (heads : List (Option ℕ)) (own : List ℕ) (owners : List (ℕ × ℕ)) → IsQueues xs t rows heads own owners → IsQueues xs t rows (heads ++ None ∷ []) own owners
+pub queues_more : (xs : List (Option Node)) (t : ℕ) (rows : List ℕ) (heads : List (Option ℕ)) (own : List ℕ) (owners : List (Option ℕ)) → IsQueues xs t rows heads own owners → IsQueues xs t rows (heads ++ None ∷ []) own owners
 queues_more xs t rows heads own owners q = record {
   apart = q.apart;
   before = q.before;
@@ -218,7 +218,7 @@ queues_more xs t rows heads own owners q = record {
   };
 }
 
-pub queues_covered : (xs : List (Option Node)) (t : ℕ) (rows rows1 : List ℕ) (heads : List (Option ℕ)) (own own1 : List ℕ) (owners : List (ℕ × ℕ)) → IsQueues xs t rows heads own owners
+pub queues_covered : (xs : List (Option Node)) (t : ℕ) (rows rows1 : List ℕ) (heads : List (Option ℕ)) (own own1 : List ℕ) (owners : List (Option ℕ)) → IsQueues xs t rows heads own owners
     → ((u : Places) → IsRing u (link rows) → IsRing u (link rows1)) → length rows ≤ length rows1
     → ((u : Places) → IsRing u (link own) → IsRing u (link own1)) → length own ≤ length own1 → IsQueues xs t rows1 heads own1 owners
 queues_covered xs t rows rows1 heads own own1 owners q cover more cover1 more1 = record {

@@ -1,14 +1,12 @@
 -- What waits, in the order in which it came.
-use Rattle.std.proofs.Common.{◌≡◌, ◌≢◌, ℕ, zero, suc, ◌<◌, ◌≤◌, sym, ap, ◌∙◌, subst, arith, Bool, true, false, inl, inr, ◌⊎◌, refl, List, length, length-append, [], ◌∷◌, ◌++◌, append_assoc}
-use Rattle.std.proofs.lemmas.Bool.{cases_eq, cases_lt, cases_Bool, both_ways}
+use Rattle.std.proofs.Common.{◌≡◌, ◌≢◌, ℕ, zero, suc, ◌<◌, ◌≤◌, sym, ap, ◌∙◌, subst, arith, Bool, true, false, inl, inr, ◌⊎◌, refl, List, length, length-append, [], ◌∷◌, ◌++◌}
+use Rattle.std.proofs.lemmas.Bool.{cases_eq, cases_lt, cases_Bool}
 use Rattle.std.proofs.lemmas.Bool.Decides.{nat_tests}
-use Rattle.std.specs.Prelude.{Option, Some, None, ◌+◌, ◌==◌, not, cond, slice_index_or, option_to_list, unwrap_or}
+use Rattle.std.specs.Prelude.{Option, Some, None, ◌+◌, ◌==◌, slice_index_or, option_to_list, unwrap_or}
 use Rattle.std.proofs.lemmas.Option.{none-some}
 use Rattle.std.specs.List.{filter}
-use Rattle.std.specs.Option.{is_some}
-use Rattle.slab.specs.Slab.{Slab, get, Updates}
 use Rattle.sleep_queue.specs.declared.offer.Node.{Node}
-use Rattle.sleep_queue.specs.Queue.{Places, Left, Entered, IsStamped, Waiting, waiting_at, at_stamp, in_order, number_of, places_by, is_other, is_in_row, is_of, is_not_of, row_of, first, AreApart, AreBefore}
+use Rattle.sleep_queue.specs.Queue.{Waiting, waiting_at, at_stamp, in_order, is_other, first, AreApart}
 use Rattle.std.proofs.lemmas.List.Elements.{filter-append}
 
 cases_option : {A : Type 0} (o : Option A) → (o ≡ None) ⊎ ((x : A) × (o ≡ Some x))

@@ -1,6 +1,5 @@
 -- Offers that wait, in the order in which they came.
-use Rattle.std.specs.Prelude.{◌≡◌, ◌≢◌, ℕ, ◌<◌, ◌≤◌, Bool, true, false, Option, Some, None, List, [], ◌∷◌, ◌++◌, zero, suc, length, cond, ◌==◌, slice_index_or, option_to_list, not, nat_eq, nat_lt, ◌||◌}
-use Rattle.std.specs.Map.{lookup}
+use Rattle.std.specs.Prelude.{◌≡◌, ◌≢◌, ℕ, ◌<◌, ◌≤◌, Bool, true, false, Option, Some, None, List, [], ◌∷◌, ◌++◌, zero, suc, length, cond, ◌==◌, slice_index_or, option_to_list, not, nat_lt, ◌||◌}
 use Rattle.std.specs.List.{filter}
 use Rattle.std.specs.Option.{is_some}
 use Rattle.sleep_queue.specs.Linked.{link}
@@ -166,12 +165,12 @@ sooner None b = b
 sooner (Some a) None = Some a
 sooner (Some a) (Some b) = cond (nat_lt b.stamp a.stamp) (Some b) (Some a)
 
--- the first offer of the goroutine of this number
-abbrev pub owned : List (ℕ × ℕ) → ℕ → Option ℕ
-owned es n = lookup (nat_eq n) es
+-- the key of this number, as the first offer of a goroutine
+abbrev pub owned : List (Option ℕ) → ℕ → Option ℕ
+owned keys n = slice_index_or keys n None
 
 -- the slots, the time, and both rings
-pub record IsQueues (xs : List (Option Node)) (t : ℕ) (rows : List ℕ) (heads : List (Option ℕ)) (goroutines : List ℕ) (owners : List (ℕ × ℕ)) : Type 0 where
+pub record IsQueues (xs : List (Option Node)) (t : ℕ) (rows : List ℕ) (heads : List (Option ℕ)) (goroutines : List ℕ) (owners : List (Option ℕ)) : Type 0 where
   pub apart : AreApart xs
   pub before : AreBefore t xs
   pub row : IsSide by_row xs rows (head_at heads)

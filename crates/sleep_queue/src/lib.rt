@@ -1,10 +1,12 @@
 //! Rows of offers, from each of which an offer can be taken anywhere, and nothing is searched.
 #![tactic(auto)]
 
+mod heads;
+mod numbered_keys;
 mod offer;
-mod owners;
 mod queues;
 mod rings;
 
+pub use numbered_keys::NumberedKeys;
 pub use offer::Offer;
 pub use queues::SleepQueues;

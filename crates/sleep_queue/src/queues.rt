@@ -4,8 +4,9 @@ ghost use Rattle.std.specs.Prelude.{◌≡◌, ◌≢◌, ℕ, ◌+◌, ◌*◌,
 ghost use Rattle.std.specs.List.{filter};
 ghost use Rattle.sleep_queue.specs.Queue.{Waiting, first, head_at, head_with, head_without, is_at, is_in_either, is_not_of, is_of, is_other, node_at, row_of, sooner, without_first};
 
+use crate::heads::{head_of, head_with, head_without, set_head};
+use crate::numbered_keys::NumberedKeys;
 use crate::offer::{Node, Offer};
-use crate::owners::Owners;
 use crate::rings::Rings;
 use go_text::Memory;
 use slab::Slab;
@@ -28,7 +29,7 @@ pub struct SleepQueues {
     /// Each goroutine's offers are a ring of their keys.
     own: Rings,
     /// Each goroutine's first offer.
-    owners: Owners,
+    owners: NumberedKeys,
 }
 
 impl Model for SleepQueues {
@@ -53,7 +54,7 @@ impl SleepQueues {
             rows: Rings::new(alloc),
             heads: Vec::new(alloc),
             own: Rings::new(alloc),
-            owners: Owners::new(alloc),
+            owners: NumberedKeys::new(alloc),
         }
     }
 
@@ -203,13 +204,6 @@ fn later(time: u64) -> Option<u64>
     time.checked_add(1)
 }
 
-/// The first offer of a row.
-fn head_of(heads: &[Option<usize>], row: usize) -> Option<usize>
-    ensures { result ≡ head_at heads.now row }
-{
-    if row < heads.len() { heads[row] } else { None }
-}
-
 /// The first offer of a row, with its stamp.
 fn front<'a>(slots: &'a Slab<Node>, heads: &[Option<usize>], row: usize) -> Option<&'a Node>
     ensures { option_copied result ≡ node_at slots.now.slots (head_at heads.now row) }
@@ -234,37 +228,5 @@ fn sooner<'a>(node: Option<&'a Node>, other: Option<&'a Node>) -> Option<&'a Nod
         }
         (Some(first), None) => Some(first),
         (None, second) => second,
-    }
-}
-
-/// The row's first offer is this.
-fn set_head(heads: &mut Vec<Option<usize>>, row: usize, head: Option<usize>)
-    requires { IfSome head (λ h. row < length heads.old.items) }
-    ensures row { head_at heads.new.items row ≡ head }
-    ensures others { (q : ℕ) → q ≢ row → head_at heads.new.items q ≡ head_at heads.old.items q }
-    ensures rows { length heads.new.items ≡ length heads.old.items }
-{
-    if row < heads.len() {
-        heads[row] = head;
-    }
-}
-
-/// The head of a row that offer `key` enters.
-fn head_with(head: Option<usize>, key: usize) -> Option<usize>
-    ensures { result ≡ head_with head key }
-{
-    match head {
-        Some(first) => Some(first),
-        None => Some(key),
-    }
-}
-
-/// The head of a row that offer `key` leaves, which `after` followed.
-fn head_without(head: Option<usize>, key: usize, after: usize) -> Option<usize>
-    ensures { result ≡ head_without head key after }
-{
-    match head {
-        Some(first) if first == key => { if after == key { None } else { Some(after) } }
-        other => other,
     }
 }

@@ -6,3 +6,4 @@ pub mod Shapes
 pub mod Stepping
 pub mod Taking
 pub mod Others
+pub mod Stretches

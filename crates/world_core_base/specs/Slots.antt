@@ -1,5 +1,5 @@
 -- Goroutines as a core keeps them.
-use Rattle.std.specs.Prelude.{◌≡◌, ◌≢◌, ℕ, ◌||◌, Bool, true, false, cond, List, Option, Some, None, IfSome, slice_index_or, slice_set}
+use Rattle.std.specs.Prelude.{◌≡◌, ◌≢◌, ℕ, ◌/◌, ◌||◌, Bool, true, false, cond, List, Option, Some, None, IfSome, slice_index_or, slice_set}
 use Rattle.std.specs.Option.{is_some, option_map}
 use Rattle.bytecode.specs.Code.{Code}
 use Rattle.bytecode.specs.Machine.{Frames, code_kind}
@@ -63,6 +63,14 @@ IsHeld (Gone kept) Free = ⊥
 IsHeld (Gone kept) Lent = Unit {0}
 IsHeld (Gone kept) (Ahead present published) = ⊥
 IsHeld (Gone kept) Parked = ⊥
+
+-- places stand in stretches of 32. In one that is said to be quiet nobody is awake
+abbrev pub AreQuiet : List Bool → Rows → Type 0
+AreQuiet quiet rows = (n : ℕ) → slice_index_or quiet (n / 32) false ≡ true → slice_index_or rows n None ≡ None
+
+-- nobody is awake in the stretch of a place
+abbrev pub IsQuietAt : Rows → ℕ → Type 0
+IsQuietAt rows place = (n : ℕ) → n / 32 ≡ place / 32 → slice_index_or rows n None ≡ None
 
 -- if a goroutine stands here, it is not lent
 abbrev pub IsUnlent : Option (Row State) → Type 0

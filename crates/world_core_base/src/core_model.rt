@@ -1,21 +1,23 @@
 //! The world of a run, without its lists of events and bytes.
 
-ghost use Rattle.std.specs.Prelude.{◌≡◌, ◌≢◌, ℕ, ◌+◌, ◌-◌, ◌<◌, ◌≤◌, ◌^◌, ◌↔◌, [], ◌∷◌, ◌++◌, IsTrue, IfNone, IfOk, IfSome, OnErr, OnOk, None, Some, true, length, map, option_map, slice_index_or, slice_set, vec_capacity, vec_len};
+ghost use Rattle.std.specs.Prelude.{◌≡◌, ◌≢◌, ℕ, ◌+◌, ◌-◌, ◌<◌, ◌≤◌, ◌^◌, ◌↔◌, [], ◌∷◌, ◌++◌, IsTrue, IfNone, IfOk, IfSome, MatchOption, OnErr, OnOk, None, Some, false, true, length, map, option_map, slice_index_or, slice_set, vec_capacity, vec_len};
 ghost use Rattle.std.specs.Option.{is_some};
 ghost use Rattle.bytecode.specs.Machine.{code_kind};
 ghost use Rattle.bytecode.specs.Rules.{IsFrameOf, IsVerified};
 ghost use Rattle.channel_core.specs.Channels.{Does, IsOfChannels};
+ghost use Rattle.logical_clock.specs.Order.{keys, least};
+ghost use Rattle.turn_rule.specs.Schedule.{has_turn};
 ghost use Rattle.word.specs.Kinds.{told};
 ghost use Rattle.word.specs.Values.{End as EndRequest, Go as GoRequest, Panic as PanicRequest, Print as PrintRequest, Reply as AnyReply};
 ghost use Rattle.word.specs.Views.{reply_of, request_of};
 ghost use Rattle.world_core_base.specs.Cores.{Asks, FitsCore, IsAsked, IsAway, HasLease, IsFreeIn, IsHere, Performs, answered_rows, bytes_of, last_request, left_beds, meant_after, most_partners, most_woken, opened_core, printed_by, put_back, state_of, taken_out, to_lend, woken_rows};
-ghost use Rattle.world_core_base.specs.Slots.{FitsAll, FitsRow, IsBefore, IsUnlent, back_row, free_row, lent_row, raised_row, stepped_rows};
+ghost use Rattle.world_core_base.specs.Slots.{FitsAll, FitsRow, IsAwake, IsBefore, IsNobodyAwake, IsUnlent, back_row, free_clock, free_row, lent_row, raised_row, stepped_rows, waiting_clock};
 
-use crate::rows::{
-    answer_row, doze, lend_row, put_at, raise_row, stay_row, step_row, take_at, wake,
-};
+use crate::awake::AwakeRows;
+use crate::rows::{put_at, take_at};
 use crate::slot::{Away, Slot};
-use crate::turns::least_free;
+use crate::turns::Among;
+use crate::waking::{doze, wake};
 use channel_core::{Channels, Outcome as Came, Woken};
 use go_text::Memory;
 use goroutine_vm::{GoState, spawn_state};
@@ -34,7 +36,7 @@ use word::value::Word;
 #[derive(Drop)]
 pub struct Core {
     /// Goroutine n, if it is awake, is at place n; place 0 is never taken.
-    rows: Vec<Option<Slot>>,
+    rows: AwakeRows,
     /// Goroutine n, if it is asleep, fell asleep in the state at place n.
     beds: Vec<Option<GoState>>,
     /// Goroutine n, if its state is taken out, is at place n, and at no place of the rows.
@@ -52,7 +54,7 @@ impl Model for Core {
 
     ghost Value = { CoreValue };
 
-    ghost view = { λ c. record { rows = c.rows.items; beds = c.beds.items; taken = c.taken.items; channels = c.channels; live = c.live; events = c.events; ending = c.ending } };
+    ghost view = { λ c. record { rows = c.rows; beds = c.beds.items; taken = c.taken.items; channels = c.channels; live = c.live; events = c.events; ending = c.ending } };
 }
 
 impl Core {
@@ -61,7 +63,7 @@ impl Core {
         ensures core { IfOk result (λ core. core ≡ opened_core code.now) }
         ensures verified { IfOk result (λ _. IsVerified code.now) }
     {
-        let mut rows = Vec::new(alloc);
+        let mut rows = AwakeRows::new(alloc);
         rows.push(None)?;
         rows.push(Some(Slot::free(spawn_state(alloc, code, code.main(), &[], Clock::START)?)))?;
         let mut beds = Vec::new(alloc);
@@ -100,6 +102,38 @@ impl Core {
         ensures { result.now ≡ self.now.rows }
     {
         self.rows.as_slice()
+    }
+
+    /// The parked goroutine of least key. A goroutine's number is its place in the rows.
+    #[tactic(auto, using(crate::proofs::Leases::waiting_found))]
+    pub fn least_parked(&self) -> Option<Key>
+        ensures least { result ≡ least (keys waiting_clock 0 self.now.rows) }
+        ensures found { IfSome result (λ key. waiting_clock (slice_index_or self.now.rows key.number None) ≡ Some key.clock) }
+    {
+        self.rows.least_among(Among::Parked)
+    }
+
+    /// The goroutine of least key of those that are neither lent nor parked.
+    #[tactic(auto, using(crate::proofs::Leases::free_found))]
+    fn least_free(&self) -> Option<Key>
+        ensures least { result ≡ least (keys free_clock 0 self.now.rows) }
+        ensures found { IfSome result (λ key. free_clock (slice_index_or self.now.rows key.number None) ≡ Some key.clock) }
+    {
+        self.rows.least_among(Among::Free)
+    }
+
+    /// Who stands before the key: an awake goroutine whose floor the key is not below. None where the key has the turn.
+    pub fn blocker(&self, key: Key) -> Option<u64>
+        ensures { MatchOption result (has_turn key 0 self.now.rows ≡ true) (λ n. (has_turn key 0 self.now.rows ≡ false) × IsBefore self.now.rows key n) }
+    {
+        self.rows.blocker(key)
+    }
+
+    /// The first goroutine that is awake.
+    pub fn first_awake(&self) -> Option<u64>
+        ensures { MatchOption result (IsNobodyAwake self.now.rows) (λ n. IsAwake self.now.rows n) }
+    {
+        self.rows.first_awake()
     }
 
     /// How many partners the next event has at most.
@@ -155,10 +189,10 @@ impl Core {
         if self.ending.is_some() {
             return None;
         }
-        let Some(key) = least_free(self.rows.as_slice()) else {
+        let Some(key) = self.least_free() else {
             return None;
         };
-        let Some(state) = lend_row(self.rows.as_mut_slice(), key.number) else {
+        let Some(state) = self.rows.lend(key.number) else {
             unreachable!()
         };
         Some((key.number, state))
@@ -168,7 +202,7 @@ impl Core {
     pub fn is_lent(&self, number: u64) -> bool
         ensures { IsTrue result ↔ HasLease self.now.rows number }
     {
-        match self.rows.get(number as usize) {
+        match self.rows.as_slice().get(number as usize) {
             Some(Some(slot)) => slot.is_lent(),
             _ => false,
         }
@@ -178,7 +212,7 @@ impl Core {
     pub fn stands_before(&self, number: u64, key: Key) -> bool
         ensures { IsTrue result ↔ IsBefore self.now.rows key number }
     {
-        match self.rows.get(number as usize) {
+        match self.rows.as_slice().get(number as usize) {
             Some(Some(slot)) => {
                 let floor = Key {
                     clock: slot.floor(),
@@ -195,18 +229,14 @@ impl Core {
         requires { IfSome (slice_index_or self.old.rows number None) (λ row. is_some row.lease ≡ true) }
         ensures { self.new ≡ record self.old { rows = slice_set self.old.rows number (option_map (raised_row clock) (slice_index_or self.old.rows number None)) } }
     {
-        raise_row(self.rows.as_mut_slice(), number, clock);
+        self.rows.raise(number, clock);
     }
 
     /// Puts goroutine `number` back in this state, parked or not.
     pub fn take_back(&mut self, number: u64, state: GoState, parked: bool)
         ensures { self.new ≡ record self.old { rows = slice_set self.old.rows number (Some (back_row state parked)) } }
     {
-        put_at(
-            self.rows.as_mut_slice(),
-            number,
-            Some(Slot::back(state, parked)),
-        );
+        self.rows.put(number, Some(Slot::back(state, parked)));
     }
 
     /// Takes out the state of goroutine `number`, which is awake and not lent. Contracts still see it.
@@ -217,7 +247,7 @@ impl Core {
         ensures taken { self.new ≡ taken_out self.old number }
         ensures same { (k : ℕ) → state_of self.new k ≡ state_of self.old k }
     {
-        let Some(slot) = take_at(self.rows.as_mut_slice(), number) else {
+        let Some(slot) = self.rows.take(number) else {
             unreachable!()
         };
         let (state, away) = slot.take();
@@ -236,7 +266,7 @@ impl Core {
         let Some(away) = take_at(self.taken.as_mut_slice(), number) else {
             unreachable!()
         };
-        put_at(self.rows.as_mut_slice(), number, Some(away.back(state)));
+        self.rows.put(number, Some(away.back(state)));
     }
 
     /// One step of goroutine `number`, as a schedule names it; of one that is not awake, or without the memory that it
@@ -273,7 +303,7 @@ impl Core {
         ensures memory { OnErr result (self.new ≡ self.old) }
         ensures fits { OnOk result (FitsRow code.now limit (slice_index_or (stepped_rows code.now limit step number self.old.rows) number None)) }
     {
-        step_row(alloc, self.rows.as_mut_slice(), code, limit, number, step)?;
+        self.rows.step(alloc, code, limit, number, step)?;
         Ok(())
     }
 
@@ -290,7 +320,7 @@ impl Core {
         requires events { self.now.events < 2 ^ 62 }
         ensures asked { IfOk result (λ asked. IsAsked code.now limit self.now number asked.0 (request_of asked.1)) }
     {
-        let Some(Some(slot)) = self.rows.get(number as usize) else {
+        let Some(Some(slot)) = self.rows.as_slice().get(number as usize) else {
             unreachable!()
         };
         let Some(request) = slot.state().asked(alloc, code, limit)? else {
@@ -335,7 +365,7 @@ impl Core {
         ensures fits { FitsCore code.now limit self.new }
         ensures partners { result.partners.items ≡ [] }
     {
-        self.go_on(code, number, Reply::Nothing, next_time(clock, limit));
+        self.go_on(code, number, &Reply::Nothing, next_time(clock, limit));
         Event {
             clock,
             number,
@@ -376,7 +406,7 @@ impl Core {
         let later = next_time(clock, limit);
         let state = spawn_state(alloc, code, function as usize, args.as_slice(), later)?;
         self.add(state)?;
-        self.go_on(code, number, Reply::Nothing, later);
+        self.go_on(code, number, &Reply::Nothing, later);
         let outcome = EventOutcome::Done(Reply::Nothing);
         let request = Request::Go(function, args);
         Ok(event(clock, number, request, outcome, partners))
@@ -406,9 +436,9 @@ impl Core {
         match self.ask(number, &request)? {
             Came::Done(reply, woken) => {
                 let later = next_time(clock, limit);
-                let outcome = EventOutcome::Done(copy_of(&reply));
-                self.go_on(code, number, reply, later);
+                self.go_on(code, number, &reply, later);
                 self.wake_all(code, later, woken, &mut partners);
+                let outcome = EventOutcome::Done(reply);
                 Ok(event(clock, number, request, outcome, partners))
             }
             Came::Sleeps => {
@@ -514,13 +544,13 @@ impl Core {
 
 impl Core {
     /// Goroutine `number`'s request is done: it goes on with this reply, at this clock.
-    fn go_on(&mut self, code: &Verified, number: u64, reply: Reply, later: Clock)
+    fn go_on(&mut self, code: &Verified, number: u64, reply: &Reply, later: Clock)
         requires frame { IfSome (slice_index_or self.old.rows number None) (λ row. IsFrameOf code.now row.state.state) }
         requires unlent { IsUnlent (slice_index_or self.old.rows number None) }
         requires events { self.old.events < 2 ^ 62 }
-        ensures { self.new ≡ record self.old { rows = answered_rows code.now self.old.rows number later (reply_of reply); events = self.old.events + 1 } }
+        ensures { self.new ≡ record self.old { rows = answered_rows code.now self.old.rows number later (reply_of reply.now); events = self.old.events + 1 } }
     {
-        answer_row(self.rows.as_mut_slice(), code, number, reply, later);
+        self.rows.answer(code, number, reply, later);
         self.events += 1;
     }
 
@@ -534,7 +564,7 @@ impl Core {
           ending = Some end;
         } }
     {
-        stay_row(self.rows.as_mut_slice(), number);
+        self.rows.stay(number);
         self.events += 1;
         self.ending = Some(end);
     }
@@ -544,7 +574,7 @@ impl Core {
         requires { self.old.events < 2 ^ 62 }
         ensures { self.new ≡ record self.old { rows = slice_set self.old.rows number None; live = self.old.live - 1; events = self.old.events + 1 } }
     {
-        put_at(self.rows.as_mut_slice(), number, None);
+        self.rows.take(number);
         self.live = self.live.saturating_sub(1);
         self.events += 1;
     }
@@ -555,10 +585,9 @@ impl Core {
         ensures ok { OnOk result (self.new ≡ record self.old { rows = self.old.rows ++ Some (free_row state) ∷ []; beds = self.old.beds ++ None ∷ []; taken = self.old.taken ++ None ∷ []; live = self.old.live + 1 }) }
         ensures memory { OnErr result (self.new ≡ self.old) }
     {
-        self.rows.reserve(1)?;
         self.beds.reserve(1)?;
         self.taken.reserve(1)?;
-        self.rows.push_reserved(Some(Slot::free(state)));
+        self.rows.push(Some(Slot::free(state)))?;
         self.beds.push_reserved(None);
         self.taken.push_reserved(None);
         self.live += 1;
@@ -585,7 +614,7 @@ impl Core {
           events = self.old.events + 1;
         } }
     {
-        doze(self.rows.as_mut_slice(), self.beds.as_mut_slice(), number);
+        doze(&mut self.rows, self.beds.as_mut_slice(), number);
         self.events += 1;
     }
 
@@ -603,7 +632,7 @@ impl Core {
         ensures numbers { partners.new.items ≡ partners.old.items ++ map (λ (w : ℕ × AnyReply). w.0) woken.items }
     {
         wake(
-            self.rows.as_mut_slice(),
+            &mut self.rows,
             self.beds.as_mut_slice(),
             code,
             clock,
@@ -648,20 +677,5 @@ fn most_woken(channels: &Channels, request: &Request) -> usize
     match request {
         Request::Close(_) => channels.asleep(),
         _ => 1,
-    }
-}
-
-/// A second reply that is the same.
-fn copy_of(reply: &Reply) -> Reply
-    ensures { reply_of result ≡ reply_of reply.now }
-{
-    match reply {
-        Reply::Nothing => Reply::Nothing,
-        Reply::Word(word) => Reply::Word(*word),
-        Reply::Received(item, ok) => Reply::Received(item.copy(), *ok),
-        Reply::Clause(clause, None) => Reply::Clause(*clause, None),
-        Reply::Clause(clause, Some((item, ok))) => Reply::Clause(*clause, Some((item.copy(), *ok))),
-        Reply::Default => Reply::Default,
-        Reply::Closed => Reply::Closed,
     }
 }

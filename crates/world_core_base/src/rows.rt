@@ -1,17 +1,13 @@
 //! Rows of awake goroutines and the states of those who are asleep, goroutine n at place n.
 
-ghost use Rattle.std.specs.Prelude.{◌≡◌, ℕ, ◌+◌, ◌≤◌, ◌++◌, IfNone, IfOk, IfSome, OnErr, OnOk, None, Some, true, length, map, option_map, slice_index_or, slice_set, vec_capacity, vec_len};
+ghost use Rattle.std.specs.Prelude.{◌≡◌, IfNone, IfOk, IfSome, OnErr, OnOk, None, Some, true, option_map, slice_index_or, slice_set};
 ghost use Rattle.std.specs.Option.{is_some};
-ghost use Rattle.bytecode.specs.Machine.{code_kind};
 ghost use Rattle.bytecode.specs.Rules.{IsFrameOf};
-ghost use Rattle.word.specs.Kinds.{told};
-ghost use Rattle.word.specs.Values.{Reply as AnyReply};
 ghost use Rattle.word.specs.Views.{reply_of};
-ghost use Rattle.world_core_base.specs.Cores.{IsFreeIn, answered_rows, left_beds, woken_rows};
+ghost use Rattle.world_core_base.specs.Cores.{IsFreeIn, answered_rows};
 ghost use Rattle.world_core_base.specs.Slots.{FitsAll, FitsRow, IsUnlent, free_clock, free_row, lent_row, raised_row, stepped_rows};
 
 use crate::slot::Slot;
-use channel_core::Woken;
 use go_text::Memory;
 use goroutine_vm::GoState;
 use logical_clock::Clock;
@@ -26,76 +22,18 @@ pub(crate) fn answer_row(
     rows: &mut [Option<Slot>],
     code: &Verified,
     number: u64,
-    reply: Reply,
+    reply: &Reply,
     clock: Clock,
 )
     requires frame { IfSome (slice_index_or rows.old number None) (λ row. IsFrameOf code.now row.state.state) }
     requires unlent { IsUnlent (slice_index_or rows.old number None) }
-    ensures { rows.new ≡ answered_rows code.now rows.old number clock (reply_of reply) }
+    ensures { rows.new ≡ answered_rows code.now rows.old number clock (reply_of reply.now) }
 {
     if (number as usize) < rows.len() {
         if let Some(slot) = &mut rows[number as usize] {
-            slot.answer(code, reply, clock);
+            slot.tell(code, reply, clock);
         }
     }
-}
-
-/// Those who are woken get up with their replies, at this clock; their numbers are put behind the others.
-pub(crate) fn wake(
-    rows: &mut [Option<Slot>],
-    beds: &mut [Option<GoState>],
-    code: &Verified,
-    clock: Clock,
-    woken: Vec<Woken>,
-    partners: &mut Vec<u64>,
-)
-    requires fits { (k : ℕ) → IfSome (slice_index_or beds.old k None) (λ s. IsFrameOf code.now s.state) }
-    requires room { vec_len partners.old + length woken.items ≤ vec_capacity partners.old }
-    ensures rows { rows.new ≡ woken_rows code.now rows.old beds.old clock woken.items }
-    ensures beds { beds.new ≡ left_beds beds.old woken.items }
-    ensures numbers { partners.new.items ≡ partners.old.items ++ map (λ (w : ℕ × AnyReply). w.0) woken.items }
-{
-    for one in woken {
-        let number = one.number();
-        partners.push_reserved(number);
-        wake_one(rows, beds, code, clock, number, one.into_reply());
-    }
-}
-
-/// One who is woken gets up with this reply, at this clock.
-fn wake_one(
-    rows: &mut [Option<Slot>],
-    beds: &mut [Option<GoState>],
-    code: &Verified,
-    clock: Clock,
-    number: u64,
-    reply: Reply,
-)
-    requires { IfSome (slice_index_or beds.old number None) (λ s. IsFrameOf code.now s.state) }
-    ensures rows { rows.new ≡ slice_set rows.old number (option_map (λ s. free_row (told (code_kind code.now) s clock (reply_of reply))) (slice_index_or beds.old number None)) }
-    ensures beds { beds.new ≡ slice_set beds.old number None }
-{
-    let slot = match take_at(beds, number) {
-        Some(mut state) => {
-            state.answer(code, reply, clock);
-            Some(Slot::free(state))
-        }
-        None => None,
-    };
-    put_at(rows, number, slot);
-}
-
-/// A goroutine that is awake falls asleep in its state.
-pub(crate) fn doze(rows: &mut [Option<Slot>], beds: &mut [Option<GoState>], number: u64)
-    requires { IsUnlent (slice_index_or rows.old number None) }
-    ensures rows { rows.new ≡ slice_set rows.old number None }
-    ensures beds { beds.new ≡ slice_set beds.old number (option_map (λ row. row.state) (slice_index_or rows.old number None)) }
-{
-    let bed = match take_at(rows, number) {
-        Some(slot) => Some(slot.into_state()),
-        None => None,
-    };
-    put_at(beds, number, bed);
 }
 
 /// Takes out what stands at place `number`, if anything does.

@@ -186,8 +186,17 @@ impl Slot {
         requires unlent { self.old.lease ≡ None }
         ensures { self.new ≡ free_row (told (code_kind code.now) self.old.state clock (reply_of reply)) }
     {
+        self.tell(code, &reply, clock);
+    }
+
+    /// The same, where the reply stays the caller's.
+    pub(crate) fn tell(&mut self, code: &Verified, reply: &Reply, clock: Clock)
+        requires frame { IsFrameOf code.now self.old.state.state }
+        requires unlent { self.old.lease ≡ None }
+        ensures { self.new ≡ free_row (told (code_kind code.now) self.old.state clock (reply_of reply.now)) }
+    {
         match &mut self.held {
-            Held::Here(state) => state.answer(code, reply, clock),
+            Held::Here(state) => state.tell(code, reply, clock),
             Held::Gone(_) => unreachable!(),
         }
         self.floor = clock;

@@ -7,7 +7,7 @@ use Rattle.bytecode.specs.Machine.{fitted}
 use Rattle.goroutine_vm.proofs.told.tell_with_truth.Goals as goal
 
 pub push-requires : goal.push-requires
-push-requires c = let e = ap length c.tell-told.ensures ∙ fitted_length c.args.kinds.now c.args.words.now in let r = c.requires in omega (arith, e, r)
+push-requires c = let e = ap length c.tell.ensures ∙ fitted_length c.args.kinds.now c.args.words.now in let r = c.requires in omega (arith, e, r)
 
 pub returns : goal.returns
-returns c = c.push.ensures ∙ ap (λ (l : List Word). l ++ c.word_at.result ∷ []) c.tell-told.ensures ∙ ap (λ (w : Word). fitted c.args.kinds.now c.args.words.now ++ w ∷ []) c.word_at.ensures ∙ sym (fitted_last c.args.kinds.now kinds.Bool c.args.words.now)
+returns c = c.push.ensures ∙ ap (λ (l : List Word). l ++ c.word_at.result ∷ []) c.tell.ensures ∙ ap (λ (w : Word). fitted c.args.kinds.now c.args.words.now ++ w ∷ []) c.word_at.ensures ∙ sym (fitted_last c.args.kinds.now kinds.Bool c.args.words.now)

@@ -4,7 +4,7 @@ use Rattle.std.specs.Arc.{arc_value}
 use Rattle.clock_table.specs.Seats.{rows as words_of, seat_looks}
 use Rattle.logical_clock.specs.Order.{keys, least}
 use Rattle.word.specs.declared.end.End.TheVariants.{Deadlock}
-use Rattle.world_core.specs.Slots.{Rows, IsAwake, IsNobodyAwake}
+use Rattle.world_core.specs.Slots.{IsAwake, IsNobodyAwake}
 use Rattle.book.specs.Desks.{Desk, IsDesk, IsEnd}
 use Rattle.book.proofs.Books.{dead_desk}
 use Rattle.book.proofs.Settling.{seen_only, waits_lent, waits_unlent}
@@ -16,7 +16,7 @@ returns-in_default-clause-settles g c =
     let b = c.self.inside in
     let d : Desk = record { code = arc_value b.program; limit = b.limit; core = b.core; taken = b.taken; pending = b.pending.items; traced = b.traced; lines = b.lines.items; words = words_of b.slots.seat; looks = seat_looks b.slots.seat } in
     let now = c.args.self.now in
-    let nobody : IsNobodyAwake d.core.rows = subst IsNobodyAwake c.rows.ensures c.in_default.ensures in
+    let nobody : IsNobodyAwake d.core.rows = c.in_default.ensures in
     (refl, dead_desk now (subst IsDesk c.self.view_is c.self.invariant.desk) c.requires.ending (subst (λ (x : Desk). IsNobodyAwake x.core.rows) c.self.view_is nobody))
 
 pub returns-then-not-is_lent-clause-settles : goal.returns-then-not-is_lent-clause-settles
@@ -24,7 +24,7 @@ returns-then-not-is_lent-clause-settles g c =
     let b = c.self.inside in
     let d : Desk = record { code = arc_value b.program; limit = b.limit; core = b.core; taken = b.taken; pending = b.pending.items; traced = b.traced; lines = b.lines.items; words = words_of b.slots.seat; looks = seat_looks b.slots.seat } in
     let n = c.in-Some.number in
-    let awake : IsAwake d.core.rows n = subst (λ (rows : Rows). IsAwake rows n) c.rows.ensures c.in-Some.ensures in
+    let awake : IsAwake d.core.rows n = c.in-Some.ensures in
     waits_unlent c.args.self.now n (subst IsDesk c.self.view_is c.self.invariant.desk) c.requires.ending c.requires.parked (subst (λ (x : Desk). IsAwake x.core.rows n) c.self.view_is awake) (λ lent. true≢false (sym (c.if-not-is_lent.ensures.1 lent)))
 
 pub returns-clause-settles : goal.returns-clause-settles
@@ -32,7 +32,7 @@ returns-clause-settles g c =
     let b = c.self.inside in
     let d : Desk = record { code = arc_value b.program; limit = b.limit; core = b.core; taken = b.taken; pending = b.pending.items; traced = b.traced; lines = b.lines.items; words = words_of b.slots.seat; looks = seat_looks b.slots.seat } in
     let n = c.in-Some.number in
-    let awake : IsAwake d.core.rows n = subst (λ (rows : Rows). IsAwake rows n) c.rows.ensures c.in-Some.ensures in
+    let awake : IsAwake d.core.rows n = c.in-Some.ensures in
     waits_lent c.args.self.now c.look.new.self n (subst IsDesk c.self.view_is c.self.invariant.desk) c.requires.ending c.requires.parked (subst (λ (x : Desk). IsAwake x.core.rows n) c.self.view_is awake) c.look.ensures
 
 pub returns-clause-leases : goal.returns-clause-leases

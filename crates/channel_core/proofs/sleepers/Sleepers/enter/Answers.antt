@@ -1,4 +1,4 @@
-use Rattle.std.proofs.Common.{◌≡◌, ◌++◌, ◌∷◌, [], List, ap, subst, sym, ◌∙◌}
+use Rattle.std.proofs.Common.{◌++◌, ◌∷◌, [], List, ap, subst, sym, ◌∙◌}
 use Rattle.std.specs.List.{filter}
 use Rattle.slab.specs.Slab.{Slab, Updates, get, slab_len}
 use Rattle.sleep_queue.specs.Queue.{owned}
@@ -6,7 +6,7 @@ use Rattle.std.specs.Prelude.{Some}
 use Rattle.word.specs.Requests.{without}
 use Rattle.word.specs.Values.{Sleeper}
 use Rattle.word.specs.Views.{request_of}
-use Rattle.channel_core.specs.Asleep.{IsAsleep, Placed, asleep_of, is_not_of, keys_in, placed}
+use Rattle.channel_core.specs.Asleep.{IsAsleep, asleep_of, is_not_of, keys_in, placed}
 use Rattle.channel_core.proofs.Kept.{nothing_of}
 use Rattle.channel_core.proofs.Slots.{enters_slab, replaces_slab, still_there}
 use Rattle.channel_core.proofs.sleepers.Sleepers.enter.Goals as goal
@@ -26,7 +26,7 @@ remove-requires c =
 pub invariant_of-self-in_default : goal.invariant_of-self-in_default
 invariant_of-self-in_default c =
     (enters_slab c.reserve.new.self c.insert_reserved.new.self (owned c.self.inside.places) (owned c.place.new.places) (placed c.self.inside.queues) (placed c.place.new.queues) c.insert_reserved.result c.vacant_key-key.result
-    (record { number = c.args.number; request = request_of c.args.request }) (subst (λ (x : Slab Sleeper). IsAsleep (get x) (owned c.self.inside.places) (placed c.self.inside.queues) (slab_len x)) (sym c.reserve.ensures.rest_kept) c.self.invariant)
+    (record { number = c.args.number; request = request_of c.args.request.now }) (subst (λ (x : Slab Sleeper). IsAsleep (get x) (owned c.self.inside.places) (placed c.self.inside.queues) (slab_len x)) (sym c.reserve.ensures.rest_kept) c.self.invariant)
     c.insert_reserved.ensures.was_vacant (subst (λ (t : Sleeper). Updates c.reserve.new.self c.insert_reserved.new.self c.insert_reserved.result (Some t)) c.new.ensures c.insert_reserved.ensures.updates)
     (c.insert_reserved.ensures.key ∙ sym c.vacant_key-key.ensures.value) c.insert_reserved.ensures.len (sym c.in_ok-before.ensures.before ∙ c.in_default.is)
     c.in_ok-before.ensures.own c.in_ok-before.ensures.others c.in_ok-before.ensures.rows).0
@@ -34,16 +34,16 @@ invariant_of-self-in_default c =
 pub returns-in_default-clause-ok : goal.returns-in_default-clause-ok
 returns-in_default-clause-ok c =
     (enters_slab c.reserve.new.self c.insert_reserved.new.self (owned c.self.inside.places) (owned c.place.new.places) (placed c.self.inside.queues) (placed c.place.new.queues) c.insert_reserved.result c.vacant_key-key.result
-    (record { number = c.args.number; request = request_of c.args.request }) (subst (λ (x : Slab Sleeper). IsAsleep (get x) (owned c.self.inside.places) (placed c.self.inside.queues) (slab_len x)) (sym c.reserve.ensures.rest_kept) c.self.invariant)
+    (record { number = c.args.number; request = request_of c.args.request.now }) (subst (λ (x : Slab Sleeper). IsAsleep (get x) (owned c.self.inside.places) (placed c.self.inside.queues) (slab_len x)) (sym c.reserve.ensures.rest_kept) c.self.invariant)
     c.insert_reserved.ensures.was_vacant (subst (λ (t : Sleeper). Updates c.reserve.new.self c.insert_reserved.new.self c.insert_reserved.result (Some t)) c.new.ensures c.insert_reserved.ensures.updates)
     (c.insert_reserved.ensures.key ∙ sym c.vacant_key-key.ensures.value) c.insert_reserved.ensures.len (sym c.in_ok-before.ensures.before ∙ c.in_default.is)
     c.in_ok-before.ensures.own c.in_ok-before.ensures.others c.in_ok-before.ensures.rows).1
-    ∙ ap (λ (ss : List Sleeper). without ss c.args.number ++ record { number = c.args.number; request = request_of c.args.request } ∷ []) (ap (λ (x : Slab Sleeper). asleep_of (get x) (keys_in (placed c.self.inside.queues))) c.reserve.ensures.rest_kept ∙ c.self.view_is)
+    ∙ ap (λ (ss : List Sleeper). without ss c.args.number ++ record { number = c.args.number; request = request_of c.args.request.now } ∷ []) (ap (λ (x : Slab Sleeper). asleep_of (get x) (keys_in (placed c.self.inside.queues))) c.reserve.ensures.rest_kept ∙ c.self.view_is)
 
 pub invariant_of-self-in-Some : goal.invariant_of-self-in-Some
 invariant_of-self-in-Some c =
     (replaces_slab c.reserve.new.self c.insert_reserved.new.self c.remove.new.self (owned c.self.inside.places) (owned c.place.new.places) (placed c.self.inside.queues) (placed c.leave_all.new.queues) c.insert_reserved.result c.vacant_key-key.result c.in-Some.old
-    (record { number = c.args.number; request = request_of c.args.request }) (subst (λ (x : Slab Sleeper). IsAsleep (get x) (owned c.self.inside.places) (placed c.self.inside.queues) (slab_len x)) (sym c.reserve.ensures.rest_kept) c.self.invariant)
+    (record { number = c.args.number; request = request_of c.args.request.now }) (subst (λ (x : Slab Sleeper). IsAsleep (get x) (owned c.self.inside.places) (placed c.self.inside.queues) (slab_len x)) (sym c.reserve.ensures.rest_kept) c.self.invariant)
     c.insert_reserved.ensures.was_vacant (subst (λ (t : Sleeper). Updates c.reserve.new.self c.insert_reserved.new.self c.insert_reserved.result (Some t)) c.new.ensures c.insert_reserved.ensures.updates)
     (c.insert_reserved.ensures.key ∙ sym c.vacant_key-key.ensures.value) c.insert_reserved.ensures.len c.remove.ensures.updates c.remove.ensures.len (sym c.in_ok-before.ensures.before ∙ c.in-Some.is)
     c.in_ok-before.ensures.own c.in_ok-before.ensures.others (c.leave_all.ensures ∙ ap (filter (is_not_of c.in-Some.old)) c.in_ok-before.ensures.rows)).0
@@ -51,8 +51,8 @@ invariant_of-self-in-Some c =
 pub returns-in-Some-clause-ok : goal.returns-in-Some-clause-ok
 returns-in-Some-clause-ok c =
     (replaces_slab c.reserve.new.self c.insert_reserved.new.self c.remove.new.self (owned c.self.inside.places) (owned c.place.new.places) (placed c.self.inside.queues) (placed c.leave_all.new.queues) c.insert_reserved.result c.vacant_key-key.result c.in-Some.old
-    (record { number = c.args.number; request = request_of c.args.request }) (subst (λ (x : Slab Sleeper). IsAsleep (get x) (owned c.self.inside.places) (placed c.self.inside.queues) (slab_len x)) (sym c.reserve.ensures.rest_kept) c.self.invariant)
+    (record { number = c.args.number; request = request_of c.args.request.now }) (subst (λ (x : Slab Sleeper). IsAsleep (get x) (owned c.self.inside.places) (placed c.self.inside.queues) (slab_len x)) (sym c.reserve.ensures.rest_kept) c.self.invariant)
     c.insert_reserved.ensures.was_vacant (subst (λ (t : Sleeper). Updates c.reserve.new.self c.insert_reserved.new.self c.insert_reserved.result (Some t)) c.new.ensures c.insert_reserved.ensures.updates)
     (c.insert_reserved.ensures.key ∙ sym c.vacant_key-key.ensures.value) c.insert_reserved.ensures.len c.remove.ensures.updates c.remove.ensures.len (sym c.in_ok-before.ensures.before ∙ c.in-Some.is)
     c.in_ok-before.ensures.own c.in_ok-before.ensures.others (c.leave_all.ensures ∙ ap (filter (is_not_of c.in-Some.old)) c.in_ok-before.ensures.rows)).1
-    ∙ ap (λ (ss : List Sleeper). without ss c.args.number ++ record { number = c.args.number; request = request_of c.args.request } ∷ []) (ap (λ (x : Slab Sleeper). asleep_of (get x) (keys_in (placed c.self.inside.queues))) c.reserve.ensures.rest_kept ∙ c.self.view_is)
+    ∙ ap (λ (ss : List Sleeper). without ss c.args.number ++ record { number = c.args.number; request = request_of c.args.request.now } ∷ []) (ap (λ (x : Slab Sleeper). asleep_of (get x) (keys_in (placed c.self.inside.queues))) c.reserve.ensures.rest_kept ∙ c.self.view_is)

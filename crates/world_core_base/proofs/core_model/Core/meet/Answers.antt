@@ -44,8 +44,8 @@ returns-in-Done-clause-performs c =
     let below : c.args.clock < c.args.limit = still_below code c.args.limit core n c.args.clock means asked (λ (e : means ≡ Exhausted). subst IsOfChannels e c.requires.channels) in
     let new = c.wake_all.new.self in
     let is = done_core code n later (reply_of c.in-Done.reply) c.in-Done.woken.items core c.ask.new.self c.go_on.new.self new c.in_ok-reply.ensures.rest c.go_on.ensures c.wake_all.ensures.core in
-    let event : Recorded = record { clock = c.args.clock; number = n; request = c.args.request; outcome = came.Done c.copy_of.result; partners = c.wake_all.new.partners } in
-    let left = leaves_met code c.args.limit core n c.args.clock means asked (outcomes.Done c.in-Done.reply c.in-Done.woken) channels (event_of event) new does (record { later = later; is = c.next_time-later.ensures; below = below; new = is; event = ap (λ r. recorded c.args.clock n means (Done r) c.wake_all.new.partners.items) c.copy_of.ensures ∙ ap (λ ns. recorded c.args.clock n means (Done (reply_of c.in-Done.reply)) ns) (c.wake_all.ensures.numbers ∙ ap (λ ns. ns ++ map (λ (w : ℕ × Reply). w.0) c.in-Done.woken.items) c.in_ok-partners.ensures.items) }) in
+    let event : Recorded = record { clock = c.args.clock; number = n; request = c.args.request; outcome = came.Done c.in-Done.reply; partners = c.wake_all.new.partners } in
+    let left = leaves_met code c.args.limit core n c.args.clock means asked (outcomes.Done c.in-Done.reply c.in-Done.woken) channels (event_of event) new does (record { later = later; is = c.next_time-later.ensures; below = below; new = is; event = ap (λ ns. recorded c.args.clock n means (Done (reply_of c.in-Done.reply)) ns) (c.wake_all.ensures.numbers ∙ ap (λ ns. ns ++ map (λ (w : ℕ × Reply). w.0) c.in-Done.woken.items) c.in_ok-partners.ensures.items) }) in
     subst (λ e. Performs code c.args.limit core n e [] new) (sym c.event.ensures) (performs_by code c.args.limit core n c.args.clock means event [] new asked c.requires.fits left)
 
 pub returns-in-Done-clause-fits : goal.returns-in-Done-clause-fits

@@ -1,4 +1,4 @@
-use Rattle.std.proofs.Common.{◌≡◌, ◌≢◌, ◌<◌, ◌++◌, [], ◌∷◌, length, refl, sym, ap, subst, arith, ◌∙◌}
+use Rattle.std.proofs.Common.{◌≡◌, ◌≢◌, ◌<◌, ◌++◌, [], ◌∷◌, length, refl, sym, ap, subst, ◌∙◌}
 use Rattle.bytecode.specs.Machine.{code_begin}
 use Rattle.word.specs.Kinds.{at}
 use Rattle.word.specs.declared.request.Event.{Event as Recorded}
@@ -30,9 +30,8 @@ returns-clause-performs c =
     let state : c.in_ok-state.state ≡ at later (code_begin code c.args.function c.args.args.items) = c.in_ok-state.ensures ∙ ap (λ ws. at later (code_begin code c.args.function ws)) c.as_slice.ensures.value in
     let is = added_core code n later c.in_ok-state.state (at later (code_begin code c.args.function c.args.args.items)) core c.add.new.self new state c.in_ok-add.ensures.ok c.go_on.ensures in
     let rows = c.len.ensures in
-    let size = c.self.inside.rows.ok.0 in
     let same = ap (λ (x : CoreValue). length x.rows) c.self.view_is in
-    let count : c.len.result ≡ length core.rows = omega (arith, rows, size, same) in
+    let count : c.len.result ≡ length core.rows = rows ∙ same in
     let event : Recorded = record { clock = c.args.clock; number = n; request = requests.Go c.args.function c.args.args; outcome = came.Done replies.Nothing; partners = c.push.new.self } in
     let left = leaves_started code c.args.limit core n c.args.clock means asked c.args.function c.args.args.items later (event_of event) new refl room c.next_time-later.ensures below is (ap (λ ns. recorded c.args.clock n means (Done Nothing) ns) (c.in_ok-push.ensures.items ∙ ap (λ xs. xs ++ c.len.result ∷ []) c.new-partners.ensures.items ∙ ap (λ k. k ∷ []) count)) in
     subst (λ e. Performs code c.args.limit core n e [] new) (sym c.event-2.ensures) (performs_by code c.args.limit core n c.args.clock means event [] new asked c.requires.fits left)

@@ -1,6 +1,6 @@
 use Rattle.std.proofs.Common.{◌≡◌, ◌-◌, ◌≤◌}
 use Rattle.goroutine_vm.specs.Advance.{IsStateOf, steps}
-use Rattle.goroutine_vm.proofs.state.GoState.advance.Given as goal
+use Rattle.goroutine_vm.proofs.state.GoState.step_ahead.Given as goal
 
 abbrev pub invariant-loop-made : goal.invariant-loop-made
 invariant-loop-made l = record {

@@ -4,7 +4,7 @@ use Rattle.bytecode.specs.Rules.{IsFrameOf}
 use Rattle.word.specs.Values.{Reply}
 use Rattle.world_core_base.specs.Cores.{left_beds, woken_rows}
 use Rattle.world_core_base.specs.Slots.{Beds, Rows, State}
-use Rattle.world_core_base.proofs.rows.wake.Given as goal
+use Rattle.world_core_base.proofs.waking.wake.Given as goal
 
 -- those who are left get up from here as all did at first
 pub record Waking (code : Code) (clock : ℕ) (rs rs' : Rows) (bs bs' : Beds) (left all : List (ℕ × Reply)) (ns ns' : List ℕ) (len most : ℕ) : Type 0 where
