@@ -1,7 +1,6 @@
 //! Where goroutines stand, in lines.
 
 use crate::scene::Scene;
-use crate::trail::call_in;
 use crate::watched::Placed;
 use diagnostic_words::words::Words;
 use one_thread::Goroutine;
@@ -55,12 +54,7 @@ pub(crate) fn push_waiting(
 }
 
 /// Puts that a goroutine waits behind what is there.
-fn push_waiter(
-    said: &mut Words,
-    scene: Scene<'_>,
-    number: u64,
-    goroutine: &Goroutine<Placed<'_>>,
-) {
+fn push_waiter(said: &mut Words, scene: Scene<'_>, number: u64, goroutine: &Goroutine<Placed<'_>>) {
     push_goroutine(said, scene, number, ") waits since clock ", goroutine);
     push_wish(said, goroutine.state.frames.as_slice());
     said.text("\n");
@@ -133,13 +127,13 @@ pub(crate) fn push_panic(
 
 /// Puts the calls that a goroutine waits for behind what is there, the last one first.
 fn push_calls(said: &mut Words, scene: Scene<'_>, goroutine: &Goroutine<Placed<'_>>) {
-    let callers = goroutine.state.trail.callers();
-    for sites in callers.iter().rev().take(MOST_CALLS) {
-        if let Some(call) = call_in(sites.as_slice()) {
+    let trail = &goroutine.state.trail;
+    for number in 0..MOST_CALLS {
+        if let Some(call) = trail.call(number) {
             push_call(said, scene, call);
         }
     }
-    let left = callers.len().saturating_sub(MOST_CALLS);
+    let left = trail.waiting().saturating_sub(MOST_CALLS);
     push_more(said, left, " more calls\n");
 }
 

@@ -82,11 +82,7 @@ impl<'t> Site<'t> {
 }
 
 /// What of a statement, whose nodes have numbers from `first` on, matters.
-fn inside_statement<'t>(
-    alloc: Global,
-    first: NodeId,
-    statement: &'t StatementNode,
-) -> Inside<'t> {
+fn inside_statement<'t>(alloc: Global, first: NodeId, statement: &'t StatementNode) -> Inside<'t> {
     match statement {
         StatementNode::Simple(simple) => inside_simple(simple),
         StatementNode::Typed(_, _, Some(right)) | StatementNode::Untyped(_, right) => {
@@ -107,7 +103,10 @@ fn inside_if<'t>(alloc: Global, first: NodeId, branch: &IfNode) -> Inside<'t> {
 
 /// What of a `for` with this header matters.
 fn inside_for<'t>(alloc: Global, first: NodeId, header: &ForHeader) -> Inside<'t> {
-    Inside::For(loop_first(alloc, first, header), post_first(alloc, first, header))
+    Inside::For(
+        loop_first(alloc, first, header),
+        post_first(alloc, first, header),
+    )
 }
 
 /// What of a simple statement matters.

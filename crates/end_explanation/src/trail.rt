@@ -31,10 +31,7 @@ impl<'t> Trail<'t> {
         for frame in frames {
             sites.push(sites_of(alloc, frame, first)?)?;
         }
-        Ok(Trail {
-            sites,
-            last: first,
-        })
+        Ok(Trail { sites, last: first })
     }
 
     /// The own node of what was done last.
@@ -42,10 +39,18 @@ impl<'t> Trail<'t> {
         self.last
     }
 
-    /// Of each function that waits for one that it called, the one called last behind, the site of each task, the call's last.
-    pub(crate) fn callers(&self) -> &[Vec<Site<'t>>] {
-        let waiting = self.sites.len().saturating_sub(1);
-        self.sites.get(..waiting).unwrap_or(&[])
+    /// How many functions wait for one that they called.
+    pub(crate) fn waiting(&self) -> usize {
+        self.sites.len().saturating_sub(1)
+    }
+
+    /// The own node of the call at which a function waits, if so many wait: 0 is the number of the one that called last.
+    pub(crate) fn call(&self, number: usize) -> Option<NodeId> {
+        let place = self.waiting().checked_sub(number)?.checked_sub(1)?;
+        match self.sites.get(place) {
+            Some(sites) => call_in(sites.as_slice()),
+            None => None,
+        }
     }
 
     /// The site of the next task, or of what was done last where there is none.
@@ -100,8 +105,8 @@ fn last_of<'t>(sites: &[Site<'t>]) -> Option<Site<'t>> {
     sites.last().copied()
 }
 
-/// The own node of the call at which a function waits that has these sites.
-pub(crate) fn call_in(sites: &[Site<'_>]) -> Option<NodeId> {
+/// The own node of the last one of these.
+fn call_in(sites: &[Site<'_>]) -> Option<NodeId> {
     match sites.last() {
         Some(site) => Some(site.node),
         None => None,
