@@ -1,10 +1,9 @@
 //! What could stand where no tree goes on.
 
 use crate::place_of;
-use crate::sentence::push;
+use diagnostic_typing::fault_of;
+use diagnostic_words::words::Words;
 use go_text::{Fault, Memory, Source};
-use parser::parse;
-use scanner::scan;
 use std::alloc::Global;
 
 /// What can be wanted at a place: there, each of these pieces of text could stand, parted by blanks.
@@ -39,64 +38,96 @@ static MARKS: [Wanted; 8] = [
     Wanted("\":\"", ":"),
 ];
 
-/// Puts what could stand behind the beginning of a text, as the parser takes it, behind what is there.
-pub(crate) fn push_expected(
+/// What could stand behind the beginning of a text, as the parser takes it.
+#[derive(Drop)]
+struct Expected<'t> {
     alloc: Global,
-    said: &mut Vec<u8>,
-    beginning: &str,
-) -> Result<(), Memory> {
-    let mut names = Vec::new(alloc);
-    if let Some(name) = first_wanted(alloc, beginning, &VALUES)? {
-        names.push(name)?;
-    } else if let Some(name) = first_wanted(alloc, beginning, &WORDS)? {
-        names.push(name)?;
-    }
-    for wanted in &MARKS {
-        if can_stand(alloc, beginning, wanted)? {
-            names.push(wanted.0)?;
-        }
-    }
-    push_names(said, names.as_slice())
+    beginning: &'t str,
+    names: Vec<&'static str>,
+    /// Whether a request for memory was refused.
+    is_cut: bool,
 }
 
-/// The first of these that could stand behind the beginning of a text.
-fn first_wanted(
-    alloc: Global,
-    beginning: &str,
-    among: &[Wanted],
-) -> Result<Option<&'static str>, Memory> {
-    for wanted in among {
-        if can_stand(alloc, beginning, wanted)? {
-            return Ok(Some(wanted.0));
+impl Expected<'_> {
+    /// Notes a name of what could stand there.
+    fn note(&mut self, name: &'static str) {
+        if self.names.push(name).is_err() {
+            self.is_cut = true;
         }
     }
-    Ok(None)
+
+    /// Whether the text goes on with this piece.
+    fn takes(&mut self, piece: &str) -> bool {
+        match goes_on(self.alloc, self.beginning, piece) {
+            Ok(takes) => takes,
+            Err(Memory) => {
+                self.is_cut = true;
+                false
+            }
+        }
+    }
+
+    /// Whether all that is wanted could stand there.
+    fn takes_all(&mut self, wanted: &Wanted) -> bool {
+        for piece in wanted.1.split(' ') {
+            if !self.takes(piece) {
+                return false;
+            }
+        }
+        true
+    }
+
+    /// Notes the first of these that could stand there, and answers whether there is one.
+    fn note_first(&mut self, among: &[Wanted]) -> bool {
+        for wanted in among {
+            if self.takes_all(wanted) {
+                self.note(wanted.0);
+                return true;
+            }
+        }
+        false
+    }
+
+    /// Notes each of these that could stand there.
+    fn note_all(&mut self, among: &[Wanted]) {
+        for wanted in among {
+            if self.takes_all(wanted) {
+                self.note(wanted.0);
+            }
+        }
+    }
+}
+
+/// Puts what could stand behind the beginning of a text, as the parser takes it, behind what is there.
+pub(crate) fn push_expected(alloc: Global, said: &mut Words, beginning: &str) {
+    let mut expected = Expected {
+        alloc,
+        beginning,
+        names: Vec::new(alloc),
+        is_cut: false,
+    };
+    if !expected.note_first(&VALUES) {
+        let _found = expected.note_first(&WORDS);
+    }
+    expected.note_all(&MARKS);
+    if expected.is_cut {
+        said.refuse();
+    }
+    push_names(said, expected.names.as_slice());
 }
 
 /// Puts `, expected A, B or C` behind what is there, where there are such names.
-fn push_names(said: &mut Vec<u8>, names: &[&'static str]) -> Result<(), Memory> {
+fn push_names(said: &mut Words, names: &[&'static str]) {
     for (index, name) in names.iter().enumerate() {
-        let link = if index == 0 {
+        said.text(if index == 0 {
             ", expected "
         } else if index + 1 == names.len() {
             " or "
         } else {
             ", "
-        };
-        push(said, link)?;
-        push(said, name)?;
+        });
+        said.text(name);
     }
-    Ok(())
-}
-
-/// Whether all that is wanted could stand behind the beginning of a text.
-fn can_stand(alloc: Global, beginning: &str, wanted: &Wanted) -> Result<bool, Memory> {
-    for piece in wanted.1.split(' ') {
-        if !goes_on(alloc, beginning, piece)? {
-            return Ok(false);
-        }
-    }
-    Ok(true)
 }
 
 /// Whether a text that begins so goes on with this piece: then no fault lies before the piece's end.
@@ -105,21 +136,17 @@ fn goes_on(alloc: Global, beginning: &str, piece: &str) -> Result<bool, Memory> 
     let Ok(source) = Source::new(text.into_bytes()) else {
         return Ok(false);
     };
-    match read(alloc, &source) {
-        Ok(()) => Ok(true),
-        Err(Fault::Memory) => Err(Memory),
-        Err(fault) => match place_of(&fault) {
-            Some(place) => Ok(place.span.from as usize > beginning.len().saturating_add(1)),
-            None => Ok(false),
-        },
+    match fault_of(alloc, &source) {
+        None => Ok(true),
+        Some(Fault::Memory) => Err(Memory),
+        Some(fault) => Ok(lies_behind(&fault, beginning.len().saturating_add(1))),
     }
 }
 
-/// Reads a text, and answers the first fault of its tokens or of its tree.
-fn read(alloc: Global, source: &Source) -> Result<(), Fault> {
-    let length = source.as_bytes().len();
-    let tokens = scan(alloc, source)?;
-    prove!(tokens.len() <= length + 1);
-    parse(alloc, source, tokens.as_slice())?;
-    Ok(())
+/// Whether a fault lies behind so many bytes.
+fn lies_behind(fault: &Fault, length: usize) -> bool {
+    match place_of(fault) {
+        Some(place) => place.span.from as usize > length,
+        None => false,
+    }
 }

@@ -4,15 +4,16 @@
 ghost use Rattle.std.specs.Prelude.{◌≡◌, ◌++◌, IfOk, codes, decimal, string_bytes};
 ghost use Rattle.diagnostic.specs.Diagnostics.{IsDiagnostic, heading_at, place_of, position_of};
 
-mod excerpt;
+mod declaration;
 mod expected;
 mod hint;
 mod phrase;
 mod sentence;
 
-pub use crate::excerpt::push_excerpt;
 use crate::hint::hint_of;
-use crate::sentence::{push, push_sentence};
+use crate::sentence::push_sentence;
+use diagnostic_words::excerpt::push_excerpt;
+use diagnostic_words::words::Words;
 use go_text::{Fault, Memory, Place, Position};
 use std::alloc::{AllocError, Global};
 
@@ -28,24 +29,36 @@ pub fn explanation(alloc: Global, path: &str, text: &str, fault: &Fault) -> Resu
 {
     let place = place_of(fault);
     let heading = heading(alloc, path, position_of(place))?;
-    let mut said = sentence_of(alloc, text, fault)?;
-    if let Some(place) = place {
-        push_excerpt(&mut said, text, place.span)?;
-    }
-    push_hint(&mut said, text, fault)?;
+    let said = said_of(alloc, text, fault, place)?;
     let mut whole = heading.into_bytes();
     whole.extend_from_slice(said.as_slice())?;
     Ok(whole)
 }
 
-/// `hint: ` and what to write instead, with a newline, where that is known.
-fn push_hint(said: &mut Vec<u8>, text: &str, fault: &Fault) -> Result<(), AllocError> {
-    if let Some(hint) = hint_of(text, fault) {
-        push(said, "hint: ")?;
-        push(said, hint)?;
-        push(said, "\n")?;
+/// What stands behind the heading of a fault with this place.
+fn said_of(
+    alloc: Global,
+    text: &str,
+    fault: &Fault,
+    place: Option<Place>,
+) -> Result<Vec<u8>, AllocError> {
+    let mut said = Words::new(alloc);
+    push_sentence(alloc, &mut said, text, fault);
+    said.text("\n");
+    if let Some(place) = place {
+        push_excerpt(&mut said, text, place.span);
     }
-    Ok(())
+    push_hint(&mut said, text, fault);
+    said.into_bytes()
+}
+
+/// Puts `hint: ` and what to write instead, with a newline, behind what is there, where that is known.
+fn push_hint(said: &mut Words, text: &str, fault: &Fault) {
+    if let Some(hint) = hint_of(text, fault) {
+        said.text("hint: ");
+        said.text(hint);
+        said.text("\n");
+    }
 }
 
 /// `FILE: `, or `FILE:LINE:COLUMN: ` where line and column are known.
@@ -90,12 +103,4 @@ fn place_of(fault: &Fault) -> Option<Place>
         | Fault::Limit { place, .. } => Some(place),
         _ => None,
     }
-}
-
-/// The sentence, with its newline.
-fn sentence_of(alloc: Global, text: &str, fault: &Fault) -> Result<Vec<u8>, Memory> {
-    let mut said = Vec::new(alloc);
-    push_sentence(alloc, &mut said, text, fault)?;
-    said.push(b'\n')?;
-    Ok(said)
 }

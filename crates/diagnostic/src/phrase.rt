@@ -88,18 +88,7 @@ pub(crate) fn phrase_of_rule(rule: Rule) -> Phrase {
 /// What is wrong where a limit is exceeded.
 pub(crate) fn phrase_of_limit(kind: LimitKind) -> Phrase {
     match kind {
-        LimitKind::ConstantSize => Phrase::around(
-            "",
-            " (constant) is larger than 2^100, or is shifted by more than 100",
-        ),
-        LimitKind::StructWidth => Phrase::plain("a struct type is wider than 16 words"),
-        LimitKind::SelectClauses => Phrase::plain("a select has more than 64 clauses"),
-        LimitKind::ListEntries => Phrase::plain("a list has more than 64 entries"),
-        LimitKind::FunctionWords => Phrase::plain(
-            "the variables of a function take more than 4,096 words",
-        ),
-        LimitKind::Declarations => Phrase::plain(
-            "more than 4,096 functions or struct types are declared",
-        ),
+        LimitKind::ConstantSize => Phrase::around("constant ", " is over 2^100 in size"),
+        _ => Phrase::around("a limit of the language is exceeded: ", ""),
     }
 }

@@ -1,46 +1,40 @@
 //! What is wrong, in a sentence.
 
+use crate::declaration::push_within;
 use crate::expected::push_expected;
 use crate::phrase::{Phrase, phrase_of_limit, phrase_of_rule};
-use diagnostic_typing::typing_sentence;
-use go_text::{Fault, Memory, Place};
-use std::alloc::{AllocError, Global};
+use checker_base::flaw::Flaw;
+use diagnostic_typing::push_flaw;
+use diagnostic_words::words::Words;
+use go_text::{Fault, LimitKind, Place, Rule};
+use std::alloc::Global;
 
 /// How many bytes of a piece of the text a sentence shows at most.
 const MOST_SHOWN: usize = 60;
 
-/// Puts what is wrong behind what is there.
-pub(crate) fn push_sentence(
-    alloc: Global,
-    said: &mut Vec<u8>,
-    text: &str,
-    fault: &Fault,
-) -> Result<(), Memory> {
+/// Puts what is wrong behind what is there, which is nothing.
+pub(crate) fn push_sentence(alloc: Global, said: &mut Words, text: &str, fault: &Fault) {
     match *fault {
         Fault::Syntax(place) => push_syntax(alloc, said, text, place),
-        Fault::Typing { rule, node, place } => {
-            match typing_sentence(alloc, text, rule, node)? {
-                Some(sentence) => Ok(said.extend_from_slice(sentence.as_slice())?),
-                None => Ok(push_phrase(said, phrase_of_rule(rule), piece_at(text, place))?),
-            }
+        Fault::Typing { rule, node, place } => push_rule(alloc, said, text, rule, node, place),
+        Fault::Limit { kind, node, place } => push_limit(alloc, said, text, kind, node, place),
+        Fault::TooDeep(place) => {
+            let behind = ": a program is at most 200 levels high";
+            push_within(alloc, said, text, place, "nested too deeply", behind);
         }
-        Fault::Limit { kind, place, .. } => {
-            Ok(push_phrase(said, phrase_of_limit(kind), piece_at(text, place))?)
-        }
-        Fault::BadCharacter(place) => Ok(push_character(said, piece_at(text, place))?),
-        Fault::BadNumber(place) => Ok(push_number(said, text, place)?),
-        Fault::OpenString(place) => Ok(push_string(said, text, place)?),
-        other => Ok(push(said, plain(&other))?),
+        Fault::BadCharacter(place) => push_character(said, piece_at(text, place)),
+        Fault::BadNumber(place) => push_number(said, text, place),
+        Fault::OpenString(place) => push_string(said, text, place),
+        _ => said.text(plain(fault)),
     }
 }
 
 /// A sentence that names nothing of the text.
 fn plain(fault: &Fault) -> &'static str {
-    match *fault {
+    match fault {
         Fault::TooLong => "the text is longer than 1,048,576 bytes",
         Fault::NotUtf8 => "the text is not UTF-8",
         Fault::OpenComment(_) => "comment not terminated",
-        Fault::TooDeep(_) => "nested too deeply: a program is at most 200 levels high",
         Fault::Memory => "there was not enough memory",
         Fault::Write => "a writer refused bytes",
         Fault::BadWorkers => "the number of workers is not 1 to 64",
@@ -49,18 +43,59 @@ fn plain(fault: &Fault) -> &'static str {
     }
 }
 
-/// Text behind what is there.
-pub(crate) fn push(said: &mut Vec<u8>, text: &str) -> Result<(), AllocError> {
-    said.extend_from_slice(text.as_bytes())
+/// Puts how a typing rule is broken, at this node of the tree, behind what is there, which is nothing.
+fn push_rule(alloc: Global, said: &mut Words, text: &str, rule: Rule, node: u32, place: Place) {
+    push_flaw(alloc, said, text, Flaw::Broken(rule, node));
+    if said.is_empty() {
+        push_phrase(said, &phrase_of_rule(rule), piece_at(text, place));
+    }
 }
 
-/// A sentence about a piece of the text.
-fn push_phrase(said: &mut Vec<u8>, phrase: Phrase, piece: &str) -> Result<(), AllocError> {
-    push(said, phrase.before)?;
-    if phrase.shows_piece {
-        push(said, piece)?;
+/// Puts which limit is exceeded, at this node of the tree if the check finds it, behind what is there, which is nothing.
+fn push_limit(
+    alloc: Global,
+    said: &mut Words,
+    text: &str,
+    kind: LimitKind,
+    node: Option<u32>,
+    place: Place,
+) {
+    match (kind, node) {
+        (LimitKind::SelectClauses, _) => {
+            push_within(
+                alloc,
+                said,
+                text,
+                place,
+                "a select",
+                " has more than 64 clauses",
+            );
+        }
+        (LimitKind::ListEntries, _) => {
+            push_within(
+                alloc,
+                said,
+                text,
+                place,
+                "a list",
+                " has more than 64 entries",
+            );
+        }
+        (_, Some(node)) => push_flaw(alloc, said, text, Flaw::Exceeded(kind, node)),
+        _ => {}
     }
-    push(said, phrase.after)
+    if said.is_empty() {
+        push_phrase(said, &phrase_of_limit(kind), piece_at(text, place));
+    }
+}
+
+/// Puts a sentence about a piece of the text behind what is there.
+fn push_phrase(said: &mut Words, phrase: &Phrase, piece: &str) {
+    said.text(phrase.before);
+    if phrase.shows_piece {
+        said.text(piece);
+    }
+    said.text(phrase.after);
 }
 
 /// The text of a place up to the end of its line, but not more than so many bytes.
@@ -83,59 +118,65 @@ fn shortened(line: &str) -> &str {
     ""
 }
 
-/// A character that begins no token, or one that a string or a comment can't have.
-fn push_character(said: &mut Vec<u8>, piece: &str) -> Result<(), AllocError> {
+/// Tells of a character that begins no token, or one that a string or a comment can't have.
+fn push_character(said: &mut Words, piece: &str) {
     if piece.starts_with("\"") || piece.starts_with("/") {
-        return push(said, "a NUL or a byte-order mark in a string or a comment");
+        return said.text("a NUL or a byte-order mark in a string or a comment");
     }
-    push(said, "invalid character ")?;
-    push(said, piece)
+    said.text("invalid character ");
+    said.text(piece);
 }
 
-/// A number with all letters, digits and points that stand behind it.
-fn push_number(said: &mut Vec<u8>, text: &str, place: Place) -> Result<(), AllocError> {
+/// Tells of a number with all letters, digits and points that stand behind it.
+fn push_number(said: &mut Words, text: &str, place: Place) {
     let from = place.span.from as usize;
     let behind = text.get(from..).unwrap_or("");
     let end = behind
         .bytes()
         .position(|byte| !(byte.is_ascii_alphanumeric() || byte == b'_' || byte == b'.'))
         .unwrap_or(behind.len());
-    push(said, "invalid number ")?;
-    push(said, shortened(behind.get(..end).unwrap_or("")))?;
-    push(
-        said,
-        " (numbers are 0, decimal without a leading zero, or 0x and hexadecimal digits)",
-    )
+    said.text("invalid number ");
+    said.text(shortened(behind.get(..end).unwrap_or("")));
+    said.text(" (numbers are 0, decimal without a leading zero, or 0x and hexadecimal digits)");
 }
 
-/// A string that is not closed on its line, or has another escape.
-fn push_string(said: &mut Vec<u8>, text: &str, place: Place) -> Result<(), AllocError> {
+/// Tells of a string that is not closed on its line, or has another escape.
+fn push_string(said: &mut Words, text: &str, place: Place) {
     let from = place.span.from as usize;
     let behind = text.get(from..).unwrap_or("");
     let line = behind.split('\n').next().unwrap_or("");
-    if has_other_escape(line.as_bytes()) {
-        return push(
-            said,
-            "unknown escape in string (there are \\n, \\t, \\\\ and \\\")",
-        );
+    match other_escape(line.as_bytes()) {
+        Some(at) => push_escape(said, line.get(at..).unwrap_or("")),
+        None => said.text("string not terminated"),
     }
-    push(said, "string not terminated")
 }
 
-/// Whether the string that begins a line has an escape other than `\n`, `\t`, `\\` and `\"`.
-fn has_other_escape(line: &[u8]) -> bool {
+/// Tells of an escape that there is not, with which a piece of a string begins.
+fn push_escape(said: &mut Words, piece: &str) {
+    said.text("unknown escape ");
+    for end in 2..6 {
+        if let Some(escape) = piece.get(..end) {
+            said.text(escape);
+            break;
+        }
+    }
+    said.text(" in string (there are \\n, \\t, \\\\ and \\\")");
+}
+
+/// Where in the string that begins a line the first escape other than `\n`, `\t`, `\\` and `\"` begins, if there is one.
+fn other_escape(line: &[u8]) -> Option<usize> {
     let mut escapes = false;
-    for &byte in line {
+    for (at, &byte) in line.iter().enumerate() {
         if escapes {
             if !matches!(byte, b'n' | b't' | b'\\' | b'"') {
-                return true;
+                return Some(at.saturating_sub(1));
             }
             escapes = false;
         } else {
             escapes = byte == b'\\';
         }
     }
-    false
+    None
 }
 
 /// A token as it is told of.
@@ -147,17 +188,23 @@ fn spoken(found: &str) -> &str {
     }
 }
 
-/// What was found where no tree goes on, and what could stand there.
-fn push_syntax(alloc: Global, said: &mut Vec<u8>, text: &str, place: Place) -> Result<(), Memory> {
-    let found = piece_at(text, place);
-    push(said, "syntax error: unexpected ")?;
+/// What is found at a place where no tree goes on.
+fn found_at(text: &str, place: Place) -> &str {
     if place.span.from as usize >= text.len() {
-        push(said, "end of file")?;
-    } else if found.is_empty() {
-        push(said, "newline")?;
-    } else {
-        push(said, spoken(found))?;
+        return "end of file";
     }
+    let found = piece_at(text, place);
+    if found.is_empty() {
+        "newline"
+    } else {
+        spoken(found)
+    }
+}
+
+/// Tells what was found where no tree goes on, and what could stand there.
+fn push_syntax(alloc: Global, said: &mut Words, text: &str, place: Place) {
+    said.text("syntax error: unexpected ");
+    said.text(found_at(text, place));
     let from = place.span.from as usize;
-    push_expected(alloc, said, text.get(..from).unwrap_or(""))
+    push_expected(alloc, said, text.get(..from).unwrap_or(""));
 }

@@ -2,6 +2,7 @@
 
 use crate::number::{comm_end, expression_end, simple_end, type_end};
 use crate::unit::{Walk, declared_end};
+use std::alloc::Global;
 use syntax::node::IfHeader;
 use syntax::{
     ClauseNode, ForHeader, FunctionNode, IfNode, NodeId, SimpleNode, StatementNode, TopNode,
@@ -11,8 +12,8 @@ use syntax::{
 const NOWHERE: NodeId = NodeId::MAX;
 
 /// The number behind the nodes of a statement. The one before it is the statement's own.
-pub fn statement_end(first: NodeId, statement: &StatementNode) -> NodeId {
-    let mut walk = Walk::new(NOWHERE, first);
+pub fn statement_end(alloc: Global, first: NodeId, statement: &StatementNode) -> NodeId {
+    let mut walk = Walk::new(alloc, NOWHERE, first);
     walk.pass_statement(statement);
     walk.end
 }
@@ -23,8 +24,8 @@ pub fn simple_statement_end(first: NodeId, simple: &SimpleNode) -> NodeId {
 }
 
 /// The number behind the nodes of an `if`.
-pub fn if_end(first: NodeId, branch: &IfNode) -> NodeId {
-    let mut walk = Walk::new(NOWHERE, first);
+pub fn if_end(alloc: Global, first: NodeId, branch: &IfNode) -> NodeId {
+    let mut walk = Walk::new(alloc, NOWHERE, first);
     walk.pass_if(branch);
     walk.end
 }
@@ -39,23 +40,23 @@ pub fn then_first(first: NodeId, branch: &IfNode) -> NodeId {
 }
 
 /// The first node of what stands behind the block of an `if`.
-pub fn else_first(first: NodeId, branch: &IfNode) -> NodeId {
-    let mut walk = Walk::new(NOWHERE, then_first(first, branch));
+pub fn else_first(alloc: Global, first: NodeId, branch: &IfNode) -> NodeId {
+    let mut walk = Walk::new(alloc, NOWHERE, then_first(first, branch));
     walk.pass_block(branch.body.as_slice());
     walk.end
 }
 
 /// The first node of the body of a `for`.
-pub fn loop_first(first: NodeId, header: &ForHeader) -> NodeId {
-    let mut walk = Walk::new(NOWHERE, first);
+pub fn loop_first(alloc: Global, first: NodeId, header: &ForHeader) -> NodeId {
+    let mut walk = Walk::new(alloc, NOWHERE, first);
     walk.pass_header(header);
     walk.end
 }
 
 /// The first node of what a `for` does behind each turn; of a `for` that does nothing there, of its body.
-pub fn post_first(first: NodeId, header: &ForHeader) -> NodeId {
+pub fn post_first(alloc: Global, first: NodeId, header: &ForHeader) -> NodeId {
     let ForHeader::Clauses(start, condition, _) = header else {
-        return loop_first(first, header);
+        return loop_first(alloc, first, header);
     };
     let middle = match start {
         None => first,
@@ -68,15 +69,15 @@ pub fn post_first(first: NodeId, header: &ForHeader) -> NodeId {
 }
 
 /// The number behind the nodes of a clause of a `select`.
-fn clause_end(first: NodeId, clause: &ClauseNode) -> NodeId {
-    let mut walk = Walk::new(NOWHERE, first);
+fn clause_end(alloc: Global, first: NodeId, clause: &ClauseNode) -> NodeId {
+    let mut walk = Walk::new(alloc, NOWHERE, first);
     walk.pass_clause(clause);
     walk.end
 }
 
 /// The first node of the statements of a `select`'s clause of this number, counted from 1 without the default, or of the
 /// default's where the number is 0. Where there is none, the number behind all clauses.
-pub fn clause_first(first: NodeId, clauses: &[ClauseNode], number: usize) -> NodeId {
+pub fn clause_first(alloc: Global, first: NodeId, clauses: &[ClauseNode], number: usize) -> NodeId {
     let mut left = number;
     let mut start = first;
     for clause in clauses {
@@ -90,9 +91,30 @@ pub fn clause_first(first: NodeId, clauses: &[ClauseNode], number: usize) -> Nod
                 left = left.saturating_sub(1);
             }
         }
-        start = clause_end(start, clause);
+        start = clause_end(alloc, start, clause);
     }
     start
+}
+
+/// The own node of the `select`'s default of this number, counted from 1, if there is one.
+pub fn default_node(
+    alloc: Global,
+    first: NodeId,
+    clauses: &[ClauseNode],
+    number: usize,
+) -> Option<NodeId> {
+    let mut left = number;
+    let mut end = first;
+    for clause in clauses {
+        end = clause_end(alloc, end, clause);
+        if clause.comm.is_none() {
+            left = left.saturating_sub(1);
+            if left == 0 {
+                return Some(end.saturating_sub(1));
+            }
+        }
+    }
+    None
 }
 
 /// The first node of the body of a function.
@@ -105,8 +127,8 @@ pub fn function_first(first: NodeId, function: &FunctionNode) -> NodeId {
 }
 
 /// The number behind the nodes of a declaration.
-pub fn top_end(first: NodeId, top: &TopNode) -> NodeId {
-    let mut walk = Walk::new(NOWHERE, first);
+pub fn top_end(alloc: Global, first: NodeId, top: &TopNode) -> NodeId {
+    let mut walk = Walk::new(alloc, NOWHERE, first);
     walk.pass_top(top);
     walk.end
 }

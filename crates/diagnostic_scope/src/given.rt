@@ -1,19 +1,19 @@
 //! The values of a unit, and what each is for.
 
-use crate::number::{after, expression_end, operation_end, part_end, places_end, type_end};
+use crate::number::{after, expression_end, operation_end, type_end};
 use crate::scene::Scene;
-use crate::unit::Unit;
+use crate::unit::{Found, Unit};
 use checker_base::operand::worth;
 use checker_base::worth::Worth;
 use checker_operation::place::place;
-use std::alloc::{AllocError, Global};
+use std::alloc::Global;
 use syntax::{
-    ArgumentsNode, CommNode, ExpressionNode, Name, NodeId, OperationNode, PartNode, PlaceNode,
-    RangeTarget, ReturnNode, RightNode, SimpleNode, TypeNode,
+    ArgumentsNode, BinaryOperator, CommNode, ExpressionNode, Name, NodeId, OperationNode, PartNode,
+    PlaceNode, RangeTarget, ReturnNode, RightNode, SimpleNode, TypeNode,
 };
 use type_table::entry::{FunctionEntry, StructEntry};
 use type_table::layout::{function_number, number_of};
-use type_table::scope::own_variable;
+use type_table::scope::{Visible, own_variable};
 use type_table::table::TypeTable;
 use type_table::value_type::{ValueType, element_in, type_in};
 
@@ -41,8 +41,8 @@ pub enum Role<'a> {
     /// It is the argument of this built-in function.
     Measured(&'static str),
     Ranged,
-    /// It stands behind an operator in an assignment.
-    Operand,
+    /// It stands behind this operator in an assignment.
+    Operand(BinaryOperator),
 }
 
 /// A value, the numbers of its nodes, what it is for, and the type that is wanted there, if that is known.
@@ -72,13 +72,33 @@ pub struct Called<'a> {
     pub arguments: &'a ArgumentsNode,
 }
 
-/// All values of a unit, its operation and its call, if it has them.
+/// A type as it is written, and the numbers of its nodes.
+#[derive(Clone, Copy)]
+pub struct Written<'a> {
+    pub first: NodeId,
+    pub end: NodeId,
+    pub written: &'a TypeNode,
+}
+
+/// What a unit has that sentences tell of.
 #[derive(Drop)]
 pub struct Parts<'a> {
+    /// The first node of the unit.
+    pub first: NodeId,
+    /// The places that it assigns to, whose nodes are its first ones.
+    pub places: Vec<&'a PlaceNode>,
+    /// The names that it declares.
+    pub names: Vec<&'a Name>,
+    /// The types that are written in it.
+    pub types: Vec<Written<'a>>,
     pub values: Vec<Given<'a>>,
-    pub made: Option<Made<'a>>,
-    pub called: Option<Called<'a>>,
-    /// The number behind the nodes of these.
+    pub operations: Vec<Made<'a>>,
+    pub calls: Vec<Called<'a>>,
+    /// What it does to its place, if it counts: `++` or `--`.
+    pub step: &'static str,
+    /// Whether something is missing, since a request for memory was refused.
+    pub is_cut: bool,
+    /// The number behind the nodes of what was taken.
     end: NodeId,
 }
 
@@ -108,13 +128,13 @@ fn role_at(target: Target<'_>) -> Role<'_> {
 /// The type that is wanted of the value with this number.
 fn wanted_at<'a>(
     table: &TypeTable<'a>,
-    scene: &Scene<'a>,
+    visible: &Visible<'a>,
     target: Target<'a>,
     index: usize,
 ) -> Option<ValueType<'a>> {
     match target {
-        Target::Places(places) => place_type(table, scene, places.get(index)?),
-        Target::Names(names) => name_type(table, scene, names.get(index)?),
+        Target::Places(places) => place_type(table, visible, places.get(index)?),
+        Target::Names(names) => name_type(table, visible, names.get(index)?),
         Target::Variables(kind, count) => if index < count { kind } else { None },
         Target::Untyped => None,
         Target::Parameters(function) => parameter_type(table, function, index),
@@ -122,75 +142,141 @@ fn wanted_at<'a>(
 }
 
 impl<'a> Parts<'a> {
+    /// Nothing yet of a unit that begins with this node.
+    fn new(alloc: Global, first: NodeId) -> Parts<'a> {
+        Parts {
+            first,
+            places: Vec::new(alloc),
+            names: Vec::new(alloc),
+            types: Vec::new(alloc),
+            values: Vec::new(alloc),
+            operations: Vec::new(alloc),
+            calls: Vec::new(alloc),
+            step: "",
+            is_cut: false,
+            end: first,
+        }
+    }
+
+    /// Takes a place.
+    fn take_place(&mut self, place: &'a PlaceNode) {
+        if self.places.push(place).is_err() {
+            self.is_cut = true;
+        }
+        self.end = after(self.end);
+    }
+
+    /// Takes places.
+    fn take_places(&mut self, places: &'a [PlaceNode]) {
+        for place in places {
+            self.take_place(place);
+        }
+    }
+
+    /// Takes a name that is declared.
+    fn take_name(&mut self, name: &'a Name) {
+        if self.names.push(name).is_err() {
+            self.is_cut = true;
+        }
+    }
+
+    /// Takes names that are declared.
+    fn take_names(&mut self, names: &'a [Name]) {
+        for name in names {
+            self.take_name(name);
+        }
+    }
+
+    /// Takes a type.
+    fn take_type(&mut self, written: &'a TypeNode) {
+        let first = self.end;
+        let end = type_end(first, written);
+        self.end = end;
+        let one = Written {
+            first,
+            end,
+            written,
+        };
+        if self.types.push(one).is_err() {
+            self.is_cut = true;
+        }
+    }
+
     /// Takes a value.
     fn take(
         &mut self,
         expression: &'a ExpressionNode,
         role: Role<'a>,
         wanted: Option<ValueType<'a>>,
-    ) -> Result<(), AllocError> {
+    ) {
         let first = self.end;
         let end = expression_end(first, expression);
         self.end = end;
-        self.values.push(Given {
+        self.keep(Given {
             first,
             end,
             expression,
             role,
             wanted,
-        })?;
-        Ok(())
+        });
+    }
+
+    /// Keeps a value.
+    fn keep(&mut self, value: Given<'a>) {
+        if self.values.push(value).is_err() {
+            self.is_cut = true;
+        }
     }
 
     /// Takes a channel from which one receives.
-    fn take_channel(&mut self, channel: &'a ExpressionNode) -> Result<(), AllocError> {
-        self.take(channel, Role::ReceivedFrom, None)
+    fn take_channel(&mut self, channel: &'a ExpressionNode) {
+        self.take(channel, Role::ReceivedFrom, None);
     }
 
     /// Takes values that go there.
     fn take_all(
         &mut self,
         table: &TypeTable<'a>,
-        scene: &Scene<'a>,
+        visible: &Visible<'a>,
         values: &'a [ExpressionNode],
         target: Target<'a>,
-    ) -> Result<(), AllocError> {
+    ) {
         for (index, value) in values.iter().enumerate() {
-            let wanted = wanted_at(table, scene, target, index);
-            self.take(value, role_at(target), wanted)?;
+            let wanted = wanted_at(table, visible, target, index);
+            self.take(value, role_at(target), wanted);
         }
-        Ok(())
     }
 
     /// Takes a call.
     fn take_call(
         &mut self,
         table: &TypeTable<'a>,
-        scene: &Scene<'a>,
+        visible: &Visible<'a>,
         function: &'a Name,
         arguments: &'a ArgumentsNode,
-    ) -> Result<(), AllocError> {
+    ) {
         let values = arguments.values.as_slice();
-        self.take_all(table, scene, values, Target::Parameters(function))?;
-        self.called = Some(Called {
+        self.take_all(table, visible, values, Target::Parameters(function));
+        self.keep_call(Called {
             node: self.end,
             function,
             arguments,
         });
         self.end = after(self.end);
-        Ok(())
+    }
+
+    /// Keeps a call.
+    fn keep_call(&mut self, called: Called<'a>) {
+        if self.calls.push(called).is_err() {
+            self.is_cut = true;
+        }
     }
 
     /// Takes a `make`.
-    fn take_make(
-        &mut self,
-        written: &'a TypeNode,
-        size: &'a Option<ExpressionNode>,
-    ) -> Result<(), AllocError> {
-        self.end = type_end(self.end, written);
-        match size {
-            Some(size) => self.take(size, Role::Size, Some(ValueType::Int)),
-            None => Ok(()),
+    fn take_make(&mut self, written: &'a TypeNode, size: &'a Option<ExpressionNode>) {
+        self.take_type(written);
+        if let Some(size) = size {
+            self.take(size, Role::Size, Some(ValueType::Int));
         }
     }
 
@@ -198,12 +284,12 @@ impl<'a> Parts<'a> {
     fn take_operands(
         &mut self,
         table: &TypeTable<'a>,
-        scene: &Scene<'a>,
+        visible: &Visible<'a>,
         operation: &'a OperationNode,
-    ) -> Result<(), AllocError> {
+    ) {
         match operation {
             OperationNode::Call(function, arguments) => {
-                self.take_call(table, scene, function, arguments)
+                self.take_call(table, visible, function, arguments);
             }
             OperationNode::Receive(channel) => self.take_channel(channel),
             OperationNode::Make(written, size) => self.take_make(written, size),
@@ -216,165 +302,220 @@ impl<'a> Parts<'a> {
     fn take_operation(
         &mut self,
         table: &TypeTable<'a>,
-        scene: &Scene<'a>,
+        visible: &Visible<'a>,
         operation: &'a OperationNode,
         role: Role<'a>,
         wanted: Option<ValueType<'a>>,
-    ) -> Result<(), AllocError> {
+    ) {
         let end = operation_end(self.end, operation);
-        self.take_operands(table, scene, operation)?;
-        self.made = Some(Made {
+        self.take_operands(table, visible, operation);
+        self.keep_operation(Made {
             node: end.saturating_sub(1),
             operation,
             role,
             wanted,
         });
         self.end = end;
-        Ok(())
+    }
+
+    /// Keeps an operation.
+    fn keep_operation(&mut self, made: Made<'a>) {
+        if self.operations.push(made).is_err() {
+            self.is_cut = true;
+        }
     }
 
     /// Takes a right side, whose values go there.
     fn take_right(
         &mut self,
         table: &TypeTable<'a>,
-        scene: &Scene<'a>,
+        visible: &Visible<'a>,
         right: &'a RightNode,
         target: Target<'a>,
-    ) -> Result<(), AllocError> {
+    ) {
         match right {
             RightNode::Operation(operation) => {
-                let wanted = wanted_at(table, scene, target, 0);
-                self.take_operation(table, scene, operation, role_at(target), wanted)
+                let wanted = wanted_at(table, visible, target, 0);
+                self.take_operation(table, visible, operation, role_at(target), wanted);
             }
-            RightNode::Values(values) => self.take_all(table, scene, values.as_slice(), target),
+            RightNode::Values(values) => {
+                self.take_all(table, visible, values.as_slice(), target);
+            }
         }
     }
 
     /// Takes an argument of a print.
-    fn take_part(&mut self, part: &'a PartNode) -> Result<(), AllocError> {
+    fn take_part(&mut self, part: &'a PartNode) {
         match part {
             PartNode::Value(value) => self.take(value, Role::Printed, None),
-            PartNode::Text(_) => {
-                self.end = part_end(self.end, part);
-                Ok(())
-            }
+            PartNode::Text(_) => self.end = after(self.end),
         }
     }
 
     /// Takes arguments of a print.
-    fn take_printed(&mut self, parts: &'a [PartNode]) -> Result<(), AllocError> {
+    fn take_printed(&mut self, parts: &'a [PartNode]) {
         for part in parts {
-            self.take_part(part)?;
+            self.take_part(part);
         }
-        Ok(())
     }
 
     /// Takes a send.
     fn take_send(
         &mut self,
         table: &TypeTable<'a>,
-        scene: &Scene<'a>,
+        visible: &Visible<'a>,
         channel: &'a ExpressionNode,
         value: &'a ExpressionNode,
-    ) -> Result<(), AllocError> {
-        self.take(channel, Role::SentTo, None)?;
-        self.take(value, Role::Sent, element_of(table, scene, channel))
+    ) {
+        self.take(channel, Role::SentTo, None);
+        self.take(value, Role::Sent, element_of(table, visible, channel));
     }
 
-    /// Takes the parts of an assignment.
+    /// Takes an assignment.
     fn take_assigned(
         &mut self,
         table: &TypeTable<'a>,
-        scene: &Scene<'a>,
+        visible: &Visible<'a>,
         places: &'a [PlaceNode],
         right: &'a RightNode,
-    ) -> Result<(), AllocError> {
-        self.end = places_end(self.end, places.len());
-        self.take_right(table, scene, right, Target::Places(places))
+    ) {
+        self.take_places(places);
+        self.take_right(table, visible, right, Target::Places(places));
     }
 
-    /// Takes the value in an assignment with an operator.
-    fn take_update(&mut self, value: &'a ExpressionNode) -> Result<(), AllocError> {
-        self.end = after(self.end);
-        self.take(value, Role::Operand, None)
+    /// Takes a `:=`.
+    fn take_defined(
+        &mut self,
+        table: &TypeTable<'a>,
+        visible: &Visible<'a>,
+        names: &'a [Name],
+        right: &'a RightNode,
+    ) {
+        self.take_names(names);
+        self.take_right(table, visible, right, Target::Names(names));
     }
 
-    /// Takes the parts of a simple statement.
+    /// Takes a `++` or a `--`.
+    fn take_step(&mut self, place: &'a PlaceNode, step: &'static str) {
+        self.step = step;
+        self.take_place(place);
+    }
+
+    /// Takes an assignment with an operator.
+    fn take_update(
+        &mut self,
+        place: &'a PlaceNode,
+        operator: BinaryOperator,
+        value: &'a ExpressionNode,
+    ) {
+        self.take_place(place);
+        self.take(value, Role::Operand(operator), None);
+    }
+
+    /// Takes a simple statement.
     fn take_simple(
         &mut self,
         table: &TypeTable<'a>,
-        scene: &Scene<'a>,
+        visible: &Visible<'a>,
         simple: &'a SimpleNode,
-    ) -> Result<(), AllocError> {
+    ) {
         match simple {
             SimpleNode::Call(function, arguments) => {
-                self.take_call(table, scene, function, arguments)
+                self.take_call(table, visible, function, arguments);
             }
             SimpleNode::Close(channel) => self.take(channel, Role::Closed, None),
             SimpleNode::Print(_, parts, _) => self.take_printed(parts.as_slice()),
             SimpleNode::Receive(channel) => self.take_channel(channel),
-            SimpleNode::Send(channel, value) => self.take_send(table, scene, channel, value),
-            SimpleNode::Increment(_) | SimpleNode::Decrement(_) => Ok(()),
+            SimpleNode::Send(channel, value) => self.take_send(table, visible, channel, value),
+            SimpleNode::Increment(place) => self.take_step(place, "++"),
+            SimpleNode::Decrement(place) => self.take_step(place, "--"),
             SimpleNode::Assign(places, right) => {
-                self.take_assigned(table, scene, places.as_slice(), right)
+                self.take_assigned(table, visible, places.as_slice(), right);
             }
             SimpleNode::Define(names, right) => {
-                self.take_right(table, scene, right, Target::Names(names.as_slice()))
+                self.take_defined(table, visible, names.as_slice(), right);
             }
-            SimpleNode::Update(_, _, value) => self.take_update(value),
+            SimpleNode::Update(place, operator, value) => {
+                self.take_update(place, *operator, value);
+            }
         }
     }
 
-    /// Takes the channel of a clause of a `select` that assigns what it receives to one place, or to two.
+    /// Takes a clause of a `select` that assigns what it receives to one place, or to two.
     fn take_received(
         &mut self,
+        place: &'a PlaceNode,
         other: &'a Option<PlaceNode>,
         channel: &'a ExpressionNode,
-    ) -> Result<(), AllocError> {
-        self.end = places_end(self.end, if other.is_some() { 2 } else { 1 });
-        self.take_channel(channel)
+    ) {
+        self.take_place(place);
+        if let Some(other) = other {
+            self.take_place(other);
+        }
+        self.take_channel(channel);
     }
 
-    /// Takes the parts of what a clause of a `select` waits for.
-    fn take_comm(
+    /// Takes a clause of a `select` that declares one name, or two, with what it receives.
+    fn take_declared(
         &mut self,
-        table: &TypeTable<'a>,
-        scene: &Scene<'a>,
-        comm: &'a CommNode,
-    ) -> Result<(), AllocError> {
+        name: &'a Name,
+        other: &'a Option<Name>,
+        channel: &'a ExpressionNode,
+    ) {
+        self.take_name(name);
+        if let Some(other) = other {
+            self.take_name(other);
+        }
+        self.take_channel(channel);
+    }
+
+    /// Takes what a clause of a `select` waits for.
+    fn take_comm(&mut self, table: &TypeTable<'a>, visible: &Visible<'a>, comm: &'a CommNode) {
         match comm {
-            CommNode::Send(channel, value) => self.take_send(table, scene, channel, value),
-            CommNode::Receive(channel) | CommNode::Define(_, _, channel) => {
-                self.take_channel(channel)
-            }
-            CommNode::Assign(_, other, channel) => self.take_received(other, channel),
+            CommNode::Send(channel, value) => self.take_send(table, visible, channel, value),
+            CommNode::Receive(channel) => self.take_channel(channel),
+            CommNode::Define(name, other, channel) => self.take_declared(name, other, channel),
+            CommNode::Assign(place, other, channel) => self.take_received(place, other, channel),
         }
     }
 
-    /// Takes the values of a `var` with a type.
+    /// Takes a `var` with a type.
     fn take_typed(
         &mut self,
         table: &TypeTable<'a>,
-        scene: &Scene<'a>,
-        count: usize,
+        visible: &Visible<'a>,
+        names: &'a [Name],
         written: &'a TypeNode,
-        right: &'a RightNode,
-    ) -> Result<(), AllocError> {
-        let kind = type_in(table, &scene.visible, written);
-        self.end = type_end(self.end, written);
-        self.take_right(table, scene, right, Target::Variables(kind, count))
+        right: &'a Option<RightNode>,
+    ) {
+        self.take_names(names);
+        self.take_type(written);
+        if let Some(right) = right {
+            let kind = type_in(table, visible, written);
+            self.take_right(table, visible, right, Target::Variables(kind, names.len()));
+        }
     }
 
-    /// Takes the source of a range.
-    fn take_range(
+    /// Takes a `var` with values alone.
+    fn take_untyped(
         &mut self,
-        target: &'a RangeTarget,
-        source: &'a ExpressionNode,
-    ) -> Result<(), AllocError> {
-        if let RangeTarget::Assign(_) = target {
-            self.end = after(self.end);
+        table: &TypeTable<'a>,
+        visible: &Visible<'a>,
+        names: &'a [Name],
+        right: &'a RightNode,
+    ) {
+        self.take_names(names);
+        self.take_right(table, visible, right, Target::Untyped);
+    }
+
+    /// Takes the head of a range.
+    fn take_range(&mut self, target: &'a RangeTarget, source: &'a ExpressionNode) {
+        match target {
+            RangeTarget::Nothing => {}
+            RangeTarget::Define(name) => self.take_name(name),
+            RangeTarget::Assign(place) => self.take_place(place),
         }
-        self.take(source, Role::Ranged, None)
+        self.take(source, Role::Ranged, None);
     }
 
     /// Takes what a `return` gives.
@@ -383,50 +524,51 @@ impl<'a> Parts<'a> {
         table: &TypeTable<'a>,
         scene: &Scene<'a>,
         returned: &'a ReturnNode,
-    ) -> Result<(), AllocError> {
+    ) {
+        let wanted = scene.result;
         match returned {
-            ReturnNode::Nothing => Ok(()),
-            ReturnNode::Value(value) => self.take(value, Role::Returned, scene.result),
+            ReturnNode::Nothing => {}
+            ReturnNode::Value(value) => self.take(value, Role::Returned, wanted),
             ReturnNode::Operation(operation) => {
-                self.take_operation(table, scene, operation, Role::Returned, scene.result)
+                self.take_operation(table, &scene.visible, operation, Role::Returned, wanted);
             }
         }
     }
 
-    /// Takes the parts of a unit.
-    fn take_unit(&mut self, table: &TypeTable<'a>, scene: &Scene<'a>) -> Result<(), AllocError> {
-        match scene.found.unit {
-            Unit::Simple(simple) => self.take_simple(table, scene, simple),
-            Unit::Typed(names, written, Some(right)) => {
-                self.take_typed(table, scene, names.len(), written, right)
+    /// Takes a condition; `in_for` says whether it is that of a `for`.
+    fn take_condition(&mut self, in_for: bool, condition: &'a ExpressionNode) {
+        self.take(condition, Role::Condition(in_for), Some(ValueType::Bool));
+    }
+
+    /// Takes a unit.
+    fn take_unit(&mut self, table: &TypeTable<'a>, scene: &Scene<'a>, unit: &Unit<'a>) {
+        let visible = &scene.visible;
+        match *unit {
+            Unit::Simple(simple) => self.take_simple(table, visible, simple),
+            Unit::Typed(names, written, right) => {
+                self.take_typed(table, visible, names, written, right);
             }
-            Unit::Untyped(_, right) => self.take_right(table, scene, right, Target::Untyped),
-            Unit::Condition(in_for, condition) => {
-                self.take(condition, Role::Condition(in_for), Some(ValueType::Bool))
-            }
+            Unit::Untyped(names, right) => self.take_untyped(table, visible, names, right),
+            Unit::Condition(in_for, condition) => self.take_condition(in_for, condition),
             Unit::Range(target, source) => self.take_range(target, source),
-            Unit::Comm(comm) => self.take_comm(table, scene, comm),
-            Unit::Go(function, arguments) => self.take_call(table, scene, function, arguments),
+            Unit::Comm(comm) => self.take_comm(table, visible, comm),
+            Unit::Go(function, arguments) => self.take_call(table, visible, function, arguments),
             Unit::Return(returned) => self.take_returned(table, scene, returned),
-            _ => Ok(()),
+            _ => {}
         }
     }
 }
 
-/// The values of the unit of a scene, its operation and its call.
+/// What this unit has.
 pub fn parts_of<'a>(
     alloc: Global,
     table: &TypeTable<'a>,
     scene: &Scene<'a>,
-) -> Result<Parts<'a>, AllocError> {
-    let mut parts = Parts {
-        values: Vec::new(alloc),
-        made: None,
-        called: None,
-        end: scene.found.first,
-    };
-    parts.take_unit(table, scene)?;
-    Ok(parts)
+    found: &Found<'a>,
+) -> Parts<'a> {
+    let mut parts = Parts::new(alloc, found.first);
+    parts.take_unit(table, scene, &found.unit);
+    parts
 }
 
 /// The function of this name, if there is one.
@@ -463,10 +605,10 @@ fn parameter_type<'a>(
 /// The type of the elements of a channel, if the expression is one.
 pub fn element_of<'a>(
     table: &TypeTable<'a>,
-    scene: &Scene<'a>,
+    visible: &Visible<'a>,
     channel: &ExpressionNode,
 ) -> Option<ValueType<'a>> {
-    match worth(table, &scene.visible, channel) {
+    match worth(table, visible, channel) {
         Some(Worth::Typed(ValueType::Channel(_, element))) => Some(element_in(table, element)),
         _ => None,
     }
@@ -475,18 +617,22 @@ pub fn element_of<'a>(
 /// The type of a place, if it has one.
 pub fn place_type<'a>(
     table: &TypeTable<'a>,
-    scene: &Scene<'a>,
+    visible: &Visible<'a>,
     node: &PlaceNode,
 ) -> Option<ValueType<'a>> {
-    match place(table, &scene.visible, 0, node) {
+    match place(table, visible, 0, node) {
         Ok(kind) => kind,
         Err(_) => None,
     }
 }
 
 /// The type of the variable of this name on the left of a `:=`, if it was there before.
-fn name_type<'a>(table: &TypeTable<'a>, scene: &Scene<'a>, name: &Name) -> Option<ValueType<'a>> {
-    match own_variable(table, &scene.visible, name.bytes.as_slice()) {
+fn name_type<'a>(
+    table: &TypeTable<'a>,
+    visible: &Visible<'a>,
+    name: &Name,
+) -> Option<ValueType<'a>> {
+    match own_variable(table, visible, name.bytes.as_slice()) {
         Some(entry) => Some(entry.kind),
         None => None,
     }

@@ -5,8 +5,6 @@
 pub mod ends;
 pub mod given;
 mod number;
-pub mod operand;
 pub mod scene;
 pub mod search;
 pub mod unit;
-pub mod words;

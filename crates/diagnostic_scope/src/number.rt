@@ -72,7 +72,7 @@ pub(crate) fn right_end(first: NodeId, right: &RightNode) -> NodeId {
 }
 
 /// The number behind the node of an argument of a print.
-pub(crate) fn part_end(first: NodeId, part: &PartNode) -> NodeId {
+fn part_end(first: NodeId, part: &PartNode) -> NodeId {
     match part {
         PartNode::Value(value) => expression_end(first, value),
         PartNode::Text(_) => after(first),
@@ -89,7 +89,7 @@ fn parts_end(first: NodeId, parts: &[PartNode]) -> NodeId {
 }
 
 /// The number behind so many places, each of which is a node.
-pub(crate) fn places_end(first: NodeId, places: usize) -> NodeId {
+fn places_end(first: NodeId, places: usize) -> NodeId {
     first.saturating_add(u32::try_from(places).unwrap_or(u32::MAX))
 }
 

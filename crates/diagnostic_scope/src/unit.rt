@@ -3,13 +3,14 @@
 use crate::number::{
     after, comm_end, expression_end, operation_end, right_end, simple_end, type_end, values_end,
 };
+use std::alloc::Global;
 use syntax::{
-    ArgumentsNode, ClauseNode, CommNode, DeclaredNode, ElseNode, ExpressionNode, ForHeader,
-    FunctionNode, IfHeader, IfNode, Name, NodeId, RangeTarget, ReturnNode, RightNode, SimpleNode,
-    StatementNode, StructNode, TopNode, TypeNode,
+    ArgumentsNode, ClauseNode, CommNode, DeclaredNode, ElseNode, ExpressionNode, FileNode,
+    ForHeader, FunctionNode, IfHeader, IfNode, Name, NodeId, RangeTarget, ReturnNode, RightNode,
+    SimpleNode, StatementNode, StructNode, TopNode, TypeNode,
 };
 
-/// A part of a file that holds no statements, or the head of one that does.
+/// A part of a file that holds no statements, or one that does without them.
 #[derive(Clone, Copy)]
 pub enum Unit<'a> {
     Simple(&'a SimpleNode),
@@ -22,6 +23,8 @@ pub enum Unit<'a> {
     Range(&'a RangeTarget, &'a ExpressionNode),
     /// What a clause of a `select` waits for.
     Comm(&'a CommNode),
+    /// A `select`, by its clauses.
+    Select(&'a [ClauseNode]),
     Go(&'a Name, &'a ArgumentsNode),
     Return(&'a ReturnNode),
     Break,
@@ -39,23 +42,26 @@ pub struct Found<'a> {
     pub unit: Unit<'a>,
 }
 
-/// A walk past the nodes of a file, in the order of their numbers, in search of one of them.
+/// A walk past the nodes of a file, in the order of their numbers, in search of the units that hold one of them.
 #[derive(Drop)]
-pub(crate) struct Walk<'a> {
+pub struct Walk<'a> {
     node: NodeId,
     /// The number behind the nodes that were passed.
     pub end: NodeId,
-    /// The unit in which the node stands, once that was passed.
-    pub found: Option<Found<'a>>,
+    /// The units that hold the node, the innermost first, of those that were passed.
+    pub found: Vec<Found<'a>>,
+    /// Whether a unit is missing, since a request for memory was refused.
+    pub is_cut: bool,
 }
 
 impl<'a> Walk<'a> {
     /// A walk that begins before the node `first`.
-    pub(crate) fn new(node: NodeId, first: NodeId) -> Walk<'a> {
+    pub(crate) fn new(alloc: Global, node: NodeId, first: NodeId) -> Walk<'a> {
         Walk {
             node,
             end: first,
-            found: None,
+            found: Vec::new(alloc),
+            is_cut: false,
         }
     }
 
@@ -67,8 +73,15 @@ impl<'a> Walk<'a> {
     /// Passes a unit, whose nodes have the numbers from `first` to before `end`.
     fn pass(&mut self, first: NodeId, end: NodeId, unit: Unit<'a>) {
         self.end = end;
-        if self.node < end && self.found.is_none() {
-            self.found = Some(Found { first, unit });
+        if first <= self.node && self.node < end {
+            self.keep(Found { first, unit });
+        }
+    }
+
+    /// Keeps a unit that holds the node.
+    fn keep(&mut self, found: Found<'a>) {
+        if self.found.push(found).is_err() {
+            self.is_cut = true;
         }
     }
 
@@ -155,13 +168,14 @@ impl<'a> Walk<'a> {
         self.pass_block(clause.body.as_slice());
     }
 
-    /// Passes the clauses of a `select`.
+    /// Passes a `select`, whose own node tells of its clauses.
     #[cycle(statement)]
-    fn pass_clauses(&mut self, clauses: &'a [ClauseNode]) {
+    fn pass_select(&mut self, clauses: &'a [ClauseNode]) {
+        let first = self.end;
         for clause in clauses {
             self.pass_clause(clause);
         }
-        self.pass_node();
+        self.pass(first, after(self.end), Unit::Select(clauses));
     }
 
     /// Passes a `return`.
@@ -227,7 +241,7 @@ impl<'a> Walk<'a> {
             }
             StatementNode::If(branch) => self.pass_if(branch),
             StatementNode::For(header, body) => self.pass_for(header, body.as_slice()),
-            StatementNode::Select(clauses) => self.pass_clauses(clauses.as_slice()),
+            StatementNode::Select(clauses) => self.pass_select(clauses.as_slice()),
             _ => self.pass_leaf(statement),
         }
     }
@@ -289,4 +303,13 @@ pub fn declared_at<'a>(
         }
     }
     None
+}
+
+/// The units of a file that hold a node.
+pub fn units_at<'a>(alloc: Global, file: &'a FileNode, node: NodeId) -> Walk<'a> {
+    let mut walk = Walk::new(alloc, node, 0);
+    for top in file.tops.as_slice() {
+        walk.pass_top(top);
+    }
+    walk
 }

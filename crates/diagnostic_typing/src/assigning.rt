@@ -6,22 +6,17 @@ use checker_base::worth::Worth;
 use diagnostic_scope::given::{
     Given, Made, Role, element_of, function_named, place_type, struct_named,
 };
-use diagnostic_scope::operand::{push_made, push_operand};
 use diagnostic_scope::search::Filled;
-use diagnostic_scope::unit::Unit;
-use diagnostic_scope::words::{Words, push_expression, push_type};
-use syntax::{CommNode, ExpressionNode, OperationNode, PlaceNode, RangeTarget};
+use diagnostic_words::operand::{push_made, push_operand};
+use diagnostic_words::words::{Words, push_expression, push_type};
+use syntax::{ExpressionNode, OperationNode, PlaceNode};
 use type_table::table::TypeTable;
 use type_table::value_type::{ValueType, type_in};
 
-/// Puts what a value is for behind what is there.
-fn push_role(said: &mut Words, role: Role<'_>) {
-    said.text(match role {
+/// What a value is for, but for an argument of a function.
+fn role_text(role: &Role<'_>) -> &'static str {
+    match role {
         Role::Declared => "variable declaration",
-        Role::Argument(function) => {
-            said.text("argument to ");
-            return said.name(function);
-        }
         Role::Printed => "argument to print",
         Role::Sent => "send",
         Role::Returned => "return statement",
@@ -29,7 +24,15 @@ fn push_role(said: &mut Words, role: Role<'_>) {
         Role::Condition(false) => "condition of if",
         Role::Condition(true) => "condition of for",
         _ => "assignment",
-    });
+    }
+}
+
+/// Puts what a value is for behind what is there.
+fn push_role(said: &mut Words, role: &Role<'_>) {
+    match role {
+        Role::Argument(function) => said.around("argument to ", function, ""),
+        _ => said.text(role_text(role)),
+    }
 }
 
 /// Puts the type that is wanted, if it is known, behind what is there.
@@ -46,7 +49,7 @@ fn push_wanted(
     said: &mut Words,
     table: &TypeTable<'_>,
     wanted: Option<ValueType<'_>>,
-    role: Role<'_>,
+    role: &Role<'_>,
 ) {
     push_as(said, table, wanted);
     said.text(" in ");
@@ -54,91 +57,92 @@ fn push_wanted(
 }
 
 /// Tells that a value does not fit.
-fn push_value(said: &mut Words, at: Setting<'_, '_>, value: Given<'_>) {
+fn push_value(said: &mut Words, at: Setting<'_, '_>, value: &Given<'_>) {
     said.text("cannot use ");
-    push_operand(said, at.table, at.scene, value.expression);
-    push_wanted(said, at.table, value.wanted, value.role);
+    push_operand(said, at.table, &at.scene.visible, value.expression);
+    push_wanted(said, at.table, value.wanted, &value.role);
 }
 
 /// The type of the value of an operation.
-fn kind_made<'a>(at: Setting<'_, 'a>, operation: &'a OperationNode) -> Option<ValueType<'a>> {
+pub(crate) fn kind_made<'a>(
+    at: Setting<'_, 'a>,
+    operation: &'a OperationNode,
+) -> Option<ValueType<'a>> {
     match operation {
-        OperationNode::Call(function, _) => { function_named(at.table, function)?.result }
-        OperationNode::Receive(channel) => element_of(at.table, at.scene, channel),
+        OperationNode::Call(function, _) => function_named(at.table, function)?.result,
+        OperationNode::Receive(channel) => element_of(at.table, &at.scene.visible, channel),
         OperationNode::Make(written, _) => type_in(at.table, &at.scene.visible, written),
         OperationNode::Length(_) | OperationNode::Capacity(_) => Some(ValueType::Int),
     }
 }
 
 /// Tells that the value of an operation does not fit.
-fn push_operation_value(said: &mut Words, at: Setting<'_, '_>, made: Made<'_>) {
+fn push_operation_value(said: &mut Words, at: Setting<'_, '_>, made: &Made<'_>) {
     said.text("cannot use ");
-    push_made(
-        said,
-        at.table,
-        made.operation,
-        kind_made(at, made.operation),
-    );
-    push_wanted(said, at.table, made.wanted, made.role);
+    let kind = kind_made(at, made.operation);
+    push_made(said, at.table, made.operation, kind);
+    push_wanted(said, at.table, made.wanted, &made.role);
 }
 
 /// The type of the field that a literal's value is for.
-fn field_type<'a>(at: Setting<'_, 'a>, filled: Filled<'_>) -> Option<ValueType<'a>> {
-    let field = struct_named(at.table, filled.literal)?
-        .fields
-        .get(filled.index)?;
+fn field_type<'a>(at: Setting<'_, 'a>, filled: &Filled<'_>) -> Option<ValueType<'a>> {
+    let entry = struct_named(at.table, filled.literal)?;
+    let field = entry.fields.get(filled.index)?;
     Some(field.kind)
 }
 
 /// Tells that a value does not fit a literal's field.
-fn push_filled(said: &mut Words, at: Setting<'_, '_>, filled: Filled<'_>) {
+fn push_filled(said: &mut Words, at: Setting<'_, '_>, filled: &Filled<'_>) {
     said.text("cannot use ");
-    push_operand(said, at.table, at.scene, filled.value);
+    push_operand(said, at.table, &at.scene.visible, filled.value);
     push_as(said, at.table, field_type(at, filled));
     said.text(" in struct literal");
 }
 
 /// Tells that what is received from a channel does not fit a place.
-fn push_item(
-    said: &mut Words,
-    at: Setting<'_, '_>,
-    channel: &ExpressionNode,
-    place: &PlaceNode,
-    role: &str,
-) {
+fn push_item(said: &mut Words, at: Setting<'_, '_>, channel: &Given<'_>, place: &PlaceNode) {
     said.text("cannot use a value received from ");
-    push_operand(said, at.table, at.scene, channel);
-    push_as(said, at.table, place_type(at.table, at.scene, place));
-    said.text(role);
+    push_operand(said, at.table, &at.scene.visible, channel.expression);
+    let kind = place_type(at.table, &at.scene.visible, place);
+    push_as(said, at.table, kind);
+    said.text(if is_ranged(channel) {
+        " in range"
+    } else {
+        " in assignment"
+    });
 }
 
-/// Tells of an item of a range, or of a clause, that does not fit.
+/// Whether a value is that over which a `for` ranges.
+fn is_ranged(value: &Given<'_>) -> bool {
+    matches!(value.role, Role::Ranged)
+}
+
+/// Tells of an item of a range, or of a clause, that does not fit the first place.
 fn push_received(said: &mut Words, at: Setting<'_, '_>) {
-    match at.scene.found.unit {
-        Unit::Range(RangeTarget::Assign(place), channel) => {
-            push_item(said, at, channel, place, " in range");
-        }
-        Unit::Comm(CommNode::Assign(place, None, channel)) => {
-            push_item(said, at, channel, place, " in assignment");
-        }
-        _ => {}
+    let Some(channel) = at.parts.values.first() else {
+        return;
+    };
+    if let Some(place) = at.parts.places.first() {
+        push_item(said, at, channel, place);
+    }
+}
+
+/// Tells of a value that does not fit: that of a range or a clause, or one that stands for itself.
+fn push_unfit_value(said: &mut Words, at: Setting<'_, '_>) {
+    match at.value() {
+        Some(value) if !is_ranged(value) => push_value(said, at, value),
+        _ => push_received(said, at),
     }
 }
 
 /// Tells of the value at the node of the fault, which does not fit.
 pub(crate) fn push_unfit(said: &mut Words, at: Setting<'_, '_>) {
-    if let Unit::Range(_, _) = at.scene.found.unit {
-        return push_received(said, at);
-    }
     if let Some(made) = at.made() {
         return push_operation_value(said, at, made);
     }
-    if let Some(filled) = at.filled() {
-        return push_filled(said, at, filled);
-    }
-    match at.value() {
-        Some(value) => push_value(said, at, value),
-        None => push_received(said, at),
+    match at.filled() {
+        Some(filled) => push_filled(said, at, &filled),
+        None => push_unfit_value(said, at),
     }
 }
 
@@ -150,7 +154,7 @@ fn push_overflow(said: &mut Words, at: Setting<'_, '_>, part: &ExpressionNode) {
             said.text(" (overflows)");
         }
         _ => {
-            push_operand(said, at.table, at.scene, part);
+            push_operand(said, at.table, &at.scene.visible, part);
             said.text(" overflows int");
         }
     }
@@ -167,7 +171,7 @@ pub(crate) fn push_constant(said: &mut Words, at: Setting<'_, '_>) {
 }
 
 /// Tells of a `nil` that is a value by itself.
-fn push_lone_nil(said: &mut Words, at: Setting<'_, '_>, value: Given<'_>) {
+fn push_lone_nil(said: &mut Words, at: Setting<'_, '_>, value: &Given<'_>) {
     match value.wanted {
         Some(kind) => {
             said.text("cannot use nil as ");
@@ -176,7 +180,7 @@ fn push_lone_nil(said: &mut Words, at: Setting<'_, '_>, value: Given<'_>) {
         }
         None => said.text("use of untyped nil in "),
     }
-    push_role(said, value.role);
+    push_role(said, &value.role);
 }
 
 /// Tells of a `nil` for which no channel type is known.

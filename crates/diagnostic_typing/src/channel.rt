@@ -2,12 +2,12 @@
 
 use crate::place::Setting;
 use diagnostic_scope::given::Role;
-use diagnostic_scope::operand::push_operand;
-use diagnostic_scope::words::{Words, push_written};
+use diagnostic_words::operand::push_operand;
+use diagnostic_words::words::{Words, push_written};
 use syntax::{OperationNode, TypeNode};
 
 /// What is said before an operand that is no channel.
-fn before_no_channel(role: Role<'_>) -> Option<&'static str> {
+fn before_no_channel(role: &Role<'_>) -> Option<&'static str> {
     match role {
         Role::SentTo => Some("invalid operation: cannot send to non-channel "),
         Role::ReceivedFrom => Some("invalid operation: cannot receive from non-channel "),
@@ -23,11 +23,11 @@ pub(crate) fn push_no_channel(said: &mut Words, at: Setting<'_, '_>) {
     let Some(value) = at.value() else {
         return;
     };
-    let Some(before) = before_no_channel(value.role) else {
+    let Some(before) = before_no_channel(&value.role) else {
         return;
     };
     said.text(before);
-    push_operand(said, at.table, at.scene, value.expression);
+    push_operand(said, at.table, &at.scene.visible, value.expression);
     if let Role::Measured(function) = value.role {
         said.text(" for built-in ");
         said.text(function);
@@ -35,7 +35,7 @@ pub(crate) fn push_no_channel(said: &mut Words, at: Setting<'_, '_>) {
 }
 
 /// What is said before a channel whose direction does not allow this.
-fn before_direction(role: Role<'_>) -> Option<&'static str> {
+fn before_direction(role: &Role<'_>) -> Option<&'static str> {
     match role {
         Role::SentTo => Some("invalid operation: cannot send to receive-only channel "),
         Role::Closed => Some("invalid operation: cannot close receive-only channel "),
@@ -50,11 +50,11 @@ pub(crate) fn push_direction(said: &mut Words, at: Setting<'_, '_>) {
     let Some(value) = at.parts.values.first() else {
         return;
     };
-    let Some(before) = before_direction(value.role) else {
+    let Some(before) = before_direction(&value.role) else {
         return;
     };
     said.text(before);
-    push_operand(said, at.table, at.scene, value.expression);
+    push_operand(said, at.table, &at.scene.visible, value.expression);
     if let Role::Ranged = value.role {
         said.text(": receive from send-only channel");
     }
@@ -67,17 +67,21 @@ fn push_no_make(said: &mut Words, written: &TypeNode) {
     said.text("; type must be channel");
 }
 
+/// Tells of a `make` of what is no channel, if the operation is one.
+fn push_unmade_type(said: &mut Words, operation: &OperationNode) {
+    if let OperationNode::Make(written, _) = operation {
+        push_no_make(said, written);
+    }
+}
+
 /// Tells of a `make` of no channel, or of its size.
 pub(crate) fn push_unmade(said: &mut Words, at: Setting<'_, '_>) {
     if let Some(value) = at.value() {
         said.text("invalid argument: size ");
-        push_operand(said, at.table, at.scene, value.expression);
+        push_operand(said, at.table, &at.scene.visible, value.expression);
         return said.text(" must be an int that is not negative");
     }
-    let Some(made) = at.parts.made else {
-        return;
-    };
-    if let OperationNode::Make(written, _) = made.operation {
-        push_no_make(said, written);
+    if let Some(made) = at.made() {
+        push_unmade_type(said, made.operation);
     }
 }

@@ -1,13 +1,13 @@
 //! Values that are too many or too few, and calls of what is no function.
 
+use crate::assigning::kind_made;
 use crate::place::Setting;
 use checker_base::operand::worth;
 use checker_base::worth::Worth;
 use diagnostic_scope::given::{Called, function_named, struct_named};
-use diagnostic_scope::operand::{push_operand, push_worth};
-use diagnostic_scope::unit::Unit;
-use diagnostic_scope::words::{Words, push_call, push_type};
-use syntax::{ExpressionNode, Name, OperationNode, ReturnNode, RightNode, SimpleNode};
+use diagnostic_words::operand::{push_operand, push_worth};
+use diagnostic_words::words::{Words, push_call, push_operation, push_type};
+use syntax::{ExpressionNode, Name, OperationNode};
 use type_table::layout::{function_number, number_of};
 use type_table::scope::variable_named;
 use type_table::value_type::ValueType;
@@ -18,23 +18,28 @@ fn push_count(said: &mut Words, count: usize, one: &str, many: &str) {
     said.text(if count == 1 { one } else { many });
 }
 
-/// Tells how many values a right side has.
-fn push_right(said: &mut Words, right: &RightNode) {
-    match right {
-        RightNode::Operation(OperationNode::Call(function, arguments)) => {
-            push_call(said, function, arguments);
-            said.text(" returns 1 value");
-        }
-        RightNode::Operation(_) => said.text("1 value"),
-        RightNode::Values(values) => push_count(said, values.len(), " value", " values"),
+/// Puts how many values there are behind what is there.
+fn push_values(said: &mut Words, at: Setting<'_, '_>) {
+    if let Some(called) = at.parts.calls.first() {
+        push_call(said, called.function, called.arguments);
+        return said.text(" returns 1 value");
     }
+    let count = if at.parts.operations.is_empty() {
+        at.parts.values.len()
+    } else {
+        1
+    };
+    push_count(said, count, " value", " values");
 }
 
-/// Tells how many names or places there are, and how many values.
-fn push_assignment(said: &mut Words, places: usize, right: &RightNode) {
-    said.text("assignment mismatch: ");
-    push_count(said, places, " variable but ", " variables but ");
-    push_right(said, right);
+/// Tells of an assignment or a declaration with too many or too few values.
+fn push_mismatch(said: &mut Words, at: Setting<'_, '_>) {
+    let places = at.parts.places.len().max(at.parts.names.len());
+    if places > 0 {
+        said.text("assignment mismatch: ");
+        push_count(said, places, " variable but ", " variables but ");
+        push_values(said, at);
+    }
 }
 
 /// Puts the type of a value that is given behind what is there.
@@ -42,7 +47,7 @@ fn push_given(said: &mut Words, at: Setting<'_, '_>, value: &ExpressionNode) {
     match worth(at.table, &at.scene.visible, value) {
         Some(Worth::Constant(_)) => said.text("number"),
         Some(Worth::Nil) => said.text("nil"),
-        _ => push_worth(said, at.table, at.scene, value),
+        _ => push_worth(said, at.table, &at.scene.visible, value),
     }
 }
 
@@ -70,15 +75,13 @@ fn push_want(said: &mut Words, at: Setting<'_, '_>, kinds: &[ValueType<'_>]) {
 fn push_arguments(
     said: &mut Words,
     at: Setting<'_, '_>,
-    called: Called<'_>,
+    called: &Called<'_>,
     parameters: &[ValueType<'_>],
 ) {
     let values = called.arguments.values.as_slice();
     let many = values.len() > parameters.len();
     said.text(if many { "too many" } else { "not enough" });
-    said.text(" arguments in call to ");
-    said.name(called.function);
-    said.text(" (have ");
+    said.around(" arguments in call to ", called.function, " (have ");
     push_have(said, at, values);
     said.text(", want ");
     push_want(said, at, parameters);
@@ -92,24 +95,7 @@ fn push_literal(said: &mut Words, at: Setting<'_, '_>, name: &Name, values: usiz
     };
     let many = values > entry.fields.len();
     said.text(if many { "too many" } else { "too few" });
-    said.text(" values in struct literal of type ");
-    said.name(name);
-}
-
-/// Tells of an assignment or a declaration with too many or too few values.
-fn push_mismatch(said: &mut Words, unit: Unit<'_>) {
-    match unit {
-        Unit::Simple(SimpleNode::Assign(places, right)) => {
-            push_assignment(said, places.len(), right);
-        }
-        Unit::Simple(SimpleNode::Define(names, right)) => {
-            push_assignment(said, names.len(), right);
-        }
-        Unit::Typed(names, _, Some(right)) | Unit::Untyped(names, right) => {
-            push_assignment(said, names.len(), right);
-        }
-        _ => {}
-    }
+    said.around(" values in struct literal of type ", name, "");
 }
 
 /// Tells of too many or too few values.
@@ -118,7 +104,7 @@ pub(crate) fn push_numbers(said: &mut Words, at: Setting<'_, '_>) {
         return push_literal(said, at, name, values.len());
     }
     let Some(called) = at.called() else {
-        return push_mismatch(said, at.scene.found.unit);
+        return push_mismatch(said, at);
     };
     if let Some(entry) = function_named(at.table, called.function) {
         push_arguments(said, at, called, entry.parameters.as_slice());
@@ -128,34 +114,47 @@ pub(crate) fn push_numbers(said: &mut Words, at: Setting<'_, '_>) {
 /// Tells of a value that is returned where there is no result.
 fn push_unwanted(said: &mut Words, at: Setting<'_, '_>, value: &ExpressionNode) {
     said.text("too many return values (have (");
-    match worth(at.table, &at.scene.visible, value) {
-        Some(Worth::Constant(_)) => said.text("number"),
-        _ => push_worth(said, at.table, at.scene, value),
+    push_given(said, at, value);
+    said.text("), want ())");
+}
+
+/// Tells of an operation whose value is returned where there is no result.
+fn push_unwanted_operation(said: &mut Words, at: Setting<'_, '_>, operation: &OperationNode) {
+    said.text("too many return values (have (");
+    match kind_made(at, operation) {
+        Some(kind) => push_type(said, at.table, kind),
+        None => push_operation(said, operation),
     }
     said.text("), want ())");
 }
 
+/// Tells of a `return` without a value where there is a result of this type.
+fn push_nothing(said: &mut Words, at: Setting<'_, '_>, kind: ValueType<'_>) {
+    said.text("not enough return values (have (), want (");
+    push_type(said, at.table, kind);
+    said.text("))");
+}
+
 /// Tells of a `return` with a value too many or too few.
 pub(crate) fn push_returned(said: &mut Words, at: Setting<'_, '_>) {
-    let Unit::Return(returned) = at.scene.found.unit else {
-        return;
-    };
-    match (returned, at.scene.result) {
-        (ReturnNode::Nothing, Some(kind)) => {
-            said.text("not enough return values (have (), want (");
-            push_type(said, at.table, kind);
-            said.text("))");
-        }
-        (ReturnNode::Value(value), None) => push_unwanted(said, at, value),
-        _ => said.text("too many return values"),
+    if let Some(kind) = at.scene.result {
+        return push_nothing(said, at, kind);
+    }
+    if let Some(made) = at.parts.operations.first() {
+        return push_unwanted_operation(said, at, made.operation);
+    }
+    if let Some(value) = at.parts.values.first() {
+        push_unwanted(said, at, value.expression);
     }
 }
 
 /// Tells of a call of a variable of this type.
 fn push_variable(said: &mut Words, at: Setting<'_, '_>, name: &Name, kind: ValueType<'_>) {
-    said.text("invalid operation: cannot call non-function ");
-    said.name(name);
-    said.text(" (variable of type ");
+    said.around(
+        "invalid operation: cannot call non-function ",
+        name,
+        " (variable of type ",
+    );
     push_type(said, at.table, kind);
     said.text(")");
 }
@@ -165,9 +164,8 @@ fn push_no_function(said: &mut Words, at: Setting<'_, '_>, name: &Name) {
     match variable_named(at.table, &at.scene.visible, name.bytes.as_slice()) {
         Some(entry) => push_variable(said, at, name, entry.kind),
         None => {
-            said.text("cannot call ");
-            said.name(name);
-            said.text(": it is not a function (there are no conversions)");
+            let behind = ": it is not a function (there are no conversions)";
+            said.around("cannot call ", name, behind);
         }
     }
 }
@@ -186,18 +184,15 @@ fn push_unprinted(said: &mut Words, at: Setting<'_, '_>) {
         return;
     };
     said.text("cannot print ");
-    push_operand(said, at.table, at.scene, value.expression);
+    push_operand(said, at.table, &at.scene.visible, value.expression);
     said.text(": only ints, bools and strings are printed");
 }
 
 /// Tells of a call of no function, of one without a result that is used as a value, and of what can't be printed.
 pub(crate) fn push_called(said: &mut Words, at: Setting<'_, '_>) {
-    let Some(called) = at.parts.called else {
+    let Some(called) = at.called() else {
         return push_unprinted(said, at);
     };
-    if called.node != at.node {
-        return;
-    }
     if !is_function(at, called.function) {
         return push_no_function(said, at, called.function);
     }

@@ -1,19 +1,27 @@
 //! What is wrong with the declarations of a file.
 
+use crate::limit::push_exceeded;
 use crate::naming::{last_name, push_refused};
-use diagnostic_scope::scene::unit_at;
-use diagnostic_scope::unit::{Unit, declared_at};
-use diagnostic_scope::words::Words;
+use crate::statement::push_select;
+use crate::text::Text;
+use checker_base::flaw::Flaw;
+use diagnostic_scope::unit::{Found, Unit, Walk, declared_at};
+use diagnostic_words::words::Words;
 use go_text::Rule;
+use std::alloc::Global;
 use syntax::{DeclaredNode, FunctionNode, Name, NodeId, StructNode, TopNode};
 use type_table::scope::{is_blank, is_reserved};
 
 /// Whether this is the name of a function of a file.
 fn is_function(tops: &[TopNode], name: &[u8]) -> bool {
-    tops.iter().any(|top| match top {
-        TopNode::Function(function) => function.name.bytes.as_slice() == name,
-        TopNode::Struct(_) => false,
-    })
+    for top in tops {
+        if let TopNode::Function(function) = top {
+            if function.name.bytes.as_slice() == name {
+                return true;
+            }
+        }
+    }
+    false
 }
 
 /// Tells that there is no `main`, or one that takes or gives something.
@@ -25,110 +33,209 @@ fn push_main(said: &mut Words, tops: &[TopNode]) {
     });
 }
 
-/// The first of these names that is refused by itself, or else the last one.
-fn refused_among<'a>(names: &'a [Name]) -> Option<&'a Name> {
-    let refused = names.iter().find(|name| {
-        is_reserved(name.bytes.as_slice()) || is_blank(name.bytes.as_slice())
-    });
-    refused.or(names.last())
+/// How often a name stands among these.
+fn count_among(names: &[Name], name: &[u8]) -> usize {
+    let mut count: usize = 0;
+    for one in names {
+        if one.bytes.as_slice() == name {
+            count = count.saturating_add(1);
+        }
+    }
+    count
 }
 
-/// Tells of a name that a declaration may not declare: its own, or one in this group of fields or parameters.
-fn push_name(said: &mut Words, group: Option<&DeclaredNode>, own: &Name) {
-    let name = match group {
-        Some(group) => refused_among(group.names.as_slice()),
-        None => Some(own),
-    };
+/// How often a name stands among those of fields or parameters.
+fn count_in(declared: &[DeclaredNode], name: &[u8]) -> usize {
+    let mut count: usize = 0;
+    for group in declared {
+        count = count.saturating_add(count_among(group.names.as_slice(), name));
+    }
+    count
+}
+
+/// The first of these names, other than `_`, that stands twice among those of the fields or parameters.
+fn twice_among<'a>(declared: &[DeclaredNode], names: &'a [Name]) -> Option<&'a Name> {
+    for name in names {
+        let bytes = name.bytes.as_slice();
+        if !is_blank(bytes) && count_in(declared, bytes) > 1 {
+            return Some(name);
+        }
+    }
+    None
+}
+
+/// The first of these names that is refused by itself, as the name of a field is where `fields` holds, or else that of a
+/// parameter.
+fn refused_among(names: &[Name], fields: bool) -> Option<&Name> {
+    for name in names {
+        let bytes = name.bytes.as_slice();
+        if is_reserved(bytes) || (fields && is_blank(bytes)) {
+            return Some(name);
+        }
+    }
+    None
+}
+
+/// Tells of a name that may not be declared, if there is one.
+fn push_name(said: &mut Words, name: Option<&Name>) {
     if let Some(name) = name {
         push_refused(said, name);
     }
 }
 
-/// Tells of a struct type with this field twice.
-fn push_twice(said: &mut Words, one: &StructNode, group: &DeclaredNode) {
-    said.text("duplicate field in type ");
-    said.name(&one.name);
-    if let [name] = group.names.as_slice() {
-        said.text(": ");
-        said.name(name);
+/// Tells of a parameter that may not be declared, in this group of them.
+fn push_parameter(said: &mut Words, function: &FunctionNode, group: &DeclaredNode) {
+    let names = group.names.as_slice();
+    match refused_among(names, false) {
+        Some(name) => push_refused(said, name),
+        None => push_name(said, twice_among(function.parameters.as_slice(), names)),
     }
 }
 
-/// Tells of a struct type that has no fields, or one twice, or contains itself.
-fn push_struct(said: &mut Words, one: &StructNode, group: Option<&DeclaredNode>) {
-    if let Some(group) = group {
-        return push_twice(said, one, group);
+/// Tells of a struct type that has a field twice, in this group of them.
+fn push_twice(said: &mut Words, one: &StructNode, group: &DeclaredNode) {
+    if let Some(name) = twice_among(one.fields.as_slice(), group.names.as_slice()) {
+        said.around("duplicate field ", name, "");
+        said.around(" in struct type ", &one.name, "");
     }
+}
+
+/// Tells of a struct type that has no fields, or contains itself.
+fn push_struct(said: &mut Words, one: &StructNode) {
     if one.fields.is_empty() {
-        said.text("struct type ");
-        said.name(&one.name);
-        said.text(" has no fields");
+        said.around("struct type ", &one.name, " has no fields");
     } else {
-        said.text("invalid recursive type ");
-        said.name(&one.name);
+        said.around("invalid recursive type ", &one.name, "");
     }
 }
 
 /// Tells of a name in a type that stands for no type.
 fn push_type_name(said: &mut Words, tops: &[TopNode], name: &Name) {
-    if is_function(tops, name.bytes.as_slice()) || is_reserved(name.bytes.as_slice()) {
-        said.name(name);
-        said.text(" is not a type");
+    let bytes = name.bytes.as_slice();
+    if is_function(tops, bytes) || is_reserved(bytes) {
+        said.around("", name, " is not a type");
     } else {
-        said.text("undefined: ");
-        said.name(name);
+        said.around("undefined: ", name, "");
     }
 }
 
-/// Tells what is wrong with a declaration of a struct type.
+/// Tells what is wrong with fields of a struct type.
+fn push_fields(
+    said: &mut Words,
+    tops: &[TopNode],
+    one: &StructNode,
+    group: &DeclaredNode,
+    rule: Rule,
+) {
+    match rule {
+        Rule::Declared => push_name(said, refused_among(group.names.as_slice(), true)),
+        Rule::Struct => push_twice(said, one, group),
+        Rule::Visible => push_type_name(said, tops, last_name(&group.type_node)),
+        _ => {}
+    }
+}
+
+/// Tells what is wrong with a declaration of a struct type, at this node.
 fn push_in_struct(
     said: &mut Words,
     tops: &[TopNode],
     one: &StructNode,
+    first: NodeId,
     rule: Rule,
-    group: Option<&DeclaredNode>,
+    node: NodeId,
 ) {
-    match (rule, group) {
-        (Rule::Declared, _) => push_name(said, group, &one.name),
-        (Rule::Struct, _) => push_struct(said, one, group),
-        (Rule::Visible, Some(group)) => push_type_name(said, tops, last_name(&group.type_node)),
+    if let Some(group) = declared_at(node, first, one.fields.as_slice()) {
+        return push_fields(said, tops, one, group, rule);
+    }
+    match rule {
+        Rule::Declared => push_refused(said, &one.name),
+        Rule::Struct => push_struct(said, one),
         _ => {}
     }
 }
 
-/// Tells what is wrong with the head of a function.
+/// Tells what is wrong with parameters of a function.
+fn push_parameters(
+    said: &mut Words,
+    tops: &[TopNode],
+    function: &FunctionNode,
+    group: &DeclaredNode,
+    rule: Rule,
+) {
+    match rule {
+        Rule::Declared => push_parameter(said, function, group),
+        Rule::Visible => push_type_name(said, tops, last_name(&group.type_node)),
+        _ => {}
+    }
+}
+
+/// Tells of a function's result whose type is none.
+fn push_result(said: &mut Words, tops: &[TopNode], function: &FunctionNode) {
+    if let Some(written) = &function.result {
+        push_type_name(said, tops, last_name(written));
+    }
+}
+
+/// Tells what is wrong with a function but for its statements, at this node.
 fn push_in_head(
     said: &mut Words,
     tops: &[TopNode],
     function: &FunctionNode,
+    first: NodeId,
     rule: Rule,
-    group: Option<&DeclaredNode>,
+    node: NodeId,
 ) {
-    match (rule, group, &function.result) {
-        (Rule::Declared, _, _) => push_name(said, group, &function.name),
-        (Rule::Visible, Some(group), _) => push_type_name(said, tops, last_name(&group.type_node)),
-        (Rule::Visible, None, Some(written)) => push_type_name(said, tops, last_name(written)),
+    if let Some(group) = declared_at(node, first, function.parameters.as_slice()) {
+        return push_parameters(said, tops, function, group, rule);
+    }
+    match rule {
+        Rule::Declared => push_refused(said, &function.name),
+        Rule::Visible => push_result(said, tops, function),
+        Rule::Terminating => said.around("missing return at the end of ", &function.name, ""),
         _ => {}
     }
 }
 
-/// Tells how a declaration of these breaks a rule at this node, if one does.
-pub(crate) fn push_declaration(said: &mut Words, tops: &[TopNode], rule: Rule, node: NodeId) {
-    if let Rule::Main = rule {
-        return push_main(said, tops);
-    }
-    let Some(found) = unit_at(tops, 0, node) else {
-        return;
-    };
+/// Tells how a unit breaks a rule at this node, if that does not depend on what is visible there.
+fn push_broken(
+    alloc: Global,
+    said: &mut Words,
+    text: Text<'_>,
+    found: &Found<'_>,
+    rule: Rule,
+    node: NodeId,
+) {
+    let first = found.first;
     match found.unit {
-        Unit::Struct(one) => {
-            let group = declared_at(node, found.first, one.fields.as_slice());
-            push_in_struct(said, tops, one, rule, group);
-        }
-        Unit::Head(function) => {
-            let group = declared_at(node, found.first, function.parameters.as_slice());
-            push_in_head(said, tops, function, rule, group);
-        }
+        Unit::Struct(one) => push_in_struct(said, text.tops(), one, first, rule, node),
+        Unit::Head(function) => push_in_head(said, text.tops(), function, first, rule, node),
+        Unit::Select(clauses) => push_select(alloc, said, text, first, clauses, rule),
+        Unit::Break => said.text("break is not in a loop or select"),
+        Unit::Continue => said.text("continue is not in a loop"),
         _ => {}
+    }
+}
+
+/// Tells what is wrong with a unit, if that does not depend on what is visible there.
+fn push_in_found(alloc: Global, said: &mut Words, text: Text<'_>, found: &Found<'_>, flaw: Flaw) {
+    match flaw {
+        Flaw::Broken(rule, node) => push_broken(alloc, said, text, found, rule, node),
+        Flaw::Exceeded(kind, _) => push_exceeded(said, &found.unit, kind),
+    }
+}
+
+/// Tells what is wrong with the innermost of these units of a tree, if that does not depend on what is visible there.
+pub(crate) fn push_in_unit(
+    alloc: Global,
+    said: &mut Words,
+    text: Text<'_>,
+    walk: &Walk<'_>,
+    flaw: Flaw,
+) {
+    if let Flaw::Broken(Rule::Main, _) = flaw {
+        return push_main(said, text.tops());
+    }
+    if let Some(found) = walk.found.first() {
+        push_in_found(alloc, said, text, found, flaw);
     }
 }

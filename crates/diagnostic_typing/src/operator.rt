@@ -3,13 +3,12 @@
 use crate::place::Setting;
 use checker_base::operand::worth;
 use checker_base::worth::Worth;
-use diagnostic_scope::given::place_type;
-use diagnostic_scope::operand::{push_operand, push_worth};
-use diagnostic_scope::unit::Unit;
-use diagnostic_scope::words::{
+use diagnostic_scope::given::{Role, place_type};
+use diagnostic_words::operand::{push_operand, push_worth};
+use diagnostic_words::words::{
     Words, operator_text, push_expression, push_place, push_type, unary_text,
 };
-use syntax::{BinaryOperator, ExpressionNode, PlaceNode, SimpleNode, UnaryOperator};
+use syntax::{BinaryOperator, ExpressionNode, PlaceNode, UnaryOperator};
 use type_table::value_type::ValueType;
 
 /// What an operand is worth to an operator.
@@ -53,7 +52,7 @@ fn push_undefined_on(
     said.text("operator ");
     said.text(operator);
     said.text(" not defined on ");
-    push_operand(said, at.table, at.scene, operand);
+    push_operand(said, at.table, &at.scene.visible, operand);
 }
 
 /// Puts the two types of operands that do not go together behind what is there.
@@ -64,9 +63,9 @@ fn push_mismatch(
     right: &ExpressionNode,
 ) {
     said.text(" (mismatched types ");
-    push_worth(said, at.table, at.scene, left);
+    push_worth(said, at.table, &at.scene.visible, left);
     said.text(" and ");
-    push_worth(said, at.table, at.scene, right);
+    push_worth(said, at.table, &at.scene.visible, right);
     said.text(")");
 }
 
@@ -103,12 +102,12 @@ fn push_unary(
     push_undefined_on(said, at, unary_text(operator), operand);
 }
 
-/// Puts a place, what is done to it, and its type behind what is there.
-fn push_step(said: &mut Words, at: Setting<'_, '_>, place: &PlaceNode, step: &str) {
+/// Tells of a place of another type than int that is counted up or down.
+fn push_step(said: &mut Words, at: Setting<'_, '_>, place: &PlaceNode) {
     said.text("invalid operation: ");
     push_place(said, place);
-    said.text(step);
-    if let Some(kind) = place_type(at.table, at.scene, place) {
+    said.text(at.parts.step);
+    if let Some(kind) = place_type(at.table, &at.scene.visible, place) {
         said.text(" (non-numeric type ");
         push_type(said, at.table, kind);
         said.text(")");
@@ -128,7 +127,7 @@ fn push_undefined_at(
     said.text(" not defined on ");
     push_place(said, place);
     said.text(" (variable of type ");
-    push_worth(said, at.table, at.scene, value);
+    push_worth(said, at.table, &at.scene.visible, value);
     said.text(")");
 }
 
@@ -151,7 +150,7 @@ fn push_types(said: &mut Words, at: Setting<'_, '_>, kind: ValueType<'_>, value:
     said.text(" (mismatched types ");
     push_type(said, at.table, kind);
     said.text(" and ");
-    push_worth(said, at.table, at.scene, value);
+    push_worth(said, at.table, &at.scene.visible, value);
     said.text(")");
 }
 
@@ -164,7 +163,7 @@ fn push_update(
     value: &ExpressionNode,
 ) {
     said.text("invalid operation: ");
-    match place_type(at.table, at.scene, place) {
+    match place_type(at.table, &at.scene.visible, place) {
         Some(kind) if sort_of_type(kind) == sort_of(at, value) => {
             push_undefined_at(said, at, place, operator, value);
         }
@@ -176,15 +175,23 @@ fn push_update(
     }
 }
 
-/// Tells of an operator of a statement, at whose place or value the fault is.
+/// The operator of an assignment, and the value behind it.
+fn update_in<'a>(at: Setting<'_, 'a>) -> Option<(BinaryOperator, &'a ExpressionNode)> {
+    let value = at.parts.values.first()?;
+    match value.role {
+        Role::Operand(operator) => Some((operator, value.expression)),
+        _ => None,
+    }
+}
+
+/// Tells of an operator of a statement, which does not fit its place.
 fn push_operator_of(said: &mut Words, at: Setting<'_, '_>) {
-    match at.scene.found.unit {
-        Unit::Simple(SimpleNode::Increment(place)) => push_step(said, at, place, "++"),
-        Unit::Simple(SimpleNode::Decrement(place)) => push_step(said, at, place, "--"),
-        Unit::Simple(SimpleNode::Update(place, operator, value)) => {
-            push_update(said, at, place, *operator, value);
-        }
-        _ => {}
+    let Some(place) = at.parts.places.first() else {
+        return;
+    };
+    match update_in(at) {
+        Some((operator, value)) => push_update(said, at, place, operator, value),
+        None => push_step(said, at, place),
     }
 }
 
@@ -199,31 +206,63 @@ pub(crate) fn push_operands(said: &mut Words, at: Setting<'_, '_>) {
     }
 }
 
-/// Tells of a right operand that is zero, or negative where it counts a shift.
-fn push_right(
+/// Whether an operator divides.
+fn divides(operator: BinaryOperator) -> bool {
+    matches!(operator, BinaryOperator::Divide | BinaryOperator::Remainder)
+}
+
+/// Tells that a shift counts by a negative constant.
+fn push_negative(said: &mut Words, at: Setting<'_, '_>, count: &ExpressionNode) {
+    said.text("invalid operation: negative shift count ");
+    push_operand(said, at.table, &at.scene.visible, count);
+}
+
+/// Tells of an assignment with an operator, to the right of which stands zero, or a negative count.
+fn push_wrong_update(
+    said: &mut Words,
+    at: Setting<'_, '_>,
+    place: &PlaceNode,
+    operator: BinaryOperator,
+    value: &ExpressionNode,
+) {
+    if !divides(operator) {
+        return push_negative(said, at, value);
+    }
+    said.text("invalid operation: division by zero in ");
+    push_assigned(said, place, operator, value);
+}
+
+/// Tells of an operator in an expression, to the right of which stands zero, or a negative count.
+fn push_wrong_right(
     said: &mut Words,
     at: Setting<'_, '_>,
     operator: BinaryOperator,
     right: &ExpressionNode,
+    whole: &ExpressionNode,
 ) {
-    match operator {
-        BinaryOperator::Divide | BinaryOperator::Remainder => {
-            said.text("invalid operation: division by zero");
-        }
-        BinaryOperator::ShiftLeft | BinaryOperator::ShiftRight => {
-            said.text("invalid operation: negative shift count ");
-            push_operand(said, at.table, at.scene, right);
-        }
-        _ => {}
+    if !divides(operator) {
+        return push_negative(said, at, right);
+    }
+    said.text("invalid operation: division by zero in ");
+    push_expression(said, whole);
+}
+
+/// Tells of an assignment with an operator whose constant right operand can not stand there.
+fn push_operator_in(said: &mut Words, at: Setting<'_, '_>) {
+    let Some(place) = at.parts.places.first() else {
+        return;
+    };
+    if let Some((operator, value)) = update_in(at) {
+        push_wrong_update(said, at, place, operator, value);
     }
 }
 
 /// Tells of an operator whose constant right operand can not stand there.
 pub(crate) fn push_operator(said: &mut Words, at: Setting<'_, '_>) {
-    if let Some(ExpressionNode::Binary(operator, _, right)) = at.part() {
-        return push_right(said, at, *operator, right);
-    }
-    if let Unit::Simple(SimpleNode::Update(_, operator, value)) = at.scene.found.unit {
-        push_right(said, at, *operator, value);
+    match at.part() {
+        Some(whole @ ExpressionNode::Binary(operator, _, right)) => {
+            push_wrong_right(said, at, *operator, right, whole);
+        }
+        _ => push_operator_in(said, at),
     }
 }

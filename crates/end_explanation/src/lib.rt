@@ -16,6 +16,7 @@ use crate::scene::Scene;
 use crate::sentence::{push_exhausted, push_panic, push_waiting};
 use crate::watched::{Placed, Watched};
 use checker::Typed;
+use diagnostic_words::words::Words;
 use go_text::{Memory, Source};
 use one_thread::{Ended, Goroutine, last_moment};
 use std::alloc::Global;
@@ -25,8 +26,9 @@ use word::end::End;
 const MOST_MOVES: u64 = 10_000_000;
 
 /// Where the goroutines of a program stand at the end of its run to a limit, a line each: of a deadlock each one that waits, of
-/// a panic the one that panicked, for this cause, with its calls, of exhausted time the one whose turn it was. Of a run that
-/// finishes nothing is told, and of one of more than `MOST_MOVES` moves only that it is too long. FILE is the path as it was typed.
+/// a panic the one that panicked, for this cause, of exhausted time the one whose turn it was; below each the calls that led
+/// there. Of a run that finishes nothing is told, and of one of more than `MOST_MOVES` moves only that it is too long. FILE is
+/// the path as it was typed.
 ///
 /// # Errors
 ///
@@ -43,47 +45,40 @@ pub fn end_explanation(
 {
     let watched = Watched::new(alloc, typed)?;
     let scene = Scene {
+        alloc,
         path,
         source,
         tree: typed.tree(),
     };
+    let mut said = Words::new(alloc);
     let mut output = Nowhere;
     match last_moment(alloc, &watched, limit, MOST_MOVES, &mut output) {
-        Ok(Some(ended)) => lines(alloc, scene, &ended, cause),
-        Ok(None) => left_out(alloc),
-        Err(_) => Err(Memory),
+        Ok(Some(ended)) => push_end(&mut said, scene, &ended, cause),
+        Ok(None) => push_left_out(&mut said),
+        Err(_) => return Err(Memory),
     }
+    Ok(said.into_bytes()?)
 }
 
-/// That nothing is told.
-fn left_out(alloc: Global) -> Result<Vec<u8>, Memory> {
-    let text = format!(in alloc;
-        "where goroutines stand is told of runs of at most {MOST_MOVES} steps\n"
-    )?;
-    Ok(text.into_bytes())
+/// Tells that nothing is told.
+fn push_left_out(said: &mut Words) {
+    said.text("where goroutines stand is told of runs of at most ");
+    said.number(i128::from(MOST_MOVES));
+    said.text(" steps\n");
 }
 
-/// What is told of the end of a run.
-fn lines(
-    alloc: Global,
-    scene: Scene<'_>,
-    ended: &Ended<Placed<'_>>,
-    cause: &str,
-) -> Result<Vec<u8>, Memory> {
-    let mut said = Vec::new(alloc);
+/// Tells of the end of a run.
+fn push_end(said: &mut Words, scene: Scene<'_>, ended: &Ended<Placed<'_>>, cause: &str) {
     match (ended.end, acting(ended)) {
-        (End::Deadlock, _) => {
-            push_waiting(alloc, &mut said, scene, ended.goroutines.as_slice())?;
-        }
+        (End::Deadlock, _) => push_waiting(said, scene, ended.goroutines.as_slice()),
         (End::Panicked(_), Some((number, goroutine))) => {
-            push_panic(alloc, &mut said, scene, number, goroutine, cause)?;
+            push_panic(said, scene, number, goroutine, cause);
         }
         (End::Exhausted, Some((number, goroutine))) => {
-            push_exhausted(alloc, &mut said, scene, number, goroutine)?;
+            push_exhausted(said, scene, number, goroutine);
         }
         _ => {}
     }
-    Ok(said)
 }
 
 /// Whose turn it was.

@@ -1,6 +1,9 @@
 //! Where in a tree a task stands.
 
-use diagnostic_scope::ends::{if_end, simple_statement_end, statement_end};
+use diagnostic_scope::ends::{
+    else_first, if_end, loop_first, post_first, simple_statement_end, statement_end, then_first,
+};
+use std::alloc::Global;
 use syntax::{
     ClauseNode, ForHeader, IfNode, Name, NodeId, OperationNode, ReturnNode, RightNode, SimpleNode,
     StatementNode,
@@ -13,9 +16,12 @@ pub(crate) enum Inside<'t> {
     Nothing,
     /// It calls the function of this name.
     Calls(&'t Name),
-    If(&'t IfNode),
-    For(&'t ForHeader),
-    Select(&'t [ClauseNode]),
+    /// An `if`: the first nodes of its block, and of what stands behind that.
+    If(NodeId, NodeId),
+    /// A `for`: the first nodes of its body, and of what it does behind each turn.
+    For(NodeId, NodeId),
+    /// A `select`, by its clauses.
+    Select(&'t Vec<ClauseNode>),
 }
 
 /// The statement that a task is, or that it comes of.
@@ -48,12 +54,13 @@ impl<'t> Site<'t> {
     }
 
     /// A statement.
-    pub(crate) fn of_statement(first: NodeId, statement: &'t StatementNode) -> Site<'t> {
-        Site::before(
-            first,
-            statement_end(first, statement),
-            inside_statement(statement),
-        )
+    pub(crate) fn of_statement(
+        alloc: Global,
+        first: NodeId,
+        statement: &'t StatementNode,
+    ) -> Site<'t> {
+        let end = statement_end(alloc, first, statement);
+        Site::before(first, end, inside_statement(alloc, first, statement))
     }
 
     /// A simple statement.
@@ -63,8 +70,9 @@ impl<'t> Site<'t> {
     }
 
     /// An `if`.
-    pub(crate) fn of_if(first: NodeId, branch: &'t IfNode) -> Site<'t> {
-        Site::before(first, if_end(first, branch), Inside::If(branch))
+    pub(crate) fn of_if(alloc: Global, first: NodeId, branch: &'t IfNode) -> Site<'t> {
+        let end = if_end(alloc, first, branch);
+        Site::before(first, end, inside_if(alloc, first, branch))
     }
 
     /// The number behind its nodes.
@@ -73,19 +81,32 @@ impl<'t> Site<'t> {
     }
 }
 
-/// What of a statement matters.
-fn inside_statement<'t>(statement: &'t StatementNode) -> Inside<'t> {
+/// What of a statement, whose nodes have numbers from `first` on, matters.
+fn inside_statement<'t>(alloc: Global, first: NodeId, statement: &'t StatementNode) -> Inside<'t> {
     match statement {
         StatementNode::Simple(simple) => inside_simple(simple),
         StatementNode::Typed(_, _, Some(right)) | StatementNode::Untyped(_, right) => {
             inside_right(right)
         }
-        StatementNode::If(branch) => Inside::If(branch),
-        StatementNode::For(header, _) => Inside::For(header),
-        StatementNode::Select(clauses) => Inside::Select(clauses.as_slice()),
+        StatementNode::If(branch) => inside_if(alloc, first, branch),
+        StatementNode::For(header, _) => inside_for(alloc, first, header),
+        StatementNode::Select(clauses) => Inside::Select(clauses),
         StatementNode::Return(ReturnNode::Operation(operation)) => inside_operation(operation),
         _ => Inside::Nothing,
     }
+}
+
+/// What of an `if` matters.
+fn inside_if<'t>(alloc: Global, first: NodeId, branch: &IfNode) -> Inside<'t> {
+    Inside::If(then_first(first, branch), else_first(alloc, first, branch))
+}
+
+/// What of a `for` with this header matters.
+fn inside_for<'t>(alloc: Global, first: NodeId, header: &ForHeader) -> Inside<'t> {
+    Inside::For(
+        loop_first(alloc, first, header),
+        post_first(alloc, first, header),
+    )
 }
 
 /// What of a simple statement matters.

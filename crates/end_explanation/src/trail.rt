@@ -1,15 +1,14 @@
 //! Where the tasks of a goroutine stand.
 
 use crate::site::{Inside, Site};
-use diagnostic_scope::ends::{clause_first, else_first, loop_first, post_first, then_first};
+use diagnostic_scope::ends::clause_first;
 use go_text::Memory;
 use reference_base::operand::{one, truth_in};
 use reference_base::program::Program;
 use reference_base::task::{Frame, Task};
 use reference_value::fault::Stop;
 use std::alloc::Global;
-use syntax::NodeId;
-use syntax::node::IfNode;
+use syntax::{ExpressionNode, NodeId};
 use word::request::Reply;
 
 /// Where the tasks of a goroutine's functions stand: of each function, the one called last behind, the site of each task, the
@@ -17,8 +16,8 @@ use word::request::Reply;
 #[derive(Drop)]
 pub(crate) struct Trail<'t> {
     sites: Vec<Vec<Site<'t>>>,
-    /// The site of what was done last.
-    last: Site<'t>,
+    /// The own node of what was done last.
+    last: NodeId,
 }
 
 impl<'t> Trail<'t> {
@@ -32,32 +31,34 @@ impl<'t> Trail<'t> {
         for frame in frames {
             sites.push(sites_of(alloc, frame, first)?)?;
         }
-        Ok(Trail {
-            sites,
-            last: Site::at(first),
-        })
+        Ok(Trail { sites, last: first })
     }
 
-    /// The site of what was done last.
-    pub(crate) fn last(&self) -> Site<'t> {
+    /// The own node of what was done last.
+    pub(crate) fn last(&self) -> NodeId {
         self.last
     }
 
-    /// The sites of the calls that are waited for, the last one first.
-    pub(crate) fn calls(&self, alloc: Global) -> Result<Vec<Site<'t>>, Memory> {
-        let mut calls = Vec::new(alloc);
-        for sites in self.sites.iter().rev().skip(1) {
-            if let Some(site) = sites.last() {
-                calls.push(*site)?;
-            }
-        }
-        Ok(calls)
+    /// How many functions wait for one that they called.
+    pub(crate) fn waiting(&self) -> usize {
+        self.sites.len().saturating_sub(1)
     }
 
-    /// The site of the next task.
-    pub(crate) fn next(&self) -> Option<Site<'t>> {
-        let sites = self.sites.last()?;
-        sites.last().copied()
+    /// The own node of the call at which a function waits, if so many wait: 0 is the number of the one that called last.
+    pub(crate) fn call(&self, number: usize) -> Option<NodeId> {
+        let place = self.waiting().checked_sub(number)?.checked_sub(1)?;
+        match self.sites.get(place) {
+            Some(sites) => call_in(sites.as_slice()),
+            None => None,
+        }
+    }
+
+    /// The site of the next task, or of what was done last where there is none.
+    pub(crate) fn next(&self) -> Site<'t> {
+        match self.sites.last() {
+            Some(sites) => last_of(sites.as_slice()).unwrap_or(Site::at(self.last)),
+            None => Site::at(self.last),
+        }
     }
 
     /// The goroutine has done its next task. What came of it stands from `start` on, and a function that it calls from
@@ -69,7 +70,7 @@ impl<'t> Trail<'t> {
         start: NodeId,
         called: NodeId,
     ) -> Result<(), Memory> {
-        self.last = self.next().unwrap_or(self.last);
+        self.last = self.next().node;
         if frames.len() < self.sites.len() {
             let _gone = self.sites.pop();
         }
@@ -96,6 +97,19 @@ impl<'t> Trail<'t> {
         let settled = settled(alloc, sites, frame.tasks.as_slice(), start)?;
         self.sites.push(settled)?;
         Ok(())
+    }
+}
+
+/// The last one of these.
+fn last_of<'t>(sites: &[Site<'t>]) -> Option<Site<'t>> {
+    sites.last().copied()
+}
+
+/// The own node of the last one of these.
+fn call_in(sites: &[Site<'_>]) -> Option<NodeId> {
+    match sites.last() {
+        Some(site) => Some(site.node),
+        None => None,
     }
 }
 
@@ -131,7 +145,7 @@ fn added<'t>(
     let mut sites = Vec::new(alloc);
     let mut next = start;
     for task in tasks.iter().rev() {
-        let site = site_of(task, next, cause);
+        let site = site_of(alloc, task, next, cause);
         if begins(task) {
             next = site.end();
         }
@@ -141,11 +155,11 @@ fn added<'t>(
 }
 
 /// The site of a task that came of a statement: the statement that stands from `next` on, or that which it came of.
-fn site_of<'t>(task: &Task<'t>, next: NodeId, cause: Site<'t>) -> Site<'t> {
+fn site_of<'t>(alloc: Global, task: &Task<'t>, next: NodeId, cause: Site<'t>) -> Site<'t> {
     match task {
-        Task::Do(one) => Site::of_statement(next, **one),
+        Task::Do(one) => Site::of_statement(alloc, next, **one),
         Task::Simply(one) => Site::of_simple(next, **one),
-        Task::Branch(one) => Site::of_if(next, **one),
+        Task::Branch(one) => Site::of_if(alloc, next, **one),
         Task::Enclose(_) => Site::at(next),
         _ => cause,
     }
@@ -159,7 +173,7 @@ fn begins(task: &Task<'_>) -> bool {
     )
 }
 
-/// Where what comes of the next task of a function stands.
+/// Where what comes of the next task of a function, which has this site, stands.
 pub(crate) fn start<'t>(
     alloc: Global,
     program: &Program<'t>,
@@ -167,34 +181,41 @@ pub(crate) fn start<'t>(
     site: Site<'t>,
 ) -> Result<NodeId, Memory> {
     match (top.tasks.last(), site.inside) {
-        (Some(Task::Decide(_)), Inside::If(branch)) => chosen(alloc, program, top, site, branch),
-        (Some(Task::Head(_)), Inside::For(header)) => Ok(loop_first(site.first, header)),
-        (Some(Task::Again(_)), Inside::For(header)) => Ok(post_first(site.first, header)),
+        (Some(Task::Decide(branch)), Inside::If(then, otherwise)) => {
+            let condition = &(**branch).condition;
+            if is_taken(alloc, program, top, condition)? {
+                Ok(then)
+            } else {
+                Ok(otherwise)
+            }
+        }
+        (Some(Task::Head(_)), Inside::For(body, _)) => Ok(body),
+        (Some(Task::Again(_)), Inside::For(_, post)) => Ok(post),
         _ => Ok(site.first),
     }
 }
 
-/// Where the branch of an `if` stands that is taken.
-fn chosen<'t>(
+/// Whether a condition holds in a function. One that panics does not.
+fn is_taken<'t>(
     alloc: Global,
     program: &Program<'t>,
     top: &Frame<'t>,
-    site: Site<'t>,
-    branch: &'t IfNode,
-) -> Result<NodeId, Memory> {
-    match one(alloc, program, &top.scope, &branch.condition) {
-        Ok(word) if truth_in(word) => Ok(then_first(site.first, branch)),
-        Ok(_) => Ok(else_first(site.first, branch)),
-        Err(Stop::Panics(_)) => Ok(site.first),
+    condition: &ExpressionNode,
+) -> Result<bool, Memory> {
+    match one(alloc, program, &top.scope, condition) {
+        Ok(word) => Ok(truth_in(word)),
+        Err(Stop::Panics(_)) => Ok(false),
         Err(Stop::Memory) => Err(Memory),
     }
 }
 
 /// Where what comes of a reply stands.
-pub(crate) fn replied(site: Site<'_>, reply: &Reply) -> NodeId {
+pub(crate) fn replied(alloc: Global, site: Site<'_>, reply: &Reply) -> NodeId {
     match site.inside {
-        Inside::For(header) => loop_first(site.first, header),
-        Inside::Select(clauses) => clause_first(site.first, clauses, clause_of(reply)),
+        Inside::For(body, _) => body,
+        Inside::Select(clauses) => {
+            clause_first(alloc, site.first, clauses.as_slice(), clause_of(reply))
+        }
         _ => site.first,
     }
 }

@@ -68,7 +68,7 @@ fn firsts_of(alloc: Global, tops: &[TopNode]) -> Result<Vec<NodeId>, Memory> {
         if let TopNode::Function(function) = top {
             firsts.push(function_first(end, function))?;
         }
-        end = top_end(end, top);
+        end = top_end(alloc, end, top);
     }
     Ok(firsts)
 }
@@ -89,7 +89,7 @@ impl<'t> Interpreter for Watched<'t> {
     ghost held = { λ watched placed. frames_of (types_of watched.source.program.table) placed.frames.items };
 
     fn step(&self, alloc: Global, state: &mut Self::State) -> Result<Step, Memory> {
-        let site = state.trail.next().unwrap_or(state.trail.last());
+        let site = state.trail.next();
         let start = self.start(alloc, state.frames.as_slice(), site)?;
         let step = self.source.step(alloc, &mut state.frames)?;
         state
@@ -99,8 +99,8 @@ impl<'t> Interpreter for Watched<'t> {
     }
 
     fn answer(&self, alloc: Global, state: &mut Self::State, reply: Reply) -> Result<(), Memory> {
-        let site = state.trail.next().unwrap_or(state.trail.last());
-        let start = replied(site, &reply);
+        let site = state.trail.next();
+        let start = replied(alloc, site, &reply);
         self.source.answer(alloc, &mut state.frames, reply)?;
         state.trail.follow(alloc, state.frames.as_slice(), start, 0)
     }

@@ -1,11 +1,10 @@
 //! What is said of a value: its text, what kind of value it is, and its type.
 
-use crate::scene::Scene;
 use crate::words::{Words, push_expression, push_operation, push_type};
 use checker_base::operand::worth;
 use checker_base::worth::Worth;
 use syntax::{BinaryOperator, ExpressionNode, OperationNode, UnaryOperator};
-use type_table::scope::is_truth;
+use type_table::scope::{Visible, is_truth};
 use type_table::table::TypeTable;
 use type_table::value_type::ValueType;
 
@@ -111,11 +110,11 @@ fn push_constant(said: &mut Words, expression: &ExpressionNode, value: i128) {
 pub fn push_operand(
     said: &mut Words,
     table: &TypeTable<'_>,
-    scene: &Scene<'_>,
+    visible: &Visible<'_>,
     expression: &ExpressionNode,
 ) {
     push_expression(said, expression);
-    match worth(table, &scene.visible, expression) {
+    match worth(table, visible, expression) {
         Some(Worth::Typed(kind)) => push_typed(said, table, expression, kind),
         Some(Worth::Constant(value)) => push_constant(said, expression, value),
         _ => {}
@@ -126,10 +125,10 @@ pub fn push_operand(
 pub fn push_worth(
     said: &mut Words,
     table: &TypeTable<'_>,
-    scene: &Scene<'_>,
+    visible: &Visible<'_>,
     expression: &ExpressionNode,
 ) {
-    match worth(table, &scene.visible, expression) {
+    match worth(table, visible, expression) {
         Some(Worth::Typed(_)) if is_untyped_bool(expression) => said.text("untyped bool"),
         Some(Worth::Typed(kind)) => push_type(said, table, kind),
         Some(Worth::Constant(_)) => said.text("untyped int"),

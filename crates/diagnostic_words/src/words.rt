@@ -42,6 +42,11 @@ impl Words {
         Ok(self.bytes)
     }
 
+    /// A request for memory was refused elsewhere: nothing more is said.
+    pub fn refuse(&mut self) {
+        self.is_cut = true;
+    }
+
     /// Puts bytes behind what is there.
     fn put(&mut self, bytes: &[u8]) {
         if !self.is_cut {
@@ -57,6 +62,13 @@ impl Words {
     /// Puts a name behind what is there.
     pub fn name(&mut self, name: &Name) {
         self.put(name.bytes.as_slice());
+    }
+
+    /// Puts a name between two texts behind what is there.
+    pub fn around(&mut self, before: &str, name: &Name, behind: &str) {
+        self.text(before);
+        self.name(name);
+        self.text(behind);
     }
 
     /// Puts a number behind what is there.

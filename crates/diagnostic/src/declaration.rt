@@ -1,0 +1,66 @@
+//! In which declaration of a text a place stands.
+
+use diagnostic_words::words::Words;
+use go_text::{Fault, Place, Source, Span};
+use scanner::{Token, TokenKind, scan};
+use std::alloc::Global;
+
+/// The name behind the last `func` or `type` before a place, if there is one.
+fn name_before(tokens: &[Token], from: u32) -> Option<Span> {
+    let mut name = None;
+    let mut declares = false;
+    for token in tokens {
+        if token.span.from >= from {
+            return name;
+        }
+        if declares && token.kind == TokenKind::Name {
+            name = Some(token.span);
+        }
+        declares = matches!(token.kind, TokenKind::Func | TokenKind::TypeKeyword);
+    }
+    name
+}
+
+/// Puts ` in NAME`, with the name of the declaration of a text in which a place stands, behind what is there, if there is one.
+fn push_declared(said: &mut Words, source: &Source, tokens: &[Token], place: Place) {
+    let Some(span) = name_before(tokens, place.span.from) else {
+        return;
+    };
+    if let Some(name) = source.as_str().get(span.from as usize..span.to as usize) {
+        said.text(" in ");
+        said.text(name);
+    }
+}
+
+/// The same, of a text whose tokens are not known.
+fn push_name(alloc: Global, said: &mut Words, source: &Source, place: Place) {
+    match scan(alloc, source) {
+        Ok(tokens) => push_declared(said, source, tokens.as_slice(), place),
+        Err(Fault::Memory) => said.refuse(),
+        Err(_) => {}
+    }
+}
+
+/// The same, of a text that may be none.
+fn push_name_in(alloc: Global, said: &mut Words, text: &str, place: Place) {
+    let Ok(bytes) = Vec::from_slice(alloc, text.as_bytes()) else {
+        return said.refuse();
+    };
+    if let Ok(source) = Source::new(bytes) {
+        push_name(alloc, said, &source, place);
+    }
+}
+
+/// Puts a sentence, and within it the name of the declaration in which a place stands, behind what is there.
+pub(crate) fn push_within(
+    alloc: Global,
+    said: &mut Words,
+    text: &str,
+    place: Place,
+    before: &str,
+    behind: &str,
+) {
+    said.text(before);
+    push_name_in(alloc, said, text, place);
+    said.text(behind);
+}

@@ -1,0 +1,51 @@
+//! Statements that are wrong whatever is visible where they stand.
+
+use crate::text::Text;
+use diagnostic_scope::ends::default_node;
+use diagnostic_words::words::Words;
+use go_text::Rule;
+use std::alloc::Global;
+use syntax::{ClauseNode, NodeId};
+
+/// Puts where the `select`'s default of this number, counted from 1, stands behind what is there.
+fn push_default(
+    alloc: Global,
+    said: &mut Words,
+    text: Text<'_>,
+    first: NodeId,
+    clauses: &[ClauseNode],
+    number: usize,
+) {
+    if let Some(node) = default_node(alloc, first, clauses, number) {
+        text.push_position(said, node);
+    }
+}
+
+/// Tells that a `select`, whose nodes have numbers from `first` on, has several defaults.
+fn push_defaults(
+    alloc: Global,
+    said: &mut Words,
+    text: Text<'_>,
+    first: NodeId,
+    clauses: &[ClauseNode],
+) {
+    said.text("multiple defaults in select (first at ");
+    push_default(alloc, said, text, first, clauses, 1);
+    said.text(", second at ");
+    push_default(alloc, said, text, first, clauses, 2);
+    said.text(")");
+}
+
+/// Tells how a `select`, whose nodes have numbers from `first` on, breaks a rule as a whole.
+pub(crate) fn push_select(
+    alloc: Global,
+    said: &mut Words,
+    text: Text<'_>,
+    first: NodeId,
+    clauses: &[ClauseNode],
+    rule: Rule,
+) {
+    if let Rule::OneDefault = rule {
+        push_defaults(alloc, said, text, first, clauses);
+    }
+}

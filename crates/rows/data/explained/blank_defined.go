@@ -1,0 +1,6 @@
+package main
+
+func main() {
+	_ := 3
+	println(1)
+}

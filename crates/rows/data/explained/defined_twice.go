@@ -1,0 +1,6 @@
+package main
+
+func main() {
+	x, y, x := 1, 2, 3
+	println(x, y)
+}

@@ -1,0 +1,9 @@
+package main
+
+func main() {
+	return one()
+}
+
+func one() int {
+	return 1
+}
