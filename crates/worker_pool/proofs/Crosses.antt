@@ -9,12 +9,23 @@ use Rattle.std.specs.contracts.sync.Mutex as Mutex
 use Rattle.book.proofs.slots.Slots.TheSendSync.{the_field_send as slots_send}
 use Rattle.book.specs.contracts.book_model.Book as Book
 use Rattle.book.specs.contracts.book_model.Book.TheInside as book
-use Rattle.channel_core.proofs.channels.Channels.TheSendSync.{the_send as channels_send}
+use Rattle.channel_core.proofs.channel.Channel.TheSendSync.{the_send as channel_send}
+use Rattle.channel_core.specs.contracts.channels.Channels as Channels
+use Rattle.channel_core.specs.contracts.channels.Channels.TheInside as channels
+use Rattle.channel_core.specs.contracts.sleepers.Sleeper as Sleeper
+use Rattle.channel_core.specs.contracts.sleepers.Sleeper.TheInside as sleeper
+use Rattle.channel_core.specs.contracts.sleepers.Sleepers as Sleepers
+use Rattle.channel_core.specs.contracts.sleepers.Sleepers.TheInside as sleepers
 use Rattle.goroutine_vm.proofs.state.GoState.TheSendSync.{the_send as state_send}
+use Rattle.slab.proofs.Slab.TheSendSync.{the_send as slab_send}
+use Rattle.sleep_queue.proofs.numbered_keys.NumberedKeys.TheSendSync.{the_send as keys_send}
+use Rattle.sleep_queue.proofs.queues.SleepQueues.TheSendSync.{the_send as queues_send}
 use Rattle.verifier.proofs.verified.Verified.TheSendSync.{the_send as verified_send, the_sync as verified_sync}
 use Rattle.word.proofs.end.End.TheSendSync.{the_send as end_send}
 use Rattle.logical_clock.proofs.clock.Clock.TheSendSync.{the_send as clock_send}
 use Rattle.world_core_base.proofs.slot.Standing.TheSendSync.{the_field_send as standing_send}
+use Rattle.world_core_base.specs.contracts.awake.AwakeRows as AwakeRows
+use Rattle.world_core_base.specs.contracts.awake.AwakeRows.TheInside as awake
 use Rattle.world_core_base.specs.contracts.core_model.Core as Core
 use Rattle.world_core_base.specs.contracts.core_model.Core.TheInside as core
 use Rattle.world_core_base.specs.contracts.slot.Held as Held
@@ -44,16 +55,48 @@ slot_inside = recorded_send slot.the_field.row _ _ slot.the_type.to_one (struct_
 slot_send : IsSend Slot.the_row
 slot_send = view_send _ _ _ _ _ slot_inside
 
+awake_inside : IsSend awake.the_row
+awake_inside = recorded_send awake.the_field.row _ _ awake.the_type.to_one (struct_send (shape awake.the_type) (search (sendable, crosses, slot_send) depth 20, (search (sendable, crosses) depth 20, tt)))
+
+awake_send : IsSend AwakeRows.the_row
+awake_send = view_send _ _ _ _ _ awake_inside
+
+sleeper_inside : IsSend sleeper.the_row
+sleeper_inside = recorded_send sleeper.the_field.row _ _ sleeper.the_type.to_one (struct_send (shape sleeper.the_type) (search sendable, (search (sendable, crosses), tt)))
+
+sleeper_send : IsSend Sleeper.the_row
+sleeper_send = view_send _ _ _ _ _ sleeper_inside
+
+sleepers_inside : IsSend sleepers.the_row
+sleepers_inside =
+    recorded_send sleepers.the_field.row _ _ sleepers.the_type.to_one (struct_send (shape sleepers.the_type) (
+      search (sendable, crosses),
+      (search (sendable, crosses, slab_send, sleeper_send) depth 20, (keys_send, (queues_send, tt))),
+    ))
+
+sleepers_send : IsSend Sleepers.the_row
+sleepers_send = view_send _ _ _ _ _ sleepers_inside
+
+channels_inside : IsSend channels.the_row
+channels_inside =
+    recorded_send channels.the_field.row _ _ channels.the_type.to_one (struct_send (shape channels.the_type) (
+      search (sendable, crosses),
+      (search (sendable, crosses, channel_send) depth 20, (sleepers_send, tt)),
+    ))
+
+channels_send : IsSend Channels.the_row
+channels_send = view_send _ _ _ _ _ channels_inside
+
 core_inside : IsSend core.the_row
 core_inside =
     recorded_send core.the_field.row _ _ core.the_type.to_one (struct_send (shape core.the_type) (
-      search (sendable, crosses, slot_send) depth 20,
+      awake_send,
       (
         search (sendable, crosses, state_send) depth 20,
         (
           search (sendable, crosses, away_send) depth 20,
           (
-            search (sendable, crosses, channels_send) depth 20,
+            channels_send,
             (search sendable, (search sendable, (search (sendable, end_send) depth 20, tt))),
           ),
         ),
