@@ -213,6 +213,10 @@ trace_to_end code limit h piece found ending place is same same_end at up =
     let ends : EndsAt (trace_run code limit) (h.trace.from + length h.trace.bytes.items) ending = subst (λ (e : Option Ending). IfSome e (EndsAt (trace_run code limit) (h.trace.from + length h.trace.bytes.items))) (sym same_end ∙ at) is.trace_ends in
     subst (λ (n : ℕ). EndsAt (trace_run code limit) n ending) (sym (up ∙ ap (λ (p : Piece). p.from + length p.bytes.items) same)) ends
 
+-- nothing was written yet
+pub begun : (run : Run) (known : Option (List ℕ)) (place : ℕ) → place ≡ 0 → Written run known known place
+begun run known place none = ([], appends_none known, (0, omega arith, refl), sym none)
+
 -- a run that comes to a refusal
 pub stops : (run : Run) (known new : Option (List ℕ)) (place : ℕ) (outcome : Result Ending Fault) (fault : Fault) → outcome ≡ Err fault → Written run known new place → ComesOf run known new outcome
 stops run known new place outcome fault is w = subst (λ (r : Result Ending Fault). ComesOf run known new r) (sym is) (comes_to_fault run known new place fault w)

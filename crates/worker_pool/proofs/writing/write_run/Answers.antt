@@ -2,8 +2,24 @@ use Rattle.std.proofs.Common.{ap, ◌∙◌}
 use Rattle.std.proofs.lemmas.Result.{err_from_is_err_and}
 use Rattle.output.specs.Progress.{progress_place, run_of}
 use Rattle.worker_pool.specs.Runs.{Written, output_run, trace_run}
-use Rattle.worker_pool.proofs.Pieces.{comes_to_end, output_to_end, reached, stops, trace_to_end, wrote_on}
+use Rattle.worker_pool.proofs.Pieces.{begun, comes_to_end, output_to_end, reached, stops, trace_to_end, wrote_on}
 use Rattle.worker_pool.proofs.writing.write_run.Goals as goal
+
+pub loop-init : goal.loop-init
+loop-init g c =
+    let code = g.B.RunName.code in
+    let limit = g.B.RunName.limit in
+    record {
+      printed = c.requires.printed;
+      traced = c.requires.traced;
+      output = begun (output_run code limit) (g.O.Write.contents c.args.out.now) (progress_place c.args.printed.progress) c.requires.nothing.0;
+      trace = begun (trace_run code limit) (g.T.Write.contents c.args.trace.now) (progress_place c.args.traced.progress) c.requires.nothing.1;
+    }
+
+pub returns-in_err-handed-clause-output : goal.returns-in_err-handed-clause-output
+returns-in_err-handed-clause-output g c =
+    let p = err_from_is_err_and c.from_residual.result c.from_residual.ensures.1 in
+    stops (output_run g.B.RunName.code g.B.RunName.limit) (g.O.Write.contents c.args.out.now) (g.O.Write.contents c.loop.out) (progress_place c.loop.printed.progress) c.from_residual.result p.0 p.1 c.loop.invariant.output
 
 pub returns-in_err-handed-clause-trace : goal.returns-in_err-handed-clause-trace
 returns-in_err-handed-clause-trace g c =
