@@ -130,7 +130,10 @@ fn check_made<R: Files + AllocGlobal>(rt: &R, file: &RowFile<'_>, made: Made) ->
         Made::Listing => ("the listing", listing_of(rt, file)?),
         Made::Spans => ("the spans", spans_of(rt, file)?),
         Made::Tokens => ("the tokens", tokens_of(rt, file)?),
-        Made::TraceEvents => ("the trace events", picture_of(rt, file, Format::TraceEvents)?),
+        Made::TraceEvents => (
+            "the trace events",
+            picture_of(rt, file, Format::TraceEvents)?,
+        ),
     };
     same_lines(rt.alloc(), what, &wanted, &came)
 }

@@ -34,9 +34,7 @@ pub(crate) fn picture(
 ) -> Result<Vec<u8>, Flaw> {
     let bytes = Vec::from_slice(alloc, text)?;
     let recording = timeline_bytes(alloc, bytes, limit, format.most_events())?;
-    let picture = format
-        .picture(alloc, &recording)
-        .map_err(Fault::from)?;
+    let picture = format.picture(alloc, &recording).map_err(Fault::from)?;
     Ok(picture.into_bytes())
 }
 
