@@ -8,13 +8,28 @@ use std::marker::Model;
 
 /// A function: its name, how many of its locals are parameters, the kinds of its locals (the parameters first) and of its
 /// results, and its instructions.
-#[derive(Drop)]
 pub struct Function {
     name: String,
     params: u32,
     locals: Vec<WordKind>,
     results: Vec<WordKind>,
     instrs: Vec<Instr>,
+}
+
+impl Drop for Function {
+    fn drop(self) {
+        let Function {
+            name,
+            params: _,
+            locals,
+            results,
+            instrs,
+        } = self;
+        drop(name);
+        drop(locals);
+        drop(results);
+        drop(instrs);
+    }
 }
 
 impl Model for Function {
@@ -94,12 +109,26 @@ impl Function {
 }
 
 /// A program's functions, shapes, print tables and select tables, each numbered from 0.
-#[derive(Drop)]
 pub struct Code {
     functions: Vec<Function>,
     shapes: Vec<Shape>,
     prints: Vec<PrintTable>,
     selects: Vec<SelectTable>,
+}
+
+impl Drop for Code {
+    fn drop(self) {
+        let Code {
+            functions,
+            shapes,
+            prints,
+            selects,
+        } = self;
+        drop(functions);
+        drop(shapes);
+        drop(prints);
+        drop(selects);
+    }
 }
 
 impl Model for Code {
@@ -128,10 +157,16 @@ impl Code {
     pub fn with_selects(self, selects: Vec<SelectTable>) -> Code
         ensures { result ≡ record self { selects = selects.items } }
     {
+        let Code {
+            functions,
+            shapes,
+            prints,
+            selects: _none,
+        } = self;
         Code {
-            functions: self.functions,
-            shapes: self.shapes,
-            prints: self.prints,
+            functions,
+            shapes,
+            prints,
             selects,
         }
     }

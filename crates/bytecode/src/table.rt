@@ -13,9 +13,15 @@ pub const MAX_PARTS: usize = 64;
 pub const MAX_CLAUSES: usize = 64;
 
 /// The kinds of an item's words: 1 to 16 in verified code.
-#[derive(Drop)]
 pub struct Shape {
     kinds: Vec<WordKind>,
+}
+
+impl Drop for Shape {
+    fn drop(self) {
+        let Shape { kinds } = self;
+        drop(kinds);
+    }
 }
 
 impl Model for Shape {
@@ -66,9 +72,15 @@ pub fn same_kinds(left: &[WordKind], right: &[WordKind]) -> bool
 }
 
 /// The bytes of a string in the source.
-#[derive(Drop)]
 pub struct Text {
     bytes: Vec<u8>,
+}
+
+impl Drop for Text {
+    fn drop(self) {
+        let Text { bytes } = self;
+        drop(bytes);
+    }
 }
 
 impl Model for Text {
@@ -96,7 +108,6 @@ impl Text {
 }
 
 /// A part of what is printed.
-#[derive(Drop)]
 pub enum Part {
     /// An `int`, taken from the stack.
     Int,
@@ -106,11 +117,26 @@ pub enum Part {
     Text(Text),
 }
 
+impl Drop for Part {
+    fn drop(self) {
+        match self {
+            Part::Text(text) => drop(text),
+            Part::Int | Part::Bool => {}
+        }
+    }
+}
+
 /// What a `print` or `println` writes.
-#[derive(Drop)]
 pub struct PrintTable {
     parts: Vec<Part>,
     line: bool,
+}
+
+impl Drop for PrintTable {
+    fn drop(self) {
+        let PrintTable { parts, line: _ } = self;
+        drop(parts);
+    }
 }
 
 impl Model for PrintTable {
@@ -218,10 +244,19 @@ impl Clause {
 }
 
 /// The clauses of a select, in source order, and where its default goes on, where it has one.
-#[derive(Drop)]
 pub struct SelectTable {
     clauses: Vec<Clause>,
     default: Option<u32>,
+}
+
+impl Drop for SelectTable {
+    fn drop(self) {
+        let SelectTable {
+            clauses,
+            default: _,
+        } = self;
+        drop(clauses);
+    }
 }
 
 impl Model for SelectTable {

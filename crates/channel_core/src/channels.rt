@@ -19,12 +19,23 @@ use word::request::{Case, Reply, Request};
 use word::value::{Item, Word};
 
 /// The channels of a world, and those who sleep at them, in the order in which they fell asleep.
-#[derive(Drop)]
 pub struct Channels {
     alloc: Global,
     /// Channel c is at place c; place 0 is no channel's.
     channels: Vec<Channel>,
     asleep: Sleepers,
+}
+
+impl Drop for Channels {
+    fn drop(self) {
+        let Channels {
+            alloc: _,
+            channels,
+            asleep,
+        } = self;
+        drop(channels);
+        drop(asleep);
+    }
 }
 
 impl Model for Channels {

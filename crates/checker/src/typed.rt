@@ -12,10 +12,16 @@ use syntax::Tree;
 use type_table::table::TypeTable;
 
 /// A tree that breaks no typing rule and exceeds no limit.
-#[derive(Drop)]
 pub struct Typed {
     tree: Tree,
     ghost typed: { IsTyped (tree_of tree) },
+}
+
+impl Drop for Typed {
+    fn drop(self) {
+        let Typed { tree } = self;
+        drop(tree);
+    }
 }
 
 impl Typed {
@@ -44,7 +50,8 @@ impl Typed {
         ensures tree { result ≡ tree_in self }
         ensures typed { IsTyped (tree_of result) }
     {
-        self.tree
+        let Typed { tree } = self;
+        tree
     }
 
     /// What the tree's file declares.

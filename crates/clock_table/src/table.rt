@@ -22,18 +22,30 @@ const SLOTS: usize = MAX_GOROUTINES as usize;
 type Words = Table<(), View, usize, Clocks, Global>;
 
 /// A word for each slot.
-#[derive(Drop)]
 pub struct ClockTable {
     words: Arc<Words, Global>,
     ghost some: { 0 < (arc_value words).shared.table_id.words },
 }
 
+impl Drop for ClockTable {
+    fn drop(self) {
+        let ClockTable { words } = self;
+        drop(words);
+    }
+}
+
 /// What the book knows of the words. It has no bytes.
-#[derive(Drop)]
 pub struct BookSeat {
     seat: Seat<(), View>,
     pub ghost is_desk: { seat.me ≡ desk_view (rows_of seat.me.0) (looks_of seat.me.0) },
     pub ghost whole: { length (rows_of seat.me.0) ≡ seat.table_id.words },
+}
+
+impl Drop for BookSeat {
+    fn drop(self) {
+        let BookSeat { seat } = self;
+        drop(seat);
+    }
 }
 
 /// What the holder of a lease knows of its word.

@@ -81,7 +81,6 @@ pub struct Written<'a> {
 }
 
 /// What a unit has that sentences tell of.
-#[derive(Drop)]
 pub struct Parts<'a> {
     /// The first node of the unit.
     pub first: NodeId,
@@ -100,6 +99,29 @@ pub struct Parts<'a> {
     pub is_cut: bool,
     /// The number behind the nodes of what was taken.
     end: NodeId,
+}
+
+impl Drop for Parts<'_> {
+    fn drop(self) {
+        let Parts {
+            first: _,
+            places,
+            names,
+            types,
+            values,
+            operations,
+            calls,
+            step: _,
+            is_cut: _,
+            end: _,
+        } = self;
+        drop(places);
+        drop(names);
+        drop(types);
+        drop(values);
+        drop(operations);
+        drop(calls);
+    }
 }
 
 /// Where values go, which tells the types that are wanted.

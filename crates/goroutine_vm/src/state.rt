@@ -23,12 +23,22 @@ use word::request::{Reply, Request};
 use word::value::Word;
 
 /// A goroutine: its clock, whether a close woke it at its send, and the functions that run.
-#[derive(Drop)]
 pub struct GoState {
     clock: Clock,
     doomed: bool,
     /// They lie apart, so that a goroutine is moved at the cost of a few words.
     frames: Box<Frames>,
+}
+
+impl Drop for GoState {
+    fn drop(self) {
+        let GoState {
+            clock: _,
+            doomed: _,
+            frames,
+        } = self;
+        drop(frames);
+    }
 }
 
 impl Model for GoState {

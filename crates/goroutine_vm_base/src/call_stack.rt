@@ -12,10 +12,16 @@ use std::mem::swap;
 
 /// Functions of which each waits for the one called after it; contracts see the last one called first. Frames are kept for later
 /// calls, which no contract sees.
-#[derive(Drop)]
 pub struct CallStack {
     pub(crate) frames: Vec<Frame>,
     pub(crate) depth: usize,
+}
+
+impl Drop for CallStack {
+    fn drop(self) {
+        let CallStack { frames, depth: _ } = self;
+        drop(frames);
+    }
 }
 
 impl Model for CallStack {

@@ -99,14 +99,14 @@ pub(crate) fn tell<P: Interpreter>(
 {
     goroutine.clock = clock;
     goroutine.asleep = false;
-    match reply {
+    match &reply {
         Reply::Closed => {
             goroutine.doomed = true;
             Ok(())
         }
-        other => {
+        _ => {
             goroutine.doomed = false;
-            program.answer(alloc, &mut goroutine.state, other)?;
+            program.answer(alloc, &mut goroutine.state, reply)?;
             Ok(())
         }
     }

@@ -13,7 +13,6 @@ pub enum Kind {
 }
 
 /// Bytes that stand at a place of the output, or of the trace, of a program's run.
-#[derive(Drop)]
 pub struct Piece {
     /// The program that runs.
     pub program: Arc<Verified>,
@@ -25,4 +24,18 @@ pub struct Piece {
     pub from: u128,
     pub bytes: Vec<u8>,
     ghost ends: { from + vec_len bytes < 2 ^ 128 },
+}
+
+impl Drop for Piece {
+    fn drop(self) {
+        let Piece {
+            program,
+            limit: _,
+            kind: _,
+            from: _,
+            bytes,
+        } = self;
+        drop(program);
+        drop(bytes);
+    }
 }

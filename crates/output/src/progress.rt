@@ -8,12 +8,23 @@ use std::sync::Arc;
 use verifier::Verified;
 
 /// How far a run's output, or its trace, was written.
-#[derive(Drop)]
 pub struct Progress {
     program: Arc<Verified>,
     limit: u64,
     kind: Kind,
     place: u128,
+}
+
+impl Drop for Progress {
+    fn drop(self) {
+        let Progress {
+            program,
+            limit: _,
+            kind: _,
+            place: _,
+        } = self;
+        drop(program);
+    }
 }
 
 impl Progress {

@@ -14,12 +14,18 @@ use type_table::layout::function_number;
 use type_table::table::TypeTable;
 
 /// A file, and what it declares: fewer than 2^32 functions.
-#[derive(Drop)]
 pub struct Program<'t> {
     pub file: &'t FileNode,
     pub table: TypeTable<'t>,
     pub ghost declares: { globals_in table ≡ globals_of (file_of file.now).tops } by { one_globals _ _ },
     pub ghost few: { length table.functions.items < 2 ^ 32 },
+}
+
+impl Drop for Program<'_> {
+    fn drop(self) {
+        let Program { file: _, table } = self;
+        drop(table);
+    }
 }
 
 /// The number of the function of this name.

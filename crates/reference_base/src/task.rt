@@ -92,10 +92,17 @@ pub enum Task<'t> {
 }
 
 /// A function that runs: its variables, and its tasks, the next one last.
-#[derive(Drop)]
 pub struct Frame<'t> {
     pub scope: Scope<'t>,
     pub tasks: Vec<Task<'t>>,
+}
+
+impl Drop for Frame<'_> {
+    fn drop(self) {
+        let Frame { scope, tasks } = self;
+        drop(scope);
+        drop(tasks);
+    }
 }
 
 impl<'t> Frame<'t> {

@@ -11,23 +11,45 @@ use type_table::value_type::ValueType;
 use word::value::Word;
 
 /// A variable with its type and the words that it holds.
-#[derive(Drop)]
 pub struct Variable<'t> {
     pub name: &'t [u8],
     pub kind: ValueType<'t>,
     pub words: Vec<Word>,
 }
 
+impl Drop for Variable<'_> {
+    fn drop(self) {
+        let Variable {
+            name: _,
+            kind: _,
+            words,
+        } = self;
+        drop(words);
+    }
+}
+
 /// The variables of a block, the newest one last.
-#[derive(Drop)]
 pub struct Block<'t> {
     pub variables: Vec<Variable<'t>>,
 }
 
+impl Drop for Block<'_> {
+    fn drop(self) {
+        let Block { variables } = self;
+        drop(variables);
+    }
+}
+
 /// The blocks round a statement, the innermost one last.
-#[derive(Drop)]
 pub struct Scope<'t> {
     pub blocks: Vec<Block<'t>>,
+}
+
+impl Drop for Scope<'_> {
+    fn drop(self) {
+        let Scope { blocks } = self;
+        drop(blocks);
+    }
 }
 
 /// The variable of this name, the newest one of more.

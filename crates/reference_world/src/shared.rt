@@ -19,7 +19,6 @@ use word::request::{Reply, Request};
 use word::value::Word;
 
 /// What all goroutines share: the channels and who sleeps at them, counts, and how the run ended.
-#[derive(Drop)]
 pub struct Shared {
     alloc: Global,
     meeting: Meeting,
@@ -30,6 +29,20 @@ pub struct Shared {
     /// How many requests were performed.
     events: u64,
     ending: Option<End>,
+}
+
+impl Drop for Shared {
+    fn drop(self) {
+        let Shared {
+            alloc: _,
+            meeting,
+            live: _,
+            made: _,
+            events: _,
+            ending: _,
+        } = self;
+        drop(meeting);
+    }
 }
 
 impl Model for Shared {

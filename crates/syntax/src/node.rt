@@ -68,13 +68,18 @@ pub enum Direction {
 }
 
 /// A name as it is written, in UTF-8.
-#[derive(Drop)]
 pub struct Name {
     pub bytes: Vec<u8>,
 }
 
+impl Drop for Name {
+    fn drop(self) {
+        let Name { bytes } = self;
+        drop(bytes);
+    }
+}
+
 /// A type ("Types" of the Go specification).
-#[derive(Drop)]
 pub enum TypeNode {
     Named(Name),
     Parenthesized(Box<TypeNode>),
@@ -82,8 +87,17 @@ pub enum TypeNode {
     Channel(Direction, Box<TypeNode>),
 }
 
+impl Drop for TypeNode {
+    fn drop(self) {
+        match self {
+            TypeNode::Named(name) => drop(name),
+            TypeNode::Parenthesized(type_node) => drop(type_node),
+            TypeNode::Channel(_, type_node) => drop(type_node),
+        }
+    }
+}
+
 /// An expression ("Expressions").
-#[derive(Drop)]
 pub enum ExpressionNode {
     /// An integer: its value, or `None` where that is over 2^100.
     Integer(Option<u128>),
@@ -99,23 +113,62 @@ pub enum ExpressionNode {
     Binary(BinaryOperator, Box<ExpressionNode>, Box<ExpressionNode>),
 }
 
+impl Drop for ExpressionNode {
+    fn drop(self) {
+        match self {
+            ExpressionNode::Named(name) => drop(name),
+            ExpressionNode::Parenthesized(expression) => drop(expression),
+            ExpressionNode::Selection(expression, name) => {
+                drop(expression);
+                drop(name);
+            }
+            ExpressionNode::Composite(name, expressions, _) => {
+                drop(name);
+                drop(expressions);
+            }
+            ExpressionNode::Unary(_, expression) => drop(expression),
+            ExpressionNode::Binary(_, left, right) => {
+                drop(left);
+                drop(right);
+            }
+            ExpressionNode::Integer(_) => {}
+        }
+    }
+}
+
 /// An argument of `print` or `println`.
-#[derive(Drop)]
 pub enum PartNode {
     Value(ExpressionNode),
     /// The bytes of a string.
     Text(Vec<u8>),
 }
 
+impl Drop for PartNode {
+    fn drop(self) {
+        match self {
+            PartNode::Value(expression) => drop(expression),
+            PartNode::Text(bytes) => drop(bytes),
+        }
+    }
+}
+
 /// What a call, a literal or a `go` passes: its arguments in order, and whether a comma follows the last one.
-#[derive(Drop)]
 pub struct ArgumentsNode {
     pub values: Vec<ExpressionNode>,
     pub trailing: bool,
 }
 
+impl Drop for ArgumentsNode {
+    fn drop(self) {
+        let ArgumentsNode {
+            values,
+            trailing: _,
+        } = self;
+        drop(values);
+    }
+}
+
 /// What stands alone on the right of an assignment, or behind `return`, with at most one request.
-#[derive(Drop)]
 pub enum OperationNode {
     /// A call of a function.
     Call(Name, ArgumentsNode),
@@ -127,22 +180,54 @@ pub enum OperationNode {
     Capacity(ExpressionNode),
 }
 
+impl Drop for OperationNode {
+    fn drop(self) {
+        match self {
+            OperationNode::Call(name, arguments) => {
+                drop(name);
+                drop(arguments);
+            }
+            OperationNode::Receive(expression) => drop(expression),
+            OperationNode::Make(type_node, expression) => {
+                drop(type_node);
+                drop(expression);
+            }
+            OperationNode::Length(expression) => drop(expression),
+            OperationNode::Capacity(expression) => drop(expression),
+        }
+    }
+}
+
 /// The right side of an assignment.
-#[derive(Drop)]
 pub enum RightNode {
     Operation(OperationNode),
     Values(Vec<ExpressionNode>),
 }
 
+impl Drop for RightNode {
+    fn drop(self) {
+        match self {
+            RightNode::Operation(operation) => drop(operation),
+            RightNode::Values(expressions) => drop(expressions),
+        }
+    }
+}
+
 /// What is assigned to: a variable or `_`, or a field of a variable, by its path of names.
-#[derive(Drop)]
 pub struct PlaceNode {
     pub name: Name,
     pub fields: Vec<Name>,
 }
 
+impl Drop for PlaceNode {
+    fn drop(self) {
+        let PlaceNode { name, fields } = self;
+        drop(name);
+        drop(fields);
+    }
+}
+
 /// A simple statement ("Statements").
-#[derive(Drop)]
 pub enum SimpleNode {
     /// A call of a function.
     Call(Name, ArgumentsNode),
@@ -162,8 +247,39 @@ pub enum SimpleNode {
     Update(PlaceNode, BinaryOperator, ExpressionNode),
 }
 
+impl Drop for SimpleNode {
+    fn drop(self) {
+        match self {
+            SimpleNode::Call(name, arguments) => {
+                drop(name);
+                drop(arguments);
+            }
+            SimpleNode::Close(expression) => drop(expression),
+            SimpleNode::Print(_, parts, _) => drop(parts),
+            SimpleNode::Receive(expression) => drop(expression),
+            SimpleNode::Send(left, right) => {
+                drop(left);
+                drop(right);
+            }
+            SimpleNode::Increment(place) => drop(place),
+            SimpleNode::Decrement(place) => drop(place),
+            SimpleNode::Assign(places, right) => {
+                drop(places);
+                drop(right);
+            }
+            SimpleNode::Define(names, right) => {
+                drop(names);
+                drop(right);
+            }
+            SimpleNode::Update(place, _, expression) => {
+                drop(place);
+                drop(expression);
+            }
+        }
+    }
+}
+
 /// What stands between an `if` and its condition.
-#[derive(Drop)]
 pub enum IfHeader {
     /// Nothing.
     Bare,
@@ -173,16 +289,33 @@ pub enum IfHeader {
     Simple(SimpleNode),
 }
 
+impl Drop for IfHeader {
+    fn drop(self) {
+        match self {
+            IfHeader::Simple(simple) => drop(simple),
+            IfHeader::Bare | IfHeader::Semicolon => {}
+        }
+    }
+}
+
 /// What a range assigns each item to.
-#[derive(Drop)]
 pub enum RangeTarget {
     Nothing,
     Define(Name),
     Assign(PlaceNode),
 }
 
+impl Drop for RangeTarget {
+    fn drop(self) {
+        match self {
+            RangeTarget::Define(name) => drop(name),
+            RangeTarget::Assign(place) => drop(place),
+            RangeTarget::Nothing => {}
+        }
+    }
+}
+
 /// What stands between a `for` and its block.
-#[derive(Drop)]
 pub enum ForHeader {
     Forever,
     While(ExpressionNode),
@@ -192,8 +325,25 @@ pub enum ForHeader {
     Range(RangeTarget, ExpressionNode),
 }
 
+impl Drop for ForHeader {
+    fn drop(self) {
+        match self {
+            ForHeader::While(expression) => drop(expression),
+            ForHeader::Clauses(first_simple, expression, second_simple) => {
+                drop(first_simple);
+                drop(expression);
+                drop(second_simple);
+            }
+            ForHeader::Range(target, expression) => {
+                drop(target);
+                drop(expression);
+            }
+            ForHeader::Forever => {}
+        }
+    }
+}
+
 /// What a clause of a `select` waits for.
-#[derive(Drop)]
 pub enum CommNode {
     /// A channel, and the value that is sent on it.
     Send(ExpressionNode, ExpressionNode),
@@ -204,17 +354,47 @@ pub enum CommNode {
     Assign(PlaceNode, Option<PlaceNode>, ExpressionNode),
 }
 
+impl Drop for CommNode {
+    fn drop(self) {
+        match self {
+            CommNode::Send(left, right) => {
+                drop(left);
+                drop(right);
+            }
+            CommNode::Receive(expression) => drop(expression),
+            CommNode::Define(first_name, second_name, expression) => {
+                drop(first_name);
+                drop(second_name);
+                drop(expression);
+            }
+            CommNode::Assign(first_place, second_place, expression) => {
+                drop(first_place);
+                drop(second_place);
+                drop(expression);
+            }
+        }
+    }
+}
+
 /// What follows a `return`.
-#[derive(Drop)]
 pub enum ReturnNode {
     Nothing,
     Operation(OperationNode),
     Value(ExpressionNode),
 }
 
+impl Drop for ReturnNode {
+    fn drop(self) {
+        match self {
+            ReturnNode::Operation(operation) => drop(operation),
+            ReturnNode::Value(expression) => drop(expression),
+            ReturnNode::Nothing => {}
+        }
+    }
+}
+
 /// A statement ("Statements").
 #[cycle(statement)]
-#[derive(Drop)]
 pub enum StatementNode {
     Empty,
     Simple(SimpleNode),
@@ -235,9 +415,39 @@ pub enum StatementNode {
     Continue,
 }
 
+impl Drop for StatementNode {
+    #[cycle(statement)]
+    fn drop(self) {
+        match self {
+            StatementNode::Simple(simple) => drop(simple),
+            StatementNode::Typed(names, type_node, right) => {
+                drop(names);
+                drop(type_node);
+                drop(right);
+            }
+            StatementNode::Untyped(names, right) => {
+                drop(names);
+                drop(right);
+            }
+            StatementNode::Block(statements) => drop(statements),
+            StatementNode::If(branch) => drop(branch),
+            StatementNode::For(header, statements) => {
+                drop(header);
+                drop(statements);
+            }
+            StatementNode::Select(clauses) => drop(clauses),
+            StatementNode::Go(name, arguments) => {
+                drop(name);
+                drop(arguments);
+            }
+            StatementNode::Return(returned) => drop(returned),
+            StatementNode::Empty | StatementNode::Break | StatementNode::Continue => {}
+        }
+    }
+}
+
 /// An `if`.
 #[cycle(statement)]
-#[derive(Drop)]
 pub struct IfNode {
     pub header: IfHeader,
     pub condition: ExpressionNode,
@@ -246,9 +456,24 @@ pub struct IfNode {
     pub otherwise: ElseNode,
 }
 
+impl Drop for IfNode {
+    #[cycle(statement)]
+    fn drop(self) {
+        let IfNode {
+            header,
+            condition,
+            body,
+            otherwise,
+        } = self;
+        drop(header);
+        drop(condition);
+        drop(body);
+        drop(otherwise);
+    }
+}
+
 /// What stands behind the block of an `if`.
 #[cycle(statement)]
-#[derive(Drop)]
 pub enum ElseNode {
     Nothing,
     /// The statements of the block behind `else`, in order.
@@ -257,23 +482,48 @@ pub enum ElseNode {
     If(Box<IfNode>),
 }
 
+impl Drop for ElseNode {
+    #[cycle(statement)]
+    fn drop(self) {
+        match self {
+            ElseNode::Block(statements) => drop(statements),
+            ElseNode::If(branch) => drop(branch),
+            ElseNode::Nothing => {}
+        }
+    }
+}
+
 /// A clause of a `select`: what it waits for, or `None` for the default, and its statements in order.
 #[cycle(statement)]
-#[derive(Drop)]
 pub struct ClauseNode {
     pub comm: Option<CommNode>,
     pub body: Vec<StatementNode>,
 }
 
+impl Drop for ClauseNode {
+    #[cycle(statement)]
+    fn drop(self) {
+        let ClauseNode { comm, body } = self;
+        drop(comm);
+        drop(body);
+    }
+}
+
 /// Names that are declared together with one type: fields of a struct, or parameters of a function.
-#[derive(Drop)]
 pub struct DeclaredNode {
     pub names: Vec<Name>,
     pub type_node: TypeNode,
 }
 
+impl Drop for DeclaredNode {
+    fn drop(self) {
+        let DeclaredNode { names, type_node } = self;
+        drop(names);
+        drop(type_node);
+    }
+}
+
 /// A declaration of a struct type.
-#[derive(Drop)]
 pub struct StructNode {
     pub name: Name,
     pub fields: Vec<DeclaredNode>,
@@ -281,8 +531,19 @@ pub struct StructNode {
     pub trailing: bool,
 }
 
+impl Drop for StructNode {
+    fn drop(self) {
+        let StructNode {
+            name,
+            fields,
+            trailing: _,
+        } = self;
+        drop(name);
+        drop(fields);
+    }
+}
+
 /// A declaration of a function.
-#[derive(Drop)]
 pub struct FunctionNode {
     pub name: Name,
     pub parameters: Vec<DeclaredNode>,
@@ -293,15 +554,45 @@ pub struct FunctionNode {
     pub body: Vec<StatementNode>,
 }
 
+impl Drop for FunctionNode {
+    fn drop(self) {
+        let FunctionNode {
+            name,
+            parameters,
+            trailing: _,
+            result,
+            body,
+        } = self;
+        drop(name);
+        drop(parameters);
+        drop(result);
+        drop(body);
+    }
+}
+
 /// A declaration of a file.
-#[derive(Drop)]
 pub enum TopNode {
     Struct(StructNode),
     Function(FunctionNode),
 }
 
+impl Drop for TopNode {
+    fn drop(self) {
+        match self {
+            TopNode::Struct(declared) => drop(declared),
+            TopNode::Function(function) => drop(function),
+        }
+    }
+}
+
 /// A file: its declarations in order.
-#[derive(Drop)]
 pub struct FileNode {
     pub tops: Vec<TopNode>,
+}
+
+impl Drop for FileNode {
+    fn drop(self) {
+        let FileNode { tops } = self;
+        drop(tops);
+    }
 }

@@ -4,7 +4,6 @@ use word::end::End;
 use word::request::Event;
 
 /// The first events of a run.
-#[derive(Drop)]
 pub struct Recording {
     /// The names of the functions, each at its number.
     pub functions: Vec<String>,
@@ -12,6 +11,18 @@ pub struct Recording {
     pub events: Vec<Event>,
     /// How the run ended, where these are all of its events; none where it was cut.
     pub end: Option<End>,
+}
+
+impl Drop for Recording {
+    fn drop(self) {
+        let Recording {
+            functions,
+            events,
+            end: _,
+        } = self;
+        drop(functions);
+        drop(events);
+    }
 }
 
 impl Recording {

@@ -13,12 +13,19 @@ use std::marker::Model;
 use syntax::Name;
 
 /// Names in the order in which they were declared.
-#[derive(Drop)]
 pub struct NameList<'a> {
     names: Vec<&'a Name>,
     /// For each name, the first of them that is the same.
     first: NameIndex<'a>,
     ghost found: { (name : List ℕ) → number_in first name ≡ number_of (map (λ (one : Bor OneName). name_of one.now) names.items) name },
+}
+
+impl Drop for NameList<'_> {
+    fn drop(self) {
+        let NameList { names, first } = self;
+        drop(names);
+        drop(first);
+    }
 }
 
 impl<'a> Model for NameList<'a> {

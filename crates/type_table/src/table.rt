@@ -12,7 +12,6 @@ use crate::value_type::ValueType;
 
 /// The struct types of a file and the widths of their values in words, and its functions: each has a number, which is its
 /// place among those of its kind. No struct contains itself, and none is wider than 16 words.
-#[derive(Drop)]
 pub struct TypeTable<'a> {
     pub structs: Vec<StructEntry<'a>>,
     pub functions: Vec<FunctionEntry<'a>>,
@@ -23,6 +22,23 @@ pub struct TypeTable<'a> {
     ghost called: { function_names functions.items ≡ callees },
     ghost sized: { AreWidths (structs_of (names_of structs.items) structs.items) widths.items },
     ghost narrow: { All (λ w. w ≤ 16) widths.items },
+}
+
+impl Drop for TypeTable<'_> {
+    fn drop(self) {
+        let TypeTable {
+            structs,
+            functions,
+            widths,
+            types,
+            callees,
+        } = self;
+        drop(structs);
+        drop(functions);
+        drop(widths);
+        drop(types);
+        drop(callees);
+    }
 }
 
 impl<'a> TypeTable<'a> {

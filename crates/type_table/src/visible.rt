@@ -20,7 +20,6 @@ pub struct Entry<'a> {
 }
 
 /// The variables that are visible, in the order of their declarations.
-#[derive(Drop)]
 pub struct Visible<'a> {
     pub entries: Vec<Entry<'a>>,
     /// How many of them were declared outside of the innermost block.
@@ -31,4 +30,17 @@ pub struct Visible<'a> {
     pub(crate) last: NameIndex<'a>,
     ghost found: { (name : List ℕ) → number_in last name ≡ last_place (entry_names entries.items) name },
     ghost hidden: { (place : ℕ) (entry : OneEntry) → slice_get entries.items place ≡ Some entry → entry.hides ≡ last_place (take place (entry_names entries.items)) (name_of entry.name.now) },
+}
+
+impl Drop for Visible<'_> {
+    fn drop(self) {
+        let Visible {
+            entries,
+            outer: _,
+            words: _,
+            last,
+        } = self;
+        drop(entries);
+        drop(last);
+    }
 }

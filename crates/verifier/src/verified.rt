@@ -16,10 +16,20 @@ use superinstruction::Superinstructions;
 use word::limits::MAX_WORDS;
 
 /// Code that keeps all rules of the verifier, and its superinstructions; contracts see the code.
-#[derive(Drop)]
 pub struct Verified {
     code: Code,
     superinstructions: Superinstructions,
+}
+
+impl Drop for Verified {
+    fn drop(self) {
+        let Verified {
+            code,
+            superinstructions,
+        } = self;
+        drop(code);
+        drop(superinstructions);
+    }
 }
 
 impl Model for Verified {

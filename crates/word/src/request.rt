@@ -5,10 +5,16 @@ use crate::value::{Item, Word};
 use logical_clock::Clock;
 
 /// A clause of a select: a send where there is an item. A channel is named by its number; `None` is `nil`.
-#[derive(Drop)]
 pub struct Case {
     pub chan: Option<u32>,
     pub item: Option<Item>,
+}
+
+impl Drop for Case {
+    fn drop(self) {
+        let Case { chan: _, item } = self;
+        drop(item);
+    }
 }
 
 /// What a goroutine asks, its operands in source order. Requests are performed one by one, each in its turn. A channel is
@@ -44,7 +50,6 @@ pub enum Request {
 }
 
 /// What one that asked is told.
-#[derive(Drop)]
 pub enum Reply {
     /// The request is done.
     Nothing,
@@ -60,8 +65,17 @@ pub enum Reply {
     Closed,
 }
 
+impl Drop for Reply {
+    fn drop(self) {
+        match self {
+            Reply::Received(item, _) => drop(item),
+            Reply::Clause(_, received) => drop(received),
+            Reply::Nothing | Reply::Word(_) | Reply::Default | Reply::Closed => {}
+        }
+    }
+}
+
 /// What became of a request.
-#[derive(Drop)]
 pub enum EventOutcome {
     /// It is done, and its goroutine goes on with this reply.
     Done(Reply),
@@ -71,8 +85,16 @@ pub enum EventOutcome {
     Panics(Panic, usize),
 }
 
+impl Drop for EventOutcome {
+    fn drop(self) {
+        match self {
+            EventOutcome::Done(reply) => drop(reply),
+            EventOutcome::Sleeps | EventOutcome::Panics(_, _) => {}
+        }
+    }
+}
+
 /// A request that was performed.
-#[derive(Drop)]
 pub struct Event {
     /// The actor's clock before it.
     pub clock: Clock,
@@ -82,4 +104,19 @@ pub struct Event {
     pub outcome: EventOutcome,
     /// The numbers of those that were woken or started, in order.
     pub partners: Vec<u64>,
+}
+
+impl Drop for Event {
+    fn drop(self) {
+        let Event {
+            clock: _,
+            number: _,
+            request,
+            outcome,
+            partners,
+        } = self;
+        drop(request);
+        drop(outcome);
+        drop(partners);
+    }
 }

@@ -30,10 +30,16 @@ impl Default for Word {
 }
 
 /// What a channel carries: one word for each field of its type, in order, at most 16.
-#[derive(Drop)]
 pub struct Item {
     words: SmallVec<Word, MAX_WORDS>,
     ghost short: { small_vec_len words ≤ MAX_WORDS },
+}
+
+impl Drop for Item {
+    fn drop(self) {
+        let Item { words } = self;
+        drop(words);
+    }
 }
 
 impl Model for Item {

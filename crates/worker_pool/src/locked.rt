@@ -29,6 +29,8 @@ pub(crate) struct Locked<B: RunName> {
     waiting: u64,
     /// Whether a worker watches, which looks by itself whether something can be lent.
     watched: bool,
+    /// How many leases are out to workers whose last goroutine asked after a few steps.
+    talkers: u64,
     ghost counted: { run.book.taken ≡ printed.total },
     ghost lines: { run.book.traced ≡ traced.total },
 }
@@ -47,6 +49,7 @@ impl<B: RunName> Locked<B> {
             over: false,
             waiting: 0,
             watched: false,
+            talkers: 0,
         }
     }
 
@@ -95,16 +98,29 @@ impl<B: RunName> Locked<B> {
     pub fn take_back(&mut self, back: Back<B>) {
         match back {
             Back::Begun => {}
-            Back::Asking(lease) => self.bring(lease),
-            Back::Running(lease) => self.bring(lease),
+            Back::Talking(lease) | Back::Asking(lease) | Back::Running(lease) => self.bring(lease),
             Back::NoMemory => self.stop(),
         }
     }
 
-    /// What a worker does next.
-    pub fn turn(&mut self) -> Turn<B> {
+    /// A lease goes out to a worker whose last goroutine asked after a few steps.
+    pub fn begin_talk(&mut self) {
+        self.talkers = self.talkers.saturating_add(1);
+    }
+
+    /// That worker comes back.
+    pub fn end_talk(&mut self) {
+        self.talkers = self.talkers.saturating_sub(1);
+    }
+
+    /// What a worker does next; `talks` where its last goroutine asked after a few steps. Of such workers one gets leases: two
+    /// would only wait for one another here.
+    pub fn turn(&mut self, talks: bool) -> Turn<B> {
         if self.over {
             return Turn::Leave;
+        }
+        if talks && self.talkers > 0 {
+            return self.idle_turn();
         }
         match self.run.lend() {
             Ok(Some(lease)) => Turn::Work(lease),

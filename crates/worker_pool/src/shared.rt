@@ -7,7 +7,7 @@ use crate::locked::Locked;
 use crate::run_book::RunBook;
 use crate::run_name::{Printed, RunLease, RunName, Traced};
 use crate::turn::{Back, Turn};
-use crate::worker::Nap;
+use crate::worker::Pace;
 use go_text::Memory;
 use std::sync::ledger::{Book, Share};
 use std::sync::{Condvar, Mutex, MutexGuard, Wait};
@@ -43,28 +43,36 @@ impl<B: RunName> Shared<B> {
     }
 
     /// Takes what a worker comes back with, and gives it its next lease, as soon as there is one; none once the run is over.
-    pub fn next_lease<R: Wait>(&self, rt: &R, back: Back<B>, nap: &mut Nap) -> Option<RunLease<B>> {
+    pub fn next_lease<R: Wait>(
+        &self,
+        rt: &R,
+        back: Back<B>,
+        pace: &mut Pace,
+    ) -> Option<RunLease<B>> {
         let mut locked = self.locked.lock(rt);
         if locked.is_watched() && matches!(&back, Back::Running(_)) {
             self.watching.notify_one();
         }
+        pace.come(&mut locked, &back);
         locked.take_back(back);
         for _ in rt.forever() {
-            match locked.turn() {
+            match locked.turn(pace.talks()) {
                 Turn::Work(lease) => {
+                    pace.go(&mut locked);
                     if locked.wants_watch() {
                         self.waiting.notify_one();
                     }
                     return Some(lease);
                 }
                 Turn::Watch => {
-                    locked = sleep(rt, &self.watching, locked, nap.take());
+                    locked = sleep(rt, &self.watching, locked, pace.nap());
                     locked.end_watch();
                 }
                 Turn::Wait => {
                     locked.begin_wait();
                     locked = self.waiting.wait(rt, locked);
                     locked.end_wait();
+                    pace.rest();
                 }
                 Turn::Leave => return None,
             }

@@ -7,7 +7,9 @@ use crate::run_name::{RunLease, RunName};
 pub(crate) enum Back<B: RunName> {
     /// With nothing, since it begins.
     Begun,
-    /// With a lease whose goroutine asks.
+    /// With a lease whose goroutine asks, after a few steps.
+    Talking(RunLease<B>),
+    /// With a lease whose goroutine asks, after many steps.
     Asking(RunLease<B>),
     /// With a lease whose goroutine can go on at once.
     Running(RunLease<B>),

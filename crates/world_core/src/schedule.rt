@@ -18,11 +18,23 @@ use word::request::Event;
 use world_core_base::{Core, blocker, first_awake, least_parked};
 
 /// A world of goroutines that run ahead of their turn, and all that was committed.
-#[derive(Drop)]
 pub struct World {
     core: Core,
     events: Vec<Event>,
     output: Vec<u8>,
+}
+
+impl Drop for World {
+    fn drop(self) {
+        let World {
+            core,
+            events,
+            output,
+        } = self;
+        drop(core);
+        drop(events);
+        drop(output);
+    }
 }
 
 impl Model for World {

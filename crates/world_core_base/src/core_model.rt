@@ -33,7 +33,6 @@ use word::request::{Event, EventOutcome, Reply, Request};
 use word::value::Word;
 
 /// A world of goroutines that run ahead of their turn, without its lists of events and bytes.
-#[derive(Drop)]
 pub struct Core {
     /// Goroutine n, if it is awake, is at place n; place 0 is never taken.
     rows: AwakeRows,
@@ -47,6 +46,24 @@ pub struct Core {
     /// How many events there were.
     events: u64,
     ending: Option<End>,
+}
+
+impl Drop for Core {
+    fn drop(self) {
+        let Core {
+            rows,
+            beds,
+            taken,
+            channels,
+            live: _,
+            events: _,
+            ending: _,
+        } = self;
+        drop(rows);
+        drop(beds);
+        drop(taken);
+        drop(channels);
+    }
 }
 
 impl Model for Core {
