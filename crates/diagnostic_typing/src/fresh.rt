@@ -1,6 +1,6 @@
 //! Names on the left of a `:=` that are not new.
 
-use crate::place::Setting;
+use diagnostic_value::place::Setting;
 use diagnostic_words::words::Words;
 use syntax::Name;
 use type_table::scope::is_blank;

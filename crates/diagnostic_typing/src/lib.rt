@@ -2,15 +2,10 @@
 //! wrote them. No contract says what is told.
 #![tactic(auto)]
 
-mod assigning;
-mod channel;
-mod counting;
 mod declaring;
 mod fresh;
 mod limit;
 mod naming;
-mod operator;
-mod place;
 mod reading;
 mod statement;
 mod text;

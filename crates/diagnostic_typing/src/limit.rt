@@ -1,10 +1,8 @@
 //! Limits that a program exceeds.
 
-use crate::place::Setting;
-use checker_base::operand::worth;
 use checker_base::worth::Worth;
 use diagnostic_scope::unit::Unit;
-use diagnostic_words::operand::push_operand;
+use diagnostic_value::place::Setting;
 use diagnostic_words::words::{Words, push_expression};
 use go_text::LimitKind;
 use syntax::{BinaryOperator, ExpressionNode, FunctionNode, StructNode, UnaryOperator};
@@ -76,7 +74,7 @@ fn push_overflow(said: &mut Words, noun: &str, whole: &ExpressionNode) {
 /// Tells that a constant is shifted too far.
 fn push_far(said: &mut Words, at: Setting<'_, '_>, count: &ExpressionNode) {
     said.text("invalid shift count ");
-    push_operand(said, at.table, &at.scene.visible, count);
+    at.push_operand(said, count);
     said.text(": a constant is shifted by at most 100");
 }
 
@@ -84,7 +82,7 @@ fn push_far(said: &mut Words, at: Setting<'_, '_>, count: &ExpressionNode) {
 fn is_far(at: Setting<'_, '_>, operator: BinaryOperator, count: &ExpressionNode) -> bool {
     match operator {
         BinaryOperator::ShiftLeft | BinaryOperator::ShiftRight => {
-            match worth(at.table, &at.scene.visible, count) {
+            match at.worth(count) {
                 Some(Worth::Constant(value)) => value > 100,
                 _ => false,
             }

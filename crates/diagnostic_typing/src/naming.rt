@@ -1,12 +1,11 @@
 //! Names that stand for nothing, or for something else than what is wanted.
 
 use crate::fresh::first_repeated;
-use crate::place::Setting;
-use diagnostic_words::operand::push_worth;
+use diagnostic_value::place::Setting;
 use diagnostic_words::words::{Words, push_expression, push_place, push_type};
 use syntax::{ExpressionNode, Name, PlaceNode, TypeNode};
 use type_table::layout::{field_of, function_number, number_of};
-use type_table::scope::{Visible, is_blank, is_reserved, own_variable, variable_named};
+use type_table::scope::{is_blank, is_reserved, own_variable};
 use type_table::table::TypeTable;
 use type_table::value_type::ValueType;
 
@@ -16,10 +15,10 @@ fn is_type(table: &TypeTable<'_>, name: &[u8]) -> bool {
 }
 
 /// Whether a name stands for something at all.
-fn is_known<'a>(table: &TypeTable<'a>, visible: &Visible<'a>, name: &[u8]) -> bool {
-    variable_named(table, visible, name).is_some()
-        || is_type(table, name)
-        || function_number(table, name).is_some()
+fn is_known(at: Setting<'_, '_>, name: &[u8]) -> bool {
+    at.variable(name).is_some()
+        || is_type(at.table, name)
+        || function_number(at.table, name).is_some()
         || is_reserved(name)
 }
 
@@ -46,9 +45,9 @@ fn push_no_value(said: &mut Words, at: Setting<'_, '_>, name: &Name) {
 /// Tells of a name that was to be that of a type.
 fn push_no_type(said: &mut Words, at: Setting<'_, '_>, name: &Name) {
     let bytes = name.bytes.as_slice();
-    if is_type(at.table, bytes) && variable_named(at.table, &at.scene.visible, bytes).is_none() {
+    if is_type(at.table, bytes) && at.variable(bytes).is_none() {
         said.around("invalid composite literal type ", name, "");
-    } else if is_known(at.table, &at.scene.visible, bytes) {
+    } else if is_known(at, bytes) {
         said.around("", name, " is not a type");
     } else {
         push_undefined(said, name);
@@ -57,7 +56,7 @@ fn push_no_type(said: &mut Words, at: Setting<'_, '_>, name: &Name) {
 
 /// Tells of a name that was to be that of a variable.
 fn push_no_variable(said: &mut Words, at: Setting<'_, '_>, name: &Name) {
-    if is_known(at.table, &at.scene.visible, name.bytes.as_slice()) {
+    if is_known(at, name.bytes.as_slice()) {
         said.around("cannot assign to ", name, ": it is not a variable");
     } else {
         push_undefined(said, name);
@@ -68,7 +67,7 @@ fn push_no_variable(said: &mut Words, at: Setting<'_, '_>, name: &Name) {
 fn push_no_field(said: &mut Words, at: Setting<'_, '_>, whole: &ExpressionNode, field: &Name) {
     push_expression(said, whole);
     said.around(".", field, " undefined (type ");
-    push_worth(said, at.table, &at.scene.visible, whole);
+    at.push_worth(said, whole);
     said.around(" has no field ", field, ")");
 }
 
@@ -141,7 +140,7 @@ pub(crate) fn push_unassigned(said: &mut Words, at: Setting<'_, '_>) {
     if is_blank(name) {
         return said.text("cannot use _ as value");
     }
-    if let Some(entry) = variable_named(at.table, &at.scene.visible, name) {
+    if let Some(entry) = at.variable(name) {
         push_no_path(said, at, place, entry.kind);
     }
 }

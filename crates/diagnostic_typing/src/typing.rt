@@ -4,15 +4,10 @@ ghost use Rattle.std.specs.Prelude.{◌^◌, ◌<◌};
 ghost use Rattle.syntax.specs.Measures.{size};
 ghost use Rattle.syntax.specs.View.{file_of};
 
-use crate::assigning::{push_constant, push_nil, push_unfit};
-use crate::channel::{push_direction, push_no_channel, push_unmade};
-use crate::counting::{push_called, push_numbers, push_returned};
 use crate::declaring::push_in_unit;
 use crate::fresh::push_no_new;
 use crate::limit::push_size;
 use crate::naming::{push_invisible, push_redeclared, push_unassigned};
-use crate::operator::{push_operands, push_operator};
-use crate::place::Setting;
 use crate::text::Text;
 use checker_base::flaw::Flaw;
 use checker_base::refusal::Refusal;
@@ -20,7 +15,11 @@ use checker_declaration::table::table_of;
 use diagnostic_scope::given::{Role, parts_of};
 use diagnostic_scope::scene::{Scene, scene_at};
 use diagnostic_scope::unit::{Found, Walk, units_at};
-use diagnostic_words::operand::push_operand;
+use diagnostic_value::assigning::{push_constant, push_nil, push_unfit};
+use diagnostic_value::channel::{push_direction, push_no_channel, push_unmade};
+use diagnostic_value::counting::{push_called, push_numbers, push_returned};
+use diagnostic_value::operator::{push_operands, push_operator};
+use diagnostic_value::place::Setting;
 use diagnostic_words::words::Words;
 use go_text::{Fault, LimitKind, Rule, Source};
 use parser::parse;
@@ -39,7 +38,7 @@ fn push_condition(said: &mut Words, at: Setting<'_, '_>) {
     } else {
         "non-boolean condition in if statement: "
     });
-    push_operand(said, at.table, &at.scene.visible, value.expression);
+    at.push_operand(said, value.expression);
 }
 
 /// Tells of a constant that can't stand where it does.

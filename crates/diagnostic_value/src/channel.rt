@@ -2,7 +2,6 @@
 
 use crate::place::Setting;
 use diagnostic_scope::given::Role;
-use diagnostic_words::operand::push_operand;
 use diagnostic_words::words::{Words, push_written};
 use syntax::{OperationNode, TypeNode};
 
@@ -19,7 +18,7 @@ fn before_no_channel(role: &Role<'_>) -> Option<&'static str> {
 }
 
 /// Tells of the operand at the node of the fault, which is no channel.
-pub(crate) fn push_no_channel(said: &mut Words, at: Setting<'_, '_>) {
+pub fn push_no_channel(said: &mut Words, at: Setting<'_, '_>) {
     let Some(value) = at.value() else {
         return;
     };
@@ -27,7 +26,7 @@ pub(crate) fn push_no_channel(said: &mut Words, at: Setting<'_, '_>) {
         return;
     };
     said.text(before);
-    push_operand(said, at.table, &at.scene.visible, value.expression);
+    at.push_operand(said, value.expression);
     if let Role::Measured(function) = value.role {
         said.text(" for built-in ");
         said.text(function);
@@ -46,7 +45,7 @@ fn before_direction(role: &Role<'_>) -> Option<&'static str> {
 }
 
 /// Tells of an operation that the direction of its channel does not allow.
-pub(crate) fn push_direction(said: &mut Words, at: Setting<'_, '_>) {
+pub fn push_direction(said: &mut Words, at: Setting<'_, '_>) {
     let Some(value) = at.parts.values.first() else {
         return;
     };
@@ -54,7 +53,7 @@ pub(crate) fn push_direction(said: &mut Words, at: Setting<'_, '_>) {
         return;
     };
     said.text(before);
-    push_operand(said, at.table, &at.scene.visible, value.expression);
+    at.push_operand(said, value.expression);
     if let Role::Ranged = value.role {
         said.text(": receive from send-only channel");
     }
@@ -75,10 +74,10 @@ fn push_unmade_type(said: &mut Words, operation: &OperationNode) {
 }
 
 /// Tells of a `make` of no channel, or of its size.
-pub(crate) fn push_unmade(said: &mut Words, at: Setting<'_, '_>) {
+pub fn push_unmade(said: &mut Words, at: Setting<'_, '_>) {
     if let Some(value) = at.value() {
         said.text("invalid argument: size ");
-        push_operand(said, at.table, &at.scene.visible, value.expression);
+        at.push_operand(said, value.expression);
         return said.text(" must be an int that is not negative");
     }
     if let Some(made) = at.made() {

@@ -1,10 +1,8 @@
 //! Operands that do not fit their operator.
 
 use crate::place::Setting;
-use checker_base::operand::worth;
 use checker_base::worth::Worth;
-use diagnostic_scope::given::{Role, place_type};
-use diagnostic_words::operand::{push_operand, push_worth};
+use diagnostic_scope::given::Role;
 use diagnostic_words::words::{
     Words, operator_text, push_expression, push_place, push_type, unary_text,
 };
@@ -34,7 +32,7 @@ fn sort_of_type(kind: ValueType<'_>) -> Sort {
 
 /// The sort of an operand.
 fn sort_of(at: Setting<'_, '_>, expression: &ExpressionNode) -> Sort {
-    match worth(at.table, &at.scene.visible, expression) {
+    match at.worth(expression) {
         Some(Worth::Typed(kind)) => sort_of_type(kind),
         Some(Worth::Constant(_)) => Sort::Int,
         Some(Worth::Nil) => Sort::Nil,
@@ -52,7 +50,7 @@ fn push_undefined_on(
     said.text("operator ");
     said.text(operator);
     said.text(" not defined on ");
-    push_operand(said, at.table, &at.scene.visible, operand);
+    at.push_operand(said, operand);
 }
 
 /// Puts the two types of operands that do not go together behind what is there.
@@ -63,9 +61,9 @@ fn push_mismatch(
     right: &ExpressionNode,
 ) {
     said.text(" (mismatched types ");
-    push_worth(said, at.table, &at.scene.visible, left);
+    at.push_worth(said, left);
     said.text(" and ");
-    push_worth(said, at.table, &at.scene.visible, right);
+    at.push_worth(said, right);
     said.text(")");
 }
 
@@ -107,7 +105,7 @@ fn push_step(said: &mut Words, at: Setting<'_, '_>, place: &PlaceNode) {
     said.text("invalid operation: ");
     push_place(said, place);
     said.text(at.parts.step);
-    if let Some(kind) = place_type(at.table, &at.scene.visible, place) {
+    if let Some(kind) = at.place_type(place) {
         said.text(" (non-numeric type ");
         push_type(said, at.table, kind);
         said.text(")");
@@ -127,7 +125,7 @@ fn push_undefined_at(
     said.text(" not defined on ");
     push_place(said, place);
     said.text(" (variable of type ");
-    push_worth(said, at.table, &at.scene.visible, value);
+    at.push_worth(said, value);
     said.text(")");
 }
 
@@ -150,7 +148,7 @@ fn push_types(said: &mut Words, at: Setting<'_, '_>, kind: ValueType<'_>, value:
     said.text(" (mismatched types ");
     push_type(said, at.table, kind);
     said.text(" and ");
-    push_worth(said, at.table, &at.scene.visible, value);
+    at.push_worth(said, value);
     said.text(")");
 }
 
@@ -163,7 +161,7 @@ fn push_update(
     value: &ExpressionNode,
 ) {
     said.text("invalid operation: ");
-    match place_type(at.table, &at.scene.visible, place) {
+    match at.place_type(place) {
         Some(kind) if sort_of_type(kind) == sort_of(at, value) => {
             push_undefined_at(said, at, place, operator, value);
         }
@@ -196,7 +194,7 @@ fn push_operator_of(said: &mut Words, at: Setting<'_, '_>) {
 }
 
 /// Tells of operands that do not fit their operator.
-pub(crate) fn push_operands(said: &mut Words, at: Setting<'_, '_>) {
+pub fn push_operands(said: &mut Words, at: Setting<'_, '_>) {
     match at.part() {
         Some(whole @ ExpressionNode::Binary(operator, left, right)) => {
             push_binary(said, at, *operator, left, right, whole);
@@ -214,7 +212,7 @@ fn divides(operator: BinaryOperator) -> bool {
 /// Tells that a shift counts by a negative constant.
 fn push_negative(said: &mut Words, at: Setting<'_, '_>, count: &ExpressionNode) {
     said.text("invalid operation: negative shift count ");
-    push_operand(said, at.table, &at.scene.visible, count);
+    at.push_operand(said, count);
 }
 
 /// Tells of an assignment with an operator, to the right of which stands zero, or a negative count.
@@ -258,7 +256,7 @@ fn push_operator_in(said: &mut Words, at: Setting<'_, '_>) {
 }
 
 /// Tells of an operator whose constant right operand can not stand there.
-pub(crate) fn push_operator(said: &mut Words, at: Setting<'_, '_>) {
+pub fn push_operator(said: &mut Words, at: Setting<'_, '_>) {
     match at.part() {
         Some(whole @ ExpressionNode::Binary(operator, _, right)) => {
             push_wrong_right(said, at, *operator, right, whole);

@@ -1,13 +1,10 @@
 //! Values that do not fit what they are given to.
 
 use crate::place::Setting;
-use checker_base::operand::worth;
 use checker_base::worth::Worth;
-use diagnostic_scope::given::{
-    Given, Made, Role, element_of, function_named, place_type, struct_named,
-};
+use diagnostic_scope::given::{Given, Made, Role, element_of, function_named, struct_named};
 use diagnostic_scope::search::Filled;
-use diagnostic_words::operand::{push_made, push_operand};
+use diagnostic_words::operand::push_made;
 use diagnostic_words::words::{Words, push_expression, push_type};
 use syntax::{ExpressionNode, OperationNode, PlaceNode};
 use type_table::table::TypeTable;
@@ -59,7 +56,7 @@ fn push_wanted(
 /// Tells that a value does not fit.
 fn push_value(said: &mut Words, at: Setting<'_, '_>, value: &Given<'_>) {
     said.text("cannot use ");
-    push_operand(said, at.table, &at.scene.visible, value.expression);
+    at.push_operand(said, value.expression);
     push_wanted(said, at.table, value.wanted, &value.role);
 }
 
@@ -94,7 +91,7 @@ fn field_type<'a>(at: Setting<'_, 'a>, filled: &Filled<'_>) -> Option<ValueType<
 /// Tells that a value does not fit a literal's field.
 fn push_filled(said: &mut Words, at: Setting<'_, '_>, filled: &Filled<'_>) {
     said.text("cannot use ");
-    push_operand(said, at.table, &at.scene.visible, filled.value);
+    at.push_operand(said, filled.value);
     push_as(said, at.table, field_type(at, filled));
     said.text(" in struct literal");
 }
@@ -102,8 +99,8 @@ fn push_filled(said: &mut Words, at: Setting<'_, '_>, filled: &Filled<'_>) {
 /// Tells that what is received from a channel does not fit a place.
 fn push_item(said: &mut Words, at: Setting<'_, '_>, channel: &Given<'_>, place: &PlaceNode) {
     said.text("cannot use a value received from ");
-    push_operand(said, at.table, &at.scene.visible, channel.expression);
-    let kind = place_type(at.table, &at.scene.visible, place);
+    at.push_operand(said, channel.expression);
+    let kind = at.place_type(place);
     push_as(said, at.table, kind);
     said.text(if is_ranged(channel) {
         " in range"
@@ -136,7 +133,7 @@ fn push_unfit_value(said: &mut Words, at: Setting<'_, '_>) {
 }
 
 /// Tells of the value at the node of the fault, which does not fit.
-pub(crate) fn push_unfit(said: &mut Words, at: Setting<'_, '_>) {
+pub fn push_unfit(said: &mut Words, at: Setting<'_, '_>) {
     if let Some(made) = at.made() {
         return push_operation_value(said, at, made);
     }
@@ -154,18 +151,18 @@ fn push_overflow(said: &mut Words, at: Setting<'_, '_>, part: &ExpressionNode) {
             said.text(" (overflows)");
         }
         _ => {
-            push_operand(said, at.table, &at.scene.visible, part);
+            at.push_operand(said, part);
             said.text(" overflows int");
         }
     }
 }
 
 /// Tells of a constant that is used as an int, and fits none, if such a one is at the node of the fault.
-pub(crate) fn push_constant(said: &mut Words, at: Setting<'_, '_>) {
+pub fn push_constant(said: &mut Words, at: Setting<'_, '_>) {
     let Some(part) = at.part() else {
         return;
     };
-    if let Some(Worth::Constant(_)) = worth(at.table, &at.scene.visible, part) {
+    if let Some(Worth::Constant(_)) = at.worth(part) {
         push_overflow(said, at, part);
     }
 }
@@ -184,11 +181,11 @@ fn push_lone_nil(said: &mut Words, at: Setting<'_, '_>, value: &Given<'_>) {
 }
 
 /// Tells of a `nil` for which no channel type is known.
-pub(crate) fn push_nil(said: &mut Words, at: Setting<'_, '_>) {
+pub fn push_nil(said: &mut Words, at: Setting<'_, '_>) {
     let Some(value) = at.around() else {
         return;
     };
-    match worth(at.table, &at.scene.visible, value.expression) {
+    match at.worth(value.expression) {
         Some(Worth::Nil) => push_lone_nil(said, at, value),
         _ => {
             said.text("use of untyped nil in ");

@@ -1,14 +1,20 @@
 //! The scene of a fault: what stands at its node, and what is visible there.
 
-use diagnostic_scope::given::{Called, Given, Made, Parts};
+use checker_base::operand::worth;
+use checker_base::worth::Worth;
+use diagnostic_scope::given::{Called, Given, Made, Parts, place_type};
 use diagnostic_scope::scene::Scene;
 use diagnostic_scope::search::{Filled, filled_at, part_at};
+use diagnostic_words::operand::{push_operand, push_worth};
+use diagnostic_words::words::Words;
 use syntax::{ExpressionNode, NodeId, PlaceNode, TypeNode};
+use type_table::scope::{Entry, variable_named};
 use type_table::table::TypeTable;
+use type_table::value_type::ValueType;
 
 /// What is declared in a file, the scene of a fault, the values there, and the node of the fault.
 #[derive(Clone, Copy)]
-pub(crate) struct Setting<'s, 'a> {
+pub struct Setting<'s, 'a> {
     pub table: &'s TypeTable<'a>,
     pub scene: &'s Scene<'a>,
     pub parts: &'s Parts<'a>,
@@ -17,7 +23,7 @@ pub(crate) struct Setting<'s, 'a> {
 
 impl<'s, 'a> Setting<'s, 'a> {
     /// The value whose own node is that of the fault.
-    pub(crate) fn value(self) -> Option<&'s Given<'a>> {
+    pub fn value(self) -> Option<&'s Given<'a>> {
         for value in self.parts.values.as_slice() {
             if value.end == self.node.saturating_add(1) {
                 return Some(value);
@@ -27,7 +33,7 @@ impl<'s, 'a> Setting<'s, 'a> {
     }
 
     /// The value in which the node of the fault stands.
-    pub(crate) fn around(self) -> Option<&'s Given<'a>> {
+    pub fn around(self) -> Option<&'s Given<'a>> {
         for value in self.parts.values.as_slice() {
             if value.first <= self.node && self.node < value.end {
                 return Some(value);
@@ -37,7 +43,7 @@ impl<'s, 'a> Setting<'s, 'a> {
     }
 
     /// The operation whose own node is that of the fault.
-    pub(crate) fn made(self) -> Option<&'s Made<'a>> {
+    pub fn made(self) -> Option<&'s Made<'a>> {
         for made in self.parts.operations.as_slice() {
             if made.node == self.node {
                 return Some(made);
@@ -47,7 +53,7 @@ impl<'s, 'a> Setting<'s, 'a> {
     }
 
     /// The call whose own node is that of the fault.
-    pub(crate) fn called(self) -> Option<&'s Called<'a>> {
+    pub fn called(self) -> Option<&'s Called<'a>> {
         for called in self.parts.calls.as_slice() {
             if called.node == self.node {
                 return Some(called);
@@ -57,13 +63,13 @@ impl<'s, 'a> Setting<'s, 'a> {
     }
 
     /// The place whose node is that of the fault.
-    pub(crate) fn place(self) -> Option<&'a PlaceNode> {
+    pub fn place(self) -> Option<&'a PlaceNode> {
         let number = self.node.checked_sub(self.parts.first)?;
         self.parts.places.get(number as usize).copied()
     }
 
     /// The type in which the node of the fault stands.
-    pub(crate) fn written(self) -> Option<&'a TypeNode> {
+    pub fn written(self) -> Option<&'a TypeNode> {
         for one in self.parts.types.as_slice() {
             if one.first <= self.node && self.node < one.end {
                 return Some(one.written);
@@ -73,14 +79,39 @@ impl<'s, 'a> Setting<'s, 'a> {
     }
 
     /// The expression whose own node is that of the fault.
-    pub(crate) fn part(self) -> Option<&'a ExpressionNode> {
+    pub fn part(self) -> Option<&'a ExpressionNode> {
         let value = self.around()?;
         part_at(self.node, value.first, value.expression)
     }
 
     /// The value of a literal whose own node is that of the fault.
-    pub(crate) fn filled(self) -> Option<Filled<'a>> {
+    pub fn filled(self) -> Option<Filled<'a>> {
         let value = self.around()?;
         filled_at(self.node, value.first, value.expression)
+    }
+
+    /// What an expression is worth there, if it is right.
+    pub fn worth(self, expression: &ExpressionNode) -> Option<Worth<'a>> {
+        worth(self.table, &self.scene.visible, expression)
+    }
+
+    /// The type of a place there, if it has one.
+    pub fn place_type(self, place: &PlaceNode) -> Option<ValueType<'a>> {
+        place_type(self.table, &self.scene.visible, place)
+    }
+
+    /// The variable for which a name stands there, if it stands for one.
+    pub fn variable(self, name: &[u8]) -> Option<Entry<'a>> {
+        variable_named(self.table, &self.scene.visible, name)
+    }
+
+    /// Puts an operand, with what it is worth there, behind what is there.
+    pub fn push_operand(self, said: &mut Words, operand: &ExpressionNode) {
+        push_operand(said, self.table, &self.scene.visible, operand);
+    }
+
+    /// Puts what an operand is worth there behind what is there.
+    pub fn push_worth(self, said: &mut Words, operand: &ExpressionNode) {
+        push_worth(said, self.table, &self.scene.visible, operand);
     }
 }

@@ -2,14 +2,11 @@
 
 use crate::assigning::kind_made;
 use crate::place::Setting;
-use checker_base::operand::worth;
 use checker_base::worth::Worth;
 use diagnostic_scope::given::{Called, function_named, struct_named};
-use diagnostic_words::operand::{push_operand, push_worth};
 use diagnostic_words::words::{Words, push_call, push_operation, push_type};
 use syntax::{ExpressionNode, Name, OperationNode};
 use type_table::layout::{function_number, number_of};
-use type_table::scope::variable_named;
 use type_table::value_type::ValueType;
 
 /// Puts a number of things behind what is there.
@@ -44,10 +41,10 @@ fn push_mismatch(said: &mut Words, at: Setting<'_, '_>) {
 
 /// Puts the type of a value that is given behind what is there.
 fn push_given(said: &mut Words, at: Setting<'_, '_>, value: &ExpressionNode) {
-    match worth(at.table, &at.scene.visible, value) {
+    match at.worth(value) {
         Some(Worth::Constant(_)) => said.text("number"),
         Some(Worth::Nil) => said.text("nil"),
-        _ => push_worth(said, at.table, &at.scene.visible, value),
+        _ => at.push_worth(said, value),
     }
 }
 
@@ -99,7 +96,7 @@ fn push_literal(said: &mut Words, at: Setting<'_, '_>, name: &Name, values: usiz
 }
 
 /// Tells of too many or too few values.
-pub(crate) fn push_numbers(said: &mut Words, at: Setting<'_, '_>) {
+pub fn push_numbers(said: &mut Words, at: Setting<'_, '_>) {
     if let Some(ExpressionNode::Composite(name, values, _)) = at.part() {
         return push_literal(said, at, name, values.len());
     }
@@ -136,7 +133,7 @@ fn push_nothing(said: &mut Words, at: Setting<'_, '_>, kind: ValueType<'_>) {
 }
 
 /// Tells of a `return` with a value too many or too few.
-pub(crate) fn push_returned(said: &mut Words, at: Setting<'_, '_>) {
+pub fn push_returned(said: &mut Words, at: Setting<'_, '_>) {
     if let Some(kind) = at.scene.result {
         return push_nothing(said, at, kind);
     }
@@ -161,7 +158,7 @@ fn push_variable(said: &mut Words, at: Setting<'_, '_>, name: &Name, kind: Value
 
 /// Tells of a call of what is no function.
 fn push_no_function(said: &mut Words, at: Setting<'_, '_>, name: &Name) {
-    match variable_named(at.table, &at.scene.visible, name.bytes.as_slice()) {
+    match at.variable(name.bytes.as_slice()) {
         Some(entry) => push_variable(said, at, name, entry.kind),
         None => {
             let behind = ": it is not a function (there are no conversions)";
@@ -173,7 +170,7 @@ fn push_no_function(said: &mut Words, at: Setting<'_, '_>, name: &Name) {
 /// Whether a name stands for a function where the fault is.
 fn is_function(at: Setting<'_, '_>, name: &Name) -> bool {
     let bytes = name.bytes.as_slice();
-    variable_named(at.table, &at.scene.visible, bytes).is_none()
+    at.variable(bytes).is_none()
         && number_of(at.table, bytes).is_none()
         && function_number(at.table, bytes).is_some()
 }
@@ -184,12 +181,12 @@ fn push_unprinted(said: &mut Words, at: Setting<'_, '_>) {
         return;
     };
     said.text("cannot print ");
-    push_operand(said, at.table, &at.scene.visible, value.expression);
+    at.push_operand(said, value.expression);
     said.text(": only ints, bools and strings are printed");
 }
 
 /// Tells of a call of no function, of one without a result that is used as a value, and of what can't be printed.
-pub(crate) fn push_called(said: &mut Words, at: Setting<'_, '_>) {
+pub fn push_called(said: &mut Words, at: Setting<'_, '_>) {
     let Some(called) = at.called() else {
         return push_unprinted(said, at);
     };

@@ -1,0 +1,9 @@
+//! Values and operations that do not fit where they stand, in the words of Go: the scene of a fault, and what sentences tell of
+//! the values there. No contract says what is told.
+#![tactic(auto)]
+
+pub mod assigning;
+pub mod channel;
+pub mod counting;
+pub mod operator;
+pub mod place;
