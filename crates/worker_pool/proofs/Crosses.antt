@@ -23,16 +23,16 @@ use Rattle.sleep_queue.proofs.queues.SleepQueues.TheSendSync.{the_send as queues
 use Rattle.verifier.proofs.verified.Verified.TheSendSync.{the_send as verified_send, the_sync as verified_sync}
 use Rattle.word.proofs.end.End.TheSendSync.{the_send as end_send}
 use Rattle.logical_clock.proofs.clock.Clock.TheSendSync.{the_send as clock_send}
-use Rattle.world_core_base.proofs.slot.Standing.TheSendSync.{the_field_send as standing_send}
-use Rattle.world_core_base.specs.contracts.awake.AwakeRows as AwakeRows
-use Rattle.world_core_base.specs.contracts.awake.AwakeRows.TheInside as awake
+use Rattle.awake_rows.proofs.slot.Standing.TheSendSync.{the_field_send as standing_send}
+use Rattle.awake_rows.specs.contracts.awake.AwakeRows as AwakeRows
+use Rattle.awake_rows.specs.contracts.awake.AwakeRows.TheInside as awake
 use Rattle.world_core_base.specs.contracts.core_model.Core as Core
 use Rattle.world_core_base.specs.contracts.core_model.Core.TheInside as core
-use Rattle.world_core_base.specs.contracts.slot.Held as Held
-use Rattle.world_core_base.specs.contracts.slot.Slot as Slot
-use Rattle.world_core_base.specs.contracts.slot.Slot.TheInside as slot
-use Rattle.world_core_base.specs.contracts.slot.Away as Away
-use Rattle.world_core_base.specs.contracts.slot.Away.TheInside as away
+use Rattle.awake_rows.specs.contracts.slot.Held as Held
+use Rattle.awake_rows.specs.contracts.slot.Slot as Slot
+use Rattle.awake_rows.specs.contracts.slot.Slot.TheInside as slot
+use Rattle.awake_rows.specs.contracts.slot.Away as Away
+use Rattle.awake_rows.specs.contracts.slot.Away.TheInside as away
 use Rattle.book.specs.declared.name.BookName.{Ghosts as BookGhosts}
 use Rattle.worker_pool.specs.contracts.locked.Locked as Locked
 use Rattle.worker_pool.specs.contracts.run_book.RunBook as RunBook

@@ -24,7 +24,8 @@ use Rattle.word.specs.declared.end.End.TheVariants.{Deadlock}
 use Rattle.world_core_base.specs.Cores.{CodeMachine, CoreValue, Asks, FitsCore, HasTurn, IsCoreOf, shared_of, opened_core}
 use Rattle.world_core.specs.Schedules.{WorldValue, IsWorldOf, IsMoment, IsFirstInFirstOut, end_in, first_world, has_turn_with, is_turn, goroutine_of, scheduled, turns_at, turns_in}
 use Rattle.world_core_base.specs.Slots.{State, Rows, FitsRow, IsAwake, IsNobodyAwake, stepped_row, stepped_rows, waiting_clock}
-use Rattle.world_core_base.proofs.Leases.{core_set, waiting_found}
+use Rattle.world_core_base.proofs.Found.{waiting_found}
+use Rattle.world_core_base.proofs.Leases.{core_set}
 
 -- ---- who is awake, and who asks
 

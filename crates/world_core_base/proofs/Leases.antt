@@ -6,9 +6,6 @@ use Rattle.bytecode.proofs.Unstuck.{begin_keeps}
 use Rattle.std.proofs.lemmas.Option.{slice_get_within}
 use Rattle.std.proofs.lemmas.Bool.{cases_eq, cases_lt, true≢false}
 use Rattle.std.proofs.lemmas.List.{set_past}
-use Rattle.logical_clock.specs.declared.key.Key.{Key}
-use Rattle.logical_clock.specs.Order.{keys, least}
-use Rattle.logical_clock.proofs.Keys.{IsNext, next_is}
 use Rattle.turn_rule.specs.declared.Row.{Row}
 use Rattle.bytecode.specs.Code.{Code}
 use Rattle.bytecode.specs.Machine.{code_kind, main_of}
@@ -18,23 +15,12 @@ use Rattle.turn_rule.proofs.Stable.{moved_add}
 use Rattle.word.specs.Worlds.{rules}
 use Rattle.word.proofs.Laws.{laws}
 use Rattle.world_core_base.specs.Cores.{CodeMachine, CoreValue, FitsCore, IsCoreOf, opened_core}
-use Rattle.world_core_base.specs.Slots.{State, Rows, FitsAll, FitsBeds, FitsRow, IsRowOf, free_clock, free_row, waiting_clock}
+use Rattle.awake_rows.specs.Slots.{State, Rows, FitsAll, FitsBeds, FitsRow, IsRowOf, free_row}
 
 pub leads_goes : (code : Code) (limit quantum : ℕ) (base s t : State) → Leads (rules (code_kind code) limit) base s → Goes code limit quantum s t → Leads (rules (code_kind code) limit) base t
 leads_goes code limit quantum base s t h g =
     let r = rules (code_kind code) limit in
     (h.0 + g.0, moved_add r (laws (code_kind code) limit) h.0 g.0 base ∙ ap (moved r g.0) h.1 ∙ g.2)
-
--- the least of some keys is one of them
-pub waiting_found : (rows : Rows) (k : Key) → least (keys waiting_clock 0 rows) ≡ Some k → waiting_clock (slice_index_or rows k.number None) ≡ Some k.clock
-waiting_found rows k e =
-    let nx : IsNext waiting_clock None rows (Some k) = rw e at (next_is waiting_clock None refl rows) in
-    nx.0
-
-pub free_found : (rows : Rows) (k : Key) → least (keys free_clock 0 rows) ≡ Some k → free_clock (slice_index_or rows k.number None) ≡ Some k.clock
-free_found rows k e =
-    let nx : IsNext free_clock None rows (Some k) = rw e at (next_is free_clock None refl rows) in
-    nx.0
 
 -- rows that fit still fit where one is replaced by another that fits
 pub fits_set : (code : Code) (limit : ℕ) (rows : Rows) (n : ℕ) (row : Option (Row State)) → FitsAll code limit rows → FitsRow code limit row → FitsAll code limit (slice_set rows n row)

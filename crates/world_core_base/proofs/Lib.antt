@@ -6,4 +6,4 @@ pub mod Shapes
 pub mod Stepping
 pub mod Taking
 pub mod Others
-pub mod Stretches
+pub use Rattle.awake_rows.proofs.Found

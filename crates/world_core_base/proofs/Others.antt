@@ -13,7 +13,7 @@ use Rattle.word.specs.Worlds.{Bed, actor_after, begun_at, in_bed, performs, rule
 use Rattle.word.proofs.Fair.{AllWake, IsApart, fair}
 use Rattle.word.proofs.Found.{In}
 use Rattle.world_core_base.specs.Cores.{CodeMachine, shared_of}
-use Rattle.world_core_base.specs.Slots.{State, Rows}
+use Rattle.awake_rows.specs.Slots.{State, Rows}
 use Rattle.world_core_base.proofs.Performing.{there}
 
 -- whoever is woken was asleep

@@ -23,7 +23,7 @@ use Rattle.word.specs.Worlds.{Bed, Rest, in_bed, rules, performs, effect, actor_
 use Rattle.word.proofs.Fair.{Fair, AllWake, AllStart, IsApart, Lies, fair}
 use Rattle.word.proofs.Found.{In}
 use Rattle.world_core_base.specs.Cores.{CodeMachine, CoreValue, IsCoreOf, LieIn, FitsCore, Once, Misses, IsAsked, Performs, shared_of, woken_rows, left_beds, actor_row, actor_beds, new_rows, new_places, core_after, most_woken}
-use Rattle.world_core_base.specs.Slots.{State, Rows, Beds, FitsRow, FitsAll, FitsBeds, free_row}
+use Rattle.awake_rows.specs.Slots.{State, Rows, Beds, FitsRow, FitsAll, FitsBeds, free_row}
 use Rattle.world_core_base.proofs.Leases.{fits_set, free_fits}
 use Rattle.world_core_base.proofs.Orderly.{Orderly, orderly, woken_numbers}
 use Rattle.world_core_base.proofs.Starting.{StartsWithin, starts_within}

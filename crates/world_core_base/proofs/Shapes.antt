@@ -17,8 +17,8 @@ use Rattle.word.specs.Kinds.{at, told}
 use Rattle.word.specs.Requests.{Deed, GoesOn, Leaves, act, panics}
 use Rattle.word.specs.Values.{Request, Make, Go, Send, Receive, Close, Select, Len, Cap, Print, End, Exit, Panic, Exhausted, Reply, Nothing, EventOutcome as Came, Done, Sleeps, Panics, Event}
 use Rattle.word.specs.Views.{reply_of}
-use Rattle.world_core_base.specs.Cores.{CoreValue, IsAsked, answered_rows, woken_rows, left_beds, most_woken}
-use Rattle.world_core_base.specs.Slots.{State, Rows, Beds, free_row}
+use Rattle.world_core_base.specs.Cores.{CoreValue, IsAsked, woken_rows, left_beds, most_woken}
+use Rattle.awake_rows.specs.Slots.{State, Rows, Beds, answered_rows, free_row}
 use Rattle.world_core_base.proofs.Orderly.{Orderly, orderly}
 use Rattle.world_core_base.proofs.Performing.{Beside, LeavesAll, there}
 

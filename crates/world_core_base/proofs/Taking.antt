@@ -10,7 +10,7 @@ use Rattle.bytecode.specs.Rules.{IsVerified}
 use Rattle.goroutine_vm.specs.Advance.{IsStateOf}
 use Rattle.word.specs.Kinds.{at}
 use Rattle.world_core_base.specs.Cores.{CoreValue, IsAway, IsHere, opened_core, or_taken, put_back, state_of, taken_out}
-use Rattle.world_core_base.specs.Slots.{State, Rows, back_row, free_row}
+use Rattle.awake_rows.specs.Slots.{State, Rows, back_row, free_row}
 use Rattle.world_core_base.proofs.Leases.{opened_fits}
 use Rattle.world_core_base.proofs.Performing.{there}
 

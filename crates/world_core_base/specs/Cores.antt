@@ -21,7 +21,8 @@ use Rattle.word.specs.declared.limits.TheConstants.{MAX_GOROUTINES}
 use Rattle.word.specs.Values.{Request, Close, Exit, Exhausted, Reply, Sleeper, Shared}
 use Rattle.word.specs.Views.{event_of}
 use Rattle.word.specs.Worlds.{Bed, Rest, in_bed, rules}
-use Rattle.world_core_base.specs.Slots.{State, Rows, Beds, FitsAll, FitsBeds, back_row, free_clock, free_row, waiting_clock}
+use Rattle.awake_rows.specs.Slots.{State, Rows, Beds, FitsAll, FitsBeds, back_row, free_clock, free_row, waiting_clock}
+pub use Rattle.awake_rows.specs.Slots.{IsFreeIn, answered_rows}
 
 abbrev pub CodeMachine : Type 0
 CodeMachine = Machine State (Rest Frames)
@@ -154,9 +155,6 @@ Performs code limit old n event bytes new = (m : CodeMachine) → IsCoreOf m old
 abbrev pub to_lend : CoreValue → Option Key
 to_lend core = cond (is_some core.ending) None (least (keys free_clock 0 core.rows))
 
-abbrev pub IsFreeIn : Rows → ℕ → State → Type 0
-IsFreeIn rows n state = slice_index_or rows n None ≡ Some (free_row state)
-
 -- goroutine n is lent in this state
 abbrev pub IsLentRow : Rows → ℕ → State → Type 0
 IsLentRow rows n base = (row : Row State) × (slice_index_or rows n None ≡ Some row) × (is_some row.lease ≡ true) × (row.state ≡ base)
@@ -225,10 +223,6 @@ actor_beds beds n s Stays = beds
 abbrev pub new_places : {A : Type 0} → List (Option A) → List (ℕ × List Word) → List (Option A)
 new_places places [] = places
 new_places places (x ∷ xs) = new_places (places ++ None ∷ []) xs
-
--- goroutine n goes on with this reply, at this clock
-abbrev pub answered_rows : Code → Rows → ℕ → ℕ → Reply → Rows
-answered_rows code rows n clock reply = slice_set rows n (option_map (λ (row : Row State). free_row (told (code_kind code) row.state clock reply)) (slice_index_or rows n None))
 
 module _ (code : Code) where
   -- those who are woken are told so at this clock, and get up

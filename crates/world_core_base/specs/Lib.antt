@@ -1,2 +1,2 @@
-pub mod Slots
 pub mod Cores
+pub use Rattle.awake_rows.specs.Slots

@@ -10,14 +10,11 @@ ghost use Rattle.turn_rule.specs.Schedule.{has_turn};
 ghost use Rattle.word.specs.Kinds.{told};
 ghost use Rattle.word.specs.Values.{End as EndRequest, Go as GoRequest, Panic as PanicRequest, Print as PrintRequest, Reply as AnyReply};
 ghost use Rattle.word.specs.Views.{reply_of, request_of};
-ghost use Rattle.world_core_base.specs.Cores.{Asks, FitsCore, IsAsked, IsAway, HasLease, IsFreeIn, IsHere, Performs, answered_rows, bytes_of, last_request, left_beds, meant_after, most_partners, most_woken, opened_core, printed_by, put_back, state_of, taken_out, to_lend, woken_rows};
-ghost use Rattle.world_core_base.specs.Slots.{FitsAll, FitsRow, IsAwake, IsBefore, IsNobodyAwake, IsUnlent, back_row, free_clock, free_row, lent_row, raised_row, stepped_rows, waiting_clock};
+ghost use Rattle.world_core_base.specs.Cores.{Asks, FitsCore, IsAsked, IsAway, HasLease, IsHere, Performs, bytes_of, last_request, left_beds, meant_after, most_partners, most_woken, opened_core, printed_by, put_back, state_of, taken_out, to_lend, woken_rows};
+ghost use Rattle.awake_rows.specs.Slots.{FitsAll, FitsRow, IsAwake, IsBefore, IsFreeIn, IsNobodyAwake, IsUnlent, answered_rows, back_row, free_clock, free_row, lent_row, raised_row, stepped_rows, waiting_clock};
 
-use crate::awake::AwakeRows;
-use crate::rows::{put_at, take_at};
-use crate::slot::{Away, Slot};
-use crate::turns::Among;
 use crate::waking::{doze, wake};
+use awake_rows::{Among, AwakeRows, Away, Slot, put_at, take_at};
 use channel_core::{Channels, Outcome as Came, Woken};
 use go_text::Memory;
 use goroutine_vm::{GoState, spawn_state};
@@ -122,7 +119,7 @@ impl Core {
     }
 
     /// The parked goroutine of least key. A goroutine's number is its place in the rows.
-    #[tactic(auto, using(crate::proofs::Leases::waiting_found))]
+    #[tactic(auto, using(awake_rows::proofs::Found::waiting_found))]
     pub fn least_parked(&self) -> Option<Key>
         ensures least { result ≡ least (keys waiting_clock 0 self.now.rows) }
         ensures found { IfSome result (λ key. waiting_clock (slice_index_or self.now.rows key.number None) ≡ Some key.clock) }
@@ -131,7 +128,7 @@ impl Core {
     }
 
     /// The goroutine of least key of those that are neither lent nor parked.
-    #[tactic(auto, using(crate::proofs::Leases::free_found))]
+    #[tactic(auto, using(awake_rows::proofs::Found::free_found))]
     fn least_free(&self) -> Option<Key>
         ensures least { result ≡ least (keys free_clock 0 self.now.rows) }
         ensures found { IfSome result (λ key. free_clock (slice_index_or self.now.rows key.number None) ≡ Some key.clock) }

@@ -7,11 +7,9 @@ ghost use Rattle.word.specs.Kinds.{told};
 ghost use Rattle.word.specs.Values.{Reply as AnyReply};
 ghost use Rattle.word.specs.Views.{reply_of};
 ghost use Rattle.world_core_base.specs.Cores.{left_beds, woken_rows};
-ghost use Rattle.world_core_base.specs.Slots.{IsUnlent, free_row};
+ghost use Rattle.awake_rows.specs.Slots.{IsUnlent, free_row};
 
-use crate::awake::AwakeRows;
-use crate::rows::{put_at, take_at};
-use crate::slot::Slot;
+use awake_rows::{AwakeRows, Slot, put_at, take_at};
 use channel_core::Woken;
 use goroutine_vm::GoState;
 use logical_clock::Clock;

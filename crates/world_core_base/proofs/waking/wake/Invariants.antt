@@ -3,7 +3,7 @@ use Rattle.bytecode.specs.Code.{Code}
 use Rattle.bytecode.specs.Rules.{IsFrameOf}
 use Rattle.word.specs.Values.{Reply}
 use Rattle.world_core_base.specs.Cores.{left_beds, woken_rows}
-use Rattle.world_core_base.specs.Slots.{Beds, Rows, State}
+use Rattle.awake_rows.specs.Slots.{Beds, Rows, State}
 use Rattle.world_core_base.proofs.waking.wake.Given as goal
 
 -- those who are left get up from here as all did at first

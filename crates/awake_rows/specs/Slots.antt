@@ -1,0 +1,157 @@
+-- Goroutines as a core keeps them.
+use Rattle.std.specs.Prelude.{◌≡◌, ◌≢◌, ℕ, ◌/◌, ◌||◌, Bool, true, false, cond, List, Option, Some, None, IfSome, slice_index_or, slice_set}
+use Rattle.std.specs.Option.{is_some, option_map}
+use Rattle.bytecode.specs.Code.{Code}
+use Rattle.bytecode.specs.Machine.{Frames, code_kind}
+use Rattle.goroutine_vm.specs.Advance.{IsStateOf}
+use Rattle.logical_clock.specs.declared.key.Key.{Key}
+use Rattle.logical_clock.specs.Order.{is_before}
+use Rattle.turn_rule.specs.declared.Lease.{Lease as Loan}
+use Rattle.turn_rule.specs.declared.Row.{Row}
+use Rattle.turn_rule.specs.declared.Step.{Step}
+use Rattle.turn_rule.specs.declared.Step.TheVariants.{Lend, Local, Publish, Look, Return, Settle}
+use Rattle.turn_rule.specs.Schedule.{give_back, lend, local, look, publish}
+use Rattle.word.specs.Kinds.{Clocked, asks, told}
+use Rattle.word.specs.Values.{Reply}
+use Rattle.word.specs.Worlds.{rules}
+use Rattle.awake_rows.specs.declared.slot.Held.{Held}
+use Rattle.awake_rows.specs.declared.slot.Held.TheVariants.{Here, Gone}
+use Rattle.awake_rows.specs.declared.slot.Standing.{Standing}
+use Rattle.awake_rows.specs.declared.slot.Standing.TheVariants.{Free, Lent, Ahead, Parked}
+use Rattle.awake_rows.specs.declared.turns.Among.{Among}
+use Rattle.awake_rows.specs.declared.turns.Among.TheVariants as among
+
+abbrev pub State : Type 0
+State = Clocked Frames
+
+-- goroutine n, if it is awake, is at place n
+abbrev pub Rows : Type 0
+Rows = List (Option (Row State))
+
+-- goroutine n, if it is asleep, fell asleep in the state at place n
+abbrev pub Beds : Type 0
+Beds = List (Option State)
+
+-- of one that is lent away the base stands for the state in which it is
+abbrev pub lease_of : Standing → State → Option (Loan State)
+lease_of Free state = None
+lease_of Lent state = Some (record { present = state; published = state.clock })
+lease_of (Ahead present published) state = Some (record { present = present; published = published })
+lease_of Parked state = None
+
+abbrev pub is_parked : Standing → Bool
+is_parked Free = false
+is_parked Lent = false
+is_parked (Ahead present published) = false
+is_parked Parked = true
+
+-- a floor is the state's clock, but of one that runs ahead
+abbrev pub IsFloor : Standing → ℕ → State → Type 0
+IsFloor Free floor state = floor ≡ state.clock
+IsFloor Lent floor state = Unit {0}
+IsFloor (Ahead present published) floor state = Unit {0}
+IsFloor Parked floor state = floor ≡ state.clock
+
+-- the state, also of one that was moved out
+abbrev pub held_state : Held → State
+held_state (Here state) = state
+held_state (Gone kept) = kept.value
+
+-- the state is moved out only of one that is lent
+abbrev pub IsHeld : Held → Standing → Type 0
+IsHeld (Here state) standing = Unit {0}
+IsHeld (Gone kept) Free = ⊥
+IsHeld (Gone kept) Lent = Unit {0}
+IsHeld (Gone kept) (Ahead present published) = ⊥
+IsHeld (Gone kept) Parked = ⊥
+
+-- places stand in stretches of 32. In one that is said to be quiet nobody is awake
+abbrev pub AreQuiet : List Bool → Rows → Type 0
+AreQuiet quiet rows = (n : ℕ) → slice_index_or quiet (n / 32) false ≡ true → slice_index_or rows n None ≡ None
+
+-- nobody is awake in the stretch of a place
+abbrev pub IsQuietAt : Rows → ℕ → Type 0
+IsQuietAt rows place = (n : ℕ) → n / 32 ≡ place / 32 → slice_index_or rows n None ≡ None
+
+-- if a goroutine stands here, it is not lent
+abbrev pub IsUnlent : Option (Row State) → Type 0
+IsUnlent row = IfSome row (λ row. row.lease ≡ None)
+
+-- the clock of one that is awake, neither lent nor parked
+abbrev pub free_clock : Option (Row State) → Option ℕ
+free_clock None = None
+free_clock (Some row) = cond (is_some row.lease || row.parked) None (Some row.state.clock)
+
+abbrev pub IsAwake : Rows → ℕ → Type 0
+IsAwake rows n = (row : Row State) × (slice_index_or rows n None ≡ Some row)
+
+abbrev pub IsNobodyAwake : Rows → Type 0
+IsNobodyAwake rows = (n : ℕ) → slice_index_or rows n None ≡ None
+
+-- n is another one that is awake, and the key is not below its floor
+abbrev pub IsBefore : Rows → Key → ℕ → Type 0
+IsBefore rows k n = (row : Row State) × (slice_index_or rows n None ≡ Some row) × (n ≢ k.number) × (is_before k (record { clock = row.floor; number = n }) ≡ false)
+
+-- the clock of one that is parked
+abbrev pub waiting_clock : Option (Row State) → Option ℕ
+waiting_clock None = None
+waiting_clock (Some row) = cond row.parked (Some row.state.clock) None
+
+-- its clock, where those that are parked count, or those that may be lent
+abbrev pub clock_among : Among → Option (Row State) → Option ℕ
+clock_among among.Parked row = waiting_clock row
+clock_among among.Free row = free_clock row
+
+-- one that is not lent, parked or not
+abbrev pub back_row : State → Bool → Row State
+back_row state parked = record { state = state; floor = state.clock; lease = None; parked = parked }
+
+-- one that may be lent
+abbrev pub free_row : State → Row State
+free_row state = record { state = state; floor = state.clock; lease = None; parked = false }
+
+-- one whose floor is the clock that a look found
+abbrev pub raised_row : ℕ → Row State → Row State
+raised_row clock row = record row { floor = clock }
+
+-- one that is lent in this state
+abbrev pub lent_row : State → Row State
+lent_row state = record { state = state; floor = state.clock; lease = Some (record { present = state; published = state.clock }); parked = false }
+
+-- goroutine n may be lent, in this state
+abbrev pub IsFreeIn : Rows → ℕ → State → Type 0
+IsFreeIn rows n state = slice_index_or rows n None ≡ Some (free_row state)
+
+-- goroutine n goes on with this reply, at this clock
+abbrev pub answered_rows : Code → Rows → ℕ → ℕ → Reply → Rows
+answered_rows code rows n clock reply = slice_set rows n (option_map (λ (row : Row State). free_row (told (code_kind code) row.state clock reply)) (slice_index_or rows n None))
+
+-- a goroutine of this code and limit; who is parked asks, and is not lent
+pub record IsRowOf (code : Code) (limit : ℕ) (row : Row State) : Type 0 where
+  pub state : IsStateOf code limit row.state
+  pub present : IfSome row.lease (λ l. IsStateOf code limit l.present)
+  pub asks : row.parked ≡ true → is_some (asks (code_kind code) limit row.state) ≡ true
+  pub unlent : row.parked ≡ true → row.lease ≡ None
+
+abbrev pub FitsRow : Code → ℕ → Option (Row State) → Type 0
+FitsRow code limit row = IfSome row (IsRowOf code limit)
+
+abbrev pub FitsAll : Code → ℕ → Rows → Type 0
+FitsAll code limit rows = (k : ℕ) → FitsRow code limit (slice_index_or rows k None)
+
+abbrev pub FitsBeds : Code → ℕ → Beds → Type 0
+FitsBeds code limit beds = (k : ℕ) → IfSome (slice_index_or beds k None) (λ s. IsStateOf code limit s)
+
+-- ---- one step of a schedule
+
+-- a row after a step of its goroutine
+abbrev pub stepped_row : Code → ℕ → Step → Row State → Row State
+stepped_row code limit (Lend n) row = lend (rules (code_kind code) limit) row row.lease
+stepped_row code limit (Local n) row = local (rules (code_kind code) limit) row row.lease
+stepped_row code limit (Publish n) row = publish (rules (code_kind code) limit) row row.lease
+stepped_row code limit (Look n) row = look (rules (code_kind code) limit) row row.lease
+stepped_row code limit (Return n) row = give_back (rules (code_kind code) limit) row row.lease
+stepped_row code limit Settle row = row
+
+abbrev pub stepped_rows : Code → ℕ → Step → ℕ → Rows → Rows
+stepped_rows code limit step n rows = slice_set rows n (option_map (stepped_row code limit step) (slice_index_or rows n None))

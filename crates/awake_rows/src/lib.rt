@@ -1,0 +1,12 @@
+//! The awake goroutines of a world: each with its state, its floor, and whether it is lent or parked.
+#![tactic(auto)]
+
+mod awake;
+mod rows;
+mod slot;
+mod turns;
+
+pub use awake::AwakeRows;
+pub use rows::{put_at, take_at};
+pub use slot::{Away, Held, Slot, Standing};
+pub use turns::{Among, blocker, first_awake, least_parked};
