@@ -1,5 +1,5 @@
 -- What a lease leads to.
-use Rattle.std.proofs.Common.{◌≡◌, ℕ, zero, suc, ◌+◌, ◌≤◌, ◌<◌, ◌^◌, [], Option, Some, None, ap, ◌∙◌, refl, sym, subst, length, inl, inr, arith, length-set, get_or-set_same, get_or-set_other}
+use Rattle.std.proofs.Common.{◌≡◌, ℕ, zero, suc, ◌+◌, ◌≤◌, ◌<◌, ◌^◌, [], Option, None, ap, ◌∙◌, refl, sym, subst, length, inl, inr, arith, length-set, get_or-set_same, get_or-set_other}
 use Rattle.std.specs.Prelude.{slice_index_or, slice_set, unwrap_or}
 use Rattle.bytecode.specs.Rules.{IsVerified}
 use Rattle.bytecode.proofs.Unstuck.{begin_keeps}

@@ -1,5 +1,5 @@
 -- One step of a schedule.
-use Rattle.std.proofs.Common.{◌≡◌, ℕ, None, sym, subst, ◌∙◌, inl, inr, length-set, get_or-set_other}
+use Rattle.std.proofs.Common.{ℕ, None, sym, subst, ◌∙◌, inl, inr, length-set, get_or-set_other}
 use Rattle.std.specs.Prelude.{option_map, slice_index_or}
 use Rattle.std.proofs.lemmas.Bool.{cases_eq}
 use Rattle.bytecode.specs.Code.{Code}
