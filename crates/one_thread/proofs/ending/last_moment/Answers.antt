@@ -8,6 +8,13 @@ loop-init g c =
     let stands = opened_stands (kind_of (g.P.Interpreter.parts c.args.program.now)) (g.P.Interpreter.held c.args.program.now) c.args.limit (g.W.Write.contents c.args.output.now) c.in_ok-goroutines.goroutines.items c.in_ok-shared.shared c.in_ok-goroutines.ensures.open c.in_ok-shared.ensures in
     record { going = stands.goes_on; within = c.in_ok-goroutines.ensures.within c.args.limit; stands = stands }
 
+pub loop-preserved : goal.loop-preserved
+loop-preserved g c = record {
+  going = c.in_ok-end.ensures.going c.in_default-2.is;
+  within = c.in_ok-end.ensures.within;
+  stands = rw c.in_default-2.is at (c.in_ok-end.ensures.goes (g.W.Write.contents c.args.output.now) c.loop.invariant.stands);
+}
+
 pub returns-in_default-clause-whole : goal.returns-in_default-clause-whole
 returns-in_default-clause-whole g c =
     rw c.deserted.ensures.end
