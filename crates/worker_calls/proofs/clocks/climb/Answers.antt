@@ -32,5 +32,5 @@ advance-requires-in-loop-clause-bound c =
 pub loop-preserved : goal.loop-preserved
 loop-preserved c =
     let held : Held = record { code = c.args.program.now; limit = 2 ^ 62; number = 1; base = c.args.state; present = c.loop.state; slot = lease_slot c.loop.lease; published = lease_clock c.loop.lease } in
-    let after = c.advance-in-loop-3 in
+    let after = c.advance-in-loop in
     worked (lease_table c.args.lease) c.args.program.now (2 ^ 62) held c.loop.lease 1 c.advance.new.self c.loop.invariant c.advance.ensures.steps after.new.self c.advance.ensures.state after.ensures.clock after.ensures.same.0 after.ensures.same.2
