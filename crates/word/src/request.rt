@@ -11,6 +11,7 @@ pub struct Case {
 }
 
 impl Drop for Case {
+    #[inline(always)]
     fn drop(self) {
         let Case { chan: _, item } = self;
         drop(item);
@@ -66,6 +67,7 @@ pub enum Reply {
 }
 
 impl Drop for Reply {
+    #[inline(always)]
     fn drop(self) {
         match self {
             Reply::Received(item, _) => drop(item),
@@ -86,6 +88,7 @@ pub enum EventOutcome {
 }
 
 impl Drop for EventOutcome {
+    #[inline(always)]
     fn drop(self) {
         match self {
             EventOutcome::Done(reply) => drop(reply),
@@ -107,6 +110,7 @@ pub struct Event {
 }
 
 impl Drop for Event {
+    #[inline(always)]
     fn drop(self) {
         let Event {
             clock: _,

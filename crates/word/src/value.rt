@@ -36,6 +36,7 @@ pub struct Item {
 }
 
 impl Drop for Item {
+    #[inline(always)]
     fn drop(self) {
         let Item { words } = self;
         drop(words);
