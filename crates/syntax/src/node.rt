@@ -1,4 +1,4 @@
-//! The nodes of a tree.
+//! The nodes of a tree. Each says itself how it is dropped: a derived `Drop` is proved again in every crate that drops one.
 
 /// An operator between two operands.
 #[derive(Clone, Copy, PartialEq, Eq)]
