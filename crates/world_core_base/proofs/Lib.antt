@@ -3,6 +3,7 @@ pub mod Orderly
 pub mod Starting
 pub mod Performing
 pub mod Shapes
+pub mod Events
 pub mod Stepping
 pub mod Taking
 pub mod Others

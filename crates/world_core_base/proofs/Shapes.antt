@@ -14,7 +14,7 @@ use Rattle.word.specs.declared.end.End.TheVariants.{Panicked}
 use Rattle.word.specs.declared.panic.Panic.TheVariants.{TooManyGoroutines}
 use Rattle.word.specs.declared.value.Word.{Word}
 use Rattle.word.specs.Kinds.{at, told}
-use Rattle.word.specs.Requests.{Deed, GoesOn, Leaves, act, panics}
+use Rattle.word.specs.Requests.{Deed, GoesOn, Leaves, act, ends, panics}
 use Rattle.word.specs.Values.{Request, Make, Go, Send, Receive, Close, Select, Len, Cap, Print, End, Exit, Panic, Exhausted, Reply, Nothing, EventOutcome as Came, Done, Sleeps, Panics, Event}
 use Rattle.word.specs.Views.{reply_of}
 use Rattle.world_core_base.specs.Cores.{CoreValue, IsAsked, woken_rows, left_beds, most_woken}
@@ -126,6 +126,21 @@ module _ (code : Code) (limit : ℕ) (core : CoreValue) (n clock : ℕ) (means :
     later = λ p. below;
     events = ap (λ x. o.events ++ x ∷ []) (sym event_is);
     output = refl;
+  }
+
+  -- a run that ends so
+  pub leaves_ends : (outcome : Came) (end : Ending) (event : Event) (new : CoreValue) → ((o : Others) → Beside code limit core o → act (shared_with o core.channels) n clock means means ≡ ends (shared_with o core.channels) n clock means outcome end)
+      → new ≡ record core { rows = slice_set core.rows n (option_map (λ (row : Row State). free_row row.state) (slice_index_or core.rows n None)); events = core.events + 1; ending = Some end }
+      → event ≡ recorded clock n means outcome [] → LeavesAll code limit core n clock means a.row.state event [] new
+  leaves_ends outcome end event new act_is new_is event_is o b = record {
+    deed = ends (shared_with o core.channels) n clock means outcome end;
+    is = act_is o b;
+    left = ap (λ l. record { rows = slice_set core.rows n (Some (free_row a.row.state)); beds = core.beds; taken = core.taken; channels = core.channels; live = l; events = core.events + 1; ending = Some end }) b.live
+        ∙ ap (λ (s : Option (Row State)). record core { rows = slice_set core.rows n s; events = core.events + 1; ending = Some end }) (ap (option_map (λ (row : Row State). free_row row.state)) (sym a.here)) ∙ sym new_is;
+    quiet = (refl, refl);
+    later = λ p. absurd p;
+    events = ap (λ x. o.events ++ x ∷ []) (sym event_is);
+    output = sym (append-nil o.output);
   }
 
   -- a goroutine that is no more

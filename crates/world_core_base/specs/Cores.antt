@@ -18,7 +18,7 @@ use Rattle.word.specs.Kinds.{asks, at, told}
 use Rattle.word.specs.Requests.{Deed, Fate, GoesOn, Dozes, Leaves, Stays, asked, no_channel}
 use Rattle.word.specs.declared.value.Word.{Word}
 use Rattle.word.specs.declared.limits.TheConstants.{MAX_GOROUTINES}
-use Rattle.word.specs.Values.{Request, Close, Exit, Exhausted, Reply, Sleeper, Shared}
+use Rattle.word.specs.Values.{Request, Close, End, Exit, Exhausted, Go, Panic, Reply, Nothing, EventOutcome, Done, Sleeps, Panics, Finished, Panicked, RanOut, Event, Sleeper, Shared}
 use Rattle.word.specs.Views.{event_of}
 use Rattle.word.specs.Worlds.{Bed, Rest, in_bed, rules}
 use Rattle.awake_rows.specs.Slots.{State, Rows, Beds, FitsAll, FitsBeds, back_row, free_clock, free_row, waiting_clock}
@@ -117,9 +117,21 @@ pub record IsAsked (code : Code) (limit : ℕ) (core : CoreValue) (n clock : ℕ
   pub meant : means ≡ meant_after core.events n what
   pub unlent : row.lease ≡ None
 
--- what ends a run: an exit, or the clock limit
-abbrev pub last_request : Bool → Request
-last_request finished = cond finished Exit Exhausted
+-- a request for a new goroutine
+abbrev pub IsGo : Request → Type 0
+IsGo (Go f args) = Unit {0}
+IsGo q = ⊥
+
+-- a request that ends the run so, with this outcome: an exit, the clock limit, or a panic
+abbrev pub IsLast : Request → EventOutcome → Ending → Type 0
+IsLast Exit o e = (o ≡ Done Nothing) × (e ≡ Finished)
+IsLast Exhausted o e = (o ≡ Done Nothing) × (e ≡ RanOut)
+IsLast (Panic cause) o e = (o ≡ Panics cause 0) × (e ≡ Panicked cause)
+IsLast q o e = ⊥
+
+-- what stands in a place for an event before there was one
+abbrev pub no_event : Event
+no_event = record { clock = 0; number = 0; request = End; outcome = Sleeps; partners = [] }
 
 -- how many goroutines a request wakes at most, so many being asleep
 abbrev pub most_woken : Request → ℕ → ℕ

@@ -8,9 +8,9 @@ ghost use Rattle.channel_core.specs.Channels.{Does, IsOfChannels};
 ghost use Rattle.logical_clock.specs.Order.{keys, least};
 ghost use Rattle.turn_rule.specs.Schedule.{has_turn};
 ghost use Rattle.word.specs.Kinds.{told};
-ghost use Rattle.word.specs.Values.{End as EndRequest, Go as GoRequest, Panic as PanicRequest, Print as PrintRequest, Reply as AnyReply};
-ghost use Rattle.word.specs.Views.{reply_of, request_of};
-ghost use Rattle.world_core_base.specs.Cores.{Asks, FitsCore, IsAsked, IsAway, HasLease, IsHere, Performs, bytes_of, last_request, left_beds, meant_after, most_partners, most_woken, opened_core, printed_by, put_back, state_of, taken_out, to_lend, woken_rows};
+ghost use Rattle.word.specs.Values.{End as EndRequest, Print as PrintRequest, Reply as AnyReply};
+ghost use Rattle.word.specs.Views.{event_of, outcome_of, reply_of, request_of};
+ghost use Rattle.world_core_base.specs.Cores.{Asks, FitsCore, IsAsked, IsAway, IsGo, IsLast, HasLease, IsHere, Performs, bytes_of, left_beds, meant_after, most_partners, most_woken, no_event, opened_core, put_back, state_of, taken_out, to_lend, woken_rows};
 ghost use Rattle.awake_rows.specs.Slots.{FitsAll, FitsRow, IsAwake, IsBefore, IsFreeIn, IsNobodyAwake, IsUnlent, answered_rows, back_row, free_clock, free_row, lent_row, raised_row, stepped_rows, waiting_clock};
 
 use crate::waking::{doze, wake};
@@ -27,7 +27,6 @@ use word::end::End;
 use word::limits::MAX_GOROUTINES;
 use word::panic::Panic;
 use word::request::{Event, EventOutcome, Reply, Request};
-use word::value::Word;
 
 /// A world of goroutines that run ahead of their turn, without its lists of events and bytes.
 pub struct Core {
@@ -157,39 +156,58 @@ impl Core {
         self.channels.asleep().max(1)
     }
 
-    /// Performs the request of goroutine `number`, which is awake and asks, while no state is taken out: answers the event,
-    /// and appends to the output what it prints.
+    /// Performs the request of goroutine `number`, which is awake and asks, while no state is taken out: writes the event to
+    /// its place, and appends to the output what it prints. Without the memory that it needs it changes nothing but what
+    /// stands in that place, which is of no account then.
     pub fn perform(
         &mut self,
         alloc: Global,
         code: &Verified,
         limit: u64,
         number: u64,
+        event: &mut Event,
         output: &mut Vec<u8>,
-    ) -> Result<Event, Memory>
+    ) -> Result<(), Memory>
         requires asks { Asks code.now limit self.old.rows number }
         requires fits { FitsCore code.now limit self.old }
         requires events { self.old.events < 2 ^ 62 }
-        ensures performs { IfOk result (λ event. Performs code.now limit self.old number event (bytes_of event) self.new) }
-        ensures output { IfOk result (λ event. output.new.items ≡ output.old.items ++ bytes_of event) }
-        ensures fits { IfOk result (λ _. FitsCore code.now limit self.new) }
-        ensures partners { IfOk result (λ event. length event.partners.items ≤ most_partners self.old) }
+        ensures performs { OnOk result (Performs code.now limit self.old number event.new (bytes_of event.new) self.new) }
+        ensures output { OnOk result (output.new.items ≡ output.old.items ++ bytes_of event.new) }
+        ensures fits { OnOk result (FitsCore code.now limit self.new) }
+        ensures partners { OnOk result (length event.new.partners.items ≤ most_partners self.old) }
         ensures memory { OnErr result ((self.new ≡ self.old) × (output.new.items ≡ output.old.items)) }
     {
-        let (clock, request) = self.asked(alloc, code, limit, number)?;
-        match request {
+        event.number = number;
+        event.clock = self.asked(alloc, code, limit, number, &mut event.request)?;
+        event.partners.clear();
+        match &event.request {
             Request::Print(text) => {
                 output.extend_from_slice(text.as_slice())?;
-                Ok(self.print(alloc, code, limit, number, clock, text))
+                self.print(code, limit, event);
+                Ok(())
             }
-            Request::Go(function, args) => {
-                self.start(alloc, code, limit, number, clock, function, args)
+            Request::Go(_, _) => self.start(alloc, code, limit, event),
+            Request::End => {
+                self.leave(code, limit, event);
+                Ok(())
             }
-            Request::End => Ok(self.leave(alloc, code, limit, number, clock)),
-            Request::Exit => Ok(self.end(alloc, code, limit, number, clock, true)),
-            Request::Exhausted => Ok(self.end(alloc, code, limit, number, clock, false)),
-            Request::Panic(cause) => Ok(self.panic(alloc, code, limit, number, clock, cause)),
-            other => self.meet(alloc, code, limit, number, clock, other),
+            Request::Exit => {
+                let outcome = EventOutcome::Done(Reply::Nothing);
+                self.end(code, limit, event, outcome, End::Finished);
+                Ok(())
+            }
+            Request::Exhausted => {
+                let outcome = EventOutcome::Done(Reply::Nothing);
+                self.end(code, limit, event, outcome, End::Exhausted);
+                Ok(())
+            }
+            Request::Panic(cause) => {
+                let cause = *cause;
+                let outcome = EventOutcome::Panics(cause, 0);
+                self.end(code, limit, event, outcome, End::Panicked(cause));
+                Ok(())
+            }
+            _ => self.meet(code, limit, event),
         }
     }
 
@@ -321,72 +339,64 @@ impl Core {
         Ok(())
     }
 
-    /// The clock of goroutine `number` and what its request means: a return of goroutine 1 is an exit, and event number
-    /// 2^62 of a run is `Exhausted`.
+    /// The clock of goroutine `number`. What its request means is written to its place: a return of goroutine 1 is an exit,
+    /// and event number 2^62 of a run is `Exhausted`.
     fn asked(
         &self,
         alloc: Global,
         code: &Verified,
         limit: u64,
         number: u64,
-    ) -> Result<(Clock, Request), Memory>
+        request: &mut Request,
+    ) -> Result<Clock, Memory>
         requires asks { Asks code.now limit self.now.rows number }
         requires events { self.now.events < 2 ^ 62 }
-        ensures asked { IfOk result (λ asked. IsAsked code.now limit self.now number asked.0 (request_of asked.1)) }
+        ensures asked { IfOk result (λ clock. IsAsked code.now limit self.now number clock (request_of request.new)) }
     {
         let Some(Some(slot)) = self.rows.as_slice().get(number as usize) else {
             unreachable!()
         };
-        let Some(request) = slot.state().asked(alloc, code, limit)? else {
+        let Some(wanted) = slot.state().asked(alloc, code, limit)? else {
             unreachable!()
         };
-        Ok((slot.state().clock(), self.meant(number, request)))
+        *request = wanted;
+        self.mean(number, request);
+        Ok(slot.state().clock())
     }
 
-    /// What goroutine `number`'s request means at the next event.
-    fn meant(&self, number: u64, request: Request) -> Request
+    /// Goroutine `number`'s request becomes what it means at the next event.
+    fn mean(&self, number: u64, request: &mut Request)
         requires { self.now.events < 2 ^ 62 }
-        ensures { request_of result ≡ meant_after self.now.events number (request_of request) }
+        ensures { request_of request.new ≡ meant_after self.now.events number (request_of request.old) }
     {
         if self.events + 1 == LAST {
-            return Request::Exhausted;
+            *request = Request::Exhausted;
+            return;
         }
-        match request {
-            Request::End => if number == 1 {
-                Request::Exit
-            } else {
-                Request::End
-            },
-            other => other,
+        let Request::End = request else {
+            return;
+        };
+        if number != 1 {
+            return;
         }
+        *request = Request::Exit;
     }
 
     /// A print, whose bytes are in the output.
-    fn print(
-        &mut self,
-        alloc: Global,
-        code: &Verified,
-        limit: u64,
-        number: u64,
-        clock: Clock,
-        text: Vec<u8>,
-    ) -> Event
-        requires asked { IsAsked code.now limit self.old number clock (PrintRequest text.items) }
+    fn print(&mut self, code: &Verified, limit: u64, event: &mut Event)
+        requires asked { IsAsked code.now limit self.old event.old.number event.old.clock (request_of event.old.request) }
+        requires print { request_of event.old.request ≡ PrintRequest (bytes_of event.old) }
+        requires alone { event.old.partners.items ≡ [] }
         requires fits { FitsCore code.now limit self.old }
         requires events { self.old.events < 2 ^ 62 }
-        ensures performs { Performs code.now limit self.old number result (bytes_of result) self.new }
-        ensures bytes { bytes_of result ≡ text.items }
+        ensures performs { Performs code.now limit self.old event.old.number event.new (bytes_of event.new) self.new }
+        ensures bytes { bytes_of event.new ≡ bytes_of event.old }
         ensures fits { FitsCore code.now limit self.new }
-        ensures partners { result.partners.items ≡ [] }
+        ensures partners { event.new.partners.items ≡ [] }
     {
-        self.go_on(code, number, &Reply::Nothing, next_time(clock, limit));
-        Event {
-            clock,
-            number,
-            request: Request::Print(text),
-            outcome: EventOutcome::Done(Reply::Nothing),
-            partners: Vec::new(alloc),
-        }
+        let later = next_time(event.clock, limit);
+        self.go_on(code, event.number, &Reply::Nothing, later);
+        event.outcome = EventOutcome::Done(Reply::Nothing);
     }
 
     /// A `go`: a new goroutine, unless too many are alive.
@@ -395,164 +405,109 @@ impl Core {
         alloc: Global,
         code: &Verified,
         limit: u64,
-        number: u64,
-        clock: Clock,
-        function: u32,
-        args: Vec<Word>,
-    ) -> Result<Event, Memory>
-        requires asked { IsAsked code.now limit self.old number clock (GoRequest function args.items) }
+        event: &mut Event,
+    ) -> Result<(), Memory>
+        requires asked { IsAsked code.now limit self.old event.old.number event.old.clock (request_of event.old.request) }
+        requires go { IsGo (request_of event.old.request) }
+        requires alone { event.old.partners.items ≡ [] }
         requires fits { FitsCore code.now limit self.old }
         requires events { self.old.events < 2 ^ 62 }
-        ensures performs { IfOk result (λ event. Performs code.now limit self.old number event [] self.new) }
-        ensures bytes { IfOk result (λ event. bytes_of event ≡ []) }
-        ensures fits { IfOk result (λ _. FitsCore code.now limit self.new) }
-        ensures partners { IfOk result (λ event. length event.partners.items ≤ 1) }
+        ensures performs { OnOk result (Performs code.now limit self.old event.old.number event.new (bytes_of event.new) self.new) }
+        ensures bytes { OnOk result (bytes_of event.new ≡ []) }
+        ensures fits { OnOk result (FitsCore code.now limit self.new) }
+        ensures partners { OnOk result (length event.new.partners.items ≤ 1) }
         ensures memory { OnErr result (self.new ≡ self.old) }
     {
-        let mut partners = Vec::new(alloc);
         if self.live == MAX_GOROUTINES {
-            self.stop(number, End::Panicked(Panic::TooManyGoroutines));
-            let outcome = EventOutcome::Panics(Panic::TooManyGoroutines, 0);
-            let request = Request::Go(function, args);
-            return Ok(event(clock, number, request, outcome, partners));
+            self.stop(event.number, End::Panicked(Panic::TooManyGoroutines));
+            event.outcome = EventOutcome::Panics(Panic::TooManyGoroutines, 0);
+            return Ok(());
         }
-        partners.push(self.rows.len() as u64)?;
-        let later = next_time(clock, limit);
-        let state = spawn_state(alloc, code, function as usize, args.as_slice(), later)?;
+        let Request::Go(function, args) = &event.request else {
+            unreachable!()
+        };
+        let later = next_time(event.clock, limit);
+        let state = spawn_state(alloc, code, *function as usize, args.as_slice(), later)?;
+        event.partners.push(self.rows.len() as u64)?;
         self.add(state)?;
-        self.go_on(code, number, &Reply::Nothing, later);
-        let outcome = EventOutcome::Done(Reply::Nothing);
-        let request = Request::Go(function, args);
-        Ok(event(clock, number, request, outcome, partners))
+        self.go_on(code, event.number, &Reply::Nothing, later);
+        event.outcome = EventOutcome::Done(Reply::Nothing);
+        Ok(())
     }
 
     /// A request to channels.
-    fn meet(
-        &mut self,
-        alloc: Global,
-        code: &Verified,
-        limit: u64,
-        number: u64,
-        clock: Clock,
-        request: Request,
-    ) -> Result<Event, Memory>
-        requires asked { IsAsked code.now limit self.old number clock (request_of request) }
-        requires channels { IsOfChannels (request_of request) }
+    fn meet(&mut self, code: &Verified, limit: u64, event: &mut Event) -> Result<(), Memory>
+        requires asked { IsAsked code.now limit self.old event.old.number event.old.clock (request_of event.old.request) }
+        requires channels { IsOfChannels (request_of event.old.request) }
+        requires alone { event.old.partners.items ≡ [] }
         requires fits { FitsCore code.now limit self.old }
         requires events { self.old.events < 2 ^ 62 }
-        ensures performs { IfOk result (λ event. Performs code.now limit self.old number event [] self.new) }
-        ensures bytes { IfOk result (λ event. bytes_of event ≡ printed_by request) }
-        ensures fits { IfOk result (λ _. FitsCore code.now limit self.new) }
-        ensures partners { IfOk result (λ event. length event.partners.items ≤ most_partners self.old) }
+        ensures performs { OnOk result (Performs code.now limit self.old event.old.number event.new (bytes_of event.new) self.new) }
+        ensures bytes { OnOk result (bytes_of event.new ≡ []) }
+        ensures fits { OnOk result (FitsCore code.now limit self.new) }
+        ensures partners { OnOk result (length event.new.partners.items ≤ most_partners self.old) }
         ensures memory { OnErr result (self.new ≡ self.old) }
     {
-        let mut partners = Vec::with_capacity(alloc, most_woken(&self.channels, &request))?;
-        match self.ask(number, &request)? {
+        let most = most_woken(&self.channels, &event.request);
+        event.partners.reserve(most)?;
+        match self.ask(event.number, &event.request)? {
             Came::Done(reply, woken) => {
-                let later = next_time(clock, limit);
-                self.go_on(code, number, &reply, later);
-                self.wake_all(code, later, woken, &mut partners);
-                let outcome = EventOutcome::Done(reply);
-                Ok(event(clock, number, request, outcome, partners))
+                let later = next_time(event.clock, limit);
+                self.go_on(code, event.number, &reply, later);
+                self.wake_all(code, later, woken, &mut event.partners);
+                event.outcome = EventOutcome::Done(reply);
+                Ok(())
             }
             Came::Sleeps => {
-                self.fall_asleep(number);
-                Ok(event(clock, number, request, EventOutcome::Sleeps, partners))
+                self.fall_asleep(event.number);
+                event.outcome = EventOutcome::Sleeps;
+                Ok(())
             }
             Came::Panics(cause, clause) => {
-                self.stop(number, End::Panicked(cause));
-                let outcome = EventOutcome::Panics(cause, clause);
-                Ok(event(clock, number, request, outcome, partners))
+                self.stop(event.number, End::Panicked(cause));
+                event.outcome = EventOutcome::Panics(cause, clause);
+                Ok(())
             }
         }
     }
 
-    /// Goroutine `number` has ended.
-    fn leave(
-        &mut self,
-        alloc: Global,
-        code: &Verified,
-        limit: u64,
-        number: u64,
-        clock: Clock,
-    ) -> Event
-        requires asked { IsAsked code.now limit self.old number clock EndRequest }
+    /// The goroutine has ended.
+    fn leave(&mut self, code: &Verified, limit: u64, event: &mut Event)
+        requires asked { IsAsked code.now limit self.old event.old.number event.old.clock (request_of event.old.request) }
+        requires end { request_of event.old.request ≡ EndRequest }
+        requires alone { event.old.partners.items ≡ [] }
         requires fits { FitsCore code.now limit self.old }
         requires events { self.old.events < 2 ^ 62 }
-        ensures performs { Performs code.now limit self.old number result [] self.new }
-        ensures bytes { bytes_of result ≡ [] }
+        ensures performs { Performs code.now limit self.old event.old.number event.new (bytes_of event.new) self.new }
+        ensures bytes { bytes_of event.new ≡ [] }
         ensures fits { FitsCore code.now limit self.new }
-        ensures partners { result.partners.items ≡ [] }
+        ensures partners { event.new.partners.items ≡ [] }
     {
-        self.take_out(number);
-        Event {
-            clock,
-            number,
-            request: Request::End,
-            outcome: EventOutcome::Done(Reply::Nothing),
-            partners: Vec::new(alloc),
-        }
+        self.take_out(event.number);
+        event.outcome = EventOutcome::Done(Reply::Nothing);
     }
 
-    /// The run ends by goroutine `number`'s exit, or at the clock limit.
+    /// The run ends so, by an exit, a panic or at the clock limit.
     fn end(
         &mut self,
-        alloc: Global,
         code: &Verified,
         limit: u64,
-        number: u64,
-        clock: Clock,
-        finished: bool,
-    ) -> Event
-        requires asked { IsAsked code.now limit self.old number clock (last_request finished) }
+        event: &mut Event,
+        outcome: EventOutcome,
+        end: End,
+    )
+        requires asked { IsAsked code.now limit self.old event.old.number event.old.clock (request_of event.old.request) }
+        requires last { IsLast (request_of event.old.request) (outcome_of outcome) end }
+        requires alone { event.old.partners.items ≡ [] }
         requires fits { FitsCore code.now limit self.old }
         requires events { self.old.events < 2 ^ 62 }
-        ensures performs { Performs code.now limit self.old number result [] self.new }
-        ensures bytes { bytes_of result ≡ [] }
+        ensures performs { Performs code.now limit self.old event.old.number event.new (bytes_of event.new) self.new }
+        ensures bytes { bytes_of event.new ≡ [] }
         ensures fits { FitsCore code.now limit self.new }
-        ensures partners { result.partners.items ≡ [] }
+        ensures partners { event.new.partners.items ≡ [] }
     {
-        let (request, end) = if finished {
-            (Request::Exit, End::Finished)
-        } else {
-            (Request::Exhausted, End::Exhausted)
-        };
-        self.stop(number, end);
-        Event {
-            clock,
-            number,
-            request,
-            outcome: EventOutcome::Done(Reply::Nothing),
-            partners: Vec::new(alloc),
-        }
-    }
-
-    /// The run ends by goroutine `number`'s panic.
-    fn panic(
-        &mut self,
-        alloc: Global,
-        code: &Verified,
-        limit: u64,
-        number: u64,
-        clock: Clock,
-        cause: Panic,
-    ) -> Event
-        requires asked { IsAsked code.now limit self.old number clock (PanicRequest cause) }
-        requires fits { FitsCore code.now limit self.old }
-        requires events { self.old.events < 2 ^ 62 }
-        ensures performs { Performs code.now limit self.old number result [] self.new }
-        ensures bytes { bytes_of result ≡ [] }
-        ensures fits { FitsCore code.now limit self.new }
-        ensures partners { result.partners.items ≡ [] }
-    {
-        self.stop(number, End::Panicked(cause));
-        Event {
-            clock,
-            number,
-            request: Request::Panic(cause),
-            outcome: EventOutcome::Panics(cause, 0),
-            partners: Vec::new(alloc),
-        }
+        self.stop(event.number, end);
+        event.outcome = outcome;
     }
 }
 
@@ -656,22 +611,16 @@ impl Core {
     }
 }
 
-/// The event of goroutine `number` at this clock.
-fn event(
-    clock: Clock,
-    number: u64,
-    request: Request,
-    outcome: EventOutcome,
-    partners: Vec<u64>,
-) -> Event
-    ensures { result ≡ record { clock = clock; number = number; request = request; outcome = outcome; partners = partners } }
+/// A place for an event: nothing happens at it.
+pub fn blank_event(alloc: Global) -> Event
+    ensures { event_of result ≡ no_event }
 {
     Event {
-        clock,
-        number,
-        request,
-        outcome,
-        partners,
+        clock: Clock::START,
+        number: 0,
+        request: Request::End,
+        outcome: EventOutcome::Sleeps,
+        partners: Vec::new(alloc),
     }
 }
 

@@ -5,5 +5,5 @@ mod core_model;
 mod waking;
 
 pub use awake_rows::{Away, Held, Slot, Standing, blocker, first_awake, least_parked};
-pub use core_model::Core;
+pub use core_model::{Core, blank_event};
 pub use turn_rule::Step;

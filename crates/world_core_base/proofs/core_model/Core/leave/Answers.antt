@@ -1,15 +1,19 @@
-use Rattle.std.proofs.Common.{[], refl}
-use Rattle.word.specs.Values.{Done, End, Nothing}
-use Rattle.world_core_base.proofs.Performing.{fits_by}
-use Rattle.world_core_base.proofs.Shapes.{leaves_ended, recorded}
+use Rattle.std.proofs.Common.{refl}
+use Rattle.word.specs.declared.request.Event.{Event as Recorded}
+use Rattle.word.specs.declared.request.EventOutcome.TheVariants as came
+use Rattle.word.specs.declared.request.Reply.TheVariants as replies
+use Rattle.world_core_base.proofs.Events.{end_quiet, made_ended}
 use Rattle.world_core_base.proofs.core_model.Core.leave.Goals as goal
+
+pub returns-clause-performs : goal.returns-clause-performs
+returns-clause-performs c =
+    let event : Recorded = record c.args.event.now { outcome = came.Done replies.Nothing } in
+    (made_ended c.args.code.now c.args.limit c.args.self.now event c.take_out.new.self c.requires.asked c.requires.fits c.requires.events c.requires.end refl c.requires.alone c.take_out.ensures).performs
+
+pub returns-clause-bytes : goal.returns-clause-bytes
+returns-clause-bytes c = end_quiet c.args.event.now.request c.requires.end
 
 pub returns-clause-fits : goal.returns-clause-fits
 returns-clause-fits c =
-    let code = c.args.code.now in
-    let core = c.args.self.now in
-    let n = c.args.number in
-    let asked = c.requires.asked in
-    let event = recorded c.args.clock n End (Done Nothing) [] in
-    let left = leaves_ended code c.args.limit core n c.args.clock End asked event c.take_out.new.self refl c.take_out.ensures refl in
-    fits_by code c.args.limit core n c.args.clock End event [] c.take_out.new.self asked c.requires.fits c.requires.events left
+    let event : Recorded = record c.args.event.now { outcome = came.Done replies.Nothing } in
+    (made_ended c.args.code.now c.args.limit c.args.self.now event c.take_out.new.self c.requires.asked c.requires.fits c.requires.events c.requires.end refl c.requires.alone c.take_out.ensures).fits

@@ -1,18 +1,23 @@
-use Rattle.std.proofs.Common.{◌<◌, [], refl}
-use Rattle.word.specs.Values.{Done, Print, Nothing}
-use Rattle.world_core_base.proofs.Performing.{fits_by}
-use Rattle.world_core_base.proofs.Shapes.{leaves_printed, recorded}
-use Rattle.world_core_base.proofs.Starting.{still_below}
+use Rattle.std.proofs.Common.{refl}
+use Rattle.word.specs.declared.request.Event.{Event as Recorded}
+use Rattle.word.specs.declared.request.EventOutcome.TheVariants as came
+use Rattle.word.specs.declared.request.Reply.TheVariants as replies
+use Rattle.word.specs.Views.{request_of}
+use Rattle.world_core_base.specs.Cores.{bytes_of}
+use Rattle.world_core_base.proofs.Events.{made_printed, print_below}
 use Rattle.world_core_base.proofs.core_model.Core.print.Goals as goal
+
+pub next_time-later-requires-clause-below : goal.next_time-later-requires-clause-below
+next_time-later-requires-clause-below c =
+    let ev = c.args.event.now in
+    print_below c.args.code.now c.args.limit c.args.self.now ev.number ev.clock (request_of ev.request) (bytes_of ev) c.requires.asked c.requires.print
+
+pub returns-clause-performs : goal.returns-clause-performs
+returns-clause-performs c =
+    let event : Recorded = record c.args.event.now { outcome = came.Done replies.Nothing } in
+    (made_printed c.args.code.now c.args.limit c.args.self.now event c.go_on.new.self c.requires.asked c.requires.fits c.requires.events c.next_time-later.result c.requires.print refl c.requires.alone c.next_time-later.ensures c.go_on.ensures).performs
 
 pub returns-clause-fits : goal.returns-clause-fits
 returns-clause-fits c =
-    let code = c.args.code.now in
-    let core = c.args.self.now in
-    let n = c.args.number in
-    let means = Print c.args.text.items in
-    let asked = c.requires.asked in
-    let below : c.args.clock < c.args.limit = still_below code c.args.limit core n c.args.clock means asked (λ e. cc) in
-    let event = recorded c.args.clock n means (Done Nothing) [] in
-    let left = leaves_printed code c.args.limit core n c.args.clock means asked c.args.text.items c.next_time.result event c.go_on.new.self refl c.next_time.ensures below c.go_on.ensures refl in
-    fits_by code c.args.limit core n c.args.clock means event c.args.text.items c.go_on.new.self asked c.requires.fits c.requires.events left
+    let event : Recorded = record c.args.event.now { outcome = came.Done replies.Nothing } in
+    (made_printed c.args.code.now c.args.limit c.args.self.now event c.go_on.new.self c.requires.asked c.requires.fits c.requires.events c.next_time-later.result c.requires.print refl c.requires.alone c.next_time-later.ensures c.go_on.ensures).fits
