@@ -18,6 +18,8 @@ use Rattle.word.specs.Kinds.{asks}
 use Rattle.word.specs.Views.{event_of}
 use Rattle.word.specs.Worlds.{end_of, moment, rules}
 use Rattle.tracer.specs.Trace.{trace, traceline}
+use Rattle.book.specs.declared.settled.Reached.{Reached}
+use Rattle.book.specs.declared.settled.Reached.TheVariants as reached
 use Rattle.book.specs.declared.settled.Settled.{Settled}
 use Rattle.book.specs.declared.settled.Settled.TheVariants.{Committed, Waiting, Ended}
 use Rattle.world_core.specs.Cores.{CodeMachine, CoreValue, FitsCore, HasLease, HasTurn, IsCoreOf, IsLentRow, Performs, bytes_of, opened_core, shared_of}
@@ -229,3 +231,9 @@ Settles old (Committed event) new = (mid : Desk) × OnlyLooks old mid × Commits
 Settles old (Waiting n) new = Waits old n new
 Settles old (Ended ending) new =
     (new ≡ old) × IsEnd old.code old.limit old.core.events (old.taken + length old.pending) (old.traced + length old.lines) ending
+
+-- the same of an event that stands in its place
+abbrev pub settled_by : Reached → Recorded → Settled
+settled_by reached.Committed event = Committed event
+settled_by (reached.Waiting n) event = Waiting n
+settled_by (reached.Ended ending) event = Ended ending

@@ -9,13 +9,15 @@ ghost use Rattle.turn_rule.specs.Schedule.{has_turn};
 ghost use Rattle.clock_table.specs.Clocks.{IsFree, WasLent, loan_for, row as word_at};
 ghost use Rattle.clock_table.specs.Seats.{table_of};
 ghost use Rattle.world_core.specs.Slots.{IsBefore, waiting_clock};
-ghost use Rattle.world_core.specs.Cores.{HasLease, HasTurn, IsFreeIn, to_lend};
-ghost use Rattle.book.specs.Desks.{CommitsNext, IsDesk, IsLent, IsNobodyLent, IsPiece, IsSeen, IsSight, IsTracePiece, KeepsLeases, OnlyLooks, Settles, Sighting, Waits, brought, lent_desk, opened_desk, seen_desk};
+ghost use Rattle.word.specs.declared.request.Event.{Event as Recorded};
+ghost use Rattle.word.specs.Views.{event_of};
+ghost use Rattle.world_core.specs.Cores.{HasLease, HasTurn, IsFreeIn, no_event, to_lend};
+ghost use Rattle.book.specs.Desks.{CommitsNext, IsDesk, IsLent, IsNobodyLent, IsPiece, IsSeen, IsSight, IsTracePiece, KeepsLeases, OnlyLooks, Settles, Sighting, Waits, brought, lent_desk, opened_desk, seen_desk, settled_by};
 
 use crate::blank::Blank;
 use crate::lease::Lease;
 use crate::name::BookName;
-use crate::settled::Settled;
+use crate::settled::{Reached, Settled};
 use crate::slots::Slots;
 use go_text::{Fault, Memory};
 use logical_clock::{Clock, Key, LAST};
@@ -28,7 +30,7 @@ use tracer::{append_line, reserve_line};
 use verifier::Verified;
 use word::end::End;
 use word::request::Event;
-use world_core::Core;
+use world_core::{Core, blank_event};
 
 /// The book of a run: what is committed, who is lent, and the bytes of the output and of the trace that were not yet taken
 /// out.
@@ -147,33 +149,55 @@ impl<B: BookName> Book<B> {
         ensures leases { KeepsLeases self.old self.new }
         ensures memory { OnErr result (OnlyLooks self.old self.new) }
     {
+        let mut event = self.blank_event();
+        match self.settle_into(&mut event)? {
+            Reached::Committed => Ok(Settled::Committed(event)),
+            Reached::Waiting(number) => Ok(Settled::Waiting(number)),
+            Reached::Ended(end) => Ok(Settled::Ended(end)),
+        }
+    }
+
+    /// The same, but that the event is written to this place, where what stood before is of no account.
+    pub fn settle_into(&mut self, event: &mut Event) -> Result<Reached, Memory>
+        ensures settles { IfOk result (λ r. Settles self.old (settled_by r event.new) self.new) }
+        ensures leases { KeepsLeases self.old self.new }
+        ensures memory { OnErr result (OnlyLooks self.old self.new) }
+    {
         if let Some(end) = self.core.ending() {
-            return Ok(Settled::Ended(end));
+            return Ok(Reached::Ended(end));
         }
         let Some(key) = self.core.least_parked() else {
             return Ok(self.nobody_parked());
         };
         if let Some(number) = self.first_before(&key) {
-            return Ok(Settled::Waiting(number));
+            return Ok(Reached::Waiting(number));
         }
-        Ok(Settled::Committed(self.commit(key.number)?))
+        self.commit(key.number, event)?;
+        Ok(Reached::Committed)
+    }
+
+    /// A place for events.
+    pub fn blank_event(&self) -> Event
+        ensures { event_of result ≡ no_event }
+    {
+        blank_event(self.alloc)
     }
 
     /// What a settling comes to where nobody is parked.
-    fn nobody_parked(&mut self) -> Settled
+    fn nobody_parked(&mut self) -> Reached
         requires ending { self.old.core.ending ≡ None }
         requires parked { least (keys waiting_clock 0 self.old.core.rows) ≡ None }
-        ensures settles { Settles self.old result self.new }
+        ensures settles { (event : Recorded) → Settles self.old (settled_by result event) self.new }
         ensures leases { KeepsLeases self.old self.new }
     {
         let Some(number) = self.core.first_awake() else {
-            return Settled::Ended(End::Deadlock);
+            return Reached::Ended(End::Deadlock);
         };
         if !self.is_lent(number) {
-            return Settled::Waiting(number);
+            return Reached::Waiting(number);
         }
         self.look(number);
-        Settled::Waiting(number)
+        Reached::Waiting(number)
     }
 
     /// Who stands before the key of the goroutine that is parked first, if not only until a look at the clocks that are
@@ -254,22 +278,23 @@ impl<B: BookName> Book<B> {
     }
 
     /// Performs the request of the goroutine that has the turn.
-    fn commit(&mut self, number: u64) -> Result<Event, Memory>
+    fn commit(&mut self, number: u64, event: &mut Event) -> Result<(), Memory>
         requires { HasTurn self.old.core number }
-        ensures commits { IfOk result (λ event. CommitsNext self.old event self.new) }
+        ensures commits { OnOk result (CommitsNext self.old event.new self.new) }
         ensures leases { OnOk result (KeepsLeases self.old self.new) }
         ensures memory { OnErr result (self.new ≡ self.old) }
     {
         reserve_line(&mut self.lines, self.core.most_partners())?;
-        let event = self.core.perform(
+        self.core.perform(
             self.alloc,
             &self.program,
             self.limit,
             number,
+            event,
             &mut self.pending,
         )?;
-        append_line(&mut self.lines, &event);
-        Ok(event)
+        append_line(&mut self.lines, event);
+        Ok(())
     }
 
     /// The bytes of the output that were committed and not yet taken out.

@@ -13,4 +13,4 @@ pub use blank::Blank;
 pub use book_model::Book;
 pub use lease::Lease;
 pub use name::BookName;
-pub use settled::Settled;
+pub use settled::{Reached, Settled};

@@ -22,6 +22,7 @@ use Rattle.sleep_queue.proofs.numbered_keys.NumberedKeys.TheSendSync.{the_send a
 use Rattle.sleep_queue.proofs.queues.SleepQueues.TheSendSync.{the_send as queues_send}
 use Rattle.verifier.proofs.verified.Verified.TheSendSync.{the_send as verified_send, the_sync as verified_sync}
 use Rattle.word.proofs.end.End.TheSendSync.{the_send as end_send}
+use Rattle.word.proofs.request.Event.TheSendSync.{the_send as event_send}
 use Rattle.logical_clock.proofs.clock.Clock.TheSendSync.{the_send as clock_send}
 use Rattle.awake_rows.proofs.slot.Standing.TheSendSync.{the_field_send as standing_send}
 use Rattle.awake_rows.specs.contracts.awake.AwakeRows as AwakeRows
@@ -133,7 +134,7 @@ book_send B g = view_send _ _ _ _ _ (book_inside B g)
 locked_send : (B : RattleType) (g : Ghosts B.Denot) → IsSend B → IsSend (Locked.the_row B g)
 locked_send B g s =
     recorded_send (Locked.the_field B g).row _ _ (Locked.the_type B g).to_one (struct_send (shape (Locked.the_type B g)) (
-      struct_send (shape (RunBook.the_type B g)) (book_send (OfRun.the_row B) _, tt),
+      struct_send (shape (RunBook.the_type B g)) (book_send (OfRun.the_row B) _, (event_send, tt)),
       (ledger.the_send _ _, (ledger.the_send _ _, (search sendable, (search sendable, (search sendable, (search sendable, (search sendable, tt))))))),
     ))
 

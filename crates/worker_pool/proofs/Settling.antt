@@ -1,6 +1,7 @@
 -- What calls of a book leave as it was.
 use Rattle.std.proofs.Common.{◌≡◌, ap, ◌∙◌}
-use Rattle.book.specs.Desks.{Desk, OnlyLooks, Settles}
+use Rattle.book.specs.Desks.{Desk, OnlyLooks, Settles, settled_by}
+use Rattle.book.specs.declared.settled.Reached.{Reached}
 use Rattle.book.specs.declared.settled.Settled.{Settled}
 use Rattle.book.specs.declared.settled.Settled.TheVariants.{Committed, Waiting, Ended}
 use Rattle.book.proofs.Whole.{looks_run, looks_taken}
@@ -9,6 +10,7 @@ use Rattle.worker_pool.specs.Handing.{KeepsTaken}
 use Rattle.worker_pool.specs.Runs.{IsOfRun}
 use Rattle.std.specs.Prelude.{ℕ, IfOk, OnErr, Result, Ok, Err}
 use Rattle.go_text.specs.declared.fault.Memory.{Memory}
+use Rattle.word.specs.declared.request.Event.{Event as Recorded}
 
 pub looks_keep_taken : (old new : Desk) → OnlyLooks old new → KeepsTaken old new
 looks_keep_taken old new h =
@@ -35,9 +37,9 @@ settles_keep_run code limit old new (Waiting n) h is = looks_keep_run code limit
 settles_keep_run code limit old new (Ended end) h is = record { code = ap (λ (d : Desk). d.code) h.0 ∙ is.code; limit = ap (λ (d : Desk). d.limit) h.0 ∙ is.limit }
 
 -- whatever a settling answers, the book is of the run
-pub settled_keeps_run : (code : Code) (limit : ℕ) (old new : Desk) (r : Result Settled Memory) → IfOk r (λ s. Settles old s new) → OnErr r (OnlyLooks old new) → IsOfRun code limit old → IsOfRun code limit new
-settled_keeps_run code limit old new (Ok s) h e is = settles_keep_run code limit old new s h is
-settled_keeps_run code limit old new (Err x) h e is = looks_keep_run code limit old new e is
+pub settled_keeps_run : (code : Code) (limit : ℕ) (old new : Desk) (event : Recorded) (r : Result Reached Memory) → IfOk r (λ s. Settles old (settled_by s event) new) → OnErr r (OnlyLooks old new) → IsOfRun code limit old → IsOfRun code limit new
+settled_keeps_run code limit old new event (Ok s) h e is = settles_keep_run code limit old new (settled_by s event) h is
+settled_keeps_run code limit old new event (Err x) h e is = looks_keep_run code limit old new e is
 
 pub kept_taken : (a b c : Desk) → KeepsTaken a b → KeepsTaken b c → KeepsTaken a c
 kept_taken a b c h k = record { taken = k.taken ∙ h.taken; traced = k.traced ∙ h.traced }

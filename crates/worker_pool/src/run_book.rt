@@ -9,17 +9,20 @@ ghost use Rattle.worker_pool.specs.Handing.{HasEnded, KeepsTaken};
 ghost use Rattle.worker_pool.specs.Runs.{IsHanded, IsOfRun, output_run, trace_run};
 
 use crate::run_name::{OfRun, RunLease, RunName};
-use book::{Blank, Book, Settled};
+use book::{Blank, Book, Reached};
 use go_text::{Fault, Memory};
 use output::Piece;
 use std::sync::Arc;
 use verifier::Verified;
 use word::end::End;
+use word::request::Event;
 
 /// The book of this run.
 #[derive(Drop)]
 pub(crate) struct RunBook<B: RunName> {
     pub book: Book<OfRun<B>>,
+    /// Where each event is written in its turn.
+    pub event: Event,
     pub ghost ours: { IsOfRun B.code B.limit book },
 }
 
@@ -32,7 +35,8 @@ impl<B: RunName> RunBook<B> {
         ensures only { IfErr result (λ fault. fault ≡ Fault.Memory) }
     {
         let book = Book::open(blank, program, limit)?;
-        Ok(RunBook { book })
+        let event = book.blank_event();
+        Ok(RunBook { book, event })
     }
 
     /// Lends a goroutine, if there is one to be lent.
@@ -55,10 +59,10 @@ impl<B: RunName> RunBook<B> {
         ensures end { IfOk result (λ found. IfSome found (HasEnded self.new.book)) }
     {
         'events: for _ in 0..u64::MAX {
-            match self.book.settle()? {
-                Settled::Committed(_) => {}
-                Settled::Waiting(_) => return Ok(None),
-                Settled::Ended(end) => return Ok(Some(end)),
+            match self.book.settle_into(&mut self.event)? {
+                Reached::Committed => {}
+                Reached::Waiting(_) => return Ok(None),
+                Reached::Ended(end) => return Ok(Some(end)),
             }
         }
         Ok(None)

@@ -15,7 +15,7 @@ use turn_rule::Step;
 use verifier::Verified;
 use word::end::End;
 use word::request::Event;
-use world_core_base::{Core, blocker, first_awake, least_parked};
+use world_core_base::{Core, blank_event, blocker, first_awake, least_parked};
 
 /// A world of goroutines that run ahead of their turn, and all that was committed.
 pub struct World {
@@ -139,9 +139,9 @@ impl World {
         ensures memory { OnErr result (self.new ≡ self.old) }
     {
         self.events.reserve(1)?;
-        let event = self
-            .core
-            .perform(alloc, code, limit, number, &mut self.output)?;
+        let mut event = blank_event(alloc);
+        self.core
+            .perform(alloc, code, limit, number, &mut event, &mut self.output)?;
         self.events.push_reserved(event);
         Ok(())
     }

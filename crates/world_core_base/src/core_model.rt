@@ -394,8 +394,7 @@ impl Core {
         ensures fits { FitsCore code.now limit self.new }
         ensures partners { event.new.partners.items ≡ [] }
     {
-        let later = next_time(event.clock, limit);
-        self.go_on(code, event.number, &Reply::Nothing, later);
+        self.go_on(code, event.number, &Reply::Nothing, next_time(event.clock, limit));
         event.outcome = EventOutcome::Done(Reply::Nothing);
     }
 

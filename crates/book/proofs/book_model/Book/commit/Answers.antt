@@ -26,33 +26,33 @@ pub invariant_of-self-2 : goal.invariant_of-self-2
 invariant_of-self-2 g c =
     let b = c.self.inside in
     let d : Desk = record { code = arc_value b.program; limit = b.limit; core = b.core; taken = b.taken; pending = b.pending.items; traced = b.traced; lines = b.lines.items; words = words_of b.slots.seat; looks = seat_looks b.slots.seat } in
-    let event = c.in_ok-event.event in
+    let event = c.perform.new.event in
     let new = c.perform.new.self in
     let pending = c.perform.new.output in
     let lines = c.append_line.new.lines in
     let turn : HasTurn d.core c.args.number = subst (λ (x : Desk). HasTurn x.core c.args.number) (sym c.self.view_is) c.requires in
-    let done : Performs d.code d.limit d.core c.args.number event (bytes_of event) new = subst (λ (code : Code). Performs code d.limit d.core c.args.number event (bytes_of event) new) c.deref.ensures c.in_ok-event.ensures.performs in
-    let fits : FitsCore d.code d.limit new = subst (λ (code : Code). FitsCore code d.limit new) c.deref.ensures c.in_ok-event.ensures.fits in
+    let done : Performs d.code d.limit d.core c.args.number event (bytes_of event) new = subst (λ (code : Code). Performs code d.limit d.core c.args.number event (bytes_of event) new) c.deref.ensures c.in_ok-perform.ensures.performs in
+    let fits : FitsCore d.code d.limit new = subst (λ (code : Code). FitsCore code d.limit new) c.deref.ensures c.in_ok-perform.ensures.fits in
     let line : lines.items ≡ b.lines.items ++ traceline (event_of event) = c.append_line.ensures ∙ ap (λ (ls : List ℕ). ls ++ traceline (event_of event)) c.reserve_line.ensures.items in
     let room : length pending.items < 2 ^ 64 = few pending.len pending.cap pending.items pending.ok.0 pending.ok.1 pending.small in
     let trace_room : length lines.items < 2 ^ 64 = few lines.len lines.cap lines.items lines.ok.0 lines.ok.1 lines.small in
-    let r = committed d c.args.number event new pending.items lines.items c.self.invariant.desk turn done fits c.in_ok-event.ensures.output line room trace_room in
+    let r = committed d c.args.number event new pending.items lines.items c.self.invariant.desk turn done fits c.in_ok-perform.ensures.output line room trace_room in
     book_commits g.B.BookName.code g.B.BookName.limit d b.slots.places.items event new pending.items lines.items c.self.invariant r.0 r.1
 
 pub returns : goal.returns
 returns g c =
     let b = c.self.inside in
     let d : Desk = record { code = arc_value b.program; limit = b.limit; core = b.core; taken = b.taken; pending = b.pending.items; traced = b.traced; lines = b.lines.items; words = words_of b.slots.seat; looks = seat_looks b.slots.seat } in
-    let event = c.in_ok-event.event in
+    let event = c.perform.new.event in
     let new = c.perform.new.self in
     let pending = c.perform.new.output in
     let lines = c.append_line.new.lines in
     let turn : HasTurn d.core c.args.number = subst (λ (x : Desk). HasTurn x.core c.args.number) (sym c.self.view_is) c.requires in
-    let done : Performs d.code d.limit d.core c.args.number event (bytes_of event) new = subst (λ (code : Code). Performs code d.limit d.core c.args.number event (bytes_of event) new) c.deref.ensures c.in_ok-event.ensures.performs in
-    let fits : FitsCore d.code d.limit new = subst (λ (code : Code). FitsCore code d.limit new) c.deref.ensures c.in_ok-event.ensures.fits in
+    let done : Performs d.code d.limit d.core c.args.number event (bytes_of event) new = subst (λ (code : Code). Performs code d.limit d.core c.args.number event (bytes_of event) new) c.deref.ensures c.in_ok-perform.ensures.performs in
+    let fits : FitsCore d.code d.limit new = subst (λ (code : Code). FitsCore code d.limit new) c.deref.ensures c.in_ok-perform.ensures.fits in
     let line : lines.items ≡ b.lines.items ++ traceline (event_of event) = c.append_line.ensures ∙ ap (λ (ls : List ℕ). ls ++ traceline (event_of event)) c.reserve_line.ensures.items in
     let room : length pending.items < 2 ^ 64 = few pending.len pending.cap pending.items pending.ok.0 pending.ok.1 pending.small in
     let trace_room : length lines.items < 2 ^ 64 = few lines.len lines.cap lines.items lines.ok.0 lines.ok.1 lines.small in
-    let r = committed d c.args.number event new pending.items lines.items c.self.invariant.desk turn done fits c.in_ok-event.ensures.output line room trace_room in
+    let r = committed d c.args.number event new pending.items lines.items c.self.invariant.desk turn done fits c.in_ok-perform.ensures.output line room trace_room in
     let after : Desk = record d { core = new; pending = pending.items; lines = lines.items } in
     rw (← c.self.view_is) (record { commits = r.1; leases = commits_keeps d after event c.self.invariant.desk r.1; memory = tt })

@@ -17,7 +17,7 @@ returns-in_default-clause-settles g c =
     let d : Desk = record { code = arc_value b.program; limit = b.limit; core = b.core; taken = b.taken; pending = b.pending.items; traced = b.traced; lines = b.lines.items; words = words_of b.slots.seat; looks = seat_looks b.slots.seat } in
     let now = c.args.self.now in
     let nobody : IsNobodyAwake d.core.rows = c.in_default.ensures in
-    (refl, dead_desk now (subst IsDesk c.self.view_is c.self.invariant.desk) c.requires.ending (subst (λ (x : Desk). IsNobodyAwake x.core.rows) c.self.view_is nobody))
+    λ event. (refl, dead_desk now (subst IsDesk c.self.view_is c.self.invariant.desk) c.requires.ending (subst (λ (x : Desk). IsNobodyAwake x.core.rows) c.self.view_is nobody))
 
 pub returns-then-not-is_lent-clause-settles : goal.returns-then-not-is_lent-clause-settles
 returns-then-not-is_lent-clause-settles g c =
@@ -25,7 +25,7 @@ returns-then-not-is_lent-clause-settles g c =
     let d : Desk = record { code = arc_value b.program; limit = b.limit; core = b.core; taken = b.taken; pending = b.pending.items; traced = b.traced; lines = b.lines.items; words = words_of b.slots.seat; looks = seat_looks b.slots.seat } in
     let n = c.in-Some.number in
     let awake : IsAwake d.core.rows n = c.in-Some.ensures in
-    waits_unlent c.args.self.now n (subst IsDesk c.self.view_is c.self.invariant.desk) c.requires.ending c.requires.parked (subst (λ (x : Desk). IsAwake x.core.rows n) c.self.view_is awake) (λ lent. true≢false (sym (c.if-not-is_lent.ensures.1 lent)))
+    λ event. waits_unlent c.args.self.now n (subst IsDesk c.self.view_is c.self.invariant.desk) c.requires.ending c.requires.parked (subst (λ (x : Desk). IsAwake x.core.rows n) c.self.view_is awake) (λ lent. true≢false (sym (c.if-not-is_lent.ensures.1 lent)))
 
 pub returns-clause-settles : goal.returns-clause-settles
 returns-clause-settles g c =
@@ -33,7 +33,7 @@ returns-clause-settles g c =
     let d : Desk = record { code = arc_value b.program; limit = b.limit; core = b.core; taken = b.taken; pending = b.pending.items; traced = b.traced; lines = b.lines.items; words = words_of b.slots.seat; looks = seat_looks b.slots.seat } in
     let n = c.in-Some.number in
     let awake : IsAwake d.core.rows n = c.in-Some.ensures in
-    waits_lent c.args.self.now c.look.new.self n (subst IsDesk c.self.view_is c.self.invariant.desk) c.requires.ending c.requires.parked (subst (λ (x : Desk). IsAwake x.core.rows n) c.self.view_is awake) c.look.ensures
+    λ event. waits_lent c.args.self.now c.look.new.self n (subst IsDesk c.self.view_is c.self.invariant.desk) c.requires.ending c.requires.parked (subst (λ (x : Desk). IsAwake x.core.rows n) c.self.view_is awake) c.look.ensures
 
 pub returns-clause-leases : goal.returns-clause-leases
 returns-clause-leases g c =

@@ -4,7 +4,7 @@ use Rattle.clock_table.specs.Seats.{rows as words_of, seat_looks}
 use Rattle.book.specs.Desks.{Desk, IsEnd, KeepsLeases}
 use Rattle.book.proofs.Books.{ended_desk}
 use Rattle.book.proofs.Whole.{looks_leases}
-use Rattle.book.proofs.book_model.Book.settle.Goals as goal
+use Rattle.book.proofs.book_model.Book.settle_into.Goals as goal
 
 pub returns-in-Some-clause-settles : goal.returns-in-Some-clause-settles
 returns-in-Some-clause-settles g c =
