@@ -11,6 +11,7 @@ use Rattle.logical_clock.specs.Order.{keys, least}
 use Rattle.turn_rule.specs.declared.Row.{Row}
 use Rattle.turn_rule.specs.Schedule.{Machine, perform_row, has_turn}
 use Rattle.word.specs.declared.end.End.{End as Ending}
+use Rattle.word.specs.declared.end.End.TheVariants.{Finished, Panicked, Exhausted as RanOut}
 use Rattle.word.specs.declared.request.Event.{Event as Recorded}
 use Rattle.word.specs.declared.request.Request.{Request as Asked}
 use Rattle.word.specs.declared.request.Request.TheVariants as asking
@@ -18,7 +19,7 @@ use Rattle.word.specs.Kinds.{asks, at, told}
 use Rattle.word.specs.Requests.{Deed, Fate, GoesOn, Dozes, Leaves, Stays, asked, no_channel}
 use Rattle.word.specs.declared.value.Word.{Word}
 use Rattle.word.specs.declared.limits.TheConstants.{MAX_GOROUTINES}
-use Rattle.word.specs.Values.{Request, Close, End, Exit, Exhausted, Go, Panic, Reply, Nothing, EventOutcome, Done, Sleeps, Panics, Finished, Panicked, RanOut, Event, Sleeper, Shared}
+use Rattle.word.specs.Values.{Request, Close, End, Exit, Exhausted, Go, Panic, Reply, Nothing, EventOutcome, Done, Sleeps, Panics, Event, Sleeper, Shared}
 use Rattle.word.specs.Views.{event_of}
 use Rattle.word.specs.Worlds.{Bed, Rest, in_bed, rules}
 use Rattle.awake_rows.specs.Slots.{State, Rows, Beds, FitsAll, FitsBeds, back_row, free_clock, free_row, waiting_clock}

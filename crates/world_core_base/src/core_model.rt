@@ -394,7 +394,12 @@ impl Core {
         ensures fits { FitsCore code.now limit self.new }
         ensures partners { event.new.partners.items ≡ [] }
     {
-        self.go_on(code, event.number, &Reply::Nothing, next_time(event.clock, limit));
+        self.go_on(
+            code,
+            event.number,
+            &Reply::Nothing,
+            next_time(event.clock, limit),
+        );
         event.outcome = EventOutcome::Done(Reply::Nothing);
     }
 
