@@ -22,7 +22,7 @@ use Rattle.sleep_queue.proofs.numbered_keys.NumberedKeys.TheSendSync.{the_send a
 use Rattle.sleep_queue.proofs.queues.SleepQueues.TheSendSync.{the_send as queues_send}
 use Rattle.verifier.proofs.verified.Verified.TheSendSync.{the_send as verified_send, the_sync as verified_sync}
 use Rattle.word.proofs.end.End.TheSendSync.{the_send as end_send}
-use Rattle.word.proofs.request.Event.TheSendSync.{the_send as event_send}
+use Rattle.word.proofs.request.Event.TheSendSync.{the_field_send as event_send}
 use Rattle.logical_clock.proofs.clock.Clock.TheSendSync.{the_send as clock_send}
 use Rattle.awake_rows.proofs.slot.Standing.TheSendSync.{the_field_send as standing_send}
 use Rattle.awake_rows.specs.contracts.awake.AwakeRows as AwakeRows
