@@ -7,11 +7,11 @@ ghost use Rattle.type_table.specs.Views.{kind_of, yield_of};
 ghost use Rattle.type_table.specs.Visible.{globals_in, types_of};
 ghost use Rattle.checker_declaration.specs.Kinds.{all_fields, fields_declared, yield_of as written_yield};
 ghost use Rattle.codegen_base.specs.Layouts.{with_parameters};
-ghost use Rattle.codegen_simple.specs.Layouts.{layout_of};
+ghost use Rattle.codegen_emission.specs.Layouts.{layout_of};
 
+use codegen_emission::layout::{Layout, declare};
 use codegen_expression::element_list::ElementList;
 use codegen_expression::halt::Halt;
-use codegen_simple::layout::{Layout, declare};
 use std::alloc::Global;
 use syntax::{DeclaredNode, Name, TypeNode};
 use type_table::table::TypeTable;

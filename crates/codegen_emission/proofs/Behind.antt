@@ -8,8 +8,8 @@ use Rattle.type_table.specs.Visible.{Keeps}
 use Rattle.codegen_base.specs.Generated.{Made, made_of}
 use Rattle.codegen_base.proofs.Before.{Before, Here, Step, Choice, before_ends}
 use Rattle.codegen_expression.specs.Emission.{Puts}
-use Rattle.codegen_simple.specs.Layouts.{layout_of}
-use Rattle.codegen_simple.specs.Simples.{Appends}
+use Rattle.codegen_header.specs.Layouts.{layout_of}
+use Rattle.codegen_header.specs.Simples.{Appends}
 use Rattle.codegen_emission.specs.declared.emitter.Emitter.{Emitter}
 use Rattle.codegen_flow.specs.Controls.{Control, through}
 use Rattle.codegen_emission.specs.Emitted.{Emits}

@@ -7,7 +7,7 @@ use Rattle.type_table.specs.Scopes.{Globals}
 use Rattle.codegen_base.specs.declared.element.Element.{Element}
 use Rattle.codegen_base.specs.Layouts.{entering}
 use Rattle.codegen_base.specs.Generated.{Made, Site, ended, followed, inside, made_any, past}
-use Rattle.codegen_simple.specs.Layouts.{layout_of}
+use Rattle.codegen_header.specs.Layouts.{layout_of}
 use Rattle.codegen_emission.specs.declared.emitter.Emitter.{Emitter}
 use Rattle.codegen_flow.specs.Controls.{Control, through}
 use Rattle.codegen_emission.specs.Emitted.{Emits, site_of}

@@ -17,7 +17,7 @@ use Rattle.codegen_base.specs.declared.element.Element.{Element}
 use Rattle.codegen_base.specs.Generated.{Made, Site, made_else, made_if, made_of, past, tests}
 use Rattle.codegen_base.proofs.Before.{pushes_before}
 use Rattle.codegen_expression.specs.Emission.{Puts}
-use Rattle.codegen_simple.specs.Layouts.{layout_of}
+use Rattle.codegen_header.specs.Layouts.{layout_of}
 use Rattle.codegen_flow.specs.declared.waits.Wait.{Wait}
 use Rattle.codegen_emission.specs.declared.emitter.Emitter.{Emitter}
 use Rattle.codegen_flow.specs.Waits.{Makes}

@@ -13,7 +13,7 @@ use Rattle.type_table.specs.Scopes.{Globals, Yield}
 use Rattle.codegen_base.specs.declared.element.Element.{Element}
 use Rattle.codegen_base.specs.Generated.{Made, Site, made_default, with_way}
 use Rattle.codegen_emission.specs.Branches.{made_within}
-use Rattle.codegen_simple.specs.Layouts.{layout_of}
+use Rattle.codegen_header.specs.Layouts.{layout_of}
 use Rattle.codegen_emission.specs.declared.emitter.Emitter.{Emitter}
 use Rattle.codegen_flow.specs.declared.select.WayList.{WayList}
 use Rattle.codegen_flow.specs.Closed.{closed}

@@ -10,7 +10,7 @@ use Rattle.plan.proofs.Tables.{tables_size}
 use Rattle.type_table.specs.declared.table.TypeTable.{TypeTable}
 use Rattle.type_table.specs.Visible.{Keeps}
 use Rattle.codegen_base.specs.Generated.{Made, made, made_of, nothing, past, followed}
-use Rattle.codegen_simple.specs.Layouts.{layout_of}
+use Rattle.codegen_header.specs.Layouts.{layout_of}
 use Rattle.codegen_emission.specs.declared.emitter.Emitter.{Emitter}
 use Rattle.codegen_flow.specs.Waits.{Makes}
 use Rattle.codegen_flow.specs.Controls.{Control, Flows, joined, jumping, through}

@@ -10,8 +10,8 @@ use Rattle.codegen_base.specs.Layouts.{Layout}
 use Rattle.codegen_base.specs.Pushes.{pushes_zeros}
 use Rattle.codegen_base.specs.Generated.{Made, Site, followed, made_all, made_body, made_of, result_kinds}
 use Rattle.codegen_base.proofs.Before.{zeros_before}
-use Rattle.codegen_simple.specs.Layouts.{layout_of}
-use Rattle.codegen_simple.specs.Simples.{Appends}
+use Rattle.codegen_header.specs.Layouts.{layout_of}
+use Rattle.codegen_header.specs.Simples.{Appends}
 use Rattle.codegen_emission.specs.declared.emitter.Emitter.{Emitter}
 use Rattle.codegen_flow.specs.Waits.{filled}
 use Rattle.codegen_flow.specs.Controls.{Control, joined, never}

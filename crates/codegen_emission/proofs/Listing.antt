@@ -14,8 +14,8 @@ use Rattle.type_table.specs.Scopes.{Globals, Yield}
 use Rattle.codegen_base.specs.declared.element.Element.{Element}
 use Rattle.codegen_base.specs.Layouts.{entering, leaving}
 use Rattle.codegen_base.specs.Generated.{Made, Site, made, made_all, followed, past, ended, inside}
-use Rattle.codegen_simple.specs.Layouts.{layout_of}
-use Rattle.codegen_simple.proofs.Leaving.{left_layout}
+use Rattle.codegen_header.specs.Layouts.{layout_of}
+use Rattle.codegen_header.proofs.Leaving.{left_layout}
 use Rattle.codegen_flow.specs.declared.waits.Wait.{Wait}
 use Rattle.codegen_emission.specs.declared.emitter.Emitter.{Emitter}
 use Rattle.codegen_flow.specs.Waits.{Makes}

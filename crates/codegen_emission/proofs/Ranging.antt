@@ -18,8 +18,8 @@ use Rattle.codegen_base.specs.Statements.{name_spot, place_spot, stores, width}
 use Rattle.codegen_base.specs.Generated.{Made, Site, at, ended, keeps, made, made_of, receives, takes}
 use Rattle.codegen_base.proofs.Before.{Before, Here, Stands, Step, before_on, pushes_before}
 use Rattle.codegen_base.proofs.Plain.{drops_before, stores_before, then_step}
-use Rattle.codegen_simple.specs.Layouts.{layout_of}
-use Rattle.codegen_simple.specs.Simples.{Appends}
+use Rattle.codegen_header.specs.Layouts.{layout_of}
+use Rattle.codegen_header.specs.Simples.{Appends}
 use Rattle.codegen_emission.specs.declared.emitter.Emitter.{Emitter}
 use Rattle.codegen_flow.specs.Waits.{Makes, filled}
 use Rattle.codegen_flow.specs.Controls.{Control, through}

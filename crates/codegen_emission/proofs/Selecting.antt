@@ -23,9 +23,9 @@ use Rattle.codegen_base.specs.Layouts.{Layout, carried}
 use Rattle.codegen_base.proofs.Before.{clauses_before}
 use Rattle.codegen_base.proofs.Plain.{comm_plain}
 use Rattle.codegen_expression.specs.Emission.{Puts}
-use Rattle.codegen_simple.specs.Simples.{Appends}
+use Rattle.codegen_header.specs.Simples.{Appends}
 use Rattle.codegen_base.specs.Generated.{Made, Site, behind_comm, comm_plan, followed, made, made_all, made_comm, made_default, made_of, made_select, made_ways, past, pushes_clauses, select_table, table_clause, table_clauses, within_select, with_way}
-use Rattle.codegen_simple.specs.Layouts.{layout_of}
+use Rattle.codegen_header.specs.Layouts.{layout_of}
 use Rattle.codegen_flow.specs.declared.waits.Wait.{Wait}
 use Rattle.codegen_emission.specs.declared.emitter.Emitter.{Emitter}
 use Rattle.codegen_flow.specs.Waits.{Makes, settled}

@@ -15,8 +15,8 @@ use Rattle.codegen_base.specs.Statements.{defines, pushes_arguments, simple_plan
 use Rattle.codegen_base.specs.Generated.{made_go, made_of, made_simple, made_typed, made_untyped, result_type, return_plan, variables_plan}
 use Rattle.codegen_base.proofs.Before.{Before, Here, before_ends, pushes_before}
 use Rattle.codegen_base.proofs.Plain.{arguments_before, defines_before, one_before, simple_before, then_step, variables_before}
-use Rattle.codegen_simple.specs.Layouts.{layout_of}
-use Rattle.codegen_simple.specs.Simples.{Appends}
+use Rattle.codegen_header.specs.Layouts.{layout_of}
+use Rattle.codegen_header.specs.Simples.{Appends}
 use Rattle.codegen_emission.specs.declared.emitter.Emitter.{Emitter}
 use Rattle.codegen_flow.specs.Controls.{Control, never, through}
 use Rattle.codegen_emission.specs.Emitted.{Emits, site_of}

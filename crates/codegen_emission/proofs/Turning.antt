@@ -15,7 +15,7 @@ use Rattle.codegen_base.proofs.Before.{Before, Here, pushes_before}
 use Rattle.codegen_base.proofs.Plain.{simple_before}
 use Rattle.codegen_expression.specs.Emission.{Puts}
 use Rattle.codegen_expression.proofs.Emitting.{puts_alone}
-use Rattle.codegen_simple.specs.Layouts.{layout_of}
+use Rattle.codegen_header.specs.Layouts.{layout_of}
 use Rattle.codegen_emission.specs.declared.emitter.Emitter.{Emitter}
 use Rattle.codegen_flow.specs.Waits.{filled}
 use Rattle.codegen_flow.specs.Controls.{Control, leading, through}

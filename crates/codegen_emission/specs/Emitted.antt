@@ -5,7 +5,7 @@ use Rattle.plan.specs.Plan.{flat, tables}
 use Rattle.type_table.specs.declared.table.TypeTable.{TypeTable}
 use Rattle.type_table.specs.Visible.{Keeps}
 use Rattle.codegen_base.specs.Generated.{Made, Site}
-use Rattle.codegen_simple.specs.Layouts.{layout_of}
+use Rattle.codegen_header.specs.Layouts.{layout_of}
 use Rattle.codegen_flow.specs.Waits.{Makes}
 use Rattle.codegen_flow.specs.Controls.{Control, Flows, jumping}
 use Rattle.codegen_emission.specs.declared.emitter.Emitter.{Emitter}

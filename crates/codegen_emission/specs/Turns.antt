@@ -8,7 +8,7 @@ use Rattle.type_table.specs.Scopes.{Globals, Yield}
 use Rattle.type_table.specs.Visible.{Keeps}
 use Rattle.codegen_base.specs.declared.element.Element.{Element}
 use Rattle.codegen_base.specs.Generated.{Made, Site, ended, inside, loop, made_all, made_of, made_post, past, test_plan}
-use Rattle.codegen_simple.specs.Layouts.{layout_of}
+use Rattle.codegen_header.specs.Layouts.{layout_of}
 use Rattle.codegen_emission.specs.declared.emitter.Emitter.{Emitter}
 
 -- what is done behind each turn, and the way back to the loop's head; nothing where the body never comes round again

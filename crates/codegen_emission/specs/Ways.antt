@@ -12,7 +12,7 @@ use Rattle.codegen_base.specs.Generated.{Made, Site, ended, followed, inside, ma
 use Rattle.codegen_emission.specs.declared.emitter.Emitter.{Emitter}
 use Rattle.codegen_flow.specs.declared.select.WayList.{WayList}
 use Rattle.codegen_flow.specs.Closed.{closed}
-use Rattle.codegen_simple.specs.Layouts.{layout_of}
+use Rattle.codegen_header.specs.Layouts.{layout_of}
 use Rattle.codegen_flow.specs.Waits.{Makes}
 use Rattle.codegen_flow.specs.Controls.{Control, Flows, control}
 use Rattle.codegen_flow.specs.Selects.{any_control, together}

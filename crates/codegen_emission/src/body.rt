@@ -8,7 +8,7 @@ ghost use Rattle.codegen_base.specs.Generated.{made_body, made_of, result_kinds}
 ghost use Rattle.codegen_base.specs.Pushes.{pushes_zeros};
 ghost use Rattle.plan.specs.Plan.{Stop};
 ghost use Rattle.codegen_expression.specs.Emission.{Puts};
-ghost use Rattle.codegen_simple.specs.Layouts.{layout_of};
+ghost use Rattle.codegen_header.specs.Layouts.{layout_of};
 ghost use Rattle.codegen_flow.specs.Controls.{control};
 ghost use Rattle.codegen_emission.specs.Emitted.{Emits, Finishes, site_of};
 

@@ -1,7 +1,7 @@
 //! What is emitted into.
 
 use bytecode::{Instr, PrintTable, SelectTable};
-use codegen_simple::layout::Layout;
+use codegen_header::layout::Layout;
 
 /// What is emitted of a function, the tables of those before it, and where its variables lie.
 #[derive(Drop)]

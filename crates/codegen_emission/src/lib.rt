@@ -7,3 +7,5 @@ pub mod emitter;
 pub mod single;
 pub mod statement;
 pub mod turn;
+
+pub use codegen_header::{blank, layout};

@@ -7,7 +7,7 @@ ghost use Rattle.type_table.specs.Views.{kind_of, yield_of};
 ghost use Rattle.type_table.specs.Visible.{globals_in, types_of};
 ghost use Rattle.codegen_base.specs.Generated.{ended, inside, made, made_all, made_branch, made_default};
 ghost use Rattle.codegen_base.specs.Layouts.{Layout as OneLayout, carried};
-ghost use Rattle.codegen_simple.specs.Layouts.{layout_of};
+ghost use Rattle.codegen_header.specs.Layouts.{layout_of};
 ghost use Rattle.codegen_emission.specs.Items.{made_item, made_items};
 ghost use Rattle.codegen_flow.specs.Controls.{control};
 ghost use Rattle.codegen_emission.specs.Emitted.{Emits, site_of};
@@ -32,9 +32,9 @@ use codegen_flow::waits::{aim, fill};
 use codegen_flow::way::{begin_other, end_other, end_test, has_other};
 use codegen_header::blank::Blank;
 use codegen_header::comm::take_comm;
+use codegen_header::layout::{enter, leave};
 use codegen_header::range::{Ranged, declare_kept, emit_kept, emit_next, emit_unused, take_item};
 use codegen_header::select::{push_clauses, select_table};
-use codegen_simple::layout::{enter, leave};
 use std::alloc::Global;
 use syntax::{
     ClauseNode, CommNode, ElseNode, ExpressionNode, ForHeader, IfNode, RangeTarget, SimpleNode,

@@ -6,7 +6,7 @@ ghost use Rattle.syntax.specs.View.{expression_of, simple_of};
 ghost use Rattle.type_table.specs.Visible.{globals_in, scope_of};
 ghost use Rattle.codegen_base.specs.Generated.{made_post, tests};
 ghost use Rattle.codegen_expression.specs.Emission.{Puts};
-ghost use Rattle.codegen_simple.specs.Layouts.{layout_of};
+ghost use Rattle.codegen_header.specs.Layouts.{layout_of};
 ghost use Rattle.codegen_emission.specs.Emitted.{site_of};
 ghost use Rattle.codegen_emission.specs.Turns.{Rounds};
 
@@ -15,7 +15,7 @@ use crate::emitter::Emitter;
 use bytecode::Instr;
 use codegen_expression::element_list::ElementList;
 use codegen_expression::halt::Halt;
-use codegen_operation::values::push;
+use codegen_header::values::push;
 use std::alloc::Global;
 use syntax::{ExpressionNode, SimpleNode};
 use type_table::scope::Visible;

@@ -10,3 +10,5 @@ pub mod select;
 pub mod start;
 pub mod test;
 pub mod variables;
+
+pub use codegen_simple::{layout, print, simple, values};

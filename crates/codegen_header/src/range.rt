@@ -13,7 +13,7 @@ ghost use Rattle.codegen_base.specs.Layouts.{Layout as OneLayout, behind_target,
 ghost use Rattle.codegen_base.specs.Pushes.{drops};
 ghost use Rattle.codegen_base.specs.Statements.{stores, width};
 ghost use Rattle.plan.specs.Plan.{Do, Skip};
-ghost use Rattle.codegen_operation.specs.Spots.{spot_in};
+ghost use Rattle.codegen_simple.specs.Spots.{spot_in};
 ghost use Rattle.codegen_simple.specs.Layouts.{layout_of};
 ghost use Rattle.codegen_simple.specs.Simples.{Appends};
 
@@ -24,11 +24,11 @@ use codegen_expression::element_list::ElementList;
 use codegen_expression::halt::Halt;
 use codegen_expression::operand::{number, words_of};
 use codegen_expression::shape::shape_of;
-use codegen_operation::place::place_spot;
-use codegen_operation::spot::{Spot, drop_words, store};
-use codegen_operation::values::push_own;
 use codegen_simple::define::name_spot;
 use codegen_simple::layout::{Layout, declare, declare_new};
+use codegen_simple::place::place_spot;
+use codegen_simple::spot::{Spot, drop_words, store};
+use codegen_simple::values::push_own;
 use std::alloc::Global;
 use syntax::{ExpressionNode, Name, PlaceNode, RangeTarget};
 use type_table::table::TypeTable;

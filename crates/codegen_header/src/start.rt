@@ -12,7 +12,7 @@ ghost use Rattle.codegen_simple.specs.Simples.{Appends};
 use bytecode::Instr;
 use codegen_expression::element_list::ElementList;
 use codegen_expression::halt::Halt;
-use codegen_operation::operation::push_arguments;
+use codegen_simple::operation::push_arguments;
 use std::alloc::Global;
 use syntax::{ArgumentsNode, Name};
 use type_table::scope::Visible;

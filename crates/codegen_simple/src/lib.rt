@@ -6,3 +6,5 @@ pub mod layout;
 pub mod print;
 pub mod simple;
 pub mod update;
+
+pub use codegen_operation::{assignment, given, operation, place, spot, values};

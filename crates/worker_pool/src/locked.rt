@@ -29,7 +29,7 @@ pub(crate) struct Locked<B: RunName> {
     waiting: u64,
     /// Whether a worker watches, which looks by itself whether something can be lent.
     watched: bool,
-    /// How many leases are out to workers whose last goroutine asked after a few steps.
+    /// How many leases are out to workers that yield.
     talkers: u64,
     ghost counted: { run.book.taken ≡ printed.total },
     ghost lines: { run.book.traced ≡ traced.total },
@@ -103,7 +103,7 @@ impl<B: RunName> Locked<B> {
         }
     }
 
-    /// A lease goes out to a worker whose last goroutine asked after a few steps.
+    /// A lease goes out to a worker that yields.
     pub fn begin_talk(&mut self) {
         self.talkers = self.talkers.saturating_add(1);
     }
@@ -113,13 +113,13 @@ impl<B: RunName> Locked<B> {
         self.talkers = self.talkers.saturating_sub(1);
     }
 
-    /// What a worker does next; `talks` where its last goroutine asked after a few steps. Of such workers one gets leases: two
-    /// would only wait for one another here.
-    pub fn turn(&mut self, talks: bool) -> Turn<B> {
+    /// What a worker does next. Of those that yield one gets leases: two whose leases are short would only wait for one another
+    /// here.
+    pub fn turn(&mut self, yields: bool) -> Turn<B> {
         if self.over {
             return Turn::Leave;
         }
-        if talks && self.talkers > 0 {
+        if yields && self.talkers > 0 {
             return self.idle_turn();
         }
         match self.run.lend() {

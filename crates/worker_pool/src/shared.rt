@@ -56,7 +56,7 @@ impl<B: RunName> Shared<B> {
         pace.come(&mut locked, &back);
         locked.take_back(back);
         for _ in rt.forever() {
-            match locked.turn(pace.talks()) {
+            match locked.turn(pace.yields()) {
                 Turn::Work(lease) => {
                     pace.go(&mut locked);
                     if locked.wants_watch() {
@@ -65,7 +65,7 @@ impl<B: RunName> Shared<B> {
                     return Some(lease);
                 }
                 Turn::Watch => {
-                    locked = sleep(rt, &self.watching, locked, pace.nap());
+                    locked = watch(rt, &self.watching, locked, pace);
                     locked.end_watch();
                 }
                 Turn::Wait => {
@@ -122,6 +122,29 @@ impl<B: RunName> Shared<B> {
         self.watching.notify_all();
         self.writing.notify_all();
     }
+}
+
+/// Naps without the lock, until a call cuts a nap short, or nobody has the lock when one ends: whoever has it sees to the rest.
+fn watch<'a, B: RunName, R: Wait>(
+    rt: &R,
+    call: &Condvar,
+    locked: MutexGuard<'a, Locked<B>>,
+    pace: &mut Pace,
+) -> MutexGuard<'a, Locked<B>> {
+    let seen = call.notifications();
+    let lock = MutexGuard::unlock(locked);
+    pace.rest();
+    for _ in rt.forever() {
+        call.sleep(rt, seen, pace.nap());
+        if call.notifications() != seen {
+            pace.call();
+            return lock.lock(rt);
+        }
+        if let Some(locked) = lock.try_lock() {
+            return locked;
+        }
+    }
+    unreachable!()
 }
 
 /// Sleeps without the lock for so long; a call cuts that short.

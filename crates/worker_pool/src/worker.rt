@@ -9,24 +9,27 @@ use logical_clock::Clock;
 use std::sync::Wait;
 use std::time::Duration;
 
-/// How many local steps a lease makes before it is brought back.
+/// How many local steps a lease makes before its clock is published again.
 const QUANTUM: u32 = 4096;
+
+/// How many times as many it makes before it is brought back, though its goroutine can go on.
+const QUANTA: u32 = 8;
 
 /// The first nap of a worker that watches, in nanoseconds.
 const SHORT_NAP: u64 = 50_000;
 
 /// Its longest one.
-const LONG_NAP: u64 = 2_000_000;
+const LONG_NAP: u64 = 16_000_000;
 
 /// Below so many ticks of its goroutine a lease was short: the worker was at the lock for longer than it worked.
 const FEW_TICKS: u64 = 64;
 
-/// Whether a worker's leases are short, and how long it naps when it watches.
+/// Whether a worker leaves leases to another one, and how long it naps when it watches.
 #[derive(Drop)]
 pub(crate) struct Pace {
-    /// Whether its last lease was short, and it has not rested since.
-    talks: bool,
-    /// Whether it went off as one whose last lease was short.
+    /// Whether it takes a lease only while no other such worker is out with one: its last lease was short, or it had none.
+    yields: bool,
+    /// Whether it went off as such a worker.
     counted: bool,
     /// Its next nap, in nanoseconds.
     nanos: u64,
@@ -36,15 +39,15 @@ impl Pace {
     /// That of a worker that begins.
     pub fn new() -> Pace {
         Pace {
-            talks: false,
+            yields: true,
             counted: false,
             nanos: SHORT_NAP,
         }
     }
 
-    /// Whether its last lease was short, and it has not rested since.
-    pub fn talks(&self) -> bool {
-        self.talks
+    /// Whether it takes a lease only while no other such worker is out with one.
+    pub fn yields(&self) -> bool {
+        self.yields
     }
 
     /// The worker comes to the lock with this.
@@ -53,30 +56,34 @@ impl Pace {
             locked.end_talk();
         }
         self.counted = false;
-        self.talks = matches!(back, Back::Talking(_));
-        if matches!(back, Back::Running(_)) {
+        self.yields = matches!(back, Back::Begun | Back::Talking(_));
+        if !self.yields {
             self.nanos = SHORT_NAP;
         }
     }
 
     /// It goes off with a lease.
     pub fn go<B: RunName>(&mut self, locked: &mut Locked<B>) {
-        if self.talks {
+        if self.yields {
             locked.begin_talk();
         }
-        self.counted = self.talks;
+        self.counted = self.yields;
     }
 
-    /// It has rested.
+    /// It has rested, and nobody called it to work.
     pub fn rest(&mut self) {
-        self.talks = false;
+        self.yields = true;
     }
 
-    /// How long it naps now, and rests; its next nap is twice as long.
+    /// It was called to work: a lease was long.
+    pub fn call(&mut self) {
+        self.yields = false;
+    }
+
+    /// How long it naps now; its next nap is twice as long.
     pub fn nap(&mut self) -> Duration {
         let nanos = self.nanos;
         self.nanos = nanos.saturating_mul(2).min(LONG_NAP);
-        self.rest();
         Duration::from_nanos(nanos)
     }
 }
@@ -112,11 +119,22 @@ fn work_leases<B: RunName, R: Wait, G: Gate>(rt: &R, shared: &Shared<B>, gate: &
 /// Works a lease, outside every lock.
 fn worked<B: RunName>(mut lease: RunLease<B>) -> Back<B> {
     let begun = lease.key().clock;
-    match lease.work(QUANTUM) {
-        Ok(true) if ticks(begun, lease.key().clock) < FEW_TICKS => Back::Talking(lease),
-        Ok(true) => Back::Asking(lease),
-        Ok(false) => Back::Running(lease),
-        Err(_) => Back::NoMemory,
+    for _ in 0..QUANTA {
+        match lease.work(QUANTUM) {
+            Ok(true) => return asking(begun, lease),
+            Ok(false) => {}
+            Err(_) => return Back::NoMemory,
+        }
+    }
+    Back::Running(lease)
+}
+
+/// A lease whose goroutine asks, which began at this clock.
+fn asking<B: RunName>(begun: Clock, lease: RunLease<B>) -> Back<B> {
+    if ticks(begun, lease.key().clock) < FEW_TICKS {
+        Back::Talking(lease)
+    } else {
+        Back::Asking(lease)
     }
 }
 

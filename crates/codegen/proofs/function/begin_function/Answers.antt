@@ -4,7 +4,7 @@ use Rattle.type_table.specs.Visible.{globals_in, types_of}
 use Rattle.checker_declaration.specs.Kinds.{fields_declared}
 use Rattle.codegen_base.specs.Layouts.{Layout, with_parameters}
 use Rattle.codegen_base.specs.Program.{first_layout}
-use Rattle.codegen_simple.specs.Layouts.{layout_of}
+use Rattle.codegen_emission.specs.Layouts.{layout_of}
 use Rattle.codegen.proofs.function.begin_function.Goals as goal
 
 pub returns-clause-layout : goal.returns-clause-layout

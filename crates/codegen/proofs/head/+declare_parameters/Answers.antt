@@ -4,7 +4,7 @@ use Rattle.type_table.specs.Views.{kind_of}
 use Rattle.type_table.specs.Visible.{globals_in, types_of}
 use Rattle.checker_declaration.specs.Kinds.{fields_declared}
 use Rattle.codegen_base.specs.Layouts.{with_parameters}
-use Rattle.codegen_simple.specs.Layouts.{layout_of}
+use Rattle.codegen_emission.specs.Layouts.{layout_of}
 use Rattle.codegen.proofs.Heads.{parameters_grouped}
 use Rattle.codegen.proofs.head.+declare_parameters.Goals as goal
 

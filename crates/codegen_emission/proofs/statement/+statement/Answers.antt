@@ -18,8 +18,8 @@ use Rattle.codegen_base.specs.Generated.{made, made_branch, made_default, select
 use Rattle.codegen_base.specs.Layouts.{declaring, keeping, type_of}
 use Rattle.codegen_base.specs.Pushes.{drops}
 use Rattle.codegen_base.specs.Statements.{width}
-use Rattle.codegen_simple.specs.Layouts.{layout_of}
-use Rattle.codegen_simple.specs.Simples.{Appends}
+use Rattle.codegen_header.specs.Layouts.{layout_of}
+use Rattle.codegen_header.specs.Simples.{Appends}
 use Rattle.codegen_emission.specs.Items.{made_item}
 use Rattle.codegen_emission.proofs.Ranging.{emits_item, emits_items, emits_range}
 use Rattle.codegen_flow.specs.declared.waits.Wait.{Wait}

@@ -3,7 +3,7 @@ use Rattle.bytecode.specs.declared.instr.Instr.TheVariants as instrs
 use Rattle.syntax.specs.View.{simple_of}
 use Rattle.type_table.specs.Visible.{globals_in}
 use Rattle.codegen_base.specs.Generated.{made_post}
-use Rattle.codegen_simple.specs.Layouts.{layout_of}
+use Rattle.codegen_header.specs.Layouts.{layout_of}
 use Rattle.codegen_emission.specs.declared.emitter.Emitter.{Emitter}
 use Rattle.codegen_flow.specs.Controls.{through}
 use Rattle.codegen_emission.specs.Emitted.{site_of}

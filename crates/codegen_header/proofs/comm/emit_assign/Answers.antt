@@ -2,7 +2,7 @@ use Rattle.std.proofs.Common.{◌∙◌, ap, map, option_map}
 use Rattle.syntax.specs.View.{expression_of, place_of}
 use Rattle.type_table.specs.Views.{kind_of}
 use Rattle.type_table.specs.Visible.{globals_in, types_of}
-use Rattle.codegen_operation.specs.Spots.{spot_in}
+use Rattle.codegen_simple.specs.Spots.{spot_in}
 use Rattle.codegen_simple.specs.Layouts.{layout_of}
 use Rattle.codegen_header.proofs.Selecting.{appends_assigned, some_mapped}
 use Rattle.codegen_header.proofs.comm.emit_assign.Goals as goal

@@ -5,7 +5,7 @@ use Rattle.type_table.specs.Views.{kind_of}
 use Rattle.type_table.specs.Visible.{globals_in, types_of}
 use Rattle.codegen_base.specs.Generated.{one_or_two}
 use Rattle.codegen_base.specs.Layouts.{declaring_all}
-use Rattle.codegen_operation.specs.Spots.{spot_in}
+use Rattle.codegen_simple.specs.Spots.{spot_in}
 use Rattle.codegen_simple.specs.Layouts.{layout_of}
 use Rattle.codegen_header.proofs.Selecting.{appends_defined, some_mapped}
 use Rattle.codegen_header.proofs.comm.emit_define.Goals as goal
