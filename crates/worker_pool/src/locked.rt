@@ -29,6 +29,8 @@ pub(crate) struct Locked<B: RunName> {
     waiting: u64,
     /// Whether a worker watches, which looks by itself whether something can be lent.
     watched: bool,
+    /// How many leases were given out, modulo 2^64.
+    lent: u64,
     /// How many leases are out to workers that yield.
     talkers: u64,
     ghost counted: { run.book.taken ≡ printed.total },
@@ -49,6 +51,7 @@ impl<B: RunName> Locked<B> {
             over: false,
             waiting: 0,
             watched: false,
+            lent: 0,
             talkers: 0,
         }
     }
@@ -103,6 +106,11 @@ impl<B: RunName> Locked<B> {
         }
     }
 
+    /// How many leases were given out, modulo 2^64.
+    pub fn lent(&self) -> u64 {
+        self.lent
+    }
+
     /// A lease goes out to a worker that yields.
     pub fn begin_talk(&mut self) {
         self.talkers = self.talkers.saturating_add(1);
@@ -123,7 +131,10 @@ impl<B: RunName> Locked<B> {
             return self.idle_turn();
         }
         match self.run.lend() {
-            Ok(Some(lease)) => Turn::Work(lease),
+            Ok(Some(lease)) => {
+                self.lent = self.lent.wrapping_add(1);
+                Turn::Work(lease)
+            }
             Ok(None) => self.idle_turn(),
             Err(Memory) => {
                 self.stop();

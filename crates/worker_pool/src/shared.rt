@@ -72,7 +72,7 @@ impl<B: RunName> Shared<B> {
                     locked.begin_wait();
                     locked = self.waiting.wait(rt, locked);
                     locked.end_wait();
-                    pace.rest();
+                    pace.rest(true);
                 }
                 Turn::Leave => return None,
             }
@@ -131,9 +131,9 @@ fn watch<'a, B: RunName, R: Wait>(
     locked: MutexGuard<'a, Locked<B>>,
     pace: &mut Pace,
 ) -> MutexGuard<'a, Locked<B>> {
+    let lent = locked.lent();
     let seen = call.notifications();
     let lock = MutexGuard::unlock(locked);
-    pace.rest();
     for _ in rt.forever() {
         call.sleep(rt, seen, pace.nap());
         if call.notifications() != seen {
@@ -141,6 +141,7 @@ fn watch<'a, B: RunName, R: Wait>(
             return lock.lock(rt);
         }
         if let Some(locked) = lock.try_lock() {
+            pace.rest(locked.lent() != lent);
             return locked;
         }
     }

@@ -70,9 +70,9 @@ impl Pace {
         self.counted = self.yields;
     }
 
-    /// It has rested, and nobody called it to work.
-    pub fn rest(&mut self) {
-        self.yields = true;
+    /// It has rested, while other workers took leases or not.
+    pub fn rest(&mut self, others_work: bool) {
+        self.yields = others_work;
     }
 
     /// It was called to work: a lease was long.
