@@ -1,6 +1,6 @@
 //! A goroutine's state, and its local steps.
 
-ghost use Rattle.std.specs.Prelude.{◌≡◌, ◌+◌, ◌<◌, ◌≤◌, ◌^◌, ◌↔◌, false, true, IsTrue, IfOk, OnErr, OnOk, length, option_map};
+ghost use Rattle.std.specs.Prelude.{◌≡◌, ◌+◌, ◌<◌, ◌≤◌, ◌^◌, ◌↔◌, false, true, IsTrue, IfOk, OnErr, OnOk, None, Some, cond, length, option_map};
 ghost use Rattle.std.specs.Option.{is_some};
 ghost use Rattle.bytecode.specs.Code.{Code};
 ghost use Rattle.bytecode.specs.Machine.{code_begin, code_kind, code_next, frames_told, reply_words};
@@ -234,27 +234,46 @@ impl GoState {
     }
 
     /// The request at which the goroutine stands, if its next instruction isn't a local step.
-    pub fn asked(
-        &self,
-        alloc: Global,
-        code: &Verified,
-        limit: u64,
-    ) -> Result<Option<Request>, Memory>
+    fn asked(&self, alloc: Global, code: &Verified, limit: u64) -> Result<Option<Request>, Memory>
         requires { IsStateOf code.now limit self.now }
         ensures asks { IfOk result (λ request. asks (code_kind code.now) limit self.now ≡ option_map request_of request) }
         ensures verified { IsVerified code.now }
     {
+        let mut request = Request::End;
+        if self.ask(alloc, code, limit, &mut request)? {
+            return Ok(Some(request));
+        }
+        Ok(None)
+    }
+
+    /// Whether the goroutine stands at a request, which is written to this place then.
+    pub fn ask(
+        &self,
+        alloc: Global,
+        code: &Verified,
+        limit: u64,
+        place: &mut Request,
+    ) -> Result<bool, Memory>
+        requires { IsStateOf code.now limit self.now }
+        ensures asks { IfOk result (λ asking. asks (code_kind code.now) limit self.now ≡ option_map request_of (cond asking (Some place.new) None)) }
+        ensures verified { IsVerified code.now }
+    {
         let code = code.code();
         if self.doomed {
-            return Ok(Some(self.last_request(limit)));
+            *place = self.last_request(limit);
+            return Ok(true);
         }
         if self.clock.time() >= limit {
             if self.frames.is_asking(code, true) {
-                return Ok(Some(Request::Exhausted));
+                *place = Request::Exhausted;
+                return Ok(true);
             }
-            return Ok(None);
+            return Ok(false);
         }
-        Ok(self.frames.request(alloc, code)?)
+        if !self.frames.ask(alloc, code, place)? {
+            return Ok(false);
+        }
+        Ok(true)
     }
 
     /// Whether the goroutine stands at a request.

@@ -1,5 +1,6 @@
 -- What the instructions that ask do ask.
 use Rattle.std.proofs.Common.{◌≡◌, ℕ, ℤ, zero, suc, ◌+◌, ◌<◌, ◌≤◌, Bool, false, cond, List, [], ◌∷◌, length, drop, map, Option, Some, None, Result, Ok, Err, refl, sym, ap, ◌∙◌, subst, arith, get_or, nat_lt, slice_get}
+use Rattle.std.specs.Prelude.{option_map}
 use Rattle.std.proofs.lemmas.Bool.Decides.{nat_tests}
 use Rattle.bytecode.specs.declared.instr.WordKind.{WordKind}
 use Rattle.bytecode.specs.declared.instr.Instr.TheVariants as instrs
@@ -59,3 +60,11 @@ asks_some l (Asks q) None n h = absurd h
 asks_some l (Asks q) (Some r) n h = refl
 asks_some l Stuck None n h = refl
 asks_some l Stuck (Some r) n h = absurd h
+
+-- the request of one that meets a panic
+abbrev pub panic_asked : Option Cause → Option Asked
+panic_asked o = option_map (λ cause. asked.Panic cause) o
+
+pub panic_some : (o : Option Cause) → is_some (panic_asked o) ≡ is_some o
+panic_some None = refl
+panic_some (Some cause) = refl

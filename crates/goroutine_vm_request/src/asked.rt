@@ -1,6 +1,6 @@
 //! What a goroutine asks.
 
-ghost use Rattle.std.specs.Prelude.{◌≡◌, ◌+◌, ◌∷◌, ◌≤◌, IfOk, List, drop, length, take};
+ghost use Rattle.std.specs.Prelude.{◌≡◌, ◌+◌, ◌∷◌, ◌≤◌, IfOk, List, None, Some, cond, drop, length, option_map, take};
 ghost use Rattle.bytecode.specs.Code.{Code as CodeValue};
 ghost use Rattle.bytecode.specs.Effects.{count, operands};
 ghost use Rattle.bytecode.specs.Machine.{Frame as FrameValue, Frames, code_next, instr_next};
@@ -23,67 +23,129 @@ use word::panic::Panic;
 use word::request::Request;
 use word::value::{Item, Word};
 
-/// What a make asks.
+/// What a make asks, written to this place; false where it asks nothing.
 fn make(
     alloc: Global,
     code: &Code,
     frame: &Frame,
     shape: u32,
     at: usize,
-) -> Result<Option<Request>, AllocError>
+    place: &mut Request,
+) -> Result<bool, AllocError>
     requires { at + 1 ≡ length frame.now.stack }
-    ensures { IfOk result (λ o. (callers : Frames) → AsksFor (instr_next code.now frame.now callers (take at frame.now.stack) (drop at frame.now.stack) (Instr.Make shape)) o) }
+    ensures { IfOk result (λ asking. (callers : Frames) → AsksFor (instr_next code.now frame.now callers (take at frame.now.stack) (drop at frame.now.stack) (Instr.Make shape)) (cond asking (Some place.new) None)) }
 {
     let shapes = code.shapes();
     if shape as usize >= shapes.len() {
-        return Ok(None);
+        return Ok(false);
     }
     let kinds = shapes[shape as usize].kinds();
     if kinds.len() > MAX_WORDS {
-        return Ok(None);
+        return Ok(false);
     }
     match frame.stack()[at] {
         Word::Int(size) => {
             let words = zeros(alloc, kinds)?;
-            Ok(Some(Request::Make(size, Item::new(alloc, &words))))
+            *place = Request::Make(size, Item::new(alloc, &words));
+            Ok(true)
         }
-        Word::Bool(_) => Ok(None),
-        Word::Chan(_) => Ok(None),
+        Word::Bool(_) => Ok(false),
+        Word::Chan(_) => Ok(false),
     }
 }
 
-/// What a start of a goroutine asks.
+/// What a start of a goroutine asks, likewise.
 fn go(
     alloc: Global,
     code: &Code,
     frame: &Frame,
     function: u32,
     at: usize,
-) -> Result<Option<Request>, AllocError>
+    place: &mut Request,
+) -> Result<bool, AllocError>
     requires { at ≤ length frame.now.stack }
-    ensures { IfOk result (λ o. (callers : Frames) → AsksFor (instr_next code.now frame.now callers (take at frame.now.stack) (drop at frame.now.stack) (Instr.Go function)) o) }
+    ensures { IfOk result (λ asking. (callers : Frames) → AsksFor (instr_next code.now frame.now callers (take at frame.now.stack) (drop at frame.now.stack) (Instr.Go function)) (cond asking (Some place.new) None)) }
 {
     if function as usize >= code.functions().len() {
-        return Ok(None);
+        return Ok(false);
     }
     let args = Vec::from_slice(alloc, &frame.stack()[at..])?;
-    Ok(Some(Request::Go(function, args)))
+    *place = Request::Go(function, args);
+    Ok(true)
 }
 
-/// What a send asks.
-fn send(alloc: Global, frame: &Frame, shape: u32, at: usize) -> Option<Request>
+/// What a send asks, likewise.
+fn send(alloc: Global, frame: &Frame, shape: u32, at: usize, place: &mut Request) -> bool
     requires { at ≤ length frame.now.stack }
-    ensures { (code : CodeValue) → (callers : Frames) → AsksFor (instr_next code frame.now callers (take at frame.now.stack) (drop at frame.now.stack) (Instr.Send shape)) result }
+    ensures { (code : CodeValue) → (callers : Frames) → AsksFor (instr_next code frame.now callers (take at frame.now.stack) (drop at frame.now.stack) (Instr.Send shape)) (cond result (Some place.new) None) }
 {
     let _shape = shape;
     match &frame.stack()[at..] {
         [Word::Chan(chan), item @ ..] => {
             if item.len() > MAX_WORDS {
-                return None;
+                return false;
             }
-            Some(Request::Send(*chan, Item::new(alloc, item)))
+            *place = Request::Send(*chan, Item::new(alloc, item));
+            true
         }
-        _ => None,
+        _ => false,
+    }
+}
+
+/// What a receive asks, likewise.
+fn receive(frame: &Frame, shape: u32, at: usize, place: &mut Request) -> bool
+    requires { at + 1 ≡ length frame.now.stack }
+    ensures { (code : CodeValue) → (callers : Frames) → AsksFor (instr_next code frame.now callers (take at frame.now.stack) (drop at frame.now.stack) (Instr.Receive shape)) (cond result (Some place.new) None) }
+{
+    let _shape = shape;
+    match channel(frame, at) {
+        Some(chan) => {
+            *place = Request::Receive(chan);
+            true
+        }
+        None => false,
+    }
+}
+
+/// What a close asks, likewise.
+fn close(frame: &Frame, at: usize, place: &mut Request) -> bool
+    requires { at + 1 ≡ length frame.now.stack }
+    ensures { (code : CodeValue) → (callers : Frames) → AsksFor (instr_next code frame.now callers (take at frame.now.stack) (drop at frame.now.stack) Instr.Close) (cond result (Some place.new) None) }
+{
+    match channel(frame, at) {
+        Some(chan) => {
+            *place = Request::Close(chan);
+            true
+        }
+        None => false,
+    }
+}
+
+/// What is asked for the number of items in a buffer, likewise.
+fn len(frame: &Frame, at: usize, place: &mut Request) -> bool
+    requires { at + 1 ≡ length frame.now.stack }
+    ensures { (code : CodeValue) → (callers : Frames) → AsksFor (instr_next code frame.now callers (take at frame.now.stack) (drop at frame.now.stack) Instr.Len) (cond result (Some place.new) None) }
+{
+    match channel(frame, at) {
+        Some(chan) => {
+            *place = Request::Len(chan);
+            true
+        }
+        None => false,
+    }
+}
+
+/// What is asked for a capacity, likewise.
+fn cap(frame: &Frame, at: usize, place: &mut Request) -> bool
+    requires { at + 1 ≡ length frame.now.stack }
+    ensures { (code : CodeValue) → (callers : Frames) → AsksFor (instr_next code frame.now callers (take at frame.now.stack) (drop at frame.now.stack) Instr.Cap) (cond result (Some place.new) None) }
+{
+    match channel(frame, at) {
+        Some(chan) => {
+            *place = Request::Cap(chan);
+            true
+        }
+        None => false,
     }
 }
 
@@ -99,7 +161,7 @@ fn channel(frame: &Frame, at: usize) -> Option<Option<u32>>
     }
 }
 
-/// What an instruction asks, whose operands begin at a place of the stack; none where it is a local step.
+/// What an instruction asks, whose operands begin at a place of the stack, likewise; false where it is a local step.
 fn ask(
     alloc: Global,
     code: &Code,
@@ -107,65 +169,83 @@ fn ask(
     callers: &CallStack,
     i: Instr,
     at: usize,
-) -> Result<Option<Request>, AllocError>
+    place: &mut Request,
+) -> Result<bool, AllocError>
     requires at { FitsAt i at (length frame.now.stack) }
     requires below { at ≤ length frame.now.stack }
     requires verified { IsVerified code.now }
-    ensures { IfOk result (λ o. AsksFor (instr_next code.now frame.now callers.now (take at frame.now.stack) (drop at frame.now.stack) i) o) }
+    ensures { IfOk result (λ asking. AsksFor (instr_next code.now frame.now callers.now (take at frame.now.stack) (drop at frame.now.stack) i) (cond asking (Some place.new) None)) }
 {
     match i {
-        Instr::Apply(op) => Ok(panic_of(frame, op, at)),
-        Instr::Call(function) => Ok(too_deep(code, callers.len(), function)),
+        Instr::Apply(op) => Ok(panics(frame, op, at, place)),
+        Instr::Call(function) => Ok(too_deep(code, callers.len(), function, place)),
         Instr::Return => {
             if at > 0 || callers.len() > 0 {
-                return Ok(None);
+                return Ok(false);
             }
-            Ok(Some(Request::End))
+            *place = Request::End;
+            Ok(true)
         }
-        Instr::Make(shape) => Ok(make(alloc, code, frame, shape, at)?),
-        Instr::Go(function) => Ok(go(alloc, code, frame, function, at)?),
-        Instr::Send(shape) => Ok(send(alloc, frame, shape, at)),
-        Instr::Receive(_) => Ok(channel(frame, at).map(Request::Receive)),
-        Instr::Close => Ok(channel(frame, at).map(Request::Close)),
-        Instr::Len => Ok(channel(frame, at).map(Request::Len)),
-        Instr::Cap => Ok(channel(frame, at).map(Request::Cap)),
+        Instr::Make(shape) => Ok(make(alloc, code, frame, shape, at, place)?),
+        Instr::Go(function) => Ok(go(alloc, code, frame, function, at, place)?),
+        Instr::Send(shape) => Ok(send(alloc, frame, shape, at, place)),
+        Instr::Receive(shape) => Ok(receive(frame, shape, at, place)),
+        Instr::Close => Ok(close(frame, at, place)),
+        Instr::Len => Ok(len(frame, at, place)),
+        Instr::Cap => Ok(cap(frame, at, place)),
         Instr::Print(table) => {
             let prints = code.prints();
             if table as usize >= prints.len() {
-                return Ok(None);
+                return Ok(false);
             }
             let text = print(alloc, &prints[table as usize], &frame.stack()[at..])?;
-            Ok(Some(Request::Print(text)))
+            *place = Request::Print(text);
+            Ok(true)
         }
-        Instr::Select(table) => Ok(select(alloc, code, frame, table, at)?),
-        _ => Ok(None),
+        Instr::Select(table) => Ok(select(alloc, code, frame, table, at, place)?),
+        _ => Ok(false),
     }
 }
 
 /// The panic that an operator meets.
-fn panic_of(frame: &Frame, op: Op, at: usize) -> Option<Request>
+fn panic_of(frame: &Frame, op: Op, at: usize) -> Option<Panic>
     requires { at + count (operands op) ≡ length frame.now.stack }
-    ensures { (code : CodeValue) → (callers : Frames) → AsksFor (instr_next code frame.now callers (take at frame.now.stack) (drop at frame.now.stack) (Instr.Apply op)) result }
+    ensures { (code : CodeValue) → (callers : Frames) → AsksFor (instr_next code frame.now callers (take at frame.now.stack) (drop at frame.now.stack) (Instr.Apply op)) (option_map (λ cause. Request.Panic cause) result) }
 {
     let last = frame.stack().len() - 1;
     match checked_apply(op, frame.stack()[at], frame.stack()[last]) {
-        Some(Err(cause)) => Some(Request::Panic(cause)),
+        Some(Err(cause)) => Some(cause),
         Some(Ok(_)) => None,
         None => None,
     }
 }
 
-/// The panic of a call where so many functions wait for the running one.
-fn too_deep(code: &Code, depth: usize, function: u32) -> Option<Request>
-    ensures { (c : FrameValue) → (callers : Frames) → (low top : List WordValue) → length callers ≡ depth → AsksFor (instr_next code.now c callers low top (Instr.Call function)) result }
+/// What is asked by an operator that meets a panic, likewise.
+fn panics(frame: &Frame, op: Op, at: usize, place: &mut Request) -> bool
+    requires { at + count (operands op) ≡ length frame.now.stack }
+    ensures { (code : CodeValue) → (callers : Frames) → AsksFor (instr_next code frame.now callers (take at frame.now.stack) (drop at frame.now.stack) (Instr.Apply op)) (cond result (Some place.new) None) }
+{
+    match panic_of(frame, op, at) {
+        Some(cause) => {
+            *place = Request::Panic(cause);
+            true
+        }
+        None => false,
+    }
+}
+
+/// The panic of a call where so many functions wait for the running one, likewise.
+fn too_deep(code: &Code, depth: usize, function: u32, place: &mut Request) -> bool
+    ensures { (c : FrameValue) → (callers : Frames) → (low top : List WordValue) → length callers ≡ depth → AsksFor (instr_next code.now c callers low top (Instr.Call function)) (cond result (Some place.new) None) }
 {
     if function as usize >= code.functions().len() {
-        return None;
+        return false;
     }
     if depth >= MAX_DEPTH - 1 {
-        return Some(Request::Panic(Panic::CallDepth));
+        *place = Request::Panic(Panic::CallDepth);
+        return true;
     }
-    None
+    false
 }
 
 /// Whether an instruction of verified code asks, whose operands begin at a place of the stack; at the limit also whether it
@@ -194,25 +274,27 @@ fn asks(at_limit: bool, frame: &Frame, callers: &CallStack, i: Instr, at: usize)
     }
 }
 
-/// What frames ask that were told nothing; none where they make a local step.
+/// Whether frames ask that were told nothing, and do not make a local step; what they ask is written to this place.
 pub fn request(
     alloc: Global,
     code: &Code,
     frame: &Frame,
     callers: &CallStack,
-) -> Result<Option<Request>, AllocError>
+    place: &mut Request,
+) -> Result<bool, AllocError>
     requires { IsVerified code.now }
-    ensures { IfOk result (λ o. AsksFor (code_next code.now (frame.now ∷ callers.now)) o) }
+    ensures { IfOk result (λ asking. AsksFor (code_next code.now (frame.now ∷ callers.now)) (cond asking (Some place.new) None)) }
 {
     frame.quiet();
     let have = frame.stack().len();
     match fetch(code, frame) {
-        None => Ok(None),
+        None => Ok(false),
         Some((i, wanted)) => {
             if have < wanted {
-                return Ok(None);
+                return Ok(false);
             }
-            Ok(ask(alloc, code, frame, callers, i, have - wanted)?)
+            let at = have - wanted;
+            Ok(ask(alloc, code, frame, callers, i, at, place)?)
         }
     }
 }

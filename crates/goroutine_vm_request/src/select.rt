@@ -1,6 +1,6 @@
 //! What a select asks.
 
-ghost use Rattle.std.specs.Prelude.{◌≤◌, IfOk, drop, length, take};
+ghost use Rattle.std.specs.Prelude.{◌≤◌, IfOk, None, Some, cond, drop, length, take};
 ghost use Rattle.bytecode.specs.Machine.{Frames, instr_next};
 ghost use Rattle.bytecode.specs.Rules.{IsVerified};
 ghost use Rattle.goroutine_vm_base.specs.Steps.{AsksFor};
@@ -11,23 +11,27 @@ use operands::select::cases;
 use std::alloc::{AllocError, Global};
 use word::request::Request;
 
-/// What a select asks, whose operands begin at a place of the stack.
+/// What a select asks, whose operands begin at a place of the stack, written to this place; false where it asks nothing.
 pub(crate) fn select(
     alloc: Global,
     code: &Code,
     frame: &Frame,
     table: u32,
     at: usize,
-) -> Result<Option<Request>, AllocError>
+    place: &mut Request,
+) -> Result<bool, AllocError>
     requires at { at ≤ length frame.now.stack }
     requires verified { IsVerified code.now }
-    ensures { IfOk result (λ o. (callers : Frames) → AsksFor (instr_next code.now frame.now callers (take at frame.now.stack) (drop at frame.now.stack) (Instr.Select table)) o) }
+    ensures { IfOk result (λ asking. (callers : Frames) → AsksFor (instr_next code.now frame.now callers (take at frame.now.stack) (drop at frame.now.stack) (Instr.Select table)) (cond asking (Some place.new) None)) }
 {
     match code.selects().get(table as usize) {
-        None => Ok(None),
+        None => Ok(false),
         Some(table) => match cases(alloc, code, table.clauses(), &frame.stack()[at..])? {
-            None => Ok(None),
-            Some(cases) => Ok(Some(Request::Select(cases, table.default().is_some()))),
+            None => Ok(false),
+            Some(cases) => {
+                *place = Request::Select(cases, table.default().is_some());
+                Ok(true)
+            }
         },
     }
 }

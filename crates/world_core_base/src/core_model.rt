@@ -356,10 +356,9 @@ impl Core {
         let Some(Some(slot)) = self.rows.as_slice().get(number as usize) else {
             unreachable!()
         };
-        let Some(wanted) = slot.state().asked(alloc, code, limit)? else {
+        if !slot.state().ask(alloc, code, limit, request)? {
             unreachable!()
-        };
-        *request = wanted;
+        }
         self.mean(number, request);
         Ok(slot.state().clock())
     }

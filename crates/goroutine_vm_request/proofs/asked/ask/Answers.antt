@@ -7,13 +7,25 @@ use Rattle.goroutine_vm_request.proofs.Asking.{print_for}
 use Rattle.goroutine_vm_request.proofs.asked.ask.Goals as goal
 
 pub returns-in-Apply : goal.returns-in-Apply
-returns-in-Apply c = rw c.in-Apply.is (c.panic_of.ensures c.args.code.now c.args.callers.now)
+returns-in-Apply c = rw c.in-Apply.is (c.panics.ensures c.args.code.now c.args.callers.now)
 
 pub returns-in_ok-make-in-Make : goal.returns-in_ok-make-in-Make
 returns-in_ok-make-in-Make c = rw c.in-Make.is (c.in_ok-make-in-Make.ensures c.args.callers.now)
 
 pub returns-in-Send : goal.returns-in-Send
 returns-in-Send c = rw c.in-Send.is (c.send.ensures c.args.code.now c.args.callers.now)
+
+pub returns-in-Receive : goal.returns-in-Receive
+returns-in-Receive c = rw c.in-Receive.is (c.receive.ensures c.args.code.now c.args.callers.now)
+
+pub returns-in-Close : goal.returns-in-Close
+returns-in-Close c = rw c.in-Close.is (c.close.ensures c.args.code.now c.args.callers.now)
+
+pub returns-in-Len : goal.returns-in-Len
+returns-in-Len c = rw c.in-Len.is (c.len.ensures c.args.code.now c.args.callers.now)
+
+pub returns-in-Cap : goal.returns-in-Cap
+returns-in-Cap c = rw c.in-Cap.is (c.cap.ensures c.args.code.now c.args.callers.now)
 
 pub returns-in_ok-select-in-Select : goal.returns-in_ok-select-in-Select
 returns-in_ok-select-in-Select c = rw c.in-Select.is (c.in_ok-select-in-Select.ensures c.args.callers.now)
