@@ -4,6 +4,7 @@ pub mod Starting
 pub mod Performing
 pub mod Shapes
 pub mod Events
+pub mod Waking
 pub mod Stepping
 pub mod Taking
 pub mod Others

@@ -608,7 +608,7 @@ impl Core {
             self.beds.as_mut_slice(),
             code,
             clock,
-            woken,
+            woken.as_slice(),
             partners,
         );
     }

@@ -22,14 +22,14 @@ pub(crate) fn wake(
     beds: &mut [Option<GoState>],
     code: &Verified,
     clock: Clock,
-    woken: Vec<Woken>,
+    woken: &[Woken],
     partners: &mut Vec<u64>,
 )
     requires fits { (k : ℕ) → IfSome (slice_index_or beds.old k None) (λ s. IsFrameOf code.now s.state) }
-    requires room { vec_len partners.old + length woken.items ≤ vec_capacity partners.old }
-    ensures rows { rows.new ≡ woken_rows code.now rows.old beds.old clock woken.items }
-    ensures beds { beds.new ≡ left_beds beds.old woken.items }
-    ensures numbers { partners.new.items ≡ partners.old.items ++ map (λ (w : ℕ × AnyReply). w.0) woken.items }
+    requires room { vec_len partners.old + length woken.now ≤ vec_capacity partners.old }
+    ensures rows { rows.new ≡ woken_rows code.now rows.old beds.old clock woken.now }
+    ensures beds { beds.new ≡ left_beds beds.old woken.now }
+    ensures numbers { partners.new.items ≡ partners.old.items ++ map (λ (w : ℕ × AnyReply). w.0) woken.now }
 {
     for one in woken {
         let number = one.number();
