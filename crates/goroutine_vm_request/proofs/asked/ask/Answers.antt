@@ -22,7 +22,7 @@ pub returns-in-Close : goal.returns-in-Close
 returns-in-Close c = rw c.in-Close.is (c.close.ensures c.args.code.now c.args.callers.now)
 
 pub returns-in-Len : goal.returns-in-Len
-returns-in-Len c = rw c.in-Len.is (c.len.ensures c.args.code.now c.args.callers.now)
+returns-in-Len c = rw c.in-Len.is (c.len-in-Len.ensures c.args.code.now c.args.callers.now)
 
 pub returns-in-Cap : goal.returns-in-Cap
 returns-in-Cap c = rw c.in-Cap.is (c.cap.ensures c.args.code.now c.args.callers.now)
