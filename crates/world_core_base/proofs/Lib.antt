@@ -4,7 +4,7 @@ pub mod Starting
 pub mod Performing
 pub mod Shapes
 pub mod Events
-pub mod Waking
+pub mod Roused
 pub mod Stepping
 pub mod Taking
 pub mod Others

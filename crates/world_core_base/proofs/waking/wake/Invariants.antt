@@ -1,5 +1,5 @@
 use Rattle.std.proofs.Common.{drop, vec_capacity, vec_len}
-use Rattle.world_core_base.proofs.Waking.{Waking}
+use Rattle.world_core_base.proofs.Roused.{Waking}
 use Rattle.world_core_base.proofs.waking.wake.Given as goal
 
 abbrev pub invariant-loop-one : goal.invariant-loop-one
