@@ -135,7 +135,7 @@ locked_send : (B : RattleType) (g : Ghosts B.Denot) → IsSend B → IsSend (Loc
 locked_send B g s =
     recorded_send (Locked.the_field B g).row _ _ (Locked.the_type B g).to_one (struct_send (shape (Locked.the_type B g)) (
       struct_send (shape (RunBook.the_type B g)) (book_send (OfRun.the_row B) _, (event_send, tt)),
-      (ledger.the_send _ _, (ledger.the_send _ _, (search sendable, (search sendable, (search sendable, (search sendable, (search sendable, tt))))))),
+      (ledger.the_send _ _, (ledger.the_send _ _, (search sendable, (search sendable, (search sendable, (search sendable, (search sendable, (search sendable, tt)))))))),
     ))
 
 pub shared_sync : (B : RattleType) (g : Ghosts B.Denot) → IsSend B → IsSync (Shared.the_row B g)
