@@ -1,3 +1,4 @@
+pub mod Floors
 pub mod Found
+pub mod Kept
 pub mod Stepping
-pub mod Stretches

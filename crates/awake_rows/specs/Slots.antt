@@ -1,5 +1,5 @@
 -- Goroutines as a core keeps them.
-use Rattle.std.specs.Prelude.{◌≡◌, ◌≢◌, ℕ, ◌/◌, ◌||◌, Bool, true, false, cond, List, Option, Some, None, IfSome, slice_index_or, slice_set}
+use Rattle.std.specs.Prelude.{◌≡◌, ◌≢◌, ◌≤◌, ◌++◌, ◌∷◌, [], ℕ, ◌||◌, Bool, true, false, cond, length, List, Option, Some, None, IfSome, slice_index_or, slice_set}
 use Rattle.std.specs.Option.{is_some, option_map}
 use Rattle.bytecode.specs.Code.{Code}
 use Rattle.bytecode.specs.Machine.{Frames, code_kind}
@@ -14,6 +14,8 @@ use Rattle.turn_rule.specs.Schedule.{give_back, lend, local, look, publish}
 use Rattle.word.specs.Kinds.{Clocked, asks, told}
 use Rattle.word.specs.Values.{Reply}
 use Rattle.word.specs.Worlds.{rules}
+use Rattle.awake_rows.specs.declared.orders.Clocks.{Clocks}
+use Rattle.awake_rows.specs.declared.orders.Orders.{Orders}
 use Rattle.awake_rows.specs.declared.slot.Held.{Held}
 use Rattle.awake_rows.specs.declared.slot.Held.TheVariants.{Here, Gone}
 use Rattle.awake_rows.specs.declared.slot.Standing.{Standing}
@@ -65,14 +67,6 @@ IsHeld (Gone kept) Lent = Unit {0}
 IsHeld (Gone kept) (Ahead present published) = ⊥
 IsHeld (Gone kept) Parked = ⊥
 
--- places stand in stretches of 32. In one that is said to be quiet nobody is awake
-abbrev pub AreQuiet : List Bool → Rows → Type 0
-AreQuiet quiet rows = (n : ℕ) → slice_index_or quiet (n / 32) false ≡ true → slice_index_or rows n None ≡ None
-
--- nobody is awake in the stretch of a place
-abbrev pub IsQuietAt : Rows → ℕ → Type 0
-IsQuietAt rows place = (n : ℕ) → n / 32 ≡ place / 32 → slice_index_or rows n None ≡ None
-
 -- if a goroutine stands here, it is not lent
 abbrev pub IsUnlent : Option (Row State) → Type 0
 IsUnlent row = IfSome row (λ row. row.lease ≡ None)
@@ -101,6 +95,54 @@ waiting_clock (Some row) = cond row.parked (Some row.state.clock) None
 abbrev pub clock_among : Among → Option (Row State) → Option ℕ
 clock_among among.Parked row = waiting_clock row
 clock_among among.Free row = free_clock row
+
+-- the floor of one that is awake
+abbrev pub floor_clock : Option (Row State) → Option ℕ
+floor_clock None = None
+floor_clock (Some row) = Some row.floor
+
+-- ---- the orders in which they stand
+
+-- the key of goroutine n at this clock
+abbrev pub key_of : ℕ → Option ℕ → Option Key
+key_of n None = None
+key_of n (Some clock) = Some (record { clock = clock; number = n })
+
+-- these are the keys of those who have a clock, that of goroutine n at place n. There may be more places
+pub record AreKeys (clock : Option (Row State) → Option ℕ) (keys : List (Option Key)) (rows : Rows) : Type 0 where
+  pub room : length rows ≤ length keys
+  pub each : (n : ℕ) → slice_index_or keys n None ≡ key_of n (clock (slice_index_or rows n None))
+
+pub record AreOrders (orders : Orders) (rows : Rows) : Type 0 where
+  pub parked : AreKeys waiting_clock orders.parked rows
+  pub free : AreKeys free_clock orders.free rows
+  pub floors : AreKeys floor_clock orders.floors rows
+
+abbrev pub clocks_of : Option (Row State) → Clocks
+clocks_of row = record { parked = waiting_clock row; free = free_clock row; floor = floor_clock row }
+
+-- goroutine n stands by these clocks
+abbrev pub noted : Orders → ℕ → Clocks → Orders
+noted orders n clocks = record {
+  parked = slice_set orders.parked n (key_of n clocks.parked);
+  free = slice_set orders.free n (key_of n clocks.free);
+  floors = slice_set orders.floors n (key_of n clocks.floor);
+}
+
+-- with a place more
+abbrev pub with_place : Orders → Orders
+with_place orders = record {
+  parked = orders.parked ++ None ∷ [];
+  free = orders.free ++ None ∷ [];
+  floors = orders.floors ++ None ∷ [];
+}
+
+-- the least of some keys, if there are any
+abbrev pub IsLeastOf : List (Option Key) → Option Key → Type 0
+IsLeastOf keys None = (n : ℕ) → slice_index_or keys n None ≡ None
+IsLeastOf keys (Some k) = ((n : ℕ) × (slice_index_or keys n None ≡ Some k)) × ((n : ℕ) (j : Key) → slice_index_or keys n None ≡ Some j → is_before j k ≡ false)
+
+-- ---- changes of a row
 
 -- one that is not lent, parked or not
 abbrev pub back_row : State → Bool → Row State

@@ -1,16 +1,17 @@
-//! Rows of awake goroutines, in which a search passes by where nobody is awake.
+//! Rows of awake goroutines, of which the first by their clocks stand in heaps.
 
-ghost use Rattle.std.specs.Prelude.{◌≡◌, ◌++◌, ◌∷◌, [], ◌<◌, ◌≤◌, ◌+◌, ◌-◌, ◌*◌, ◌/◌, ℕ, IfNone, IfOk, IfSome, MatchOption, None, OnErr, OnOk, Some, drop, false, length, option_map, slice_index_or, slice_set, true};
+ghost use Rattle.std.specs.Prelude.{◌≡◌, ◌++◌, ◌∷◌, [], IfNone, IfOk, IfSome, MatchOption, None, OnErr, OnOk, Some, false, length, option_map, slice_index_or, slice_set, true};
 ghost use Rattle.std.specs.Option.{is_some};
 ghost use Rattle.bytecode.specs.Rules.{IsFrameOf};
 ghost use Rattle.logical_clock.specs.Order.{keys, least};
 ghost use Rattle.turn_rule.specs.Schedule.{has_turn};
 ghost use Rattle.word.specs.Views.{reply_of};
-ghost use Rattle.awake_rows.specs.Slots.{AreQuiet, FitsAll, FitsRow, IsAwake, IsBefore, IsFreeIn, IsNobodyAwake, IsQuietAt, IsUnlent, Rows, answered_rows, clock_among, free_clock, free_row, lent_row, raised_row, stepped_rows};
+ghost use Rattle.awake_rows.specs.Slots.{FitsAll, FitsRow, IsAwake, IsBefore, IsFreeIn, IsNobodyAwake, IsUnlent, answered_rows, clock_among, free_clock, free_row, lent_row, raised_row, stepped_rows};
 
-use crate::rows::{answer_row, lend_row, raise_row, stay_row, step_row, take_at};
+use crate::orders::{Orders, least_key, note};
+use crate::rows::{answer_row, lend_row, put_at, raise_row, stay_row, step_row, take_at};
 use crate::slot::Slot;
-use crate::turns::{Among, is_before_at, sooner_at};
+use crate::turns::{Among, blocker};
 use go_text::Memory;
 use goroutine_vm::GoState;
 use logical_clock::{Clock, Key};
@@ -20,25 +21,21 @@ use turn_rule::Step;
 use verifier::Verified;
 use word::request::Reply;
 
-/// How many places a stretch has.
-const STRETCH: usize = 32;
-
 /// Goroutine n, if it is awake, is at place n.
 #[derive(Drop)]
 pub struct AwakeRows {
     slots: Vec<Option<Slot>>,
-    /// Whether a stretch of places is known to be empty.
-    quiet: Vec<bool>,
+    orders: Orders,
 }
 
 impl Model for AwakeRows {
-    ghost use Rattle.awake_rows.specs.Slots.{AreQuiet, Rows};
+    ghost use Rattle.awake_rows.specs.Slots.{AreOrders, Rows};
 
     ghost Value = { Rows };
 
     ghost view = { λ r. r.slots.items };
 
-    ghost invariant = { λ r. AreQuiet r.quiet.items r.slots.items };
+    ghost invariant = { λ r. AreOrders r.orders r.slots.items };
 }
 
 impl AwakeRows {
@@ -48,7 +45,7 @@ impl AwakeRows {
     {
         AwakeRows {
             slots: Vec::new(alloc),
-            quiet: Vec::new(alloc),
+            orders: Orders::new(alloc),
         }
     }
 
@@ -72,10 +69,10 @@ impl AwakeRows {
         ensures err { OnErr result (self.new ≡ self.old) }
     {
         self.slots.reserve(1)?;
-        let place = self.slots.len();
-        add_stretch(&mut self.quiet, place)?;
-        wake_stretch(&mut self.quiet, place);
+        self.orders.push()?;
+        let number = self.slots.len() as u64;
         self.slots.push_reserved(row);
+        note(&mut self.orders, &self.slots, number);
         Ok(())
     }
 
@@ -85,7 +82,7 @@ impl AwakeRows {
         ensures places { self.new ≡ slice_set self.old number None }
     {
         let row = take_at(self.slots.as_mut_slice(), number);
-        rest_stretch(self.quiet.as_mut_slice(), self.slots.as_slice(), number);
+        note(&mut self.orders, &self.slots, number);
         row
     }
 
@@ -93,8 +90,8 @@ impl AwakeRows {
     pub fn put(&mut self, number: u64, row: Option<Slot>)
         ensures { self.new ≡ slice_set self.old number row }
     {
-        wake_stretch(&mut self.quiet, number as usize);
-        set_row(&mut self.slots, number, row);
+        put_at(self.slots.as_mut_slice(), number, row);
+        note(&mut self.orders, &self.slots, number);
     }
 
     /// A goroutine's request is done: it goes on with this reply, at this clock.
@@ -104,6 +101,7 @@ impl AwakeRows {
         ensures { self.new ≡ answered_rows code.now self.old number clock (reply_of reply.now) }
     {
         answer_row(self.slots.as_mut_slice(), code, number, reply, clock);
+        note(&mut self.orders, &self.slots, number);
     }
 
     /// A goroutine is as it was, though its request was performed: the run ends.
@@ -112,6 +110,7 @@ impl AwakeRows {
         ensures { self.new ≡ slice_set self.old number (option_map (λ row. free_row row.state) (slice_index_or self.old number None)) }
     {
         stay_row(self.slots.as_mut_slice(), number);
+        note(&mut self.orders, &self.slots, number);
     }
 
     /// Lends goroutine `number`, if it may be lent: its state is moved out.
@@ -119,7 +118,9 @@ impl AwakeRows {
         ensures none { IfNone result ((free_clock (slice_index_or self.old number None) ≡ None) × (self.new ≡ self.old)) }
         ensures some { IfSome result (λ s. IsFreeIn self.old number s × (self.new ≡ slice_set self.old number (Some (lent_row s)))) }
     {
-        lend_row(self.slots.as_mut_slice(), number)
+        let state = lend_row(self.slots.as_mut_slice(), number);
+        note(&mut self.orders, &self.slots, number);
+        state
     }
 
     /// One step of goroutine `number`, as a schedule names it.
@@ -136,7 +137,9 @@ impl AwakeRows {
         ensures memory { OnErr result (self.new ≡ self.old) }
         ensures fits { OnOk result (FitsRow code.now limit (slice_index_or (stepped_rows code.now limit step number self.old) number None)) }
     {
-        step_row(alloc, self.slots.as_mut_slice(), code, limit, number, step)
+        step_row(alloc, self.slots.as_mut_slice(), code, limit, number, step)?;
+        note(&mut self.orders, &self.slots, number);
+        Ok(())
     }
 
     /// The floor of a goroutine that is lent becomes the clock that a look found.
@@ -145,139 +148,47 @@ impl AwakeRows {
         ensures { self.new ≡ slice_set self.old number (option_map (raised_row clock) (slice_index_or self.old number None)) }
     {
         raise_row(self.slots.as_mut_slice(), number, clock);
+        note(&mut self.orders, &self.slots, number);
     }
 }
 
 impl AwakeRows {
-    /// Whether it is known that nobody is awake in the stretch of a place.
-    fn is_quiet(&self, place: usize) -> bool
-        ensures { result ≡ true → IsQuietAt self.now place }
-    {
-        let stretch = place / STRETCH;
-        stretch < self.quiet.len() && self.quiet[stretch]
-    }
-
     /// The goroutine of least key of those whose clocks count.
     pub fn least_among(&self, among: Among) -> Option<Key>
         ensures { result ≡ least (keys (clock_among among) 0 self.now) }
     {
-        let mut best: Option<Key> = None;
-        let mut place = self.len();
-        while place > 0 {
-            let last = place - 1;
-            if self.is_quiet(last) {
-                place = last / STRETCH * STRETCH;
-            } else {
-                best = sooner_at(self.as_slice(), among, last, best);
-                place = last;
-            }
+        match among {
+            Among::Parked => least_key(&self.orders.parked),
+            Among::Free => least_key(&self.orders.free),
         }
-        best
     }
 
     /// Who stands before the key: an awake goroutine whose floor the key is not below. None where the key has the turn.
     pub fn blocker(&self, key: Key) -> Option<u64>
         ensures { MatchOption result (has_turn key 0 self.now ≡ true) (λ n. (has_turn key 0 self.now ≡ false) × IsBefore self.now key n) }
     {
-        let mut place = 0;
-        while place < self.len() {
-            if self.is_quiet(place) {
-                place += left_in_stretch(place, self.len());
-            } else {
-                if is_before_at(self.as_slice(), &key, place) {
-                    return Some(place as u64);
-                }
-                place += 1;
+        let Some(floor) = least_key(&self.orders.floors) else {
+            return None;
+        };
+        if floor.number == key.number {
+            if floor.is_before(&key) {
+                return blocker(&self.slots, key);
             }
+            return None;
         }
-        None
+        if key.is_before(&floor) {
+            return None;
+        }
+        Some(floor.number)
     }
 
-    /// The first goroutine that is awake.
+    /// The goroutine of least floor of those that are awake.
     pub fn first_awake(&self) -> Option<u64>
         ensures { MatchOption result (IsNobodyAwake self.now) (λ n. IsAwake self.now n) }
     {
-        let mut place = 0;
-        while place < self.len() {
-            if self.is_quiet(place) {
-                place += left_in_stretch(place, self.len());
-            } else {
-                if let Some(_slot) = &self.slots[place] {
-                    return Some(place as u64);
-                }
-                place += 1;
-            }
-        }
-        None
-    }
-}
-
-/// Puts this at place `number`, where there is such a place.
-fn set_row(rows: &mut Vec<Option<Slot>>, number: u64, row: Option<Slot>)
-    ensures { rows.new.items ≡ slice_set rows.old.items number row }
-{
-    if (number as usize) < rows.len() {
-        rows[number as usize] = row;
-    }
-}
-
-/// How many of so many places are left in a stretch, from this one on.
-fn left_in_stretch(place: usize, len: usize) -> usize
-    requires { place < len }
-    ensures some { 0 < result }
-    ensures within { place + result ≤ len }
-    ensures stretch { result ≤ place / 32 * 32 + 32 - place }
-{
-    let rest = STRETCH - place % STRETCH;
-    if rest < len - place {
-        rest
-    } else {
-        len - place
-    }
-}
-
-/// A stretch more, where place `place` is in none: somebody may be awake in it.
-fn add_stretch(quiet: &mut Vec<bool>, place: usize) -> Result<(), AllocError>
-    ensures { (rows : Rows) → AreQuiet quiet.old.items rows → AreQuiet quiet.new.items rows }
-{
-    if quiet.len() <= place / STRETCH {
-        quiet.push(false)?;
-    }
-    Ok(())
-}
-
-/// Somebody may be awake in the stretch of a place.
-fn wake_stretch(quiet: &mut Vec<bool>, place: usize)
-    ensures { quiet.new.items ≡ slice_set quiet.old.items (place / 32) false }
-{
-    let stretch = place / STRETCH;
-    if stretch < quiet.len() {
-        quiet[stretch] = false;
-    }
-}
-
-/// Notes whether nobody is awake any more in the stretch of a place.
-fn rest_stretch(quiet: &mut [bool], rows: &[Option<Slot>], number: u64)
-    requires { AreQuiet quiet.old rows.now }
-    ensures { AreQuiet quiet.new rows.now }
-{
-    let place = number as usize;
-    let stretch = place / STRETCH;
-    if stretch < quiet.len() && is_stretch_empty(rows, place) {
-        quiet[stretch] = true;
-    }
-}
-
-/// Whether nobody is awake in the stretch of a place.
-fn is_stretch_empty(rows: &[Option<Slot>], place: usize) -> bool
-    ensures { result ≡ true → IsQuietAt rows.now place }
-{
-    let start = place / STRETCH * STRETCH;
-    let end = start.saturating_add(STRETCH).min(rows.len());
-    for k in start..end {
-        if let Some(_slot) = &rows[k] {
-            return false;
+        match least_key(&self.orders.floors) {
+            Some(floor) => Some(floor.number),
+            None => None,
         }
     }
-    true
 }

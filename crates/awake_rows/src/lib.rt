@@ -2,6 +2,7 @@
 #![tactic(auto)]
 
 mod awake;
+mod orders;
 mod rows;
 mod slot;
 mod turns;

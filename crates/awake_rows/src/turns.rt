@@ -50,12 +50,7 @@ fn least_among(rows: &[Option<Slot>], among: Among) -> Option<Key>
 }
 
 /// The least key from a place on, of that at the place and the least one behind it.
-pub(crate) fn sooner_at(
-    rows: &[Option<Slot>],
-    among: Among,
-    place: usize,
-    best: Option<Key>,
-) -> Option<Key>
+fn sooner_at(rows: &[Option<Slot>], among: Among, place: usize, best: Option<Key>) -> Option<Key>
     requires { place < length rows.now }
     ensures { best ≡ least (keys (clock_among among) (place + 1) (drop (place + 1) rows.now)) → result ≡ least (keys (clock_among among) place (drop place rows.now)) }
 {
@@ -83,7 +78,7 @@ pub fn blocker(rows: &[Option<Slot>], key: Key) -> Option<u64>
 }
 
 /// Whether another goroutine than the key's is awake at a place, and the key is not below its floor.
-pub(crate) fn is_before_at(rows: &[Option<Slot>], key: &Key, place: usize) -> bool
+fn is_before_at(rows: &[Option<Slot>], key: &Key, place: usize) -> bool
     requires { place < length rows.now }
     ensures before { result ≡ true → (has_turn key.now place (drop place rows.now) ≡ false) × IsBefore rows.now key.now place }
     ensures after { result ≡ false → has_turn key.now place (drop place rows.now) ≡ has_turn key.now (place + 1) (drop (place + 1) rows.now) }

@@ -218,6 +218,27 @@ pub(crate) fn lift<L: Ledger>(
     sift_down(keys, order, places, len, place, steps);
 }
 
+/// Gives a taken slot another key.
+pub(crate) fn change<L: Ledger>(
+    keys: &mut [Option<Key>],
+    order: &mut [usize],
+    places: &mut [usize],
+    len: usize,
+    slot: usize,
+    key: Key,
+    steps: &mut Steps<L>,
+)
+    requires index { IsIndex keys.old order.old places.old len }
+    requires taken { IsSome (slice_index_or keys.old slot None) }
+    ensures index { IsIndex keys.new order.new places.new len }
+    ensures keys { keys.new ≡ slice_set keys.old slot (Some key) }
+    ensures steps { (d : ℕ) → length keys.old < 2 ^ d → steps.new ≤ steps.old + 2 * d }
+{
+    let place = places[slot];
+    keys[slot] = Some(key);
+    sift(keys, order, places, len, place, steps);
+}
+
 /// Frees a taken slot.
 pub(crate) fn free<L: Ledger>(
     keys: &mut [Option<Key>],

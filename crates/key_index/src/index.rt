@@ -1,18 +1,18 @@
 //! The keys of slots, and which of them is least.
 
-ghost use Rattle.std.specs.Prelude.{◌≡◌, ℕ, ◌+◌, ◌*◌, ◌<◌, ◌≤◌, ◌^◌, length, slice_index_or, slice_set, replicate, None, Some, false, IfOk, IfNone, IfSome, IsSome, MatchOption};
+ghost use Rattle.std.specs.Prelude.{◌≡◌, ℕ, ◌+◌, ◌*◌, ◌<◌, ◌≤◌, ◌^◌, ◌∷◌, ◌++◌, [], length, slice_index_or, slice_set, replicate, None, Some, false, IfOk, IfNone, IfSome, IsSome, MatchOption, OnErr, OnOk};
 ghost use Rattle.logical_clock.specs.Order.{is_before};
 ghost use Rattle.logical_clock.specs.declared.key.Key.{Key};
 
-use crate::heap::{free, key_or, lift, put};
+use crate::heap::{change, free, key_or, lift, put};
 use go_text::Memory;
 use logical_clock::Key;
-use std::alloc::Global;
+use std::alloc::{AllocError, Global};
 use std::marker::Model;
 use std::sync::ledger::Ledger;
 use steps::Steps;
 
-/// The keys of slots, of which each is taken or free, and which is least. All room is made at first.
+/// The keys of slots, of which each is taken or free, and which is least. Room for a key is made with its slot.
 #[derive(Drop)]
 pub struct KeyIndex {
     /// The key of each slot that is taken.
@@ -38,6 +38,18 @@ impl Model for KeyIndex {
 }
 
 impl KeyIndex {
+    /// No slots.
+    pub fn empty(alloc: Global) -> KeyIndex
+        ensures { result ≡ [] }
+    {
+        KeyIndex {
+            keys: Vec::new(alloc),
+            order: Vec::new(alloc),
+            places: Vec::new(alloc),
+            len: 0,
+        }
+    }
+
     /// So many slots, all free.
     pub fn new(alloc: Global, slots: usize) -> Result<KeyIndex, Memory>
         ensures { IfOk result (λ x. x ≡ replicate slots None) }
@@ -56,6 +68,55 @@ impl KeyIndex {
             places,
             len: 0,
         })
+    }
+
+    /// One slot more, which is free.
+    pub fn push(&mut self) -> Result<(), AllocError>
+        ensures ok { OnOk result (self.new ≡ self.old ++ None ∷ []) }
+        ensures memory { OnErr result (self.new ≡ self.old) }
+    {
+        self.keys.reserve(1)?;
+        self.order.reserve(1)?;
+        self.places.reserve(1)?;
+        let slot = self.keys.len();
+        self.keys.push_reserved(None);
+        self.order.push_reserved(slot);
+        self.places.push_reserved(slot);
+        Ok(())
+    }
+
+    /// Gives a slot this key, or frees it, where there is such a slot. It takes no more comparisons than `insert`.
+    pub fn set<L: Ledger>(&mut self, slot: usize, key: Option<Key>, steps: &mut Steps<L>)
+        ensures contents { self.new ≡ slice_set self.old slot key }
+        ensures steps { (d : ℕ) → length self.old < 2 ^ d → steps.new ≤ steps.old + 2 * d }
+    {
+        if slot >= self.keys.len() {
+            return;
+        }
+        let is_taken = self.keys[slot].is_some();
+        match key {
+            Some(key) if is_taken => self.change(slot, key, steps),
+            Some(key) => self.insert(slot, key, steps),
+            None if is_taken => self.remove(slot, steps),
+            None => {}
+        }
+    }
+
+    /// Gives a taken slot another key.
+    fn change<L: Ledger>(&mut self, slot: usize, key: Key, steps: &mut Steps<L>)
+        requires { IsSome (slice_index_or self.old slot None) }
+        ensures contents { self.new ≡ slice_set self.old slot (Some key) }
+        ensures steps { (d : ℕ) → length self.old < 2 ^ d → steps.new ≤ steps.old + 2 * d }
+    {
+        change(
+            &mut self.keys,
+            &mut self.order,
+            &mut self.places,
+            self.len,
+            slot,
+            key,
+            steps,
+        );
     }
 
     /// Gives a free slot a key. It takes at most twice as many comparisons of keys as the number of slots has binary digits.

@@ -24,6 +24,7 @@ use Rattle.verifier.proofs.verified.Verified.TheSendSync.{the_send as verified_s
 use Rattle.word.proofs.end.End.TheSendSync.{the_send as end_send}
 use Rattle.word.proofs.request.Event.TheSendSync.{the_field_send as event_send}
 use Rattle.logical_clock.proofs.clock.Clock.TheSendSync.{the_send as clock_send}
+use Rattle.awake_rows.proofs.orders.Orders.TheSendSync.{the_field_send as orders_send}
 use Rattle.awake_rows.proofs.slot.Standing.TheSendSync.{the_field_send as standing_send}
 use Rattle.awake_rows.specs.contracts.awake.AwakeRows as AwakeRows
 use Rattle.awake_rows.specs.contracts.awake.AwakeRows.TheInside as awake
@@ -57,7 +58,7 @@ slot_send : IsSend Slot.the_row
 slot_send = view_send _ _ _ _ _ slot_inside
 
 awake_inside : IsSend awake.the_row
-awake_inside = recorded_send awake.the_field.row _ _ awake.the_type.to_one (struct_send (shape awake.the_type) (search (sendable, crosses, slot_send) depth 20, (search (sendable, crosses) depth 20, tt)))
+awake_inside = recorded_send awake.the_field.row _ _ awake.the_type.to_one (struct_send (shape awake.the_type) (search (sendable, crosses, slot_send) depth 20, (orders_send, tt)))
 
 awake_send : IsSend AwakeRows.the_row
 awake_send = view_send _ _ _ _ _ awake_inside

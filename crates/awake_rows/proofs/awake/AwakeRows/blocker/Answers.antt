@@ -1,6 +1,18 @@
-use Rattle.std.proofs.Common.{◌∙◌}
-use Rattle.awake_rows.proofs.Stretches.{turn_passed}
+use Rattle.std.proofs.Common.{◌∙◌, sym}
+use Rattle.awake_rows.proofs.Floors.{turn_alone, turn_below, turn_own, turn_waits}
 use Rattle.awake_rows.proofs.awake.AwakeRows.blocker.Goals as goal
 
-pub loop-place-preserved-then-is_quiet : goal.loop-place-preserved-then-is_quiet
-loop-place-preserved-then-is_quiet c = c.loop-place.invariant ∙ turn_passed c.args.self.now c.args.key c.loop-place.place c.left_in_stretch-place.result (c.is_quiet.ensures c.if-is_quiet.true) c.left_in_stretch-place.ensures.stretch
+pub returns-in_default : goal.returns-in_default
+returns-in_default c = rw (← c.self.view_is) (turn_alone c.self.inside.orders.floors c.self.inside.slots.items c.self.invariant.floors c.args.key c.in_default.ensures)
+
+pub returns-then-floor-key : goal.returns-then-floor-key
+returns-then-floor-key c =
+    rw (← c.self.view_is) (turn_own c.self.inside.orders.floors c.self.inside.slots.items c.self.invariant.floors c.args.key c.in-Some.floor c.in-Some.ensures (sym c.is_before.ensures ∙ c.if-is_before.false))
+
+pub returns-then-is_before-2 : goal.returns-then-is_before-2
+returns-then-is_before-2 c =
+    rw (← c.self.view_is) (turn_below c.self.inside.orders.floors c.self.inside.slots.items c.self.invariant.floors c.args.key c.in-Some.floor c.in-Some.ensures (sym c.is_before-2.ensures ∙ c.if-is_before-2.true))
+
+pub returns : goal.returns
+returns c =
+    rw (← c.self.view_is) (turn_waits c.self.inside.orders.floors c.self.inside.slots.items c.self.invariant.floors c.args.key c.in-Some.floor c.in-Some.ensures c.if-floor-key.false (sym c.is_before-2.ensures ∙ c.if-is_before-2.false))

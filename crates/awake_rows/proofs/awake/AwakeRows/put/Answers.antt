@@ -1,10 +1,7 @@
-use Rattle.std.proofs.Common.{◌/◌, Bool, List, false, slice_set, subst, sym}
-use Rattle.awake_rows.specs.Slots.{AreQuiet}
-use Rattle.awake_rows.proofs.Stretches.{quiet_woken}
+use Rattle.awake_rows.proofs.Kept.{noted_back}
 use Rattle.awake_rows.proofs.awake.AwakeRows.put.Goals as goal
 
 pub invariant_of-self : goal.invariant_of-self
 invariant_of-self c =
-    let quiet = c.self.inside.quiet.items in
-    let after = quiet_woken quiet c.self.inside.slots.items c.args.number c.args.row c.self.invariant in
-    subst (λ (l : List Bool). AreQuiet l c.set_row.new.rows.items) (sym c.wake_stretch.ensures) (subst (AreQuiet (slice_set quiet (c.args.number / 32) false)) (sym c.set_row.ensures) after)
+    noted_back c.self.inside.orders c.note.new.orders c.self.inside.slots.items c.as_mut_slice.result.now c.put_at.new.places c.deref.result.now c.self.inside.slots.len c.args.number _
+    c.self.invariant c.self.inside.slots.ok.0 c.as_mut_slice.ensures.value c.put_at.ensures c.deref.ensures.value c.note.ensures

@@ -1,0 +1,123 @@
+//! The orders in which awake goroutines stand: by the clocks at which they are parked, by those at which they may be lent,
+//! and by their floors.
+
+ghost use Rattle.std.specs.Prelude.{◌≡◌, [], None, OnErr, OnOk, slice_index_or};
+ghost use Rattle.awake_rows.specs.Slots.{AreOrders, IsLeastOf, Rows, clocks_of, floor_clock, key_of, noted, with_place};
+
+use crate::slot::Slot;
+use key_index::KeyIndex;
+use logical_clock::{Clock, Key};
+use std::alloc::{AllocError, Global};
+use std::marker::Brand;
+use std::sync::ledger::{Blank, Ledger};
+use steps::Steps;
+
+/// The keys of goroutines, that of goroutine n at slot n.
+#[derive(Drop)]
+pub(crate) struct Orders {
+    /// Of those that stand at their requests.
+    pub parked: KeyIndex,
+    /// Of those that may be lent.
+    pub free: KeyIndex,
+    /// Of all that are awake, by their floors.
+    pub floors: KeyIndex,
+}
+
+impl Orders {
+    /// Nobody's.
+    pub(crate) fn new(alloc: Global) -> Orders
+        ensures { AreOrders result [] }
+    {
+        Orders {
+            parked: KeyIndex::empty(alloc),
+            free: KeyIndex::empty(alloc),
+            floors: KeyIndex::empty(alloc),
+        }
+    }
+
+    /// A place more, for one that isn't awake yet.
+    pub(crate) fn push(&mut self) -> Result<(), AllocError>
+        ensures ok { OnOk result (self.new ≡ with_place self.old) }
+        ensures memory { OnErr result ((rows : Rows) → AreOrders self.old rows → AreOrders self.new rows) }
+    {
+        self.parked.push()?;
+        self.free.push()?;
+        self.floors.push()?;
+        Ok(())
+    }
+}
+
+/// The clocks by which a goroutine stands in the orders, where it stands in them.
+#[derive(Clone, Copy)]
+pub(crate) struct Clocks {
+    pub parked: Option<Clock>,
+    pub free: Option<Clock>,
+    pub floor: Option<Clock>,
+}
+
+/// Row `number` has changed: its goroutine takes its place in the orders.
+pub(crate) fn note(orders: &mut Orders, rows: &[Option<Slot>], number: u64)
+    ensures { orders.new ≡ noted orders.old number (clocks_of (slice_index_or rows.now number None)) }
+{
+    note_counted::<Brand>(orders, number, clocks_at(rows, number), Blank::new(1));
+}
+
+/// The same, with the steps that it takes counted, which costs nothing.
+fn note_counted<L: Ledger>(orders: &mut Orders, number: u64, clocks: Clocks, blank: Blank)
+    requires name { blank.name ≡ L.name }
+    requires parts { blank.parts ≡ L.parts }
+    requires one { blank.parts ≡ 1 }
+    ensures { orders.new ≡ noted orders.old number clocks }
+{
+    let slot = number as usize;
+    let mut steps = Steps::<L>::new(blank);
+    orders
+        .parked
+        .set(slot, key_of(number, clocks.parked), &mut steps);
+    orders
+        .free
+        .set(slot, key_of(number, clocks.free), &mut steps);
+    orders
+        .floors
+        .set(slot, key_of(number, clocks.floor), &mut steps);
+}
+
+/// The key of goroutine `number` at this clock.
+fn key_of(number: u64, clock: Option<Clock>) -> Option<Key>
+    ensures { result ≡ key_of number clock }
+{
+    match clock {
+        Some(clock) => Some(Key { clock, number }),
+        None => None,
+    }
+}
+
+/// The clocks of goroutine `number` by what stands at its place.
+fn clocks_at(rows: &[Option<Slot>], number: u64) -> Clocks
+    ensures { result ≡ clocks_of (slice_index_or rows.now number None) }
+{
+    if (number as usize) < rows.len() {
+        if let Some(slot) = &rows[number as usize] {
+            return Clocks {
+                parked: slot.parked_clock(),
+                free: slot.free_clock(),
+                floor: Some(slot.floor()),
+            };
+        }
+    }
+    Clocks {
+        parked: None,
+        free: None,
+        floor: None,
+    }
+}
+
+/// The least key, if there is one.
+pub(crate) fn least_key(index: &KeyIndex) -> Option<Key>
+    ensures { IsLeastOf index.now result }
+{
+    match index.least() {
+        Some((_, key)) => Some(key),
+        None => None,
+    }
+}

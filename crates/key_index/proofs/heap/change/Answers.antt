@@ -1,0 +1,19 @@
+use Rattle.std.proofs.Common.{arith, ◌<◌, ◌∙◌, length, length-set, refl, Some, None, get_or}
+use Rattle.key_index.proofs.Places.{raise_but, raise_taken, some_key, some_within}
+use Rattle.key_index.proofs.heap.change.Goals as goal
+
+pub sift-requires-clause-but : goal.sift-requires-clause-but
+sift-requires-clause-but g c =
+    let slot : c.args.slot < length c.args.keys.now = some_within c.args.keys.now c.args.slot c.requires.taken in
+    raise_but _ _ _ _ c.requires.index _ (omega (arith, c.requires.index.slots)) c.args.key _ (some_key (get_or c.args.keys.now c.args.slot None) c.requires.taken) _ refl
+
+pub returns-clause-index : goal.returns-clause-index
+returns-clause-index g c =
+    let slot : c.args.slot < length c.args.keys.now = some_within c.args.keys.now c.args.slot c.requires.taken in
+    record {
+      inverse = c.sift.ensures.inverse;
+      slots = length-set c.args.keys.now c.args.slot (Some c.args.key) ∙ omega (arith, c.requires.index.slots);
+      bound = omega (arith, c.requires.index.bound);
+      taken = λ s sl. raise_taken _ _ _ _ c.requires.index _ (omega (arith, c.requires.index.slots)) c.args.key _ (some_key (get_or c.args.keys.now c.args.slot None) c.requires.taken) _ refl _ c.sift.ensures.taken s (omega arith);
+      heap = c.sift.ensures.heap;
+    }
