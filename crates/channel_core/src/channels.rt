@@ -513,6 +513,7 @@ fn item_or_empty(alloc: Global, item: Option<Item>) -> Item
 }
 
 /// One that was asleep, and what it is told.
+#[inline(always)]
 fn woken(alloc: Global, number: u64, reply: Reply) -> Result<Vec<Woken>, Memory>
     ensures { IfOk result (λ woken. woken.items ≡ (number, reply_of reply) ∷ []) }
 {

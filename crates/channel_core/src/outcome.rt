@@ -31,6 +31,7 @@ impl Woken {
     ghost use Rattle.word.specs.Views.{reply_of};
 
     /// Goroutine `number`, which is told this.
+    #[inline(always)]
     pub fn new(number: u64, reply: Reply) -> Woken
         ensures { result ≡ (number, reply_of reply) }
     {
@@ -72,6 +73,7 @@ pub enum Outcome {
 }
 
 /// What a sender is told, in a clause of a select, or outside of one where that is 0.
+#[inline(always)]
 pub(crate) fn sent(clause: usize) -> Reply
     ensures { reply_of result ≡ sent clause }
 {
@@ -82,6 +84,7 @@ pub(crate) fn sent(clause: usize) -> Reply
 }
 
 /// What a receiver is told, in a clause of a select, or outside of one where that is 0.
+#[inline(always)]
 pub(crate) fn got(clause: usize, item: Item, ok: bool) -> Reply
     ensures { reply_of result ≡ got clause item ok }
 {

@@ -79,6 +79,7 @@ fn offer_clauses(queues: &mut SleepQueues, key: u64, cases: &[Case]) -> Result<(
 }
 
 /// The sleeper of a key offers this on a channel.
+#[inline(always)]
 fn offer(
     queues: &mut SleepQueues,
     key: u64,
@@ -103,6 +104,7 @@ fn offer(
 }
 
 /// An offer enters a row, which is made where it is not there.
+#[inline(always)]
 fn enter(queues: &mut SleepQueues, row: usize, offer: Offer) -> Result<(), Memory>
     ensures ok { OnOk result (placed queues.new ≡ placed queues.old ++ record { row = row; entry = offer } ∷ []) }
     ensures memory { OnErr result (placed queues.new ≡ placed queues.old) }
@@ -142,6 +144,7 @@ fn leave_counted<L: Ledger>(queues: &mut SleepQueues, key: u64, blank: Blank)
 }
 
 /// A second item that is the same.
+#[inline(always)]
 pub(crate) fn copy_of(item: &Option<Item>) -> Option<Item>
     ensures { result ≡ item.now }
 {

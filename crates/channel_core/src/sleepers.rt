@@ -117,6 +117,7 @@ impl Sleepers {
     }
 
     /// The first sleeper with an offer on a channel, to send or to receive, and its first such offer.
+    #[inline(always)]
     pub(crate) fn partner(&self, chan: u32, sends: bool) -> Option<Partner>
         ensures { result ≡ option_map partner_of (partner chan sends self.now) }
     {

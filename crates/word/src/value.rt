@@ -54,6 +54,7 @@ impl Model for Item {
 
 impl Item {
     /// The item of these words.
+    #[inline(always)]
     pub fn new(alloc: Global, words: &[Word]) -> Item
         requires { length words.now ≤ MAX_WORDS }
         ensures { result ≡ words.now }
@@ -73,6 +74,7 @@ impl Item {
     }
 
     /// A second item that is the same.
+    #[inline(always)]
     pub fn copy(&self) -> Item
         ensures { result ≡ self.now }
     {
