@@ -517,7 +517,7 @@ fn item_or_empty(alloc: Global, item: Option<Item>) -> Item
 fn woken(alloc: Global, number: u64, reply: Reply) -> Result<Vec<Woken>, Memory>
     ensures { IfOk result (λ woken. woken.items ≡ (number, reply_of reply) ∷ []) }
 {
-    let mut woken = Vec::new(alloc);
-    woken.push(Woken::new(number, reply))?;
+    let mut woken = Vec::with_capacity(alloc, 1)?;
+    woken.push_reserved(Woken::new(number, reply));
     Ok(woken)
 }

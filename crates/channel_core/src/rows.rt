@@ -79,7 +79,6 @@ fn offer_clauses(queues: &mut SleepQueues, key: u64, cases: &[Case]) -> Result<(
 }
 
 /// The sleeper of a key offers this on a channel.
-#[inline(always)]
 fn offer(
     queues: &mut SleepQueues,
     key: u64,
@@ -104,7 +103,6 @@ fn offer(
 }
 
 /// An offer enters a row, which is made where it is not there.
-#[inline(always)]
 fn enter(queues: &mut SleepQueues, row: usize, offer: Offer) -> Result<(), Memory>
     ensures ok { OnOk result (placed queues.new ≡ placed queues.old ++ record { row = row; entry = offer } ∷ []) }
     ensures memory { OnErr result (placed queues.new ≡ placed queues.old) }
