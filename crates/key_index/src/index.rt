@@ -90,15 +90,37 @@ impl KeyIndex {
         ensures contents { self.new ≡ slice_set self.old slot key }
         ensures steps { (d : ℕ) → length self.old < 2 ^ d → steps.new ≤ steps.old + 2 * d }
     {
-        if slot >= self.keys.len() {
-            return;
+        if slot < self.keys.len() {
+            match key {
+                Some(key) => self.give(slot, key, steps),
+                None => self.clear(slot, steps),
+            }
         }
-        let is_taken = self.keys[slot].is_some();
-        match key {
-            Some(key) if is_taken => self.change(slot, key, steps),
-            Some(key) => self.insert(slot, key, steps),
-            None if is_taken => self.remove(slot, steps),
-            None => {}
+    }
+
+    /// Gives a slot that is there this key, which it may have already.
+    #[tactic(auto, using(crate::proofs::Places::kept))]
+    fn give<L: Ledger>(&mut self, slot: usize, key: Key, steps: &mut Steps<L>)
+        requires { slot < length self.old }
+        ensures contents { self.new ≡ slice_set self.old slot (Some key) }
+        ensures steps { (d : ℕ) → length self.old < 2 ^ d → steps.new ≤ steps.old + 2 * d }
+    {
+        match self.keys[slot] {
+            None => self.insert(slot, key, steps),
+            Some(old) if old == key => {}
+            Some(_) => self.change(slot, key, steps),
+        }
+    }
+
+    /// Frees a slot that is there, and may be free already.
+    #[tactic(auto, using(crate::proofs::Places::kept))]
+    fn clear<L: Ledger>(&mut self, slot: usize, steps: &mut Steps<L>)
+        requires { slot < length self.old }
+        ensures contents { self.new ≡ slice_set self.old slot None }
+        ensures steps { (d : ℕ) → length self.old < 2 ^ d → steps.new ≤ steps.old + 2 * d }
+    {
+        if self.keys[slot].is_some() {
+            self.remove(slot, steps);
         }
     }
 
