@@ -36,6 +36,5 @@ pub fn reference_bytes<O: Write>(
         return Err(Fault::BadLimit);
     }
     let (_source, typed) = read(alloc, bytes)?;
-    let end = run_source(alloc, &typed, limit, out)?;
-    Ok(end)
+    run_source(alloc, &typed, limit, out)
 }

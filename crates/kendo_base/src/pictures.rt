@@ -44,8 +44,7 @@ pub fn timeline_bytes(
         return Err(Fault::BadLimit);
     }
     let (_source, typed) = read(alloc, bytes)?;
-    let recording = recorded(alloc, &typed, limit, most)?;
-    Ok(recording)
+    recorded(alloc, &typed, limit, most)
 }
 
 /// The first events of the run of a checked program.

@@ -56,6 +56,5 @@ pub fn run_bytes<R: Threads + Wait + Sync, G: Gate + Sync, O: Write, T: Write>(
         return Err(Fault::BadLimit);
     }
     let (_source, typed) = read(alloc, bytes)?;
-    let end = run_typed(rt, alloc, &typed, limit, workers, gate, out, trace)?;
-    Ok(end)
+    run_typed(rt, alloc, &typed, limit, workers, gate, out, trace)
 }

@@ -45,8 +45,7 @@ pub(crate) fn run_typed<R: Threads + Wait + Sync, G: Gate + Sync, O: Write, T: W
 {
     let code = compile(alloc, typed)?;
     let program = verify(alloc, code)?;
-    let end = run_verified(rt, alloc, program, limit, workers, gate, out, trace)?;
-    Ok(end)
+    run_verified(rt, alloc, program, limit, workers, gate, out, trace)
 }
 
 /// Runs verified code.

@@ -124,54 +124,49 @@ fn check_traced<R: Threads + Wait + Sync>(
 /// Sees whether what a file tells is made of its text.
 fn check_made<R: Files + AllocGlobal>(rt: &R, file: &RowFile<'_>, made: Made) -> Result<(), Flaw> {
     let wanted = file.bytes(rt)?;
-    let (what, came) = match made {
-        Made::Drawing => ("the drawing", picture_of(rt, file, Format::Drawing)?),
-        Made::Explanation => ("the explanation", explanation_of(rt, file)?),
-        Made::Listing => ("the listing", listing_of(rt, file)?),
-        Made::Spans => ("the spans", spans_of(rt, file)?),
-        Made::Tokens => ("the tokens", tokens_of(rt, file)?),
-        Made::TraceEvents => (
-            "the trace events",
-            picture_of(rt, file, Format::TraceEvents)?,
-        ),
-    };
-    same_lines(rt.alloc(), what, &wanted, &came)
+    let came = made_of(rt, file, made)?;
+    same_lines(rt.alloc(), name_of(made), &wanted, &came)
 }
 
-/// The picture of the run of a file's text up to the limit of its row.
-fn picture_of<R: Files + AllocGlobal>(
+/// What is made of a file's text: of its run, up to the limit of its row.
+fn made_of<R: Files + AllocGlobal>(
     rt: &R,
     file: &RowFile<'_>,
-    format: Format,
+    made: Made,
 ) -> Result<Vec<u8>, Flaw> {
-    let text = file.text(rt)?;
     let row = file.row(rt)?;
-    picture(rt.alloc(), &text, row.limit, format)
+    let text = file.text(rt)?;
+    made_up_to(rt.alloc(), made, file.text_name(), &text, row.limit)
 }
 
-/// What `--explain` says of a file's text, or of the end of its run up to the limit of its row.
-fn explanation_of<R: Files + AllocGlobal>(rt: &R, file: &RowFile<'_>) -> Result<Vec<u8>, Flaw> {
-    let text = file.text(rt)?;
-    let row = file.row(rt)?;
-    explained(rt.alloc(), file.text_name(), &text, row.limit)
+/// What is made of a text of this name: of its run, up to this limit.
+fn made_up_to(
+    alloc: Global,
+    made: Made,
+    name: &str,
+    text: &[u8],
+    limit: u64,
+) -> Result<Vec<u8>, Flaw> {
+    match made {
+        Made::Drawing => picture(alloc, text, limit, Format::Drawing),
+        Made::Explanation => explained(alloc, name, text, limit),
+        Made::Listing => listing(alloc, text),
+        Made::Spans => spans(alloc, text),
+        Made::Tokens => tokens(alloc, text),
+        Made::TraceEvents => picture(alloc, text, limit, Format::TraceEvents),
+    }
 }
 
-/// The listing of a file's text.
-fn listing_of<R: Files + AllocGlobal>(rt: &R, file: &RowFile<'_>) -> Result<Vec<u8>, Flaw> {
-    let text = file.text(rt)?;
-    listing(rt.alloc(), &text)
-}
-
-/// The spans of the nodes of a file's text.
-fn spans_of<R: Files + AllocGlobal>(rt: &R, file: &RowFile<'_>) -> Result<Vec<u8>, Flaw> {
-    let text = file.text(rt)?;
-    spans(rt.alloc(), &text)
-}
-
-/// The tokens of a file's text.
-fn tokens_of<R: Files + AllocGlobal>(rt: &R, file: &RowFile<'_>) -> Result<Vec<u8>, Flaw> {
-    let text = file.text(rt)?;
-    tokens(rt.alloc(), &text)
+/// What is made, by its name in a line about it.
+fn name_of(made: Made) -> &'static str {
+    match made {
+        Made::Drawing => "the drawing",
+        Made::Explanation => "the explanation",
+        Made::Listing => "the listing",
+        Made::Spans => "the spans",
+        Made::Tokens => "the tokens",
+        Made::TraceEvents => "the trace events",
+    }
 }
 
 /// Compares what came with the lines of a file. Where its first line is `..`, the others are the last ones alone.

@@ -75,8 +75,7 @@ impl<B: RunName> RunBook<B> {
         ensures taken { OnOk result (self.new.book ≡ record self.old.book { taken = self.old.book.taken + length self.old.book.pending; pending = [] }) }
         ensures memory { OnErr result (self.new.book ≡ self.old.book) }
     {
-        let piece = self.book.take_output()?;
-        Ok(piece)
+        self.book.take_output()
     }
 
     /// The bytes of the trace that were committed and not yet taken out.
@@ -86,7 +85,6 @@ impl<B: RunName> RunBook<B> {
         ensures taken { OnOk result (self.new.book ≡ record self.old.book { traced = self.old.book.traced + length self.old.book.lines; lines = [] }) }
         ensures memory { OnErr result (self.new.book ≡ self.old.book) }
     {
-        let piece = self.book.take_trace()?;
-        Ok(piece)
+        self.book.take_trace()
     }
 }

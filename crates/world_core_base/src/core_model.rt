@@ -2,12 +2,12 @@
 
 ghost use Rattle.std.specs.Prelude.{◌≡◌, ◌≢◌, ℕ, ◌+◌, ◌-◌, ◌<◌, ◌≤◌, ◌^◌, ◌↔◌, [], ◌∷◌, ◌++◌, IsTrue, IfNone, IfOk, IfSome, MatchOption, OnErr, OnOk, None, Some, false, true, length, map, option_map, slice_index_or, slice_set, vec_capacity, vec_len};
 ghost use Rattle.std.specs.Option.{is_some};
-ghost use Rattle.bytecode.specs.Machine.{code_kind};
+ghost use Rattle.bytecode.specs.Machine.{code_begin, code_kind};
 ghost use Rattle.bytecode.specs.Rules.{IsFrameOf, IsVerified};
 ghost use Rattle.channel_core.specs.Channels.{Does, IsOfChannels};
 ghost use Rattle.logical_clock.specs.Order.{keys, least};
 ghost use Rattle.turn_rule.specs.Schedule.{has_turn};
-ghost use Rattle.word.specs.Kinds.{told};
+ghost use Rattle.word.specs.Kinds.{at, told};
 ghost use Rattle.word.specs.Values.{End as EndRequest, Print as PrintRequest, Reply as AnyReply};
 ghost use Rattle.word.specs.Views.{event_of, outcome_of, reply_of, request_of};
 ghost use Rattle.world_core_base.specs.Cores.{Asks, FitsCore, IsAsked, IsAway, IsGo, IsLast, HasLease, IsHere, Performs, bytes_of, left_beds, meant_after, most_partners, most_woken, no_event, opened_core, put_back, state_of, taken_out, to_lend, woken_rows};
@@ -19,7 +19,7 @@ use channel_core::{Channels, Outcome as Came, Woken};
 use go_text::Memory;
 use goroutine_vm::{GoState, spawn_state};
 use logical_clock::{Clock, Key, LAST};
-use std::alloc::Global;
+use std::alloc::{AllocError, Global};
 use std::marker::Model;
 use turn_rule::Step;
 use verifier::Verified;
@@ -76,20 +76,15 @@ impl Core {
         ensures core { IfOk result (λ core. core ≡ opened_core code.now) }
         ensures verified { IfOk result (λ _. IsVerified code.now) }
     {
-        let mut rows = AwakeRows::new(alloc);
-        rows.push(None)?;
-        rows.push(Some(Slot::free(spawn_state(alloc, code, code.main(), &[], Clock::START)?)))?;
-        let mut beds = Vec::new(alloc);
-        beds.push(None)?;
-        beds.push(None)?;
-        let mut taken = Vec::new(alloc);
-        taken.push(None)?;
-        taken.push(None)?;
+        let rows = first_rows(alloc, code)?;
+        let beds = two_places(alloc)?;
+        let taken = two_places(alloc)?;
+        let channels = Channels::new(alloc)?;
         Ok(Core {
             rows,
             beds,
             taken,
-            channels: Channels::new(alloc)?,
+            channels,
             live: 1,
             events: 0,
             ending: None,
@@ -317,8 +312,7 @@ impl Core {
         ensures memory { OnErr result (self.new ≡ self.old) }
         ensures fits { OnOk result (FitsCore code.now limit self.new) }
     {
-        self.change_row(alloc, code, limit, number, step)?;
-        Ok(())
+        self.change_row(alloc, code, limit, number, step)
     }
 
     /// A row changes by a step.
@@ -335,8 +329,7 @@ impl Core {
         ensures memory { OnErr result (self.new ≡ self.old) }
         ensures fits { OnOk result (FitsRow code.now limit (slice_index_or (stepped_rows code.now limit step number self.old.rows) number None)) }
     {
-        self.rows.step(alloc, code, limit, number, step)?;
-        Ok(())
+        self.rows.step(alloc, code, limit, number, step)
     }
 
     /// The clock of goroutine `number`. What its request means is written to its place: a return of goroutine 1 is an exit,
@@ -612,6 +605,28 @@ impl Core {
             partners,
         );
     }
+}
+
+/// Goroutine 1 at the beginning of `main`, behind place 0.
+fn first_rows(alloc: Global, code: &Verified) -> Result<AwakeRows, Memory>
+    ensures rows { IfOk result (λ rows. rows ≡ None ∷ Some (free_row (at 0 (code_begin code.now (code_kind code.now).main []))) ∷ []) }
+    ensures verified { IfOk result (λ _. IsVerified code.now) }
+{
+    let state = spawn_state(alloc, code, code.main(), &[], Clock::START)?;
+    let mut rows = AwakeRows::new(alloc);
+    rows.push(None)?;
+    rows.push(Some(Slot::free(state)))?;
+    Ok(rows)
+}
+
+/// Two places with nothing in them: place 0, and that of goroutine 1.
+fn two_places<T: Drop>(alloc: Global) -> Result<Vec<Option<T>>, AllocError>
+    ensures { IfOk result (λ places. places.items ≡ None ∷ None ∷ []) }
+{
+    let mut places = Vec::new(alloc);
+    places.push(None)?;
+    places.push(None)?;
+    Ok(places)
 }
 
 /// A place for an event: nothing happens at it.
