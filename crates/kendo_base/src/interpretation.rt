@@ -36,5 +36,6 @@ pub fn reference_bytes<O: Write>(
         return Err(Fault::BadLimit);
     }
     let (_source, typed) = read(alloc, bytes)?;
-    run_source(alloc, &typed, limit, out)
+    let end = run_source(alloc, &typed, limit, out)?;
+    Ok(end)
 }

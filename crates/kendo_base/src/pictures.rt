@@ -44,7 +44,8 @@ pub fn timeline_bytes(
         return Err(Fault::BadLimit);
     }
     let (_source, typed) = read(alloc, bytes)?;
-    recorded(alloc, &typed, limit, most)
+    let recording = recorded(alloc, &typed, limit, most)?;
+    Ok(recording)
 }
 
 /// The first events of the run of a checked program.

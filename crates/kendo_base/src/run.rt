@@ -56,5 +56,6 @@ pub fn run_bytes<R: Threads + Wait + Sync, G: Gate + Sync, O: Write, T: Write>(
         return Err(Fault::BadLimit);
     }
     let (_source, typed) = read(alloc, bytes)?;
-    run_typed(rt, alloc, &typed, limit, workers, gate, out, trace)
+    let end = run_typed(rt, alloc, &typed, limit, workers, gate, out, trace)?;
+    Ok(end)
 }

@@ -45,7 +45,8 @@ pub(crate) fn run_typed<R: Threads + Wait + Sync, G: Gate + Sync, O: Write, T: W
 {
     let code = compile(alloc, typed)?;
     let program = verify(alloc, code)?;
-    run_verified(rt, alloc, program, limit, workers, gate, out, trace)
+    let end = run_verified(rt, alloc, program, limit, workers, gate, out, trace)?;
+    Ok(end)
 }
 
 /// Runs verified code.
