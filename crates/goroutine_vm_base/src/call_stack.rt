@@ -136,7 +136,7 @@ fn keep_one(alloc: Global, frames: &mut Vec<Frame>, depth: usize) -> Result<(), 
     ensures len { depth ≤ length frames.new.items }
 {
     if depth == frames.len() {
-        frames.push(empty(alloc)?)?;
+        frames.push(empty(alloc))?;
     }
     Ok(())
 }

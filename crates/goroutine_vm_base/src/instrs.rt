@@ -95,6 +95,7 @@ fn same(word: Word) -> Word
 }
 
 /// Pops the word on the top, which stands at this place, into a local, and goes on.
+#[inline(always)]
 pub(crate) fn store_top(frame: &mut Frame, to: usize, at: usize)
     requires place { frame.old.place + 1 < 2 ^ 64 }
     requires at { at + 1 ≡ length frame.old.stack }
@@ -103,6 +104,15 @@ pub(crate) fn store_top(frame: &mut Frame, to: usize, at: usize)
 {
     frame.locals[to] = same(frame.stack[at]);
     frame.stack.truncate(at);
+    frame.place += 1;
+}
+
+/// Goes on to the next place.
+#[inline(always)]
+pub(crate) fn go_on(frame: &mut Frame)
+    requires { frame.old.place + 1 < 2 ^ 64 }
+    ensures { frame.new ≡ record frame.old { place = frame.old.place + 1 } }
+{
     frame.place += 1;
 }
 

@@ -1,6 +1,6 @@
 //! Words of kinds.
 
-ghost use Rattle.std.specs.Prelude.{◌≡◌, ◌↔◌, IsTrue, IfOk, OnOk, drop, map};
+ghost use Rattle.std.specs.Prelude.{◌≡◌, ◌↔◌, [], IsTrue, IfOk, OnOk, drop, length, map};
 ghost use Rattle.bytecode.specs.Machine.{as_kind as as_kind_of, fitted as fitted_of, zero_of as zero_word};
 ghost use Rattle.operands.specs.Words.{word_for};
 
@@ -49,15 +49,38 @@ pub fn word_at(kind: WordKind, words: &[Word], index: usize) -> Word
     }
 }
 
-/// Words of these kinds in place of others: those given, and zeros where there are no more.
-pub fn fit(made: &mut Vec<Word>, kinds: &[WordKind], words: &[Word]) -> Result<(), AllocError>
+/// Words of these kinds over as many others: those given, and zeros where there are no more.
+#[inline(always)]
+fn overwrite(made: &mut [Word], kinds: &[WordKind], words: &[Word])
+    requires { length made.old ≡ length kinds.now }
+    ensures { made.new ≡ fitted_of kinds.now words.now }
+{
+    for index in 0..kinds.len() {
+        made[index] = word_at(kinds[index], words, index);
+    }
+}
+
+/// Words of these kinds behind others: those given, and zeros where there are no more.
+fn append(made: &mut Vec<Word>, kinds: &[WordKind], words: &[Word]) -> Result<(), AllocError>
+    requires { made.old.items ≡ [] }
     ensures { OnOk result (made.new.items ≡ fitted_of kinds.now words.now) }
 {
-    made.clear();
     for index in 0..kinds.len() {
         made.push(word_at(kinds[index], words, index))?;
     }
     Ok(())
+}
+
+/// Words of these kinds in place of others: those given, and zeros where there are no more.
+pub fn fit(made: &mut Vec<Word>, kinds: &[WordKind], words: &[Word]) -> Result<(), AllocError>
+    ensures { OnOk result (made.new.items ≡ fitted_of kinds.now words.now) }
+{
+    if made.len() == kinds.len() {
+        overwrite(made.as_mut_slice(), kinds, words);
+        return Ok(());
+    }
+    made.clear();
+    append(made, kinds, words)
 }
 
 /// The zero of a shape.
