@@ -1,13 +1,14 @@
 -- What the getters of a command's values read.
 use Rattle.std.proofs.Common.{Bool, false, ◌≡◌, ℕ, ◌<◌, ◌^◌, List, Option, Some, None, Result, Ok, Err, refl, sym, ap, ap₂, subst, ◌∙◌}
-use Rattle.std.specs.Prelude.{◌↔◌, IsTrue, option_map, codes}
+use Rattle.std.specs.Prelude.{◌↔◌, IfOk, IsTrue, option_map, codes}
 use Rattle.std.specs.Str.Parse.{ParsesUnsigned}
 use Rattle.std.proofs.lemmas.Bool.{false≢true}
 use Rattle.std.proofs.lemmas.Option.{none-some}
 use Rattle.std.specs.Bool.{Decides}
-use Rattle.clap.specs.Words.{ReadsOne, Row, Text, first_of}
+use Rattle.clap.specs.Words.{App, ReadsOne, Row, Text, app_of, first_of, with_subcommand}
+use Rattle.clap.specs.declared.builder.command.Command.{Command}
 use Rattle.command_line.specs.declared.arguments.Invocation.{Invocation}
-use Rattle.command_line.specs.CommandLine.{Does, IsAsked, IsNumberThere}
+use Rattle.command_line.specs.CommandLine.{Does, IsAsked, IsExtended, IsLocal, IsNumberThere}
 
 -- what reads a text as an unsigned number of 64 bits reads the number that it is
 pub number_read : {E : Type 0} (gives : List ℕ → Result ℕ E → Type 0) (text same : Option (List ℕ)) → text ≡ same → (result : Option ℕ) → (text ≡ None → result ≡ None)
@@ -55,3 +56,9 @@ flag_there set value wanted found is tests = ((λ yes. sym is ∙ ap Some (tests
 -- one that is not there
 pub flag_missing : (wanted : List ℕ) (found : Option (List ℕ)) → None ≡ found → IsTrue false ↔ (found ≡ Some wanted)
 flag_missing wanted found is = ((λ yes. absurd (false≢true yes)), (λ same. absurd (none-some wanted (is ∙ same))))
+
+-- what takes this subcommand too, behind what took this before
+pub extended_by : {E : Type 0} (base sub : App) {app : App} (made : Result Command E) (command : Command) → app ≡ base → IfOk made (λ c. app_of c ≡ sub)
+    → IfOk made IsLocal → IsExtended app made command → app_of command ≡ with_subcommand base sub.top
+extended_by base sub (Ok c) command before same local extends = extends local ∙ ap₂ with_subcommand before (ap (λ (a : App). a.top) same)
+extended_by base sub (Err e) command before same local extends = absurd extends

@@ -1,7 +1,7 @@
 -- The command line: the commands that are taken, and what the words of one ask for.
-use Rattle.std.specs.Prelude.{◌≡◌, ◌↔◌, IsTrue, ℕ, ◌<◌, ◌-◌, ◌^◌, List, [], ◌∷◌, Option, Some, None, option_map, false, true, codes}
+use Rattle.std.specs.Prelude.{◌≡◌, ◌↔◌, IsTrue, ℕ, ◌<◌, ◌-◌, ◌^◌, List, [], ◌∷◌, Option, Some, None, Result, Ok, Err, option_map, false, true, codes}
 use Rattle.std.specs.Str.Parse.{IsNumeral, digits_value, without_leading_plus}
-use Rattle.clap.specs.Words.{App, Row, Rule, Text, first_of, new_app, new_rule, one_of, with_rule, with_subcommand}
+use Rattle.clap.specs.Words.{App, Row, Rule, Text, app_of, first_of, new_app, new_rule, one_of, with_rule, with_subcommand}
 use Rattle.clap.specs.declared.builder.action.ArgAction.TheVariants.{Set, SetTrue}
 use Rattle.clap.specs.declared.builder.command.Command.{Command}
 use Rattle.clap.specs.declared.builder.command.Command.TheViews.{out-Command}
@@ -85,6 +85,11 @@ kendo = with_subcommand (with_subcommand first_commands timeline.top) run.top
 -- no argument of the command is taken by its subcommands too
 abbrev pub IsLocal : Command → Type 0
 IsLocal c = (out-Command c).has_globals ≡ false
+
+-- the command takes what this one takes, and this subcommand too
+abbrev pub IsExtended : {E : Type 0} → App → Result Command E → Command → Type 0
+IsExtended app (Ok subcommand) command = IsLocal subcommand → app_of command ≡ with_subcommand app (app_of subcommand).top
+IsExtended app (Err e) command = ⊥
 
 -- ---- what the words ask for
 

@@ -2,7 +2,7 @@
 
 ghost use Rattle.std.specs.Prelude.{◌≡◌, ◌↔◌, false, codes, IfOk, IsTrue, Some};
 ghost use Rattle.clap.specs.Words.{app_of, first_of, found_of, one_of, rows_of, rule_of, subcommand_rows_of, with_rule};
-ghost use Rattle.command_line.specs.CommandLine.{IsAsked, IsDone, IsLocal, IsNumberThere, check, explain, file, first_commands, kendo, limit, list, named, number, out, plain_run, reference, run, timeline, trace, workers};
+ghost use Rattle.command_line.specs.CommandLine.{IsAsked, IsDone, IsExtended, IsLocal, IsNumberThere, check, explain, file, first_commands, kendo, limit, list, named, number, out, plain_run, reference, run, timeline, trace, workers};
 
 use clap::{Arg, ArgAction, ArgMatches, Command, value_parser};
 use std::alloc::{AllocError, Global};
@@ -26,7 +26,7 @@ Exit status:\n  \
 64  the command line, a number of workers (15), a limit (16) or a file can't be used";
 
 /// A command line that was accepted: what is done with which file.
-#[derive(Clone, Copy, Debug, PartialEq, Eq)]
+#[derive(Clone, Copy, Debug)]
 pub struct Invocation<'a> {
     /// The path, as it was typed.
     pub file: &'a str,
@@ -41,7 +41,7 @@ pub struct Invocation<'a> {
 }
 
 /// What is done with a text.
-#[derive(Clone, Copy, Debug, PartialEq, Eq)]
+#[derive(Clone, Copy, Debug)]
 pub enum Subcommand {
     /// It is checked.
     Check,
@@ -231,26 +231,31 @@ fn plain_run_command<'a>(alloc: Global) -> Result<Command<'a>, AllocError>
         .arg(trace_argument(alloc))
 }
 
+/// A command that also takes this subcommand, where there was memory to make it.
+fn extended<'a>(
+    command: Command<'a>,
+    subcommand: Result<Command<'a>, AllocError>,
+) -> Result<Command<'a>, AllocError>
+    ensures { IfOk result (IsExtended (app_of command.entry) subcommand.entry) }
+{
+    command.subcommand(subcommand?)
+}
+
 /// The command that `main` reads its words with.
 pub fn command<'a>(alloc: Global) -> Result<Command<'a>, AllocError>
     ensures { IfOk result (λ c. app_of c ≡ kendo) }
 {
-    let timeline = timeline_command(alloc)?;
-    let run = run_command(alloc)?;
-    first_commands(alloc)?.subcommand(timeline)?.subcommand(run)
+    let commands = extended(first_commands(alloc)?, timeline_command(alloc))?;
+    extended(commands, run_command(alloc))
 }
 
 /// The same with the commands alone that make no run of the code.
 fn first_commands<'a>(alloc: Global) -> Result<Command<'a>, AllocError>
     ensures { IfOk result (λ c. app_of c ≡ first_commands) }
 {
-    let check = check_command(alloc)?;
-    let list = list_command(alloc)?;
-    let reference = reference_command(alloc)?;
-    named_command(alloc)
-        .subcommand(check)?
-        .subcommand(list)?
-        .subcommand(reference)
+    let commands = extended(named_command(alloc), check_command(alloc))?;
+    let commands = extended(commands, list_command(alloc))?;
+    extended(commands, reference_command(alloc))
 }
 
 /// The same with no command, of which one has to be there.

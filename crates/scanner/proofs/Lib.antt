@@ -5,3 +5,4 @@ pub mod Reading
 pub mod Scanning
 pub mod Order
 pub mod Counting
+pub mod Keywords

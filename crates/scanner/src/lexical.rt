@@ -2,6 +2,7 @@
 
 ghost use Rattle.std.specs.Prelude.{◌≡◌};
 ghost use Rattle.scanner.specs.Elements.{is_forbidden};
+ghost use Rattle.scanner.specs.Keywords.{choice_keyword, jump_keyword, loop_or_call_keyword};
 ghost use Rattle.scanner.specs.Lexical.{is_digit, is_hex_digit, is_space, statement_keyword, declaration_keyword, word, mark_1, mark_2, mark_3, ends_line};
 
 use crate::kind::TokenKind;
@@ -38,37 +39,19 @@ pub(crate) fn is_forbidden(text: &[u8]) -> bool
     }
 }
 
-/// The keyword of a statement that the text is.
-#[tactic(auto, unfolding(crate::specs::Lexical::statement_keyword))]
-fn statement_keyword(text: &[u8]) -> Option<TokenKind>
-    ensures { result ≡ statement_keyword text.now }
+/// The keyword of a choice that the text is.
+#[tactic(auto, unfolding(crate::specs::Keywords::choice_keyword))]
+fn choice_keyword(text: &[u8]) -> Option<TokenKind>
+    ensures { result ≡ choice_keyword text.now }
 {
-    if text == b"break".as_slice() {
-        Some(TokenKind::Break)
-    } else if text == b"case".as_slice() {
+    if text == b"case".as_slice() {
         Some(TokenKind::Case)
-    } else if text == b"continue".as_slice() {
-        Some(TokenKind::Continue)
     } else if text == b"default".as_slice() {
         Some(TokenKind::Default)
-    } else if text == b"defer".as_slice() {
-        Some(TokenKind::Defer)
     } else if text == b"else".as_slice() {
         Some(TokenKind::Else)
-    } else if text == b"fallthrough".as_slice() {
-        Some(TokenKind::Fallthrough)
-    } else if text == b"for".as_slice() {
-        Some(TokenKind::For)
-    } else if text == b"go".as_slice() {
-        Some(TokenKind::Go)
-    } else if text == b"goto".as_slice() {
-        Some(TokenKind::Goto)
     } else if text == b"if".as_slice() {
         Some(TokenKind::If)
-    } else if text == b"range".as_slice() {
-        Some(TokenKind::Range)
-    } else if text == b"return".as_slice() {
-        Some(TokenKind::Return)
     } else if text == b"select".as_slice() {
         Some(TokenKind::Select)
     } else if text == b"switch".as_slice() {
@@ -76,6 +59,58 @@ fn statement_keyword(text: &[u8]) -> Option<TokenKind>
     } else {
         None
     }
+}
+
+/// The keyword of a jump that the text is.
+#[tactic(auto, unfolding(crate::specs::Keywords::jump_keyword))]
+fn jump_keyword(text: &[u8]) -> Option<TokenKind>
+    ensures { result ≡ jump_keyword text.now }
+{
+    if text == b"break".as_slice() {
+        Some(TokenKind::Break)
+    } else if text == b"continue".as_slice() {
+        Some(TokenKind::Continue)
+    } else if text == b"fallthrough".as_slice() {
+        Some(TokenKind::Fallthrough)
+    } else if text == b"goto".as_slice() {
+        Some(TokenKind::Goto)
+    } else if text == b"return".as_slice() {
+        Some(TokenKind::Return)
+    } else {
+        None
+    }
+}
+
+/// The keyword of a loop, or of a call that is not waited for, that the text is.
+#[tactic(auto, unfolding(crate::specs::Keywords::loop_or_call_keyword))]
+fn loop_or_call_keyword(text: &[u8]) -> Option<TokenKind>
+    ensures { result ≡ loop_or_call_keyword text.now }
+{
+    if text == b"defer".as_slice() {
+        Some(TokenKind::Defer)
+    } else if text == b"for".as_slice() {
+        Some(TokenKind::For)
+    } else if text == b"go".as_slice() {
+        Some(TokenKind::Go)
+    } else if text == b"range".as_slice() {
+        Some(TokenKind::Range)
+    } else {
+        None
+    }
+}
+
+/// The keyword of a statement that the text is.
+#[tactic(auto, using(crate::proofs::Keywords::statement_keyword_is))]
+fn statement_keyword(text: &[u8]) -> Option<TokenKind>
+    ensures { result ≡ statement_keyword text.now }
+{
+    if let Some(kind) = choice_keyword(text) {
+        return Some(kind);
+    }
+    if let Some(kind) = jump_keyword(text) {
+        return Some(kind);
+    }
+    loop_or_call_keyword(text)
 }
 
 /// The keyword of a declaration or a type that the text is.

@@ -1,5 +1,5 @@
 -- A walk over a list goes on by one entry.
-use Rattle.std.proofs.Common.{◌≡◌, ℕ, ◌+◌, List, ◌∷◌, ◌++◌, sum_by, arith, append_assoc}
+use Rattle.std.proofs.Common.{◌≡◌, ℕ, suc, ◌+◌, ◌<◌, ◌≤◌, List, ◌∷◌, ◌++◌, drop, get_or, length, map, sum_by, arith, append_assoc, drop-cons}
 use Rattle.std.proofs.lemmas.List.Sums.{sum_by-cons}
 
 -- as many tokens as the entry has stand before the rest
@@ -11,3 +11,10 @@ next_count step first rest count more total same whole = omega (arith, sum_by-co
 pub next_spans : {A : Type 0} (spans : ℕ → List A) (before one total now : List A) (from to : ℕ) → now ≡ before ++ one → to ≡ from
     → before ++ (one ++ spans from) ≡ total → now ++ spans to ≡ total
 next_spans spans before one total now from to added there whole = rw (added, there, append_assoc) whole
+
+-- the entry at a place of a list ends no later than the whole
+pub ends_within : {A B : Type 0} (step : B → ℕ) (of : A → B) (all : List A) (place : ℕ) (one : A) (count total : ℕ) → one ≡ get_or all place one → place < length all
+    → count + sum_by step (map of (drop place all)) ≡ total → count + step (of one) ≤ total
+ends_within step of all place one count total is below whole =
+    let cut : drop place all ≡ one ∷ drop (suc place) all = rw is (drop-cons all place _ below) in
+    omega (arith, rw cut at whole, sum_by-cons step (of one) (map of (drop (suc place) all)))

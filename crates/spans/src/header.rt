@@ -3,14 +3,14 @@
 ghost use Rattle.std.specs.Prelude.{◌≡◌, ◌+◌, ◌++◌, IfOk, IfErr, option_map};
 ghost use Rattle.go_text.specs.declared.fault.Fault.TheVariants as faults;
 ghost use Rattle.syntax.specs.Measures.{if_any};
-ghost use Rattle.syntax.specs.Tree.{CommAssign};
+ghost use Rattle.syntax.specs.Tree.{CommAssign, ForClauses, Range};
 ghost use Rattle.syntax.specs.View.{name_of, expression_of, place_of, right_of, simple_of, if_head_of, target_of, for_head_of, comm_of, returned_of};
 ghost use Rattle.spans.specs.Words.{EndsInReach, expression_count, simple_count, if_head_count, target_count, for_head_count, second_count, second_name_count, comm_count, start_count, initial_count, returned_count};
 ghost use Rattle.spans.specs.Places.{optional_spans, expression_spans, simple_spans, if_head_spans, target_spans, for_head_spans, second_spans, receive_spans, below_comm, comm_spans, start_spans, initial_spans, returned_spans};
 
 use crate::expression::expression_spans;
 use crate::over::add_node;
-use crate::simple::{operation_spans, place_span, right_spans, simple_spans};
+use crate::simple::{operation_spans, place_span, right_spans, send_spans, simple_spans};
 use go_text::{Fault, Span};
 use scanner::Token;
 use syntax::{
@@ -92,6 +92,43 @@ fn optional_expression_spans(
     }
 }
 
+/// Adds the spans of the clauses of a `for`.
+fn for_clauses_spans(
+    first: &Option<SimpleNode>,
+    condition: &Option<ExpressionNode>,
+    post: &Option<SimpleNode>,
+    tokens: &[Token],
+    at: usize,
+    spans: &mut Vec<Span>,
+) -> Result<usize, Fault>
+    requires { EndsInReach at (for_head_count (ForClauses (option_map simple_of first.now) (option_map expression_of condition.now) (option_map simple_of post.now))) }
+    ensures count { IfOk result (λ count. count ≡ for_head_count (ForClauses (option_map simple_of first.now) (option_map expression_of condition.now) (option_map simple_of post.now))) }
+    ensures spans { IfOk result (λ _. spans.new.items ≡ spans.old.items ++ for_head_spans tokens.now at (ForClauses (option_map simple_of first.now) (option_map expression_of condition.now) (option_map simple_of post.now))) }
+    ensures err { IfErr result (λ e. e ≡ faults.Memory) }
+{
+    let first = optional_simple_spans(first, tokens, at, spans)?;
+    let second = optional_expression_spans(condition, tokens, at + first + 1, spans)?;
+    let third = optional_simple_spans(post, tokens, at + first + 1 + second + 1, spans)?;
+    Ok(first + second + third + 2)
+}
+
+/// Adds the spans of a range.
+fn range_spans(
+    target: &RangeTarget,
+    channel: &ExpressionNode,
+    tokens: &[Token],
+    at: usize,
+    spans: &mut Vec<Span>,
+) -> Result<usize, Fault>
+    requires { EndsInReach at (for_head_count (Range (target_of target.now) (expression_of channel.now))) }
+    ensures count { IfOk result (λ count. count ≡ for_head_count (Range (target_of target.now) (expression_of channel.now))) }
+    ensures spans { IfOk result (λ _. spans.new.items ≡ spans.old.items ++ for_head_spans tokens.now at (Range (target_of target.now) (expression_of channel.now))) }
+    ensures err { IfErr result (λ e. e ≡ faults.Memory) }
+{
+    let count = target_spans(target, tokens, at, spans)?;
+    Ok(count + expression_spans(channel, tokens, at + count + 1, spans)? + 1)
+}
+
 /// Adds the spans of what stands between a `for` and its block.
 pub(crate) fn for_head_spans(
     header: &ForHeader,
@@ -108,15 +145,9 @@ pub(crate) fn for_head_spans(
         ForHeader::Forever => Ok(0),
         ForHeader::While(condition) => expression_spans(condition, tokens, at, spans),
         ForHeader::Clauses(first, condition, post) => {
-            let first = optional_simple_spans(first, tokens, at, spans)?;
-            let second = optional_expression_spans(condition, tokens, at + first + 1, spans)?;
-            let third = optional_simple_spans(post, tokens, at + first + 1 + second + 1, spans)?;
-            Ok(first + second + third + 2)
+            for_clauses_spans(first, condition, post, tokens, at, spans)
         }
-        ForHeader::Range(target, channel) => {
-            let count = target_spans(target, tokens, at, spans)?;
-            Ok(count + expression_spans(channel, tokens, at + count + 1, spans)? + 1)
-        }
+        ForHeader::Range(target, channel) => range_spans(target, channel, tokens, at, spans),
     }
 }
 
@@ -196,10 +227,7 @@ fn comm_spans(
     ensures err { IfErr result (λ e. e ≡ faults.Memory) }
 {
     let count = match comm {
-        CommNode::Send(channel, value) => {
-            let count = expression_spans(channel, tokens, at, spans)?;
-            count + expression_spans(value, tokens, at + count + 1, spans)? + 1
-        }
+        CommNode::Send(channel, value) => send_spans(channel, value, tokens, at, spans)?,
         CommNode::Receive(channel) => expression_spans(channel, tokens, at + 1, spans)? + 1,
         CommNode::Define(_, ok, channel) => {
             let second = second_name_count(ok);

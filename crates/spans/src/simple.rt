@@ -1,10 +1,10 @@
 //! Where the nodes of simple statements stand.
 
-ghost use Rattle.std.specs.Prelude.{◌≡◌, ◌++◌, IfOk, IfErr, map, option_map, sum_by};
+ghost use Rattle.std.specs.Prelude.{◌≡◌, ◌+◌, ◌++◌, ◌∷◌, [], IfOk, IfErr, map, option_map, sum_by};
 ghost use Rattle.go_text.specs.declared.fault.Fault.TheVariants as faults;
 ghost use Rattle.syntax.specs.View.{arguments_of, expression_of, operation_of, right_of, part_of, place_of, simple_of};
-ghost use Rattle.spans.specs.Words.{EndsInReach, joined, arguments_count, size_count, operation_count, right_count, place_count, place_step, part_count, part_step, simple_count};
-ghost use Rattle.spans.specs.Places.{under, arguments_spans, size_spans, operation_spans, right_spans, place_span, places_spans, part_spans, parts_spans, below_simple, simple_spans};
+ghost use Rattle.spans.specs.Words.{EndsInReach, joined, arguments_count, size_count, operation_count, right_count, place_count, place_step, part_count, part_step, simple_count, expression_count, trailing_count as trailing_of};
+ghost use Rattle.spans.specs.Places.{under, expression_spans, arguments_spans, size_spans, operation_spans, right_spans, place_span, places_spans, part_spans, parts_spans, below_simple, simple_spans};
 
 use crate::expression::{expression_spans, trailing_count, values_spans};
 use crate::over::add_node;
@@ -167,6 +167,89 @@ fn places_spans(
     Ok(count)
 }
 
+/// Adds the spans of the nodes below a print.
+fn print_spans(
+    parts: &[PartNode],
+    trailing: bool,
+    tokens: &[Token],
+    at: usize,
+    spans: &mut Vec<Span>,
+) -> Result<usize, Fault>
+    requires { EndsInReach at (joined (sum_by part_step (map part_of parts.now)) + trailing_of trailing + 3) }
+    ensures count { IfOk result (λ count. count ≡ joined (sum_by part_step (map part_of parts.now)) + trailing_of trailing + 3) }
+    ensures spans { IfOk result (λ _. spans.new.items ≡ spans.old.items ++ parts_spans tokens.now (at + 2) (map part_of parts.now)) }
+    ensures err { IfErr result (λ e. e ≡ faults.Memory) }
+{
+    let count = parts_spans(parts, tokens, at + 2, spans)?;
+    Ok(count.saturating_sub(1) + trailing_count(trailing) + 3)
+}
+
+/// Adds the spans of the nodes below a send.
+pub(crate) fn send_spans(
+    channel: &ExpressionNode,
+    value: &ExpressionNode,
+    tokens: &[Token],
+    at: usize,
+    spans: &mut Vec<Span>,
+) -> Result<usize, Fault>
+    requires { EndsInReach at (expression_count (expression_of channel.now) + expression_count (expression_of value.now) + 1) }
+    ensures count { IfOk result (λ count. count ≡ expression_count (expression_of channel.now) + expression_count (expression_of value.now) + 1) }
+    ensures spans { IfOk result (λ _. spans.new.items ≡ spans.old.items ++ (expression_spans tokens.now at (expression_of channel.now) ++ expression_spans tokens.now (at + expression_count (expression_of channel.now) + 1) (expression_of value.now))) }
+    ensures err { IfErr result (λ e. e ≡ faults.Memory) }
+{
+    let count = expression_spans(channel, tokens, at, spans)?;
+    Ok(count + expression_spans(value, tokens, at + count + 1, spans)? + 1)
+}
+
+/// Adds the spans of the nodes below an assignment.
+fn assignment_spans(
+    places: &[PlaceNode],
+    right: &RightNode,
+    tokens: &[Token],
+    at: usize,
+    spans: &mut Vec<Span>,
+) -> Result<usize, Fault>
+    requires { EndsInReach at (sum_by place_step (map place_of places.now) + right_count (right_of right.now)) }
+    ensures count { IfOk result (λ count. count ≡ sum_by place_step (map place_of places.now) + right_count (right_of right.now)) }
+    ensures spans { IfOk result (λ _. spans.new.items ≡ spans.old.items ++ (places_spans tokens.now at (map place_of places.now) ++ right_spans tokens.now (at + sum_by place_step (map place_of places.now)) (right_of right.now))) }
+    ensures err { IfErr result (λ e. e ≡ faults.Memory) }
+{
+    let count = places_spans(places, tokens, at, spans)?;
+    Ok(count + right_spans(right, tokens, at + count, spans)?)
+}
+
+/// Adds the span of the place below a step.
+fn step_spans(
+    place: &PlaceNode,
+    tokens: &[Token],
+    at: usize,
+    spans: &mut Vec<Span>,
+) -> Result<usize, Fault>
+    requires { EndsInReach at (place_count (place_of place.now) + 1) }
+    ensures count { IfOk result (λ count. count ≡ place_count (place_of place.now) + 1) }
+    ensures spans { IfOk result (λ _. spans.new.items ≡ spans.old.items ++ place_span tokens.now at (place_of place.now) ∷ []) }
+    ensures err { IfErr result (λ e. e ≡ faults.Memory) }
+{
+    Ok(place_span(place, tokens, at, spans)? + 1)
+}
+
+/// Adds the spans of the nodes below an assignment with an operator.
+fn update_spans(
+    place: &PlaceNode,
+    value: &ExpressionNode,
+    tokens: &[Token],
+    at: usize,
+    spans: &mut Vec<Span>,
+) -> Result<usize, Fault>
+    requires { EndsInReach at (place_count (place_of place.now) + expression_count (expression_of value.now) + 1) }
+    ensures count { IfOk result (λ count. count ≡ place_count (place_of place.now) + expression_count (expression_of value.now) + 1) }
+    ensures spans { IfOk result (λ _. spans.new.items ≡ spans.old.items ++ place_span tokens.now at (place_of place.now) ∷ expression_spans tokens.now (at + place_count (place_of place.now) + 1) (expression_of value.now)) }
+    ensures err { IfErr result (λ e. e ≡ faults.Memory) }
+{
+    let count = place_span(place, tokens, at, spans)?;
+    Ok(count + expression_spans(value, tokens, at + count + 1, spans)? + 1)
+}
+
 /// Adds the spans of the nodes below a simple statement. All its tokens are counted.
 fn below_simple(
     simple: &SimpleNode,
@@ -185,29 +268,21 @@ fn below_simple(
         ),
         SimpleNode::Close(channel) => Ok(expression_spans(channel, tokens, at + 2, spans)? + 3),
         SimpleNode::Print(_, parts, trailing) => {
-            let count = parts_spans(parts.as_slice(), tokens, at + 2, spans)?;
-            Ok(count.saturating_sub(1) + trailing_count(*trailing) + 3)
+            print_spans(parts.as_slice(), *trailing, tokens, at, spans)
         }
         SimpleNode::Receive(channel) => Ok(expression_spans(channel, tokens, at + 1, spans)? + 1),
-        SimpleNode::Send(channel, value) => {
-            let count = expression_spans(channel, tokens, at, spans)?;
-            Ok(count + expression_spans(value, tokens, at + count + 1, spans)? + 1)
-        }
+        SimpleNode::Send(channel, value) => send_spans(channel, value, tokens, at, spans),
         SimpleNode::Increment(place) | SimpleNode::Decrement(place) => {
-            Ok(place_span(place, tokens, at, spans)? + 1)
+            step_spans(place, tokens, at, spans)
         }
         SimpleNode::Assign(places, right) => {
-            let count = places_spans(places.as_slice(), tokens, at, spans)?;
-            Ok(count + right_spans(right, tokens, at + count, spans)?)
+            assignment_spans(places.as_slice(), right, tokens, at, spans)
         }
         SimpleNode::Define(names, right) => {
             let count = names.len() * 2;
             Ok(count + right_spans(right, tokens, at + count, spans)?)
         }
-        SimpleNode::Update(place, _, value) => {
-            let count = place_span(place, tokens, at, spans)?;
-            Ok(count + expression_spans(value, tokens, at + count + 1, spans)? + 1)
-        }
+        SimpleNode::Update(place, _, value) => update_spans(place, value, tokens, at, spans),
     }
 }
 

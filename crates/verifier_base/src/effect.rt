@@ -1,7 +1,7 @@
 //! What an instruction takes off the operand stack and leaves on it, by kinds.
 
 ghost use Rattle.std.specs.Prelude.{◌≡◌, ◌+◌, ◌≤◌, ◌<◌, ◌++◌, ◌↔◌, IsTrue, IfOk, OnOk, MatchOption, length, slice_get, take, [], ◌∷◌};
-ghost use Rattle.bytecode.specs.Effects.{all_clause_kinds, clause_gives, clauses_in, operands as operands_of, outcome as outcome_of, wants, leaves, count, Meets, Fits, afterwards, part_kinds, shape_kinds};
+ghost use Rattle.bytecode.specs.Effects.{Exactly, all_clause_kinds, clause_gives, clauses_in, operands as operands_of, outcome as outcome_of, wants, leaves, count, Meets, Fits, afterwards, part_kinds, shape_kinds};
 ghost use Rattle.bytecode.specs.Rules.{Named, rule_of};
 ghost use Rattle.verifier_base.specs.Needs.{wants_of};
 
@@ -52,9 +52,16 @@ fn params_of(f: &Function) -> &[WordKind]
     }
 }
 
-/// The kinds of the words that a print takes.
-fn printed_kinds(alloc: Global, parts: &[Part]) -> Result<Vec<WordKind>, AllocError>
-    ensures ok { IfOk result (λ ks. ks.items ≡ part_kinds parts.now) }
+/// What wants these kinds.
+fn these(alloc: Global, kinds: &[WordKind]) -> Result<Need, AllocError>
+    ensures ok { IfOk result (λ n. wants_of n ≡ Exactly kinds.now) }
+{
+    Ok(Need::These(Vec::from_slice(alloc, kinds)?))
+}
+
+/// What a print wants.
+fn printed(alloc: Global, parts: &[Part]) -> Result<Need, AllocError>
+    ensures ok { IfOk result (λ n. wants_of n ≡ Exactly (part_kinds parts.now)) }
 {
     let mut kinds = Vec::new(alloc);
     for part in parts {
@@ -64,7 +71,7 @@ fn printed_kinds(alloc: Global, parts: &[Part]) -> Result<Vec<WordKind>, AllocEr
             Part::Text(_) => {}
         }
     }
-    Ok(kinds)
+    Ok(Need::These(kinds))
 }
 
 /// The kinds of a shape; none where it is not there.
@@ -87,13 +94,18 @@ fn clauses_of(code: &Code, q: u32) -> &[Clause]
     }
 }
 
-/// The kinds of the operands of a select's clauses.
-fn operands_of_clauses(
-    alloc: Global,
-    code: &Code,
-    clauses: &[Clause],
-) -> Result<Vec<WordKind>, AllocError>
-    ensures ok { IfOk result (λ ks. ks.items ≡ all_clause_kinds code.now clauses.now) }
+/// What a send wants: a channel, and an item of its shape on it.
+fn channel_and_item(alloc: Global, code: &Code, s: u32) -> Result<Need, AllocError>
+    ensures ok { IfOk result (λ n. wants_of n ≡ Exactly (WordKind.Chan s ∷ shape_kinds code.now s)) }
+{
+    let mut kinds = vec![in alloc; WordKind::Chan(s)]?;
+    kinds.extend_from_slice(kinds_of(code, s))?;
+    Ok(Need::These(kinds))
+}
+
+/// What a select's clauses want.
+fn operands_of_clauses(alloc: Global, code: &Code, clauses: &[Clause]) -> Result<Need, AllocError>
+    ensures ok { IfOk result (λ n. wants_of n ≡ Exactly (all_clause_kinds code.now clauses.now)) }
 {
     let mut kinds = Vec::new(alloc);
     for clause in clauses {
@@ -102,7 +114,7 @@ fn operands_of_clauses(
             kinds.extend_from_slice(kinds_of(code, shape))?;
         }
     }
-    Ok(kinds)
+    Ok(Need::These(kinds))
 }
 
 /// What an instruction wants on the top of the stack.
@@ -114,33 +126,20 @@ fn wanted(alloc: Global, code: &Code, f: &Function, i: Instr) -> Result<Need, Al
         Instr::Store(a, n) => {
             let from = a as usize;
             let to = from + n as usize;
-            Ok(Need::These(Vec::from_slice(alloc, &f.locals()[from..to])?))
+            these(alloc, &f.locals()[from..to])
         }
         Instr::Pick(t, _, _) => Ok(Need::Some(t as usize)),
         Instr::Discard(n) => Ok(Need::Some(n as usize)),
         Instr::Apply(op) => Ok(operands(op)),
         Instr::Unless(_) => Ok(Need::One(WordKind::Bool)),
-        Instr::Call(g) | Instr::Go(g) => {
-            let params = params_of(&code.functions()[g as usize]);
-            Ok(Need::These(Vec::from_slice(alloc, params)?))
-        }
-        Instr::Return => Ok(Need::These(Vec::from_slice(alloc, f.results())?)),
+        Instr::Call(g) | Instr::Go(g) => these(alloc, params_of(&code.functions()[g as usize])),
+        Instr::Return => these(alloc, f.results()),
         Instr::Make(_) => Ok(Need::One(WordKind::Int)),
-        Instr::Send(s) => {
-            let mut kinds = vec![in alloc; WordKind::Chan(s)]?;
-            kinds.extend_from_slice(kinds_of(code, s))?;
-            Ok(Need::These(kinds))
-        }
+        Instr::Send(s) => channel_and_item(alloc, code, s),
         Instr::Receive(s) => Ok(Need::One(WordKind::Chan(s))),
         Instr::Close | Instr::Len | Instr::Cap => Ok(Need::Channel),
-        Instr::Print(q) => {
-            let kinds = printed_kinds(alloc, code.prints()[q as usize].parts())?;
-            Ok(Need::These(kinds))
-        }
-        Instr::Select(q) => {
-            let clauses = clauses_of(code, q);
-            Ok(Need::These(operands_of_clauses(alloc, code, clauses)?))
-        }
+        Instr::Print(q) => printed(alloc, code.prints()[q as usize].parts()),
+        Instr::Select(q) => operands_of_clauses(alloc, code, clauses_of(code, q)),
         _ => Ok(Need::Some(0)),
     }
 }
@@ -197,6 +196,13 @@ fn outcome(op: Op) -> WordKind
     }
 }
 
+/// Appends a kind.
+fn give_one(kind: WordKind, out: &mut Vec<WordKind>) -> Result<(), AllocError>
+    ensures ok { OnOk result (out.new.items ≡ out.old.items ++ kind ∷ []) }
+{
+    Ok(out.push(kind)?)
+}
+
 /// Appends the kinds of an item and of a truth value.
 fn give_item(code: &Code, s: u32, out: &mut Vec<WordKind>) -> Result<(), AllocError>
     ensures ok { OnOk result (out.new.items ≡ out.old.items ++ (shape_kinds code.now s ++ WordKind.Bool ∷ [])) }
@@ -235,25 +241,25 @@ fn give(
     ensures ok { OnOk result (out.new.items ≡ out.old.items ++ leaves code.now f.now i way top.now) }
 {
     match i {
-        Instr::Int(_) | Instr::Len | Instr::Cap => Ok(out.push(WordKind::Int)?),
-        Instr::Bool(_) => Ok(out.push(WordKind::Bool)?),
-        Instr::Nil(s) | Instr::Make(s) => Ok(out.push(WordKind::Chan(s))?),
+        Instr::Int(_) | Instr::Len | Instr::Cap => give_one(WordKind::Int, out),
+        Instr::Bool(_) => give_one(WordKind::Bool, out),
+        Instr::Nil(s) | Instr::Make(s) => give_one(WordKind::Chan(s), out),
         Instr::Load(a, n) => {
             let from = a as usize;
             let to = from + n as usize;
-            Ok(out.extend_from_slice(&f.locals()[from..to])?)
+            out.extend_from_slice(&f.locals()[from..to])
         }
         Instr::Pick(_, a, n) => {
             let from = a as usize;
             let to = from + n as usize;
-            Ok(out.extend_from_slice(&top[from..to])?)
+            out.extend_from_slice(&top[from..to])
         }
-        Instr::Apply(op) => Ok(out.push(outcome(op))?),
-        Instr::Call(g) => Ok(out.extend_from_slice(code.functions()[g as usize].results())?),
-        Instr::Receive(s) => Ok(give_item(code, s, out)?),
+        Instr::Apply(op) => give_one(outcome(op), out),
+        Instr::Call(g) => out.extend_from_slice(code.functions()[g as usize].results()),
+        Instr::Receive(s) => give_item(code, s, out),
         Instr::Select(q) => {
             let clauses = clauses_of(code, q);
-            Ok(give_clause(code, clauses.get(way).copied(), out)?)
+            give_clause(code, clauses.get(way).copied(), out)
         }
         _ => Ok(()),
     }

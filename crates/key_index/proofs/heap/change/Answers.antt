@@ -1,6 +1,16 @@
 use Rattle.std.proofs.Common.{arith, ◌<◌, ◌∙◌, length, length-set, refl, Some, None, get_or}
-use Rattle.key_index.proofs.Places.{raise_but, raise_taken, some_key, some_within}
+use Rattle.key_index.proofs.Places.{raise_but, raise_taken, some_key, some_within, taken_place}
 use Rattle.key_index.proofs.heap.change.Goals as goal
+
+pub bounds-places-slot : goal.bounds-places-slot
+bounds-places-slot g c = omega (arith, some_within c.args.keys.now c.args.slot c.requires.taken, c.requires.index.slots)
+
+pub bounds-keys-slot : goal.bounds-keys-slot
+bounds-keys-slot g c = some_within c.args.keys.now c.args.slot c.requires.taken
+
+pub sift-requires-clause-place : goal.sift-requires-clause-place
+sift-requires-clause-place g c =
+    taken_place _ _ _ _ c.requires.index _ (omega (arith, some_within c.args.keys.now c.args.slot c.requires.taken, c.requires.index.slots)) c.requires.taken
 
 pub sift-requires-clause-but : goal.sift-requires-clause-but
 sift-requires-clause-but g c =

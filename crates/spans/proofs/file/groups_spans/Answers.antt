@@ -2,8 +2,24 @@ use Rattle.std.proofs.Common.{◌≡◌, ◌∷◌, ◌+◌, suc, ℕ, map, drop
 use Rattle.syntax.specs.View.{declared_of}
 use Rattle.spans.specs.Words.{group_step}
 use Rattle.spans.specs.Places.{group_spans, groups_spans}
-use Rattle.spans.proofs.Walks.{next_count, next_spans}
+use Rattle.spans.proofs.Walks.{ends_within, next_count, next_spans}
 use Rattle.spans.proofs.file.groups_spans.Goals as goal
+
+pub overflow_add-at : goal.overflow_add-at
+overflow_add-at c =
+    omega (arith, c.requires, ends_within group_step declared_of c.args.groups.now c.loop-group.group-index c.group-item.result c.loop-group.count _ c.group-item.is c.loop-group-test.true c.loop-group.invariant.0)
+
+pub group_spans-requires : goal.group_spans-requires
+group_spans-requires c =
+    omega (arith, c.requires, ends_within group_step declared_of c.args.groups.now c.loop-group.group-index c.group-item.result c.loop-group.count _ c.group-item.is c.loop-group-test.true c.loop-group.invariant.0)
+
+pub overflow_add-count : goal.overflow_add-count
+overflow_add-count c =
+    omega (arith, c.requires, c.in_ok-count.ensures.count, ends_within group_step declared_of c.args.groups.now c.loop-group.group-index c.group-item.result c.loop-group.count _ c.group-item.is c.loop-group-test.true c.loop-group.invariant.0)
+
+pub overflow_add-count-in-loop-group : goal.overflow_add-count-in-loop-group
+overflow_add-count-in-loop-group c =
+    omega (arith, c.requires, c.in_ok-count.ensures.count, ends_within group_step declared_of c.args.groups.now c.loop-group.group-index c.group-item.result c.loop-group.count _ c.group-item.is c.loop-group-test.true c.loop-group.invariant.0)
 
 pub loop-group-preserved : goal.loop-group-preserved
 loop-group-preserved c =

@@ -2,8 +2,24 @@ use Rattle.std.proofs.Common.{◌≡◌, ◌∷◌, ◌+◌, suc, ℕ, map, drop
 use Rattle.syntax.specs.View.{top_of}
 use Rattle.spans.specs.Words.{top_step}
 use Rattle.spans.specs.Places.{top_spans, tops_spans}
-use Rattle.spans.proofs.Walks.{next_count, next_spans}
+use Rattle.spans.proofs.Walks.{ends_within, next_count, next_spans}
 use Rattle.spans.proofs.file.tops_spans.Goals as goal
+
+pub overflow_add-at : goal.overflow_add-at
+overflow_add-at c =
+    omega (arith, c.requires, ends_within top_step top_of c.args.tops.now c.loop-top.top-index c.top-item.result c.loop-top.count _ c.top-item.is c.loop-top-test.true c.loop-top.invariant.0)
+
+pub top_spans-requires : goal.top_spans-requires
+top_spans-requires c =
+    omega (arith, c.requires, ends_within top_step top_of c.args.tops.now c.loop-top.top-index c.top-item.result c.loop-top.count _ c.top-item.is c.loop-top-test.true c.loop-top.invariant.0)
+
+pub overflow_add-count : goal.overflow_add-count
+overflow_add-count c =
+    omega (arith, c.requires, c.in_ok-count.ensures.count, ends_within top_step top_of c.args.tops.now c.loop-top.top-index c.top-item.result c.loop-top.count _ c.top-item.is c.loop-top-test.true c.loop-top.invariant.0)
+
+pub overflow_add-count-in-loop-top : goal.overflow_add-count-in-loop-top
+overflow_add-count-in-loop-top c =
+    omega (arith, c.requires, c.in_ok-count.ensures.count, ends_within top_step top_of c.args.tops.now c.loop-top.top-index c.top-item.result c.loop-top.count _ c.top-item.is c.loop-top-test.true c.loop-top.invariant.0)
 
 pub loop-top-preserved : goal.loop-top-preserved
 loop-top-preserved c =

@@ -2,8 +2,24 @@ use Rattle.std.proofs.Common.{◌≡◌, ◌∷◌, ◌+◌, suc, ℕ, map, drop
 use Rattle.syntax.specs.View.{part_of}
 use Rattle.spans.specs.Words.{part_step}
 use Rattle.spans.specs.Places.{part_spans, parts_spans}
-use Rattle.spans.proofs.Walks.{next_count, next_spans}
+use Rattle.spans.proofs.Walks.{ends_within, next_count, next_spans}
 use Rattle.spans.proofs.simple.parts_spans.Goals as goal
+
+pub overflow_add-at : goal.overflow_add-at
+overflow_add-at c =
+    omega (arith, c.requires, ends_within part_step part_of c.args.parts.now c.loop-part.part-index c.part-item.result c.loop-part.count _ c.part-item.is c.loop-part-test.true c.loop-part.invariant.0)
+
+pub part_spans-requires : goal.part_spans-requires
+part_spans-requires c =
+    omega (arith, c.requires, ends_within part_step part_of c.args.parts.now c.loop-part.part-index c.part-item.result c.loop-part.count _ c.part-item.is c.loop-part-test.true c.loop-part.invariant.0)
+
+pub overflow_add-count : goal.overflow_add-count
+overflow_add-count c =
+    omega (arith, c.requires, c.in_ok-count.ensures.count, ends_within part_step part_of c.args.parts.now c.loop-part.part-index c.part-item.result c.loop-part.count _ c.part-item.is c.loop-part-test.true c.loop-part.invariant.0)
+
+pub overflow_add-count-in-loop-part : goal.overflow_add-count-in-loop-part
+overflow_add-count-in-loop-part c =
+    omega (arith, c.requires, c.in_ok-count.ensures.count, ends_within part_step part_of c.args.parts.now c.loop-part.part-index c.part-item.result c.loop-part.count _ c.part-item.is c.loop-part-test.true c.loop-part.invariant.0)
 
 pub loop-part-preserved : goal.loop-part-preserved
 loop-part-preserved c =

@@ -2,8 +2,24 @@ use Rattle.std.proofs.Common.{◌≡◌, [], ◌∷◌, ◌+◌, suc, ℕ, map, 
 use Rattle.syntax.specs.View.{place_of}
 use Rattle.spans.specs.Words.{place_step}
 use Rattle.spans.specs.Places.{place_span, places_spans}
-use Rattle.spans.proofs.Walks.{next_count, next_spans}
+use Rattle.spans.proofs.Walks.{ends_within, next_count, next_spans}
 use Rattle.spans.proofs.simple.places_spans.Goals as goal
+
+pub overflow_add-at : goal.overflow_add-at
+overflow_add-at c =
+    omega (arith, c.requires, ends_within place_step place_of c.args.places.now c.loop-place.place-index c.place-item.result c.loop-place.count _ c.place-item.is c.loop-place-test.true c.loop-place.invariant.0)
+
+pub place_span-requires : goal.place_span-requires
+place_span-requires c =
+    omega (arith, c.requires, ends_within place_step place_of c.args.places.now c.loop-place.place-index c.place-item.result c.loop-place.count _ c.place-item.is c.loop-place-test.true c.loop-place.invariant.0)
+
+pub overflow_add-count : goal.overflow_add-count
+overflow_add-count c =
+    omega (arith, c.requires, c.in_ok-count.ensures.count, ends_within place_step place_of c.args.places.now c.loop-place.place-index c.place-item.result c.loop-place.count _ c.place-item.is c.loop-place-test.true c.loop-place.invariant.0)
+
+pub overflow_add-count-in-loop-place : goal.overflow_add-count-in-loop-place
+overflow_add-count-in-loop-place c =
+    omega (arith, c.requires, c.in_ok-count.ensures.count, ends_within place_step place_of c.args.places.now c.loop-place.place-index c.place-item.result c.loop-place.count _ c.place-item.is c.loop-place-test.true c.loop-place.invariant.0)
 
 pub loop-place-preserved : goal.loop-place-preserved
 loop-place-preserved c =
