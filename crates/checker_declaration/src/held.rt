@@ -73,10 +73,7 @@ fn note_struct(
     ensures { OnOk result ((types : List (List ℕ)) (j t : ℕ) → slice_get found.new.items j ≡ Some t → (slice_get found.old.items j ≡ Some t) ⊎ HasStruct (fields_of (structs_in types all.now) number) t) }
 {
     match parts_at(all, number) {
-        Some(parts) => {
-            note_fields(found, seen, parts.fields.as_slice())?;
-            Ok(())
-        }
+        Some(parts) => note_fields(found, seen, parts.fields.as_slice()),
         None => Ok(()),
     }
 }
