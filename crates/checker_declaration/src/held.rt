@@ -82,12 +82,7 @@ fn note_struct(
 fn unseen(alloc: Global, count: usize) -> Result<Vec<bool>, AllocError>
     ensures { IfOk result (λ seen. length seen.items ≡ count) }
 {
-    let mut seen = Vec::new(alloc);
-    for number in 0..count {
-        let _number = number;
-        seen.push(false)?;
-    }
-    Ok(seen)
+    Vec::from_elem(alloc, false, count)
 }
 
 /// Whether a struct type is found within itself, by a search through what lies in its fields.
