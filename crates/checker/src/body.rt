@@ -99,15 +99,14 @@ fn body<'a>(
         breaks: false,
         continues: false,
     };
-    let end = body_in(
+    body_in(
         alloc,
         table,
         inside,
         &mut visible,
         head.end,
         function.body.as_slice(),
-    )?;
-    Ok(end)
+    )
 }
 
 /// Checks the body of a function, if this is one, whose nodes have numbers from `first` on, and answers the number behind the
@@ -125,10 +124,7 @@ fn top_body<'a>(
 {
     match top {
         TopNode::Struct(_) => Ok(first + top_size(top)),
-        TopNode::Function(function) => {
-            let end = body(alloc, table, first, function)?;
-            Ok(end)
-        }
+        TopNode::Function(function) => body(alloc, table, first, function),
     }
 }
 

@@ -51,6 +51,5 @@ pub(crate) fn check_file(alloc: Global, node: NodeId, file: &FileNode) -> Result
     if !has_main(table.functions.as_slice()) {
         return Err(Refusal::Flawed(Flaw::Broken(Rule::Main, node)));
     }
-    bodies(alloc, &table, file.tops.as_slice())?;
-    Ok(())
+    bodies(alloc, &table, file.tops.as_slice())
 }

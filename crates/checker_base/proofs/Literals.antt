@@ -1,8 +1,9 @@
 -- Values of literals, one behind the other, in the places of fields.
-use Rattle.std.proofs.Common.{◌≡◌, ℕ, suc, ◌+◌, ◌⊎◌, inl, inr, zero, Bool, List, [], ◌∷◌, map, drop, slice_get, Option, Some, None, length, sum_by, refl, arith}
+use Rattle.std.proofs.Common.{◌≡◌, ℕ, suc, ◌+◌, ◌⊎◌, inl, inr, zero, Bool, List, [], ◌∷◌, map, drop, slice_get, Option, Some, None, Result, Ok, Err, length, sum_by, refl, arith}
 use Rattle.std.specs.Option.{IfSome}
+use Rattle.std.specs.Result.{IfOk, IfErr}
 use Rattle.std.proofs.lemmas.Bool.Decides.{nat_tests}
-use Rattle.syntax.specs.Tree.{Expression, Composite, expressions}
+use Rattle.syntax.specs.Tree.{Expression, Expressions, Composite, expressions}
 use Rattle.syntax.specs.Measures.{expression_size, expressions_size}
 use Rattle.syntax.proofs.Lists.{expressions_in-expressions, expressions_size-of}
 use Rattle.type_table.specs.declared.entry.FieldEntry.{FieldEntry}
@@ -102,3 +103,18 @@ composite_in globals scope first number name values fields trailing flaw e f (in
 
 pub size_of_values : (values : List Expression) → expressions_size (expressions values) ≡ sum_by expression_size values
 size_of_values values = expressions_size-of values
+
+-- what holds of a literal with any last comma holds of the one that was written
+pub literal_free : {X : Type 0} (r : Result X Flaw) (globals : Globals) (scope : Scope) (first : ℕ) (name : List ℕ) (values : Expressions) (trailing : Bool) (whole : Expression)
+    → whole ≡ Composite name values trailing
+    → IfOk r (λ _. (any : Bool) (flaw : Flaw) → ExpressionHas globals scope first (Composite name values any) flaw → ⊥)
+    → IfOk r (λ _. (flaw : Flaw) → ExpressionHas globals scope first whole flaw → ⊥)
+literal_free (Ok x) globals scope first name values trailing whole e free = λ flaw. rw e (free trailing flaw)
+literal_free (Err flaw) globals scope first name values trailing whole e free = tt
+
+pub literal_flawed : {X : Type 0} (r : Result X Flaw) (globals : Globals) (scope : Scope) (first : ℕ) (name : List ℕ) (values : Expressions) (trailing : Bool) (whole : Expression)
+    → whole ≡ Composite name values trailing
+    → IfErr r (λ flaw. (any : Bool) → ExpressionHas globals scope first (Composite name values any) flaw)
+    → IfErr r (ExpressionHas globals scope first whole)
+literal_flawed (Ok x) globals scope first name values trailing whole e has = tt
+literal_flawed (Err flaw) globals scope first name values trailing whole e has = rw e (has trailing)

@@ -7,7 +7,7 @@ use go_text::{LimitKind, Rule};
 use syntax::NodeId;
 
 /// What is wrong with a tree, and the node where it is.
-#[derive(Clone, Copy, Debug, PartialEq, Eq)]
+#[derive(Clone, Copy)]
 pub enum Flaw {
     /// A typing rule is broken.
     Broken(Rule, NodeId),
@@ -16,7 +16,7 @@ pub enum Flaw {
 }
 
 /// Why an operator does not go with its operands.
-#[derive(Clone, Copy, Debug, PartialEq, Eq)]
+#[derive(Clone, Copy)]
 pub enum Misuse {
     /// Their types do not fit it.
     Operands,

@@ -263,14 +263,8 @@ pub fn checked<'a>(
     ensures one { IfErr result (ExpressionHas (globals_in table.now) (scope_of table.now visible.now) first (expression_of expression.now)) }
 {
     match expression {
-        ExpressionNode::Integer(value) => {
-            let made = integer(first, *value)?;
-            Ok(made)
-        }
-        ExpressionNode::Named(name) => {
-            let made = named(table, visible, first, name)?;
-            Ok(made)
-        }
+        ExpressionNode::Integer(value) => integer(first, *value),
+        ExpressionNode::Named(name) => named(table, visible, first, name),
         ExpressionNode::Parenthesized(inner) => {
             let inner = checked(table, visible, first, inner)?;
             Ok(Operand {
@@ -281,23 +275,19 @@ pub fn checked<'a>(
         }
         ExpressionNode::Selection(whole, field) => {
             let whole = checked(table, visible, first, whole)?;
-            let selected = selection(table, whole, field.bytes.as_slice())?;
-            Ok(selected)
+            selection(table, whole, field.bytes.as_slice())
         }
         ExpressionNode::Composite(name, values, _) => {
-            let made = composite(table, visible, first, name, values.as_slice())?;
-            Ok(made)
+            composite(table, visible, first, name, values.as_slice())
         }
         ExpressionNode::Unary(operator, operand) => {
             let operand = checked(table, visible, first, operand)?;
-            let made = before(*operator, operand)?;
-            Ok(made)
+            before(*operator, operand)
         }
         ExpressionNode::Binary(operator, left, right) => {
             let left = checked(table, visible, first, left)?;
             let right = checked(table, visible, left.node + 1, right)?;
-            let made = between(table, *operator, left, right)?;
-            Ok(made)
+            between(table, *operator, left, right)
         }
     }
 }
@@ -416,18 +406,12 @@ pub fn worth<'a>(
         }
         ExpressionNode::Unary(operator, operand) => {
             let operand = worth(table, visible, operand)?;
-            match unary_worth(*operator, operand) {
-                Ok(made) => Some(made),
-                Err(_) => None,
-            }
+            unary_worth(*operator, operand).ok()
         }
         ExpressionNode::Binary(operator, left, right) => {
             let left = worth(table, visible, left)?;
             let right = worth(table, visible, right)?;
-            match binary_worth(table, *operator, left, right) {
-                Ok(made) => Some(made),
-                Err(_) => None,
-            }
+            binary_worth(table, *operator, left, right).ok()
         }
     }
 }
@@ -496,8 +480,7 @@ fn all_pass(
         return Ok(());
     };
     let end = passes(table, visible, first, one, *kind)?;
-    all_pass(table, visible, end, rest, others)?;
-    Ok(())
+    all_pass(table, visible, end, rest, others)
 }
 
 /// Checks that the values, with nodes from `first` on, agree in number and type with the places that they are passed to.
@@ -517,6 +500,5 @@ pub fn passed(
     if values.len() != kinds.len() {
         return Err(Flaw::Broken(Rule::Numbers, node));
     }
-    all_pass(table, visible, first, values, kinds)?;
-    Ok(())
+    all_pass(table, visible, first, values, kinds)
 }

@@ -4,7 +4,7 @@ use crate::flaw::Flaw;
 use std::alloc::{AllocError, AllocFailed};
 
 /// Why a check stops.
-#[derive(Debug, Drop)]
+#[derive(Drop)]
 pub enum Refusal {
     /// A request for memory was refused.
     Memory,

@@ -112,6 +112,5 @@ pub(crate) fn earliest(
     ensures { IfOk result (TypesHave (map top_of tops.now)) }
 {
     let first = held_before(alloc, types, tops, flaw)?;
-    let first = wide_before(alloc, types, tops, first)?;
-    Ok(first)
+    wide_before(alloc, types, tops, first)
 }

@@ -72,8 +72,7 @@ fn names<'a>(
         return Err(Refusal::Flawed(Flaw::Broken(rule, node)));
     }
     before.push(name)?;
-    crate::group::names(role, before, node, rest)?;
-    Ok(())
+    crate::group::names(role, before, node, rest)
 }
 
 /// Puts what these names declare at the end.
@@ -137,8 +136,7 @@ fn groups<'a>(
         return Ok(first);
     };
     let middle = group(role, types, before, entries, first, one)?;
-    let end = crate::group::groups(role, types, before, entries, middle, rest)?;
-    Ok(end)
+    crate::group::groups(role, types, before, entries, middle, rest)
 }
 
 /// What a struct or a function declares: its fields or parameters, and the number behind their nodes.

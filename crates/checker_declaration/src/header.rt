@@ -141,8 +141,7 @@ fn header<'a>(
     if number >= MOST_FUNCTIONS {
         return Err(Refusal::Flawed(Flaw::Exceeded(LimitKind::Declarations, node)));
     }
-    let entry = entry(alloc, types, first, function)?;
-    Ok(entry)
+    entry(alloc, types, first, function)
 }
 
 /// Checks the head of a function, if this is one, whose nodes have numbers from `first` on, and answers the number behind the

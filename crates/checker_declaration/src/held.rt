@@ -73,10 +73,7 @@ fn note_struct(
     ensures { OnOk result ((types : List (List ℕ)) (j t : ℕ) → slice_get found.new.items j ≡ Some t → (slice_get found.old.items j ≡ Some t) ⊎ HasStruct (fields_of (structs_in types all.now) number) t) }
 {
     match parts_at(all, number) {
-        Some(parts) => {
-            note_fields(found, seen, parts.fields.as_slice())?;
-            Ok(())
-        }
+        Some(parts) => note_fields(found, seen, parts.fields.as_slice()),
         None => Ok(()),
     }
 }
@@ -85,12 +82,7 @@ fn note_struct(
 fn unseen(alloc: Global, count: usize) -> Result<Vec<bool>, AllocError>
     ensures { IfOk result (λ seen. length seen.items ≡ count) }
 {
-    let mut seen = Vec::new(alloc);
-    for number in 0..count {
-        let _number = number;
-        seen.push(false)?;
-    }
-    Ok(seen)
+    Vec::from_elem(alloc, false, count)
 }
 
 /// Whether a struct type is found within itself, by a search through what lies in its fields.

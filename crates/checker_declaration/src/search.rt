@@ -164,12 +164,7 @@ fn kind_at<'a>(all: &[Parts<'a>], number: usize, place: usize) -> Option<Option<
 
 /// So many struct types of which nothing is known.
 fn new_marks(alloc: Global, count: usize) -> Result<Vec<Mark>, AllocError> {
-    let mut marks = Vec::new(alloc);
-    for number in 0..count {
-        let _number = number;
-        marks.push(Mark::New)?;
-    }
-    Ok(marks)
+    Vec::from_elem(alloc, Mark::New, count)
 }
 
 /// The steps of a search: one for each field, and one for the end of each struct type.

@@ -68,8 +68,7 @@ fn struct_entry<'a>(
     if number >= MOST_STRUCTS {
         return Err(Refusal::Flawed(Flaw::Exceeded(LimitKind::Declarations, node)));
     }
-    let entry = fields(alloc, types, first, node, one)?;
-    Ok(entry)
+    fields(alloc, types, first, node, one)
 }
 
 /// Checks a struct type, if this is one, whose nodes have numbers from `first` on, and answers the number behind the

@@ -90,13 +90,9 @@ pub(crate) fn arguments_agree(
     match function_at(table, number) {
         Some(function) => {
             let kinds = function.parameters.as_slice();
-            passed(table, visible, node, first, arguments, kinds)?;
-            Ok(())
+            passed(table, visible, node, first, arguments, kinds)
         }
-        None => {
-            passed(table, visible, node, first, arguments, &[])?;
-            Ok(())
-        }
+        None => passed(table, visible, node, first, arguments, &[]),
     }
 }
 

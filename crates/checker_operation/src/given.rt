@@ -66,8 +66,7 @@ pub fn fits_any<'a>(operand: Operand<'a>) -> Result<ValueType<'a>, Flaw>
     ensures none { IfOk result (λ _. (types : List (List ℕ)) → (k : Option OneType) → (flaw : OneFlaw) → ¬ (GoesHas true (given_of types operand.entry) k flaw)) }
     ensures one { IfErr result (λ flaw. (types : List (List ℕ)) → (k : Option OneType) → GoesHas true (given_of types operand.entry) k flaw) }
 {
-    let kind = default_type(operand)?;
-    Ok(kind)
+    default_type(operand)
 }
 
 /// Checks values, whose nodes have numbers from `first` on.
@@ -191,17 +190,12 @@ pub fn given_by<'a>(
     ensures one { IfErr result (Refuses (RightHas (globals_in table.now) (scope_of table.now visible.now) first (source_of source.entry))) }
 {
     match source {
-        Source::Receive(channel) => {
-            let all = receive_values(alloc, table, visible, places, first, channel)?;
-            Ok(all)
-        }
+        Source::Receive(channel) => receive_values(alloc, table, visible, places, first, channel),
         Source::Right(RightNode::Values(values)) => {
-            let all = operands(alloc, table, visible, first, values.as_slice())?;
-            Ok(all)
+            operands(alloc, table, visible, first, values.as_slice())
         }
         Source::Right(RightNode::Operation(one)) => {
-            let all = operation_values(alloc, table, visible, places, first, one)?;
-            Ok(all)
+            operation_values(alloc, table, visible, places, first, one)
         }
     }
 }

@@ -198,14 +198,8 @@ pub fn operation<'a>(
                 None => Err(Flaw::Broken(Rule::Called, called.node)),
             }
         }
-        OperationNode::Receive(from) => {
-            let made = receive(table, visible, first, from)?;
-            Ok(made)
-        }
-        OperationNode::Make(written, size) => {
-            let made = make(table, visible, first, written, size)?;
-            Ok(made)
-        }
+        OperationNode::Receive(from) => receive(table, visible, first, from),
+        OperationNode::Make(written, size) => make(table, visible, first, written, size),
         OperationNode::Length(of) | OperationNode::Capacity(of) => {
             let operand = measured(table, visible, first, of)?;
             Ok(Made {

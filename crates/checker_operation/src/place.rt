@@ -40,10 +40,7 @@ fn path<'a>(
     };
     match field_of(table, kind, field.bytes.as_slice()) {
         None => Err(Flaw::Broken(Rule::Assigned, node)),
-        Some(selected) => {
-            let kind = path(table, selected.kind, rest, node)?;
-            Ok(kind)
-        }
+        Some(selected) => path(table, selected.kind, rest, node),
     }
 }
 
@@ -141,8 +138,7 @@ pub fn places<'a>(
         return Ok(first);
     };
     place(table, visible, first, one)?;
-    let end = places(table, visible, first + 1, rest)?;
-    Ok(end)
+    places(table, visible, first + 1, rest)
 }
 
 /// The type of a place, if it is known.
@@ -174,8 +170,7 @@ pub fn place_takes<'a>(
         Ok(())
     } else {
         let kind = place_type(table, visible, node);
-        fits(table, kind, operand)?;
-        Ok(())
+        fits(table, kind, operand)
     }
 }
 
@@ -196,6 +191,5 @@ pub fn places_take<'a>(
         return Ok(());
     };
     place_takes(table, visible, place, *operand)?;
-    places_take(table, visible, rest, others)?;
-    Ok(())
+    places_take(table, visible, rest, others)
 }

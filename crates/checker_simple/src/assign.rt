@@ -30,8 +30,7 @@ fn assign_given<'a>(
     ensures one { IfErr result (λ flaw. (end : ℕ) → end ≡ given.now.end + 1 → (these : List Place) → these ≡ places_at all.now → (values : List OneGiven) → values ≡ map (given_of (types_of table.now)) given.now.values.items → AssignedHave (globals_in table.now) (scope_of table.now visible.now) these values end flaw) }
 {
     numbers_agree(given.values.len(), all.len(), given.end)?;
-    places_take(table, visible, all, given.values.as_slice())?;
-    Ok(())
+    places_take(table, visible, all, given.values.as_slice())
 }
 
 /// Checks an assignment, whose nodes have numbers from `first` on, and answers the number behind them.

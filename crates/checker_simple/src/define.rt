@@ -34,8 +34,7 @@ fn define_given<'a>(
 {
     numbers_agree(given.values.len(), names.len(), given.end)?;
     may_define(table, visible, names, given.end)?;
-    take_names(table, visible, names, given.values.as_slice())?;
-    Ok(())
+    take_names(table, visible, names, given.values.as_slice())
 }
 
 /// Checks a `:=`, whose nodes have numbers from `first` on, and answers the number behind them. What it declares is then

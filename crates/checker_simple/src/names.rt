@@ -165,10 +165,7 @@ fn own_takes<'a>(
     ensures one { IfErr result (λ flaw. (o : Option OneVariable) → o ≡ option_map (variable_of (types_of table.now)) own.entry → GoesHas (is_none o) (given_of (types_of table.now) operand.entry) (variable_kind o) flaw) }
 {
     match own {
-        Some(entry) => {
-            fits(table, Some(entry.kind), operand)?;
-            Ok(())
-        }
+        Some(entry) => fits(table, Some(entry.kind), operand),
         None => {
             fits_any(operand)?;
             Ok(())
@@ -187,8 +184,7 @@ fn name_takes<'a>(
     ensures one { IfErr result (GoesHas (is_none (own_variable (scope_of table.now visible.now) (name_of name.now))) (given_of (types_of table.now) operand.entry) (variable_kind (own_variable (scope_of table.now visible.now) (name_of name.now)))) }
 {
     let own = own_named(table, visible, name);
-    own_takes(table, own, operand)?;
-    Ok(())
+    own_takes(table, own, operand)
 }
 
 /// Checks that a value goes to a name that is new in its block, and declares it.
@@ -223,8 +219,7 @@ fn take_name<'a>(
     ensures one { IfErr result (Refuses (GoesHas (is_none (own_variable (scope_of table.now visible.old) (name_of name.now))) (given_of (types_of table.now) operand.entry) (variable_kind (own_variable (scope_of table.now visible.old) (name_of name.now))))) }
 {
     if is_declarable(table, visible, name.bytes.as_slice()) {
-        define(table, visible, name, operand)?;
-        Ok(())
+        define(table, visible, name, operand)
     } else {
         name_takes(table, visible, name, operand)?;
         Ok(())
@@ -252,6 +247,5 @@ pub(crate) fn take_names<'a>(
         return Ok(());
     };
     take_name(table, visible, name, *operand)?;
-    take_names(table, visible, rest, others)?;
-    Ok(())
+    take_names(table, visible, rest, others)
 }

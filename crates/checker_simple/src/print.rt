@@ -52,6 +52,5 @@ pub fn parts<'a>(
         return Ok(first);
     };
     let middle = part(table, visible, first, one)?;
-    let end = parts(table, visible, middle, rest)?;
-    Ok(end)
+    parts(table, visible, middle, rest)
 }

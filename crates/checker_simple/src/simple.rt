@@ -42,13 +42,11 @@ pub fn simple<'a>(
     match simple {
         SimpleNode::Define(names, right) => {
             let names = Names::All(names.as_slice());
-            let end = define(alloc, table, visible, first, names, Source::Right(right))?;
-            Ok(end)
+            define(alloc, table, visible, first, names, Source::Right(right))
         }
         SimpleNode::Assign(places, right) => {
             let places = Targets::All(places.as_slice());
-            let end = assign(alloc, table, visible, first, places, Source::Right(right))?;
-            Ok(end)
+            assign(alloc, table, visible, first, places, Source::Right(right))
         }
         SimpleNode::Call(function, arguments) => {
             let called = call(table, visible, first, function, arguments)?;
@@ -108,27 +106,25 @@ pub fn comm<'a>(
         }
         CommNode::Define(item, ok, channel) => {
             let names = Names::OneOrTwo(item, ok);
-            let end = define(
+            define(
                 alloc,
                 table,
                 visible,
                 first,
                 names,
                 Source::Receive(channel),
-            )?;
-            Ok(end)
+            )
         }
         CommNode::Assign(item, ok, channel) => {
             let places = Targets::OneOrTwo(item, ok);
-            let end = assign(
+            assign(
                 alloc,
                 table,
                 visible,
                 first,
                 places,
                 Source::Receive(channel),
-            )?;
-            Ok(end)
+            )
         }
     }
 }

@@ -39,8 +39,7 @@ fn all_fit<'a>(
         return Ok(());
     };
     fits(table, Some(kind), *operand)?;
-    all_fit(table, kind, rest)?;
-    Ok(())
+    all_fit(table, kind, rest)
 }
 
 /// Checks what so many variables of a type are given by a statement whose own node is the one behind that.
@@ -54,8 +53,7 @@ fn typed_given<'a>(
     ensures one { IfErr result (λ flaw. (end : ℕ) → end ≡ given.now.end + 1 → (values : List OneGiven) → values ≡ map (given_of (types_of table.now)) given.now.values.items → TypedHave (Some (kind_of (types_of table.now) kind.entry)) names values end flaw) }
 {
     numbers_agree(given.values.len(), names, given.end)?;
-    all_fit(table, kind, given.values.as_slice())?;
-    Ok(())
+    all_fit(table, kind, given.values.as_slice())
 }
 
 /// Checks what so many variables of a type are given, if that is anything, with nodes from `first` on, and answers the
@@ -97,8 +95,7 @@ fn declare_named<'a>(
     if is_blank(name.bytes.as_slice()) {
         return Ok(());
     }
-    declare(table, visible, kind, name)?;
-    Ok(())
+    declare(table, visible, kind, name)
 }
 
 /// Declares variables of a type.
@@ -115,8 +112,7 @@ fn declare_all<'a>(
         return Ok(());
     };
     declare_named(table, visible, kind, name)?;
-    declare_all(table, visible, kind, rest)?;
-    Ok(())
+    declare_all(table, visible, kind, rest)
 }
 
 /// Checks the names of a `var` without a type and what they are given, where its own node is the one behind that, and
@@ -134,8 +130,7 @@ fn declare_given<'a>(
 {
     numbers_agree(given.values.len(), names.len(), given.end)?;
     may_declare(table, visible, names, given.end)?;
-    take_names(table, visible, names, given.values.as_slice())?;
-    Ok(())
+    take_names(table, visible, names, given.values.as_slice())
 }
 
 /// Checks a `var` with a type, whose nodes have numbers from `first` on, and answers the number behind them. Its variables

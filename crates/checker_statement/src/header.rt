@@ -342,8 +342,7 @@ fn for_clauses<'a>(
 {
     let middle = optional_simple(alloc, table, visible, first, header.first)?;
     let behind = optional_test(table, visible, middle, header.condition)?;
-    let end = post_statement(alloc, table, visible, behind, header.post)?;
-    Ok(end)
+    post_statement(alloc, table, visible, behind, header.post)
 }
 
 /// Checks what stands between a `for` and its block, whose nodes have numbers from `first` on, as those of the whole `for`

@@ -122,13 +122,11 @@ pub fn emit<'t, 'l, 'v, 'e, 'm, 'k>(
         ExpressionNode::Parenthesized(inner) => emit(alloc, table, elements, visible, inner, code),
         ExpressionNode::Selection(whole, field) => {
             let whole = emit(alloc, table, elements, visible, whole, code)?;
-            let made = emit_field(table, elements, whole, field.bytes.as_slice(), code)?;
-            Ok(made)
+            emit_field(table, elements, whole, field.bytes.as_slice(), code)
         }
         ExpressionNode::Composite(name, values, _) => {
             let values = values.as_slice();
-            let made = emit_composite(alloc, table, elements, visible, name, values, code)?;
-            Ok(made)
+            emit_composite(alloc, table, elements, visible, name, values, code)
         }
         ExpressionNode::Unary(operator, operand) => {
             let operand = emit(alloc, table, elements, visible, operand, code)?;
@@ -217,8 +215,7 @@ fn emit_literal<'t, 'l, 'v, 'e, 'm, 'k>(
         }
         [_, ..] => {
             let fields = fields_at(table, number);
-            emit_fields(alloc, table, elements, visible, fields, values, code)?;
-            Ok(())
+            emit_fields(alloc, table, elements, visible, fields, values, code)
         }
     }
 }

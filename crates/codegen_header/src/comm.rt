@@ -84,8 +84,7 @@ fn emit_define<'a>(
     let kind = carried(table, &layout.visible, channel)?;
     drop_sent(sent.is_some(), code)?;
     let spots = define_received(alloc, table, elements, layout, kind, item, sent)?;
-    assign(alloc, spots.as_slice(), code)?;
-    Ok(())
+    assign(alloc, spots.as_slice(), code)
 }
 
 /// Where an item of this type goes, and whether it was sent.
@@ -126,8 +125,7 @@ fn emit_assign<'a>(
     let kind = carried(table, &layout.visible, channel)?;
     drop_sent(sent.is_some(), code)?;
     let spots = received_spots(alloc, table, elements, layout, kind, item, sent)?;
-    assign(alloc, spots.as_slice(), code)?;
-    Ok(())
+    assign(alloc, spots.as_slice(), code)
 }
 
 /// What was received is dropped.

@@ -84,8 +84,7 @@ pub fn declare_kept<'a>(
     ensures after { OnOk result (layout_of table.now layout.new ≡ declaring (globals_in table.now) elements.now (kind_of (types_of table.now) kind.entry) blank (layout_of table.now layout.old)) }
     ensures kept { OnOk result (Keeps layout.old.visible layout.new.visible) }
 {
-    declare(alloc, table, elements, layout, kind, hidden.name())?;
-    Ok(())
+    declare(alloc, table, elements, layout, kind, hidden.name())
 }
 
 /// Receives the next item.
@@ -116,8 +115,7 @@ pub fn emit_unused(
 ) -> Result<(), Halt>
     ensures { (scope : Scope) → OnOk result (Appends code.old.items code.new.items (drops (width (globals_in table.now) elements.now scope (kind_of (types_of table.now) kind.entry)) Skip)) }
 {
-    drop_words(words_of(table, elements, kind), code)?;
-    Ok(())
+    drop_words(words_of(table, elements, kind), code)
 }
 
 /// A value goes to its spot, and the clock ticks.

@@ -47,13 +47,11 @@ fn push_returned(
     match returned {
         ReturnNode::Nothing => Ok(()),
         ReturnNode::Operation(operation) => {
-            push_one(alloc, table, elements, visible, operation, code)?;
-            Ok(())
+            push_one(alloc, table, elements, visible, operation, code)
         }
         ReturnNode::Value(value) => {
             let kind = result_type(kind);
-            push(alloc, table, elements, visible, kind, value, code)?;
-            Ok(())
+            push(alloc, table, elements, visible, kind, value, code)
         }
     }
 }

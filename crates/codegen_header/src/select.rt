@@ -80,8 +80,7 @@ pub fn push_clauses<'t, 'l, 'y, 'c, 'm, 'a>(
         return Ok(());
     };
     push_clause(alloc, table, elements, layout, clause, code)?;
-    push_clauses(alloc, table, elements, layout, all, code)?;
-    Ok(())
+    push_clauses(alloc, table, elements, layout, all, code)
 }
 
 /// The entry of a clause whose way begins at this place.

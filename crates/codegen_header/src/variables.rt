@@ -57,8 +57,7 @@ fn push_zero_values<'t, 'l, 'n, 'm, 'a>(
         return Ok(());
     };
     push_zeros(alloc, table, elements, kind, code)?;
-    push_zero_values(alloc, table, elements, names, kind, code)?;
-    Ok(())
+    push_zero_values(alloc, table, elements, names, kind, code)
 }
 
 /// Variables with these types are declared, and are zero.
@@ -80,8 +79,7 @@ fn zero_as<'a>(
 {
     push_zero_values(alloc, table, elements, names, kind, code)?;
     let spots = define_names(alloc, table, elements, layout, names, kinds)?;
-    assign(alloc, spots.as_slice(), code)?;
-    Ok(())
+    assign(alloc, spots.as_slice(), code)
 }
 
 /// Variables of a type are declared, and take what a right side gives; where there is none they are zero.
@@ -102,14 +100,8 @@ fn emit_known<'a>(
     let same = same_types(alloc, names, kind)?;
     let kinds = same.as_slice();
     match right {
-        Some(right) => {
-            define_as(alloc, table, elements, layout, names, kinds, right, code)?;
-            Ok(())
-        }
-        None => {
-            zero_as(alloc, table, elements, layout, names, kind, kinds, code)?;
-            Ok(())
-        }
+        Some(right) => define_as(alloc, table, elements, layout, names, kinds, right, code),
+        None => zero_as(alloc, table, elements, layout, names, kind, kinds, code),
     }
 }
 
@@ -134,8 +126,7 @@ pub fn emit_typed<'a>(
         return Err(Halt::Flawed);
     };
     let right = right.as_ref();
-    emit_known(alloc, table, elements, layout, names, kind, right, code)?;
-    Ok(())
+    emit_known(alloc, table, elements, layout, names, kind, right, code)
 }
 
 /// Variables are declared, and take what a right side gives, with its types.
@@ -156,6 +147,5 @@ pub fn emit_untyped<'a>(
 {
     let given = right_kinds(alloc, table, &layout.visible, names.len(), right)?;
     let kinds = given.as_slice();
-    define_as(alloc, table, elements, layout, names, kinds, right, code)?;
-    Ok(())
+    define_as(alloc, table, elements, layout, names, kinds, right, code)
 }

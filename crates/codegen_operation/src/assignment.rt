@@ -40,8 +40,7 @@ fn store_words<'p, 'c>(
         return Err(Halt::Memory);
     };
     store_words(next, words - 1, places, code)?;
-    store_word(place, places, code)?;
-    Ok(())
+    store_word(place, places, code)
 }
 
 /// The words of a value go to its spot, the last one first.
@@ -66,8 +65,7 @@ fn store_spots<'s, 'p, 'c>(
         return Ok(());
     };
     store_spots(spots, places, code)?;
-    store_spot(*spot, places, code)?;
-    Ok(())
+    store_spot(*spot, places, code)
 }
 
 /// Values go to their spots, as if from left to right.
@@ -76,14 +74,10 @@ fn store_each(alloc: Global, spots: &[Spot], code: &mut Vec<Instr>) -> Result<()
 {
     match spots {
         [] => Ok(()),
-        [spot] => {
-            store(*spot, code)?;
-            Ok(())
-        }
+        [spot] => { store(*spot, code) }
         [_, _, ..] => {
             let mut places = HashSet::new(alloc);
-            store_spots(spots, &mut places, code)?;
-            Ok(())
+            store_spots(spots, &mut places, code)
         }
     }
 }

@@ -182,13 +182,7 @@ pub fn right_kinds<'a>(
     ensures { IfOk result (λ kinds. (elements : List Element) → map (kind_of (types_of table.now)) kinds.items ≡ right_types (globals_in table.now) elements (scope_of table.now visible.now) count (right_of right.now)) }
 {
     match right {
-        RightNode::Operation(operation) => {
-            let kinds = operation_kinds(alloc, table, visible, count, operation)?;
-            Ok(kinds)
-        }
-        RightNode::Values(values) => {
-            let kinds = own_kinds(alloc, table, visible, values.as_slice())?;
-            Ok(kinds)
-        }
+        RightNode::Operation(operation) => operation_kinds(alloc, table, visible, count, operation),
+        RightNode::Values(values) => own_kinds(alloc, table, visible, values.as_slice()),
     }
 }

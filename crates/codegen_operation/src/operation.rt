@@ -139,10 +139,7 @@ fn push_size(
     ensures { OnOk result (Puts code.old.items code.new.items (pushes_size (globals_in table.now) elements.now (scope_of table.now visible.now) (option_map (λ (e : _). expression_of e.now) size.entry))) }
 {
     match size {
-        Some(size) => {
-            push(alloc, table, elements, visible, ValueType::Int, size, code)?;
-            Ok(())
-        }
+        Some(size) => push(alloc, table, elements, visible, ValueType::Int, size, code),
         None => {
             code.push(Instr::Int(0))?;
             Ok(())
@@ -225,8 +222,7 @@ pub fn push_one(
     ensures { OnOk result (Puts code.old.items code.new.items (pushes_one (globals_in table.now) elements.now (scope_of table.now visible.now) (operation_of operation.now))) }
 {
     push_operation(alloc, table, elements, visible, operation, code)?;
-    drop_sent(operation, code)?;
-    Ok(())
+    drop_sent(operation, code)
 }
 
 /// Behind a receive, whether the item was sent is dropped.
@@ -273,8 +269,7 @@ pub fn push_right<'t>(
                 kinds,
                 values.as_slice(),
                 code,
-            )?;
-            Ok(())
+            )
         }
     }
 }

@@ -67,8 +67,7 @@ pub fn selected<'a>(
         place: entry.place,
         kind: entry.kind,
     };
-    let part = follow(table, at, place.fields.as_slice())?;
-    Ok(part)
+    follow(table, at, place.fields.as_slice())
 }
 
 /// The locals of a part of the frame.
@@ -97,8 +96,7 @@ pub fn place_spot<'a>(
         return Ok(Spot::Dropped(words_of(table, elements, kind)));
     }
     let part = selected(table, visible, place)?;
-    let spot = spot_of(table, elements, part)?;
-    Ok(spot)
+    spot_of(table, elements, part)
 }
 
 /// Where values of these types go that places take.

@@ -94,6 +94,5 @@ pub fn push_all<'t, 'l, 'v, 'k, 'e, 'm, 'a>(
         return Ok(());
     };
     push(alloc, table, elements, visible, *kind, expression, code)?;
-    push_all(alloc, table, elements, visible, kinds, expressions, code)?;
-    Ok(())
+    push_all(alloc, table, elements, visible, kinds, expressions, code)
 }

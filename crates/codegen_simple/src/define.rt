@@ -56,8 +56,7 @@ pub fn name_spot<'a>(
         let place = number(layout.visible.words)?;
         return Ok(Spot::Local(place, words_of(table, elements, kind)));
     }
-    let spot = own_spot(table, elements, &layout.visible, name, kind)?;
-    Ok(spot)
+    own_spot(table, elements, &layout.visible, name, kind)
 }
 
 /// Declares the names that are new in their block, and not `_`, and answers where values of these types go that the names

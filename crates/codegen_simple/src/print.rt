@@ -129,6 +129,5 @@ pub fn push_parts<'t, 'l, 'v, 'p, 'm, 'k>(
         return Ok(());
     };
     push_part(alloc, table, elements, visible, part, code)?;
-    push_parts(alloc, table, elements, visible, parts, code)?;
-    Ok(())
+    push_parts(alloc, table, elements, visible, parts, code)
 }

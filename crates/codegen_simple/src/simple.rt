@@ -69,8 +69,7 @@ fn call(
 {
     let function = push_arguments(alloc, table, elements, visible, name, arguments, code)?;
     code.push(Instr::Call(function))?;
-    drop_result(table, elements, function, code)?;
-    Ok(())
+    drop_result(table, elements, function, code)
 }
 
 /// A close of a channel.
@@ -162,8 +161,7 @@ fn set<'a>(
     let kinds = taken.as_slice();
     push_right(alloc, table, elements, visible, kinds, count, right, code)?;
     let spots = place_spots(alloc, table, elements, visible, places, given)?;
-    assign(alloc, spots.as_slice(), code)?;
-    Ok(())
+    assign(alloc, spots.as_slice(), code)
 }
 
 /// Names, those that are new in their block declared anew with these types, take what a right side gives.
@@ -189,8 +187,7 @@ pub fn define_as<'a>(
     let visible = &layout.visible;
     push_right(alloc, table, elements, visible, taken, count, right, code)?;
     let spots = define_names(alloc, table, elements, layout, names, kinds)?;
-    assign(alloc, spots.as_slice(), code)?;
-    Ok(())
+    assign(alloc, spots.as_slice(), code)
 }
 
 /// Names, those that are new in their block declared anew, take what a right side gives.
@@ -209,8 +206,7 @@ fn define<'a>(
 {
     let given = right_kinds(alloc, table, &layout.visible, names.len(), right)?;
     let kinds = given.as_slice();
-    define_as(alloc, table, elements, layout, names, kinds, right, code)?;
-    Ok(())
+    define_as(alloc, table, elements, layout, names, kinds, right, code)
 }
 
 /// Emits an assignment.
@@ -312,9 +308,6 @@ pub fn emit_simple<'a>(
             define(alloc, table, elements, layout, names, right, code)?;
             Ok(())
         }
-        _ => {
-            emit_plain(alloc, table, elements, layout, number, simple, code)?;
-            Ok(())
-        }
+        _ => emit_plain(alloc, table, elements, layout, number, simple, code),
     }
 }

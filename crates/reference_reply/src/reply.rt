@@ -22,7 +22,7 @@ use word::request::Reply;
 use word::value::Word;
 
 /// What a return comes to.
-#[derive(Clone, Copy, Debug, PartialEq, Eq)]
+#[derive(Clone, Copy)]
 pub enum Returned {
     /// Nobody waits for it: the goroutine ends.
     Ends,

@@ -70,8 +70,7 @@ fn keep<'t>(
 ) -> Result<(), AllocError>
     ensures { OnOk result (blocks_of (types_of program.now.table) scope.new ≡ keeps (file_of program.now.file.now) (blocks_of (types_of program.now.table) scope.old) [] [] (kind_of (types_of program.now.table) kind.entry) c) }
 {
-    keep_in(alloc, &program.table, scope, kind, c)?;
-    Ok(())
+    keep_in(alloc, &program.table, scope, kind, c)
 }
 
 /// Where the items of a loop over a channel go.
@@ -138,8 +137,7 @@ fn repeats<'t>(
         post,
         body,
     };
-    top.push(Task::Head(Loop::Repeating(Box::new(alloc, repeat)?)))?;
-    Ok(())
+    top.push(Task::Head(Loop::Repeating(Box::new(alloc, repeat)?)))
 }
 
 /// A for.
@@ -202,8 +200,7 @@ fn turn<'t>(
 {
     top.scope.enter(alloc)?;
     top.push(Task::Again(at))?;
-    top.push_all(alloc, body)?;
-    Ok(())
+    top.push_all(alloc, body)
 }
 
 /// A loop over a channel at its head: it asks for the next item.
@@ -264,21 +261,14 @@ pub fn again<'t>(
     let _callers = callers;
     top.scope.leave();
     match at {
-        Loop::Ranging(range) => {
-            top.push(Task::Turn(Loop::Ranging(range)))?;
-            Ok(())
-        }
+        Loop::Ranging(range) => top.push(Task::Turn(Loop::Ranging(range))),
         Loop::Repeating(repeat) => match repeat.post {
-            None => {
-                top.push(Task::Turn(Loop::Repeating(repeat)))?;
-                Ok(())
-            }
+            None => top.push(Task::Turn(Loop::Repeating(repeat))),
             Some(post) => {
                 top.scope.enter(alloc)?;
                 top.push(Task::Turn(Loop::Repeating(repeat)))?;
                 top.push(Task::EndBlock)?;
-                top.push(Task::Simply(Box::new(alloc, post)?))?;
-                Ok(())
+                top.push(Task::Simply(Box::new(alloc, post)?))
             }
         },
     }

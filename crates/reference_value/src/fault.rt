@@ -4,7 +4,7 @@ use std::alloc::{AllocError, AllocFailed};
 use word::panic::Panic;
 
 /// Why a step stops.
-#[derive(Debug, Drop)]
+#[derive(Drop)]
 pub enum Stop {
     /// A request for memory was refused.
     Memory,

@@ -261,6 +261,5 @@ pub fn store<'a, 's, 't>(
         return Ok(());
     };
     store_one(alloc, table, scope, *first, words.as_slice())?;
-    store(alloc, table, scope, destinations, values)?;
-    Ok(())
+    store(alloc, table, scope, destinations, values)
 }

@@ -134,8 +134,7 @@ fn put_in(
         }
         newer.push(variable)?;
     }
-    put_back(variables, newer)?;
-    Ok(())
+    put_back(variables, newer)
 }
 
 /// Gives the variable of this name in the innermost block that has one these words from a place on.
@@ -225,7 +224,6 @@ impl<'t> Scope<'t> {
     ) -> Result<(), AllocError>
         ensures { (types : List (List ℕ)) → OnOk result (blocks_of types self.new ≡ assign name.now from words.now (blocks_of types self.old)) }
     {
-        put(alloc, &mut self.blocks, name, from, words)?;
-        Ok(())
+        put(alloc, &mut self.blocks, name, from, words)
     }
 }

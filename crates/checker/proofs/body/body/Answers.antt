@@ -1,5 +1,5 @@
 use Rattle.std.proofs.Common.{◌≡◌, ℕ, ◌+◌, ◌⊎◌, inl, map, refl, ap}
-use Rattle.std.proofs.lemmas.Result.{err_from_is_err_and}
+use Rattle.std.proofs.lemmas.Result.{IfOk-weaker, IfErr-weaker}
 use Rattle.syntax.specs.Measures.{statements_size}
 use Rattle.syntax.specs.View.{body_of, function_of}
 use Rattle.type_table.specs.Views.{field_in, yield_of as yield_in}
@@ -11,9 +11,8 @@ use Rattle.checker_declaration.proofs.Declared.{refuses_more}
 use Rattle.checker.proofs.Bodies.{inside, body_has, body_in}
 use Rattle.checker.proofs.body.body.Goals as goal
 
-pub returns-in_err-end-clause-one : goal.returns-in_err-end-clause-one
-returns-in_err-end-clause-one c =
-    let p = err_from_is_err_and c.from_residual-in_err-end.result c.from_residual-in_err-end.ensures.1 in
+pub returns-clause-one : goal.returns-clause-one
+returns-clause-one c =
     let types = types_of c.args.table.now in
     let globals = globals_in c.args.table.now in
     let function = function_of c.args.function.now in
@@ -25,8 +24,8 @@ returns-in_err-end-clause-one c =
     let listed : map (field_in types) c.in_ok-head.head.parameters.items ≡ fields_declared types function.parameters = rw c.types.ensures at c.in_ok-head.ensures.parameters in
     let visible : scope ≡ parameters globals function = rw (c.new-visible.ensures.scope c.args.table.now, c.as_slice.ensures.value, listed) at c.in_ok-declare_all.ensures in
     let end : ℕ = middle + statements_size body + 2 in
-    rw (p.1, p.2) (refuses_more (λ flaw. (e : ℕ) → e ≡ end → BodyIn (inside globals y) scope middle body e flaw) (λ flaw. BodyHas globals c.args.first function flaw ⊎ HeadHas types c.args.first function flaw) c.in_err-end.field-0.0
-    (λ flaw has. inl (body_has globals function c.args.first middle y scope body yields visible c.in_ok-head.ensures.end (ap body_of c.as_slice-2.ensures.value) flaw (has end refl))) c.in_err-end.ensures.one)
+    IfErr-weaker c.body_in.result _ _ (λ refusal has_in. refuses_more (λ flaw. (e : ℕ) → e ≡ end → BodyIn (inside globals y) scope middle body e flaw) (λ flaw. BodyHas globals c.args.first function flaw ⊎ HeadHas types c.args.first function flaw) refusal
+    (λ flaw has. inl (body_has globals function c.args.first middle y scope body yields visible c.in_ok-head.ensures.end (ap body_of c.as_slice-2.ensures.value) flaw (has end refl))) has_in) c.body_in.ensures.one
 
 pub returns-clause-none : goal.returns-clause-none
 returns-clause-none c =
@@ -40,4 +39,4 @@ returns-clause-none c =
     let yields : y ≡ yield_of types function.result = rw c.types.ensures at c.in_ok-head.ensures.kind in
     let listed : map (field_in types) c.in_ok-head.head.parameters.items ≡ fields_declared types function.parameters = rw c.types.ensures at c.in_ok-head.ensures.parameters in
     let visible : scope ≡ parameters globals function = rw (c.new-visible.ensures.scope c.args.table.now, c.as_slice.ensures.value, listed) at c.in_ok-declare_all.ensures in
-    λ flaw has. c.in_ok-end.ensures.none (middle + statements_size body + 2) refl flaw (body_in globals function c.args.first middle y scope body yields visible c.in_ok-head.ensures.end (ap body_of c.as_slice-2.ensures.value) flaw has)
+    IfOk-weaker c.body_in.result _ _ (λ _ good flaw has. good (middle + statements_size body + 2) refl flaw (body_in globals function c.args.first middle y scope body yields visible c.in_ok-head.ensures.end (ap body_of c.as_slice-2.ensures.value) flaw has)) c.body_in.ensures.none

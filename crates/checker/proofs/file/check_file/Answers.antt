@@ -1,5 +1,5 @@
 use Rattle.std.proofs.Common.{rules, ◌≡◌, ◌⊎◌, true, map, ap}
-use Rattle.std.proofs.lemmas.Result.{err_from_is_err_and}
+use Rattle.std.proofs.lemmas.Result.{IfOk-weaker, IfErr-weaker}
 use Rattle.syntax.specs.View.{top_of, file_of}
 use Rattle.type_table.specs.Visible.{globals_in}
 use Rattle.checker.specs.Files.{BodiesHave, has_main, FileHas}
@@ -9,15 +9,14 @@ use Rattle.checker_declaration.proofs.Declared.{refuses_more}
 use Rattle.checker.proofs.Bodies.{bodies_have, file_fine}
 use Rattle.checker.proofs.file.check_file.Goals as goal
 
-pub returns-in_err-bodies-clause-one : goal.returns-in_err-bodies-clause-one
-returns-in_err-bodies-clause-one c =
-    let p = err_from_is_err_and c.from_residual-in_err-bodies.result c.from_residual-in_err-bodies.ensures.1 in
+pub returns-clause-one : goal.returns-clause-one
+returns-clause-one c =
     let globals = globals_in c.in_ok-table.table in
     let file = file_of c.args.file.now in
     let same : globals ≡ globals_of file.tops = rw c.as_slice.ensures.value at c.in_ok-table.ensures.globals in
     let tops = map top_of c.as_slice-3.result.now in
-    rw (p.1, p.2) (refuses_more (λ flaw. BodiesHave globals 0 tops flaw ⊎ HeadsHave globals.types 0 tops flaw) (FileHas file) c.in_err-bodies.field-0.0
-    (bodies_have file globals tops same (ap (map top_of) c.as_slice-3.ensures.value)) c.in_err-bodies.ensures.one)
+    IfErr-weaker c.bodies.result _ _ (λ refusal has. refuses_more (λ flaw. BodiesHave globals 0 tops flaw ⊎ HeadsHave globals.types 0 tops flaw) (FileHas file) refusal
+    (bodies_have file globals tops same (ap (map top_of) c.as_slice-3.ensures.value)) has) c.bodies.ensures.one
 
 pub returns-clause-none : goal.returns-clause-none
 returns-clause-none c =
@@ -27,4 +26,4 @@ returns-clause-none c =
     let main : has_main globals.functions ≡ true = search rules in
     let declared = ap (map top_of) c.as_slice.ensures.value in
     let bodies = ap (map top_of) c.as_slice-3.ensures.value in
-    file_fine file globals (map top_of c.as_slice.result.now) (map top_of c.as_slice-3.result.now) same declared bodies main c.in_ok-table.ensures.none c.in_ok-bodies.ensures.none
+    IfOk-weaker c.bodies.result _ _ (λ _ good. file_fine file globals (map top_of c.as_slice.result.now) (map top_of c.as_slice-3.result.now) same declared bodies main c.in_ok-table.ensures.none good) c.bodies.ensures.none

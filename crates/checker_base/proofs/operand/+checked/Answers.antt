@@ -1,6 +1,6 @@
 use Rattle.std.proofs.Common.{rules, arith, ◌≡◌, ◌∷◌, ◌+◌, suc, inl, inr, Some, drop, map, slice_get, length, option_copied, drop-cons}
 use Rattle.std.proofs.lemmas.List.{length-map}
-use Rattle.std.proofs.lemmas.Result.{err_from_is_err_and}
+use Rattle.std.proofs.lemmas.Result.{err_from_is_err_and, IfOk-weaker}
 use Rattle.syntax.specs.declared.node.ExpressionNode.TheFolds.{the_lemmas}
 use Rattle.syntax.specs.Measures.{expression_size, expressions_size}
 use Rattle.syntax.specs.Tree.{Composite, expressions}
@@ -10,26 +10,24 @@ use Rattle.type_table.specs.Visible.{types_of, globals_in, scope_of}
 use Rattle.checker_base.specs.Worths.{literal_struct, worth}
 use Rattle.checker_base.specs.Views.{kind_in}
 use Rattle.checker_base.specs.Expressions.{ExpressionsHave, ValuesFail, field_kinds, nodes_of}
-use Rattle.checker_base.proofs.Literals.{next_field, found_next, passed_next, fits_next, fields_agree, composite_has, composite_in}
+use Rattle.checker_base.proofs.Literals.{next_field, found_next, passed_next, fits_next, fields_agree, composite_has, composite_in, literal_free, literal_flawed}
 use Rattle.checker_base.proofs.operand.+checked.Goals as goal
 
-pub checked-returns-in_err-made-in-Composite-clause-one : goal.checked-returns-in_err-made-in-Composite-clause-one
-checked-returns-in_err-made-in-Composite-clause-one t c =
-    let p = err_from_is_err_and c.from_residual-in_err-made-in-Composite.result c.from_residual-in_err-made-in-Composite.ensures.1 in
-    let is : expression_of c.args.expression.now ≡ Composite (name_of c.in-Composite.name) (expressions (map expression_of c.in-Composite.values.items)) c.in-Composite.field-2 = search (rules, the_lemmas) in
-    let h = rw c.as_slice-in-Composite.ensures.value at (c.in_err-made-in-Composite.ensures.one c.in-Composite.field-2) in
-    rw (p.1, p.2, is) h
+pub checked-returns-in-Composite-clause-worth : goal.checked-returns-in-Composite-clause-worth
+checked-returns-in-Composite-clause-worth t c =
+    IfOk-weaker c.composite.result _ _ (λ o every. let h = every c.in-Composite.field-2 in search (rules, the_lemmas, h)) c.composite.ensures.worth
 
-pub checked-returns-in_ok-made-in-Composite-clause-worth : goal.checked-returns-in_ok-made-in-Composite-clause-worth
-checked-returns-in_ok-made-in-Composite-clause-worth t c =
-    let h = c.in_ok-made-in-Composite.ensures.worth c.in-Composite.field-2 in
-    search (rules, the_lemmas, h)
-
-pub checked-returns-in_ok-made-in-Composite-clause-none : goal.checked-returns-in_ok-made-in-Composite-clause-none
-checked-returns-in_ok-made-in-Composite-clause-none t c =
+pub checked-returns-in-Composite-clause-none : goal.checked-returns-in-Composite-clause-none
+checked-returns-in-Composite-clause-none t c =
     let is : expression_of c.args.expression.now ≡ Composite (name_of c.in-Composite.name) (expressions (map expression_of c.in-Composite.values.items)) c.in-Composite.field-2 = search (rules, the_lemmas) in
-    let h = rw c.as_slice-in-Composite.ensures.value at (c.in_ok-made-in-Composite.ensures.none c.in-Composite.field-2) in
-    rw is h
+    literal_free c.composite.result (globals_in c.args.table.now) (scope_of c.args.table.now c.args.visible.now) c.args.first (name_of c.in-Composite.name) (expressions (map expression_of c.in-Composite.values.items)) c.in-Composite.field-2
+    (expression_of c.args.expression.now) is (rw c.as_slice-in-Composite.ensures.value at c.composite.ensures.none)
+
+pub checked-returns-in-Composite-clause-one : goal.checked-returns-in-Composite-clause-one
+checked-returns-in-Composite-clause-one t c =
+    let is : expression_of c.args.expression.now ≡ Composite (name_of c.in-Composite.name) (expressions (map expression_of c.in-Composite.values.items)) c.in-Composite.field-2 = search (rules, the_lemmas) in
+    literal_flawed c.composite.result (globals_in c.args.table.now) (scope_of c.args.table.now c.args.visible.now) c.args.first (name_of c.in-Composite.name) (expressions (map expression_of c.in-Composite.values.items)) c.in-Composite.field-2
+    (expression_of c.args.expression.now) is (rw c.as_slice-in-Composite.ensures.value at c.composite.ensures.one)
 
 pub composite-returns-in_err-node-clause-one : goal.composite-returns-in_err-node-clause-one
 composite-returns-in_err-node-clause-one t c =

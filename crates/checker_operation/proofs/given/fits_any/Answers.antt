@@ -1,14 +1,12 @@
-use Rattle.std.proofs.Common.{rules, ℕ, refl, List, Option}
-use Rattle.type_table.specs.Types.{ValueType}
+use Rattle.std.proofs.Common.{refl}
+use Rattle.std.proofs.lemmas.Result.{IfOk-weaker, IfErr-weaker}
 use Rattle.checker_operation.specs.Givens.{given_of}
 use Rattle.checker_operation.proofs.given.fits_any.Goals as goal
 
-pub returns-in_err-kind-clause-one : goal.returns-in_err-kind-clause-one
-returns-in_err-kind-clause-one c =
-    let h = λ (types : List (List ℕ)) (k : Option ValueType). let g = given_of types c.args.operand in c.in_err-kind.ensures.one types g.worth refl g.nodes refl refl in
-    search (rules, h)
+pub returns-clause-one : goal.returns-clause-one
+returns-clause-one c =
+    IfErr-weaker c.default_type.result _ _ (λ flaw has types k. let g = given_of types c.args.operand in has types g.worth refl g.nodes refl refl) c.default_type.ensures.one
 
 pub returns-clause-none : goal.returns-clause-none
-returns-clause-none c = λ types k flaw h.
-    let g = given_of types c.args.operand in
-    c.in_ok-kind.ensures.none types g.worth refl g.nodes refl refl flaw h
+returns-clause-none c =
+    IfOk-weaker c.default_type.result _ _ (λ _ good types k. let g = given_of types c.args.operand in good types g.worth refl g.nodes refl refl) c.default_type.ensures.none

@@ -1,4 +1,5 @@
 use Rattle.std.proofs.Common.{rules, ◌≡◌, refl, ap, ◌∙◌, Option, Some, None, option_map}
+use Rattle.std.proofs.lemmas.Result.{IfOk-weaker, IfErr-weaker}
 use Rattle.type_table.specs.Scopes.{Variable}
 use Rattle.type_table.specs.Views.{kind_of}
 use Rattle.type_table.specs.Visible.{types_of, variable_of}
@@ -6,20 +7,19 @@ use Rattle.checker_operation.specs.Givens.{given_of}
 use Rattle.checker_simple.proofs.Goes.{own-known, known-own, own-free, free-own}
 use Rattle.checker_simple.proofs.names.own_takes.Goals as goal
 
-pub returns-in_err-fits-in-Some-clause-one : goal.returns-in_err-fits-in-Some-clause-one
-returns-in_err-fits-in-Some-clause-one c =
+pub returns-in-Some-clause-one : goal.returns-in-Some-clause-one
+returns-in-Some-clause-one c =
     let types = types_of c.args.table.now in
     let entry = c.in-Some.entry in
     let k = Some (kind_of types entry.kind) in
-    let h = λ (o : Option Variable) (e : o ≡ option_map (variable_of types) c.args.own). own-known o (variable_of types entry) (e ∙ ap (option_map (variable_of types)) c.in-Some.is) k refl (given_of types c.args.operand) c.in_err-fits-in-Some.field-0.0 (c.in_err-fits-in-Some.ensures.one k refl) in
-    search (rules, h)
+    IfErr-weaker c.fits.result _ _ (λ flaw has o e. own-known o (variable_of types entry) (e ∙ ap (option_map (variable_of types)) c.in-Some.is) k refl (given_of types c.args.operand) flaw (has k refl)) c.fits.ensures.one
 
-pub returns-in_ok-fits-in-Some-clause-none : goal.returns-in_ok-fits-in-Some-clause-none
-returns-in_ok-fits-in-Some-clause-none c = λ o e flaw h.
+pub returns-in-Some-clause-none : goal.returns-in-Some-clause-none
+returns-in-Some-clause-none c =
     let types = types_of c.args.table.now in
     let entry = c.in-Some.entry in
     let k = Some (kind_of types entry.kind) in
-    c.in_ok-fits-in-Some.ensures.none k refl flaw (known-own o (variable_of types entry) (e ∙ ap (option_map (variable_of types)) c.in-Some.is) k refl (given_of types c.args.operand) flaw h)
+    IfOk-weaker c.fits.result _ _ (λ _ good o e flaw h. good k refl flaw (known-own o (variable_of types entry) (e ∙ ap (option_map (variable_of types)) c.in-Some.is) k refl (given_of types c.args.operand) flaw h)) c.fits.ensures.none
 
 pub returns-in_err-fits_any-in-None-clause-one : goal.returns-in_err-fits_any-in-None-clause-one
 returns-in_err-fits_any-in-None-clause-one c =

@@ -1,4 +1,5 @@
-use Rattle.std.proofs.Common.{rules, refl, ap, inl, inr, map, Some}
+use Rattle.std.proofs.Common.{rules, refl, ap, map, Some}
+use Rattle.std.proofs.lemmas.Result.{IfOk-weaker}
 use Rattle.type_table.specs.Views.{kind_of}
 use Rattle.type_table.specs.Visible.{types_of}
 use Rattle.checker_operation.specs.Givens.{given_of}
@@ -6,11 +7,11 @@ use Rattle.checker_simple.proofs.Goes.{all-fail, fail-one}
 use Rattle.checker_simple.proofs.variables.+all_fit.Goals as goal
 
 pub returns-clause-none : goal.returns-clause-none
-returns-clause-none t c = λ flaw.
+returns-clause-none t c =
     let types = types_of c.args.table.now in
     let k = Some (kind_of types c.args.kind) in
-    all-fail k (given_of types c.in-Some.operand.now) (map (given_of types) c.in-Some.rest.now) (map (given_of types) c.args.values.now) flaw
-    (ap (map (given_of types)) c.in-Some.ensures.cases.0) (c.in_ok-fits.ensures.none k refl flaw) (c.in_ok-all_fit.ensures.none flaw)
+    IfOk-weaker c.all_fit.result _ _ (λ _ rest flaw. all-fail k (given_of types c.in-Some.operand.now) (map (given_of types) c.in-Some.rest.now) (map (given_of types) c.args.values.now) flaw
+    (ap (map (given_of types)) c.in-Some.ensures.cases.0) (c.in_ok-fits.ensures.none k refl flaw) (rest flaw)) c.all_fit.ensures.none
 
 pub returns-in_err-fits-clause-one : goal.returns-in_err-fits-clause-one
 returns-in_err-fits-clause-one t c =

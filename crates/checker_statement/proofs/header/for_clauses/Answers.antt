@@ -1,13 +1,14 @@
 use Rattle.std.proofs.Common.{option_map}
+use Rattle.std.proofs.lemmas.Result.{IfOk-weaker}
 use Rattle.syntax.specs.View.{expression_of, simple_of}
 use Rattle.type_table.specs.Visible.{globals_in, scope_of}
 use Rattle.checker_statement.proofs.Headers.{clauses_free}
 use Rattle.checker_statement.proofs.header.for_clauses.Goals as goal
 
 pub returns-clause-none : goal.returns-clause-none
-returns-clause-none c = λ flaw has.
-    clauses_free (globals_in c.args.table.now) (scope_of c.args.table.now c.args.visible.now) (scope_of c.args.table.now c.optional_simple.new.visible)
+returns-clause-none c =
+    IfOk-weaker c.post_statement.result _ _ (λ _ post flaw has. clauses_free (globals_in c.args.table.now) (scope_of c.args.table.now c.args.visible.now) (scope_of c.args.table.now c.optional_simple.new.visible)
     c.args.first c.in_ok-middle.middle c.in_ok-behind.behind
     (option_map simple_of c.args.header.first.now) (option_map expression_of c.args.header.condition.now) (option_map simple_of c.args.header.post.now) flaw
     c.in_ok-middle.ensures.after c.in_ok-middle.ensures.end c.in_ok-behind.ensures.end
-    (c.in_ok-middle.ensures.none flaw) (c.in_ok-behind.ensures.none flaw) (c.in_ok-end.ensures.none flaw) has
+    (c.in_ok-middle.ensures.none flaw) (c.in_ok-behind.ensures.none flaw) (post flaw) has) c.post_statement.ensures.none

@@ -1,4 +1,5 @@
 use Rattle.std.proofs.Common.{rules, arith, ◌≡◌, ◌+◌, ◌∙◌, ap, length, slice_set}
+use Rattle.std.proofs.lemmas.Result.{IfOk-weaker, on_ok_weaker}
 use Rattle.bytecode.specs.declared.instr.Instr.TheVariants as instrs
 use Rattle.syntax.specs.declared.node.ExpressionNode.TheFolds.{the_lemmas}
 use Rattle.syntax.specs.Tree.{Unary}
@@ -54,15 +55,13 @@ emit_or-returns-clause-emitted t c =
     c.in_ok-a.ensures.worth c.in_ok-b.ensures.worth c.in_ok-made.ensures.worth c.in_ok-a.ensures.emitted c.in_ok-push.ensures.items next c.in_ok-push-2.ensures.items c.in_ok-push-3.ensures.items
     c.in_ok-b.ensures.emitted to over
 
-pub emit-returns-in_ok-made-in-Composite-clause-worth : goal.emit-returns-in_ok-made-in-Composite-clause-worth
-emit-returns-in_ok-made-in-Composite-clause-worth t c =
-    let h = c.in_ok-made-in-Composite.ensures.worth c.in-Composite.field-2 in
-    search (rules, the_lemmas, h)
+pub emit-returns-in-Composite-clause-worth : goal.emit-returns-in-Composite-clause-worth
+emit-returns-in-Composite-clause-worth t c =
+    IfOk-weaker c.emit_composite.result _ _ (λ w every. let h = every c.in-Composite.field-2 in search (rules, the_lemmas, h)) c.emit_composite.ensures.worth
 
-pub emit-returns-in_ok-made-in-Composite-clause-emitted : goal.emit-returns-in_ok-made-in-Composite-clause-emitted
-emit-returns-in_ok-made-in-Composite-clause-emitted t c =
-    let h = c.in_ok-made-in-Composite.ensures.emitted c.in-Composite.field-2 in
-    search (rules, the_lemmas, h)
+pub emit-returns-in-Composite-clause-emitted : goal.emit-returns-in-Composite-clause-emitted
+emit-returns-in-Composite-clause-emitted t c =
+    IfOk-weaker c.emit_composite.result _ _ (λ w every. let h = every c.in-Composite.field-2 in search (rules, the_lemmas, h)) c.emit_composite.ensures.emitted
 
 pub emit-returns-in_ok-made-in-Unary-clause-emitted : goal.emit-returns-in_ok-made-in-Unary-clause-emitted
 emit-returns-in_ok-made-in-Unary-clause-emitted t c =
@@ -79,9 +78,8 @@ pub emit_literal-returns-in_ok-push_zeros-in-empty : goal.emit_literal-returns-i
 emit_literal-returns-in_ok-push_zeros-in-empty t c =
     literal_none expression_of c.args.values.now (globals_in c.args.table.now) c.args.elements.now (scope_of c.args.table.now c.args.visible.now) c.args.number c.args.code.now.items c.push_zeros.new.code.items (omega (arith, c.in-empty.len_below)) c.in_ok-push_zeros-in-empty.ensures
 
-pub emit_literal-returns-in_ok-emit_fields-in-len1-up : goal.emit_literal-returns-in_ok-emit_fields-in-len1-up
-emit_literal-returns-in_ok-emit_fields-in-len1-up t c =
+pub emit_literal-returns-in-len1-up : goal.emit_literal-returns-in-len1-up
+emit_literal-returns-in-len1-up t c =
     let globals = globals_in c.args.table.now in
     let scope = scope_of c.args.table.now c.args.visible.now in
-    let put = rw c.fields_at-fields.ensures at c.in_ok-emit_fields-in-len1-up.ensures in
-    literal_some expression_of c.args.values.now globals c.args.elements.now scope c.args.number c.args.code.now.items c.emit_fields.new.code.items (omega (arith, c.in-len1-up.len_at_least)) put
+    on_ok_weaker c.emit_fields.result (λ put. literal_some expression_of c.args.values.now globals c.args.elements.now scope c.args.number c.args.code.now.items c.emit_fields.new.code.items (omega (arith, c.in-len1-up.len_at_least)) (rw c.fields_at-fields.ensures at put)) c.emit_fields.ensures

@@ -1,4 +1,5 @@
 use Rattle.std.proofs.Common.{rules, ◌≡◌, ◌∷◌, map, sym, subst}
+use Rattle.std.proofs.lemmas.Result.{on_ok_weaker}
 use Rattle.syntax.specs.View.{clause_of, clauses}
 use Rattle.type_table.specs.Visible.{globals_in}
 use Rattle.codegen_base.specs.Generated.{pushes_clauses}
@@ -14,5 +15,5 @@ returns t c = λ yields.
     let layout = layout_of c.args.table.now c.args.layout.now in
     let one = clause_of c.in-Some.clause.now in
     let is : c.args.all.now ≡ c.in-Some.clause.now ∷ c.in-Some.all.now = search rules in
-    subst (λ l. Puts c.args.code.now.items c.push_clauses.new.code.items (pushes_clauses globals elements yields layout (clauses (map clause_of l)))) (sym is)
-    (puts_clause globals elements yields layout one.comm one.body (clauses (map clause_of c.in-Some.all.now)) c.args.code.now.items c.push_clause.new.code.items c.push_clauses.new.code.items (c.in_ok-push_clause.ensures yields) (c.in_ok-push_clauses.ensures yields))
+    on_ok_weaker c.push_clauses.result (λ put. subst (λ l. Puts c.args.code.now.items c.push_clauses.new.code.items (pushes_clauses globals elements yields layout (clauses (map clause_of l)))) (sym is)
+    (puts_clause globals elements yields layout one.comm one.body (clauses (map clause_of c.in-Some.all.now)) c.args.code.now.items c.push_clause.new.code.items c.push_clauses.new.code.items (c.in_ok-push_clause.ensures yields) put)) (c.push_clauses.ensures yields)

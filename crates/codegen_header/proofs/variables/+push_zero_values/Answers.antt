@@ -1,4 +1,5 @@
 use Rattle.std.proofs.Common.{rules, ◌≡◌, ◌∷◌, map, sym, subst}
+use Rattle.std.proofs.lemmas.Result.{on_ok_weaker}
 use Rattle.syntax.specs.View.{name_of}
 use Rattle.type_table.specs.Views.{kind_of}
 use Rattle.type_table.specs.Visible.{globals_in, types_of}
@@ -13,5 +14,5 @@ returns t c =
     let elements = c.args.elements.now in
     let kind = kind_of (types_of c.args.table.now) c.args.kind in
     let is : c.args.names.now ≡ c.in-Some._name.now ∷ c.in-Some.names.now = search rules in
-    let put = puts_next_zero globals elements (name_of c.in-Some._name.now) (map name_of c.in-Some.names.now) kind c.args.code.now.items c.push_zeros.new.code.items c.push_zero_values.new.code.items c.in_ok-push_zeros.ensures c.in_ok-push_zero_values.ensures in
-    subst (λ l. Puts c.args.code.now.items c.push_zero_values.new.code.items (zero_values globals elements 0 (map name_of l) kind)) (sym is) put
+    on_ok_weaker c.push_zero_values.result (λ rest. let put = puts_next_zero globals elements (name_of c.in-Some._name.now) (map name_of c.in-Some.names.now) kind c.args.code.now.items c.push_zeros.new.code.items c.push_zero_values.new.code.items c.in_ok-push_zeros.ensures rest in
+    subst (λ l. Puts c.args.code.now.items c.push_zero_values.new.code.items (zero_values globals elements 0 (map name_of l) kind)) (sym is) put) c.push_zero_values.ensures

@@ -1,4 +1,5 @@
 use Rattle.std.proofs.Common.{rules, ◌≡◌, ◌∙◌, ap, map}
+use Rattle.std.proofs.lemmas.Result.{on_ok_weaker}
 use Rattle.syntax.specs.View.{name_of, right_of}
 use Rattle.type_table.specs.Views.{kind_of}
 use Rattle.type_table.specs.Visible.{globals_in, types_of}
@@ -18,9 +19,9 @@ returns-in-Some-clause-emitted c =
     let kinds = map (kind_of types) in
     let same : kinds c.as_slice-kinds.result.now ≡ same_types (globals_in c.args.table.now) c.args.elements.now (map name_of c.args.names.now) (kind_of types c.args.kind) =
     ap kinds c.as_slice-kinds.ensures.value ∙ ap kinds c.in_ok-same.ensures ∙ same_kinds (globals_in c.args.table.now) c.args.elements.now types c.args.kind c.args.names.now in
-    let h = appends_valued (globals_in c.args.table.now) c.args.elements.now (map name_of c.args.names.now) (kind_of types c.args.kind) (kinds c.as_slice-kinds.result.now) same (layout_of c.args.table.now c.args.layout.now) (right_of c.in-Some.right.now)
-    c.args.code.now.items c.define_as.new.code.items c.in_ok-define_as-in-Some.ensures.emitted in
-    search (rules, h)
+    on_ok_weaker c.define_as.result (λ put. let h = appends_valued (globals_in c.args.table.now) c.args.elements.now (map name_of c.args.names.now) (kind_of types c.args.kind) (kinds c.as_slice-kinds.result.now) same (layout_of c.args.table.now c.args.layout.now) (right_of c.in-Some.right.now)
+    c.args.code.now.items c.define_as.new.code.items put in
+    search (rules, h)) c.define_as.ensures.emitted
 
 pub returns-in-Some-clause-after : goal.returns-in-Some-clause-after
 returns-in-Some-clause-after c =
@@ -28,5 +29,5 @@ returns-in-Some-clause-after c =
     let kinds = map (kind_of types) in
     let same : kinds c.as_slice-kinds.result.now ≡ same_types (globals_in c.args.table.now) c.args.elements.now (map name_of c.args.names.now) (kind_of types c.args.kind) =
     ap kinds c.as_slice-kinds.ensures.value ∙ ap kinds c.in_ok-same.ensures ∙ same_kinds (globals_in c.args.table.now) c.args.elements.now types c.args.kind c.args.names.now in
-    declared_each (globals_in c.args.table.now) c.args.elements.now (map name_of c.args.names.now) (kind_of types c.args.kind) (kinds c.as_slice-kinds.result.now) same (layout_of c.args.table.now c.args.layout.now) (layout_of c.args.table.now c.define_as.new.layout)
-    c.in_ok-define_as-in-Some.ensures.after
+    on_ok_weaker c.define_as.result (λ after. declared_each (globals_in c.args.table.now) c.args.elements.now (map name_of c.args.names.now) (kind_of types c.args.kind) (kinds c.as_slice-kinds.result.now) same (layout_of c.args.table.now c.args.layout.now) (layout_of c.args.table.now c.define_as.new.layout)
+    after) c.define_as.ensures.after

@@ -1,4 +1,5 @@
 use Rattle.std.proofs.Common.{rules, ◌≡◌, true, false}
+use Rattle.std.proofs.lemmas.Result.{IfOk-weaker}
 use Rattle.syntax.specs.View.{name_of, place_of}
 use Rattle.type_table.specs.Scopes.{is_blank}
 use Rattle.type_table.specs.Views.{kind_of}
@@ -17,5 +18,5 @@ pub returns : goal.returns
 returns c =
     let scope = scope_of c.args.table.now c.args.visible.now in
     let is : is_blank (name_of c.args.place.now.name) ≡ false = search rules in
-    led_spot (globals_in c.args.table.now) c.args.elements.now scope (place_of c.args.place.now) (kind_of (types_of c.args.table.now) c.args.kind) (selected_of (types_of c.args.table.now) c.in_ok-part.part) (spot_in c.in_ok-spot.spot)
-    is c.in_ok-part.ensures (c.in_ok-spot.ensures scope)
+    IfOk-weaker c.spot_of.result _ _ (λ spot led. led_spot (globals_in c.args.table.now) c.args.elements.now scope (place_of c.args.place.now) (kind_of (types_of c.args.table.now) c.args.kind) (selected_of (types_of c.args.table.now) c.in_ok-part.part) (spot_in spot)
+    is c.in_ok-part.ensures (led scope)) c.spot_of.ensures

@@ -1,4 +1,5 @@
 use Rattle.std.proofs.Common.{map, subst}
+use Rattle.std.proofs.lemmas.Result.{on_ok_weaker}
 use Rattle.bytecode.specs.declared.instr.Instr.TheVariants as instrs
 use Rattle.syntax.specs.View.{expression_of, name_of}
 use Rattle.type_table.specs.Visible.{globals_in, scope_of}
@@ -18,6 +19,6 @@ returns c =
     let scope = scope_of c.args.table.now c.args.visible.now in
     let pushed = pushes_arguments globals elements scope (number_of globals (name_of c.args.name.now)) (map expression_of c.args.arguments.now.values.items) in
     let function = c.in_ok-function.function in
-    let h = ends_call c.args.code.now.items c.push_arguments.new.code.items c.push.new.self.items c.drop_result.new.code.items pushed (drops (result_words globals elements scope (result_of globals function))) (instrs.Call function)
-    c.in_ok-function.ensures.pushed c.in_ok-push.ensures.items (c.in_ok-drop_result.ensures scope) in
-    subst (λ f. Appends c.args.code.now.items c.drop_result.new.code.items (pushed (Do (instrs.Call f) (drops (result_words globals elements scope (result_of globals f)) Skip)))) c.in_ok-function.ensures.number h
+    on_ok_weaker c.drop_result.result (λ dropped. let h = ends_call c.args.code.now.items c.push_arguments.new.code.items c.push.new.self.items c.drop_result.new.code.items pushed (drops (result_words globals elements scope (result_of globals function))) (instrs.Call function)
+    c.in_ok-function.ensures.pushed c.in_ok-push.ensures.items dropped in
+    subst (λ f. Appends c.args.code.now.items c.drop_result.new.code.items (pushed (Do (instrs.Call f) (drops (result_words globals elements scope (result_of globals f)) Skip)))) c.in_ok-function.ensures.number h) (c.drop_result.ensures scope)

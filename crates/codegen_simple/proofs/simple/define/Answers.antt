@@ -1,4 +1,5 @@
 use Rattle.std.proofs.Common.{◌≡◌, ◌∙◌, ap, sym, length, map, subst}
+use Rattle.std.proofs.lemmas.Result.{on_ok_weaker}
 use Rattle.std.proofs.lemmas.List.{length-map}
 use Rattle.syntax.specs.View.{name_of, right_of}
 use Rattle.type_table.specs.Views.{kind_of}
@@ -19,7 +20,7 @@ returns-clause-emitted c =
     let right = right_of c.args.right.now in
     let count : length c.args.names.now ≡ length names = sym (length-map c.args.names.now name_of) in
     let given = ap kinds c.as_slice-kinds.ensures.value ∙ c.in_ok-given.ensures elements ∙ ap (λ n. right_types globals elements layout.scope n right) count in
-    subst (λ l. Appends c.args.code.now.items c.define_as.new.code.items (defines globals elements layout names l right)) given c.in_ok-define_as.ensures.emitted
+    on_ok_weaker c.define_as.result (λ put. subst (λ l. Appends c.args.code.now.items c.define_as.new.code.items (defines globals elements layout names l right)) given put) c.define_as.ensures.emitted
 
 pub returns-clause-after : goal.returns-clause-after
 returns-clause-after c =
@@ -31,4 +32,4 @@ returns-clause-after c =
     let right = right_of c.args.right.now in
     let count : length c.args.names.now ≡ length names = sym (length-map c.args.names.now name_of) in
     let given = ap kinds c.as_slice-kinds.ensures.value ∙ c.in_ok-given.ensures elements ∙ ap (λ n. right_types globals elements layout.scope n right) count in
-    c.in_ok-define_as.ensures.after ∙ ap (λ l. declaring_all globals elements names l layout) given
+    on_ok_weaker c.define_as.result (λ after. after ∙ ap (λ l. declaring_all globals elements names l layout) given) c.define_as.ensures.after

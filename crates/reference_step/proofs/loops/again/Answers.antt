@@ -1,0 +1,13 @@
+use Rattle.std.proofs.Common.{rules}
+use Rattle.std.proofs.lemmas.Result.{on_ok_weaker}
+use Rattle.type_table.specs.Visible.{types_of}
+use Rattle.reference_step.proofs.loops.again.Goals as goal
+
+pub returns-in-Ranging : goal.returns-in-Ranging
+returns-in-Ranging c = on_ok_weaker c.push.result (λ put. search (rules, put)) (c.push.ensures (types_of c.args.program.now.table))
+
+pub returns-in-None : goal.returns-in-None
+returns-in-None c = on_ok_weaker c.push-in-None.result (λ put. search (rules, put)) (c.push-in-None.ensures (types_of c.args.program.now.table))
+
+pub returns-in_ok-new-in-Some : goal.returns-in_ok-new-in-Some
+returns-in_ok-new-in-Some c = on_ok_weaker c.push-in-Some-3.result (λ put. search (rules, put)) (c.push-in-Some-3.ensures (types_of c.args.program.now.table))
