@@ -15,7 +15,7 @@ use Rattle.channel_core.proofs.Keys.{dropped_one, goes, kept_one, stays}
 use Rattle.channel_core.proofs.Kept.{nothing_of, sleeper_at}
 use Rattle.channel_core.proofs.Meeting.{Wakes, apart_by_keys, first_by, first_waiting, hit, miss, on_channel, on_row, partner_at, partner_first, told, wakes}
 
-is_some-map : {A B : Type 0} (f : A → B) (o : Option A) → is_some (option_map f o) ≡ is_some o
+pub is_some-map : {A B : Type 0} (f : A → B) (o : Option A) → is_some (option_map f o) ≡ is_some o
 is_some-map f None = refl
 is_some-map f (Some x) = refl
 

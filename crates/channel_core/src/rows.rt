@@ -1,14 +1,15 @@
 //! Where the offers of sleepers stand.
 
-ghost use Rattle.std.specs.Prelude.{◌≡◌, ◌<◌, ◌++◌, ◌∷◌, [], map, OnErr, OnOk};
+ghost use Rattle.std.specs.Prelude.{◌≡◌, ◌<◌, ◌++◌, ◌∷◌, [], map, option_copied, OnErr, OnOk};
 ghost use Rattle.std.specs.List.{filter};
 ghost use Rattle.sleep_queue.specs.Queue.{is_not_of as is_not_of_number};
+ghost use Rattle.sleep_queue.specs.Stored.{view_of};
 ghost use Rattle.word.specs.Requests.{clause_offers};
 ghost use Rattle.word.specs.Views.{request_of};
 ghost use Rattle.channel_core.specs.Asleep.{is_not_of, placed, placed_all, placed_offer, row_on};
 
 use go_text::Memory;
-use sleep_queue::{Offer, SleepQueues};
+use sleep_queue::{OfferView, SleepQueues};
 use std::marker::Brand;
 use std::sync::ledger::{Blank, Ledger};
 use steps::Steps;
@@ -49,7 +50,7 @@ fn try_enter_all(queues: &mut SleepQueues, key: u64, request: &Request) -> Resul
     enter(
         queues,
         0,
-        Offer {
+        OfferView {
             number: key,
             case: 0,
             chan: 0,
@@ -57,7 +58,7 @@ fn try_enter_all(queues: &mut SleepQueues, key: u64, request: &Request) -> Resul
         },
     )?;
     match request {
-        Request::Send(Some(chan), item) => offer(queues, key, 0, *chan, Some(item.copy())),
+        Request::Send(Some(chan), item) => offer(queues, key, 0, *chan, Some(item)),
         Request::Receive(Some(chan)) => offer(queues, key, 0, *chan, None),
         Request::Select(cases, _) => offer_clauses(queues, key, cases.as_slice()),
         _ => Ok(()),
@@ -72,7 +73,7 @@ fn offer_clauses(queues: &mut SleepQueues, key: u64, cases: &[Case]) -> Result<(
     for i in 0..cases.len() {
         let case = &cases[i];
         if let Some(chan) = case.chan {
-            offer(queues, key, i + 1, chan, copy_of(&case.item))?;
+            offer(queues, key, i + 1, chan, case.item.as_ref())?;
         }
     }
     Ok(())
@@ -84,16 +85,16 @@ fn offer(
     key: u64,
     case: usize,
     chan: u32,
-    item: Option<Item>,
+    item: Option<&Item>,
 ) -> Result<(), Memory>
-    ensures ok { OnOk result (placed queues.new ≡ placed queues.old ++ placed_offer key (record { case = case; chan = chan; item = item }) ∷ []) }
+    ensures ok { OnOk result (placed queues.new ≡ placed queues.old ++ placed_offer key (record { case = case; chan = chan; item = option_copied item.entry }) ∷ []) }
     ensures others { filter (is_not_of key) (placed queues.new) ≡ filter (is_not_of key) (placed queues.old) }
 {
     let row = row_on(chan, item.is_some());
     enter(
         queues,
         row,
-        Offer {
+        OfferView {
             number: key,
             case,
             chan,
@@ -103,8 +104,8 @@ fn offer(
 }
 
 /// An offer enters a row, which is made where it is not there.
-fn enter(queues: &mut SleepQueues, row: usize, offer: Offer) -> Result<(), Memory>
-    ensures ok { OnOk result (placed queues.new ≡ placed queues.old ++ record { row = row; entry = offer } ∷ []) }
+fn enter(queues: &mut SleepQueues, row: usize, offer: OfferView<'_>) -> Result<(), Memory>
+    ensures ok { OnOk result (placed queues.new ≡ placed queues.old ++ record { row = row; entry = view_of offer.entry } ∷ []) }
     ensures memory { OnErr result (placed queues.new ≡ placed queues.old) }
 {
     add_rows(queues, row)?;
@@ -145,6 +146,17 @@ fn leave_counted<L: Ledger>(queues: &mut SleepQueues, key: u64, blank: Blank)
 #[inline(always)]
 pub(crate) fn copy_of(item: &Option<Item>) -> Option<Item>
     ensures { result ≡ item.now }
+{
+    match item {
+        Some(item) => Some(item.copy()),
+        None => None,
+    }
+}
+
+/// An item of its own.
+#[inline(always)]
+pub(crate) fn copied(item: Option<&Item>) -> Option<Item>
+    ensures { result ≡ option_copied item.entry }
 {
     match item {
         Some(item) => Some(item.copy()),

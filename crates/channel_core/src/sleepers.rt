@@ -11,7 +11,7 @@ ghost use Rattle.channel_core.specs.Asleep.{is_not_of, placed, placed_all};
 ghost use Rattle.channel_core.specs.Channels.{closed_for, partner_of};
 
 use crate::outcome::{Woken, got};
-use crate::rows::{copy_of, enter_all, leave_all, row_on};
+use crate::rows::{copied, enter_all, leave_all, row_on};
 use go_text::Memory;
 use slab::Slab;
 use sleep_queue::{NumberedKeys, SleepQueues};
@@ -130,7 +130,7 @@ impl Sleepers {
         Some(Partner {
             number: sleeper.number(),
             case: offer.case,
-            item: copy_of(&offer.item),
+            item: copied(offer.item),
         })
     }
 
