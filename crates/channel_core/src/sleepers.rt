@@ -10,6 +10,7 @@ ghost use Rattle.word.specs.Views.{reply_of, request_of};
 ghost use Rattle.channel_core.specs.Asleep.{is_not_of, placed, placed_all};
 ghost use Rattle.channel_core.specs.Channels.{closed_for, partner_of};
 
+use crate::order::Order;
 use crate::outcome::{Woken, got};
 use crate::rows::{copied, enter_all, leave_all, row_on};
 use go_text::Memory;
@@ -74,9 +75,10 @@ pub(crate) struct Sleepers {
     slots: Slab<Sleeper>,
     /// Their keys, by their numbers.
     places: NumberedKeys,
-    /// In row 0 all sleepers, and in each other row the offers on one channel to send, or to receive. The number of an offer
-    /// is its sleeper's key.
+    /// In each row the offers on one channel to send, or to receive. The number of an offer is its sleeper's key.
     queues: SleepQueues,
+    /// Their keys, in the order in which they fell asleep.
+    order: Order,
 }
 
 impl Model for Sleepers {
@@ -84,13 +86,13 @@ impl Model for Sleepers {
     ghost use Rattle.slab.specs.Slab.{get, slab_len};
     ghost use Rattle.sleep_queue.specs.Queue.{owned};
     ghost use Rattle.word.specs.Values.{Sleeper as AnySleeper};
-    ghost use Rattle.channel_core.specs.Asleep.{IsAsleep, asleep_of, keys_in, placed};
+    ghost use Rattle.channel_core.specs.Asleep.{IsAsleep, asleep_of, placed};
 
     ghost Value = { List AnySleeper };
 
-    ghost view = { λ s. asleep_of (get s.slots) (keys_in (placed s.queues)) };
+    ghost view = { λ s. asleep_of (get s.slots) s.order.keys };
 
-    ghost invariant = { λ s. IsAsleep (get s.slots) (owned s.places) (placed s.queues) (slab_len s.slots) };
+    ghost invariant = { λ s. IsAsleep (get s.slots) (owned s.places) s.order.keys (placed s.queues) (slab_len s.slots) };
 }
 
 impl Sleepers {
@@ -106,6 +108,7 @@ impl Sleepers {
             slots: Slab::new(alloc),
             places: NumberedKeys::new(alloc),
             queues: SleepQueues::new(alloc),
+            order: Order::new(),
         }
     }
 
@@ -150,8 +153,10 @@ impl Sleepers {
         let key = self.slots.vacant_key();
         let before = place(&mut self.queues, &mut self.places, number, key, request)?;
         self.slots.insert_reserved(Sleeper::new(number, request));
+        self.order.enter(key);
         if let Some(old) = before {
             self.slots.remove(old);
+            self.order.leave(old);
             leave_all(&mut self.queues, old as u64);
         }
         Ok(())
@@ -163,6 +168,7 @@ impl Sleepers {
     {
         if let Some(key) = self.places.remove(number) {
             self.slots.remove(key);
+            self.order.leave(key);
             leave_all(&mut self.queues, key as u64);
         }
     }
