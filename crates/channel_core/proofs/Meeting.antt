@@ -9,9 +9,8 @@ use Rattle.word.specs.Values.{Item, Request, Sleeper, Offer, Reply}
 use Rattle.word.specs.Requests.{also, close_reply, first_offer, first_on, offers, or_else, partner, partners, without, without_all}
 use Rattle.sleep_queue.specs.declared.offer.Offer.{Offer as Entry}
 use Rattle.sleep_queue.specs.Queue.{Waiting, first}
-use Rattle.channel_core.specs.declared.sleepers.Partner.{Partner}
 use Rattle.channel_core.specs.Asleep.{Placed, placed_of, row_on, placed_offer, placed_all, held, asleep_of, placed_by, has, AreDistinct}
-use Rattle.channel_core.specs.Channels.{closed_for, partner_of}
+use Rattle.channel_core.specs.Channels.{Partner, closed_for, partner_of}
 use Rattle.channel_core.proofs.Keys.{same_key, other_key, kept_one, dropped_one, has_head, has_tail, left_in, left_out, without_none}
 
 -- the first entry of the rows that pass

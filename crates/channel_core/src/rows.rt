@@ -142,14 +142,3 @@ pub(crate) fn copy_of(item: &Option<Item>) -> Option<Item>
         None => None,
     }
 }
-
-/// An item of its own.
-#[inline(always)]
-pub(crate) fn copied(item: Option<&Item>) -> Option<Item>
-    ensures { result ≡ option_copied item.entry }
-{
-    match item {
-        Some(item) => Some(item.copy()),
-        None => None,
-    }
-}

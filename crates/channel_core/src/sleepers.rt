@@ -8,11 +8,11 @@ ghost use Rattle.word.specs.Requests.{got, partner, partners, without, without_a
 ghost use Rattle.word.specs.Values.{Closed};
 ghost use Rattle.word.specs.Views.{reply_of, request_of};
 ghost use Rattle.channel_core.specs.Asleep.{is_not_of, placed, placed_all};
-ghost use Rattle.channel_core.specs.Channels.{closed_for, partner_of};
+ghost use Rattle.channel_core.specs.Channels.{closed_for, met, partner_of};
 
 use crate::order::Order;
 use crate::outcome::{Woken, got};
-use crate::rows::{copied, enter_all, leave_all, row_on};
+use crate::rows::{enter_all, leave_all, row_on};
 use go_text::Memory;
 use slab::Slab;
 use sleep_queue::{NumberedKeys, SleepQueues};
@@ -60,11 +60,11 @@ impl Sleeper {
 }
 
 /// Whom a request meets: a sleeper's number, the clause that is served (0 outside a select), and what it sends.
-#[derive(Drop)]
-pub struct Partner {
+#[derive(Clone, Copy)]
+pub struct PartnerView<'a> {
     pub number: u64,
     pub case: usize,
-    pub item: Option<Item>,
+    pub item: Option<&'a Item>,
 }
 
 /// Those who are asleep, in the order in which they fell asleep. Whom a request meets is found without a search.
@@ -121,8 +121,8 @@ impl Sleepers {
 
     /// The first sleeper with an offer on a channel, to send or to receive, and its first such offer.
     #[inline(always)]
-    pub(crate) fn partner(&self, chan: u32, sends: bool) -> Option<Partner>
-        ensures { result ≡ option_map partner_of (partner chan sends self.now) }
+    pub(crate) fn partner(&self, chan: u32, sends: bool) -> Option<PartnerView<'_>>
+        ensures { option_map met result ≡ option_map partner_of (partner chan sends self.now) }
     {
         let Some(offer) = self.queues.first(row_on(chan, sends)) else {
             return None;
@@ -130,10 +130,10 @@ impl Sleepers {
         let Some(sleeper) = self.slots.get(offer.number as usize) else {
             unreachable!()
         };
-        Some(Partner {
+        Some(PartnerView {
             number: sleeper.number(),
             case: offer.case,
-            item: copied(offer.item),
+            item: offer.item,
         })
     }
 
