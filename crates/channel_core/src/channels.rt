@@ -1,10 +1,10 @@
 //! The channels of a world, and those who sleep at them.
 
 ghost use Rattle.std.specs.Prelude.{◌≡◌, ℕ, ◌+◌, ◌<◌, ◌≤◌, ◌∷◌, [], ◌++◌, IfOk, IfNone, IfSome, OnErr, OnOk, Some, None, nat_lt, option_copied, option_map, pos, suc, true, length, slice_index_or, slice_set, unwrap_or};
-ghost use Rattle.word.specs.Requests.{channel_of, choose, is_ready, no_channel, partner, receive_ready, send_ready, without};
+ghost use Rattle.word.specs.Requests.{channel_of, choose, is_ready, no_channel, receive_ready, send_ready, without};
 ghost use Rattle.word.specs.Values.{Close, Make, Receive, Request as AnyRequest, Select, Send};
 ghost use Rattle.word.specs.Views.{reply_of, request_of};
-ghost use Rattle.channel_core.specs.Channels.{Does, IsAlone, IsOfChannels, IsTold, IsServed, Others, Receives, Sends, Serves, after_passing, capacity_of, clause_at, length_of, partner_of, shared_with};
+ghost use Rattle.channel_core.specs.Channels.{Does, IsAlone, IsOfChannels, IsTold, Others, Receives, Sends, Serves, after_passing, capacity_of, clause_at, length_of, shared_with};
 
 use crate::channel::Channel;
 use crate::outcome::{Outcome, Woken, got, sent};
