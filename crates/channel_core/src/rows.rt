@@ -1,32 +1,33 @@
 //! Where the offers of sleepers stand.
 
-ghost use Rattle.std.specs.Prelude.{◌≡◌, ◌<◌, ◌++◌, ◌∷◌, [], map, OnErr, OnOk};
+ghost use Rattle.std.specs.Prelude.{◌≡◌, ◌<◌, ◌++◌, ◌∷◌, [], map, option_copied, OnErr, OnOk};
 ghost use Rattle.std.specs.List.{filter};
 ghost use Rattle.sleep_queue.specs.Queue.{is_not_of as is_not_of_number};
+ghost use Rattle.sleep_queue.specs.Stored.{view_of};
 ghost use Rattle.word.specs.Requests.{clause_offers};
 ghost use Rattle.word.specs.Views.{request_of};
 ghost use Rattle.channel_core.specs.Asleep.{is_not_of, placed, placed_all, placed_offer, row_on};
 
 use go_text::Memory;
-use sleep_queue::{Offer, SleepQueues};
+use sleep_queue::{OfferView, SleepQueues};
 use std::marker::Brand;
 use std::sync::ledger::{Blank, Ledger};
 use steps::Steps;
 use word::request::{Case, Request};
 use word::value::Item;
 
-/// The row of the offers on a channel to send, or that of those to receive. In row 0 each sleeper stands once.
+/// The row of the offers on a channel to send, or that of those to receive.
 pub(crate) fn row_on(chan: u32, sends: bool) -> usize
     ensures { result ≡ row_on chan sends }
 {
     if sends {
-        2 * chan as usize + 3
+        2 * chan as usize + 1
     } else {
-        2 * chan as usize + 2
+        2 * chan as usize
     }
 }
 
-/// The sleeper of a key enters row 0, and its offers their rows: all, or none where memory is refused.
+/// The offers of a sleeper of this key enter their rows: all, or none where memory is refused.
 pub(crate) fn enter_all(queues: &mut SleepQueues, key: u64, request: &Request) -> Result<(), Memory>
     requires { filter (is_not_of key) (placed queues.old) ≡ placed queues.old }
     ensures ok { OnOk result (placed queues.new ≡ placed queues.old ++ placed_all key (request_of request.now)) }
@@ -46,18 +47,8 @@ fn try_enter_all(queues: &mut SleepQueues, key: u64, request: &Request) -> Resul
     ensures ok { OnOk result (placed queues.new ≡ placed queues.old ++ placed_all key (request_of request.now)) }
     ensures others { filter (is_not_of key) (placed queues.new) ≡ filter (is_not_of key) (placed queues.old) }
 {
-    enter(
-        queues,
-        0,
-        Offer {
-            number: key,
-            case: 0,
-            chan: 0,
-            item: None,
-        },
-    )?;
     match request {
-        Request::Send(Some(chan), item) => offer(queues, key, 0, *chan, Some(item.copy())),
+        Request::Send(Some(chan), item) => offer(queues, key, 0, *chan, Some(item)),
         Request::Receive(Some(chan)) => offer(queues, key, 0, *chan, None),
         Request::Select(cases, _) => offer_clauses(queues, key, cases.as_slice()),
         _ => Ok(()),
@@ -72,7 +63,7 @@ fn offer_clauses(queues: &mut SleepQueues, key: u64, cases: &[Case]) -> Result<(
     for i in 0..cases.len() {
         let case = &cases[i];
         if let Some(chan) = case.chan {
-            offer(queues, key, i + 1, chan, copy_of(&case.item))?;
+            offer(queues, key, i + 1, chan, case.item.as_ref())?;
         }
     }
     Ok(())
@@ -84,16 +75,16 @@ fn offer(
     key: u64,
     case: usize,
     chan: u32,
-    item: Option<Item>,
+    item: Option<&Item>,
 ) -> Result<(), Memory>
-    ensures ok { OnOk result (placed queues.new ≡ placed queues.old ++ placed_offer key (record { case = case; chan = chan; item = item }) ∷ []) }
+    ensures ok { OnOk result (placed queues.new ≡ placed queues.old ++ placed_offer key (record { case = case; chan = chan; item = option_copied item.entry }) ∷ []) }
     ensures others { filter (is_not_of key) (placed queues.new) ≡ filter (is_not_of key) (placed queues.old) }
 {
     let row = row_on(chan, item.is_some());
     enter(
         queues,
         row,
-        Offer {
+        OfferView {
             number: key,
             case,
             chan,
@@ -103,8 +94,8 @@ fn offer(
 }
 
 /// An offer enters a row, which is made where it is not there.
-fn enter(queues: &mut SleepQueues, row: usize, offer: Offer) -> Result<(), Memory>
-    ensures ok { OnOk result (placed queues.new ≡ placed queues.old ++ record { row = row; entry = offer } ∷ []) }
+fn enter(queues: &mut SleepQueues, row: usize, offer: OfferView<'_>) -> Result<(), Memory>
+    ensures ok { OnOk result (placed queues.new ≡ placed queues.old ++ record { row = row; entry = view_of offer.entry } ∷ []) }
     ensures memory { OnErr result (placed queues.new ≡ placed queues.old) }
 {
     add_rows(queues, row)?;

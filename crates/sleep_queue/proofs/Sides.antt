@@ -8,6 +8,8 @@ use Rattle.std.proofs.lemmas.Option.{none-some}
 use Rattle.slab.specs.Slab.{Slab, get, Updates}
 use Rattle.sleep_queue.specs.Linked.{link}
 use Rattle.sleep_queue.specs.declared.offer.Node.{Node}
+use Rattle.sleep_queue.specs.Stored.{offer_of}
+use Rattle.word.specs.Values.{Item}
 use Rattle.sleep_queue.specs.Queue.{Places, IsRing, Left, Entered, IsStamped, IsHeadOf, IsSide, IsQueues, QueuesValue, by_row, by_number, head_at, Waiting, waiting_at, in_order, is_other, is_at, is_of, is_not_of, is_in_row, row_of, first, AreApart, AreBefore, head_with, head_without, number_of, places_by, is_in_either, node_at, sooner}
 use Rattle.sleep_queue.proofs.Times.{in_order_enter, in_order_leave, all_stay, both_stay, one_fewer, empty_test, first_test}
 use Rattle.std.specs.Prelude.{[], ◌∷◌, ◌++◌, ◌||◌, cond, nat_lt, option_map}
@@ -206,10 +208,11 @@ no_head [] (suc q) = refl
 no_head (h ∷ heads) zero = refl
 no_head (h ∷ heads) (suc q) = no_head heads q
 
-pub queues_more : (xs : List (Option Node)) (t : ℕ) (rows : List ℕ) (heads : List (Option ℕ)) (own : List ℕ) (owners : List (Option ℕ)) → IsQueues xs t rows heads own owners → IsQueues xs t rows (heads ++ None ∷ []) own owners
-queues_more xs t rows heads own owners q = record {
+pub queues_more : (xs : List (Option Node)) (items : List (Option Item)) (t : ℕ) (rows : List ℕ) (heads : List (Option ℕ)) (own : List ℕ) (owners : List (Option ℕ)) → IsQueues xs items t rows heads own owners → IsQueues xs items t rows (heads ++ None ∷ []) own owners
+queues_more xs items t rows heads own owners q = record {
   apart = q.apart;
   before = q.before;
+  stored = q.stored;
   own = q.own;
   row = record {
     ring = q.row.ring;
@@ -218,12 +221,13 @@ queues_more xs t rows heads own owners q = record {
   };
 }
 
-pub queues_covered : (xs : List (Option Node)) (t : ℕ) (rows rows1 : List ℕ) (heads : List (Option ℕ)) (own own1 : List ℕ) (owners : List (Option ℕ)) → IsQueues xs t rows heads own owners
+pub queues_covered : (xs : List (Option Node)) (items : List (Option Item)) (t : ℕ) (rows rows1 : List ℕ) (heads : List (Option ℕ)) (own own1 : List ℕ) (owners : List (Option ℕ)) → IsQueues xs items t rows heads own owners
     → ((u : Places) → IsRing u (link rows) → IsRing u (link rows1)) → length rows ≤ length rows1
-    → ((u : Places) → IsRing u (link own) → IsRing u (link own1)) → length own ≤ length own1 → IsQueues xs t rows1 heads own1 owners
-queues_covered xs t rows rows1 heads own own1 owners q cover more cover1 more1 = record {
+    → ((u : Places) → IsRing u (link own) → IsRing u (link own1)) → length own ≤ length own1 → IsQueues xs items t rows1 heads own1 owners
+queues_covered xs items t rows rows1 heads own own1 owners q cover more cover1 more1 = record {
   apart = q.apart;
   before = q.before;
+  stored = q.stored;
   row = record {
     ring = cover (places_by by_row xs) q.row.ring;
     heads = q.row.heads;
@@ -304,7 +308,7 @@ front_of xs r (Some k) h =
 
 module _ (xs : List (Option Node)) (t r q : ℕ) (d : AreApart xs) (b : AreBefore t xs) where
   abbrev First : Option Node → Type 0
-  First o = option_map (λ (w : Waiting). w.offer) (first (filter (is_in_either r q) (in_order xs t))) ≡ option_map (λ (n : Node). n.offer) o
+  First o = option_map (λ (w : Waiting). w.offer) (first (filter (is_in_either r q) (in_order xs t))) ≡ option_map (λ (n : Node). offer_of n.offer) o
 
   earliest : (k : ℕ) (n : Node) → slice_index_or xs k None ≡ Some n → (((n.row == r) || (n.row == q)) ≡ true)
       → ((i : ℕ) (m : Node) → slice_index_or xs i None ≡ Some m → m.stamp < n.stamp → (m.row ≢ r) × (m.row ≢ q)) → First (Some n)
@@ -333,3 +337,9 @@ module _ (xs : List (Option Node)) (t r q : ℕ) (d : AreApart xs) (b : AreBefor
 
   pub first_of_heads : (next : List ℕ) (head : ℕ → Option ℕ) → IsSide by_row xs next head → First (sooner (node_at xs (head r)) (node_at xs (head q)))
   first_of_heads next head side = first_either (node_at xs (head r)) (node_at xs (head q)) (front_of xs r (head r) (side.heads r)) (front_of xs q (head q) (side.heads q))
+
+-- with room for more
+pub queues_reserved : (s s' : Slab Node) (i i' : Slab Item) (room more t : ℕ) (rows : List ℕ) (heads : List (Option ℕ)) (own : List ℕ) (owners : List (Option ℕ)) → s' ≡ record s { capacity = room } → i' ≡ record i { capacity = more }
+    → IsQueues s.slots i.slots t rows heads own owners → IsQueues s'.slots i'.slots t rows heads own owners
+queues_reserved s s' i i' room more t rows heads own owners e f q =
+    subst (λ (k : Slab Node). IsQueues k.slots i'.slots t rows heads own owners) (sym e) (subst (λ (k : Slab Item). IsQueues s.slots k.slots t rows heads own owners) (sym f) q)

@@ -5,6 +5,8 @@ use Rattle.std.specs.Option.{is_some}
 use Rattle.sleep_queue.specs.Linked.{link}
 use Rattle.sleep_queue.specs.declared.offer.Offer.{Offer}
 use Rattle.sleep_queue.specs.declared.offer.Node.{Node}
+use Rattle.sleep_queue.specs.Stored.{AreStored, offer_of}
+use Rattle.word.specs.Values.{Item}
 
 -- places, of which some are taken; each of these is of a group, and has a stamp
 pub record Places : Type 0 where
@@ -80,7 +82,7 @@ pub record QueuesValue : Type 0 where
   pub waiting : List Waiting
 
 abbrev pub waiting_at : ℕ → Node → Waiting
-waiting_at key node = record { key = key; row = node.row; offer = node.offer }
+waiting_at key node = record { key = key; row = node.row; offer = offer_of node.offer }
 
 -- what came at this time; the first of these slots has key j
 abbrev pub at_stamp : ℕ → ℕ → List (Option Node) → Option Waiting
@@ -169,10 +171,11 @@ sooner (Some a) (Some b) = cond (nat_lt b.stamp a.stamp) (Some b) (Some a)
 abbrev pub owned : List (Option ℕ) → ℕ → Option ℕ
 owned keys n = slice_index_or keys n None
 
--- the slots, the time, and both rings
-pub record IsQueues (xs : List (Option Node)) (t : ℕ) (rows : List ℕ) (heads : List (Option ℕ)) (goroutines : List ℕ) (owners : List (Option ℕ)) : Type 0 where
+-- the slots, the items, the time, and both rings
+pub record IsQueues (xs : List (Option Node)) (items : List (Option Item)) (t : ℕ) (rows : List ℕ) (heads : List (Option ℕ)) (goroutines : List ℕ) (owners : List (Option ℕ)) : Type 0 where
   pub apart : AreApart xs
   pub before : AreBefore t xs
+  pub stored : AreStored xs items
   pub row : IsSide by_row xs rows (head_at heads)
   pub own : IsSide by_number xs goroutines (owned owners)
 

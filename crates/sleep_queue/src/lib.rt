@@ -2,11 +2,12 @@
 #![tactic(auto)]
 
 mod heads;
+mod items;
 mod numbered_keys;
 mod offer;
 mod queues;
 mod rings;
 
 pub use numbered_keys::NumberedKeys;
-pub use offer::Offer;
+pub use offer::{Offer, OfferView};
 pub use queues::SleepQueues;

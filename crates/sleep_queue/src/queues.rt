@@ -2,11 +2,13 @@
 
 ghost use Rattle.std.specs.Prelude.{◌≡◌, ◌≢◌, ℕ, ◌+◌, ◌*◌, ◌<◌, ◌≤◌, List, Option, None, Some, [], ◌∷◌, ◌++◌, length, IfOk, IfNone, IfSome, OnErr, OnOk, OnSome, option_copied, option_map};
 ghost use Rattle.std.specs.List.{filter};
+ghost use Rattle.sleep_queue.specs.Stored.{offer_of, view_of};
 ghost use Rattle.sleep_queue.specs.Queue.{Waiting, first, head_at, head_with, head_without, is_at, is_in_either, is_not_of, is_of, is_other, node_at, row_of, sooner, without_first};
 
 use crate::heads::{head_of, head_with, head_without, set_head};
+use crate::items::{forget, lend, store};
 use crate::numbered_keys::NumberedKeys;
-use crate::offer::{Node, Offer};
+use crate::offer::{Kept, Node, Offer, OfferView};
 use crate::rings::Rings;
 use go_text::Memory;
 use slab::Slab;
@@ -14,12 +16,15 @@ use std::alloc::Global;
 use std::marker::Model;
 use std::sync::ledger::Ledger;
 use steps::Steps;
+use word::value::Item;
 
 /// Rows of offers, each in the order in which its offers entered. An offer leaves from anywhere, and all offers of a
 /// goroutine leave together; nothing is searched.
 #[derive(Drop)]
 pub struct SleepQueues {
     slots: Slab<Node>,
+    /// The items of offers to send.
+    items: Slab<Item>,
     /// Above the stamp of each offer.
     time: u64,
     /// Each row is a ring of the keys of its offers.
@@ -40,7 +45,7 @@ impl Model for SleepQueues {
 
     ghost view = { λ q. record { rows = length q.heads.items; waiting = in_order q.slots.slots q.time } };
 
-    ghost invariant = { λ q. IsQueues q.slots.slots q.time q.rows.next q.heads.items q.own.next q.owners };
+    ghost invariant = { λ q. IsQueues q.slots.slots q.items.slots q.time q.rows.next q.heads.items q.own.next q.owners };
 }
 
 impl SleepQueues {
@@ -50,6 +55,7 @@ impl SleepQueues {
     {
         SleepQueues {
             slots: Slab::new(alloc),
+            items: Slab::new(alloc),
             time: 0,
             rows: Rings::new(alloc),
             heads: Vec::new(alloc),
@@ -79,15 +85,16 @@ impl SleepQueues {
     }
 
     /// An offer enters a row at its back: its key.
-    pub fn enter(&mut self, row: usize, offer: Offer) -> Result<usize, Memory>
+    pub fn enter(&mut self, row: usize, offer: OfferView<'_>) -> Result<usize, Memory>
         requires { row < self.old.rows }
-        ensures ok { IfOk result (λ key. self.new ≡ record self.old { waiting = self.old.waiting ++ record { key = key; row = row; offer = offer } ∷ [] }) }
+        ensures ok { IfOk result (λ key. self.new ≡ record self.old { waiting = self.old.waiting ++ record { key = key; row = row; offer = view_of offer.entry } ∷ [] }) }
         ensures memory { OnErr result (self.new ≡ self.old) }
     {
         let Some(later) = later(self.time) else {
             return Err(Memory);
         };
         self.slots.reserve(1)?;
+        self.items.reserve(1)?;
         let key = self.slots.vacant_key();
         self.rows.cover(key)?;
         self.own.cover(key)?;
@@ -97,34 +104,40 @@ impl SleepQueues {
         self.rows.join(key, head);
         set_head(&mut self.heads, row, head_with(head, key));
         let stamp = self.time;
+        let offer = Kept {
+            number: offer.number,
+            case: offer.case,
+            chan: offer.chan,
+            item: store(&mut self.items, offer.item),
+        };
         self.slots.insert_reserved(Node { row, stamp, offer });
         self.time = later;
         Ok(key)
     }
 
     /// The first offer of a row.
-    pub fn first(&self, row: usize) -> Option<&Offer>
-        ensures { option_copied result ≡ option_map (λ (w : Waiting). w.offer) (first (row_of row self.now.waiting)) }
+    pub fn first(&self, row: usize) -> Option<OfferView<'_>>
+        ensures { option_map view_of result ≡ option_map (λ (w : Waiting). w.offer) (first (row_of row self.now.waiting)) }
     {
         let Some(key) = head_of(self.heads.as_slice(), row) else {
             return None;
         };
         match self.slots.get(key) {
-            Some(node) => Some(&node.offer),
+            Some(node) => Some(lend(&self.items, &node.offer)),
             None => None,
         }
     }
 
     /// The first offer of two rows: the one that entered first.
-    pub fn first_of_two(&self, row: usize, other: usize) -> Option<&Offer>
-        ensures { option_copied result ≡ option_map (λ (w : Waiting). w.offer) (first (filter (is_in_either row other) self.now.waiting)) }
+    pub fn first_of_two(&self, row: usize, other: usize) -> Option<OfferView<'_>>
+        ensures { option_map view_of result ≡ option_map (λ (w : Waiting). w.offer) (first (filter (is_in_either row other) self.now.waiting)) }
     {
         let heads = self.heads.as_slice();
         match sooner(
             front(&self.slots, heads, row),
             front(&self.slots, heads, other),
         ) {
-            Some(node) => Some(&node.offer),
+            Some(node) => Some(lend(&self.items, &node.offer)),
             None => None,
         }
     }
@@ -134,16 +147,35 @@ impl SleepQueues {
         ensures left { self.new ≡ record self.old { waiting = filter (is_other key) self.old.waiting } }
         ensures offer { result ≡ option_map (λ (w : Waiting). w.offer) (first (filter (is_at key) self.old.waiting)) }
     {
+        let offer = self.offer(key);
+        self.withdraw(key);
+        offer
+    }
+
+    /// The offer of this key.
+    fn offer(&self, key: usize) -> Option<Offer>
+        ensures { result ≡ option_map (λ (w : Waiting). w.offer) (first (filter (is_at key) self.now.waiting)) }
+    {
+        match self.slots.get(key) {
+            Some(node) => Some(lend(&self.items, &node.offer).copy()),
+            None => None,
+        }
+    }
+
+    /// The offer of this key leaves its row, and its item the store.
+    fn withdraw(&mut self, key: usize)
+        ensures { self.new ≡ record self.old { waiting = filter (is_other key) self.old.waiting } }
+    {
         if !self.slots.contains(key) {
-            return None;
+            return;
         }
         let after = self.rows.part(key);
         let next = self.own.part(key);
         let node = self.slots.remove(key);
+        forget(&mut self.items, &node.offer.item);
         self.owners.part(node.offer.number, key, next);
         let head = head_of(self.heads.as_slice(), node.row);
         set_head(&mut self.heads, node.row, head_without(head, key, after));
-        Some(node.offer)
     }
 
     /// The key of a row's first offer.
@@ -192,7 +224,7 @@ impl SleepQueues {
             steps.add();
             steps.add();
             steps.add();
-            self.leave(key);
+            self.withdraw(key);
         }
     }
 }

@@ -3,14 +3,15 @@ use Rattle.std.specs.Prelude.{option_map}
 use Rattle.std.specs.Option.{is_some}
 use Rattle.slab.specs.Slab.{get, slab_len}
 use Rattle.sleep_queue.specs.Queue.{Waiting, first, owned, row_of}
+use Rattle.sleep_queue.specs.Stored.{view_of}
 use Rattle.word.specs.Requests.{partner}
 use Rattle.word.specs.Values.{Sleeper}
-use Rattle.channel_core.proofs.Served.{has_partner_is, is_some-copied}
+use Rattle.channel_core.proofs.Served.{has_partner_is, is_some-map}
 use Rattle.channel_core.proofs.sleepers.Sleepers.has_partner.Goals as goal
 
 pub returns : goal.returns
 returns c =
-    c.is_some.ensures ∙ sym (is_some-copied c.first.result)
+    c.is_some.ensures ∙ sym (is_some-map view_of c.first.result)
     ∙ ap is_some (c.first.ensures ∙ ap (λ (r : ℕ). option_map (λ (w : Waiting). w.offer) (first (row_of r c.self.inside.queues.waiting))) c.row_on.ensures)
-    ∙ sym (has_partner_is (get c.self.inside.slots) (owned c.self.inside.places) c.self.inside.queues (slab_len c.self.inside.slots) c.self.invariant c.args.chan c.args.sends)
+    ∙ sym (has_partner_is (get c.self.inside.slots) (owned c.self.inside.places) c.self.inside.order.keys c.self.inside.queues (slab_len c.self.inside.slots) c.self.invariant c.args.chan c.args.sends)
     ∙ ap (λ (ss : List Sleeper). is_some (partner c.args.chan c.args.sends ss)) c.self.view_is
