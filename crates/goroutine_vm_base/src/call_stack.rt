@@ -142,6 +142,7 @@ fn keep_one(alloc: Global, frames: &mut Vec<Frame>, depth: usize) -> Result<(), 
 }
 
 /// The function at a place of these calls the one behind it with the words from a place of its stack on, and waits behind the call.
+#[inline(always)]
 fn call_next(
     frames: &mut [Frame],
     place: usize,
@@ -162,6 +163,7 @@ fn call_next(
 }
 
 /// The function at a place of these takes the words of the stack of the one behind it.
+#[inline(always)]
 fn return_next(frames: &mut [Frame], place: usize) -> Result<(), AllocError>
     requires within { place + 1 < length frames.old }
     ensures ok { OnOk result ((c : FrameValue) → (d : FrameValue) → slice_get frames.old place ≡ Some c → slice_get frames.old (place + 1) ≡ Some d → take (place + 1) frames.new ≡ take place frames.old ++ record c { stack = c.stack ++ d.stack } ∷ []) }

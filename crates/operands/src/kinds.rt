@@ -1,6 +1,6 @@
 //! Words of kinds.
 
-ghost use Rattle.std.specs.Prelude.{◌≡◌, ◌↔◌, [], IsTrue, IfOk, OnOk, drop, length, map};
+ghost use Rattle.std.specs.Prelude.{◌≡◌, ◌↔◌, IsTrue, IfOk, OnOk, drop, length, map};
 ghost use Rattle.bytecode.specs.Machine.{as_kind as as_kind_of, fitted as fitted_of, zero_of as zero_word};
 ghost use Rattle.operands.specs.Words.{word_for};
 
@@ -60,11 +60,12 @@ fn overwrite(made: &mut [Word], kinds: &[WordKind], words: &[Word])
     }
 }
 
-/// Words of these kinds behind others: those given, and zeros where there are no more.
-fn append(made: &mut Vec<Word>, kinds: &[WordKind], words: &[Word]) -> Result<(), AllocError>
-    requires { made.old.items ≡ [] }
+/// Words of these kinds in place of more or fewer others: those given, and zeros where there are no more.
+#[inline(never)]
+fn refill(made: &mut Vec<Word>, kinds: &[WordKind], words: &[Word]) -> Result<(), AllocError>
     ensures { OnOk result (made.new.items ≡ fitted_of kinds.now words.now) }
 {
+    made.clear();
     for index in 0..kinds.len() {
         made.push(word_at(kinds[index], words, index))?;
     }
@@ -72,6 +73,7 @@ fn append(made: &mut Vec<Word>, kinds: &[WordKind], words: &[Word]) -> Result<()
 }
 
 /// Words of these kinds in place of others: those given, and zeros where there are no more.
+#[inline(always)]
 pub fn fit(made: &mut Vec<Word>, kinds: &[WordKind], words: &[Word]) -> Result<(), AllocError>
     ensures { OnOk result (made.new.items ≡ fitted_of kinds.now words.now) }
 {
@@ -79,8 +81,7 @@ pub fn fit(made: &mut Vec<Word>, kinds: &[WordKind], words: &[Word]) -> Result<(
         overwrite(made.as_mut_slice(), kinds, words);
         return Ok(());
     }
-    made.clear();
-    append(made, kinds, words)
+    refill(made, kinds, words)
 }
 
 /// The zero of a shape.
