@@ -75,7 +75,8 @@ impl<B: RunName> RunBook<B> {
         ensures taken { OnOk result (self.new.book ≡ record self.old.book { taken = self.old.book.taken + length self.old.book.pending; pending = [] }) }
         ensures memory { OnErr result (self.new.book ≡ self.old.book) }
     {
-        self.book.take_output()
+        let piece = self.book.take_output()?;
+        Ok(piece)
     }
 
     /// The bytes of the trace that were committed and not yet taken out.
@@ -85,6 +86,7 @@ impl<B: RunName> RunBook<B> {
         ensures taken { OnOk result (self.new.book ≡ record self.old.book { traced = self.old.book.traced + length self.old.book.lines; lines = [] }) }
         ensures memory { OnErr result (self.new.book ≡ self.old.book) }
     {
-        self.book.take_trace()
+        let piece = self.book.take_trace()?;
+        Ok(piece)
     }
 }
