@@ -1,3 +1,2 @@
 pub mod Asleep
 pub mod Channels
-pub mod Orders

@@ -3,7 +3,6 @@
 
 mod channel;
 mod channels;
-mod order;
 mod outcome;
 mod rows;
 mod sleepers;

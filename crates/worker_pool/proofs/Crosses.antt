@@ -19,10 +19,16 @@ use Rattle.channel_core.specs.contracts.sleepers.Sleepers.TheInside as sleepers
 use Rattle.goroutine_vm.proofs.state.GoState.TheSendSync.{the_send as state_send}
 use Rattle.slab.proofs.Slab.TheSendSync.{the_send as slab_send}
 use Rattle.sleep_queue.proofs.numbered_keys.NumberedKeys.TheSendSync.{the_send as keys_send}
-use Rattle.sleep_queue.proofs.queues.SleepQueues.TheSendSync.{the_send as queues_send}
+use Rattle.sleep_queue.proofs.rings.Rings.TheSendSync.{the_send as rings_send}
+use Rattle.sleep_queue.specs.contracts.offer.Kept as Kept
+use Rattle.sleep_queue.specs.contracts.offer.Node as Node
+use Rattle.sleep_queue.specs.contracts.offer.Stored as Stored
+use Rattle.sleep_queue.specs.contracts.queues.SleepQueues as SleepQueues
+use Rattle.sleep_queue.specs.contracts.queues.SleepQueues.TheInside as queues
 use Rattle.verifier.proofs.verified.Verified.TheSendSync.{the_send as verified_send, the_sync as verified_sync}
 use Rattle.word.proofs.end.End.TheSendSync.{the_send as end_send}
 use Rattle.word.proofs.request.Event.TheSendSync.{the_field_send as event_send}
+use Rattle.word.proofs.value.Item.TheSendSync.{the_send as item_send}
 use Rattle.logical_clock.proofs.clock.Clock.TheSendSync.{the_send as clock_send}
 use Rattle.awake_rows.proofs.orders.Orders.TheSendSync.{the_field_send as orders_send}
 use Rattle.awake_rows.proofs.slot.Standing.TheSendSync.{the_field_send as standing_send}
@@ -68,6 +74,28 @@ sleeper_inside = recorded_send sleeper.the_field.row _ _ sleeper.the_type.to_one
 
 sleeper_send : IsSend Sleeper.the_row
 sleeper_send = view_send _ _ _ _ _ sleeper_inside
+
+stored_send : IsSend Stored.the_field.row
+stored_send = struct_send (shape Stored.the_type) (search sendable, (search (sendable, crosses), tt))
+
+kept_send : IsSend Kept.the_field.row
+kept_send = struct_send (shape Kept.the_type) (search sendable, (search sendable, (search sendable, (search (sendable, crosses, stored_send) depth 20, tt))))
+
+node_send : IsSend Node.the_field.row
+node_send = struct_send (shape Node.the_type) (search sendable, (search sendable, (kept_send, tt)))
+
+queues_inside : IsSend queues.the_row
+queues_inside =
+    recorded_send queues.the_field.row _ _ queues.the_type.to_one (struct_send (shape queues.the_type) (
+      search (sendable, crosses, slab_send, node_send) depth 20,
+      (
+        search (sendable, crosses, slab_send, item_send) depth 20,
+        (search sendable, (rings_send, (search (sendable, crosses) depth 20, (rings_send, (keys_send, tt))))),
+      ),
+    ))
+
+queues_send : IsSend SleepQueues.the_row
+queues_send = view_send _ _ _ _ _ queues_inside
 
 sleepers_inside : IsSend sleepers.the_row
 sleepers_inside =
