@@ -3,7 +3,12 @@ use Rattle.std.proofs.Common.{◌≡◌, ◌∙◌, ℕ, Bool, true, false, List
 use Rattle.word.specs.declared.request.Case.{Case}
 use Rattle.word.specs.Values.{Item, Request, Send, Receive, Select}
 use Rattle.word.specs.Requests.{choose, receive_ready, send_ready, without}
-use Rattle.channel_core.specs.Channels.{ChannelsValue, Others, shared_with, Does, Sends, Receives, Serves}
+use Rattle.std.specs.Prelude.{drop, map, option_map, slice_index_or, slice_set, unwrap_or}
+use Rattle.std.proofs.lemmas.List.{set-get_or}
+use Rattle.std.proofs.lemmas.Option.{none-some}
+use Rattle.word.specs.Requests.{Deed, GoesOn, channel_of, got, happened, no_channel, partner, receive_from, sent}
+use Rattle.word.specs.Values.{Channel, Done, Offer, Reply, Shared, Sleeper}
+use Rattle.channel_core.specs.Channels.{ChannelsValue, IsServed, Others, Partner, after_passing, deed_of, partner_of, shared_with, Does, Sends, Receives, Serves}
 use Rattle.channel_core.specs.declared.outcome.Outcome.{Outcome}
 use Rattle.channel_core.specs.declared.outcome.Outcome.TheVariants as outcomes
 
@@ -12,6 +17,62 @@ send_done old new n k item outcome ready sends o c = rw (← ready o n c (Send (
 
 pub receive_done : (old new : ChannelsValue) (n k : ℕ) (outcome : Outcome) → ((o : Others) (m c : ℕ) (q : Request) → true ≡ receive_ready (shared_with o old) m c q k) → Receives old n k 0 outcome new → Does old n (Receive (Some k)) outcome new
 receive_done old new n k outcome ready receives o c = rw (← ready o n c (Receive (Some k))) (receives o c (Receive (Some k)))
+
+partner_inj : (a b : Partner) → Some a ≡ Some b → a ≡ b
+partner_inj a b e = ap (λ (o : Option Partner). unwrap_or o a) e
+
+-- a receive that meets one who sends
+pub receive_met : (old new : ChannelsValue) (k clause : ℕ) (p : Partner) (outcome : Outcome) → Some p ≡ option_map partner_of (partner k true old.asleep) → IsServed old k clause p outcome new → (n : ℕ) → Receives old n k clause outcome new
+receive_met old new k clause p outcome e served n o c q = at (partner k true old.asleep) e
+  where
+    at : (m : Option (Sleeper × Offer)) → Some p ≡ option_map partner_of m → receive_from (shared_with o old) n c q k (channel_of old.channels k) clause (channel_of old.channels k).items m ≡ deed_of o n c q outcome new
+    at None h = absurd (none-some p (sym h))
+    at (Some x) h = served o n c q x (partner_inj (partner_of x) p (sym h))
+
+-- a request is done with this reply, and these are woken with theirs
+abbrev pub deed : Others → ℕ → ℕ → Request → Reply → List (ℕ × Reply) → List Channel → List Sleeper → Deed
+deed o n c q r ws channels asleep =
+    let w : Shared = shared_with o (record { channels = channels; asleep = asleep }) in
+    record { fate = GoesOn r; woken = ws; started = []; shared = happened w n c q w (Done r) (map (λ (x : ℕ × Reply). x.0) ws) }
+
+abbrev pub told : ℕ → Reply → List (ℕ × Reply)
+told n r = (n, r) ∷ []
+
+-- the item of a sender passes through a channel's buffer
+module _ (old : ChannelsValue) (k clause : ℕ) (front : Item) (o : Others) (n c : ℕ) (q : Request) (x : Sleeper × Offer) where
+  abbrev ch : Channel
+  ch = channel_of old.channels k
+
+  abbrev sent_item : Item
+  sent_item = unwrap_or x.1.item []
+
+  abbrev woken : List (ℕ × Reply)
+  woken = (x.0.number, sent x.1.case) ∷ []
+
+  abbrev left : List Sleeper
+  left = without old.asleep x.0.number
+
+  passes : (xs : List Item) → ch.items ≡ xs → xs ++ sent_item ∷ [] ≡ front ∷ drop 1 (xs ++ sent_item ∷ [])
+      → receive_from (shared_with o old) n c q k ch clause xs (Some x) ≡ deed o n c q (got clause front true) woken (slice_set old.channels k (record ch { items = drop 1 (xs ++ sent_item ∷ []) })) left
+  passes [] e h =
+      let same : slice_set old.channels k (record ch { items = [] }) ≡ old.channels = ap (λ (l : List Item). slice_set old.channels k (record ch { items = l })) (sym e) ∙ set-get_or old.channels k no_channel in
+      ap (λ (i : Item). deed o n c q (got clause i true) woken old.channels left) (ap (λ (l : List Item). slice_index_or l 0 []) h)
+      ∙ ap (λ (cs : List Channel). deed o n c q (got clause front true) woken cs left) (sym same)
+  passes (y ∷ ys) e h =
+      ap (λ (i : Item). deed o n c q (got clause i true) woken (slice_set old.channels k (record ch { items = ys ++ sent_item ∷ [] })) left) (ap (λ (l : List Item). slice_index_or l 0 []) h)
+
+pub served : (old : ChannelsValue) (k clause : ℕ) (front : Item) (p : Partner) (r : Reply) (ws : List (ℕ × Reply)) (channels : List Channel) (asleep : List Sleeper)
+    → r ≡ got clause front true → ws ≡ (p.number, sent p.case) ∷ []
+    → (channel_of old.channels k).items ++ unwrap_or p.item [] ∷ [] ≡ front ∷ after_passing old.channels k (unwrap_or p.item [])
+    → channels ≡ slice_set old.channels k (record (channel_of old.channels k) { items = after_passing old.channels k (unwrap_or p.item []) }) → asleep ≡ without old.asleep p.number
+    → (o : Others) (n c : ℕ) (q : Request) (x : Sleeper × Offer) → partner_of x ≡ p
+    → receive_from (shared_with o old) n c q k (channel_of old.channels k) clause (channel_of old.channels k).items (Some x) ≡ deed o n c q r ws channels asleep
+served old k clause front p r ws channels asleep reply woke passed put gone o n c q x e =
+    passes old k clause front o n c q x (channel_of old.channels k).items refl (subst (λ (m : Partner). (channel_of old.channels k).items ++ unwrap_or m.item [] ∷ [] ≡ front ∷ after_passing old.channels k (unwrap_or m.item [])) (sym e) passed)
+    ∙ ap (λ (l : List Channel). deed o n c q (got clause front true) ((x.0.number, sent x.1.case) ∷ []) l (without old.asleep x.0.number)) (sym (subst (λ (m : Partner). channels ≡ slice_set old.channels k (record (channel_of old.channels k) { items = after_passing old.channels k (unwrap_or m.item []) })) (sym e) put))
+    ∙ ap (λ (l : List Sleeper). deed o n c q (got clause front true) ((x.0.number, sent x.1.case) ∷ []) channels l) (sym (subst (λ (m : Partner). asleep ≡ without old.asleep m.number) (sym e) gone))
+    ∙ ap (λ (l : List (ℕ × Reply)). deed o n c q (got clause front true) l channels asleep) (sym (subst (λ (m : Partner). ws ≡ (m.number, sent m.case) ∷ []) (sym e) woke))
+    ∙ ap (λ (a : Reply). deed o n c q a ws channels asleep) (sym reply)
 
 abbrev pub with_sleeper : ChannelsValue → ℕ → Request → ChannelsValue
 with_sleeper old n q = record { channels = old.channels; asleep = without old.asleep n ++ record { number = n; request = q } ∷ [] }

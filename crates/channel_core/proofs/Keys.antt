@@ -1,15 +1,15 @@
 -- Lists of keys, and what stands for them in rows.
-use Rattle.std.proofs.Common.{◌≡◌, ◌≢◌, ℕ, suc, ◌+◌, ◌*◌, Bool, true, false, not, ◌||◌, List, [], ◌∷◌, ◌++◌, length, append_assoc, Option, refl, sym, ap, ◌∙◌, subst, arith, inl, inr}
+use Rattle.std.proofs.Common.{◌≡◌, ◌≢◌, ℕ, suc, ◌+◌, Bool, true, false, not, ◌||◌, List, [], ◌∷◌, ◌++◌, length, append_assoc, Option, refl, sym, ap, ◌∙◌, subst, arith, inl, inr}
 use Rattle.std.specs.Prelude.{◌==◌, map}
 use Rattle.std.specs.List.{filter}
-use Rattle.std.specs.Option.{is_some}
-use Rattle.std.proofs.lemmas.Bool.{cases_eq, cases_Bool, both_ways, false≢true, or_cases, or_parts, or_from, or_left, or_right}
+use Rattle.std.proofs.lemmas.Bool.{cases_eq, both_ways, false≢true, or_cases, or_parts, or_from, or_left, or_right}
 use Rattle.std.proofs.lemmas.Bool.Decides.{nat_tests}
 use Rattle.std.proofs.lemmas.List.Elements.{filter-append}
 use Rattle.word.specs.Values.{Request, Sleeper, Offer}
 use Rattle.word.specs.Requests.{offers, without}
 use Rattle.sleep_queue.specs.Queue.{Waiting, is_not_of as is_not_of_number}
-use Rattle.channel_core.specs.Asleep.{Placed, placed_of, row_on, placed_offer, mark, placed_all, is_not_of, keys_in, held, asleep_of, placed_by, has, AreDistinct}
+use Rattle.channel_core.specs.Asleep.{Placed, placed_of, placed_offer, placed_all, is_not_of, held, asleep_of, placed_by, has, AreDistinct}
+use Rattle.channel_core.specs.Orders.{is_not}
 
 pub same_key : (a b : ℕ) → a ≡ b → (a == b) ≡ true
 same_key a b e = grind (arith, nat_tests, e)
@@ -22,9 +22,6 @@ kept_one p x xs e = rw e refl
 
 pub dropped_one : {A : Type 0} (p : A → Bool) (x : A) (xs : List A) → p x ≡ false → filter p (x ∷ xs) ≡ filter p xs
 dropped_one p x xs e = rw e refl
-
-abbrev pub is_not : ℕ → ℕ → Bool
-is_not k j = not (j == k)
 
 pub stays : (j k : ℕ) → j ≢ k → is_not k j ≡ true
 stays j k e = ap not (other_key j k e)
@@ -100,40 +97,9 @@ distinct_more k (j ∷ ks) d h =
     let p = or_parts (j == k) (has k ks) h in
     (has_more_other j k (λ (e : j ≡ k). both_ways (j == k) p.0 (same_key j k e)) ks ∙ d.0, distinct_more k ks d.1 p.1)
 
--- ---- the keys of what stands in rows
-
-marked : (p : Placed) (ps : List Placed) → (p.row == 0) ≡ true → keys_in (p ∷ ps) ≡ p.entry.number ∷ keys_in ps
-marked p ps e = rw e refl
-
-unmarked : (p : Placed) (ps : List Placed) → (p.row == 0) ≡ false → keys_in (p ∷ ps) ≡ keys_in ps
-unmarked p ps e = rw e refl
-
-pub keys_in-append : (ps qs : List Placed) → keys_in (ps ++ qs) ≡ keys_in ps ++ keys_in qs
-keys_in-append [] qs = refl
-keys_in-append (p ∷ ps) qs = elim (cases_Bool (p.row == 0)) [
-  | inl e ↦ marked p (ps ++ qs) e ∙ ap (λ (l : List ℕ). p.entry.number ∷ l) (keys_in-append ps qs) ∙ sym (ap (λ (l : List ℕ). l ++ keys_in qs) (marked p ps e))
-  | inr e ↦ unmarked p (ps ++ qs) e ∙ keys_in-append ps qs ∙ sym (ap (λ (l : List ℕ). l ++ keys_in qs) (unmarked p ps e))
-]
-
-row_is_not_0 : (c : ℕ) (b : Bool) → (row_on c b == 0) ≡ false
-row_is_not_0 c true = other_key (2 * c + 3) 0 (λ (e : 2 * c + 3 ≡ 0). omega arith)
-row_is_not_0 c false = other_key (2 * c + 2) 0 (λ (e : 2 * c + 2 ≡ 0). omega arith)
-
-no_keys : (k : ℕ) (os : List Offer) → keys_in (map (placed_offer k) os) ≡ []
-no_keys k [] = refl
-no_keys k (o ∷ os) = unmarked (placed_offer k o) (map (placed_offer k) os) (row_is_not_0 o.chan (is_some o.item)) ∙ no_keys k os
-
-pub one_key : (k : ℕ) (q : Request) → keys_in (placed_all k q) ≡ k ∷ []
-one_key k q = marked (mark k) (map (placed_offer k) (offers q)) refl ∙ ap (λ (l : List ℕ). k ∷ l) (no_keys k (offers q))
+-- ---- what stands in rows for several keys
 
 module _ (slot : ℕ → Option Sleeper) where
-  pub keys_placed : (ks : List ℕ) → keys_in (placed_by slot ks) ≡ ks
-  keys_placed [] = refl
-  keys_placed (k ∷ ks) =
-      keys_in-append (placed_all k (held (slot k)).request) (placed_by slot ks)
-      ∙ ap (λ (l : List ℕ). l ++ keys_in (placed_by slot ks)) (one_key k (held (slot k)).request)
-      ∙ ap (λ (l : List ℕ). k ∷ l) (keys_placed ks)
-
   pub placed_by-append : (ks js : List ℕ) → placed_by slot (ks ++ js) ≡ placed_by slot ks ++ placed_by slot js
   placed_by-append [] js = refl
   placed_by-append (k ∷ ks) js =
@@ -151,10 +117,10 @@ stay_all k j e [] = refl
 stay_all k j e (o ∷ os) = kept_one (is_not_of k) (placed_offer j o) (map (placed_offer j) os) (stays j k e) ∙ ap (λ (l : List Placed). placed_offer j o ∷ l) (stay_all k j e os)
 
 pub all_go : (k j : ℕ) → j ≡ k → (q : Request) → filter (is_not_of k) (placed_all j q) ≡ []
-all_go k j e q = dropped_one (is_not_of k) (mark j) (map (placed_offer j) (offers q)) (goes j k e) ∙ gone_all k j e (offers q)
+all_go k j e q = gone_all k j e (offers q)
 
 pub all_stay : (k j : ℕ) → j ≢ k → (q : Request) → filter (is_not_of k) (placed_all j q) ≡ placed_all j q
-all_stay k j e q = kept_one (is_not_of k) (mark j) (map (placed_offer j) (offers q)) (stays j k e) ∙ ap (λ (l : List Placed). mark j ∷ l) (stay_all k j e (offers q))
+all_stay k j e q = stay_all k j e (offers q)
 
 pub filter-placed_by : (slot : ℕ → Option Sleeper) (k : ℕ) (ks : List ℕ) → filter (is_not_of k) (placed_by slot ks) ≡ placed_by slot (filter (is_not k) ks)
 filter-placed_by slot k [] = refl

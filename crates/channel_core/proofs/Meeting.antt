@@ -9,9 +9,8 @@ use Rattle.word.specs.Values.{Item, Request, Sleeper, Offer, Reply}
 use Rattle.word.specs.Requests.{also, close_reply, first_offer, first_on, offers, or_else, partner, partners, without, without_all}
 use Rattle.sleep_queue.specs.declared.offer.Offer.{Offer as Entry}
 use Rattle.sleep_queue.specs.Queue.{Waiting, first}
-use Rattle.channel_core.specs.declared.sleepers.Partner.{Partner}
-use Rattle.channel_core.specs.Asleep.{Placed, placed_of, row_on, placed_offer, mark, placed_all, held, asleep_of, placed_by, has, AreDistinct}
-use Rattle.channel_core.specs.Channels.{closed_for, partner_of}
+use Rattle.channel_core.specs.Asleep.{Placed, placed_of, row_on, placed_offer, placed_all, held, asleep_of, placed_by, has, AreDistinct}
+use Rattle.channel_core.specs.Channels.{Partner, closed_for, partner_of}
 use Rattle.channel_core.proofs.Keys.{same_key, other_key, kept_one, dropped_one, has_head, has_tail, left_in, left_out, without_none}
 
 -- the first entry of the rows that pass
@@ -52,7 +51,7 @@ module _ (t : ℕ → Bool) where
 
   -- what passes is what a search of the offers themselves finds
   module _ (u : Offer → Bool) (found : List Offer → Option Offer) (none : found [] ≡ None) (step : (o : Offer) (os : List Offer) → found (o ∷ os) ≡ cond (u o) (Some o) (found os))
-      (same : (o : Offer) → t (row_on o.chan (is_some o.item)) ≡ u o) (not_mark : t 0 ≡ false) where
+      (same : (o : Offer) → t (row_on o.chan (is_some o.item)) ≡ u o) where
     first_of_offers : (k : ℕ) (os : List Offer) → first_by t (map (placed_offer k) os) ≡ option_map (entry_of k) (found os)
     first_of_offers k [] = sym (ap (option_map (entry_of k)) none)
     first_of_offers k (o ∷ os) = elim (cases_Bool (u o)) [
@@ -63,7 +62,7 @@ module _ (t : ℕ → Bool) where
 
     first_of_sleeper : (k : ℕ) (q : Request) (rest : List Placed) → first_by t (placed_all k q ++ rest) ≡ or_first (option_map (entry_of k) (found (offers q))) (first_by t rest)
     first_of_sleeper k q rest =
-        first_by-append (placed_all k q) rest ∙ ap (λ (o : Option Entry). or_first o (first_by t rest)) (miss (mark k) (map (placed_offer k) (offers q)) not_mark ∙ first_of_offers k (offers q))
+        first_by-append (placed_all k q) rest ∙ ap (λ (o : Option Entry). or_first o (first_by t rest)) (first_of_offers k (offers q))
 
 -- ---- the partner
 
@@ -72,19 +71,15 @@ on_row c sends r = r == row_on c sends
 
 on_its_row : (c d : ℕ) (sends b : Bool) → (row_on d b == row_on c sends) ≡ ((d == c) && cond sends b (not b))
 on_its_row c d true true = elim (cases_eq d c) [
-  | inl e ↦ same_key (2 * d + 3) (2 * c + 3) (omega arith) ∙ sym (and_from (d == c) true (same_key d c e) refl)
-  | inr e ↦ other_key (2 * d + 3) (2 * c + 3) (λ (h : 2 * d + 3 ≡ 2 * c + 3). e (omega arith)) ∙ sym (and_left (d == c) true (other_key d c e))
+  | inl e ↦ same_key (2 * d + 1) (2 * c + 1) (omega arith) ∙ sym (and_from (d == c) true (same_key d c e) refl)
+  | inr e ↦ other_key (2 * d + 1) (2 * c + 1) (λ (h : 2 * d + 1 ≡ 2 * c + 1). e (omega arith)) ∙ sym (and_left (d == c) true (other_key d c e))
 ]
-on_its_row c d true false = other_key (2 * d + 2) (2 * c + 3) (λ (h : 2 * d + 2 ≡ 2 * c + 3). omega arith) ∙ sym (and_right (d == c) false refl)
-on_its_row c d false true = other_key (2 * d + 3) (2 * c + 2) (λ (h : 2 * d + 3 ≡ 2 * c + 2). omega arith) ∙ sym (and_right (d == c) false refl)
+on_its_row c d true false = other_key (2 * d) (2 * c + 1) (λ (h : 2 * d ≡ 2 * c + 1). omega arith) ∙ sym (and_right (d == c) false refl)
+on_its_row c d false true = other_key (2 * d + 1) (2 * c) (λ (h : 2 * d + 1 ≡ 2 * c). omega arith) ∙ sym (and_right (d == c) false refl)
 on_its_row c d false false = elim (cases_eq d c) [
-  | inl e ↦ same_key (2 * d + 2) (2 * c + 2) (omega arith) ∙ sym (and_from (d == c) true (same_key d c e) refl)
-  | inr e ↦ other_key (2 * d + 2) (2 * c + 2) (λ (h : 2 * d + 2 ≡ 2 * c + 2). e (omega arith)) ∙ sym (and_left (d == c) true (other_key d c e))
+  | inl e ↦ same_key (2 * d) (2 * c) (omega arith) ∙ sym (and_from (d == c) true (same_key d c e) refl)
+  | inr e ↦ other_key (2 * d) (2 * c) (λ (h : 2 * d ≡ 2 * c). e (omega arith)) ∙ sym (and_left (d == c) true (other_key d c e))
 ]
-
-mark_is_off : (c : ℕ) (sends : Bool) → (0 == row_on c sends) ≡ false
-mark_is_off c true = other_key 0 (2 * c + 3) (λ (h : 0 ≡ 2 * c + 3). omega arith)
-mark_is_off c false = other_key 0 (2 * c + 2) (λ (h : 0 ≡ 2 * c + 2). omega arith)
 
 abbrev pub partner_at : (ℕ → Option Sleeper) → Entry → Partner
 partner_at slot e = record { number = (held (slot e.number)).number; case = e.case; item = e.item }
@@ -101,7 +96,7 @@ module _ (slot : ℕ → Option Sleeper) (c : ℕ) where
       picked k (first_offer c sends (offers (held (slot k)).request)) (partner c sends (asleep_of slot ks)) (first_by (on_row c sends) (placed_by slot ks)) (partner_first sends ks)
       ∙ sym (ap (option_map (partner_at slot))
       (first_of_sleeper (on_row c sends) (λ (o : Offer). (o.chan == c) && cond sends (is_some o.item) (not (is_some o.item))) (first_offer c sends) refl (λ o os. refl)
-      (λ o. on_its_row c o.chan sends (is_some o.item)) (mark_is_off c sends) k (held (slot k)).request (placed_by slot ks)))
+      (λ o. on_its_row c o.chan sends (is_some o.item)) k (held (slot k)).request (placed_by slot ks)))
 
 -- ---- those whom a close wakes
 
@@ -110,14 +105,14 @@ on_channel c r = (r == row_on c false) || (r == row_on c true)
 
 on_its_channel : (c d : ℕ) (b : Bool) → on_channel c (row_on d b) ≡ (d == c)
 on_its_channel c d true = elim (cases_eq d c) [
-  | inl e ↦ or_right (2 * d + 3 == 2 * c + 2) (2 * d + 3 == 2 * c + 3) (same_key (2 * d + 3) (2 * c + 3) (omega arith)) ∙ sym (same_key d c e)
-  | inr e ↦ or_from (2 * d + 3 == 2 * c + 2) (2 * d + 3 == 2 * c + 3) (other_key (2 * d + 3) (2 * c + 2) (λ (h : 2 * d + 3 ≡ 2 * c + 2). omega arith))
-      (other_key (2 * d + 3) (2 * c + 3) (λ (h : 2 * d + 3 ≡ 2 * c + 3). e (omega arith))) ∙ sym (other_key d c e)
+  | inl e ↦ or_right (2 * d + 1 == 2 * c) (2 * d + 1 == 2 * c + 1) (same_key (2 * d + 1) (2 * c + 1) (omega arith)) ∙ sym (same_key d c e)
+  | inr e ↦ or_from (2 * d + 1 == 2 * c) (2 * d + 1 == 2 * c + 1) (other_key (2 * d + 1) (2 * c) (λ (h : 2 * d + 1 ≡ 2 * c). omega arith))
+      (other_key (2 * d + 1) (2 * c + 1) (λ (h : 2 * d + 1 ≡ 2 * c + 1). e (omega arith))) ∙ sym (other_key d c e)
 ]
 on_its_channel c d false = elim (cases_eq d c) [
-  | inl e ↦ or_left (2 * d + 2 == 2 * c + 2) (2 * d + 2 == 2 * c + 3) (same_key (2 * d + 2) (2 * c + 2) (omega arith)) ∙ sym (same_key d c e)
-  | inr e ↦ or_from (2 * d + 2 == 2 * c + 2) (2 * d + 2 == 2 * c + 3) (other_key (2 * d + 2) (2 * c + 2) (λ (h : 2 * d + 2 ≡ 2 * c + 2). e (omega arith)))
-      (other_key (2 * d + 2) (2 * c + 3) (λ (h : 2 * d + 2 ≡ 2 * c + 3). omega arith)) ∙ sym (other_key d c e)
+  | inl e ↦ or_left (2 * d == 2 * c) (2 * d == 2 * c + 1) (same_key (2 * d) (2 * c) (omega arith)) ∙ sym (same_key d c e)
+  | inr e ↦ or_from (2 * d == 2 * c) (2 * d == 2 * c + 1) (other_key (2 * d) (2 * c) (λ (h : 2 * d ≡ 2 * c). e (omega arith)))
+      (other_key (2 * d) (2 * c + 1) (λ (h : 2 * d ≡ 2 * c + 1). omega arith)) ∙ sym (other_key d c e)
 ]
 
 -- no two have one number
@@ -169,8 +164,7 @@ module _ (slot : ℕ → Option Sleeper) (c : ℕ) (z : Item) where
   wakes [] a = refl
   wakes (k ∷ ks) a =
       subst (Wakes (asleep_of slot (k ∷ ks)))
-      (sym (first_of_sleeper (on_channel c) (λ (o : Offer). o.chan == c) (first_on c) refl (λ o os. refl) (λ o. on_its_channel c o.chan (is_some o.item))
-      (or_from (0 == row_on c false) (0 == row_on c true) (mark_is_off c false) (mark_is_off c true)) k (held (slot k)).request (placed_by slot ks)))
+      (sym (first_of_sleeper (on_channel c) (λ (o : Offer). o.chan == c) (first_on c) refl (λ o os. refl) (λ o. on_its_channel c o.chan (is_some o.item)) k (held (slot k)).request (placed_by slot ks)))
       (wakes_first k (asleep_of slot ks) (first_on c (offers (held (slot k)).request)) (first_by (on_channel c) (placed_by slot ks)) a refl (wakes ks a.1))
 
 -- ---- all of them

@@ -1,5 +1,5 @@
 -- Those who are asleep, as offers in rows.
-use Rattle.std.specs.Prelude.{◌≡◌, ℕ, ◌+◌, ◌*◌, ◌==◌, Bool, false, ◌||◌, not, cond, List, [], ◌∷◌, ◌++◌, map, length, Option, Some, None, option_map, unwrap_or}
+use Rattle.std.specs.Prelude.{◌≡◌, ℕ, ◌+◌, ◌*◌, ◌==◌, Bool, true, false, ◌||◌, not, List, [], ◌∷◌, ◌++◌, map, length, Option, Some, option_map, unwrap_or}
 use Rattle.std.specs.Option.{is_some}
 use Rattle.word.specs.Values.{Request, Exhausted, Sleeper, Offer}
 use Rattle.word.specs.Requests.{offers}
@@ -19,26 +19,18 @@ placed q = map placed_of q.waiting
 
 -- the row of the offers on channel c to send, and that of those to receive
 abbrev pub row_on : ℕ → Bool → ℕ
-row_on c sends = 2 * c + cond sends 3 2
+row_on c true = 2 * c + 1
+row_on c false = 2 * c
 
 abbrev pub placed_offer : ℕ → Offer → Placed
 placed_offer key o = record { row = row_on o.chan (is_some o.item); entry = record { number = key; case = o.case; chan = o.chan; item = o.item } }
 
--- in row 0 each sleeper stands once
-abbrev pub mark : ℕ → Placed
-mark key = record { row = 0; entry = record { number = key; case = 0; chan = 0; item = None } }
-
 -- where the sleeper of a key stands, which asked this
 abbrev pub placed_all : ℕ → Request → List Placed
-placed_all key q = mark key ∷ map (placed_offer key) (offers q)
+placed_all key q = map (placed_offer key) (offers q)
 
 abbrev pub is_not_of : ℕ → Placed → Bool
 is_not_of key p = not (p.entry.number == key)
-
--- the keys of those asleep, in the order in which they fell asleep
-abbrev pub keys_in : List Placed → List ℕ
-keys_in [] = []
-keys_in (p ∷ ps) = cond (p.row == 0) (p.entry.number ∷ keys_in ps) (keys_in ps)
 
 abbrev pub held : Option Sleeper → Sleeper
 held s = unwrap_or s (record { number = 0; request = Exhausted })
@@ -59,11 +51,12 @@ abbrev pub AreDistinct : List ℕ → Type 0
 AreDistinct [] = Unit {0}
 AreDistinct (k ∷ ks) = (has k ks ≡ false) × AreDistinct ks
 
--- each sleeper stands where its request offers something, and can be found by its number
-pub record IsAsleep (slot : ℕ → Option Sleeper) (key_of : ℕ → Option ℕ) (ps : List Placed) (count : ℕ) : Type 0 where
-  pub rows : ps ≡ placed_by slot (keys_in ps)
-  pub kept : (k : ℕ) → is_some (slot k) ≡ has k (keys_in ps)
+-- the sleepers of these keys, in the order in which they fell asleep: each stands where its request offers something, and can
+-- be found by its number
+pub record IsAsleep (slot : ℕ → Option Sleeper) (key_of : ℕ → Option ℕ) (ks : List ℕ) (ps : List Placed) (count : ℕ) : Type 0 where
+  pub rows : ps ≡ placed_by slot ks
+  pub kept : (k : ℕ) → is_some (slot k) ≡ has k ks
   pub known : (k : ℕ) (s : Sleeper) → slot k ≡ Some s → key_of s.number ≡ Some k
   pub named : (n k : ℕ) → key_of n ≡ Some k → option_map (λ (s : Sleeper). s.number) (slot k) ≡ Some n
-  pub distinct : AreDistinct (keys_in ps)
-  pub size : length (keys_in ps) ≡ count
+  pub distinct : AreDistinct ks
+  pub size : length ks ≡ count

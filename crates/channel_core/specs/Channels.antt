@@ -1,5 +1,5 @@
 -- The channels and sleepers of a world, and what a request to them does.
-use Rattle.std.specs.Prelude.{◌≡◌, ℕ, ℤ, List, [], ◌∷◌, ◌++◌, drop, length, map, slice_index_or, Option, Some, None}
+use Rattle.std.specs.Prelude.{◌≡◌, ℕ, ℤ, List, [], ◌∷◌, ◌++◌, drop, length, map, option_copied, slice_index_or, Option, Some, None}
 use Rattle.word.specs.declared.request.Case.{Case}
 use Rattle.word.specs.declared.end.End.{End as Ending}
 use Rattle.word.specs.declared.end.End.TheVariants.{Panicked}
@@ -9,7 +9,7 @@ use Rattle.word.specs.Requests.{Deed, GoesOn, Dozes, Stays, happened, act, chann
 use Rattle.word.specs.Views.{reply_of}
 use Rattle.channel_core.specs.declared.outcome.Outcome.{Outcome}
 use Rattle.channel_core.specs.declared.outcome.Outcome.TheVariants as outcomes
-use Rattle.channel_core.specs.declared.sleepers.Partner.{Partner}
+use Rattle.channel_core.specs.declared.sleepers.PartnerView.{PartnerView}
 
 -- channel c stands at place c, and place 0 is no channel's; sleepers stand in the order in which they fell asleep
 pub record ChannelsValue : Type 0 where
@@ -36,6 +36,15 @@ shared_with o v = record {
 }
 
 -- what is told of a sleeper and its offer: its number, the clause, and what it sends
+pub record Partner : Type 0 where
+  pub number : ℕ
+  pub case : ℕ
+  pub item : Option Item
+
+-- the same where the item is lent
+abbrev pub met : PartnerView → Partner
+met v = record { number = v.number; case = v.case; item = option_copied v.item }
+
 abbrev pub partner_of : Sleeper × Offer → Partner
 partner_of p = record { number = p.0.number; case = p.1.case; item = p.1.item }
 

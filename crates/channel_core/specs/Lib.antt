@@ -1,2 +1,3 @@
 pub mod Asleep
 pub mod Channels
+pub mod Orders

@@ -107,12 +107,15 @@ impl Channel {
 
     /// Puts an item at the buffer's back, and takes the one at its front, which is the same one where the buffer is
     /// empty.
-    pub(crate) fn pass_through(&mut self, item: Item) -> Result<Item, AllocError>
-        ensures ok { IfOk result (λ front. self.old.items ++ item ∷ [] ≡ front ∷ self.new.items) }
+    pub(crate) fn pass_through(&mut self, item: &Item) -> Result<Item, AllocError>
+        ensures ok { IfOk result (λ front. self.old.items ++ item.now ∷ [] ≡ front ∷ self.new.items) }
         ensures rest { OnOk result (self.new ≡ record self.old { items = self.new.items }) }
         ensures err { OnErr result (self.new ≡ self.old) }
     {
-        self.items.push_back(item)?;
+        if self.items.is_empty() {
+            return Ok(item.copy());
+        }
+        self.items.push_back(item.copy())?;
         match self.items.pop_front() {
             Some(front) => Ok(front),
             None => unreachable!(),

@@ -1,15 +1,15 @@
 //! The channels of a world, and those who sleep at them.
 
-ghost use Rattle.std.specs.Prelude.{◌≡◌, ℕ, ◌+◌, ◌<◌, ◌≤◌, ◌∷◌, [], ◌++◌, IfOk, IfNone, IfSome, OnErr, OnOk, Some, None, nat_lt, option_map, pos, suc, true, length, slice_index_or, slice_set, unwrap_or};
-ghost use Rattle.word.specs.Requests.{channel_of, choose, is_ready, no_channel, partner, receive_ready, send_ready, without};
+ghost use Rattle.std.specs.Prelude.{◌≡◌, ℕ, ◌+◌, ◌<◌, ◌≤◌, ◌∷◌, [], ◌++◌, IfOk, IfNone, IfSome, OnErr, OnOk, Some, None, nat_lt, option_copied, option_map, pos, suc, true, length, slice_index_or, slice_set, unwrap_or};
+ghost use Rattle.word.specs.Requests.{channel_of, choose, is_ready, no_channel, receive_ready, send_ready, without};
 ghost use Rattle.word.specs.Values.{Close, Make, Receive, Request as AnyRequest, Select, Send};
 ghost use Rattle.word.specs.Views.{reply_of, request_of};
-ghost use Rattle.channel_core.specs.Channels.{Does, IsAlone, IsOfChannels, IsTold, IsServed, Others, Receives, Sends, Serves, after_passing, capacity_of, clause_at, length_of, partner_of, shared_with};
+ghost use Rattle.channel_core.specs.Channels.{Does, IsAlone, IsOfChannels, IsTold, Others, Receives, Sends, Serves, after_passing, capacity_of, clause_at, length_of, shared_with};
 
 use crate::channel::Channel;
 use crate::outcome::{Outcome, Woken, got, sent};
 use crate::rows::copy_of;
-use crate::sleepers::{Partner, Sleepers};
+use crate::sleepers::Sleepers;
 use go_text::Memory;
 use std::alloc::Global;
 use std::marker::Model;
@@ -328,11 +328,12 @@ impl Channels {
         if self.is_closed(chan) {
             return Ok(Outcome::Panics(Panic::SendOnClosed, clause));
         }
-        match self.partner(chan, false) {
+        match self.asleep.partner(chan, false) {
             Some(partner) => {
+                let number = partner.number;
                 let reply = got(partner.case, item.copy(), true);
-                let woken = woken(self.alloc, partner.number, reply)?;
-                self.asleep.leave(partner.number);
+                let woken = woken(self.alloc, number, reply)?;
+                self.asleep.leave(number);
                 Ok(Outcome::Done(sent(clause), woken))
             }
             None => {
@@ -342,38 +343,17 @@ impl Channels {
         }
     }
 
-    /// The first sleeper with an offer on a channel, to send or to receive.
-    fn partner(&self, chan: u32, sends: bool) -> Option<Partner>
-        ensures { result ≡ option_map partner_of (partner chan sends self.now.asleep) }
-    {
-        self.asleep.partner(chan, sends)
-    }
-
     /// A receive that is ready.
     fn receive_now(&mut self, chan: u32, clause: usize) -> Result<Outcome, Memory>
         ensures receives { IfOk result (λ outcome. (n : ℕ) → Receives self.old n chan clause outcome self.new) }
         ensures memory { OnErr result (self.new ≡ self.old) }
     {
-        match self.partner(chan, true) {
-            Some(partner) => self.receive_from(chan, partner, clause),
-            None => Ok(self.receive_alone(chan, clause)),
-        }
-    }
-
-    /// A receive that meets a sleeping sender.
-    fn receive_from(
-        &mut self,
-        chan: u32,
-        partner: Partner,
-        clause: usize,
-    ) -> Result<Outcome, Memory>
-        ensures outcome { IfOk result (λ outcome. IsServed self.old chan clause partner outcome self.new) }
-        ensures memory { OnErr result (self.new ≡ self.old) }
-    {
-        let Partner { number, case, item } = partner;
-        let woken = woken(self.alloc, number, sent(case))?;
-        let offered = item_or_empty(self.alloc, item);
-        let received = pass_through(self.channels.as_mut_slice(), chan, offered)?;
+        let Some(partner) = self.asleep.partner(chan, true) else {
+            return Ok(self.receive_alone(chan, clause));
+        };
+        let number = partner.number;
+        let woken = woken(self.alloc, number, sent(partner.case))?;
+        let received = pass_through(self.alloc, &mut self.channels, chan, partner.item)?;
         self.asleep.leave(number);
         Ok(Outcome::Done(got(clause, received, true), woken))
     }
@@ -489,27 +469,38 @@ fn pop(channels: &mut [Channel], chan: u32) -> Option<Item>
     None
 }
 
-/// Puts an item at the back of a channel's buffer, and takes the one at its front, which is the same one where the
-/// buffer is empty.
-fn pass_through(channels: &mut [Channel], chan: u32, item: Item) -> Result<Item, Memory>
-    ensures ok { IfOk result (λ front. (channel_of channels.old chan).items ++ item ∷ [] ≡ front ∷ after_passing channels.old chan item) }
-    ensures rest { OnOk result (channels.new ≡ slice_set channels.old chan (record (channel_of channels.old chan) { items = after_passing channels.old chan item })) }
+/// Puts an item, or one of no words, at the back of a channel's buffer, and takes the one at its front, which is the same
+/// one where the buffer is empty.
+fn pass_through(
+    alloc: Global,
+    channels: &mut Vec<Channel>,
+    chan: u32,
+    item: Option<&Item>,
+) -> Result<Item, Memory>
+    ensures ok { IfOk result (λ front. (channel_of channels.old.items chan).items ++ unwrap_or (option_copied item.entry) [] ∷ [] ≡ front ∷ after_passing channels.old.items chan (unwrap_or (option_copied item.entry) [])) }
+    ensures rest { OnOk result (channels.new.items ≡ slice_set channels.old.items chan (record (channel_of channels.old.items chan) { items = after_passing channels.old.items chan (unwrap_or (option_copied item.entry) []) })) }
+    ensures err { OnErr result (channels.new.items ≡ channels.old.items) }
+{
+    match item {
+        Some(item) => pass_item(channels.as_mut_slice(), chan, item),
+        None => pass_item(
+            channels.as_mut_slice(),
+            chan,
+            &Item::new(alloc, [].as_slice()),
+        ),
+    }
+}
+
+/// The same of this item.
+fn pass_item(channels: &mut [Channel], chan: u32, item: &Item) -> Result<Item, Memory>
+    ensures ok { IfOk result (λ front. (channel_of channels.old chan).items ++ item.now ∷ [] ≡ front ∷ after_passing channels.old chan item.now) }
+    ensures rest { OnOk result (channels.new ≡ slice_set channels.old chan (record (channel_of channels.old chan) { items = after_passing channels.old chan item.now })) }
     ensures err { OnErr result (channels.new ≡ channels.old) }
 {
     if (chan as usize) < channels.len() {
         return Ok(channels[chan as usize].pass_through(item)?);
     }
-    Ok(item)
-}
-
-/// The item, or one of no words.
-fn item_or_empty(alloc: Global, item: Option<Item>) -> Item
-    ensures { result ≡ unwrap_or item [] }
-{
-    match item {
-        Some(item) => item,
-        None => Item::new(alloc, [].as_slice()),
-    }
+    Ok(item.copy())
 }
 
 /// One that was asleep, and what it is told.

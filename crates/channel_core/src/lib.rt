@@ -3,6 +3,7 @@
 
 mod channel;
 mod channels;
+mod order;
 mod outcome;
 mod rows;
 mod sleepers;

@@ -16,18 +16,18 @@ use steps::Steps;
 use word::request::{Case, Request};
 use word::value::Item;
 
-/// The row of the offers on a channel to send, or that of those to receive. In row 0 each sleeper stands once.
+/// The row of the offers on a channel to send, or that of those to receive.
 pub(crate) fn row_on(chan: u32, sends: bool) -> usize
     ensures { result ≡ row_on chan sends }
 {
     if sends {
-        2 * chan as usize + 3
+        2 * chan as usize + 1
     } else {
-        2 * chan as usize + 2
+        2 * chan as usize
     }
 }
 
-/// The sleeper of a key enters row 0, and its offers their rows: all, or none where memory is refused.
+/// The offers of a sleeper of this key enter their rows: all, or none where memory is refused.
 pub(crate) fn enter_all(queues: &mut SleepQueues, key: u64, request: &Request) -> Result<(), Memory>
     requires { filter (is_not_of key) (placed queues.old) ≡ placed queues.old }
     ensures ok { OnOk result (placed queues.new ≡ placed queues.old ++ placed_all key (request_of request.now)) }
@@ -47,16 +47,6 @@ fn try_enter_all(queues: &mut SleepQueues, key: u64, request: &Request) -> Resul
     ensures ok { OnOk result (placed queues.new ≡ placed queues.old ++ placed_all key (request_of request.now)) }
     ensures others { filter (is_not_of key) (placed queues.new) ≡ filter (is_not_of key) (placed queues.old) }
 {
-    enter(
-        queues,
-        0,
-        OfferView {
-            number: key,
-            case: 0,
-            chan: 0,
-            item: None,
-        },
-    )?;
     match request {
         Request::Send(Some(chan), item) => offer(queues, key, 0, *chan, Some(item)),
         Request::Receive(Some(chan)) => offer(queues, key, 0, *chan, None),
@@ -146,17 +136,6 @@ fn leave_counted<L: Ledger>(queues: &mut SleepQueues, key: u64, blank: Blank)
 #[inline(always)]
 pub(crate) fn copy_of(item: &Option<Item>) -> Option<Item>
     ensures { result ≡ item.now }
-{
-    match item {
-        Some(item) => Some(item.copy()),
-        None => None,
-    }
-}
-
-/// An item of its own.
-#[inline(always)]
-pub(crate) fn copied(item: Option<&Item>) -> Option<Item>
-    ensures { result ≡ option_copied item.entry }
 {
     match item {
         Some(item) => Some(item.copy()),

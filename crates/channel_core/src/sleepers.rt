@@ -8,10 +8,11 @@ ghost use Rattle.word.specs.Requests.{got, partner, partners, without, without_a
 ghost use Rattle.word.specs.Values.{Closed};
 ghost use Rattle.word.specs.Views.{reply_of, request_of};
 ghost use Rattle.channel_core.specs.Asleep.{is_not_of, placed, placed_all};
-ghost use Rattle.channel_core.specs.Channels.{closed_for, partner_of};
+ghost use Rattle.channel_core.specs.Channels.{closed_for, met, partner_of};
 
+use crate::order::Order;
 use crate::outcome::{Woken, got};
-use crate::rows::{copied, enter_all, leave_all, row_on};
+use crate::rows::{enter_all, leave_all, row_on};
 use go_text::Memory;
 use slab::Slab;
 use sleep_queue::{NumberedKeys, SleepQueues};
@@ -59,11 +60,11 @@ impl Sleeper {
 }
 
 /// Whom a request meets: a sleeper's number, the clause that is served (0 outside a select), and what it sends.
-#[derive(Drop)]
-pub struct Partner {
+#[derive(Clone, Copy)]
+pub struct PartnerView<'a> {
     pub number: u64,
     pub case: usize,
-    pub item: Option<Item>,
+    pub item: Option<&'a Item>,
 }
 
 /// Those who are asleep, in the order in which they fell asleep. Whom a request meets is found without a search.
@@ -74,9 +75,10 @@ pub(crate) struct Sleepers {
     slots: Slab<Sleeper>,
     /// Their keys, by their numbers.
     places: NumberedKeys,
-    /// In row 0 all sleepers, and in each other row the offers on one channel to send, or to receive. The number of an offer
-    /// is its sleeper's key.
+    /// In each row the offers on one channel to send, or to receive. The number of an offer is its sleeper's key.
     queues: SleepQueues,
+    /// Their keys, in the order in which they fell asleep.
+    order: Order,
 }
 
 impl Model for Sleepers {
@@ -84,13 +86,13 @@ impl Model for Sleepers {
     ghost use Rattle.slab.specs.Slab.{get, slab_len};
     ghost use Rattle.sleep_queue.specs.Queue.{owned};
     ghost use Rattle.word.specs.Values.{Sleeper as AnySleeper};
-    ghost use Rattle.channel_core.specs.Asleep.{IsAsleep, asleep_of, keys_in, placed};
+    ghost use Rattle.channel_core.specs.Asleep.{IsAsleep, asleep_of, placed};
 
     ghost Value = { List AnySleeper };
 
-    ghost view = { λ s. asleep_of (get s.slots) (keys_in (placed s.queues)) };
+    ghost view = { λ s. asleep_of (get s.slots) s.order };
 
-    ghost invariant = { λ s. IsAsleep (get s.slots) (owned s.places) (placed s.queues) (slab_len s.slots) };
+    ghost invariant = { λ s. IsAsleep (get s.slots) (owned s.places) s.order (placed s.queues) (slab_len s.slots) };
 }
 
 impl Sleepers {
@@ -106,6 +108,7 @@ impl Sleepers {
             slots: Slab::new(alloc),
             places: NumberedKeys::new(alloc),
             queues: SleepQueues::new(alloc),
+            order: Order::new(),
         }
     }
 
@@ -118,8 +121,8 @@ impl Sleepers {
 
     /// The first sleeper with an offer on a channel, to send or to receive, and its first such offer.
     #[inline(always)]
-    pub(crate) fn partner(&self, chan: u32, sends: bool) -> Option<Partner>
-        ensures { result ≡ option_map partner_of (partner chan sends self.now) }
+    pub(crate) fn partner(&self, chan: u32, sends: bool) -> Option<PartnerView<'_>>
+        ensures { option_map met result ≡ option_map partner_of (partner chan sends self.now) }
     {
         let Some(offer) = self.queues.first(row_on(chan, sends)) else {
             return None;
@@ -127,10 +130,10 @@ impl Sleepers {
         let Some(sleeper) = self.slots.get(offer.number as usize) else {
             unreachable!()
         };
-        Some(Partner {
+        Some(PartnerView {
             number: sleeper.number(),
             case: offer.case,
-            item: copied(offer.item),
+            item: offer.item,
         })
     }
 
@@ -150,8 +153,10 @@ impl Sleepers {
         let key = self.slots.vacant_key();
         let before = place(&mut self.queues, &mut self.places, number, key, request)?;
         self.slots.insert_reserved(Sleeper::new(number, request));
+        self.order.enter(key);
         if let Some(old) = before {
             self.slots.remove(old);
+            self.order.leave(old);
             leave_all(&mut self.queues, old as u64);
         }
         Ok(())
@@ -163,6 +168,7 @@ impl Sleepers {
     {
         if let Some(key) = self.places.remove(number) {
             self.slots.remove(key);
+            self.order.leave(key);
             leave_all(&mut self.queues, key as u64);
         }
     }

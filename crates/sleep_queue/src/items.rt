@@ -16,7 +16,7 @@ pub(crate) fn store(items: &mut Slab<Item>, item: Option<&Item>) -> Option<Store
     ensures item { stored_item result ≡ option_copied item.entry }
     ensures at { IfSome result (λ s. get items.new s.place ≡ Some s.item.value) }
     ensures free { IfSome result (λ s. get items.old s.place ≡ None) }
-    ensures others { (p : ℕ) → get items.old p ≢ None → get items.new p ≡ get items.old p }
+    ensures others { (p : ℕ) → ((s : Stored) → result ≡ Some s → p ≢ s.place) → get items.new p ≡ get items.old p }
 {
     match item {
         Some(item) => {
@@ -32,6 +32,7 @@ pub(crate) fn store(items: &mut Slab<Item>, item: Option<&Item>) -> Option<Store
 
 /// Takes an item, if there is one, out of the store.
 pub(crate) fn forget(items: &mut Slab<Item>, stored: &Option<Stored>)
+    ensures gone { (s : Stored) → stored.now ≡ Some s → get items.new s.place ≡ None }
     ensures others { (p : ℕ) → ((s : Stored) → stored.now ≡ Some s → p ≢ s.place) → get items.new p ≡ get items.old p }
 {
     if let Some(stored) = stored {

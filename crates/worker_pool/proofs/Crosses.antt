@@ -12,6 +12,8 @@ use Rattle.book.specs.contracts.book_model.Book.TheInside as book
 use Rattle.channel_core.proofs.channel.Channel.TheSendSync.{the_send as channel_send}
 use Rattle.channel_core.specs.contracts.channels.Channels as Channels
 use Rattle.channel_core.specs.contracts.channels.Channels.TheInside as channels
+use Rattle.channel_core.specs.contracts.order.Order as Order
+use Rattle.channel_core.specs.contracts.order.Order.TheInside as order
 use Rattle.channel_core.specs.contracts.sleepers.Sleeper as Sleeper
 use Rattle.channel_core.specs.contracts.sleepers.Sleeper.TheInside as sleeper
 use Rattle.channel_core.specs.contracts.sleepers.Sleepers as Sleepers
@@ -75,6 +77,12 @@ sleeper_inside = recorded_send sleeper.the_field.row _ _ sleeper.the_type.to_one
 sleeper_send : IsSend Sleeper.the_row
 sleeper_send = view_send _ _ _ _ _ sleeper_inside
 
+order_inside : IsSend order.the_row
+order_inside = recorded_send order.the_field.row _ _ order.the_type.to_one (struct_send (shape order.the_type) (search (sendable, crosses), tt))
+
+order_send : IsSend Order.the_row
+order_send = view_send _ _ _ _ _ order_inside
+
 stored_send : IsSend Stored.the_field.row
 stored_send = struct_send (shape Stored.the_type) (search sendable, (search (sendable, crosses), tt))
 
@@ -101,7 +109,7 @@ sleepers_inside : IsSend sleepers.the_row
 sleepers_inside =
     recorded_send sleepers.the_field.row _ _ sleepers.the_type.to_one (struct_send (shape sleepers.the_type) (
       search (sendable, crosses),
-      (search (sendable, crosses, slab_send, sleeper_send) depth 20, (keys_send, (queues_send, tt))),
+      (search (sendable, crosses, slab_send, sleeper_send) depth 20, (keys_send, (queues_send, (order_send, tt)))),
     ))
 
 sleepers_send : IsSend Sleepers.the_row

@@ -7,7 +7,7 @@ use Rattle.sleep_queue.specs.Stored.{view_of}
 use Rattle.word.specs.Requests.{got, partners, without}
 use Rattle.word.specs.Values.{Closed, Reply, Sleeper}
 use Rattle.word.specs.Views.{reply_of}
-use Rattle.channel_core.specs.Asleep.{asleep_of, keys_in, placed}
+use Rattle.channel_core.specs.Asleep.{asleep_of}
 use Rattle.channel_core.specs.Channels.{closed_for}
 use Rattle.channel_core.proofs.Served.{close_found, close_there, is_some-copied, told_same}
 use Rattle.channel_core.proofs.sleepers.Sleepers.first_at_close.Goals as goal
@@ -15,11 +15,11 @@ use Rattle.channel_core.proofs.sleepers.Sleepers.first_at_close.Goals as goal
 pub returns-in_default-clause-none : goal.returns-in_default-clause-none
 returns-in_default-clause-none c =
     subst (λ (ss : List Sleeper). partners c.args.chan ss ≡ []) c.self.view_is
-    (close_found (get c.self.inside.slots) (owned c.self.inside.places) c.self.inside.queues (slab_len c.self.inside.slots) c.self.invariant c.args.chan c.row_on-receives.result c.row_on-sends.result c.row_on-receives.ensures c.row_on-sends.ensures c.args.zero.now None c.in_default.ensures)
+    (close_found (get c.self.inside.slots) (owned c.self.inside.places) c.self.inside.order c.self.inside.queues (slab_len c.self.inside.slots) c.self.invariant c.args.chan c.row_on-receives.result c.row_on-sends.result c.row_on-receives.ensures c.row_on-sends.ensures c.args.zero.now None c.in_default.ensures)
 
 pub unreachable-requires : goal.unreachable-requires
 unreachable-requires c =
-    close_there (get c.self.inside.slots) (owned c.self.inside.places) c.self.inside.queues (slab_len c.self.inside.slots) c.self.invariant c.args.chan c.row_on-receives.result c.row_on-sends.result c.row_on-receives.ensures c.row_on-sends.ensures (view_of c.in-Some.offer) c.in-Some.ensures (sym c.in_default-get.ensures)
+    close_there (get c.self.inside.slots) (owned c.self.inside.places) c.self.inside.order c.self.inside.queues (slab_len c.self.inside.slots) c.self.invariant c.args.chan c.row_on-receives.result c.row_on-sends.result c.row_on-receives.ensures c.row_on-sends.ensures (view_of c.in-Some.offer) c.in-Some.ensures (sym c.in_default-get.ensures)
 
 pub returns-clause-some : goal.returns-clause-some
 returns-clause-some c =
@@ -29,5 +29,5 @@ returns-clause-some c =
     let same = c.new.ensures ∙ told_same (get c.self.inside.slots) c.args.chan z (view_of c.in-Some.offer) c.in-Some-get.sleeper.now c.number.result (reply_of c.reply_at_close-reply.result) (sym c.in-Some-get.ensures) c.number.ensures reply in
     let here : (w : ℕ × Reply) → List Sleeper → Type 0 = λ w ss. closed_for z (partners c.args.chan ss) ≡ w ∷ closed_for z (partners c.args.chan (without ss w.0)) in
     subst (here c.new.result) c.self.view_is
-    (subst (λ (w : ℕ × Reply). here w (asleep_of (get c.self.inside.slots) (keys_in (placed c.self.inside.queues)))) (sym same)
-    (close_found (get c.self.inside.slots) (owned c.self.inside.places) c.self.inside.queues (slab_len c.self.inside.slots) c.self.invariant c.args.chan c.row_on-receives.result c.row_on-sends.result c.row_on-receives.ensures c.row_on-sends.ensures z (Some (view_of c.in-Some.offer)) c.in-Some.ensures))
+    (subst (λ (w : ℕ × Reply). here w (asleep_of (get c.self.inside.slots) c.self.inside.order)) (sym same)
+    (close_found (get c.self.inside.slots) (owned c.self.inside.places) c.self.inside.order c.self.inside.queues (slab_len c.self.inside.slots) c.self.invariant c.args.chan c.row_on-receives.result c.row_on-sends.result c.row_on-receives.ensures c.row_on-sends.ensures z (Some (view_of c.in-Some.offer)) c.in-Some.ensures))

@@ -13,5 +13,5 @@ pub returns : goal.returns
 returns c =
     c.is_some.ensures ∙ sym (is_some-map view_of c.first.result)
     ∙ ap is_some (c.first.ensures ∙ ap (λ (r : ℕ). option_map (λ (w : Waiting). w.offer) (first (row_of r c.self.inside.queues.waiting))) c.row_on.ensures)
-    ∙ sym (has_partner_is (get c.self.inside.slots) (owned c.self.inside.places) c.self.inside.queues (slab_len c.self.inside.slots) c.self.invariant c.args.chan c.args.sends)
+    ∙ sym (has_partner_is (get c.self.inside.slots) (owned c.self.inside.places) c.self.inside.order c.self.inside.queues (slab_len c.self.inside.slots) c.self.invariant c.args.chan c.args.sends)
     ∙ ap (λ (ss : List Sleeper). is_some (partner c.args.chan c.args.sends ss)) c.self.view_is
