@@ -1,4 +1,4 @@
-use Rattle.std.proofs.Common.{refl, ap}
+use Rattle.std.proofs.Common.{ap}
 use Rattle.run_queue.proofs.Moves.{begins, ends}
 use Rattle.run_queue.proofs.queue.RunQueue.new.Goals as goal
 
