@@ -3,6 +3,8 @@ use Rattle.std.specs.Prelude.{ℕ, ◌+◌, ◌-◌, Bool, true, false, List, []
 use Rattle.std.specs.Fmt.{signed_decimal}
 use Rattle.bytecode.specs.declared.instr.Instr.{Instr}
 use Rattle.bytecode.specs.declared.instr.Instr.TheVariants as instrs
+use Rattle.bytecode.specs.declared.lines.Operands.{Operands}
+use Rattle.bytecode.specs.declared.lines.Operands.TheVariants as operands
 use Rattle.bytecode.specs.Code.{Function, Code}
 use Rattle.word.specs.declared.apply.Op.{Op}
 use Rattle.word.specs.declared.apply.Op.TheVariants as ops
@@ -63,6 +65,16 @@ instr_text instrs.Len = codes "len"
 instr_text instrs.Cap = codes "cap"
 instr_text (instrs.Print q) = codes "print " ++ decimal q
 instr_text (instrs.Select q) = codes "select " ++ decimal q
+
+-- what is listed behind an instruction's name
+abbrev pub operands_text : Operands → List ℕ
+operands_text operands.Nothing = []
+operands_text (operands.Number n) = codes " " ++ signed_decimal n
+operands_text (operands.Truth b) = codes " " ++ truth_name b
+operands_text (operands.Operator op) = codes " " ++ op_name op
+operands_text (operands.One a) = codes " " ++ decimal a
+operands_text (operands.Two a b) = codes " " ++ decimal a ++ codes " " ++ decimal b
+operands_text (operands.Three a b c) = codes " " ++ decimal a ++ codes " " ++ decimal b ++ codes " " ++ decimal c
 
 -- on the right of six places, or of more where it is longer
 abbrev pub right_aligned : List ℕ → List ℕ

@@ -2,7 +2,7 @@
 
 ghost use Rattle.std.specs.Prelude.{◌≡◌, ◌++◌, IfOk, OnOk, Some, string_bytes};
 ghost use Rattle.std.specs.Fmt.{DisplaysOnOk};
-ghost use Rattle.bytecode.specs.Listing.{function_lines, heading, instr_line, instr_lines, instr_text, listing as listing_of, op_name as name_of};
+ghost use Rattle.bytecode.specs.Listing.{function_lines, heading, instr_line, instr_lines, instr_text, listing as listing_of, op_name as name_of, operands_text};
 
 use crate::code::{Code, Function};
 use crate::instr::Instr;
@@ -43,38 +43,74 @@ fn op_name(op: Op) -> &'static str
     }
 }
 
+/// What is listed behind an instruction's name.
+#[derive(Clone, Copy)]
+enum Operands {
+    Nothing,
+    Number(i64),
+    Truth(bool),
+    Operator(Op),
+    One(u32),
+    Two(u32, u32),
+    Three(u32, u32, u32),
+}
+
+/// An instruction's name and operands.
+fn named(instr: Instr) -> (&'static str, Operands)
+    ensures { instr_text instr ≡ result.0.now ++ operands_text result.1 }
+{
+    match instr {
+        Instr::Int(number) => ("int", Operands::Number(number)),
+        Instr::Bool(truth) => ("bool", Operands::Truth(truth)),
+        Instr::Nil(shape) => ("nil", Operands::One(shape)),
+        Instr::Load(first, count) => ("load", Operands::Two(first, count)),
+        Instr::Store(first, count) => ("store", Operands::Two(first, count)),
+        Instr::Pick(top, first, count) => ("pick", Operands::Three(top, first, count)),
+        Instr::Discard(count) => ("drop", Operands::One(count)),
+        Instr::Apply(op) => ("apply", Operands::Operator(op)),
+        Instr::Tick => ("tick", Operands::Nothing),
+        Instr::Jump(to) => ("jump", Operands::One(to)),
+        Instr::Unless(to) => ("unless", Operands::One(to)),
+        Instr::Loop(to) => ("loop", Operands::One(to)),
+        Instr::Call(function) => ("call", Operands::One(function)),
+        Instr::Return => ("return", Operands::Nothing),
+        Instr::Make(shape) => ("make", Operands::One(shape)),
+        Instr::Go(function) => ("go", Operands::One(function)),
+        Instr::Send(shape) => ("send", Operands::One(shape)),
+        Instr::Receive(shape) => ("receive", Operands::One(shape)),
+        Instr::Close => ("close", Operands::Nothing),
+        Instr::Len => ("len", Operands::Nothing),
+        Instr::Cap => ("cap", Operands::Nothing),
+        Instr::Print(table) => ("print", Operands::One(table)),
+        Instr::Select(table) => ("select", Operands::One(table)),
+    }
+}
+
+impl fmt::Display for Operands {
+    ghost output = { λ o. Some (operands_text o) };
+
+    fn fmt<W: fmt::Write>(&self, f: &mut fmt::Formatter<W>) -> fmt::Result {
+        match *self {
+            Operands::Nothing => Ok(()),
+            Operands::Number(number) => write!(f, " {number}"),
+            Operands::Truth(truth) => write!(f, " {truth}"),
+            Operands::Operator(op) => {
+                let name = op_name(op);
+                write!(f, " {name}")
+            }
+            Operands::One(one) => write!(f, " {one}"),
+            Operands::Two(one, two) => write!(f, " {one} {two}"),
+            Operands::Three(one, two, three) => write!(f, " {one} {two} {three}"),
+        }
+    }
+}
+
 impl fmt::Display for Instr {
     ghost output = { λ i. Some (instr_text i) };
 
     fn fmt<W: fmt::Write>(&self, f: &mut fmt::Formatter<W>) -> fmt::Result {
-        match *self {
-            Instr::Int(number) => write!(f, "int {number}"),
-            Instr::Bool(truth) => write!(f, "bool {truth}"),
-            Instr::Nil(shape) => write!(f, "nil {shape}"),
-            Instr::Load(first, count) => write!(f, "load {first} {count}"),
-            Instr::Store(first, count) => write!(f, "store {first} {count}"),
-            Instr::Pick(top, first, count) => write!(f, "pick {top} {first} {count}"),
-            Instr::Discard(count) => write!(f, "drop {count}"),
-            Instr::Apply(op) => {
-                let name = op_name(op);
-                write!(f, "apply {name}")
-            }
-            Instr::Tick => write!(f, "tick"),
-            Instr::Jump(to) => write!(f, "jump {to}"),
-            Instr::Unless(to) => write!(f, "unless {to}"),
-            Instr::Loop(to) => write!(f, "loop {to}"),
-            Instr::Call(function) => write!(f, "call {function}"),
-            Instr::Return => write!(f, "return"),
-            Instr::Make(shape) => write!(f, "make {shape}"),
-            Instr::Go(function) => write!(f, "go {function}"),
-            Instr::Send(shape) => write!(f, "send {shape}"),
-            Instr::Receive(shape) => write!(f, "receive {shape}"),
-            Instr::Close => write!(f, "close"),
-            Instr::Len => write!(f, "len"),
-            Instr::Cap => write!(f, "cap"),
-            Instr::Print(table) => write!(f, "print {table}"),
-            Instr::Select(table) => write!(f, "select {table}"),
-        }
+        let (name, operands) = named(*self);
+        write!(f, "{name}{operands}")
     }
 }
 

@@ -5,10 +5,10 @@ use Rattle.std.specs.Str.Parse.{ParsesUnsigned}
 use Rattle.std.proofs.lemmas.Bool.{false≢true}
 use Rattle.std.proofs.lemmas.Option.{none-some}
 use Rattle.std.specs.Bool.{Decides}
-use Rattle.clap.specs.Words.{App, ReadsOne, Row, Text, app_of, first_of, with_subcommand}
+use Rattle.clap.specs.Words.{App, ReadsOne, Row, Rule, Text, app_of, first_of, with_rule, with_subcommand}
 use Rattle.clap.specs.declared.builder.command.Command.{Command}
 use Rattle.command_line.specs.declared.arguments.Invocation.{Invocation}
-use Rattle.command_line.specs.CommandLine.{Does, IsAsked, IsExtended, IsLocal, IsNumberThere}
+use Rattle.command_line.specs.CommandLine.{Does, IsAsked, IsExtended, IsLocal, IsNumberThere, IsTaking}
 
 -- what reads a text as an unsigned number of 64 bits reads the number that it is
 pub number_read : {E : Type 0} (gives : List ℕ → Result ℕ E → Type 0) (text same : Option (List ℕ)) → text ≡ same → (result : Option ℕ) → (text ≡ None → result ≡ None)
@@ -56,6 +56,19 @@ flag_there set value wanted found is tests = ((λ yes. sym is ∙ ap Some (tests
 -- one that is not there
 pub flag_missing : (wanted : List ℕ) (found : Option (List ℕ)) → None ≡ found → IsTrue false ↔ (found ≡ Some wanted)
 flag_missing wanted found is = ((λ yes. absurd (false≢true yes)), (λ same. absurd (none-some wanted (is ∙ same))))
+
+-- what takes this argument too, behind what took this before
+pub taken : {E : Type 0} (base : App) (rule : Rule) {more : Rule} (before after : Result Command E) → more ≡ rule → IfOk before (λ c. app_of c ≡ base)
+    → IfOk after (IsTaking before more) → IfOk after (λ c. app_of c ≡ with_rule base rule)
+taken base rule (Ok command) (Ok made) more same takes = takes.0 ∙ ap₂ with_rule same more
+taken base rule (Err e) (Ok made) more same takes = absurd takes
+taken base rule before (Err e) more same takes = tt
+
+-- and no argument of it is taken by its subcommands
+pub taken_locally : {E : Type 0} (more : Rule) (before after : Result Command E) → IfOk before IsLocal → IfOk after (IsTaking before more) → IfOk after IsLocal
+taken_locally more (Ok command) (Ok made) local takes = takes.1 local
+taken_locally more (Err e) (Ok made) local takes = absurd takes
+taken_locally more before (Err e) local takes = tt
 
 -- what takes this subcommand too, behind what took this before
 pub extended_by : {E : Type 0} (base sub : App) {app : App} (made : Result Command E) (command : Command) → app ≡ base → IfOk made (λ c. app_of c ≡ sub)

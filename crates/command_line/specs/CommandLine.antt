@@ -86,6 +86,11 @@ kendo = with_subcommand (with_subcommand first_commands timeline.top) run.top
 abbrev pub IsLocal : Command → Type 0
 IsLocal c = (out-Command c).has_globals ≡ false
 
+-- the command takes what this one takes, and this argument too
+abbrev pub IsTaking : {E : Type 0} → Result Command E → Rule → Command → Type 0
+IsTaking (Ok before) rule command = (app_of command ≡ with_rule (app_of before) rule) × (IsLocal before → IsLocal command)
+IsTaking (Err e) rule command = ⊥
+
 -- the command takes what this one takes, and this subcommand too
 abbrev pub IsExtended : {E : Type 0} → App → Result Command E → Command → Type 0
 IsExtended app (Ok subcommand) command = IsLocal subcommand → app_of command ≡ with_subcommand app (app_of subcommand).top

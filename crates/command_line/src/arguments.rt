@@ -1,8 +1,8 @@
 //! The command line.
 
 ghost use Rattle.std.specs.Prelude.{◌≡◌, ◌↔◌, false, codes, IfOk, IsTrue, Some};
-ghost use Rattle.clap.specs.Words.{app_of, first_of, found_of, one_of, rows_of, rule_of, subcommand_rows_of, with_rule};
-ghost use Rattle.command_line.specs.CommandLine.{IsAsked, IsDone, IsExtended, IsLocal, IsNumberThere, check, explain, file, first_commands, kendo, limit, list, named, number, out, plain_run, reference, run, timeline, trace, workers};
+ghost use Rattle.clap.specs.Words.{app_of, first_of, found_of, new_app, one_of, rows_of, rule_of, subcommand_rows_of, with_rule};
+ghost use Rattle.command_line.specs.CommandLine.{IsAsked, IsDone, IsExtended, IsLocal, IsNumberThere, IsTaking, check, explain, file, first_commands, kendo, limit, list, named, number, out, plain_run, reference, run, timeline, trace, workers};
 
 use clap::{Arg, ArgAction, ArgMatches, Command, value_parser};
 use std::alloc::{AllocError, Global};
@@ -26,7 +26,7 @@ Exit status:\n  \
 64  the command line, a number of workers (15), a limit (16) or a file can't be used";
 
 /// A command line that was accepted: what is done with which file.
-#[derive(Clone, Copy, Debug)]
+#[derive(Clone, Copy)]
 pub struct Invocation<'a> {
     /// The path, as it was typed.
     pub file: &'a str,
@@ -41,7 +41,7 @@ pub struct Invocation<'a> {
 }
 
 /// What is done with a text.
-#[derive(Clone, Copy, Debug)]
+#[derive(Clone, Copy)]
 pub enum Subcommand {
     /// It is checked.
     Check,
@@ -156,12 +156,26 @@ fn explain_argument<'a>(alloc: Global) -> Arg<'a>
         .action(ArgAction::SetTrue)
 }
 
-/// A command that also takes this option.
-fn explained<'a>(alloc: Global, command: Command<'a>) -> Result<Command<'a>, AllocError>
-    ensures app { IfOk result (λ c. app_of c ≡ with_rule (app_of command.entry) explain) }
-    ensures local { IsLocal command.entry → IfOk result IsLocal }
+/// A command that also takes this argument, where there was memory to make it.
+fn taking<'a>(
+    command: Result<Command<'a>, AllocError>,
+    argument: Arg<'a>,
+) -> Result<Command<'a>, AllocError>
+    requires { argument.global ≡ false }
+    ensures { IfOk result (IsTaking command.entry (rule_of argument.entry)) }
 {
-    command.arg(explain_argument(alloc))
+    let command = command?;
+    command.arg(argument)
+}
+
+/// A command of this name, which takes the text's file.
+fn text_command<'a>(alloc: Global, name: &'a str, about: &'a str) -> Result<Command<'a>, AllocError>
+    ensures app { IfOk result (λ c. app_of c ≡ with_rule (new_app name.entry.now) file) }
+    ensures local { IfOk result IsLocal }
+{
+    Command::new(alloc, name)
+        .about(about)
+        .arg(file_argument(alloc))
 }
 
 /// The command that checks a text.
@@ -169,10 +183,8 @@ fn check_command<'a>(alloc: Global) -> Result<Command<'a>, AllocError>
     ensures app { IfOk result (λ c. app_of c ≡ check) }
     ensures local { IfOk result IsLocal }
 {
-    let command = Command::new(alloc, "check")
-        .about("Checks whether a text is a program")
-        .arg(file_argument(alloc))?;
-    explained(alloc, command)
+    let command = text_command(alloc, "check", "Checks whether a text is a program");
+    taking(command, explain_argument(alloc))
 }
 
 /// The command that lists a program's code.
@@ -180,9 +192,7 @@ fn list_command<'a>(alloc: Global) -> Result<Command<'a>, AllocError>
     ensures app { IfOk result (λ c. app_of c ≡ list) }
     ensures local { IfOk result IsLocal }
 {
-    Command::new(alloc, "list")
-        .about("Lists the code of a program")
-        .arg(file_argument(alloc))
+    text_command(alloc, "list", "Lists the code of a program")
 }
 
 /// The command that interprets a program.
@@ -190,11 +200,9 @@ fn reference_command<'a>(alloc: Global) -> Result<Command<'a>, AllocError>
     ensures app { IfOk result (λ c. app_of c ≡ reference) }
     ensures local { IfOk result IsLocal }
 {
-    let command = Command::new(alloc, "reference")
-        .about("Interprets a program as it stands")
-        .arg(file_argument(alloc))?
-        .arg(limit_argument(alloc))?;
-    explained(alloc, command)
+    let command = text_command(alloc, "reference", "Interprets a program as it stands");
+    let limited = taking(command, limit_argument(alloc));
+    taking(limited, explain_argument(alloc))
 }
 
 /// The command that makes a picture of a run.
@@ -202,11 +210,9 @@ fn timeline_command<'a>(alloc: Global) -> Result<Command<'a>, AllocError>
     ensures app { IfOk result (λ c. app_of c ≡ timeline) }
     ensures local { IfOk result IsLocal }
 {
-    Command::new(alloc, "timeline")
-        .about("Makes a picture of a run")
-        .arg(file_argument(alloc))?
-        .arg(limit_argument(alloc))?
-        .arg(out_argument(alloc))
+    let command = text_command(alloc, "timeline", "Makes a picture of a run");
+    let limited = taking(command, limit_argument(alloc));
+    taking(limited, out_argument(alloc))
 }
 
 /// The command that runs a program.
@@ -214,8 +220,7 @@ fn run_command<'a>(alloc: Global) -> Result<Command<'a>, AllocError>
     ensures app { IfOk result (λ c. app_of c ≡ run) }
     ensures local { IfOk result IsLocal }
 {
-    let command = plain_run_command(alloc)?;
-    explained(alloc, command)
+    taking(plain_run_command(alloc), explain_argument(alloc))
 }
 
 /// The same without the option that all commands have which tell what is wrong with a text.
@@ -223,12 +228,10 @@ fn plain_run_command<'a>(alloc: Global) -> Result<Command<'a>, AllocError>
     ensures app { IfOk result (λ c. app_of c ≡ plain_run) }
     ensures local { IfOk result IsLocal }
 {
-    Command::new(alloc, "run")
-        .about("Runs a program")
-        .arg(file_argument(alloc))?
-        .arg(workers_argument(alloc))?
-        .arg(limit_argument(alloc))?
-        .arg(trace_argument(alloc))
+    let command = text_command(alloc, "run", "Runs a program");
+    let working = taking(command, workers_argument(alloc));
+    let limited = taking(working, limit_argument(alloc));
+    taking(limited, trace_argument(alloc))
 }
 
 /// A command that also takes this subcommand, where there was memory to make it.

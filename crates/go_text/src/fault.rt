@@ -5,83 +5,110 @@ ghost use Rattle.go_text.specs.declared.fault.Fault.TheVariants as fault;
 use crate::place::Place;
 use crate::rule::{LimitKind, Rule};
 use std::alloc::{AllocError, AllocFailed};
-use thiserror::Error;
+use std::error::Error;
+use std::fmt;
 
 /// A request for memory was refused.
-#[derive(Clone, Copy, Debug, PartialEq, Eq, Error)]
+#[derive(Clone, Copy, Debug, PartialEq, Eq, thiserror::Error)]
 #[error("13 Memory")]
 pub struct Memory;
 
 /// A lease or a piece of another program, limit or place.
-#[derive(Clone, Copy, Debug, PartialEq, Eq, Error)]
+#[derive(Clone, Copy, Debug, PartialEq, Eq, thiserror::Error)]
 #[error("12 NotYours")]
 pub struct NotYours;
 
 /// All refusals, in the order of their numbers, 1 to 16.
-#[derive(Clone, Copy, Debug, PartialEq, Eq, Error)]
+#[derive(Clone, Copy, Debug, PartialEq, Eq)]
 pub enum Fault {
     /// The text is longer than 1,048,576 bytes.
-    #[error("1 TooLong")]
     TooLong,
     /// The text is not UTF-8.
-    #[error("2 NotUtf8")]
     NotUtf8,
     /// No token begins with this character, or a NUL or a byte-order mark stands in the string or comment that begins
     /// here.
-    #[error("3 BadCharacter")]
     BadCharacter(Place),
     /// A number that is followed directly by a letter, a digit, `_` or `.`.
-    #[error("4 BadNumber")]
     BadNumber(Place),
     /// A string that is not closed on its line, or has an unknown escape.
-    #[error("5 OpenString")]
     OpenString(Place),
     /// A general comment that is not closed.
-    #[error("6 OpenComment")]
     OpenComment(Place),
     /// The tokens are spelt by no tree.
-    #[error("7 Syntax")]
     Syntax(Place),
     /// The tokens are spelt by no tree of at most 200 levels.
-    #[error("8 TooDeep")]
     TooDeep(Place),
     /// A typing rule is broken at this node of the tree.
-    #[error("9 Type rule")]
     Typing {
         rule: Rule,
         node: u32,
         place: Place,
     },
     /// A limit is exceeded, at this node of the tree where the check finds it.
-    #[error("10 Limit kind")]
     Limit {
         kind: LimitKind,
         node: Option<u32>,
         place: Place,
     },
     /// A rule of the verifier, 1 to 8, is broken at this instruction of this function.
-    #[error("11 Unverified rule {rule}, function {function}, place {place}")]
     Unverified {
         rule: u8,
         function: usize,
         place: usize,
     },
     /// A lease or a piece of another program, limit or place.
-    #[error("12 NotYours")]
     NotYours,
     /// A request for memory was refused.
-    #[error("13 Memory")]
     Memory,
     /// The writer refused bytes.
-    #[error("14 Write")]
     Write,
     /// The number of workers is not 1 to 64.
-    #[error("15 BadWorkers")]
     BadWorkers,
     /// The clock limit is not 1 to 2^62.
-    #[error("16 BadLimit")]
     BadLimit,
 }
+
+impl Fault {
+    /// Its number and what it is called.
+    fn title(self) -> &'static str {
+        match self {
+            Self::TooLong => "1 TooLong",
+            Self::NotUtf8 => "2 NotUtf8",
+            Self::BadCharacter(_) => "3 BadCharacter",
+            Self::BadNumber(_) => "4 BadNumber",
+            Self::OpenString(_) => "5 OpenString",
+            Self::OpenComment(_) => "6 OpenComment",
+            Self::Syntax(_) => "7 Syntax",
+            Self::TooDeep(_) => "8 TooDeep",
+            Self::Typing { .. } => "9 Type rule",
+            Self::Limit { .. } => "10 Limit kind",
+            Self::Unverified { .. } => "11 Unverified rule",
+            Self::NotYours => "12 NotYours",
+            Self::Memory => "13 Memory",
+            Self::Write => "14 Write",
+            Self::BadWorkers => "15 BadWorkers",
+            Self::BadLimit => "16 BadLimit",
+        }
+    }
+}
+
+impl fmt::Display for Fault {
+    fn fmt<W: fmt::Write>(&self, f: &mut fmt::Formatter<W>) -> fmt::Result {
+        match *self {
+            Fault::Unverified {
+                rule,
+                function,
+                place,
+            } => write!(
+                f,
+                "11 Unverified rule {rule}, function {function}, place {place}"
+            ),
+            fault => f.write_str(fault.title()),
+        }
+    }
+}
+
+impl Error for Fault {}
 
 impl From<AllocError> for Memory {
     fn from(_error: AllocError) -> Memory {

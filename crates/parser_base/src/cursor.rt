@@ -1,6 +1,6 @@
 //! A place between the tokens of a text.
 
-ghost use Rattle.std.specs.Prelude.{◌≡◌, ◌∷◌, [], IfOk, IfErr, MatchOption, length};
+ghost use Rattle.std.specs.Prelude.{◌≡◌, ◌∷◌, [], IfOk, IfErr, MatchOption, bytes_eq, length};
 ghost use Rattle.go_text.specs.Source.{bytes_of};
 ghost use Rattle.parser_base.specs.Lexemes.{lexemes, piece};
 ghost use Rattle.parser_base.specs.Spelling.{is_builtin};
@@ -38,16 +38,23 @@ fn piece(text: &[u8], span: Span) -> &[u8]
     &rest[..count.min(rest.len())]
 }
 
+/// Whether a name is this word.
+pub fn is_word(name: &[u8], word: &[u8]) -> bool
+    ensures { result ≡ bytes_eq name.now word.now }
+{
+    name == word
+}
+
 /// Whether a name stands only in calls of its own.
 pub fn is_builtin(name: &[u8]) -> bool
     ensures { result ≡ is_builtin name.now }
 {
-    name == b"make".as_slice()
-        || name == b"len".as_slice()
-        || name == b"cap".as_slice()
-        || name == b"close".as_slice()
-        || name == b"print".as_slice()
-        || name == b"println".as_slice()
+    is_word(name, b"make")
+        || is_word(name, b"len")
+        || is_word(name, b"cap")
+        || is_word(name, b"close")
+        || is_word(name, b"print")
+        || is_word(name, b"println")
 }
 
 impl<'a> Cursor<'a> {

@@ -12,7 +12,7 @@ use crate::string_literal::string_literal;
 use go_text::{Fault, Place, Span};
 
 /// White space, a comment or a token, with its length in bytes, which is at least 1.
-#[derive(Clone, Copy, PartialEq, Eq)]
+#[derive(Clone, Copy)]
 pub enum Element {
     /// A space, a tab, a carriage return, or a general comment without a newline.
     Blank(usize),

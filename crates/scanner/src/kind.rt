@@ -1,7 +1,7 @@
 //! What tokens there are.
 
 /// What a token is: a keyword, a name, a number, a string, or an operator or mark.
-#[derive(Clone, Copy, Debug, PartialEq, Eq)]
+#[derive(Clone, Copy, PartialEq, Eq)]
 pub enum TokenKind {
     Break,
     Case,

@@ -1,6 +1,6 @@
 //! Which bytes are a token.
 
-ghost use Rattle.std.specs.Prelude.{◌≡◌};
+ghost use Rattle.std.specs.Prelude.{◌≡◌, bytes_eq};
 ghost use Rattle.scanner.specs.Elements.{is_forbidden};
 ghost use Rattle.scanner.specs.Keywords.{choice_keyword, jump_keyword, loop_or_call_keyword};
 ghost use Rattle.scanner.specs.Lexical.{is_digit, is_hex_digit, is_space, statement_keyword, declaration_keyword, word, mark_1, mark_2, mark_3, ends_line};
@@ -39,22 +39,29 @@ pub(crate) fn is_forbidden(text: &[u8]) -> bool
     }
 }
 
+/// Whether the text is this word.
+fn is_word(text: &[u8], word: &[u8]) -> bool
+    ensures { result ≡ bytes_eq text.now word.now }
+{
+    text == word
+}
+
 /// The keyword of a choice that the text is.
 #[tactic(auto, unfolding(crate::specs::Keywords::choice_keyword))]
 fn choice_keyword(text: &[u8]) -> Option<TokenKind>
     ensures { result ≡ choice_keyword text.now }
 {
-    if text == b"case".as_slice() {
+    if is_word(text, b"case") {
         Some(TokenKind::Case)
-    } else if text == b"default".as_slice() {
+    } else if is_word(text, b"default") {
         Some(TokenKind::Default)
-    } else if text == b"else".as_slice() {
+    } else if is_word(text, b"else") {
         Some(TokenKind::Else)
-    } else if text == b"if".as_slice() {
+    } else if is_word(text, b"if") {
         Some(TokenKind::If)
-    } else if text == b"select".as_slice() {
+    } else if is_word(text, b"select") {
         Some(TokenKind::Select)
-    } else if text == b"switch".as_slice() {
+    } else if is_word(text, b"switch") {
         Some(TokenKind::Switch)
     } else {
         None
@@ -66,15 +73,15 @@ fn choice_keyword(text: &[u8]) -> Option<TokenKind>
 fn jump_keyword(text: &[u8]) -> Option<TokenKind>
     ensures { result ≡ jump_keyword text.now }
 {
-    if text == b"break".as_slice() {
+    if is_word(text, b"break") {
         Some(TokenKind::Break)
-    } else if text == b"continue".as_slice() {
+    } else if is_word(text, b"continue") {
         Some(TokenKind::Continue)
-    } else if text == b"fallthrough".as_slice() {
+    } else if is_word(text, b"fallthrough") {
         Some(TokenKind::Fallthrough)
-    } else if text == b"goto".as_slice() {
+    } else if is_word(text, b"goto") {
         Some(TokenKind::Goto)
-    } else if text == b"return".as_slice() {
+    } else if is_word(text, b"return") {
         Some(TokenKind::Return)
     } else {
         None
@@ -86,13 +93,13 @@ fn jump_keyword(text: &[u8]) -> Option<TokenKind>
 fn loop_or_call_keyword(text: &[u8]) -> Option<TokenKind>
     ensures { result ≡ loop_or_call_keyword text.now }
 {
-    if text == b"defer".as_slice() {
+    if is_word(text, b"defer") {
         Some(TokenKind::Defer)
-    } else if text == b"for".as_slice() {
+    } else if is_word(text, b"for") {
         Some(TokenKind::For)
-    } else if text == b"go".as_slice() {
+    } else if is_word(text, b"go") {
         Some(TokenKind::Go)
-    } else if text == b"range".as_slice() {
+    } else if is_word(text, b"range") {
         Some(TokenKind::Range)
     } else {
         None
@@ -118,25 +125,25 @@ fn statement_keyword(text: &[u8]) -> Option<TokenKind>
 fn declaration_keyword(text: &[u8]) -> Option<TokenKind>
     ensures { result ≡ declaration_keyword text.now }
 {
-    if text == b"chan".as_slice() {
+    if is_word(text, b"chan") {
         Some(TokenKind::Chan)
-    } else if text == b"const".as_slice() {
+    } else if is_word(text, b"const") {
         Some(TokenKind::Const)
-    } else if text == b"func".as_slice() {
+    } else if is_word(text, b"func") {
         Some(TokenKind::Func)
-    } else if text == b"import".as_slice() {
+    } else if is_word(text, b"import") {
         Some(TokenKind::Import)
-    } else if text == b"interface".as_slice() {
+    } else if is_word(text, b"interface") {
         Some(TokenKind::Interface)
-    } else if text == b"map".as_slice() {
+    } else if is_word(text, b"map") {
         Some(TokenKind::Map)
-    } else if text == b"package".as_slice() {
+    } else if is_word(text, b"package") {
         Some(TokenKind::Package)
-    } else if text == b"struct".as_slice() {
+    } else if is_word(text, b"struct") {
         Some(TokenKind::Struct)
-    } else if text == b"type".as_slice() {
+    } else if is_word(text, b"type") {
         Some(TokenKind::TypeKeyword)
-    } else if text == b"var".as_slice() {
+    } else if is_word(text, b"var") {
         Some(TokenKind::Var)
     } else {
         None

@@ -1,6 +1,6 @@
 //! Variables, and where they are visible.
 
-ghost use Rattle.std.specs.Prelude.{◌≡◌, ◌-◌, ◌++◌, ◌∷◌, ℕ, [], Some, option_map, slice_get, length, map, take, drop, OnOk};
+ghost use Rattle.std.specs.Prelude.{◌≡◌, ◌-◌, ◌++◌, ◌∷◌, ℕ, [], Some, bytes_eq, option_map, slice_get, length, map, take, drop, OnOk};
 ghost use Rattle.syntax.specs.View.{name_of};
 ghost use Rattle.type_table.specs.declared.visible.Entry.{Entry as OneEntry};
 ghost use Rattle.type_table.specs.declared.table.TypeTable.{TypeTable as OneTable};
@@ -32,6 +32,13 @@ impl<'a> Visible<'a> {
     }
 }
 
+/// Whether a name is this word.
+fn is_word(name: &[u8], word: &[u8]) -> bool
+    ensures { result ≡ bytes_eq name.now word.now }
+{
+    name == word
+}
+
 /// Whether this is the name that declares nothing.
 pub fn is_blank(name: &[u8]) -> bool
     ensures { result ≡ is_blank name.now }
@@ -57,18 +64,18 @@ pub fn is_nil(name: &[u8]) -> bool
 pub fn is_reserved(name: &[u8]) -> bool
     ensures { result ≡ is_reserved name.now }
 {
-    name == b"int".as_slice()
-        || name == b"bool".as_slice()
-        || name == b"true".as_slice()
-        || name == b"false".as_slice()
-        || name == b"nil".as_slice()
-        || name == b"make".as_slice()
-        || name == b"len".as_slice()
-        || name == b"cap".as_slice()
-        || name == b"close".as_slice()
-        || name == b"print".as_slice()
-        || name == b"println".as_slice()
-        || name == b"init".as_slice()
+    is_word(name, b"int")
+        || is_word(name, b"bool")
+        || is_word(name, b"true")
+        || is_word(name, b"false")
+        || is_word(name, b"nil")
+        || is_word(name, b"make")
+        || is_word(name, b"len")
+        || is_word(name, b"cap")
+        || is_word(name, b"close")
+        || is_word(name, b"print")
+        || is_word(name, b"println")
+        || is_word(name, b"init")
 }
 
 /// The variable at a place among those that are visible.

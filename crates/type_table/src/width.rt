@@ -93,10 +93,7 @@ fn field_words(
     match kind {
         ValueType::Struct(t) => match mark_at(marks, t) {
             None => Ok(0),
-            Some(Mark::New) => {
-                let words = visit(structs, marks, t)?;
-                Ok(words)
-            }
+            Some(Mark::New) => visit(structs, marks, t),
             Some(Mark::Open) => Err(t),
             Some(Mark::Wide(words)) => Ok(words),
         },
@@ -105,7 +102,7 @@ fn field_words(
 }
 
 /// Why the widths of structs are not known.
-#[derive(Debug, Drop)]
+#[derive(Drop)]
 pub enum Endless {
     /// A request for memory was refused.
     Memory,
@@ -179,8 +176,7 @@ pub fn widths(alloc: Global, structs: &[StructEntry<'_>]) -> Result<Vec<usize>, 
     ensures endless { IfErr result (IsEndless (structs_of (names_of structs.now) structs.now)) }
 {
     let mut marks = new_marks(alloc, structs.len())?;
-    let all = all_widths(alloc, structs, marks.as_mut_slice())?;
-    Ok(all)
+    all_widths(alloc, structs, marks.as_mut_slice())
 }
 
 /// The words of one struct.

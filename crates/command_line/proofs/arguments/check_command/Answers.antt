@@ -1,18 +1,13 @@
-use Rattle.std.proofs.Common.{codes, false, ap, ap₂, ◌≡◌, ◌∙◌, ◌||◌}
-use Rattle.std.proofs.lemmas.Result.{IfOk-weaker}
-use Rattle.clap.specs.Words.{app_of, new_app, with_rule}
-use Rattle.clap.specs.Simple.{app_of_fields}
-use Rattle.clap.specs.declared.builder.command.Command.TheViews.{out-Command}
+use Rattle.std.proofs.Common.{codes}
+use Rattle.clap.specs.Words.{new_app, with_rule}
 use Rattle.command_line.specs.CommandLine.{explain, file}
+use Rattle.command_line.proofs.CommandLine.{taken, taken_locally}
 use Rattle.command_line.proofs.arguments.check_command.Goals as goal
 
 pub returns-clause-app : goal.returns-clause-app
 returns-clause-app c =
-    let named : app_of c.about.result ≡ new_app (codes "check") = ap app_of_fields c.about.ensures ∙ c.new.ensures.app in
-    let with_file : app_of c.in_ok-command.command ≡ with_rule (new_app (codes "check")) file = c.in_ok-command.ensures.shape c.file_argument.ensures.local ∙ ap₂ with_rule named c.file_argument.ensures.rule in
-    IfOk-weaker c.explained.result _ _ (λ made adds. adds ∙ ap (λ a. with_rule a explain) with_file) c.explained.ensures.app
+    taken (with_rule (new_app (codes "check")) file) explain c.text_command-command.result c.taking.result c.explain_argument.ensures.rule c.text_command-command.ensures.app c.taking.ensures
 
 pub returns-clause-local : goal.returns-clause-local
 returns-clause-local c =
-    let with_file : (out-Command c.in_ok-command.command).has_globals ≡ false = c.in_ok-command.ensures.globals ∙ ap₂ ◌||◌ (ap (λ f. f.has_globals) c.about.ensures ∙ c.new.ensures.local) c.file_argument.ensures.local in
-    c.explained.ensures.local with_file
+    taken_locally _ c.text_command-command.result c.taking.result c.text_command-command.ensures.local c.taking.ensures

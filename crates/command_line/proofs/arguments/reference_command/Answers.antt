@@ -1,21 +1,15 @@
-use Rattle.std.proofs.Common.{codes, false, ap, ap₂, ◌≡◌, ◌∙◌, ◌||◌}
-use Rattle.std.proofs.lemmas.Result.{IfOk-weaker}
+use Rattle.std.proofs.Common.{codes, ◌≡◌, IfOk}
 use Rattle.clap.specs.Words.{app_of, new_app, with_rule}
-use Rattle.clap.specs.Simple.{app_of_fields}
-use Rattle.clap.specs.declared.builder.command.Command.TheViews.{out-Command}
-use Rattle.command_line.specs.CommandLine.{explain, file, limit}
+use Rattle.command_line.specs.CommandLine.{IsLocal, explain, file, limit}
+use Rattle.command_line.proofs.CommandLine.{taken, taken_locally}
 use Rattle.command_line.proofs.arguments.reference_command.Goals as goal
 
 pub returns-clause-app : goal.returns-clause-app
 returns-clause-app c =
-    let named : app_of c.about.result ≡ new_app (codes "reference") = ap app_of_fields c.about.ensures ∙ c.new.ensures.app in
-    let with_file : app_of c.in_ok-arg.field-0 ≡ with_rule (new_app (codes "reference")) file = c.in_ok-arg.ensures.shape c.file_argument.ensures.local ∙ ap₂ with_rule named c.file_argument.ensures.rule in
-    let with_limit : app_of c.in_ok-command.command ≡ with_rule (with_rule (new_app (codes "reference")) file) limit =
-    c.in_ok-command.ensures.shape c.limit_argument.ensures.local ∙ ap₂ with_rule with_file c.limit_argument.ensures.rule in
-    IfOk-weaker c.explained.result _ _ (λ made adds. adds ∙ ap (λ a. with_rule a explain) with_limit) c.explained.ensures.app
+    let with_limit : IfOk c.taking-limited.result (λ made. app_of made ≡ with_rule (with_rule (new_app (codes "reference")) file) limit) = taken (with_rule (new_app (codes "reference")) file) limit c.text_command-command.result c.taking-limited.result c.limit_argument.ensures.rule c.text_command-command.ensures.app c.taking-limited.ensures in
+    taken (with_rule (with_rule (new_app (codes "reference")) file) limit) explain c.taking-limited.result c.taking.result c.explain_argument.ensures.rule with_limit c.taking.ensures
 
 pub returns-clause-local : goal.returns-clause-local
 returns-clause-local c =
-    let with_file : (out-Command c.in_ok-arg.field-0).has_globals ≡ false = c.in_ok-arg.ensures.globals ∙ ap₂ ◌||◌ (ap (λ f. f.has_globals) c.about.ensures ∙ c.new.ensures.local) c.file_argument.ensures.local in
-    let with_limit : (out-Command c.in_ok-command.command).has_globals ≡ false = c.in_ok-command.ensures.globals ∙ ap₂ ◌||◌ with_file c.limit_argument.ensures.local in
-    c.explained.ensures.local with_limit
+    let with_limit : IfOk c.taking-limited.result IsLocal = taken_locally _ c.text_command-command.result c.taking-limited.result c.text_command-command.ensures.local c.taking-limited.ensures in
+    taken_locally _ c.taking-limited.result c.taking.result with_limit c.taking.ensures
