@@ -13,3 +13,6 @@ returns-clause-told g c =
 pub returns-clause-within : goal.returns-clause-within
 returns-clause-within g c =
     on_ok_weaker c.tell.result (λ is limit le all. within_set limit c.args.places.now c.args.place (Some c.tell.new.goroutine) (rw is le) all) c.tell.ensures.clock
+
+pub returns-in_default-clause-within : goal.returns-in_default-clause-within
+returns-in_default-clause-within g c = λ limit le all. within_set limit c.args.places.now c.args.place _ (all c.args.place c.index-places-place.result (omega arith)) all

@@ -2,7 +2,7 @@ use Rattle.std.proofs.Common.{None, Some, ◌∙◌, arith}
 use Rattle.word.specs.Related.{kind_of}
 use Rattle.word.specs.Views.{reply_of}
 use Rattle.std.proofs.lemmas.Result.{on_ok_weaker}
-use Rattle.one_thread.proofs.Standing.{awake_woken, none_stays, read_as, within_set, woken_ok}
+use Rattle.one_thread.proofs.Standing.{awake_woken, none_stays, read_as, within_at, within_set, woken_ok}
 use Rattle.one_thread.proofs.places.wake_at.Goals as goal
 
 pub returns-clause-woken : goal.returns-clause-woken
@@ -22,3 +22,11 @@ returns-then-not-goroutine-clause-woken g c =
 pub returns-clause-within : goal.returns-clause-within
 returns-clause-within g c =
     on_ok_weaker c.tell.result (λ is limit le all. within_set limit c.args.places.now c.args.place (Some c.tell.new.goroutine) (rw is le) all) c.tell.ensures.clock
+
+pub returns-in_default-clause-within : goal.returns-in_default-clause-within
+returns-in_default-clause-within g c = λ limit le all. within_set limit c.args.places.now c.args.place _ (all c.args.place c.index-places-place.result (omega arith)) all
+
+pub returns-then-not-goroutine-clause-within : goal.returns-then-not-goroutine-clause-within
+returns-then-not-goroutine-clause-within g c = λ limit le all.
+    let at = read_as c.args.places.now c.args.place c.index-places-place.result None (Some c.in-Some.goroutine) (omega arith) c.in-Some.is in
+    within_set limit _ c.args.place None tt (within_set limit c.args.places.now c.args.place (Some c.in-Some.goroutine) (within_at limit c.args.places.now c.args.place c.in-Some.goroutine (omega arith) at all) all)
