@@ -2,3 +2,4 @@ pub mod Contents
 pub mod Within
 pub mod KnownWidths
 pub mod Declared
+pub mod Tops

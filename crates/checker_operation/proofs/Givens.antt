@@ -1,12 +1,17 @@
--- What an operation gives is what was made.
-use Rattle.std.proofs.Common.{◌≡◌, ℕ, ◌+◌, ◌==◌, ◌&&◌, refl, List, Option, Some}
-use Rattle.syntax.specs.Tree.{Operation, RightOperation}
-use Rattle.syntax.specs.Measures.{operation_size}
+-- What an operation gives is what was made, and what values give, one behind the other.
+use Rattle.std.proofs.Common.{◌≡◌, ℕ, ◌+◌, ◌==◌, ◌&&◌, ◌++◌, ◌∷◌, [], refl, subst, map, List, Option, Some, append_assoc}
+use Rattle.std.proofs.lemmas.List.{map-append}
+use Rattle.syntax.specs.Tree.{Expression, Operation, RightOperation}
+use Rattle.syntax.specs.Measures.{expression_size, operation_size}
+use Rattle.checker_base.specs.declared.operand.Operand.{Operand}
+use Rattle.checker_base.specs.Expressions.{nodes_of}
+use Rattle.checker_base.specs.Worths.{worth}
+use Rattle.checker_base.specs.Views.{worth_of}
 use Rattle.checker_operation.specs.declared.operation.Made.{Made}
 use Rattle.type_table.specs.Scopes.{Globals, Scope}
 use Rattle.type_table.specs.Views.{kind_of}
-use Rattle.checker_operation.specs.Operations.{is_receive, operation_type, given}
-use Rattle.checker_operation.specs.Givens.{given_made}
+use Rattle.checker_operation.specs.Operations.{Given, is_receive, operation_type, given, given_values}
+use Rattle.checker_operation.specs.Givens.{given_of, given_made}
 
 pub given-made : (g : Globals) (s : Scope) (places first : ℕ) (op : Operation) (types : List (List ℕ)) (made : Made)
     → made.node + 1 ≡ first + operation_size op → operation_type g s op ≡ Some (kind_of types made.kind)
@@ -14,3 +19,14 @@ pub given-made : (g : Globals) (s : Scope) (places first : ℕ) (op : Operation)
 given-made g s places first op types made e h = rw (e, h) refl
 
 pub ruleset given_is_made = (given-made)
+
+-- one more value gives what its operand says
+pub given_next : (globals : Globals) (scope : Scope) (types : List (List ℕ)) (before : List Operand) (operand : Operand) (first : ℕ) (value : Expression) (rest : List Expression) (all : List Given)
+    → worth globals scope value ≡ Some (worth_of types operand.worth) → first ≡ operand.first → first + expression_size value ≡ operand.node + 1
+    → map (given_of types) before ++ given_values globals scope first (value ∷ rest) ≡ all
+    → map (given_of types) (before ++ operand ∷ []) ++ given_values globals scope (first + expression_size value) rest ≡ all
+given_next globals scope types before operand first value rest all is begins ends whole =
+    let one : Given = record { worth = worth globals scope value; nodes = nodes_of first value } in
+    let same : one ≡ given_of types operand = rw (is, ends, begins) refl in
+    rw (map-append (given_of types) before (operand ∷ []), append_assoc (map (given_of types) before) (given_of types operand ∷ []) (given_values globals scope (first + expression_size value) rest))
+    (subst (λ (g : Given). map (given_of types) before ++ (g ∷ given_values globals scope (first + expression_size value) rest) ≡ all) same whole)

@@ -2,6 +2,7 @@
 #![tactic(auto)]
 
 pub mod assign;
+pub mod call;
 pub mod channel;
 pub mod define;
 pub mod names;

@@ -9,14 +9,14 @@ ghost use Rattle.type_table.specs.Visible.{globals_in, scope_of, Keeps};
 ghost use Rattle.checker_base.specs.Views.{Refuses};
 
 use crate::assign::assign;
-use crate::channel::{close, send};
+use crate::call::call_alone;
+use crate::channel::{close, receive_alone, send};
 use crate::define::define;
 use crate::names::Names;
 use crate::print::parts;
 use crate::update::{step, update};
 use checker_base::refusal::Refusal;
 use checker_operation::given::Source;
-use checker_operation::operation::{call, receive};
 use checker_operation::place::Targets;
 use std::alloc::Global;
 use syntax::{CommNode, NodeId, SimpleNode};
@@ -49,32 +49,20 @@ pub fn simple<'a>(
             assign(alloc, table, visible, first, places, Source::Right(right))
         }
         SimpleNode::Call(function, arguments) => {
-            let called = call(table, visible, first, function, arguments)?;
-            Ok(called.node + 1)
+            call_alone(table, visible, first, function, arguments)
         }
-        SimpleNode::Close(channel) => {
-            let end = close(table, visible, first, channel)?;
-            Ok(end)
-        }
+        SimpleNode::Close(channel) => close(table, visible, first, channel),
         SimpleNode::Print(_, all, _) => {
             let end = parts(table, visible, first, all.as_slice())?;
             Ok(end + 1)
         }
-        SimpleNode::Receive(channel) => {
-            let made = receive(table, visible, first, channel)?;
-            Ok(made.node + 1)
-        }
-        SimpleNode::Send(channel, value) => {
-            let end = send(table, visible, first, channel, value)?;
-            Ok(end)
-        }
+        SimpleNode::Receive(channel) => receive_alone(table, visible, first, channel),
+        SimpleNode::Send(channel, value) => send(table, visible, first, channel, value),
         SimpleNode::Increment(place) | SimpleNode::Decrement(place) => {
-            let end = step(table, visible, first, place)?;
-            Ok(end)
+            step(table, visible, first, place)
         }
         SimpleNode::Update(place, operator, value) => {
-            let end = update(table, visible, first, place, *operator, value)?;
-            Ok(end)
+            update(table, visible, first, place, *operator, value)
         }
     }
 }
@@ -96,14 +84,8 @@ pub fn comm<'a>(
     ensures one { IfErr result (Refuses (SimpleHas (globals_in table.now) (scope_of table.now visible.old) first (comm_simple (comm_of comm.now)))) }
 {
     match comm {
-        CommNode::Send(channel, value) => {
-            let end = send(table, visible, first, channel, value)?;
-            Ok(end)
-        }
-        CommNode::Receive(channel) => {
-            let made = receive(table, visible, first, channel)?;
-            Ok(made.node + 1)
-        }
+        CommNode::Send(channel, value) => send(table, visible, first, channel, value),
+        CommNode::Receive(channel) => receive_alone(table, visible, first, channel),
         CommNode::Define(item, ok, channel) => {
             let names = Names::OneOrTwo(item, ok);
             define(

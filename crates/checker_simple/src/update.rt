@@ -10,11 +10,12 @@ ghost use Rattle.type_table.specs.Visible.{types_of, globals_in, scope_of};
 ghost use Rattle.checker_base.specs.declared.flaw.Flaw.{Flaw as OneFlaw};
 ghost use Rattle.checker_base.specs.Flaws.{Nodes};
 ghost use Rattle.checker_base.specs.Worths.{Worth as OneWorth};
-ghost use Rattle.checker_base.specs.Views.{worth_of, IsSmall};
+ghost use Rattle.checker_base.specs.Views.{worth_of, IsSmall, Refuses};
 ghost use Rattle.checker_simple.specs.Simples.{UpdatedHas, StepHas, SimpleHas};
 
 use checker_base::flaw::{Flaw, Operator, misused};
 use checker_base::operand::{Operand, checked};
+use checker_base::refusal::Refusal;
 use checker_base::value::value;
 use checker_base::worth::{Worth, binary_worth};
 use checker_operation::place::read_place;
@@ -30,15 +31,15 @@ pub(crate) fn step(
     visible: &Visible<'_>,
     first: NodeId,
     node: &PlaceNode,
-) -> Result<NodeId, Flaw>
+) -> Result<NodeId, Refusal>
     requires small { first + 2 < 2 ^ 32 }
     ensures end { IfOk result (λ end. end ≡ first + 2) }
     ensures none { IfOk result (λ _. (flaw : OneFlaw) → ¬ (StepHas (globals_in table.now) (scope_of table.now visible.now) first (place_of node.now) flaw)) }
-    ensures one { IfErr result (StepHas (globals_in table.now) (scope_of table.now visible.now) first (place_of node.now)) }
+    ensures one { IfErr result (Refuses (StepHas (globals_in table.now) (scope_of table.now visible.now) first (place_of node.now))) }
 {
     match read_place(table, visible, first, node)? {
         ValueType::Int => Ok(first + 2),
-        _ => Err(Flaw::Broken(Rule::Operands, first + 1)),
+        _ => Err(Refusal::Flawed(Flaw::Broken(Rule::Operands, first + 1))),
     }
 }
 
@@ -78,11 +79,11 @@ pub(crate) fn update(
     node: &PlaceNode,
     operator: BinaryOperator,
     value: &ExpressionNode,
-) -> Result<NodeId, Flaw>
+) -> Result<NodeId, Refusal>
     requires small { first + simple_size (Update (place_of node.now) operator (expression_of value.now)) < 2 ^ 32 }
     ensures end { IfOk result (λ end. end ≡ first + simple_size (Update (place_of node.now) operator (expression_of value.now))) }
     ensures none { IfOk result (λ _. (flaw : OneFlaw) → ¬ (SimpleHas (globals_in table.now) (scope_of table.now visible.now) first (Update (place_of node.now) operator (expression_of value.now)) flaw)) }
-    ensures one { IfErr result (SimpleHas (globals_in table.now) (scope_of table.now visible.now) first (Update (place_of node.now) operator (expression_of value.now))) }
+    ensures one { IfErr result (Refuses (SimpleHas (globals_in table.now) (scope_of table.now visible.now) first (Update (place_of node.now) operator (expression_of value.now)))) }
 {
     let kind = read_place(table, visible, first, node)?;
     let operand = checked(table, visible, first + 1, value)?;

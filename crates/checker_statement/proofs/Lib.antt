@@ -1,3 +1,4 @@
 pub mod Rows
 pub mod Headers
 pub mod Defaults
+pub mod Further

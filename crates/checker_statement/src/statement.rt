@@ -21,7 +21,8 @@ use checker_base::operand::{Operand, checked};
 use checker_base::refusal::Refusal;
 use checker_base::value::value;
 use checker_base::worth::Worth;
-use checker_operation::operation::{call, operation};
+use checker_operation::operation::operation;
+use checker_simple::call::call_alone;
 use checker_simple::simple::{comm, simple};
 use checker_simple::variables::{typed_variables, untyped_variables};
 use go_text::Rule;
@@ -102,16 +103,16 @@ fn return_statement<'a>(
 
 /// Checks a `break` or a `continue`, which is the node `first`, and answers the number behind it; `may` says whether it may
 /// stand there.
-fn jump(may: bool, first: NodeId) -> Result<NodeId, Flaw>
+fn jump(may: bool, first: NodeId) -> Result<NodeId, Refusal>
     requires small { first + 1 < 2 ^ 32 }
     ensures end { IfOk result (λ end. end ≡ first + 1) }
-    ensures none { IfOk result (λ _. may ≡ true) }
-    ensures one { IfErr result (λ flaw. (may ≡ false) × IsBroken Rule.Branch (first + 1) flaw) }
+    ensures none { IfOk result (λ _. (flaw : OneFlaw) → ¬ ((may ≡ false) × IsBroken Rule.Branch (first + 1) flaw)) }
+    ensures one { IfErr result (Refuses (λ flaw. (may ≡ false) × IsBroken Rule.Branch (first + 1) flaw)) }
 {
     if may {
         Ok(first + 1)
     } else {
-        Err(Flaw::Broken(Rule::Branch, first))
+        Err(Refusal::Flawed(Flaw::Broken(Rule::Branch, first)))
     }
 }
 
@@ -189,14 +190,13 @@ fn statement<'a>(
             select(alloc, table, inside, visible, first, all.as_slice(), whole)
         }
         StatementNode::Go(function, arguments) => {
-            let called = call(table, visible, first, function, arguments)?;
-            Ok(called.node + 1)
+            call_alone(table, visible, first, function, arguments)
         }
         StatementNode::Return(returned) => {
             Ok(return_statement(table, inside.result, visible, first, returned)?)
         }
-        StatementNode::Break => Ok(jump(inside.breaks, first)?),
-        StatementNode::Continue => Ok(jump(inside.continues, first)?),
+        StatementNode::Break => jump(inside.breaks, first),
+        StatementNode::Continue => jump(inside.continues, first),
     }
 }
 

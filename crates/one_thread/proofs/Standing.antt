@@ -1,8 +1,9 @@
 -- One place changes.
 use Rattle.std.proofs.Common.{◌≡◌, ℕ, suc, zero, ◌<◌, ◌≤◌, Bool, true, false, cond, List, [], ◌∷◌, ◌++◌, length, take, drop, Option, Some, None, refl, sym, ap, ◌∙◌, subst, arith, inl, inr, get_or-set_same, get_or-set_other}
-use Rattle.std.specs.Prelude.{slice_index_or, slice_set, Result, Ok, Err, OnOk}
+use Rattle.std.specs.Prelude.{slice_index_or, slice_set, Result, Ok, Err, IfOk, OnOk}
 use Rattle.std.proofs.lemmas.Bool.{cases_eq, cases_lt}
 use Rattle.std.proofs.lemmas.List.{map-set, get_or_past, length-map, take-append-le}
+use Rattle.std.proofs.lemmas.List.Elements.{All-set}
 use Rattle.std.proofs.Math.Seq.{map-set_same, set_out, take-length}
 use Rattle.turn_rule.specs.Turns.{World, move_at, move_on}
 use Rattle.word.specs.Values.{Reply}
@@ -12,13 +13,20 @@ use Rattle.one_thread.specs.declared.goroutine.Goroutine.{Goroutine}
 use Rattle.one_thread.specs.declared.goroutine.Turn.{Turn}
 use Rattle.one_thread.specs.declared.goroutine.Turn.TheVariants as turns
 use Rattle.one_thread.specs.Steps.{Advances}
-use Rattle.one_thread.specs.Places.{AdvancesAt, IsLaid, Sets, SleepOn, Wakes, awake_in, awake_of, bed_at, bed_of, clocked, here, woken_to}
+use Rattle.one_thread.specs.Places.{AdvancesAt, AreWithin, IsLaid, IsWithin, Sets, SleepOn, Wakes, awake_in, awake_of, bed_at, bed_of, clocked, here, woken_to}
 
 -- what was read at a place, whatever stands for one that is not there
 pub read_at : {A : Type 0} (xs : List A) (n : ℕ) (x d : A) → n < length xs → x ≡ slice_index_or xs n x → slice_index_or xs n d ≡ x
 read_at [] n x d lt is = absurd (omega (arith, lt))
 read_at (y ∷ ys) zero x d lt is = sym is
 read_at (y ∷ ys) (suc n) x d lt is = read_at ys n x d (omega (arith, lt)) is
+
+-- clocks within the limit, where one goroutine changes
+pub within_set : {S : Type 0} (limit : ℕ) (xs : List (Option (Goroutine S))) (n : ℕ) (x : Option (Goroutine S)) → IsWithin limit x → AreWithin limit xs → AreWithin limit (slice_set xs n x)
+within_set limit xs n x one all = All-set (IsWithin limit) xs n x one all
+
+pub within_at : {S : Type 0} (limit : ℕ) (xs : List (Option (Goroutine S))) (n : ℕ) (g : Goroutine S) → n < length xs → slice_index_or xs n None ≡ Some g → AreWithin limit xs → g.clock ≤ limit
+within_at limit xs n g lt is all = rw is at (all n None lt)
 
 set_twice : {A : Type 0} (xs : List A) (n : ℕ) (x y : A) → slice_set (slice_set xs n x) n y ≡ slice_set xs n y
 set_twice [] n x y = refl
@@ -87,6 +95,12 @@ module _ {S : Type 0} (K : GoroutineKind) (held : S → K.State) (limit : ℕ) w
   turned old n g h turns.Exhausted at lt up same step =
       let there : here (awake_of held) old n ≡ Some (clocked held g) = ap (awake_of held) at ∙ awake_is held g up in
       (clocked held g, record { here = there; asks = step.0 }, step.1)
+
+module _ {S E : Type 0} (K : GoroutineKind) (held : S → K.State) (limit : ℕ) where
+  pub turned_ok : (r : Result Turn E) (old : List (Option (Goroutine S))) (n : ℕ) (g h : Goroutine S) → slice_index_or old n None ≡ Some g → n < length old → g.asleep ≡ false → OnOk r (h.asleep ≡ g.asleep) → IfOk r (λ turn. Advances K limit turn (clocked held g) (clocked held h))
+      → IfOk r (λ turn. AdvancesAt K held limit turn old n (slice_set old n (Some h)))
+  turned_ok (Ok turn) old n g h at lt up same step = turned K held limit old n g h turn at lt up same step
+  turned_ok (Err e) old n g h at lt up same step = tt
 
 module _ {S : Type 0} (K : GoroutineKind) (held : S → K.State) where
   -- who is told something goes on

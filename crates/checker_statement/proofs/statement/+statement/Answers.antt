@@ -1,7 +1,12 @@
-use Rattle.std.proofs.Common.{◌+◌, ap, inr, sym}
+use Rattle.std.proofs.Common.{◌≡◌, ◌∷◌, ◌+◌, suc, ap, inr, sym, ◌∙◌, map, drop, drop-cons, arith}
 use Rattle.syntax.specs.Tree.{Statement}
 use Rattle.syntax.specs.Measures.{statement_size}
+use Rattle.syntax.specs.View.{body_of, statement_of, clause_of, clauses}
+use Rattle.type_table.specs.Visible.{globals_in, scope_of}
+use Rattle.checker_statement.specs.Settings.{setting_in}
+use Rattle.checker_statement.specs.Statements.{StatementsHave, ClausesHave}
 use Rattle.checker_statement.proofs.Defaults.{two_defaults}
+use Rattle.checker_statement.proofs.Further.{keeps_on, found_next, passed_next, found_clause, passed_clause}
 use Rattle.checker_statement.proofs.statement.+statement.Goals as goal
 
 pub select-returns-then-defaults-gt1-clause-one : goal.select-returns-then-defaults-gt1-clause-one
@@ -10,3 +15,45 @@ select-returns-then-defaults-gt1-clause-one t c = inr (
       c.loop-one-test.true c.one-item.is c.with_clause-defaults.ensures.count c.loop-one.invariant.count c.if-defaults-gt1.true,
   c.broken_at.ensures _ (ap (λ (s : Statement). c.args.first + statement_size s) (sym c.requires.whole)),
 )
+
+pub statements-loop-one-preserved : goal.statements-loop-one-preserved
+statements-loop-one-preserved t c =
+    let setting = setting_in c.args.table.now c.args.inside in
+    let one = statement_of c.one-item.result in
+    let left = drop (suc c.loop-one.one-index) c.args.body.now in
+    let rest = body_of left in
+    let before = scope_of c.args.table.now c.loop-one.visible in
+    let scope = scope_of c.args.table.now c.statement.new.visible in
+    let more : c.loop-one.one-index + 1 ≡ suc c.loop-one.one-index = omega arith in
+    let cut : drop c.loop-one.one-index c.args.body.now ≡ c.one-item.result ∷ left = rw c.one-item.is (drop-cons c.args.body.now c.loop-one.one-index _ c.loop-one-test.true) in
+    let here = c.in_ok-end.ensures in
+    let has = StatementsHave setting (scope_of c.args.table.now c.args.visible.now) c.args.first (body_of c.args.body.now) in
+    record {
+      end = rw more (omega (arith, here.end, rw cut at c.loop-one.invariant.end));
+      after = rw (more, here.after) (rw cut at c.loop-one.invariant.after);
+      kept = keeps_on c.args.visible.now c.loop-one.visible c.statement.new.visible c.loop-one.invariant.kept here.kept;
+      found = rw more (found_next setting has before scope c.loop-one.end c.in_ok-end.end one rest here.after here.end (rw cut at c.loop-one.invariant.found));
+      passed = rw more (passed_next setting has before scope c.loop-one.end c.in_ok-end.end one rest here.after here.end (rw cut at c.loop-one.invariant.passed) here.none);
+    }
+
+pub select-loop-one-preserved : goal.select-loop-one-preserved
+select-loop-one-preserved t c =
+    let setting = setting_in c.args.table.now c.args.inside in
+    let one = clause_of c.one-item.result in
+    let left = drop (suc c.loop-one.one-index) c.args.all.now in
+    let rest = clauses (map clause_of left) in
+    let before = scope_of c.args.table.now c.loop-one.visible in
+    let scope = scope_of c.args.table.now c.clause.new.visible in
+    let more : c.loop-one.one-index + 1 ≡ suc c.loop-one.one-index = omega arith in
+    let cut : drop c.loop-one.one-index c.args.all.now ≡ c.one-item.result ∷ left = rw c.one-item.is (drop-cons c.args.all.now c.loop-one.one-index _ c.loop-one-test.true) in
+    let here = c.in_ok-end.ensures in
+    let has = ClausesHave setting (scope_of c.args.table.now c.args.visible.now) c.args.first (clauses (map clause_of c.args.all.now)) in
+    record {
+      end = rw more (omega (arith, here.end, rw cut at c.loop-one.invariant.end));
+      after = rw (more, here.after) (rw cut at c.loop-one.invariant.after);
+      left = (here.left.0 ∙ c.loop-one.invariant.left.0, here.left.1 ∙ c.loop-one.invariant.left.1);
+      count = rw more (c.with_clause-defaults.ensures.count rest ∙ rw cut at c.loop-one.invariant.count);
+      few = omega (arith, c.if-defaults-gt1.false);
+      found = rw more (found_clause setting has before scope c.loop-one.end c.in_ok-end.end one.comm one.body rest here.after here.end (rw cut at c.loop-one.invariant.found));
+      passed = rw more (passed_clause setting has before scope c.loop-one.end c.in_ok-end.end one.comm one.body rest here.after here.end (rw cut at c.loop-one.invariant.passed) here.none);
+    }

@@ -6,6 +6,7 @@ use Rattle.one_thread.specs.declared.goroutine.Turn.TheVariants as turns
 use Rattle.one_thread.specs.Places.{AdvancesAt}
 use Rattle.one_thread.proofs.Moves.{asks_on, begins, deadlock, exhausted, ok_more, stepped}
 use Rattle.one_thread.proofs.Standing.{written_back}
+use Rattle.one_thread.proofs.Within.{within_back}
 use Rattle.one_thread.proofs.running.one_move.Goals as goal
 
 pub returns-in_default-clause-begins : goal.returns-in_default-clause-begins
@@ -65,3 +66,18 @@ returns-in-Asks-clause-begins g c = λ known st.
     let key = rw c.as_slice.ensures.value at (sym c.least.ensures ∙ c.in-Some.is) in
     let both = asks_on (kind_of (g.P.Interpreter.parts c.args.program.now)) (g.P.Interpreter.held c.args.program.now) c.args.limit known (g.W.Write.contents c.args.output.now) c.args.places.now.items c.args.shared.now st c.in-Some.key c.in-Some.key.number c.in-Asks.later c.in-Asks.request (take c.args.places.now.len (c.advance_at.new.places ++ drop (length c.advance_at.new.places) c.args.places.now.items)) key refl h in
     c.perform.ensures.begins c.args.limit known both.1 both.0
+
+pub advance_at-requires-clause-within : goal.advance_at-requires-clause-within
+advance_at-requires-clause-within g c = rw c.as_mut_slice.ensures.value c.requires.within
+
+pub returns-in-Stepped-clause-within : goal.returns-in-Stepped-clause-within
+returns-in-Stepped-clause-within g c = within_back c.args.limit c.args.places.now.len c.args.places.now.items c.as_mut_slice.result.now c.advance_at.new.places c.as_mut_slice.ensures.value c.args.places.now.ok.0 c.advance_at.auto.places (λ all. c.in_ok-advance_at.ensures.within) c.requires.within
+
+pub returns-in-Exhausted-clause-within : goal.returns-in-Exhausted-clause-within
+returns-in-Exhausted-clause-within g c = within_back c.args.limit c.args.places.now.len c.args.places.now.items c.as_mut_slice.result.now c.advance_at.new.places c.as_mut_slice.ensures.value c.args.places.now.ok.0 c.advance_at.auto.places (λ all. c.in_ok-advance_at.ensures.within) c.requires.within
+
+pub returns-in-Asks-clause-within : goal.returns-in-Asks-clause-within
+returns-in-Asks-clause-within g c =
+    let soon = rw c.in-Asks.is at c.in_ok-advance_at.ensures.soon in
+    ok_more c.perform.result c.perform.ensures.within (λ x kept. kept c.args.limit soon
+    (within_back c.args.limit c.args.places.now.len c.args.places.now.items c.as_mut_slice.result.now c.advance_at.new.places c.as_mut_slice.ensures.value c.args.places.now.ok.0 c.advance_at.auto.places (λ all. c.in_ok-advance_at.ensures.within) c.requires.within))

@@ -1,0 +1,30 @@
+use Rattle.std.proofs.Common.{◌≡◌, ◌∷◌, ◌++◌, [], ◌+◌, suc, map, drop, is_ok, ap, arith, drop-cons}
+use Rattle.std.proofs.ResultArms.{chosen}
+use Rattle.std.proofs.lemmas.List.Sums.{sum_by-cons}
+use Rattle.syntax.specs.Measures.{expression_size}
+use Rattle.syntax.specs.Tree.{expressions}
+use Rattle.syntax.specs.View.{expression_of}
+use Rattle.type_table.specs.Visible.{types_of, globals_in, scope_of}
+use Rattle.checker_base.specs.Expressions.{ExpressionsHave}
+use Rattle.checker_base.proofs.Literals.{found_next, passed_next}
+use Rattle.checker_operation.proofs.Givens.{given_next}
+use Rattle.checker_operation.proofs.given.operands.Goals as goal
+
+pub loop-value-preserved : goal.loop-value-preserved
+loop-value-preserved c =
+    let globals = globals_in c.args.table.now in
+    let scope = scope_of c.args.table.now c.args.visible.now in
+    let value = expression_of c.value-item.result in
+    let left = drop (suc c.loop-value.value-index) c.args.values.now in
+    let rest = map expression_of left in
+    let more : c.loop-value.value-index + 1 ≡ suc c.loop-value.value-index = omega arith in
+    let cut : drop c.loop-value.value-index c.args.values.now ≡ c.value-item.result ∷ left = rw c.value-item.is (drop-cons c.args.values.now c.loop-value.value-index _ c.loop-value-test.true) in
+    let next : c.loop-value.end + expression_size value ≡ c.in_ok-operand.operand.node + 1 = c.in_ok-operand.ensures.end in
+    let pushed = chosen _ _ _ _ c.push.ensures.items (ap is_ok c.in_ok-push.was) in
+    let has = ExpressionsHave globals scope c.args.first (expressions (map expression_of c.args.values.now)) in
+    record {
+      end = rw more (omega (arith, sum_by-cons expression_size value rest, next, rw cut at c.loop-value.invariant.end));
+      given = rw (more, pushed, ← next) (given_next globals scope (types_of c.args.table.now) c.loop-value.all.items c.in_ok-operand.operand c.loop-value.end value rest _ c.in_ok-operand.ensures.worth c.in_ok-operand.ensures.first next (rw cut at c.loop-value.invariant.given));
+      found = rw (more, ← next) (found_next globals scope has c.loop-value.end value rest (rw cut at c.loop-value.invariant.found));
+      passed = rw (more, ← next) (passed_next globals scope has c.loop-value.end value rest (rw cut at c.loop-value.invariant.passed) c.in_ok-operand.ensures.none);
+    }

@@ -1,0 +1,51 @@
+-- What holds of statements and clauses that are left, one further.
+use Rattle.std.proofs.Common.{◌≡◌, ℕ, ◌+◌, ◌≤◌, ◌∙◌, inl, inr, List, Option, length, take, sym, ap, arith}
+use Rattle.std.proofs.lemmas.List.{length-take, take-take}
+use Rattle.syntax.specs.Tree.{Comm, Statement, Statements, Then, Clauses, Clause}
+use Rattle.syntax.specs.Measures.{if_any, comm_size, statement_size, statements_size}
+use Rattle.checker_base.specs.declared.flaw.Flaw.{Flaw}
+use Rattle.type_table.specs.declared.visible.Visible.{Visible}
+use Rattle.type_table.specs.Scopes.{Scope, entered, left}
+use Rattle.type_table.specs.Visible.{Keeps}
+use Rattle.checker_statement.specs.Statements.{Setting, StatementHas, StatementsHave, ClauseHas, ClausesHave, after, after_clause}
+
+few : {X : Type 0} (a b : List X) → take (length a) b ≡ a → length a ≤ length b
+few a b e = omega (arith, length-take (length a) b, ap length e)
+
+-- what is kept twice is kept
+pub keeps_on : (a b c : Visible) → Keeps a b → Keeps b c → Keeps a c
+keeps_on a b c one other =
+    let same = sym (take-take (length a.entries.items) (length b.entries.items) c.entries.items (few a.entries.items b.entries.items one.0)) in
+    (same ∙ ap (take (length a.entries.items)) other.0 ∙ one.0, other.1 ∙ one.1)
+
+-- ---- one statement further
+
+pub found_next : (setting : Setting) (P : Flaw → Type 0) (before scope : Scope) (first end : ℕ) (one : Statement) (rest : Statements)
+    → scope ≡ after setting.globals before one → end ≡ first + statement_size one
+    → ((flaw : Flaw) → StatementsHave setting before first (Then one rest) flaw → P flaw)
+    → (flaw : Flaw) → StatementsHave setting scope end rest flaw → P flaw
+found_next setting P before scope first end one rest is ends found = λ flaw has. found flaw (inr (rw (is, ends) at has))
+
+pub passed_next : (setting : Setting) (P : Flaw → Type 0) (before scope : Scope) (first end : ℕ) (one : Statement) (rest : Statements)
+    → scope ≡ after setting.globals before one → end ≡ first + statement_size one
+    → ((flaw : Flaw) → P flaw → StatementsHave setting before first (Then one rest) flaw) → ((flaw : Flaw) → StatementHas setting before first one flaw → ⊥)
+    → (flaw : Flaw) → P flaw → StatementsHave setting scope end rest flaw
+passed_next setting P before scope first end one rest is ends passed good = λ flaw p. elim (passed flaw p) [ inl bad ↦ absurd (good flaw bad) | inr more ↦ rw (is, ends) more ]
+
+-- ---- one clause further
+
+pub found_clause : (setting : Setting) (P : Flaw → Type 0) (before scope : Scope) (first end : ℕ) (comm : Option Comm) (body : Statements) (rest : Clauses)
+    → scope ≡ left before (after_clause setting.globals (entered before) comm body) → end ≡ first + (if_any comm_size comm + statements_size body + 1)
+    → ((flaw : Flaw) → ClausesHave setting before first (Clause comm body rest) flaw → P flaw)
+    → (flaw : Flaw) → ClausesHave setting scope end rest flaw → P flaw
+found_clause setting P before scope first end comm body rest is ends found =
+    let same : end ≡ first + if_any comm_size comm + statements_size body + 1 = omega (arith, ends) in
+    λ flaw has. found flaw (inr (inr (rw (is, same) at has)))
+
+pub passed_clause : (setting : Setting) (P : Flaw → Type 0) (before scope : Scope) (first end : ℕ) (comm : Option Comm) (body : Statements) (rest : Clauses)
+    → scope ≡ left before (after_clause setting.globals (entered before) comm body) → end ≡ first + (if_any comm_size comm + statements_size body + 1)
+    → ((flaw : Flaw) → P flaw → ClausesHave setting before first (Clause comm body rest) flaw) → ((flaw : Flaw) → ClauseHas setting (entered before) first comm body flaw → ⊥)
+    → (flaw : Flaw) → P flaw → ClausesHave setting scope end rest flaw
+passed_clause setting P before scope first end comm body rest is ends passed good =
+    let same : end ≡ first + if_any comm_size comm + statements_size body + 1 = omega (arith, ends) in
+    λ flaw p. elim (passed flaw p) [ inl bad ↦ absurd (good flaw (inl bad)) | inr more ↦ elim more [ inl bad ↦ absurd (good flaw (inr bad)) | inr left ↦ rw (is, same) left ] ]
