@@ -5,8 +5,10 @@ pub mod fault;
 pub mod place;
 pub mod rule;
 pub mod source;
+pub mod word;
 
 pub use fault::{Fault, Memory, NotYours};
 pub use place::{Place, Position, Span};
 pub use rule::{LimitKind, Rule};
 pub use source::Source;
+pub use word::is_word;

@@ -1,12 +1,12 @@
 //! A place between the tokens of a text.
 
-ghost use Rattle.std.specs.Prelude.{◌≡◌, ◌∷◌, [], IfOk, IfErr, MatchOption, bytes_eq, length};
+ghost use Rattle.std.specs.Prelude.{◌≡◌, ◌∷◌, [], IfOk, IfErr, MatchOption, length};
 ghost use Rattle.go_text.specs.Source.{bytes_of};
 ghost use Rattle.parser_base.specs.Lexemes.{lexemes, piece};
 ghost use Rattle.parser_base.specs.Spelling.{is_builtin};
 ghost use Rattle.parser_base.specs.Reading.{Gives, expect, expect_name, plain_name};
 
-use go_text::{Fault, Place, Source, Span};
+use go_text::{Fault, Place, Source, Span, is_word};
 use scanner::{Token, TokenKind};
 
 /// What the grammar sees of a token.
@@ -36,13 +36,6 @@ fn piece(text: &[u8], span: Span) -> &[u8]
     let rest = &text[(span.from as usize).min(text.len())..];
     let count = span.to.saturating_sub(span.from) as usize;
     &rest[..count.min(rest.len())]
-}
-
-/// Whether a name is this word.
-pub fn is_word(name: &[u8], word: &[u8]) -> bool
-    ensures { result ≡ bytes_eq name.now word.now }
-{
-    name == word
 }
 
 /// Whether a name stands only in calls of its own.

@@ -1,4 +1,4 @@
--- The keywords of statements by what they are for.
+-- The keywords of statements by what they are for, as the functions of `lexical` are cut: what is a keyword, `Lexical` says.
 use Rattle.std.specs.Prelude.{ℕ, List, Option, Some, None, if◌then◌else◌, codes}
 use Rattle.std.specs.Str.{bytes_eq}
 use Rattle.scanner.specs.declared.kind.TokenKind.{TokenKind}

@@ -1,11 +1,12 @@
 //! Which bytes are a token.
 
-ghost use Rattle.std.specs.Prelude.{◌≡◌, bytes_eq};
+ghost use Rattle.std.specs.Prelude.{◌≡◌};
 ghost use Rattle.scanner.specs.Elements.{is_forbidden};
 ghost use Rattle.scanner.specs.Keywords.{choice_keyword, jump_keyword, loop_or_call_keyword};
 ghost use Rattle.scanner.specs.Lexical.{is_digit, is_hex_digit, is_space, statement_keyword, declaration_keyword, word, mark_1, mark_2, mark_3, ends_line};
 
 use crate::kind::TokenKind;
+use go_text::is_word;
 
 /// Whether the byte is a decimal digit.
 pub(crate) fn is_digit(byte: u8) -> bool
@@ -37,13 +38,6 @@ pub(crate) fn is_forbidden(text: &[u8]) -> bool
         [0xEF, 0xBB, 0xBF, ..] => true,
         _ => false,
     }
-}
-
-/// Whether the text is this word.
-fn is_word(text: &[u8], word: &[u8]) -> bool
-    ensures { result ≡ bytes_eq text.now word.now }
-{
-    text == word
 }
 
 /// The keyword of a choice that the text is.

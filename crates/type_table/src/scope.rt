@@ -1,6 +1,6 @@
 //! Variables, and where they are visible.
 
-ghost use Rattle.std.specs.Prelude.{◌≡◌, ◌-◌, ◌++◌, ◌∷◌, ℕ, [], Some, bytes_eq, option_map, slice_get, length, map, take, drop, OnOk};
+ghost use Rattle.std.specs.Prelude.{◌≡◌, ◌-◌, ◌++◌, ◌∷◌, ℕ, [], Some, option_map, slice_get, length, map, take, drop, OnOk};
 ghost use Rattle.syntax.specs.View.{name_of};
 ghost use Rattle.type_table.specs.declared.visible.Entry.{Entry as OneEntry};
 ghost use Rattle.type_table.specs.declared.table.TypeTable.{TypeTable as OneTable};
@@ -14,6 +14,7 @@ use crate::name_index::NameIndex;
 use crate::table::TypeTable;
 use crate::value_type::ValueType;
 pub use crate::visible::{Entry, Visible};
+use go_text::is_word;
 use std::alloc::{AllocError, Global};
 use syntax::Name;
 
@@ -30,13 +31,6 @@ impl<'a> Visible<'a> {
             last: NameIndex::new(alloc),
         }
     }
-}
-
-/// Whether a name is this word.
-fn is_word(name: &[u8], word: &[u8]) -> bool
-    ensures { result ≡ bytes_eq name.now word.now }
-{
-    name == word
 }
 
 /// Whether this is the name that declares nothing.
