@@ -82,18 +82,23 @@ fn push_typed(
     kind: ValueType<'_>,
 ) {
     if is_truth_value(expression) {
-        return said.text(" (untyped bool constant)");
+        said.text(" (untyped bool constant)");
+    } else if is_untyped_bool(expression) {
+        said.text(" (untyped bool value)");
+    } else {
+        said.text(sort_text(expression));
+        push_type(said, table, kind);
+        said.text(")");
     }
-    if is_untyped_bool(expression) {
-        return said.text(" (untyped bool value)");
-    }
-    said.text(if is_variable(expression) {
+}
+
+/// What stands before the type of a value.
+fn sort_text(expression: &ExpressionNode) -> &'static str {
+    if is_variable(expression) {
         " (variable of type "
     } else {
         " (value of type "
-    });
-    push_type(said, table, kind);
-    said.text(")");
+    }
 }
 
 /// Puts what a constant is behind its text: its value, where the text is another.
@@ -129,11 +134,24 @@ pub fn push_worth(
     expression: &ExpressionNode,
 ) {
     match worth(table, visible, expression) {
-        Some(Worth::Typed(_)) if is_untyped_bool(expression) => said.text("untyped bool"),
-        Some(Worth::Typed(kind)) => push_type(said, table, kind),
+        Some(Worth::Typed(kind)) => push_type_of(said, table, expression, kind),
         Some(Worth::Constant(_)) => said.text("untyped int"),
         Some(Worth::Nil) => said.text("untyped nil"),
         None => said.text("unknown type"),
+    }
+}
+
+/// Puts the type of a value that is no constant behind what is there.
+fn push_type_of(
+    said: &mut Words,
+    table: &TypeTable<'_>,
+    expression: &ExpressionNode,
+    kind: ValueType<'_>,
+) {
+    if is_untyped_bool(expression) {
+        said.text("untyped bool");
+    } else {
+        push_type(said, table, kind);
     }
 }
 

@@ -175,26 +175,21 @@ pub fn form_of(cursor: Cursor<'_>) -> Form
 pub fn defines(cursor: Cursor<'_>) -> bool
     ensures { result ≡ defines true (ahead cursor.entry) }
 {
-    let mut named = true;
     let mut rest = cursor;
     for _ in 0..cursor.len() {
-        match (named, rest.next()) {
-            (true, Some((Word::Name(_), after))) => {
-                named = false;
-                rest = after;
-            }
-            (false, Some((Word::Mark(kind), after))) => {
-                if kind == TokenKind::Define {
-                    return true;
-                }
-                if kind != TokenKind::Comma {
-                    return false;
-                }
-                named = true;
-                rest = after;
-            }
-            _ => return false,
+        let Some((Word::Name(_), behind)) = rest.next() else {
+            return false;
+        };
+        let Some((Word::Mark(kind), after)) = behind.next() else {
+            return false;
+        };
+        if kind == TokenKind::Define {
+            return true;
         }
+        if kind != TokenKind::Comma {
+            return false;
+        }
+        rest = after;
     }
     false
 }

@@ -1,6 +1,6 @@
 //! Right sides of assignments, and the operands and arguments of calls, sends and receives.
 
-ghost use Rattle.std.specs.Prelude.{◌≡◌, ◌<◌, IfErr, map, option_map};
+ghost use Rattle.std.specs.Prelude.{◌≡◌, ◌<◌, ◌||◌, IfErr, bytes_eq, codes, map, option_map};
 ghost use Rattle.go_text.specs.declared.fault.Fault.TheVariants as faults;
 ghost use Rattle.syntax.specs.Tree.{Length, Capacity, Call, Receive};
 ghost use Rattle.syntax.specs.View.{expression_of, arguments_of, operation_of, right_of};
@@ -11,7 +11,7 @@ ghost use Rattle.parser_simple.specs.Reading.{as_one, begins_primary, primary, r
 use crate::form::{begins_with, value_next};
 use go_text::{Fault, LimitKind, Place};
 use parser_base::beside::beside;
-use parser_base::cursor::{Cursor, Word, is_builtin};
+use parser_base::cursor::{Cursor, Word, is_builtin, is_word};
 use parser_base::expression::{expression, name_node, values};
 use parser_base::found::Found;
 use parser_base::list::{List, Next};
@@ -176,6 +176,13 @@ fn cap_call(
     })
 }
 
+/// Whether a name is that of a built-in function that makes or measures a channel.
+fn is_channel_builtin(name: &[u8]) -> bool
+    ensures { result ≡ (bytes_eq name.now (codes "make") || bytes_eq name.now (codes "len") || bytes_eq name.now (codes "cap")) }
+{
+    is_word(name, b"make") || is_word(name, b"len") || is_word(name, b"cap")
+}
+
 /// A built-in function that makes or measures a channel, behind its name, which stands at `first`.
 #[tactic(auto, unfolding(crate::specs::Reading::builtin_operation))]
 fn builtin_operation<'a>(
@@ -188,17 +195,16 @@ fn builtin_operation<'a>(
 ) -> Result<Found<'a, OperationNode>, Fault>
     ensures { Gives (λ x. (operation_of x.node, ahead x.rest)) result (builtin_operation literals MAX_ENTRIES room name.now (ahead cursor.entry)) }
 {
-    let measures = name == b"len".as_slice() || name == b"cap".as_slice();
-    if (name == b"make".as_slice() || measures) && room < 1 {
+    if room < 1 && is_channel_builtin(name) {
         return Err(Fault::TooDeep(first.place()));
     }
-    if name == b"make".as_slice() {
+    if is_word(name, b"make") {
         return make_call(alloc, literals, room, cursor);
     }
-    if name == b"len".as_slice() {
+    if is_word(name, b"len") {
         return len_call(alloc, literals, room, cursor);
     }
-    if name == b"cap".as_slice() {
+    if is_word(name, b"cap") {
         return cap_call(alloc, literals, room, cursor);
     }
     Err(Fault::Syntax(first.place()))

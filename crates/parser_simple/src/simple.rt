@@ -13,7 +13,7 @@ use crate::place::{names, place, places};
 use crate::right::{argument, arguments, primary_expression, receive_operand, right_side};
 use go_text::{Fault, LimitKind};
 use parser_base::beside::beside;
-use parser_base::cursor::{Cursor, Word, is_builtin};
+use parser_base::cursor::{Cursor, Word, is_builtin, is_word};
 use parser_base::expression::{begins, closed, expression, name_node};
 use parser_base::found::Found;
 use parser_base::list::{List, Next};
@@ -172,13 +172,13 @@ fn builtin_call<'a>(
 ) -> Result<Found<'a, SimpleNode>, Fault>
     ensures { Gives (λ x. (simple_of x.node, ahead x.rest)) result (builtin_call literals MAX_ENTRIES room name.now (ahead cursor.entry)) }
 {
-    if name == b"println".as_slice() {
+    if is_word(name, b"println") {
         return print_call(alloc, true, literals, room, cursor);
     }
-    if name == b"print".as_slice() {
+    if is_word(name, b"print") {
         return print_call(alloc, false, literals, room, cursor);
     }
-    if name == b"close".as_slice() {
+    if is_word(name, b"close") {
         if room < 1 {
             return Err(Fault::TooDeep(first.place()));
         }

@@ -5,6 +5,6 @@ use Rattle.parser_simple.proofs.form.defines.Given as goal
 
 abbrev pub invariant-loop : goal.invariant-loop
 invariant-loop l = record {
-  total : defines l.named (ahead l.rest) ≡ defines true (ahead l.fn.cursor);
-  left : length (ahead l.rest) + l.counter ≡ length (ahead l.fn.cursor);
+  total : defines true (ahead l.rest) ≡ defines true (ahead l.fn.cursor);
+  left : length (ahead l.rest) + (l.counter + l.counter) ≡ length (ahead l.fn.cursor);
 }
