@@ -66,3 +66,19 @@ returns-in-Done-clause-within g c =
     ok_more c.wake_all.result c.wake_all.ensures.within (λ x kept limit soon all.
     within_back limit c.args.places.now.len told c.as_mut_slice-in-Done.result.now c.wake_all.new.places c.as_mut_slice-in-Done.ensures.value len c.wake_all.auto.places (kept limit soon)
     (within_back limit c.args.places.now.len c.args.places.now.items c.as_mut_slice.result.now c.tell_at.new.places c.as_mut_slice.ensures.value c.args.places.now.ok.0 c.tell_at.auto.places (c.in_ok-tell_at-in-Done.ensures.within limit soon) all))
+
+pub returns-in-Prints-clause-applies : goal.returns-in-Prints-clause-applies
+returns-in-Prints-clause-applies g c =
+    let value = c.as_mut_slice-in-Prints.ensures.value in
+    let back = written_back c.args.places.now.len c.args.places.now.items c.tell_at-in-Prints.new.places c.args.places.now.ok.0 (c.tell_at-in-Prints.auto.places ∙ ap length value) in
+    ok_more c.tell_at-in-Prints.result c.tell_at-in-Prints.ensures.told (λ x told s up. rw (c.in-Prints.is, back) ((rw value at told) s up))
+
+pub returns-in-Done-clause-applies : goal.returns-in-Done-clause-applies
+returns-in-Done-clause-applies g c =
+    let value = c.as_mut_slice.ensures.value in
+    let told = take c.args.places.now.len (c.tell_at.new.places ++ drop (length c.tell_at.new.places) c.args.places.now.items) in
+    let back : told ≡ c.tell_at.new.places = written_back c.args.places.now.len c.args.places.now.items c.tell_at.new.places c.args.places.now.ok.0 (c.tell_at.auto.places ∙ ap length value) in
+    let len : c.args.places.now.len ≡ length told = c.args.places.now.ok.0 ∙ sym (ap length value) ∙ sym c.tell_at.auto.places ∙ sym (ap length back) in
+    let again = c.as_mut_slice-in-Done.ensures.value in
+    let woken_back = written_back c.args.places.now.len told c.wake_all.new.places len (c.wake_all.auto.places ∙ ap length again) in
+    ok_more c.wake_all.result c.wake_all.ensures.woken (λ x woken s up. rw (c.in-Done.is, woken_back) (c.tell_at.new.places, (rw value at c.in_ok-tell_at-in-Done.ensures.told) s up, rw (again ∙ back) at woken))
