@@ -9,9 +9,9 @@ ghost use Rattle.parser_base.specs.Reading.{Gives, expression};
 ghost use Rattle.parser_simple.specs.Reading.{as_one, begins_primary, primary, received, arguments, argument, size, make, builtin_operation, begins_operation, operation, value_list, right};
 
 use crate::form::{begins_with, value_next};
-use go_text::{Fault, LimitKind, Place};
+use go_text::{Fault, LimitKind, Place, is_word};
 use parser_base::beside::beside;
-use parser_base::cursor::{Cursor, Word, is_builtin, is_word};
+use parser_base::cursor::{Cursor, Word, is_builtin};
 use parser_base::expression::{expression, name_node, values};
 use parser_base::found::Found;
 use parser_base::list::{List, Next};

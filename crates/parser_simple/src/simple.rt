@@ -11,9 +11,9 @@ ghost use Rattle.parser_simple.specs.Reading.{as_one, begins_part, part, parts, 
 use crate::form::{Form, begins_with, defines, fits, form_of, update_kind};
 use crate::place::{names, place, places};
 use crate::right::{argument, arguments, primary_expression, receive_operand, right_side};
-use go_text::{Fault, LimitKind};
+use go_text::{Fault, LimitKind, is_word};
 use parser_base::beside::beside;
-use parser_base::cursor::{Cursor, Word, is_builtin, is_word};
+use parser_base::cursor::{Cursor, Word, is_builtin};
 use parser_base::expression::{begins, closed, expression, name_node};
 use parser_base::found::Found;
 use parser_base::list::{List, Next};
