@@ -2,7 +2,8 @@
 
 ghost use Rattle.std.specs.Prelude.{◌≡◌, ◌+◌, ◌<◌, ◌≤◌, ◌^◌, ◌++◌, ◌∷◌, [], OnErr, OnOk, Some, drop, length, reverse, slice_get, take};
 ghost use Rattle.bytecode.specs.Machine.{Frame as FrameValue, Frames, begun, goes_on};
-ghost use Rattle.goroutine_vm_base.specs.Steps.{Resumes};
+ghost use Rattle.goroutine_vm_base.specs.Steps.{Resumes, ResumesWith, ahead};
+ghost use Rattle.word.specs.declared.value.Word.TheVariants.{Int};
 
 use crate::frame::{Frame, empty};
 use bytecode::WordKind;
@@ -115,6 +116,47 @@ impl CallStack {
         Ok(())
     }
 
+    /// The last one called calls another with an int, and waits at a place.
+    #[inline(always)]
+    pub(crate) fn enter_with(
+        &mut self,
+        alloc: Global,
+        locals: &[WordKind],
+        function: usize,
+        number: i64,
+        next: usize,
+    ) -> Result<(), AllocError>
+        requires { 0 < length self.old }
+        ensures ok { OnOk result ((c : FrameValue) → (cs : Frames) → self.old ≡ c ∷ cs → self.new ≡ begun locals.now function (Int number ∷ []) ∷ (ahead c next c.stack ∷ cs)) }
+        ensures err { OnErr result (self.new ≡ self.old) }
+        ensures some { 0 < length self.new }
+    {
+        keep_one(alloc, &mut self.frames, self.depth)?;
+        let last = self.depth - 1;
+        call_next_with(
+            self.frames.as_mut_slice(),
+            last,
+            locals,
+            function,
+            number,
+            next,
+        )?;
+        self.depth += 1;
+        Ok(())
+    }
+
+    /// The last one called returns to the one before it with an int.
+    #[inline(always)]
+    pub(crate) fn resume_with(&mut self, number: i64) -> Result<(), AllocError>
+        requires { 1 < length self.old }
+        ensures ok { OnOk result (ResumesWith number self.old self.new) }
+        ensures err { OnErr result (self.new ≡ self.old) }
+    {
+        self.frames[self.depth - 2].push_number(number)?;
+        self.depth -= 1;
+        Ok(())
+    }
+
     /// The last one called returns to the one before it, with the words of its stack.
     #[inline(always)]
     pub(crate) fn resume(&mut self) -> Result<(), AllocError>
@@ -159,6 +201,26 @@ fn call_next(
 {
     let (waiting, called) = frames.split_at_mut(place + 1);
     waiting[place].enter(&mut called[0], locals, function, at)?;
+    Ok(())
+}
+
+/// The function at a place of these calls the one behind it with an int, and waits at another place.
+#[inline(always)]
+fn call_next_with(
+    frames: &mut [Frame],
+    place: usize,
+    locals: &[WordKind],
+    function: usize,
+    number: i64,
+    next: usize,
+) -> Result<(), AllocError>
+    requires within { place + 1 < length frames.old }
+    ensures ok { OnOk result ((c : FrameValue) → slice_get frames.old place ≡ Some c → frames.new ≡ take place frames.old ++ ahead c next c.stack ∷ (begun locals.now function (Int number ∷ []) ∷ drop (place + 2) frames.old)) }
+    ensures err { OnErr result (take (place + 1) frames.new ≡ take (place + 1) frames.old) }
+    ensures len { length frames.new ≡ length frames.old }
+{
+    let (waiting, called) = frames.split_at_mut(place + 1);
+    waiting[place].enter_with(&mut called[0], locals, function, number, next)?;
     Ok(())
 }
 

@@ -102,8 +102,9 @@ pub(crate) fn store_top(frame: &mut Frame, to: usize, at: usize)
     requires within { to < length frame.old.locals }
     ensures { frame.new ≡ record frame.old { place = frame.old.place + 1; locals = put_at to (drop at frame.old.stack) frame.old.locals; stack = take at frame.old.stack } }
 {
-    frame.locals[to] = same(frame.stack[at]);
+    let word = same(frame.stack[at]);
     frame.stack.truncate(at);
+    frame.locals[to] = word;
     frame.place += 1;
 }
 

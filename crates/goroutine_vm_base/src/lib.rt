@@ -2,6 +2,7 @@
 #![tactic(auto)]
 
 pub mod call_stack;
+mod exit;
 pub mod fetch;
 pub mod frame;
 mod fused;

@@ -1,6 +1,6 @@
 //! Words of kinds.
 
-ghost use Rattle.std.specs.Prelude.{◌≡◌, ◌↔◌, IsTrue, IfOk, OnOk, drop, length, map};
+ghost use Rattle.std.specs.Prelude.{◌≡◌, ◌≤◌, ◌↔◌, ◌++◌, ◌∷◌, [], IsTrue, IfOk, OnOk, drop, length, map, take};
 ghost use Rattle.bytecode.specs.Machine.{as_kind as as_kind_of, fitted as fitted_of, zero_of as zero_word};
 ghost use Rattle.operands.specs.Words.{word_for};
 
@@ -82,6 +82,31 @@ pub fn fit(made: &mut Vec<Word>, kinds: &[WordKind], words: &[Word]) -> Result<(
         return Ok(());
     }
     refill(made, kinds, words)
+}
+
+/// Zeros of these kinds over as many others, from an index on.
+#[inline(always)]
+fn overwrite_rest(made: &mut [Word], kinds: &[WordKind], from: usize)
+    requires same { length made.old ≡ length kinds.now }
+    requires within { from ≤ length kinds.now }
+    ensures { made.new ≡ take from made.old ++ fitted_of (drop from kinds.now) [] }
+{
+    for index in from..kinds.len() {
+        made[index] = zero_of(kinds[index]);
+    }
+}
+
+/// Words of these kinds in place of others: the one given first, and zeros behind it.
+#[inline(always)]
+pub fn fit_one(made: &mut Vec<Word>, kinds: &[WordKind], word: Word) -> Result<(), AllocError>
+    ensures { OnOk result (made.new.items ≡ fitted_of kinds.now (word ∷ [])) }
+{
+    if made.len() == kinds.len() && !kinds.is_empty() {
+        made[0] = as_kind(kinds[0], word);
+        overwrite_rest(made.as_mut_slice(), kinds, 1);
+        return Ok(());
+    }
+    refill(made, kinds, &[word])
 }
 
 /// The zero of a shape.
