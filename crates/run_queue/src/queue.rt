@@ -1,7 +1,7 @@
 //! The queue and its passes.
 
 ghost use Rattle.std.specs.Prelude.{◌≡◌, ◌+◌, ◌≤◌, ◌<◌, ◌^◌, ◌⊎◌, length, IfErr, IfNone, IfOk, IfSome, OnErr, OnOk};
-ghost use Rattle.crossbeam_queue.specs.Passes.{view, IsPassOf, ruled_capacity};
+ghost use Rattle.crossbeam_queue.specs.Passes.{view};
 ghost use Rattle.run_queue.specs.Turns.{IsAllTaken, IsFull, IsPutting, IsTaking, PutsOne, TakesOne, whole, putting, taking, shared, further, told_put, told_gone};
 
 use crate::rule::{Ends, Further, Gone, InTurn, Puts, Takes, Told};
@@ -42,6 +42,8 @@ pub struct TakePass<T: Drop> {
 }
 
 impl<T: Drop> RunQueue<T> {
+    ghost use Rattle.run_queue.specs.Passes.{capacity_of, IsPutOf, IsTakeOf, put_count, put_view, take_view};
+
     /// An empty queue of this capacity, the pass that puts, and one that takes alone.
     ///
     /// Errors: `Memory`, also where the capacity is 2^60 or more.
@@ -50,10 +52,10 @@ impl<T: Drop> RunQueue<T> {
         capacity: usize,
     ) -> Result<(RunQueue<T>, PutPass<T>, TakePass<T>), Memory>
         requires { 0 < capacity }
-        ensures capacity { IfOk result (λ q. ruled_capacity q.0.line ≡ capacity) }
-        ensures queue { IfOk result (λ q. IsPassOf q.0.line q.1.pass × IsPassOf q.0.line q.2.pass) }
-        ensures put { IfOk result (λ q. view q.1.pass ≡ putting whole) }
-        ensures take { IfOk result (λ q. view q.2.pass ≡ taking whole) }
+        ensures capacity { IfOk result (λ q. capacity_of q.0 ≡ capacity) }
+        ensures queue { IfOk result (λ q. IsPutOf q.0 q.1 × IsTakeOf q.0 q.2) }
+        ensures put { IfOk result (λ q. put_view q.1 ≡ putting whole) }
+        ensures take { IfOk result (λ q. take_view q.2 ≡ taking whole) }
     {
         let (line, mut pass) = Line::ruled(alloc, capacity)?;
         let takes = line.another::<Ends>(&mut pass);
@@ -66,10 +68,10 @@ impl<T: Drop> RunQueue<T> {
 
     /// A further pass, which has taken nothing. From here on neither takes alone. It takes no memory, since a pass has no bytes.
     pub fn pass(&self, from: &mut TakePass<T>) -> TakePass<T>
-        requires { IsPassOf self.now.line from.old.pass }
-        ensures queue { IsPassOf self.now.line from.new.pass × IsPassOf self.now.line result.pass }
-        ensures from { view from.new.pass ≡ shared (view from.old.pass) }
-        ensures further { view result.pass ≡ further (view from.old.pass) }
+        requires { IsTakeOf self.now from.old }
+        ensures queue { IsTakeOf self.now from.new × IsTakeOf self.now result }
+        ensures from { take_view from.new ≡ shared (take_view from.old) }
+        ensures further { take_view result ≡ further (take_view from.old) }
     {
         let pass = self.line.another::<Further>(&mut from.pass);
         TakePass { pass }
@@ -78,10 +80,10 @@ impl<T: Drop> RunQueue<T> {
     /// From here on the pass that takes knows what was put before this call, and the pass that puts how many that one knows to be
     /// taken. Nothing is done at run time.
     pub fn tell(&self, puts: &mut PutPass<T>, takes: &mut TakePass<T>)
-        requires queue { IsPassOf self.now.line puts.old.pass × IsPassOf self.now.line takes.old.pass }
-        ensures queue { IsPassOf self.now.line puts.new.pass × IsPassOf self.now.line takes.new.pass }
-        ensures puts { view puts.new.pass ≡ told_gone (view puts.old.pass) (view takes.old.pass) }
-        ensures takes { view takes.new.pass ≡ told_put (view takes.old.pass) (view puts.old.pass) }
+        requires queue { IsPutOf self.now puts.old × IsTakeOf self.now takes.old }
+        ensures queue { IsPutOf self.now puts.new × IsTakeOf self.now takes.new }
+        ensures puts { put_view puts.new ≡ told_gone (put_view puts.old) (take_view takes.old) }
+        ensures takes { take_view takes.new ≡ told_put (take_view takes.old) (put_view puts.old) }
     {
         let put = self.line.another::<Told>(&mut puts.pass);
         let gone = self.line.another::<Told>(&mut takes.pass);
@@ -92,12 +94,12 @@ impl<T: Drop> RunQueue<T> {
     /// Puts an item at the back. It comes back only where the queue was full at one moment of the call, so that as many as its
     /// capacity were put and not yet taken, or where 2^62 had been put.
     pub fn put<R: Wait>(&self, rt: &R, pass: &mut PutPass<T>, item: T) -> Result<(), T>
-        requires { IsPassOf self.now.line pass.old.pass }
-        ensures queue { IsPassOf self.now.line pass.new.pass }
-        ensures ok { OnOk result (PutsOne (view pass.old.pass) item (view pass.new.pass)) }
-        ensures count { OnOk result (pass.new.count ≡ pass.old.count + 1) }
-        ensures back { IfErr result (λ x. (x ≡ item) × (view pass.new.pass ≡ view pass.old.pass)) }
-        ensures full { OnErr result (IsFull (ruled_capacity self.now.line) (view pass.old.pass) ⊎ (2 ^ 62 ≤ pass.old.count)) }
+        requires { IsPutOf self.now pass.old }
+        ensures queue { IsPutOf self.now pass.new }
+        ensures ok { OnOk result (PutsOne (put_view pass.old) item (put_view pass.new)) }
+        ensures count { OnOk result (put_count pass.new ≡ put_count pass.old + 1) }
+        ensures back { IfErr result (λ x. (x ≡ item) × (put_view pass.new ≡ put_view pass.old)) }
+        ensures full { OnErr result (IsFull (capacity_of self.now) (put_view pass.old) ⊎ (2 ^ 62 ≤ put_count pass.old)) }
     {
         if pass.count >= MOST {
             return Err(item);
@@ -111,11 +113,11 @@ impl<T: Drop> RunQueue<T> {
     /// pass took before. None only where the queue was empty at one moment of the call: a pass that takes alone has then taken
     /// all that it knows to be put.
     pub fn take<R: Wait>(&self, rt: &R, pass: &mut TakePass<T>) -> Option<T>
-        requires { IsPassOf self.now.line pass.old.pass }
-        ensures queue { IsPassOf self.now.line pass.new.pass }
-        ensures some { IfSome result (λ x. TakesOne (view pass.old.pass) x (view pass.new.pass)) }
-        ensures none { IfNone result (view pass.new.pass ≡ view pass.old.pass) }
-        ensures empty { IfNone result (IsAllTaken (view pass.old.pass)) }
+        requires { IsTakeOf self.now pass.old }
+        ensures queue { IsTakeOf self.now pass.new }
+        ensures some { IfSome result (λ x. TakesOne (take_view pass.old) x (take_view pass.new)) }
+        ensures none { IfNone result (take_view pass.new ≡ take_view pass.old) }
+        ensures empty { IfNone result (IsAllTaken (take_view pass.old)) }
     {
         self.line.pop_as::<Takes, R>(rt, &mut pass.pass)
     }
