@@ -1,5 +1,5 @@
 -- Values of literals, one behind the other, in the places of fields.
-use Rattle.std.proofs.Common.{◌≡◌, ℕ, suc, ◌+◌, ◌⊎◌, inl, inr, zero, Bool, List, [], ◌∷◌, map, drop, slice_get, Option, Some, None, Result, Ok, Err, length, sum_by, refl, arith}
+use Rattle.std.proofs.Common.{◌≡◌, ◌==◌, true, false, ℕ, suc, ◌+◌, ◌⊎◌, inl, inr, zero, Bool, List, [], ◌∷◌, map, drop, slice_get, Option, Some, None, Result, Ok, Err, length, sum_by, refl, arith}
 use Rattle.std.specs.Option.{IfSome}
 use Rattle.std.specs.Result.{IfOk, IfErr}
 use Rattle.std.proofs.lemmas.Bool.Decides.{nat_tests}
@@ -12,7 +12,8 @@ use Rattle.type_table.specs.Views.{field_in}
 use Rattle.type_table.specs.Containment.{Field, fields_of}
 use Rattle.type_table.specs.Scopes.{Globals, Scope}
 use Rattle.checker_base.specs.declared.flaw.Flaw.{Flaw}
-use Rattle.checker_base.specs.Flaws.{Nodes}
+use Rattle.go_text.specs.declared.rule.Rule.TheVariants as rules
+use Rattle.checker_base.specs.Flaws.{Nodes, IsBroken}
 use Rattle.checker_base.specs.Worths.{Worth, literal_struct, worth}
 use Rattle.checker_base.specs.Views.{kind_in, Tells}
 use Rattle.checker_base.specs.Expressions.{ExpressionHas, ExpressionsHave, FieldsHave, ValuesFail, ValueHas, field_kinds, nodes_of}
@@ -86,6 +87,29 @@ pub fields_agree : (globals : Globals) (scope : Scope) (first : ℕ) (values : L
 fields_agree globals scope first [] kinds end flaw e fit has = has
 fields_agree globals scope first (value ∷ rest) kinds end flaw e fit (inl numbers) = let wrong = numbers.0 in grind (arith, nat_tests)
 fields_agree globals scope first (value ∷ rest) kinds end flaw e fit (inr fail) = fit fail
+
+pub is_none : (n : ℕ) → (n == 0) ≡ true → n ≡ 0
+is_none zero e = refl
+is_none (suc n) e = grind (arith, nat_tests, e)
+
+pub is_some : (n : ℕ) → (n == 0) ≡ false → n ≡ 0 → ⊥
+is_some zero e none = cc
+is_some (suc n) e none = omega (arith, none)
+
+pub no_fields : (globals : Globals) (scope : Scope) (first : ℕ) (values : List Expression) (kinds : List (Option ValueType)) (end : ℕ) (flaw : Flaw) → length values ≡ 0
+    → FieldsHave globals scope first values kinds end flaw → ⊥
+no_fields globals scope first [] kinds end flaw none has = has
+no_fields globals scope first (value ∷ rest) kinds end flaw none has = omega (arith, none)
+
+pub number_has : (globals : Globals) (scope : Scope) (first : ℕ) (values : List Expression) (kinds : List (Option ValueType)) (end : ℕ) (flaw : Flaw) → (length values ≡ 0 → ⊥)
+    → (length values ≡ length kinds → ⊥) → IsBroken rules.Numbers end flaw → FieldsHave globals scope first values kinds end flaw
+number_has globals scope first [] kinds end flaw some other broken = absurd (some refl)
+number_has globals scope first (value ∷ rest) kinds end flaw some other broken = inl (grind (arith, nat_tests, other), broken)
+
+pub value_has : (globals : Globals) (scope : Scope) (first : ℕ) (values : List Expression) (kinds : List (Option ValueType)) (end : ℕ) (flaw : Flaw) → (length values ≡ 0 → ⊥)
+    → ValuesFail globals scope first values kinds flaw → FieldsHave globals scope first values kinds end flaw
+value_has globals scope first [] kinds end flaw some fail = absurd (some refl)
+value_has globals scope first (value ∷ rest) kinds end flaw some fail = inr fail
 
 pub composite_has : (globals : Globals) (scope : Scope) (first number : ℕ) (name : List ℕ) (values : List Expression) (fields : List Field) (trailing : Bool) (flaw : Flaw)
     → literal_struct globals scope name ≡ Some number → fields ≡ fields_of globals.structs number

@@ -1,5 +1,5 @@
-use Rattle.std.proofs.Common.{rules, arith, ◌≡◌, ◌∷◌, ◌+◌, suc, inl, inr, Some, drop, map, slice_get, length, option_copied, drop-cons}
-use Rattle.std.proofs.lemmas.List.{length-map}
+use Rattle.std.proofs.Common.{rules, arith, ◌≡◌, ◌==◌, ◌∙◌, [], true, false, refl, sym, ◌∷◌, ◌+◌, suc, inl, inr, Some, drop, map, slice_get, length, option_copied, drop-cons}
+use Rattle.std.proofs.lemmas.List.{drop_all, length-map}
 use Rattle.std.proofs.lemmas.Result.{err_from_is_err_and, IfOk-weaker}
 use Rattle.syntax.specs.declared.node.ExpressionNode.TheFolds.{the_lemmas}
 use Rattle.syntax.specs.Measures.{expression_size, expressions_size}
@@ -10,7 +10,7 @@ use Rattle.type_table.specs.Visible.{types_of, globals_in, scope_of}
 use Rattle.checker_base.specs.Worths.{literal_struct, worth}
 use Rattle.checker_base.specs.Views.{kind_in}
 use Rattle.checker_base.specs.Expressions.{ExpressionsHave, ValuesFail, field_kinds, nodes_of}
-use Rattle.checker_base.proofs.Literals.{next_field, found_next, passed_next, fits_next, fields_agree, composite_has, composite_in, literal_free, literal_flawed}
+use Rattle.checker_base.proofs.Literals.{is_none, is_some, no_fields, number_has, value_has, narrows-end, next_field, found_next, passed_next, fits_next, fields_agree, composite_has, composite_in, literal_free, literal_flawed}
 use Rattle.checker_base.proofs.operand.+checked.Goals as goal
 
 pub checked-returns-in-Composite-clause-worth : goal.checked-returns-in-Composite-clause-worth
@@ -91,3 +91,56 @@ fit_fields-loop-number-preserved t c =
       fits = rw (more, ← next) (fits_next globals scope (ValuesFail globals scope c.args.first (map expression_of c.args.values.now) (field_kinds (map (field_in types) c.args.fields.now))) c.loop-number.end value rest kinds others (kind_in types (option_copied c.field_at.result)) c.loop-number.misfit c.first_misfit-misfit.result begins fits c.first_misfit-misfit.ensures.known
           (λ none. c.first_misfit-misfit.ensures.new none (worth globals scope value) c.in_ok-operand.ensures.worth (nodes_of c.loop-number.end value) c.in_ok-operand.ensures.first next));
     }
+
+pub composite-returns-clause-worth : goal.composite-returns-clause-worth
+composite-returns-clause-worth t c =
+    let a = c.as_slice.ensures.value in
+    let b = c.literal_struct.ensures in
+    let d = c.in-Some.is in
+    let is : literal_struct (globals_in c.args.table.now) (scope_of c.args.table.now c.args.visible.now) (name_of c.args.name.now) ≡ Some c.in-Some.number = cc in
+    λ trailing. rw is refl
+
+pub filled-returns-in_err-filling-clause-one : goal.filled-returns-in_err-filling-clause-one
+filled-returns-in_err-filling-clause-one t c =
+    let p = err_from_is_err_and c.from_residual.result c.from_residual.ensures.1 in
+    rw (p.1, p.2) (λ end is. inl c.in_err-filling.ensures.one)
+
+pub filled-returns-then-is_empty-clause-fits : goal.filled-returns-then-is_empty-clause-fits
+filled-returns-then-is_empty-clause-fits t c =
+    let values = map expression_of c.args.values.now in
+    let none : length values ≡ 0 = simp length-map (is_none (length c.args.values.now) (sym c.is_empty.ensures ∙ c.if-is_empty.true)) in
+    λ end flaw has. no_fields (globals_in c.args.table.now) (scope_of c.args.table.now c.args.visible.now) c.args.first values (field_kinds (map (field_in (types_of c.args.table.now)) c.args.fields.now)) end flaw none has
+
+pub filled-returns-then-values-fields-clause-one : goal.filled-returns-then-values-fields-clause-one
+filled-returns-then-values-fields-clause-one t c =
+    let values = map expression_of c.args.values.now in
+    let kinds = field_kinds (map (field_in (types_of c.args.table.now)) c.args.fields.now) in
+    let some : length values ≡ 0 → ⊥ = simp length-map (is_some (length c.args.values.now) (sym c.is_empty.ensures ∙ c.if-is_empty.false)) in
+    let other : length values ≡ length kinds → ⊥ = simp length-map c.if-values-fields.true in
+    λ end is. inr (number_has (globals_in c.args.table.now) (scope_of c.args.table.now c.args.visible.now) c.args.first values kinds end _ some other (refl, omega (arith, is, c.in_ok-filling.ensures.end)))
+
+pub filled-returns-in-Some-clause-one : goal.filled-returns-in-Some-clause-one
+filled-returns-in-Some-clause-one t c =
+    let values = map expression_of c.args.values.now in
+    let kinds = field_kinds (map (field_in (types_of c.args.table.now)) c.args.fields.now) in
+    let some : length values ≡ 0 → ⊥ = simp length-map (is_some (length c.args.values.now) (sym c.is_empty.ensures ∙ c.if-is_empty.false)) in
+    let fail = rw c.in-Some.is at c.in_ok-filling.ensures.misfit in
+    λ end is. inr (value_has (globals_in c.args.table.now) (scope_of c.args.table.now c.args.visible.now) c.args.first values kinds end c.in-Some.flaw some fail)
+
+pub fit_fields-loop-number-init : goal.fit_fields-loop-number-init
+fit_fields-loop-number-init t c = record { end = refl; found = λ flaw has. has; passed = λ flaw has. has; fits = λ flaw. (λ has. has, λ has. has) }
+
+pub fit_fields-returns-clause-none : goal.fit_fields-returns-clause-none
+fit_fields-returns-clause-none t c =
+    let none : drop c.loop-number.number c.args.values.now ≡ [] = drop_all c.loop-number.number c.args.values.now c.loop-number-test.false in
+    λ flaw has. rw none at (c.loop-number.invariant.passed flaw has)
+
+pub fit_fields-returns-clause-misfit : goal.fit_fields-returns-clause-misfit
+fit_fields-returns-clause-misfit t c =
+    let globals = globals_in c.args.table.now in
+    let scope = scope_of c.args.table.now c.args.visible.now in
+    let types = types_of c.args.table.now in
+    let none : drop c.loop-number.number c.args.values.now ≡ [] = drop_all c.loop-number.number c.args.values.now c.loop-number-test.false in
+    narrows-end (ValuesFail globals scope c.args.first (map expression_of c.args.values.now) (field_kinds (map (field_in types) c.args.fields.now)))
+    (ValuesFail globals scope c.loop-number.end (map expression_of (drop c.loop-number.number c.args.values.now)) (field_kinds (map (field_in types) (drop c.loop-number.number c.args.fields.now))))
+    c.loop-number.misfit (λ flaw has. rw none at has) c.loop-number.invariant.fits
