@@ -11,6 +11,7 @@ ghost use Rattle.word.specs.Kinds.{Clocked};
 mod chosen;
 mod frames;
 mod state;
+mod step;
 mod told;
 
 pub use state::{GoState, Stop, spawn_state};

@@ -11,6 +11,7 @@ use crate::call_stack::CallStack;
 use crate::frame::Frame;
 use crate::outcome::Stepped;
 use bytecode::{Code, Instr};
+use operands::moved::{by_variant, put_words};
 use std::alloc::{AllocError, Global};
 use word::apply::{Op, checked_apply};
 use word::limits::MAX_DEPTH;
@@ -38,14 +39,6 @@ fn load(frame: &mut Frame, from: usize, to: usize) -> Result<(), AllocError>
     frame.stack.extend_from_slice(&frame.locals[from..to])?;
     frame.place += 1;
     Ok(())
-}
-
-/// Copies words into others, from an index on.
-fn put_words(into: &mut [Word], from: usize, words: &[Word])
-    requires { from + length words.now ≤ length into.old }
-    ensures { into.new ≡ put_at from words.now into.old }
-{
-    into[from..from + words.len()].copy_from_slice(words);
 }
 
 /// Pops words from a place of the stack on into the locals from another on, and goes on.
@@ -81,19 +74,6 @@ fn pick(
     Ok(())
 }
 
-/// The same word. It is taken by its variant, so that what an operator just wrote in parts is not read as a whole, for which the
-/// processor would wait.
-#[inline(always)]
-fn same(word: Word) -> Word
-    ensures { result ≡ word }
-{
-    match word {
-        Word::Int(number) => Word::Int(number),
-        Word::Bool(truth) => Word::Bool(truth),
-        Word::Chan(chan) => Word::Chan(chan),
-    }
-}
-
 /// Pops the word on the top, which stands at this place, into a local, and goes on.
 #[inline(always)]
 pub(crate) fn store_top(frame: &mut Frame, to: usize, at: usize)
@@ -102,7 +82,7 @@ pub(crate) fn store_top(frame: &mut Frame, to: usize, at: usize)
     requires within { to < length frame.old.locals }
     ensures { frame.new ≡ record frame.old { place = frame.old.place + 1; locals = put_at to (drop at frame.old.stack) frame.old.locals; stack = take at frame.old.stack } }
 {
-    let word = same(frame.stack[at]);
+    let word = by_variant(frame.stack[at]);
     frame.stack.truncate(at);
     frame.locals[to] = word;
     frame.place += 1;
@@ -258,7 +238,7 @@ fn leave_from(
 }
 
 /// One instruction, whose operands begin at a place of the stack.
-pub(crate) fn instr(
+pub fn instr(
     alloc: Global,
     code: &Code,
     may: bool,

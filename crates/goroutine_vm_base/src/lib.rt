@@ -2,11 +2,9 @@
 #![tactic(auto)]
 
 pub mod call_stack;
-mod exit;
 pub mod fetch;
 pub mod frame;
 mod fused;
-mod instrs;
+pub mod instrs;
 pub mod outcome;
 pub mod run;
-pub mod step;

@@ -2,6 +2,7 @@
 #![tactic(auto)]
 
 pub mod kinds;
+pub mod moved;
 pub mod print;
 pub mod select;
 pub mod width;

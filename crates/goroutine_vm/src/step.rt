@@ -6,16 +6,16 @@ ghost use Rattle.bytecode.specs.Rules.{IsVerified};
 ghost use Rattle.goroutine_vm_base.specs.Steps.{Does};
 ghost use Rattle.word.specs.Kinds.{Stuck};
 
-use crate::call_stack::CallStack;
-use crate::fetch::fetch;
-use crate::frame::Frame;
-use crate::instrs::instr;
-use crate::outcome::Stepped;
 use bytecode::Code;
+use goroutine_vm_base::call_stack::CallStack;
+use goroutine_vm_base::fetch::fetch;
+use goroutine_vm_base::frame::Frame;
+use goroutine_vm_base::instrs::instr;
+use goroutine_vm_base::outcome::Stepped;
 use std::alloc::{AllocError, Global};
 
 /// The next instruction of the function that runs, which nothing was told; `may` is whether a tick is made.
-pub fn step(
+pub(crate) fn step(
     alloc: Global,
     code: &Code,
     may: bool,
@@ -27,7 +27,7 @@ pub fn step(
     ensures ok { IfOk result (λ step. Does may (frame.old ∷ callers.old) (code_next code.now (frame.old ∷ callers.old)) step (frame.new ∷ callers.new)) }
     ensures err { OnErr result ((frame.new ≡ frame.old) × (callers.new ≡ callers.old)) }
 {
-    let have = frame.stack.len();
+    let have = frame.stack().len();
     match fetch(code, frame) {
         None => unreachable!(),
         Some((i, wanted)) => {
