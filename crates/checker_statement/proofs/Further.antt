@@ -1,5 +1,6 @@
 -- What holds of statements and clauses that are left, one further.
-use Rattle.std.proofs.Common.{◌≡◌, ℕ, ◌+◌, ◌≤◌, ◌∙◌, inl, inr, List, Option, length, take, sym, ap, arith}
+use Rattle.std.proofs.Common.{◌≡◌, ℕ, ◌+◌, ◌<◌, ◌≤◌, true, nat_le, ◌∙◌, inl, inr, List, Option, length, take, sym, ap, arith}
+use Rattle.std.proofs.lemmas.Bool.Decides.{nat_tests}
 use Rattle.std.proofs.lemmas.List.{length-take, take-take}
 use Rattle.syntax.specs.Tree.{Comm, Statement, Statements, Then, Clauses, Clause}
 use Rattle.syntax.specs.Measures.{if_any, comm_size, statement_size, statements_size}
@@ -49,3 +50,7 @@ pub passed_clause : (setting : Setting) (P : Flaw → Type 0) (before scope : Sc
 passed_clause setting P before scope first end comm body rest is ends passed good =
     let same : end ≡ first + if_any comm_size comm + statements_size body + 1 = omega (arith, ends) in
     λ flaw p. elim (passed flaw p) [ inl bad ↦ absurd (good flaw (inl bad)) | inr more ↦ elim more [ inl bad ↦ absurd (good flaw (inr bad)) | inr left ↦ rw (is, same) left ] ]
+
+-- fewer than two
+pub few_defaults : (n : ℕ) → n < 2 → nat_le 2 n ≡ true → ⊥
+few_defaults n below many = grind (arith, nat_tests, below, many)

@@ -1,4 +1,6 @@
-use Rattle.std.proofs.Common.{◌≡◌, ◌∷◌, ◌+◌, suc, ap, inr, sym, ◌∙◌, map, drop, drop-cons, arith}
+use Rattle.std.proofs.Common.{◌≡◌, [], ◌∷◌, ◌+◌, suc, ap, inl, inr, refl, sym, ◌∙◌, map, drop, drop-cons, arith}
+use Rattle.std.proofs.lemmas.List.{drop_all}
+use Rattle.std.proofs.Math.Seq.{take-length}
 use Rattle.syntax.specs.Tree.{Statement}
 use Rattle.syntax.specs.Measures.{statement_size}
 use Rattle.syntax.specs.View.{body_of, statement_of, clause_of, clauses}
@@ -6,7 +8,7 @@ use Rattle.type_table.specs.Visible.{globals_in, scope_of}
 use Rattle.checker_statement.specs.Settings.{setting_in}
 use Rattle.checker_statement.specs.Statements.{StatementsHave, ClausesHave}
 use Rattle.checker_statement.proofs.Defaults.{two_defaults}
-use Rattle.checker_statement.proofs.Further.{keeps_on, found_next, passed_next, found_clause, passed_clause}
+use Rattle.checker_statement.proofs.Further.{few_defaults, keeps_on, found_next, passed_next, found_clause, passed_clause}
 use Rattle.checker_statement.proofs.statement.+statement.Goals as goal
 
 pub select-returns-then-defaults-gt1-clause-one : goal.select-returns-then-defaults-gt1-clause-one
@@ -57,3 +59,35 @@ select-loop-one-preserved t c =
       found = rw more (found_clause setting has before scope c.loop-one.end c.in_ok-end.end one.comm one.body rest here.after here.end (rw cut at c.loop-one.invariant.found));
       passed = rw more (passed_clause setting has before scope c.loop-one.end c.in_ok-end.end one.comm one.body rest here.after here.end (rw cut at c.loop-one.invariant.passed) here.none);
     }
+
+pub statements-loop-one-init : goal.statements-loop-one-init
+statements-loop-one-init t c = record { end = refl; after = refl; kept = (take-length c.args.visible.now.entries.items, refl); found = λ flaw has. has; passed = λ flaw has. has }
+
+pub statements-returns-clause-end : goal.statements-returns-clause-end
+statements-returns-clause-end t c =
+    let none : drop c.loop-one.one-index c.args.body.now ≡ [] = drop_all c.loop-one.one-index c.args.body.now c.loop-one-test.false in
+    omega (arith, rw none at c.loop-one.invariant.end)
+
+pub statements-returns-clause-after : goal.statements-returns-clause-after
+statements-returns-clause-after t c =
+    let none : drop c.loop-one.one-index c.args.body.now ≡ [] = drop_all c.loop-one.one-index c.args.body.now c.loop-one-test.false in
+    rw none at c.loop-one.invariant.after
+
+pub statements-returns-clause-none : goal.statements-returns-clause-none
+statements-returns-clause-none t c =
+    let none : drop c.loop-one.one-index c.args.body.now ≡ [] = drop_all c.loop-one.one-index c.args.body.now c.loop-one-test.false in
+    λ flaw has. rw none at (c.loop-one.invariant.passed flaw has)
+
+pub select-loop-one-init : goal.select-loop-one-init
+select-loop-one-init t c = record { end = refl; after = refl; left = (refl, refl); count = omega arith; few = omega arith; found = λ flaw has. has; passed = λ flaw has. has }
+
+pub select-returns-clause-after : goal.select-returns-clause-after
+select-returns-clause-after t c =
+    let none : drop c.loop-one.one-index c.args.all.now ≡ [] = drop_all c.loop-one.one-index c.args.all.now c.loop-one-test.false in
+    rw none at c.loop-one.invariant.after
+
+pub select-returns-clause-none : goal.select-returns-clause-none
+select-returns-clause-none t c =
+    let none : drop c.loop-one.one-index c.args.all.now ≡ [] = drop_all c.loop-one.one-index c.args.all.now c.loop-one-test.false in
+    let count = rw none at c.loop-one.invariant.count in
+    λ flaw has. elim has [ inl bad ↦ rw none at (c.loop-one.invariant.passed flaw bad) | inr many ↦ few_defaults _ (omega (arith, count, c.loop-one.invariant.few)) many.0 ]
