@@ -27,6 +27,7 @@ pub(crate) fn step(
     ensures ok { IfOk result (λ step. Does may (frame.old ∷ callers.old) (code_next code.now (frame.old ∷ callers.old)) step (frame.new ∷ callers.new)) }
     ensures err { OnErr result ((frame.new ≡ frame.old) × (callers.new ≡ callers.old)) }
 {
+    frame.quiet();
     let have = frame.stack().len();
     match fetch(code, frame) {
         None => unreachable!(),
