@@ -1,5 +1,6 @@
 //! The tokens of a text, and the nodes of its tree, as lines.
 
+use crate::kinds::kind_name;
 use go_text::{Fault, Source, Span};
 use parser::parse;
 use row_format::flaw::{Flaw, shown};
@@ -13,7 +14,8 @@ pub fn tokens(alloc: Global, text: &[u8]) -> Result<Vec<u8>, Flaw> {
     let mut lines = String::new(alloc);
     for Token { kind, span } in scan(alloc, &source)? {
         let place = placed(alloc, text, span)?;
-        writeln!(lines, "{kind:?} {place}")?;
+        let name = kind_name(kind);
+        writeln!(lines, "{name} {place}")?;
     }
     Ok(lines.into_bytes())
 }

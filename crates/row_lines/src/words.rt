@@ -1,6 +1,6 @@
 //! Command lines, and what comes of each.
 
-use command_line::arguments::{command, invocation_of};
+use command_line::arguments::{Invocation, Subcommand, command, invocation_of};
 use row_format::flaw::{Flaw, same};
 use row_format::written::bytes_of;
 use std::alloc::{AllocError, Global};
@@ -38,10 +38,36 @@ fn words_of(alloc: Global, line: &str) -> Result<Vec<String>, AllocError> {
 fn answer(alloc: Global, words: &[String]) -> Result<String, AllocError> {
     match command(alloc)?.try_get_matches_from(words) {
         Ok(matches) => {
-            let asked = invocation_of(&matches);
-            format!(in alloc; "{asked:?}")
+            let Some(asked) = invocation_of(&matches) else {
+                return "nothing".to_string(alloc);
+            };
+            told(alloc, &asked)
         }
         Err(error) => shown(alloc, &error),
+    }
+}
+
+/// What is asked for: of which file, with which files beside it, and whether a sentence is told; and what is done with it.
+fn told(alloc: Global, asked: &Invocation<'_>) -> Result<String, AllocError> {
+    let Invocation {
+        file,
+        trace,
+        out,
+        explains,
+        subcommand,
+    } = *asked;
+    let done = done(alloc, subcommand)?;
+    format!(in alloc; "file {file:?} trace {trace:?} out {out:?} explains {explains}: {done}")
+}
+
+/// What is done with a text.
+fn done(alloc: Global, subcommand: Subcommand) -> Result<String, AllocError> {
+    match subcommand {
+        Subcommand::Check => "check".to_string(alloc),
+        Subcommand::List => "list".to_string(alloc),
+        Subcommand::Reference { limit } => format!(in alloc; "reference to {limit}"),
+        Subcommand::Timeline { limit } => format!(in alloc; "timeline to {limit}"),
+        Subcommand::Run { workers, limit } => format!(in alloc; "run by {workers} to {limit}"),
     }
 }
 
