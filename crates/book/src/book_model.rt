@@ -2,6 +2,7 @@
 
 ghost use Rattle.std.specs.Prelude.{◌≡◌, ◌+◌, ◌<◌, ◌≤◌, ◌^◌, ◌↔◌, ◌⊎◌, [], IfErr, IfNone, IfOk, IfSome, IsErrOf, IsTrue, MatchOption, None, OnErr, OnOk, Some, length, true};
 ghost use Rattle.std.specs.Arc.{arc_value};
+ghost use Rattle.std.specs.Option.{is_some};
 ghost use Rattle.output.specs.Progress.{piece_run};
 ghost use Rattle.output.specs.declared.piece.Kind.TheVariants.{Output, Trace};
 ghost use Rattle.logical_clock.specs.Order.{keys, least};
@@ -124,6 +125,13 @@ impl<B: BookName> Book<B> {
                 Err(Memory)
             }
         }
+    }
+
+    /// Whether there is a goroutine to lend.
+    pub fn may_lend(&self) -> bool
+        ensures { result ≡ is_some (to_lend self.now.core) }
+    {
+        self.core.may_lend()
     }
 
     /// Puts the present state of a lease back; after an end that changes nothing but its slot, which is free again.

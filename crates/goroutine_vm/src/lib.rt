@@ -10,10 +10,12 @@ ghost use Rattle.word.specs.Kinds.{Clocked};
 
 mod chosen;
 mod frames;
+mod sleeping;
 mod state;
 mod step;
 mod told;
 
+pub use sleeping::{Room, Sleeping};
 pub use state::{GoState, Stop, spawn_state};
 
 /// From every state of verified code local steps alone lead to a request.

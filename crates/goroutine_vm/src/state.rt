@@ -24,10 +24,9 @@ use word::value::Word;
 
 /// A goroutine: its clock, whether a close woke it at its send, and the functions that run.
 pub struct GoState {
-    clock: Clock,
-    doomed: bool,
-    /// They lie apart, so that a goroutine is moved at the cost of a few words.
-    frames: Box<Frames>,
+    pub(crate) clock: Clock,
+    pub(crate) doomed: bool,
+    pub(crate) frames: Frames,
 }
 
 impl Drop for GoState {
@@ -47,7 +46,7 @@ impl Model for GoState {
 
     ghost Value = { Clocked FramesValue };
 
-    ghost view = { λ s. record { clock = s.clock; doomed = s.doomed; state = s.frames.value } };
+    ghost view = { λ s. record { clock = s.clock; doomed = s.doomed; state = s.frames } };
 }
 
 /// Why the machine stopped.
@@ -70,15 +69,26 @@ pub fn spawn_state(
     requires { function < length code.now.functions }
     ensures { IfOk result (λ s. s ≡ at clock (code_begin code.now function args.now)) }
 {
-    let frames = Frames::begin(alloc, code.code(), function, args)?;
     Ok(GoState {
         clock,
         doomed: false,
-        frames: Box::new(alloc, frames)?,
+        frames: Frames::begin(alloc, code.code(), function, args)?,
     })
 }
 
 impl GoState {
+    /// Its parts.
+    pub(crate) fn into_parts(self) -> (Clock, bool, Frames)
+        ensures { record { clock = result.0; doomed = result.1; state = result.2 } ≡ self }
+    {
+        let GoState {
+            clock,
+            doomed,
+            frames,
+        } = self;
+        (clock, doomed, frames)
+    }
+
     /// The goroutine's clock.
     pub fn clock(&self) -> Clock
         ensures { result ≡ self.now.clock }
@@ -90,11 +100,10 @@ impl GoState {
     pub fn try_clone(&self, alloc: Global) -> Result<GoState, AllocError>
         ensures { IfOk result (λ s. s ≡ self.now) }
     {
-        let frames = self.frames.try_clone(alloc)?;
         Ok(GoState {
             clock: self.clock,
             doomed: self.doomed,
-            frames: Box::new(alloc, frames)?,
+            frames: self.frames.try_clone(alloc)?,
         })
     }
 
@@ -105,7 +114,7 @@ impl GoState {
         if self.clock != other.clock || self.doomed != other.doomed {
             return false;
         }
-        self.frames.is_same(other.frames.as_ref())
+        self.frames.is_same(&other.frames)
     }
 }
 

@@ -18,6 +18,8 @@ use Rattle.channel_core.specs.contracts.sleepers.Sleeper as Sleeper
 use Rattle.channel_core.specs.contracts.sleepers.Sleeper.TheInside as sleeper
 use Rattle.channel_core.specs.contracts.sleepers.Sleepers as Sleepers
 use Rattle.channel_core.specs.contracts.sleepers.Sleepers.TheInside as sleepers
+use Rattle.goroutine_vm.proofs.sleeping.Room.TheSendSync.{the_field_send as room_send}
+use Rattle.goroutine_vm.proofs.sleeping.Sleeping.TheSendSync.{the_send as sleeping_send}
 use Rattle.goroutine_vm.proofs.state.GoState.TheSendSync.{the_send as state_send}
 use Rattle.slab.proofs.Slab.TheSendSync.{the_send as slab_send}
 use Rattle.sleep_queue.proofs.numbered_keys.NumberedKeys.TheSendSync.{the_send as keys_send}
@@ -130,12 +132,15 @@ core_inside =
     recorded_send core.the_field.row _ _ core.the_type.to_one (struct_send (shape core.the_type) (
       awake_send,
       (
-        search (sendable, crosses, state_send) depth 20,
+        search (sendable, crosses, sleeping_send) depth 20,
         (
-          search (sendable, crosses, away_send) depth 20,
+          search (sendable, crosses, room_send) depth 20,
           (
-            channels_send,
-            (search sendable, (search sendable, (search (sendable, end_send) depth 20, tt))),
+            search (sendable, crosses, away_send) depth 20,
+            (
+              channels_send,
+              (search sendable, (search sendable, (search (sendable, end_send) depth 20, tt))),
+            ),
           ),
         ),
       ),

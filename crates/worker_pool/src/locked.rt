@@ -72,11 +72,6 @@ impl<B: RunName> Locked<B> {
         self.over
     }
 
-    /// Whether a worker watches.
-    pub fn is_watched(&self) -> bool {
-        self.watched
-    }
-
     /// A worker has watched, and looks again.
     pub fn end_watch(&mut self) {
         self.watched = false;
@@ -109,6 +104,11 @@ impl<B: RunName> Locked<B> {
     /// How many leases were given out, modulo 2^64.
     pub fn lent(&self) -> u64 {
         self.lent
+    }
+
+    /// Whether a worker watches, and there is a lease for it.
+    pub fn wants_call(&self) -> bool {
+        self.watched && !self.over && self.run.may_lend()
     }
 
     /// A lease goes out to a worker that yields.

@@ -2,11 +2,13 @@
 
 ghost use Rattle.std.specs.Prelude.{◌≡◌, ◌+◌, [], IfErr, IfOk, IfSome, OnErr, OnOk, length};
 ghost use Rattle.std.specs.Arc.{arc_value};
+ghost use Rattle.std.specs.Option.{is_some};
 ghost use Rattle.book.specs.Desks.{opened_desk};
 ghost use Rattle.clock_table.specs.Seats.{table_of};
 ghost use Rattle.one_thread.specs.Worlds.{IsLimit};
 ghost use Rattle.worker_pool.specs.Handing.{HasEnded, KeepsTaken};
 ghost use Rattle.worker_pool.specs.Runs.{IsHanded, IsOfRun, output_run, trace_run};
+ghost use Rattle.world_core_base.specs.Cores.{to_lend};
 
 use crate::run_name::{OfRun, RunLease, RunName};
 use book::{Blank, Book, Reached};
@@ -44,6 +46,13 @@ impl<B: RunName> RunBook<B> {
         ensures { KeepsTaken self.old.book self.new.book }
     {
         self.book.lend()
+    }
+
+    /// Whether there is a goroutine to lend.
+    pub fn may_lend(&self) -> bool
+        ensures { result ≡ is_some (to_lend self.now.book.core) }
+    {
+        self.book.may_lend()
     }
 
     /// Puts a lease back.

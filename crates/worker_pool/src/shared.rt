@@ -50,15 +50,16 @@ impl<B: RunName> Shared<B> {
         pace: &mut Pace,
     ) -> Option<RunLease<B>> {
         let mut locked = self.locked.lock(rt);
-        if locked.is_watched() && matches!(&back, Back::Running(_)) {
-            self.watching.notify_one();
-        }
+        let long = matches!(&back, Back::Running(_));
         pace.come(&mut locked, &back);
         locked.take_back(back);
         for _ in rt.forever() {
             match locked.turn(pace.yields()) {
                 Turn::Work(lease) => {
                     pace.go(&mut locked);
+                    if long && locked.wants_call() {
+                        self.watching.notify_one();
+                    }
                     if locked.wants_watch() {
                         self.waiting.notify_one();
                     }

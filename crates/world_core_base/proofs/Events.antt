@@ -1,24 +1,27 @@
 -- What stands in the place of an event once its request was performed.
-use Rattle.std.proofs.Common.{◌≡◌, ◌≢◌, ℕ, ◌+◌, ◌-◌, ◌<◌, ◌^◌, cond, List, [], ◌∷◌, ◌++◌, length, Option, Some, None, refl, sym, ap, ◌∙◌, subst}
+use Rattle.std.proofs.Common.{◌≡◌, ◌≢◌, ℕ, ◌+◌, ◌-◌, ◌<◌, ◌^◌, ◌==◌, Bool, true, false, IfSome, cond, List, [], ◌∷◌, ◌++◌, length, Option, Some, None, refl, sym, ap, ◌∙◌, subst}
 use Rattle.std.specs.Prelude.{slice_index_or, slice_set, option_map}
 use Rattle.std.proofs.lemmas.Bool.{eq-eqb}
 use Rattle.bytecode.specs.Code.{Code}
-use Rattle.bytecode.specs.Machine.{code_begin}
+use Rattle.bytecode.proofs.Options.{some_inj}
+use Rattle.bytecode.specs.Machine.{NextFrames, code_begin, code_next}
 use Rattle.channel_core.specs.Channels.{ChannelsValue, Does, IsOfChannels, Others, shared_with}
 use Rattle.channel_core.specs.declared.outcome.Outcome.{Outcome}
+use Rattle.goroutine_vm.proofs.Quiet.{asking_quiet}
+use Rattle.goroutine_vm.specs.Advance.{IsQuiet}
 use Rattle.turn_rule.specs.declared.Row.{Row}
 use Rattle.word.specs.declared.end.End.{End as Ending}
 use Rattle.word.specs.declared.end.End.TheVariants.{Panicked}
-use Rattle.word.specs.declared.panic.Panic.TheVariants.{TooManyGoroutines}
+use Rattle.word.specs.declared.panic.Panic.TheVariants.{SendOnClosed, TooManyGoroutines}
 use Rattle.word.specs.declared.request.Event.{Event as Recorded}
 use Rattle.word.specs.declared.request.Request.{Request as Asked}
 use Rattle.word.specs.declared.request.Request.TheVariants as asking
 use Rattle.word.specs.declared.value.Word.{Word}
-use Rattle.word.specs.Kinds.{at}
-use Rattle.word.specs.Requests.{Deed, GoesOn, act, ends, panics}
+use Rattle.word.specs.Kinds.{Asks, asks_of, at}
+use Rattle.word.specs.Requests.{Deed, GoesOn, act, asked, ends, panics}
 use Rattle.word.specs.Values.{Request, Go, Print, End, Exit, Panic, Exhausted, Nothing, EventOutcome as Came, Done, Panics, Shared}
 use Rattle.word.specs.Views.{event_of, outcome_of, request_of}
-use Rattle.world_core_base.specs.Cores.{CoreValue, FitsCore, IsAsked, IsGo, IsLast, Performs, bytes_of, printed_by}
+use Rattle.world_core_base.specs.Cores.{CoreValue, FitsCore, IsAsked, IsGo, IsLast, Performs, bytes_of, meant_after, printed_by}
 use Rattle.awake_rows.specs.Slots.{State, answered_rows, free_row}
 use Rattle.world_core_base.proofs.Performing.{Beside, LeavesAll, fits_by, performs_by}
 use Rattle.world_core_base.proofs.Shapes.{LeavesBy, leaves_ended, leaves_ends, leaves_met, leaves_printed, leaves_started, recorded}
@@ -74,6 +77,23 @@ go_below code limit core n clock means a go = still_below code limit core n cloc
 
 pub meets_below : (code : Code) (limit : ℕ) (core : CoreValue) (n clock : ℕ) (means : Request) → IsAsked code limit core n clock means → IsOfChannels means → clock < limit
 meets_below code limit core n clock means a meets = still_below code limit core n clock means a (λ (e : means ≡ Exhausted). subst IsOfChannels e meets)
+
+-- ---- who falls asleep was told nothing
+
+-- one who asks for channels is not doomed
+not_doomed : (limit clock events n : ℕ) (d : Bool) (x : NextFrames) (what means : Request) → asks_of limit clock (cond d (Asks (Panic SendOnClosed)) x) ≡ Some what → means ≡ meant_after events n what → IsOfChannels means → d ≡ false
+not_doomed limit clock events n false x what means e meant meets = refl
+not_doomed limit clock events n true x what means e meant meets = absurd (by (clock == limit) (events + 1 == 2 ^ 62) e meant)
+  where
+    by : (p q : Bool) → cond p (Some Exhausted) (Some (Panic SendOnClosed)) ≡ Some what → means ≡ cond q Exhausted (asked n what) → ⊥
+    by p true e meant = subst IsOfChannels meant meets
+    by true false e meant = subst IsOfChannels (meant ∙ ap (asked n) (sym (some_inj e))) meets
+    by false false e meant = subst IsOfChannels (meant ∙ ap (asked n) (sym (some_inj e))) meets
+
+pub sleeper_quiet : (code : Code) (limit : ℕ) (core : CoreValue) (n clock : ℕ) (means : Request) → IsAsked code limit core n clock means → IsOfChannels means → IfSome (slice_index_or core.rows n None) (λ (row : Row State). IsQuiet row.state.state)
+sleeper_quiet code limit core n clock means a meets =
+    let doomed = not_doomed limit a.row.state.clock core.events n a.row.state.doomed (code_next code a.row.state.state) a.what means a.request a.meant meets in
+    subst (λ (o : Option (Row State)). IfSome o (λ (row : Row State). IsQuiet row.state.state)) (sym a.here) (asking_quiet code limit a.row.state a.what doomed a.request)
 
 -- ---- what is done
 

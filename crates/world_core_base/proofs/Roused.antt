@@ -2,7 +2,7 @@
 use Rattle.std.proofs.Common.{◌≡◌, ℕ, ◌+◌, ◌≤◌, ◌++◌, List, [], ◌∷◌, map, length, Option, None, IfSome, sym, ap, ◌∙◌, subst, inl, inr, arith, append_assoc, get_or-set_same, get_or-set_other}
 use Rattle.std.specs.Prelude.{option_map, slice_index_or, slice_set}
 use Rattle.std.proofs.lemmas.Bool.{cases_eq, cases_lt}
-use Rattle.std.proofs.lemmas.List.{set_past}
+use Rattle.std.proofs.lemmas.List.{length_push, set_past}
 use Rattle.bytecode.specs.Code.{Code}
 use Rattle.bytecode.specs.Machine.{code_kind}
 use Rattle.bytecode.specs.Rules.{IsFrameOf}
@@ -49,3 +49,9 @@ next_wakes code clock rs rs' rows bs bs' beds w left all ns ns' numbers len most
       numbers = ap (λ (xs : List ℕ). xs ++ map (λ (v : ℕ × Reply). v.0) left) (e ∙ ap (λ k. ns ++ k ∷ []) en) ∙ append_assoc ns (w.0 ∷ []) (map (λ (v : ℕ × Reply). v.0) left) ∙ h.numbers;
       room = omega (arith, had, s);
     }
+
+-- one room less is enough for those who are left
+pub next_room : {A B : Type 0} (left : List A) (w : A) (rooms new : List B) (room : B) → length (w ∷ left) ≤ length rooms → rooms ≡ new ++ room ∷ [] → length left ≤ length new
+next_room left w rooms new room enough is =
+    let one = ap length is ∙ length_push new room in
+    omega (arith, enough, one)

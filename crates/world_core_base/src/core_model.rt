@@ -5,6 +5,7 @@ ghost use Rattle.std.specs.Option.{is_some};
 ghost use Rattle.bytecode.specs.Machine.{code_begin, code_kind};
 ghost use Rattle.bytecode.specs.Rules.{IsFrameOf, IsVerified};
 ghost use Rattle.channel_core.specs.Channels.{Does, IsOfChannels};
+ghost use Rattle.goroutine_vm.specs.Advance.{IsQuiet};
 ghost use Rattle.logical_clock.specs.Order.{keys, least};
 ghost use Rattle.turn_rule.specs.Schedule.{has_turn};
 ghost use Rattle.word.specs.Kinds.{at, told};
@@ -13,14 +14,15 @@ ghost use Rattle.word.specs.Views.{event_of, outcome_of, reply_of, request_of};
 ghost use Rattle.world_core_base.specs.Cores.{Asks, FitsCore, IsAsked, IsAway, IsGo, IsLast, HasLease, IsHere, Performs, bytes_of, left_beds, meant_after, most_partners, most_woken, no_event, opened_core, put_back, state_of, taken_out, to_lend, woken_rows};
 ghost use Rattle.awake_rows.specs.Slots.{FitsAll, FitsRow, IsAwake, IsBefore, IsFreeIn, IsNobodyAwake, IsUnlent, answered_rows, back_row, free_clock, free_row, lent_row, raised_row, stepped_rows, waiting_clock};
 
-use crate::waking::{doze, wake};
+use crate::waking::{doze, make_rooms, wake};
 use awake_rows::{Among, AwakeRows, Away, Slot, put_at, take_at};
 use channel_core::{Channels, Outcome as Came, Woken};
 use go_text::Memory;
-use goroutine_vm::{GoState, spawn_state};
+use goroutine_vm::{GoState, Room, Sleeping, spawn_state};
 use logical_clock::{Clock, Key, LAST};
 use std::alloc::{AllocError, Global};
 use std::marker::Model;
+use std::mem;
 use turn_rule::Step;
 use verifier::Verified;
 use word::end::End;
@@ -33,7 +35,9 @@ pub struct Core {
     /// Goroutine n, if it is awake, is at place n; place 0 is never taken.
     rows: AwakeRows,
     /// Goroutine n, if it is asleep, fell asleep in the state at place n.
-    beds: Vec<Option<GoState>>,
+    beds: Vec<Option<Sleeping>>,
+    /// Rooms of those who fell asleep, for those who get up.
+    rooms: Vec<Room>,
     /// Goroutine n, if its state is taken out, is at place n, and at no place of the rows.
     taken: Vec<Option<Away>>,
     channels: Channels,
@@ -49,6 +53,7 @@ impl Drop for Core {
         let Core {
             rows,
             beds,
+            rooms,
             taken,
             channels,
             live: _,
@@ -57,6 +62,7 @@ impl Drop for Core {
         } = self;
         drop(rows);
         drop(beds);
+        drop(rooms);
         drop(taken);
         drop(channels);
     }
@@ -83,6 +89,7 @@ impl Core {
         Ok(Core {
             rows,
             beds,
+            rooms: Vec::new(alloc),
             taken,
             channels,
             live: 1,
@@ -202,7 +209,7 @@ impl Core {
                 self.end(code, limit, event, outcome, End::Panicked(cause));
                 Ok(())
             }
-            _ => self.meet(code, limit, event),
+            _ => self.meet(alloc, code, limit, event),
         }
     }
 
@@ -223,6 +230,13 @@ impl Core {
             unreachable!()
         };
         Some((key.number, state))
+    }
+
+    /// Whether there is a goroutine to lend.
+    pub fn may_lend(&self) -> bool
+        ensures { result ≡ is_some (to_lend self.now) }
+    {
+        self.ending.is_none() && self.least_free().is_some()
     }
 
     /// Whether goroutine `number` is awake, and lent.
@@ -432,7 +446,13 @@ impl Core {
     }
 
     /// A request to channels.
-    fn meet(&mut self, code: &Verified, limit: u64, event: &mut Event) -> Result<(), Memory>
+    fn meet(
+        &mut self,
+        alloc: Global,
+        code: &Verified,
+        limit: u64,
+        event: &mut Event,
+    ) -> Result<(), Memory>
         requires asked { IsAsked code.now limit self.old event.old.number event.old.clock (request_of event.old.request) }
         requires channels { IsOfChannels (request_of event.old.request) }
         requires alone { event.old.partners.items ≡ [] }
@@ -445,17 +465,44 @@ impl Core {
         ensures memory { OnErr result (self.new ≡ self.old) }
     {
         let most = most_woken(&self.channels, &event.request);
+        let mut rooms = self.take_rooms(alloc, most)?;
+        self.meet_in(code, limit, event, &mut rooms)?;
+        self.rooms = rooms;
+        Ok(())
+    }
+
+    /// The same, with rooms for those who are woken.
+    fn meet_in(
+        &mut self,
+        code: &Verified,
+        limit: u64,
+        event: &mut Event,
+        rooms: &mut Vec<Room>,
+    ) -> Result<(), Memory>
+        requires asked { IsAsked code.now limit self.old event.old.number event.old.clock (request_of event.old.request) }
+        requires channels { IsOfChannels (request_of event.old.request) }
+        requires alone { event.old.partners.items ≡ [] }
+        requires fits { FitsCore code.now limit self.old }
+        requires events { self.old.events < 2 ^ 62 }
+        requires rooms { most_woken (request_of event.old.request) (length self.old.channels.asleep) ≤ length rooms.old.items }
+        ensures performs { OnOk result (Performs code.now limit self.old event.old.number event.new (bytes_of event.new) self.new) }
+        ensures bytes { OnOk result (bytes_of event.new ≡ []) }
+        ensures fits { OnOk result (FitsCore code.now limit self.new) }
+        ensures partners { OnOk result (length event.new.partners.items ≤ most_partners self.old) }
+        ensures memory { OnErr result (self.new ≡ self.old) }
+    {
+        let most = most_woken(&self.channels, &event.request);
         event.partners.reserve(most)?;
         match self.ask(event.number, &event.request)? {
             Came::Done(reply, woken) => {
                 let later = next_time(event.clock, limit);
                 self.go_on(code, event.number, &reply, later);
-                self.wake_all(code, later, woken, &mut event.partners);
+                self.wake_all(code, later, woken, rooms, &mut event.partners);
                 event.outcome = EventOutcome::Done(reply);
                 Ok(())
             }
             Came::Sleeps => {
-                self.fall_asleep(event.number);
+                self.fall_asleep(event.number, rooms);
                 event.outcome = EventOutcome::Sleeps;
                 Ok(())
             }
@@ -569,36 +616,51 @@ impl Core {
         self.channels.perform(number, request)
     }
 
-    /// Goroutine `number` falls asleep.
-    fn fall_asleep(&mut self, number: u64)
+    /// Takes out the rooms for those who get up, so many at least.
+    fn take_rooms(&mut self, alloc: Global, count: usize) -> Result<Vec<Room>, Memory>
+        ensures rooms { IfOk result (λ rooms. count ≤ length rooms.items) }
+        ensures same { self.new ≡ self.old }
+    {
+        let mut rooms = mem::replace(&mut self.rooms, Vec::new(alloc));
+        make_rooms(alloc, &mut rooms, count)?;
+        Ok(rooms)
+    }
+
+    /// Goroutine `number` falls asleep, and leaves its room.
+    fn fall_asleep(&mut self, number: u64, rooms: &mut Vec<Room>)
         requires events { self.old.events < 2 ^ 62 }
         requires unlent { IsUnlent (slice_index_or self.old.rows number None) }
+        requires quiet { IfSome (slice_index_or self.old.rows number None) (λ row. IsQuiet row.state.state) }
         ensures { self.new ≡ record self.old {
           rows = slice_set self.old.rows number None;
           beds = slice_set self.old.beds number (option_map (λ row. row.state) (slice_index_or self.old.rows number None));
           events = self.old.events + 1;
         } }
     {
-        doze(&mut self.rows, self.beds.as_mut_slice(), number);
+        doze(&mut self.rows, self.beds.as_mut_slice(), rooms, number);
         self.events += 1;
     }
 
-    /// Those who are woken get up with their replies, at this clock; their numbers are put behind the others.
+    /// Those who are woken get up with their replies, at this clock, each in one of these rooms; their numbers are put behind
+    /// the others.
     fn wake_all(
         &mut self,
         code: &Verified,
         clock: Clock,
         woken: Vec<Woken>,
+        rooms: &mut Vec<Room>,
         partners: &mut Vec<u64>,
     )
         requires fits { (k : ℕ) → IfSome (slice_index_or self.old.beds k None) (λ s. IsFrameOf code.now s.state) }
         requires room { vec_len partners.old + length woken.items ≤ vec_capacity partners.old }
+        requires rooms { length woken.items ≤ length rooms.old.items }
         ensures core { self.new ≡ record self.old { rows = woken_rows code.now self.old.rows self.old.beds clock woken.items; beds = left_beds self.old.beds woken.items } }
         ensures numbers { partners.new.items ≡ partners.old.items ++ map (λ (w : ℕ × AnyReply). w.0) woken.items }
     {
         wake(
             &mut self.rows,
             self.beds.as_mut_slice(),
+            rooms,
             code,
             clock,
             woken.as_slice(),

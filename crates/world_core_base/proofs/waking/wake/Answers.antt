@@ -1,6 +1,6 @@
 use Rattle.std.proofs.Common.{◌≡◌, ◌+◌, ◌∷◌, suc, drop, drop-cons, arith, vec_capacity, vec_len}
 use Rattle.word.specs.Views.{reply_of}
-use Rattle.world_core_base.proofs.Roused.{Waking, next_wakes}
+use Rattle.world_core_base.proofs.Roused.{Waking, next_room, next_wakes}
 use Rattle.world_core_base.proofs.waking.wake.Goals as goal
 
 pub loop-one-preserved : goal.loop-one-preserved
@@ -10,6 +10,8 @@ loop-one-preserved c =
     let partners = c.push_reserved.new.self in
     let cut : drop i all ≡ c.one-item.result ∷ drop (suc i) all = rw c.one-item.is (drop-cons all i _ c.loop-one-test.true) in
     let more : i + 1 ≡ suc i = omega arith in
-    let was = rw cut at c.loop-one.invariant in
-    rw more (rw c.push_reserved.ensures.capacity (next_wakes c.args.code.now c.args.clock c.loop-one.rows c.args.rows.now c.wake_one.new.rows c.loop-one.beds c.args.beds.now c.wake_one.new.beds c.one-item.result (drop (suc i) all) all c.loop-one.partners.items c.args.partners.now.items partners.items (vec_len c.loop-one.partners) (vec_capacity c.loop-one.partners) (vec_len partners) c.number-number.result (reply_of c.reply.result.now)
-    was c.number-number.ensures c.reply.ensures c.wake_one.ensures.rows c.wake_one.ensures.beds c.push_reserved.ensures.items c.push_reserved.ensures.len))
+    let was = rw cut at c.loop-one.invariant.0 in (
+      rw more (rw c.push_reserved.ensures.capacity (next_wakes c.args.code.now c.args.clock c.loop-one.rows c.args.rows.now c.wake_one.new.rows c.loop-one.beds c.args.beds.now c.wake_one.new.beds c.one-item.result (drop (suc i) all) all c.loop-one.partners.items c.args.partners.now.items partners.items (vec_len c.loop-one.partners) (vec_capacity c.loop-one.partners) (vec_len partners) c.number-number.result (reply_of c.reply.result.now)
+          was c.number-number.ensures c.reply.ensures c.wake_one.ensures.rows c.wake_one.ensures.beds c.push_reserved.ensures.items c.push_reserved.ensures.len)),
+      rw more (next_room (drop (suc i) all) c.one-item.result c.loop-one.rooms.items c.pop.new.self.items c.in-Some.room (rw cut at c.loop-one.invariant.1) c.in-Some.ensures.items),
+    )

@@ -5,4 +5,4 @@ use Rattle.goroutine_vm.proofs.Turns.{sound_at}
 use Rattle.goroutine_vm.proofs.state.GoState.ask.Goals as goal
 
 pub is_asking-requires-clause-sound : goal.is_asking-requires-clause-sound
-is_asking-requires-clause-sound c = sound_at c.args.code.now c.code-code.result.now c.args.limit c.args.self.now c.deref.result.now c.code-code.ensures.code c.code-code.ensures.verified c.requires (ap (λ (s : Clocked Frames). s.state) (sym c.self.view_is) ∙ sym c.deref.ensures)
+is_asking-requires-clause-sound c = sound_at c.args.code.now c.code-code.result.now c.args.limit c.args.self.now c.self.inside.frames c.code-code.ensures.code c.code-code.ensures.verified c.requires (ap (λ (s : Clocked Frames). s.state) (sym c.self.view_is))

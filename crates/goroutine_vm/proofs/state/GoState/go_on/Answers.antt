@@ -8,6 +8,5 @@ use Rattle.goroutine_vm.proofs.state.GoState.go_on.Goals as goal
 pub returns-clause-frame : goal.returns-clause-frame
 returns-clause-frame c =
     let code = c.code.result.now in
-    let held : IsFrameOf code c.self.inside.frames.value = subst (λ x. IsFrameOf x c.self.inside.frames.value) (sym c.code.ensures.code) (subst (λ (s : Clocked Frames). IsFrameOf c.args.code.now s.state) (sym c.self.view_is) c.requires) in
-    let good : IsFrameOf code c.deref_mut.result.now = subst (IsFrameOf code) (sym c.deref_mut.ensures.value) held in
-    subst (λ x. IsFrameOf x c.tell.new.self) c.code.ensures.code (subst (IsFrameOf code) (sym c.tell.ensures) (words_keep code c.code.ensures.verified c.deref_mut.result.now c.args.clause c.args.words.now good))
+    let held : IsFrameOf code c.self.inside.frames = subst (λ x. IsFrameOf x c.self.inside.frames) (sym c.code.ensures.code) (subst (λ (s : Clocked Frames). IsFrameOf c.args.code.now s.state) (sym c.self.view_is) c.requires) in
+    subst (λ x. IsFrameOf x c.tell.new.self) c.code.ensures.code (subst (IsFrameOf code) (sym c.tell.ensures) (words_keep code c.code.ensures.verified c.self.inside.frames c.args.clause c.args.words.now held))

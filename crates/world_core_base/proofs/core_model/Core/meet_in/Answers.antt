@@ -8,9 +8,9 @@ use Rattle.word.specs.declared.request.EventOutcome.TheVariants as came
 use Rattle.word.specs.Values.{Done, Sleeps, Panics, Reply}
 use Rattle.word.specs.Views.{reply_of, request_of}
 use Rattle.world_core_base.specs.Cores.{CoreValue, most_woken}
-use Rattle.world_core_base.proofs.Events.{channels_quiet, made_met, meets_below}
+use Rattle.world_core_base.proofs.Events.{channels_quiet, made_met, meets_below, sleeper_quiet}
 use Rattle.world_core_base.proofs.Shapes.{done_core, few_partners, few_woken, recorded, slept_core, stopped_core}
-use Rattle.world_core_base.proofs.core_model.Core.meet.Goals as goal
+use Rattle.world_core_base.proofs.core_model.Core.meet_in.Goals as goal
 
 pub next_time-later-requires-clause-below : goal.next_time-later-requires-clause-below
 next_time-later-requires-clause-below c =
@@ -29,6 +29,23 @@ wake_all-requires-clause-room c =
     let same = ap (λ (x : CoreValue). most_woken means (length x.channels.asleep)) c.self.view_is in
     let room = c.in_ok-reserve.ensures.ok in
     omega (arith, few, most, same, room)
+
+pub wake_all-requires-clause-rooms : goal.wake_all-requires-clause-rooms
+wake_all-requires-clause-rooms c =
+    let core = c.args.self.now in
+    let ev = c.args.event.now in
+    let means = request_of ev.request in
+    let channels = c.ask.new.self.channels in
+    let does : Does core.channels ev.number means (outcomes.Done c.in-Done.reply c.in-Done.woken) channels = subst (λ (o : Outcome). Does core.channels ev.number means o channels) c.in-Done.is c.in_ok-reply.ensures.does in
+    let few = few_woken core.channels ev.number means (outcomes.Done c.in-Done.reply c.in-Done.woken) channels does in
+    let most = c.requires.rooms in
+    omega (arith, few, most)
+
+pub fall_asleep-requires-clause-quiet : goal.fall_asleep-requires-clause-quiet
+fall_asleep-requires-clause-quiet c =
+    let core = c.args.self.now in
+    let ev = c.args.event.now in
+    rw c.in_ok-reply.ensures.rest (sleeper_quiet c.args.code.now c.args.limit core ev.number ev.clock (request_of ev.request) c.requires.asked c.requires.channels)
 
 pub returns-in-Done-clause-performs : goal.returns-in-Done-clause-performs
 returns-in-Done-clause-performs c =

@@ -1,0 +1,83 @@
+//! Goroutines that sleep.
+
+ghost use Rattle.std.specs.Prelude.{◌≡◌, IfOk};
+ghost use Rattle.goroutine_vm.specs.Advance.{IsQuiet};
+
+use crate::frames::{Frames, Running};
+use crate::state::GoState;
+use crate::told::Told;
+use go_text::Memory;
+use logical_clock::Clock;
+use std::alloc::Global;
+use std::marker::Model;
+
+/// Room for the words that a goroutine is told.
+#[derive(Drop)]
+pub struct Room {
+    told: Box<Told>,
+}
+
+impl Room {
+    /// Room for one goroutine.
+    pub fn new(alloc: Global) -> Result<Room, Memory> {
+        let told = Box::new(alloc, Told::nothing())?;
+        Ok(Room { told })
+    }
+}
+
+/// A goroutine that sleeps. It has no room for the words that it is told: it gets that where it is woken.
+#[derive(Drop)]
+pub struct Sleeping {
+    clock: Clock,
+    doomed: bool,
+    running: Box<Running>,
+}
+
+impl Model for Sleeping {
+    ghost use Rattle.std.specs.Prelude.{◌∷◌};
+    ghost use Rattle.bytecode.specs.Machine.{Frames as FramesValue};
+    ghost use Rattle.word.specs.Kinds.{Clocked};
+
+    ghost Value = { Clocked FramesValue };
+
+    ghost view = { λ s. record { clock = s.clock; doomed = s.doomed; state = s.running.value.frame ∷ s.running.value.callers } };
+}
+
+impl GoState {
+    /// It falls asleep, and leaves the room for the words that it is told.
+    pub fn fall_asleep(self) -> (Sleeping, Room)
+        requires { IsQuiet self.state }
+        ensures { result.0 ≡ self }
+    {
+        let (clock, doomed, frames) = self.into_parts();
+        frames.running.frame.quiet();
+        let Frames { running, told } = frames;
+        let sleeping = Sleeping {
+            clock,
+            doomed,
+            running,
+        };
+        (sleeping, Room { told })
+    }
+}
+
+impl Sleeping {
+    /// It is awake again, with this room.
+    pub fn get_up(self, room: Room) -> GoState
+        ensures { result ≡ self }
+    {
+        self.running.frame.quiet();
+        let Sleeping {
+            clock,
+            doomed,
+            running,
+        } = self;
+        let Room { mut told } = room;
+        told.clear();
+        GoState {
+            clock,
+            doomed,
+            frames: Frames { running, told },
+        }
+    }
+}
