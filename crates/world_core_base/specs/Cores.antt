@@ -123,6 +123,11 @@ abbrev pub IsGo : Request → Type 0
 IsGo (Go f args) = Unit {0}
 IsGo q = ⊥
 
+-- what comes of a request that ends the run so
+abbrev pub ended_as : Ending → EventOutcome
+ended_as (Panicked cause) = Panics cause 0
+ended_as end = Done Nothing
+
 -- a request that ends the run so, with this outcome: an exit, the clock limit, or a panic
 abbrev pub IsLast : Request → EventOutcome → Ending → Type 0
 IsLast Exit o e = (o ≡ Done Nothing) × (e ≡ Finished)

@@ -11,7 +11,7 @@ ghost use Rattle.turn_rule.specs.Schedule.{has_turn};
 ghost use Rattle.word.specs.Kinds.{at, told};
 ghost use Rattle.word.specs.Values.{End as EndRequest, Print as PrintRequest, Reply as AnyReply};
 ghost use Rattle.word.specs.Views.{event_of, outcome_of, reply_of, request_of};
-ghost use Rattle.world_core_base.specs.Cores.{Asks, FitsCore, IsAsked, IsAway, IsGo, IsLast, HasLease, IsHere, Performs, bytes_of, left_beds, meant_after, most_partners, most_woken, no_event, opened_core, put_back, state_of, taken_out, to_lend, woken_rows};
+ghost use Rattle.world_core_base.specs.Cores.{Asks, FitsCore, IsAsked, IsAway, IsGo, IsLast, HasLease, IsHere, Performs, bytes_of, ended_as, left_beds, meant_after, most_partners, most_woken, no_event, opened_core, put_back, state_of, taken_out, to_lend, woken_rows};
 ghost use Rattle.awake_rows.specs.Slots.{FitsAll, FitsRow, IsAwake, IsBefore, IsFreeIn, IsNobodyAwake, IsUnlent, answered_rows, back_row, free_clock, free_row, lent_row, raised_row, stepped_rows, waiting_clock};
 
 use crate::waking::{doze, make_rooms, wake};
@@ -194,19 +194,16 @@ impl Core {
                 Ok(())
             }
             Request::Exit => {
-                let outcome = EventOutcome::Done(Reply::Nothing);
-                self.end(code, limit, event, outcome, End::Finished);
+                self.end(code, limit, event, End::Finished);
                 Ok(())
             }
             Request::Exhausted => {
-                let outcome = EventOutcome::Done(Reply::Nothing);
-                self.end(code, limit, event, outcome, End::Exhausted);
+                self.end(code, limit, event, End::Exhausted);
                 Ok(())
             }
             Request::Panic(cause) => {
                 let cause = *cause;
-                let outcome = EventOutcome::Panics(cause, 0);
-                self.end(code, limit, event, outcome, End::Panicked(cause));
+                self.end(code, limit, event, End::Panicked(cause));
                 Ok(())
             }
             _ => self.meet(alloc, code, limit, event),
@@ -531,16 +528,9 @@ impl Core {
     }
 
     /// The run ends so, by an exit, a panic or at the clock limit.
-    fn end(
-        &mut self,
-        code: &Verified,
-        limit: u64,
-        event: &mut Event,
-        outcome: EventOutcome,
-        end: End,
-    )
+    fn end(&mut self, code: &Verified, limit: u64, event: &mut Event, end: End)
         requires asked { IsAsked code.now limit self.old event.old.number event.old.clock (request_of event.old.request) }
-        requires last { IsLast (request_of event.old.request) (outcome_of outcome) end }
+        requires last { IsLast (request_of event.old.request) (ended_as end) end }
         requires alone { event.old.partners.items ≡ [] }
         requires fits { FitsCore code.now limit self.old }
         requires events { self.old.events < 2 ^ 62 }
@@ -550,7 +540,7 @@ impl Core {
         ensures partners { event.new.partners.items ≡ [] }
     {
         self.stop(event.number, end);
-        event.outcome = outcome;
+        event.outcome = outcome_at(end);
     }
 }
 
@@ -701,6 +691,16 @@ pub fn blank_event(alloc: Global) -> Event
         request: Request::End,
         outcome: EventOutcome::Sleeps,
         partners: Vec::new(alloc),
+    }
+}
+
+/// What comes of the request that ends the run so.
+fn outcome_at(end: End) -> EventOutcome
+    ensures { outcome_of result ≡ ended_as end }
+{
+    match end {
+        End::Panicked(cause) => EventOutcome::Panics(cause, 0),
+        End::Finished | End::Exhausted | End::Deadlock => EventOutcome::Done(Reply::Nothing),
     }
 }
 
