@@ -71,7 +71,7 @@ impl Channels {
         ensures memory { OnErr result (self.new ≡ self.old) }
     {
         match request {
-            Request::Make(size, zero) => self.make(number, *size, zero.copy()),
+            Request::Make(size, zero) => self.make_asked(number, *size, zero),
             Request::Send(chan, item) => self.send_asked(number, request, *chan, item),
             Request::Receive(chan) => self.receive_asked(number, request, *chan),
             Request::Close(chan) => self.close(*chan),
@@ -108,6 +108,15 @@ impl Channels {
             .push(Channel::new(self.alloc, size as u32, zero))?;
         let reply = Reply::Word(Word::Chan(Some(place as u32)));
         Ok(Outcome::Done(reply, Vec::new(self.alloc)))
+    }
+
+    /// The same, where the zero item stays the caller's. It is a call, so that no other request makes room for a second item.
+    #[inline(never)]
+    fn make_asked(&mut self, number: u64, size: i64, zero: &Item) -> Result<Outcome, Memory>
+        ensures does { IfOk result (λ outcome. Does self.old number (Make size zero.now) outcome self.new) }
+        ensures memory { OnErr result (self.new ≡ self.old) }
+    {
+        self.make(number, size, zero.copy())
     }
 
     /// A send by goroutine `number` (Go: Send statements): to the first sleeper that receives, else into the buffer, else
