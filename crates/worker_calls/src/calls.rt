@@ -1,6 +1,6 @@
 //! What fails.
 
-use crate::{books, clocks, workers};
+use crate::{books, clocks, keys, workers};
 use go_text::Memory;
 use machine_calls::{Checks, make_calls};
 use std::alloc::Global;
@@ -16,6 +16,7 @@ pub fn failed_calls<R: Threads + Wait + Sync>(
     make_calls(alloc, &mut checks)?;
     books::check(alloc, &mut checks)?;
     clocks::check(rt, alloc, &mut checks)?;
+    keys::check(alloc, &mut checks)?;
     workers::check(rt, alloc, &mut checks)?;
     Ok(checks.into_failed())
 }

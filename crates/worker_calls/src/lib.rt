@@ -4,6 +4,7 @@
 mod books;
 mod calls;
 mod clocks;
+mod keys;
 mod workers;
 
 pub use calls::failed_calls;
