@@ -9,6 +9,8 @@ use Rattle.std.specs.contracts.sync.Mutex as Mutex
 use Rattle.book.proofs.slots.Slots.TheSendSync.{the_field_send as slots_send}
 use Rattle.book.specs.contracts.book_model.Book as Book
 use Rattle.book.specs.contracts.book_model.Book.TheInside as book
+use Rattle.book.specs.contracts.lease.Lease as Lease
+use Rattle.book.specs.contracts.lease.Lease.TheInside as lease
 use Rattle.channel_core.proofs.channel.Channel.TheSendSync.{the_send as channel_send}
 use Rattle.channel_core.specs.contracts.channels.Channels as Channels
 use Rattle.channel_core.specs.contracts.channels.Channels.TheInside as channels
@@ -18,9 +20,14 @@ use Rattle.channel_core.specs.contracts.sleepers.Sleeper as Sleeper
 use Rattle.channel_core.specs.contracts.sleepers.Sleeper.TheInside as sleeper
 use Rattle.channel_core.specs.contracts.sleepers.Sleepers as Sleepers
 use Rattle.channel_core.specs.contracts.sleepers.Sleepers.TheInside as sleepers
+use Rattle.clock_table.proofs.table.LeaseSeat.TheSendSync.{the_field_send as seat_send}
 use Rattle.goroutine_vm.proofs.sleeping.Room.TheSendSync.{the_field_send as room_send}
 use Rattle.goroutine_vm.proofs.sleeping.Sleeping.TheSendSync.{the_send as sleeping_send}
 use Rattle.goroutine_vm.proofs.state.GoState.TheSendSync.{the_send as state_send}
+use Rattle.run_queue.proofs.queue.PutPass.TheSendSync.{the_field_send as put_send}
+use Rattle.run_queue.proofs.queue.RunQueue.TheSendSync.{the_send as queue_send, the_sync as queue_sync}
+use Rattle.run_queue.proofs.queue.TakePass.TheSendSync.{the_field_send as take_send}
+use Rattle.run_queue.specs.contracts.queue.RunQueue as RunQueue
 use Rattle.slab.proofs.Slab.TheSendSync.{the_send as slab_send}
 use Rattle.sleep_queue.proofs.numbered_keys.NumberedKeys.TheSendSync.{the_send as keys_send}
 use Rattle.sleep_queue.proofs.rings.Rings.TheSendSync.{the_send as rings_send}
@@ -49,7 +56,11 @@ use Rattle.book.specs.declared.name.BookName.{Ghosts as BookGhosts}
 use Rattle.worker_pool.specs.contracts.locked.Locked as Locked
 use Rattle.worker_pool.specs.contracts.run_book.RunBook as RunBook
 use Rattle.worker_pool.specs.contracts.run_name.OfRun as OfRun
+use Rattle.worker_pool.specs.contracts.run_name.OfRunBookName.TheImpl.{ghosts, no_dict}
 use Rattle.worker_pool.specs.contracts.shared.Shared as Shared
+use Rattle.worker_pool.specs.contracts.work_queues.Owner as Owner
+use Rattle.worker_pool.specs.contracts.work_queues.Stealer as Stealer
+use Rattle.worker_pool.specs.contracts.work_queues.WorkQueues as WorkQueues
 use Rattle.worker_pool.specs.declared.run_name.RunName.{Ghosts}
 
 away_inside : IsSend away.the_row
@@ -187,4 +198,54 @@ shared_sync B g s =
     recorded_sync (Shared.the_field B g).row _ _ (Shared.the_type B g).to_one (struct_sync (shape (Shared.the_type B g)) (
       m,
       (search (sendable, crosses) depth 20, (search (sendable, crosses) depth 20, (search (sendable, crosses) depth 20, tt))),
+    ))
+
+lease_inside : (B : RattleType) (g : BookGhosts B.Denot) → IsSend (lease.the_row B g)
+lease_inside B g = recorded_send (lease.the_field B g).row _ _ (lease.the_type B g).to_one (struct_send (shape (lease.the_type B g)) (
+  search sendable,
+  (
+    search (sendable, crosses, verified_send, verified_sync) depth 20,
+    (
+      search sendable,
+      (
+        search sendable,
+        (
+          search (sendable, crosses),
+          (search (sendable, crosses, state_send) depth 20, (seat_send, (search sendable, tt))),
+        ),
+      ),
+    ),
+  ),
+))
+
+lease_send : (B : RattleType) (g : BookGhosts B.Denot) → IsSend (Lease.the_row B g)
+lease_send B g = view_send _ _ _ _ _ (lease_inside B g)
+
+-- a lease of the run of this name
+abbrev lease_row : (B : RattleType) → Ghosts B.Denot → RattleType
+lease_row B g = Lease.the_row (OfRun.the_row B) (ghosts B g no_dict)
+
+run_lease_send : (B : RattleType) (g : Ghosts B.Denot) → IsSend (lease_row B g)
+run_lease_send B g = lease_send (OfRun.the_row B) (ghosts B g no_dict)
+
+queue_send_of_run : (B : RattleType) (g : Ghosts B.Denot) → IsSend (RunQueue.the_row (lease_row B g))
+queue_send_of_run B g = queue_send (lease_row B g) (run_lease_send B g)
+
+queue_sync_of_run : (B : RattleType) (g : Ghosts B.Denot) → IsSync (RunQueue.the_row (lease_row B g))
+queue_sync_of_run B g = queue_sync (lease_row B g) (run_lease_send B g)
+
+stealer_send : (B : RattleType) (g : Ghosts B.Denot) → IsSend (Stealer.the_row B g)
+stealer_send B g = recorded_send (Stealer.the_field B g).row _ _ (Stealer.the_type B g).to_one (struct_send (shape (Stealer.the_type B g)) (
+  search (sendable, crosses, queue_send_of_run, queue_sync_of_run) depth 20,
+  (take_send (lease_row B g) (run_lease_send B g), tt),
+))
+
+pub queues_of_worker_send : (B : RattleType) (g : Ghosts B.Denot) → IsSend (WorkQueues.the_row B g)
+queues_of_worker_send B g =
+    recorded_send (WorkQueues.the_field B g).row _ _ (WorkQueues.the_type B g).to_one (struct_send (shape (WorkQueues.the_type B g)) (
+      struct_send (shape (Owner.the_type B g)) (
+        search (sendable, crosses, queue_send_of_run, queue_sync_of_run) depth 20,
+        (put_send (lease_row B g) (run_lease_send B g), tt),
+      ),
+      (search (sendable, crosses, stealer_send) depth 20, (search sendable, tt)),
     ))

@@ -1,5 +1,5 @@
 -- What calls of a book leave as it was.
-use Rattle.std.proofs.Common.{◌≡◌, ap, ◌∙◌}
+use Rattle.std.proofs.Common.{ap, ◌∙◌}
 use Rattle.book.specs.Desks.{Desk, OnlyLooks, Settles, settled_by}
 use Rattle.book.specs.declared.settled.Reached.{Reached}
 use Rattle.book.specs.declared.settled.Settled.{Settled}

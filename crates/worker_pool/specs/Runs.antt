@@ -1,5 +1,5 @@
 -- What a run writes, and what goes between its threads.
-use Rattle.std.specs.Prelude.{◌≡◌, ℕ, ◌+◌, ◌≤◌, [], List, Option, Some, Result, IfOk, drop, length, take}
+use Rattle.std.specs.Prelude.{◌≡◌, ℕ, ◌+◌, ◌≤◌, List, Option, Some, Result, IfOk, drop, length, take}
 use Rattle.std.specs.Io.KnownBytes.{Appends}
 use Rattle.book.specs.Desks.{Desk}
 use Rattle.bytecode.specs.Code.{Code}

@@ -9,6 +9,7 @@ mod run_book;
 mod run_name;
 mod shared;
 mod turn;
+mod work_queues;
 mod worker;
 mod writing;
 

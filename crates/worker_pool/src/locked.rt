@@ -8,8 +8,10 @@ use crate::handed::Handed;
 use crate::run_book::RunBook;
 use crate::run_name::{Printed, RunLease, RunName, Traced};
 use crate::turn::{Back, Turn};
+use crate::work_queues::{CAPACITY, WorkQueues};
 use go_text::Memory;
 use output::Piece;
+use std::sync::Wait;
 use std::sync::ledger::{Book, Share};
 use word::end::End;
 
@@ -106,9 +108,9 @@ impl<B: RunName> Locked<B> {
         self.lent
     }
 
-    /// Whether a worker watches, and there is a lease for it.
-    pub fn wants_call(&self) -> bool {
-        self.watched && !self.over && self.run.may_lend()
+    /// Whether a worker watches, and there is a lease for it: in the book, or in a queue of which it is told that it is filled.
+    pub fn wants_call(&self, filled: bool) -> bool {
+        self.watched && !self.over && (filled || self.run.may_lend())
     }
 
     /// A lease goes out to a worker that yields.
@@ -121,26 +123,82 @@ impl<B: RunName> Locked<B> {
         self.talkers = self.talkers.saturating_sub(1);
     }
 
-    /// What a worker does next. Of those that yield one gets leases: two whose leases are short would only wait for one another
-    /// here.
-    pub fn turn(&mut self, yields: bool) -> Turn<B> {
+    /// What a worker with these queues does next. Of those that yield one gets leases: two whose leases are short would only
+    /// wait for one another here.
+    pub fn turn<R: Wait>(&mut self, rt: &R, yields: bool, queues: &mut WorkQueues<B>) -> Turn<B> {
         if self.over {
             return Turn::Leave;
         }
         if yields && self.talkers > 0 {
             return self.idle_turn();
         }
-        match self.run.lend() {
-            Ok(Some(lease)) => {
-                self.lent = self.lent.wrapping_add(1);
-                Turn::Work(lease)
-            }
+        let found = if yields {
+            self.short_lease(rt, queues)
+        } else {
+            self.long_lease(rt, queues)
+        };
+        match found {
+            Ok(Some(lease)) => Turn::Work(lease),
             Ok(None) => self.idle_turn(),
             Err(Memory) => {
                 self.stop();
                 Turn::Leave
             }
         }
+    }
+
+    /// A lease for a worker whose goroutines talk: of the book, one at a time, since it comes back at once; else of a queue.
+    fn short_lease<R: Wait>(
+        &mut self,
+        rt: &R,
+        queues: &mut WorkQueues<B>,
+    ) -> Result<Option<RunLease<B>>, Memory> {
+        let lease = self.lend()?;
+        if lease.is_some() {
+            return Ok(lease);
+        }
+        Ok(queues.take(rt))
+    }
+
+    /// A lease for a worker whose goroutines compute: of a queue; else of the book, with all others that can be lent put into
+    /// its queue, where workers find them that have none.
+    fn long_lease<R: Wait>(
+        &mut self,
+        rt: &R,
+        queues: &mut WorkQueues<B>,
+    ) -> Result<Option<RunLease<B>>, Memory> {
+        let found = queues.take(rt);
+        if found.is_some() {
+            return Ok(found);
+        }
+        let lease = self.lend()?;
+        if lease.is_some() {
+            self.lend_more(rt, queues)?;
+        }
+        Ok(lease)
+    }
+
+    /// Lends as many as a queue holds, and puts them into the worker's own. What comes back since it is full is brought back.
+    fn lend_more<R: Wait>(&mut self, rt: &R, queues: &mut WorkQueues<B>) -> Result<(), Memory> {
+        for _ in 0..CAPACITY {
+            let Some(lease) = self.lend()? else {
+                break;
+            };
+            if let Err(lease) = queues.put(rt, lease) {
+                self.run.bring(lease);
+                break;
+            }
+        }
+        Ok(())
+    }
+
+    /// Lends a goroutine, if there is one to be lent.
+    fn lend(&mut self) -> Result<Option<RunLease<B>>, Memory> {
+        let lease = self.run.lend()?;
+        if lease.is_some() {
+            self.lent = self.lent.wrapping_add(1);
+        }
+        Ok(lease)
     }
 
     /// What there is to write, and the end, where the run has ended.

@@ -14,6 +14,7 @@ use crate::gate::Gate;
 use crate::run_book::RunBook;
 use crate::run_name::{Printed, RunName, Traced};
 use crate::shared::Shared;
+use crate::work_queues::WorkQueues;
 use crate::worker::work;
 use crate::writing::{Reach, write_run};
 use book::Blank;
@@ -58,7 +59,7 @@ pub fn run<R: Threads + Wait + Sync, G: Gate + Sync, O: Write, T: Write>(
         return Err(Fault::BadLimit);
     }
     let start = Start::new(alloc, program, limit)?;
-    run_named::<Brand, R, G, O, T>(rt, start, workers, gate, out, trace)
+    run_named::<Brand, R, G, O, T>(rt, alloc, start, workers, gate, out, trace)
 }
 
 /// What a run begins with.
@@ -100,6 +101,7 @@ impl Start {
 /// The run of this name.
 fn run_named<B: RunName + Send, R: Threads + Wait + Sync, G: Gate + Sync, O: Write, T: Write>(
     rt: &R,
+    alloc: Global,
     start: Start,
     workers: u64,
     gate: &G,
@@ -126,6 +128,7 @@ fn run_named<B: RunName + Send, R: Threads + Wait + Sync, G: Gate + Sync, O: Wri
         traced_ledger,
     } = start;
     let run = RunBook::open(blank, program, limit)?;
+    let queues = WorkQueues::of_all(alloc, workers)?;
     let (printed_book, printed_share) = printed_ledger.open::<Printed<B>>();
     let (traced_book, traced_share) = traced_ledger.open::<Traced<B>>();
     let shared: Shared<B> = Shared::new(run, printed_book, traced_book);
@@ -137,7 +140,7 @@ fn run_named<B: RunName + Send, R: Threads + Wait + Sync, G: Gate + Sync, O: Wri
         out,
         trace,
     };
-    let (out, trace, result) = beside(rt, &shared, gate, workers, writing);
+    let (out, trace, result) = beside(rt, &shared, gate, queues, writing);
     return_loan(out);
     return_loan(trace);
     result
@@ -200,12 +203,12 @@ impl<'a, 'o, 't, B: RunName, R: Wait, O: Write, T: Write> Task for Writing<'a, '
     }
 }
 
-/// Starts the workers, does the task, and waits for the workers.
+/// Starts a worker for each of these, does the task, and waits for the workers.
 fn beside<B: RunName + Send, R: Threads + Wait + Sync, G: Gate + Sync, T: Task>(
     rt: &R,
     shared: &Shared<B>,
     gate: &G,
-    workers: u64,
+    queues: Vec<WorkQueues<B>>,
     task: T,
 ) -> T::Output
     requires { T.can_run task }
@@ -219,8 +222,11 @@ fn beside<B: RunName + Send, R: Threads + Wait + Sync, G: Gate + Sync, T: Task>(
             requires crosses { IsSend B.row × IsSync R.row × IsSync G.row }
             ensures { T.run_gives task result }
         {
-            for worker in 0..workers {
-                if scope.spawn(move || work(rt, shared, gate, worker)).is_err() {
+            for (worker, queues) in (0..u64::MAX).zip(queues) {
+                if scope
+                    .spawn(move || work(rt, shared, gate, worker, queues))
+                    .is_err()
+                {
                     shared.stop(rt);
                     break;
                 }

@@ -7,6 +7,7 @@ use crate::locked::Locked;
 use crate::run_book::RunBook;
 use crate::run_name::{Printed, RunLease, RunName, Traced};
 use crate::turn::{Back, Turn};
+use crate::work_queues::WorkQueues;
 use crate::worker::Pace;
 use go_text::Memory;
 use std::sync::ledger::{Book, Share};
@@ -48,16 +49,18 @@ impl<B: RunName> Shared<B> {
         rt: &R,
         back: Back<B>,
         pace: &mut Pace,
+        queues: &mut WorkQueues<B>,
     ) -> Option<RunLease<B>> {
         let mut locked = self.locked.lock(rt);
         let long = matches!(&back, Back::Running(_));
         pace.come(&mut locked, &back);
         locked.take_back(back);
         for _ in rt.forever() {
-            match locked.turn(pace.yields()) {
+            match locked.turn(rt, pace.yields(), queues) {
                 Turn::Work(lease) => {
                     pace.go(&mut locked);
-                    if long && locked.wants_call() {
+                    let filled = queues.is_filled();
+                    if (long || filled) && locked.wants_call(filled) {
                         self.watching.notify_one();
                     }
                     if locked.wants_watch() {

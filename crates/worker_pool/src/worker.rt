@@ -5,6 +5,7 @@ use crate::locked::Locked;
 use crate::run_name::{RunLease, RunName};
 use crate::shared::Shared;
 use crate::turn::Back;
+use crate::work_queues::WorkQueues;
 use logical_clock::Clock;
 use std::sync::Wait;
 use std::time::Duration;
@@ -88,25 +89,33 @@ impl Pace {
     }
 }
 
-/// Works until the run is over.
+/// Works until the run is over. The leases that lie in its queue then are dropped.
 pub(crate) fn work<B: RunName, R: Wait, G: Gate>(
     rt: &R,
     shared: &Shared<B>,
     gate: &G,
     worker: u64,
+    queues: WorkQueues<B>,
 ) {
     gate.at_start(worker);
-    work_leases(rt, shared, gate, worker);
+    work_leases(rt, shared, gate, worker, queues);
     shared.wake_all();
     gate.at_end(worker);
 }
 
 /// Works leases until no more are given out.
-fn work_leases<B: RunName, R: Wait, G: Gate>(rt: &R, shared: &Shared<B>, gate: &G, worker: u64) {
+fn work_leases<B: RunName, R: Wait, G: Gate>(
+    rt: &R,
+    shared: &Shared<B>,
+    gate: &G,
+    worker: u64,
+    queues: WorkQueues<B>,
+) {
+    let mut queues = queues;
     let mut pace = Pace::new();
     let mut back = Back::Begun;
     for _ in rt.forever() {
-        match shared.next_lease(rt, back, &mut pace) {
+        match shared.next_lease(rt, back, &mut pace, &mut queues) {
             Some(lease) => {
                 gate.at_lent(worker, lease.number());
                 back = worked(lease);

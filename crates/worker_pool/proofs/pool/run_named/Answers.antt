@@ -1,5 +1,22 @@
 use Rattle.std.proofs.Common.{rules, ◌≡◌}
+use Rattle.std.proofs.lemmas.Result.{err_from_is_err_and}
+use Rattle.worker_pool.specs.Runs.{output_run, trace_run}
+use Rattle.worker_pool.proofs.Pieces.{stops, written_none}
 use Rattle.worker_pool.proofs.pool.run_named.Goals as goal
+
+pub returns-in_err-queues-clause-output : goal.returns-in_err-queues-clause-output
+returns-in_err-queues-clause-output g c =
+    let p = err_from_is_err_and c.from_residual-in_err-queues.result c.from_residual-in_err-queues.ensures.1 in
+    let run = output_run g.B.RunName.code g.B.RunName.limit in
+    let known = g.O.Write.contents c.args.out.now in
+    stops run known known 0 c.from_residual-in_err-queues.result p.0 p.1 (written_none run known)
+
+pub returns-in_err-queues-clause-trace : goal.returns-in_err-queues-clause-trace
+returns-in_err-queues-clause-trace g c =
+    let p = err_from_is_err_and c.from_residual-in_err-queues.result c.from_residual-in_err-queues.ensures.1 in
+    let run = trace_run g.B.RunName.code g.B.RunName.limit in
+    let known = g.T.Write.contents c.args.trace.now in
+    stops run known known 0 c.from_residual-in_err-queues.result p.0 p.1 (written_none run known)
 
 pub returns-clause-output : goal.returns-clause-output
 returns-clause-output g c =
