@@ -25,7 +25,7 @@ use Rattle.word.specs.declared.request.Event.{Event as Recorded}
 use Rattle.word.specs.Kinds.{asks}
 use Rattle.word.specs.Views.{event_of}
 use Rattle.word.specs.Worlds.{Rest, rules, opening, moment, is_deserted, end_of}
-use Rattle.word.specs.Values.{Sleeper}
+use Rattle.word.specs.Values.{Event, Sleeper}
 use Rattle.tracer.specs.Trace.{trace, traceline}
 use Rattle.tracer.proofs.Traces.{trace-push}
 use Rattle.word.proofs.Apart.{apart}
@@ -36,16 +36,30 @@ use Rattle.world_core.specs.Slots.{State, Rows, FitsRow, IsAwake, IsNobodyAwake,
 use Rattle.world_core.proofs.Leases.{core_fits_set, core_set, opened_fits}
 use Rattle.world_core.proofs.Others.{performed_other}
 use Rattle.world_core.proofs.Scheduling.{deserted}
-use Rattle.book.specs.Desks.{Desk, CommitsNext, IsDesk, IsPiece, IsTracePiece, IsEnd, KeepsLeases, StandsBefore, Held, IsLent, brought, opened_desk, lent_desk}
+use Rattle.book.specs.Desks.{Desk, CommitsNext, IsDesk, IsPiece, IsTracePiece, IsEnd, kept_line, kept_trace, KeepsLeases, StandsBefore, Held, IsLent, brought, opened_desk, lent_desk}
 use Rattle.book.proofs.Desks.{lend_keeps, bring_keeps, lent_other, row_awake, settle_keeps, parked_asks, waits_alone, waits_before, nobody_awake}
 
 abbrev rules_of : Desk → Rules State (Rest Frames)
 rules_of d = rules (code_kind d.code) d.limit
 
+-- ---- what is kept of the trace
+
+nothing_kept : (traces : Bool) → length (kept_trace traces []) ≡ 0
+nothing_kept true = refl
+nothing_kept false = refl
+
+nothing_left : (traces : Bool) → drop 0 (kept_trace traces []) ≡ []
+nothing_left true = refl
+nothing_left false = refl
+
+line_more : (traces : Bool) (events : List Event) (event : Event) → kept_trace traces (events ++ event ∷ []) ≡ kept_trace traces events ++ kept_line traces event
+line_more true events event = trace-push events event
+line_more false events event = refl
+
 -- ---- open
 
-pub opened_is_desk : (code : Code) (limit : ℕ) → IsVerified code → limit ≤ 2 ^ 62 → IsDesk (opened_desk code limit)
-opened_is_desk code limit v le =
+pub opened_is_desk : (code : Code) (limit : ℕ) (traces : Bool) → IsVerified code → limit ≤ 2 ^ 62 → IsDesk (opened_desk code limit traces)
+opened_is_desk code limit traces v le =
     let r = rules (code_kind code) limit in
     let w = opening (code_kind code) in
     record {
@@ -55,7 +69,7 @@ opened_is_desk code limit v le =
       room = omega arith;
       trace_room = omega arith;
       fits = opened_fits code limit v le;
-      at = (0, opened r w, record { stands = opened_stands r (laws (code_kind code) limit) w; core = record { rows = refl; beds = tt; channels = refl; asleep = refl; live = refl; made = refl; events = refl; ending = refl }; size = refl; bytes = refl; trace_size = refl; trace_bytes = refl });
+      at = (0, opened r w, record { stands = opened_stands r (laws (code_kind code) limit) w; core = record { rows = refl; beds = tt; channels = refl; asleep = refl; live = refl; made = refl; events = refl; ending = refl }; size = refl; bytes = refl; trace_size = nothing_kept traces; trace_bytes = nothing_left traces });
     }
 
 -- ---- lend and bring
@@ -180,13 +194,13 @@ fits_more out kept more events after room fits one =
 
 -- the desk after an event
 abbrev pub after_event : Desk → Recorded → CoreValue → Desk
-after_event d event new = record d { core = new; pending = d.pending ++ bytes_of event; lines = d.lines ++ traceline (event_of event) }
+after_event d event new = record d { core = new; pending = d.pending ++ bytes_of event; lines = d.lines ++ kept_line d.traces (event_of event) }
 
-pub commits : (d : Desk) (n : ℕ) (event : Recorded) (new : CoreValue) → IsDesk d → HasTurn d.core n → Performs d.code d.limit d.core n event (bytes_of event) new → FitsCore d.code d.limit new → length (d.pending ++ bytes_of event) < 2 ^ 64 → length (d.lines ++ traceline (event_of event)) < 2 ^ 64
+pub commits : (d : Desk) (n : ℕ) (event : Recorded) (new : CoreValue) → IsDesk d → HasTurn d.core n → Performs d.code d.limit d.core n event (bytes_of event) new → FitsCore d.code d.limit new → length (d.pending ++ bytes_of event) < 2 ^ 64 → length (d.lines ++ kept_line d.traces (event_of event)) < 2 ^ 64
     → IsDesk (after_event d event new) × CommitsNext d event (after_event d event new)
 commits d n event new h t done fits room trace_room =
     let bytes = bytes_of event in
-    let line = traceline (event_of event) in
+    let line = kept_line d.traces (event_of event) in
     let r = rules_of d in
     let L = laws (code_kind d.code) d.limit in
     let m = h.at.1 in
@@ -203,8 +217,8 @@ commits d n event new h t done fits room trace_room =
     let events = ap length p.events ∙ length-append (shared_of m).events (event_of event ∷ []) in
     let one : new.events ≡ d.core.events + 1 = p.core.events ∙ events ∙ ap (λ k. k + 1) (sym a.core.events) in
     let was = h.fits.count (ap is_some t.going) in
-    let lines = ap trace p.events ∙ trace-push (shared_of m).events (event_of event) in
-    let before = trace (shared_of m).events in (
+    let lines = ap (kept_trace d.traces) p.events ∙ line_more d.traces (shared_of m).events (event_of event) in
+    let before = kept_trace d.traces (shared_of m).events in (
       record {
         verified = h.verified;
         limit = h.limit;
@@ -220,8 +234,8 @@ commits d n event new h t done fits room trace_room =
             core = p.core;
             size = longer (shared_of m).output (shared_of after).output d.pending bytes d.taken p.output a.size;
             bytes = kept_more (shared_of m).output (shared_of after).output d.pending bytes d.taken p.output a.size a.bytes;
-            trace_size = longer before (trace (shared_of after).events) d.lines line d.traced lines a.trace_size;
-            trace_bytes = kept_more before (trace (shared_of after).events) d.lines line d.traced lines a.trace_size a.trace_bytes;
+            trace_size = longer before (kept_trace d.traces (shared_of after).events) d.lines line d.traced lines a.trace_size;
+            trace_bytes = kept_more before (kept_trace d.traces (shared_of after).events) d.lines line d.traced lines a.trace_size a.trace_bytes;
           },
         );
       },
@@ -240,6 +254,7 @@ commits d n event new h t done fits room trace_room =
         limit = refl;
         taken = refl;
         lines = refl;
+        traces = refl;
         traced = refl;
         words = refl;
         looks = refl;
@@ -248,7 +263,7 @@ commits d n event new h t done fits room trace_room =
 
 -- the same where the bytes and the lines that are left are known by equations
 pub committed : (d : Desk) (n : ℕ) (event : Recorded) (new : CoreValue) (pending lines : List ℕ) → IsDesk d → HasTurn d.core n → Performs d.code d.limit d.core n event (bytes_of event) new → FitsCore d.code d.limit new
-    → pending ≡ d.pending ++ bytes_of event → lines ≡ d.lines ++ traceline (event_of event) → length pending < 2 ^ 64 → length lines < 2 ^ 64
+    → pending ≡ d.pending ++ bytes_of event → lines ≡ d.lines ++ kept_line d.traces (event_of event) → length pending < 2 ^ 64 → length lines < 2 ^ 64
     → IsDesk (record d { core = new; pending = pending; lines = lines }) × CommitsNext d event (record d { core = new; pending = pending; lines = lines })
 committed d n event new pending lines h turn done fits bytes line room trace_room =
     let P : List ℕ → Type 0 = λ xs. length xs < 2 ^ 64 in
@@ -318,7 +333,7 @@ ends_by : (w : Whole State (Rest Frames)) (e : Ending) (o : Option Ending) → w
 ends_by w e o is ended = ap (λ (x : Option Ending). cond (is_some x) x (cond (is_deserted (map is_some w.awake)) (Some Deadlock) None)) (is ∙ ended)
 
 -- an event ended the run
-pub ended_desk : (d : Desk) (e : Ending) → IsDesk d → d.core.ending ≡ Some e → IsEnd d.code d.limit d.core.events (d.taken + length d.pending) (d.traced + length d.lines) e
+pub ended_desk : (d : Desk) (e : Ending) → IsDesk d → d.core.ending ≡ Some e → IsEnd d.code d.limit d.traces d.core.events (d.taken + length d.pending) (d.traced + length d.lines) e
 ended_desk d e h ended =
     let a = h.at.2 in
     let same = sym a.stands.shared in
@@ -326,12 +341,12 @@ ended_desk d e h ended =
       moves = h.at.0;
       events = ap (λ (x : Rest Frames). length x.shared.events) same ∙ sym a.core.events;
       bytes = ap (λ (x : Rest Frames). length x.shared.output) same ∙ a.size;
-      lines = ap (λ (x : Rest Frames). length (trace x.shared.events)) same ∙ a.trace_size;
+      lines = ap (λ (x : Rest Frames). length (kept_trace d.traces x.shared.events)) same ∙ a.trace_size;
       ending = ends_by (begun d h.at.0) e d.core.ending (ap (λ (x : Rest Frames). x.shared.ending) same ∙ sym a.core.ending) ended;
     }
 
 -- nobody is awake
-pub dead_desk : (d : Desk) → IsDesk d → d.core.ending ≡ None → IsNobodyAwake d.core.rows → IsEnd d.code d.limit d.core.events (d.taken + length d.pending) (d.traced + length d.lines) Deadlock
+pub dead_desk : (d : Desk) → IsDesk d → d.core.ending ≡ None → IsNobodyAwake d.core.rows → IsEnd d.code d.limit d.traces d.core.events (d.taken + length d.pending) (d.traced + length d.lines) Deadlock
 dead_desk d h going nobody =
     let a = h.at.2 in
     let w = begun d h.at.0 in
@@ -342,7 +357,7 @@ dead_desk d h going nobody =
       moves = h.at.0;
       events = ap (λ (x : Rest Frames). length x.shared.events) same ∙ sym a.core.events;
       bytes = ap (λ (x : Rest Frames). length x.shared.output) same ∙ a.size;
-      lines = ap (λ (x : Rest Frames). length (trace x.shared.events)) same ∙ a.trace_size;
+      lines = ap (λ (x : Rest Frames). length (kept_trace d.traces x.shared.events)) same ∙ a.trace_size;
       ending = ap (λ (x : Option Ending). cond (is_some x) x (cond (is_deserted (map is_some w.awake)) (Some Deadlock) None)) none ∙ ap (λ b. cond b (Some Deadlock) None) (deserted w.awake all);
     }
 
@@ -354,13 +369,19 @@ pending_stands d h =
     let long = ap length same ∙ a.size in
     (h.at.0, omega (arith, long), ap (λ xs. take (length d.pending) (drop d.taken xs)) same ∙ ap (take (length d.pending)) a.bytes ∙ take-length d.pending)
 
--- the same of the trace
+-- the same of the trace, whatever is kept of it
+kept_stands : (traces : Bool) (events : List Event) (from : ℕ) (bytes : List ℕ) → length (kept_trace traces events) ≡ from + length bytes → drop from (kept_trace traces events) ≡ bytes
+    → (from + length bytes ≤ length (trace events)) × (take (length bytes) (drop from (trace events)) ≡ bytes)
+kept_stands true events from bytes size last = (omega (arith, size), ap (take (length bytes)) last ∙ take-length bytes)
+kept_stands false events from [] size last = (omega (arith, size), refl)
+kept_stands false events from (b ∷ bytes) size last = absurd (omega (arith, size))
+
 pub lines_stand : (d : Desk) → IsDesk d → IsTracePiece d.code d.limit d.traced d.lines
 lines_stand d h =
     let a = h.at.2 in
-    let same = ap (λ (x : Rest Frames). trace x.shared.events) (sym a.stands.shared) in
-    let long = ap length same ∙ a.trace_size in
-    (h.at.0, omega (arith, long), ap (λ xs. take (length d.lines) (drop d.traced xs)) same ∙ ap (take (length d.lines)) a.trace_bytes ∙ take-length d.lines)
+    let same = ap (λ (x : Rest Frames). kept_trace d.traces x.shared.events) (sym a.stands.shared) in
+    let k = kept_stands d.traces (moment (code_kind d.code) d.limit h.at.0).shared.shared.events d.traced d.lines (ap length same ∙ a.trace_size) (ap (drop d.traced) same ∙ a.trace_bytes) in
+    (h.at.0, k.0, k.1)
 
 -- where all that was left is taken out, nothing is left
 none_left : (all kept left : List ℕ) (out count : ℕ) → length all ≡ out + length kept → count ≡ length kept → left ≡ [] → length all ≡ out + count + length left
@@ -393,7 +414,7 @@ output_taken d count left h whole none =
 pub trace_taken : (d : Desk) (count : ℕ) (left : List ℕ) → IsDesk d → count ≡ length d.lines → left ≡ [] → IsDesk (record d { traced = d.traced + count; lines = left })
 trace_taken d count left h whole none =
     let a = h.at.2 in
-    let all = trace (shared_of h.at.1).events in
+    let all = kept_trace d.traces (shared_of h.at.1).events in
     record {
       verified = h.verified;
       limit = h.limit;

@@ -97,8 +97,8 @@ unlent a zero row e is = true≢false (ap is_some (sym e))
 unlent a (suc zero) row e is = unlent_row a row e is
 unlent a (suc (suc n)) row e is = true≢false (ap is_some (sym e))
 
-pub opened_tied : (code : Code) (limit : ℕ) → IsTied (opened_desk code limit) []
-opened_tied code limit = record {
+pub opened_tied : (code : Code) (limit : ℕ) (traces : Bool) → IsTied (opened_desk code limit traces) []
+opened_tied code limit traces = record {
   lent = λ going n row e is. absurd (unlent (at 0 (code_begin code (code_kind code).main [])) n row e is);
   back = λ s loan on. absurd (home_words 1024 s loan on);
 }

@@ -27,8 +27,8 @@ use Rattle.book.proofs.Looks.{IsKept, held_below, looks_keep, seen_is_desk, stil
 use Rattle.book.proofs.Ties.{brought_tied, committed_tied, is_out, lent_tied, opened_tied, same_tied, seen_tied, taken_tied, was_on}
 
 module _ (code : Code) (limit : ℕ) where
-  pub book_opens : limit ≤ 2 ^ 62 → IsVerified code → IsBook code limit (opened_desk code limit) []
-  book_opens le v = record { desk = opened_is_desk code limit v le; tied = opened_tied code limit; code_is = refl; limit_is = refl }
+  pub book_opens : (traces : Bool) → limit ≤ 2 ^ 62 → IsVerified code → IsBook code limit (opened_desk code limit traces) []
+  book_opens traces le v = record { desk = opened_is_desk code limit traces v le; tied = opened_tied code limit traces; code_is = refl; limit_is = refl }
 
   pub book_lends : (d : Desk) (places new : List ℕ) (l : Held) → IsBook code limit d places → IsFreeIn d.core.rows l.number l.base → l.slot < length d.words → IsFree (word_at d.words l.slot) → IsPlaced places new l.number l.slot → IsBook code limit (lent_desk d l) new
   book_lends d places new l h free size home placed = record {
@@ -114,10 +114,10 @@ looks_taken old new h =
     let e = (looks_keep old h.0 new h.1).rest in
     (ap (λ (d : Desk). d.taken) e, ap (λ (d : Desk). d.traced) e, ap (λ (d : Desk). d.pending) e, ap (λ (d : Desk). d.lines) e)
 
-pub looks_run : (old new : Desk) → OnlyLooks old new → (new.code ≡ old.code) × (new.limit ≡ old.limit)
+pub looks_run : (old new : Desk) → OnlyLooks old new → (new.code ≡ old.code) × (new.limit ≡ old.limit) × (new.traces ≡ old.traces)
 looks_run old new h =
     let e = (looks_keep old h.0 new h.1).rest in
-    (ap (λ (d : Desk). d.code) e, ap (λ (d : Desk). d.limit) e)
+    (ap (λ (d : Desk). d.code) e, ap (λ (d : Desk). d.limit) e, ap (λ (d : Desk). d.traces) e)
 
 -- one look more
 pub looks_more : (old mid : Desk) (x : Sighting) → OnlyLooks old mid → IsSight mid x → OnlyLooks old (seen_desk x mid)

@@ -1,5 +1,5 @@
 -- The book of a run.
-use Rattle.std.specs.Prelude.{◌≡◌, ℕ, ◌+◌, ◌*◌, ◌≤◌, ◌^◌, ◌++◌, false, true, cond, [], List, ◌∷◌, length, drop, take, Some, None, IfSome, slice_get, slice_index_or, slice_set}
+use Rattle.std.specs.Prelude.{◌≡◌, ℕ, ◌+◌, ◌*◌, ◌≤◌, ◌^◌, ◌++◌, Bool, false, true, cond, [], List, ◌∷◌, length, drop, take, Some, None, IfSome, slice_get, slice_index_or, slice_set}
 use Rattle.std.specs.Option.{is_some, option_map, MatchOption}
 use Rattle.bytecode.specs.Code.{Code}
 use Rattle.bytecode.specs.Machine.{code_kind}
@@ -44,12 +44,22 @@ IsTracePiece code limit from bytes =
     (n : ℕ) × (from + length bytes ≤ length (trace (moment (code_kind code) limit n).shared.shared.events))
     × (take (length bytes) (drop from (trace (moment (code_kind code) limit n).shared.shared.events)) ≡ bytes)
 
--- the run ends so, after so many events, so many bytes of output and so many of the trace
-pub record IsEnd (code : Code) (limit before size trace_size : ℕ) (last : Ending) : Type 0 where
+-- what is kept of the trace: all of it, or nothing where nobody reads it
+abbrev pub kept_trace : Bool → List Event → List ℕ
+kept_trace true events = trace events
+kept_trace false events = []
+
+-- the same of an event's line
+abbrev pub kept_line : Bool → Event → List ℕ
+kept_line true event = traceline event
+kept_line false event = []
+
+-- the run ends so, after so many events, so many bytes of output and so many that are kept of the trace
+pub record IsEnd (code : Code) (limit : ℕ) (traces : Bool) (before size trace_size : ℕ) (last : Ending) : Type 0 where
   pub moves : ℕ
   pub events : length (moment (code_kind code) limit moves).shared.shared.events ≡ before
   pub bytes : length (moment (code_kind code) limit moves).shared.shared.output ≡ size
-  pub lines : length (trace (moment (code_kind code) limit moves).shared.shared.events) ≡ trace_size
+  pub lines : length (kept_trace traces (moment (code_kind code) limit moves).shared.shared.events) ≡ trace_size
   pub ending : end_of (moment (code_kind code) limit moves) ≡ Some last
 
 -- ---- the book
@@ -61,7 +71,8 @@ pub record Desk : Type 0 where
   -- how many bytes of the output were taken out, and those that were not
   pub taken : ℕ
   pub pending : List ℕ
-  -- the same of the trace
+  -- whether lines of the trace are kept; how many bytes of them were taken out, and those that were not
+  pub traces : Bool
   pub traced : ℕ
   pub lines : List ℕ
   -- what is known of the word of each slot, and how many looks were made
@@ -74,8 +85,8 @@ pub record IsAt (d : Desk) (n : ℕ) (m : CodeMachine) : Type 0 where
   pub core : IsCoreOf m d.core
   pub size : length (shared_of m).output ≡ d.taken + length d.pending
   pub bytes : drop d.taken (shared_of m).output ≡ d.pending
-  pub trace_size : length (trace (shared_of m).events) ≡ d.traced + length d.lines
-  pub trace_bytes : drop d.traced (trace (shared_of m).events) ≡ d.lines
+  pub trace_size : length (kept_trace d.traces (shared_of m).events) ≡ d.traced + length d.lines
+  pub trace_bytes : drop d.traced (kept_trace d.traces (shared_of m).events) ≡ d.lines
 
 pub record IsDesk (d : Desk) : Type 0 where
   pub verified : IsVerified d.code
@@ -87,13 +98,14 @@ pub record IsDesk (d : Desk) : Type 0 where
   pub at : (n : ℕ) × (m : CodeMachine) × IsAt d n m
 
 -- no event is committed, goroutine 1 is alone, and no slot is lent
-abbrev pub opened_desk : Code → ℕ → Desk
-opened_desk code limit = record {
+abbrev pub opened_desk : Code → ℕ → (traces : Bool) → Desk
+opened_desk code limit traces = record {
   code = code;
   limit = limit;
   core = opened_core code;
   taken = 0;
   pending = [];
+  traces = traces;
   traced = 0;
   lines = [];
   words = opening_rows 1024;
@@ -210,7 +222,8 @@ pub record CommitsNext (old : Desk) (event : Recorded) (new : Desk) : Type 0 whe
   pub code : new.code ≡ old.code
   pub limit : new.limit ≡ old.limit
   pub taken : new.taken ≡ old.taken
-  pub lines : new.lines ≡ old.lines ++ traceline (event_of event)
+  pub lines : new.lines ≡ old.lines ++ kept_line old.traces (event_of event)
+  pub traces : new.traces ≡ old.traces
   pub traced : new.traced ≡ old.traced
   pub words : new.words ≡ old.words
   pub looks : new.looks ≡ old.looks
@@ -230,7 +243,7 @@ abbrev pub Settles : Desk → Settled → Desk → Type 0
 Settles old (Committed event) new = (mid : Desk) × OnlyLooks old mid × CommitsNext mid event new
 Settles old (Waiting n) new = Waits old n new
 Settles old (Ended ending) new =
-    (new ≡ old) × IsEnd old.code old.limit old.core.events (old.taken + length old.pending) (old.traced + length old.lines) ending
+    (new ≡ old) × IsEnd old.code old.limit old.traces old.core.events (old.taken + length old.pending) (old.traced + length old.lines) ending
 
 -- the same of an event that stands in its place
 abbrev pub settled_by : Reached → Recorded → Settled

@@ -16,6 +16,7 @@ ghost use Rattle.world_core.specs.Cores.{HasLease, HasTurn, IsFreeIn, no_event, 
 ghost use Rattle.book.specs.Desks.{CommitsNext, IsDesk, IsLent, IsNobodyLent, IsPiece, IsSeen, IsSight, IsTracePiece, KeepsLeases, OnlyLooks, Settles, Sighting, Waits, brought, lent_desk, opened_desk, seen_desk, settled_by};
 
 use crate::blank::Blank;
+use crate::kept_lines::{append_kept, reserve_kept};
 use crate::lease::Lease;
 use crate::name::BookName;
 use crate::settled::{Reached, Settled};
@@ -27,7 +28,6 @@ use std::alloc::Global;
 use std::marker::Model;
 use std::mem;
 use std::sync::Arc;
-use tracer::{append_line, reserve_line};
 use verifier::Verified;
 use word::end::End;
 use word::request::Event;
@@ -45,6 +45,8 @@ pub struct Book<B: BookName> {
     taken: u128,
     /// The bytes of the output that were not.
     pending: Vec<u8>,
+    /// Whether the lines of the trace are kept, since somebody reads them.
+    traces: bool,
     /// How many bytes of the trace were taken out.
     traced: u128,
     /// The bytes of the trace that were not.
@@ -61,17 +63,32 @@ impl<B: BookName> Model for Book<B> {
 
     ghost Value = { Desk };
 
-    ghost view = { λ b. record { code = arc_value b.program; limit = b.limit; core = b.core; taken = b.taken; pending = b.pending.items; traced = b.traced; lines = b.lines.items; words = words_of b.slots.seat; looks = seat_looks b.slots.seat } };
+    ghost view = { λ b. record { code = arc_value b.program; limit = b.limit; core = b.core; taken = b.taken; pending = b.pending.items; traces = b.traces; traced = b.traced; lines = b.lines.items; words = words_of b.slots.seat; looks = seat_looks b.slots.seat } };
 
-    ghost invariant = { λ b. IsBook B.code B.limit (record { code = arc_value b.program; limit = b.limit; core = b.core; taken = b.taken; pending = b.pending.items; traced = b.traced; lines = b.lines.items; words = words_of b.slots.seat; looks = seat_looks b.slots.seat }) b.slots.places.items };
+    ghost invariant = { λ b. IsBook B.code B.limit (record { code = arc_value b.program; limit = b.limit; core = b.core; taken = b.taken; pending = b.pending.items; traces = b.traces; traced = b.traced; lines = b.lines.items; words = words_of b.slots.seat; looks = seat_looks b.slots.seat }) b.slots.places.items };
 }
 
 impl<B: BookName> Book<B> {
-    /// The book of this program under this clock limit, 1 to 2^62: no event is committed, goroutine 1 is alone, and no slot of
-    /// its table is lent.
+    /// The book of this program under this clock limit, 1 to 2^62, which keeps the lines of the trace: no event is committed,
+    /// goroutine 1 is alone, and no slot of its table is lent.
     pub fn open(blank: Blank, program: Arc<Verified>, limit: u64) -> Result<Book<B>, Fault>
         requires { (arc_value program ≡ B.code) × (limit ≡ B.limit) × (table_of blank.table ≡ B.table) }
-        ensures book { IfOk result (λ book. book ≡ opened_desk (arc_value program) limit) }
+        ensures book { IfOk result (λ book. book ≡ opened_desk (arc_value program) limit true) }
+        ensures bad_limit { IsErrOf result Fault.BadLimit ↔ ((limit ≡ 0) ⊎ (2 ^ 62 < limit)) }
+        ensures only { IfErr result (λ e. (e ≡ Fault.BadLimit) ⊎ (e ≡ Fault.Memory)) }
+    {
+        Book::open_tracing(blank, program, limit, true)
+    }
+
+    /// The same book, which keeps the lines of the trace, or keeps and makes none where nobody reads them.
+    pub fn open_tracing(
+        blank: Blank,
+        program: Arc<Verified>,
+        limit: u64,
+        traces: bool,
+    ) -> Result<Book<B>, Fault>
+        requires { (arc_value program ≡ B.code) × (limit ≡ B.limit) × (table_of blank.table ≡ B.table) }
+        ensures book { IfOk result (λ book. book ≡ opened_desk (arc_value program) limit traces) }
         ensures bad_limit { IsErrOf result Fault.BadLimit ↔ ((limit ≡ 0) ⊎ (2 ^ 62 < limit)) }
         ensures only { IfErr result (λ e. (e ≡ Fault.BadLimit) ⊎ (e ≡ Fault.Memory)) }
     {
@@ -88,6 +105,7 @@ impl<B: BookName> Book<B> {
             core,
             taken: 0,
             pending: Vec::new(alloc),
+            traces,
             traced: 0,
             lines: Vec::new(alloc),
             slots,
@@ -292,7 +310,7 @@ impl<B: BookName> Book<B> {
         ensures leases { OnOk result (KeepsLeases self.old self.new) }
         ensures memory { OnErr result (self.new ≡ self.old) }
     {
-        reserve_line(&mut self.lines, self.core.most_partners())?;
+        reserve_kept(self.traces, &mut self.lines, self.core.most_partners())?;
         self.core.perform(
             self.alloc,
             &self.program,
@@ -301,7 +319,7 @@ impl<B: BookName> Book<B> {
             event,
             &mut self.pending,
         )?;
-        append_line(&mut self.lines, event);
+        append_kept(self.traces, &mut self.lines, event);
         Ok(())
     }
 

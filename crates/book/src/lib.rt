@@ -3,6 +3,7 @@
 
 mod blank;
 mod book_model;
+mod kept_lines;
 mod lease;
 mod name;
 mod program;

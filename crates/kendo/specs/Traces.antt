@@ -1,8 +1,13 @@
 -- Where the lines of a run's events go.
-use Rattle.std.specs.Prelude.{◌≡◌, Bool, false}
+use Rattle.std.specs.Prelude.{◌≡◌, Bool, false, true}
 use Rattle.kendo.specs.declared.tracing.Trace.{Trace}
 use Rattle.kendo.specs.declared.tracing.Trace.TheVariants.{Dropped, Kept}
 use Rattle.word.specs.Flagged.{failed_of}
+
+-- whether they go to a file
+abbrev pub has_file : Trace → Bool
+has_file Dropped = false
+has_file (Kept file) = true
 
 -- whether the file ever refused a line
 abbrev pub has_lost : Trace → Bool

@@ -1,10 +1,11 @@
 //! Where the lines of a run's events go.
 
-ghost use Rattle.std.specs.Prelude.{◌≡◌, IfErr, IfOk};
-ghost use Rattle.kendo.specs.Traces.{IsKept};
+ghost use Rattle.std.specs.Prelude.{◌≡◌, IfErr, IfOk, None, false};
+ghost use Rattle.kendo.specs.Traces.{IsKept, has_file};
 
 use crate::flush;
 use go_text::Fault;
+use kendo_base::TraceWriter;
 use std::alloc::Global;
 use std::fs::File;
 use std::io;
@@ -30,6 +31,16 @@ impl Write for Trace {
             Trace::Dropped => Ok(piece.len()),
             Trace::Kept(file) => file.write(piece),
         }
+    }
+}
+
+impl TraceWriter for Trace {
+    /// A file is read, what is dropped is not.
+    fn is_read(&self) -> bool
+        ensures unknown { result ≡ false → Self.contents self.now ≡ None }
+        ensures file { result ≡ has_file self.now }
+    {
+        matches!(self, Trace::Kept(_))
     }
 }
 

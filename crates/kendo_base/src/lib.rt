@@ -18,4 +18,4 @@ pub use listing::list_bytes;
 pub use outcome::report;
 pub use pictures::timeline_bytes;
 pub use run::run_bytes;
-pub use worker_pool::Gate;
+pub use worker_pool::{Gate, TraceWriter};

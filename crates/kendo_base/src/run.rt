@@ -16,7 +16,7 @@ use std::sync::Wait;
 use std::thread::Threads;
 use word::Write;
 use word::end::End;
-use worker_pool::Gate;
+use worker_pool::{Gate, TraceWriter};
 
 /// Runs the program that a text is, up to the clock limit (1 to 2^62 steps) on 1 to 64 workers,
 /// and answers how it ended. What is written to `out` begins the output of the one-thread run, and
@@ -25,7 +25,7 @@ use worker_pool::Gate;
 ///
 /// Errors: by the numbers 1 to 10 why it is none, with line and column; `Memory`; `Write`; `BadWorkers`; `BadLimit`.
 #[tactic(auto, using(crate::proofs::Spelled::grammatical, crate::proofs::Spelled::limited))]
-pub fn run_bytes<R: Threads + Wait + Sync, G: Gate + Sync, O: Write, T: Write>(
+pub fn run_bytes<R: Threads + Wait + Sync, G: Gate + Sync, O: Write, T: TraceWriter>(
     rt: &R,
     alloc: Global,
     bytes: Vec<u8>,

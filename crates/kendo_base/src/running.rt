@@ -19,10 +19,10 @@ use std::thread::Threads;
 use verifier::{Verified, verify};
 use word::Write;
 use word::end::End;
-use worker_pool::{Gate, run};
+use worker_pool::{Gate, TraceWriter, run};
 
 /// Runs a checked program: what is written begins its output and its trace, and at an end it is all of both.
-pub(crate) fn run_typed<R: Threads + Wait + Sync, G: Gate + Sync, O: Write, T: Write>(
+pub(crate) fn run_typed<R: Threads + Wait + Sync, G: Gate + Sync, O: Write, T: TraceWriter>(
     rt: &R,
     alloc: Global,
     typed: &Typed,
@@ -51,7 +51,7 @@ pub(crate) fn run_typed<R: Threads + Wait + Sync, G: Gate + Sync, O: Write, T: W
 
 /// Runs verified code.
 #[tactic(auto, using(crate::proofs::Runs::stops_for))]
-fn run_verified<R: Threads + Wait + Sync, G: Gate + Sync, O: Write, T: Write>(
+fn run_verified<R: Threads + Wait + Sync, G: Gate + Sync, O: Write, T: TraceWriter>(
     rt: &R,
     alloc: Global,
     program: Verified,

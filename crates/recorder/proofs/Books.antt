@@ -16,8 +16,8 @@ use Rattle.word.specs.Views.{event_of}
 use Rattle.recorder.specs.Recorded.{AreAll, AreFirst, Comes, EndsAfter, HasRecorded, IsLater}
 use Rattle.recorder.proofs.First.{first_all, first_more}
 
-pub opened : (code : Code) (limit : ℕ) (d : Desk) → d ≡ opened_desk code limit → HasRecorded d.code d.limit d []
-opened code limit d is = subst (λ (e : Desk). HasRecorded e.code e.limit e []) (sym is) (record { code = refl; limit = refl; counted = refl; first = (0, refl) })
+pub opened : (code : Code) (limit : ℕ) (traces : Bool) (d : Desk) → d ≡ opened_desk code limit traces → HasRecorded d.code d.limit d []
+opened code limit traces d is = subst (λ (e : Desk). HasRecorded e.code e.limit e []) (sym is) (record { code = refl; limit = refl; counted = refl; first = (0, refl) })
 
 -- looks commit nothing
 looks_later : (old : Desk) (seen : List Sighting) (new : Desk) → Looks old seen new → IsLater old new 0

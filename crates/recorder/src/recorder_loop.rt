@@ -60,7 +60,7 @@ fn record_named<B: BookName>(
     ensures only { IfErr result (λ fault. fault ≡ Fault.Memory) }
 {
     let functions = names(alloc, program.code())?;
-    let book = Book::<B>::open(blank, program, limit)?;
+    let book = Book::<B>::open_tracing(blank, program, limit, false)?;
     let recording = collect(alloc, functions, book, most)?;
     Ok(recording)
 }

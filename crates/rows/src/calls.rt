@@ -4,7 +4,7 @@ ghost use Rattle.std.specs.Prelude.{Some};
 
 use crate::run::{Open, differs};
 use go_text::{Fault, Place, Span};
-use kendo_base::{report, run_bytes};
+use kendo_base::{TraceWriter, report, run_bytes};
 use row_format::flaw::{Flaw, same};
 use row_format::row::LIMIT;
 use std::alloc::Global;
@@ -53,6 +53,12 @@ impl Write for Slow {
             return Err(WriteFault);
         }
         Ok(1)
+    }
+}
+
+impl TraceWriter for Slow {
+    fn is_read(&self) -> bool {
+        true
     }
 }
 

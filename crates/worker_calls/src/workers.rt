@@ -11,7 +11,7 @@ use std::sync::{Arc, Wait};
 use std::thread::Threads;
 use word::end::End;
 use word::{Flagged, Write, WriteFault};
-use worker_pool::{Gate, run};
+use worker_pool::{Gate, TraceWriter, run};
 
 /// A clock limit that is not reached.
 const LIMIT: u64 = 1 << 40;
@@ -59,7 +59,7 @@ pub(crate) fn check<R: Threads + Wait + Sync>(
 }
 
 /// Runs the program.
-fn attempt<R: Threads + Wait + Sync, G: Gate + Sync, O: Write, T: Write>(
+fn attempt<R: Threads + Wait + Sync, G: Gate + Sync, O: Write, T: TraceWriter>(
     rt: &R,
     alloc: Global,
     limit: u64,
@@ -150,6 +150,12 @@ impl Write for Narrow {
         }
         self.taken = true;
         Ok(1)
+    }
+}
+
+impl TraceWriter for Narrow {
+    fn is_read(&self) -> bool {
+        true
     }
 }
 

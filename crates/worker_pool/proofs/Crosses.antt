@@ -173,7 +173,7 @@ book_inside B g = recorded_send (book.the_field B g).row _ _ (book.the_type B g)
           search sendable,
           (
             search (sendable, crosses) depth 20,
-            (search sendable, (search (sendable, crosses) depth 20, (slots_send B g, tt))),
+            (search sendable, (search sendable, (search (sendable, crosses) depth 20, (slots_send B g, tt)))),
           ),
         ),
       ),

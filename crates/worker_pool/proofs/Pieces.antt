@@ -1,10 +1,10 @@
 -- Pieces of what a run writes, joined.
-use Rattle.std.proofs.Common.{◌≡◌, ℕ, zero, suc, ◌+◌, ◌-◌, ◌≤◌, List, [], ◌∷◌, ◌++◌, length, take, drop, Option, Some, None, IfSome, Result, Ok, Err, refl, sym, ap, ◌∙◌, subst, arith, append_assoc, length-append, append-nil}
+use Rattle.std.proofs.Common.{◌≡◌, ℕ, zero, suc, Bool, true, false, ◌+◌, ◌-◌, ◌≤◌, List, [], ◌∷◌, ◌++◌, length, take, drop, Option, Some, None, IfOk, IfSome, Result, Ok, Err, refl, sym, ap, ◌∙◌, subst, arith, append_assoc, length-append, append-nil}
 use Rattle.std.specs.Io.KnownBytes.{Appends}
 use Rattle.std.proofs.lemmas.List.{take-append-le, drop-append-le, length-drop, length-take-le}
 use Rattle.std.proofs.lemmas.List.Concat.{flat_map-append}
 use Rattle.std.proofs.Math.Seq.{take-add, take-length}
-use Rattle.book.specs.Desks.{Desk, IsPiece, IsTracePiece}
+use Rattle.book.specs.Desks.{Desk, IsPiece, IsTracePiece, kept_trace}
 use Rattle.bytecode.specs.Code.{Code}
 use Rattle.bytecode.specs.Machine.{code_kind}
 use Rattle.go_text.specs.declared.fault.Fault.{Fault}
@@ -142,43 +142,44 @@ module _ (run : Run) where
 abbrev run_at : Code → ℕ → Kind → Run
 run_at code limit kind = record { program = code; limit = limit; kind = kind }
 
-same_run : (kind : Kind) (code : Code) (limit : ℕ) (d : Desk) → IsOfRun code limit d → run_at d.code d.limit kind ≡ run_at code limit kind
-same_run kind code limit d is = ap (λ c. run_at c d.limit kind) is.code ∙ ap (λ l. run_at code l kind) is.limit
+same_run : (kind : Kind) (code : Code) (limit : ℕ) (traces : Bool) (d : Desk) → IsOfRun code limit traces d → run_at d.code d.limit kind ≡ run_at code limit kind
+same_run kind code limit traces d is = ap (λ c. run_at c d.limit kind) is.code ∙ ap (λ l. run_at code l kind) is.limit
 
 -- the end of the book's run
-output_ends : (code : Code) (limit : ℕ) (d : Desk) (ending : Ending) → IsOfRun code limit d → HasEnded d ending → EndsAt (output_run code limit) (d.taken + length d.pending) ending
-output_ends code limit d ending is e =
-    subst (λ (run : Run). EndsAt run (d.taken + length d.pending) ending) (same_run Output code limit d is) (e.moves, e.bytes, e.ending)
+output_ends : (code : Code) (limit : ℕ) (traces : Bool) (d : Desk) (ending : Ending) → IsOfRun code limit traces d → HasEnded d ending → EndsAt (output_run code limit) (d.taken + length d.pending) ending
+output_ends code limit traces d ending is e =
+    subst (λ (run : Run). EndsAt run (d.taken + length d.pending) ending) (same_run Output code limit traces d is) (e.moves, e.bytes, e.ending)
 
-trace_ends : (code : Code) (limit : ℕ) (d : Desk) (ending : Ending) → IsOfRun code limit d → HasEnded d ending → EndsAt (trace_run code limit) (d.traced + length d.lines) ending
-trace_ends code limit d ending is e =
-    subst (λ (run : Run). EndsAt run (d.traced + length d.lines) ending) (same_run Trace code limit d is) (e.moves, e.lines, e.ending)
+trace_ends : (code : Code) (limit : ℕ) (traces : Bool) (d : Desk) (ending : Ending) → IsOfRun code limit traces d → traces ≡ true → HasEnded d ending → EndsAt (trace_run code limit) (d.traced + length d.lines) ending
+trace_ends code limit traces d ending is kept e =
+    let lines = subst (λ b. length (kept_trace b (moment (code_kind d.code) d.limit e.moves).shared.shared.events) ≡ d.traced + length d.lines) (is.traces ∙ kept) e.lines in
+    subst (λ (run : Run). EndsAt run (d.traced + length d.lines) ending) (same_run Trace code limit traces d is) (e.moves, lines, e.ending)
 
 -- a piece that is taken out of the book
-pub hands_output : (code : Code) (limit : ℕ) (d : Desk) (piece : Piece) → IsOfRun code limit d → piece_run piece ≡ output_run d.code d.limit → IsPiece d.code d.limit piece.from piece.bytes.items → IsHanded (output_run code limit) piece
-hands_output code limit d piece is run stands =
-    let same = same_run Output code limit d is in
+pub hands_output : (code : Code) (limit : ℕ) (traces : Bool) (d : Desk) (piece : Piece) → IsOfRun code limit traces d → piece_run piece ≡ output_run d.code d.limit → IsPiece d.code d.limit piece.from piece.bytes.items → IsHanded (output_run code limit) piece
+hands_output code limit traces d piece is run stands =
+    let same = same_run Output code limit traces d is in
     record { run = run ∙ same; stands = subst (λ (r : Run). IsPieceOf r piece.from piece.bytes.items) same stands }
 
-pub hands_trace : (code : Code) (limit : ℕ) (d : Desk) (piece : Piece) → IsOfRun code limit d → piece_run piece ≡ trace_run d.code d.limit → IsTracePiece d.code d.limit piece.from piece.bytes.items → IsHanded (trace_run code limit) piece
-hands_trace code limit d piece is run stands =
-    let same = same_run Trace code limit d is in
+pub hands_trace : (code : Code) (limit : ℕ) (traces : Bool) (d : Desk) (piece : Piece) → IsOfRun code limit traces d → piece_run piece ≡ trace_run d.code d.limit → IsTracePiece d.code d.limit piece.from piece.bytes.items → IsHanded (trace_run code limit) piece
+hands_trace code limit traces d piece is run stands =
+    let same = same_run Trace code limit traces d is in
     record { run = run ∙ same; stands = subst (λ (r : Run). IsPieceOf r piece.from piece.bytes.items) same stands }
 
 reaches_to : (run : Run) (from size : ℕ) (bytes pending : List ℕ) (ending : Ending) → from ≡ size → bytes ≡ pending → EndsAt run (size + length pending) ending → EndsAt run (from + length bytes) ending
 reaches_to run from size bytes pending ending f b e = subst (λ (n : ℕ). EndsAt run n ending) (let l = ap length b in omega (arith, f, l)) e
 
 -- both pieces, with the end that they reach to
-pub handing : (code : Code) (limit : ℕ) (d : Desk) (output lines : Piece) (end : Option Ending) → IsOfRun code limit d
+pub handing : (code : Code) (limit : ℕ) (traces : Bool) (d : Desk) (output lines : Piece) (end : Option Ending) → IsOfRun code limit traces d
     → IsHanded (output_run code limit) output → output.from ≡ d.taken → output.bytes.items ≡ d.pending
     → IsHanded (trace_run code limit) lines → lines.from ≡ d.traced → lines.bytes.items ≡ d.lines
-    → IfSome end (HasEnded d) → IsHanding code limit (record { output = output; trace = lines; end = end })
-handing code limit d output lines None is o of ob t tf tb e = record { output = o; trace = t; output_ends = tt; trace_ends = tt }
-handing code limit d output lines (Some ending) is o of ob t tf tb e = record {
+    → IfSome end (HasEnded d) → IsHanding code limit traces (record { output = output; trace = lines; end = end })
+handing code limit traces d output lines None is o of ob t tf tb e = record { output = o; trace = t; output_ends = tt; trace_ends = λ kept. tt }
+handing code limit traces d output lines (Some ending) is o of ob t tf tb e = record {
   output = o;
   trace = t;
-  output_ends = reaches_to (output_run code limit) output.from d.taken output.bytes.items d.pending ending of ob (output_ends code limit d ending is e);
-  trace_ends = reaches_to (trace_run code limit) lines.from d.traced lines.bytes.items d.lines ending tf tb (trace_ends code limit d ending is e);
+  output_ends = reaches_to (output_run code limit) output.from d.taken output.bytes.items d.pending ending of ob (output_ends code limit traces d ending is e);
+  trace_ends = λ kept. reaches_to (trace_run code limit) lines.from d.traced lines.bytes.items d.lines ending tf tb (trace_ends code limit traces d ending is kept e);
 }
 
 -- ---- how far the writers have come
@@ -203,14 +204,14 @@ pub reached : (place amount old : ℕ) (piece out : Piece) → piece ≡ out →
 reached place amount old piece out same up from more = up ∙ ap (λ (p : Piece). p.from + length p.bytes.items) same ∙ ap (λ n. n + length out.bytes.items) from ∙ sym more
 
 -- the last pieces are written
-pub output_to_end : (code : Code) (limit : ℕ) (h : Handing) (piece : Piece) (found : Option Ending) (ending : Ending) (place : ℕ) → IsHanding code limit h → piece ≡ h.output → found ≡ h.end → found ≡ Some ending → place ≡ piece.from + length piece.bytes.items → EndsAt (output_run code limit) place ending
-output_to_end code limit h piece found ending place is same same_end at up =
+pub output_to_end : (code : Code) (limit : ℕ) (traces : Bool) (h : Handing) (piece : Piece) (found : Option Ending) (ending : Ending) (place : ℕ) → IsHanding code limit traces h → piece ≡ h.output → found ≡ h.end → found ≡ Some ending → place ≡ piece.from + length piece.bytes.items → EndsAt (output_run code limit) place ending
+output_to_end code limit traces h piece found ending place is same same_end at up =
     let ends : EndsAt (output_run code limit) (h.output.from + length h.output.bytes.items) ending = subst (λ (e : Option Ending). IfSome e (EndsAt (output_run code limit) (h.output.from + length h.output.bytes.items))) (sym same_end ∙ at) is.output_ends in
     subst (λ (n : ℕ). EndsAt (output_run code limit) n ending) (sym (up ∙ ap (λ (p : Piece). p.from + length p.bytes.items) same)) ends
 
-pub trace_to_end : (code : Code) (limit : ℕ) (h : Handing) (piece : Piece) (found : Option Ending) (ending : Ending) (place : ℕ) → IsHanding code limit h → piece ≡ h.trace → found ≡ h.end → found ≡ Some ending → place ≡ piece.from + length piece.bytes.items → EndsAt (trace_run code limit) place ending
-trace_to_end code limit h piece found ending place is same same_end at up =
-    let ends : EndsAt (trace_run code limit) (h.trace.from + length h.trace.bytes.items) ending = subst (λ (e : Option Ending). IfSome e (EndsAt (trace_run code limit) (h.trace.from + length h.trace.bytes.items))) (sym same_end ∙ at) is.trace_ends in
+pub trace_to_end : (code : Code) (limit : ℕ) (traces : Bool) (h : Handing) (piece : Piece) (found : Option Ending) (ending : Ending) (place : ℕ) → IsHanding code limit traces h → traces ≡ true → piece ≡ h.trace → found ≡ h.end → found ≡ Some ending → place ≡ piece.from + length piece.bytes.items → EndsAt (trace_run code limit) place ending
+trace_to_end code limit traces h piece found ending place is kept same same_end at up =
+    let ends : EndsAt (trace_run code limit) (h.trace.from + length h.trace.bytes.items) ending = subst (λ (e : Option Ending). IfSome e (EndsAt (trace_run code limit) (h.trace.from + length h.trace.bytes.items))) (sym same_end ∙ at) (is.trace_ends kept) in
     subst (λ (n : ℕ). EndsAt (trace_run code limit) n ending) (sym (up ∙ ap (λ (p : Piece). p.from + length p.bytes.items) same)) ends
 
 -- nothing was written yet
@@ -220,3 +221,14 @@ begun run known place none = ([], appends_none known, (0, omega arith, refl), sy
 -- a run that comes to a refusal
 pub stops : (run : Run) (known new : Option (List ℕ)) (place : ℕ) (outcome : Result Ending Fault) (fault : Fault) → outcome ≡ Err fault → Written run known new place → ComesOf run known new outcome
 stops run known new place outcome fault is w = subst (λ (r : Result Ending Fault). ComesOf run known new r) (sym is) (comes_to_fault run known new place fault w)
+
+-- ---- a trace that nobody reads: what its writer holds is not known
+
+pub read_begins : (traces : Bool) (K : GoroutineKind) (limit : ℕ) (known new : Option (List ℕ)) → (traces ≡ false → known ≡ None) → (traces ≡ true → Begins Trace K limit known new) → Begins Trace K limit known new
+read_begins true K limit known new unknown begins = begins refl
+read_begins false K limit known new unknown begins = subst (λ (k : Option (List ℕ)). Begins Trace K limit k new) (sym (unknown refl)) (0, 0, tt)
+
+pub read_whole : (traces : Bool) (K : GoroutineKind) (limit : ℕ) (out written known new : Option (List ℕ)) (outcome : Result Ending Fault) → (traces ≡ false → known ≡ None) → IfOk outcome (IsAll Output K limit out written) → (traces ≡ true → IfOk outcome (IsAll Trace K limit known new)) → IfOk outcome (IsAll Trace K limit known new)
+read_whole traces K limit out written known new (Err fault) unknown output all = tt
+read_whole true K limit out written known new (Ok ending) unknown output all = all refl
+read_whole false K limit out written known new (Ok ending) unknown output all = subst (λ (k : Option (List ℕ)). IsAll Trace K limit k new ending) (sym (unknown refl)) (output.0, tt, output.2)

@@ -8,7 +8,7 @@ use Rattle.book.proofs.Whole.{looks_run, looks_taken}
 use Rattle.bytecode.specs.Code.{Code}
 use Rattle.worker_pool.specs.Handing.{KeepsTaken}
 use Rattle.worker_pool.specs.Runs.{IsOfRun}
-use Rattle.std.specs.Prelude.{ℕ, IfOk, OnErr, Result, Ok, Err}
+use Rattle.std.specs.Prelude.{ℕ, Bool, IfOk, OnErr, Result, Ok, Err}
 use Rattle.go_text.specs.declared.fault.Memory.{Memory}
 use Rattle.word.specs.declared.request.Event.{Event as Recorded}
 
@@ -24,22 +24,22 @@ settles_keep_taken old new (Committed event) h =
 settles_keep_taken old new (Waiting n) h = looks_keep_taken old new h.only
 settles_keep_taken old new (Ended end) h = record { taken = ap (λ (d : Desk). d.taken) h.0; traced = ap (λ (d : Desk). d.traced) h.0 }
 
-pub looks_keep_run : (code : Code) (limit : ℕ) (old new : Desk) → OnlyLooks old new → IsOfRun code limit old → IsOfRun code limit new
-looks_keep_run code limit old new h is =
+pub looks_keep_run : (code : Code) (limit : ℕ) (traces : Bool) (old new : Desk) → OnlyLooks old new → IsOfRun code limit traces old → IsOfRun code limit traces new
+looks_keep_run code limit traces old new h is =
     let r = looks_run old new h in
-    record { code = r.0 ∙ is.code; limit = r.1 ∙ is.limit }
+    record { code = r.0 ∙ is.code; limit = r.1 ∙ is.limit; traces = r.2 ∙ is.traces }
 
-pub settles_keep_run : (code : Code) (limit : ℕ) (old new : Desk) (s : Settled) → Settles old s new → IsOfRun code limit old → IsOfRun code limit new
-settles_keep_run code limit old new (Committed event) h is =
-    let mid = looks_keep_run code limit old h.0 h.1 is in
-    record { code = h.2.code ∙ mid.code; limit = h.2.limit ∙ mid.limit }
-settles_keep_run code limit old new (Waiting n) h is = looks_keep_run code limit old new h.only is
-settles_keep_run code limit old new (Ended end) h is = record { code = ap (λ (d : Desk). d.code) h.0 ∙ is.code; limit = ap (λ (d : Desk). d.limit) h.0 ∙ is.limit }
+pub settles_keep_run : (code : Code) (limit : ℕ) (traces : Bool) (old new : Desk) (s : Settled) → Settles old s new → IsOfRun code limit traces old → IsOfRun code limit traces new
+settles_keep_run code limit traces old new (Committed event) h is =
+    let mid = looks_keep_run code limit traces old h.0 h.1 is in
+    record { code = h.2.code ∙ mid.code; limit = h.2.limit ∙ mid.limit; traces = h.2.traces ∙ mid.traces }
+settles_keep_run code limit traces old new (Waiting n) h is = looks_keep_run code limit traces old new h.only is
+settles_keep_run code limit traces old new (Ended end) h is = record { code = ap (λ (d : Desk). d.code) h.0 ∙ is.code; limit = ap (λ (d : Desk). d.limit) h.0 ∙ is.limit; traces = ap (λ (d : Desk). d.traces) h.0 ∙ is.traces }
 
 -- whatever a settling answers, the book is of the run
-pub settled_keeps_run : (code : Code) (limit : ℕ) (old new : Desk) (event : Recorded) (r : Result Reached Memory) → IfOk r (λ s. Settles old (settled_by s event) new) → OnErr r (OnlyLooks old new) → IsOfRun code limit old → IsOfRun code limit new
-settled_keeps_run code limit old new event (Ok s) h e is = settles_keep_run code limit old new (settled_by s event) h is
-settled_keeps_run code limit old new event (Err x) h e is = looks_keep_run code limit old new e is
+pub settled_keeps_run : (code : Code) (limit : ℕ) (traces : Bool) (old new : Desk) (event : Recorded) (r : Result Reached Memory) → IfOk r (λ s. Settles old (settled_by s event) new) → OnErr r (OnlyLooks old new) → IsOfRun code limit traces old → IsOfRun code limit traces new
+settled_keeps_run code limit traces old new event (Ok s) h e is = settles_keep_run code limit traces old new (settled_by s event) h is
+settled_keeps_run code limit traces old new event (Err x) h e is = looks_keep_run code limit traces old new e is
 
 pub kept_taken : (a b c : Desk) → KeepsTaken a b → KeepsTaken b c → KeepsTaken a c
 kept_taken a b c h k = record { taken = k.taken ∙ h.taken; traced = k.traced ∙ h.traced }

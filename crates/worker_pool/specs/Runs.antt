@@ -1,5 +1,5 @@
 -- What a run writes, and what goes between its threads.
-use Rattle.std.specs.Prelude.{◌≡◌, ℕ, ◌+◌, ◌≤◌, List, Option, Some, Result, IfOk, drop, length, take}
+use Rattle.std.specs.Prelude.{◌≡◌, ℕ, Bool, ◌+◌, ◌≤◌, List, Option, Some, Result, IfOk, drop, length, take}
 use Rattle.std.specs.Io.KnownBytes.{Appends}
 use Rattle.book.specs.Desks.{Desk}
 use Rattle.bytecode.specs.Code.{Code}
@@ -79,10 +79,11 @@ pub record IsReached (bytes : Run) (p : Progress) (parts amount : ℕ) : Type 0 
   pub place : progress_place p ≡ amount
   pub whole : parts ≡ 1
 
--- the book is of this run
-pub record IsOfRun (program : Code) (most : ℕ) (d : Desk) : Type 0 where
+-- the book is of this run, and keeps the lines of the trace or not
+pub record IsOfRun (program : Code) (most : ℕ) (kept : Bool) (d : Desk) : Type 0 where
   pub code : d.code ≡ program
   pub limit : d.limit ≡ most
+  pub traces : d.traces ≡ kept
 
 -- a run of this code begins: nothing was written
 pub record IsStart (code : Code) (limit : ℕ) (printed traced : Progress) : Type 0 where

@@ -24,13 +24,13 @@ impl<B: RunName> Model for Handed<B> {
 
     ghost view = { λ h. record { output = h.output; trace = h.trace; end = h.end } };
 
-    ghost invariant = { λ h. IsHanding B.code B.limit (record { output = h.output; trace = h.trace; end = h.end }) };
+    ghost invariant = { λ h. IsHanding B.code B.limit B.traces (record { output = h.output; trace = h.trace; end = h.end }) };
 }
 
 impl<B: RunName> Handed<B> {
     /// A piece of each, and the run's end where the pieces reach to it.
     pub fn new(output: Piece, trace: Piece, end: Option<End>) -> Handed<B>
-        requires { IsHanding B.code B.limit (record { output = output; trace = trace; end = end }) }
+        requires { IsHanding B.code B.limit B.traces (record { output = output; trace = trace; end = end }) }
         ensures { result ≡ record { output = output; trace = trace; end = end } }
     {
         Handed {
@@ -44,7 +44,7 @@ impl<B: RunName> Handed<B> {
     /// The pieces, and the end.
     pub fn into_parts(self) -> (Piece, Piece, Option<End>)
         ensures parts { (result.0 ≡ self.output) × (result.1 ≡ self.trace) × (result.2 ≡ self.end) }
-        ensures handing { IsHanding B.code B.limit self }
+        ensures handing { IsHanding B.code B.limit B.traces self }
     {
         let Handed {
             output,

@@ -8,6 +8,7 @@ mod pool;
 mod run_book;
 mod run_name;
 mod shared;
+mod trace_writer;
 mod turn;
 mod work_queues;
 mod worker;
@@ -15,3 +16,4 @@ mod writing;
 
 pub use gate::Gate;
 pub use pool::run;
+pub use trace_writer::TraceWriter;

@@ -14,6 +14,7 @@ use crate::gate::Gate;
 use crate::run_book::RunBook;
 use crate::run_name::{Printed, RunName, Traced};
 use crate::shared::Shared;
+use crate::trace_writer::TraceWriter;
 use crate::work_queues::WorkQueues;
 use crate::worker::work;
 use crate::writing::{Reach, write_run};
@@ -30,10 +31,10 @@ use word::Write;
 use word::end::End;
 
 /// Runs a program up to the clock limit (1 to 2^62) on 1 to 64 workers, and answers how it ended. What is written begins the
-/// output of the one-thread run, and its trace; at an end it is all of them.
+/// output of the one-thread run, and its trace; at an end it is all of them. Of a trace that nobody reads nothing is made.
 ///
 /// Errors: `BadWorkers`; `BadLimit`; `Memory`; `Write`.
-pub fn run<R: Threads + Wait + Sync, G: Gate + Sync, O: Write, T: Write>(
+pub fn run<R: Threads + Wait + Sync, G: Gate + Sync, O: Write, T: TraceWriter>(
     rt: &R,
     alloc: Global,
     program: Arc<Verified>,
@@ -58,8 +59,9 @@ pub fn run<R: Threads + Wait + Sync, G: Gate + Sync, O: Write, T: Write>(
     if limit < 1 || limit > 1 << 62 {
         return Err(Fault::BadLimit);
     }
+    let traces = trace.is_read();
     let start = Start::new(alloc, program, limit)?;
-    run_named::<Brand, R, G, O, T>(rt, alloc, start, workers, gate, out, trace)
+    run_named::<Brand, R, G, O, T>(rt, alloc, start, traces, workers, gate, out, trace)
 }
 
 /// What a run begins with.
@@ -103,18 +105,19 @@ fn run_named<B: RunName + Send, R: Threads + Wait + Sync, G: Gate + Sync, O: Wri
     rt: &R,
     alloc: Global,
     start: Start,
+    traces: bool,
     workers: u64,
     gate: &G,
     out: &mut O,
     trace: &mut T,
 ) -> Result<End, Fault>
-    requires name { (arc_value start.program ≡ B.code) × (start.limit ≡ B.limit) × (table_of start.blank.table ≡ B.table) }
+    requires name { (arc_value start.program ≡ B.code) × (start.limit ≡ B.limit) × (traces ≡ B.traces) × (table_of start.blank.table ≡ B.table) }
     requires limit { IsLimit start.limit }
     requires start { IsStart B.code B.limit start.printed start.traced }
     requires printed { (start.printed_ledger.name ≡ B.printed) × (start.printed_ledger.parts ≡ 1) }
     requires traced { (start.traced_ledger.name ≡ B.traced) × (start.traced_ledger.parts ≡ 1) }
     ensures output { ComesOf (output_run B.code B.limit) (O.contents out.old) (O.contents out.new) result }
-    ensures trace { ComesOf (trace_run B.code B.limit) (T.contents trace.old) (T.contents trace.new) result }
+    ensures trace { B.traces ≡ true → ComesOf (trace_run B.code B.limit) (T.contents trace.old) (T.contents trace.new) result }
     ensures write { IsErrOf result Fault.Write → (O.has_failed out.new ≡ true) ⊎ (T.has_failed trace.new ≡ true) }
     ensures only { IfErr result (λ fault. (fault ≡ Fault.Memory) ⊎ (fault ≡ Fault.Write)) }
 {
@@ -127,7 +130,7 @@ fn run_named<B: RunName + Send, R: Threads + Wait + Sync, G: Gate + Sync, O: Wri
         printed_ledger,
         traced_ledger,
     } = start;
-    let run = RunBook::open(blank, program, limit)?;
+    let run = RunBook::open(blank, program, limit, traces)?;
     let queues = WorkQueues::of_all(alloc, workers)?;
     let (printed_book, printed_share) = printed_ledger.open::<Printed<B>>();
     let (traced_book, traced_share) = traced_ledger.open::<Traced<B>>();
@@ -184,7 +187,7 @@ impl<'a, 'o, 't, B: RunName, R: Wait, O: Write, T: Write> Task for Writing<'a, '
 
     ghost run_gives = { λ t r. (r.0.ghost_name ≡ t.out.ghost_name) × (r.1.ghost_name ≡ t.trace.ghost_name)
         × ComesOf (output_run B.code B.limit) (O.contents t.out.now) (O.contents r.0.now) r.2
-        × ComesOf (trace_run B.code B.limit) (T.contents t.trace.now) (T.contents r.1.now) r.2
+        × (B.traces ≡ true → ComesOf (trace_run B.code B.limit) (T.contents t.trace.now) (T.contents r.1.now) r.2)
         × (IsErrOf r.2 faults.Write → (O.has_failed r.0.now ≡ true) ⊎ (T.has_failed r.1.now ≡ true))
         × IfErr r.2 (λ fault. (fault ≡ faults.Memory) ⊎ (fault ≡ faults.Write)) };
 

@@ -25,18 +25,23 @@ pub(crate) struct RunBook<B: RunName> {
     pub book: Book<OfRun<B>>,
     /// Where each event is written in its turn.
     pub event: Event,
-    pub ghost ours: { IsOfRun B.code B.limit book },
+    pub ghost ours: { IsOfRun B.code B.limit B.traces book },
 }
 
 impl<B: RunName> RunBook<B> {
-    /// The book of the run, of which no event is committed.
-    pub fn open(blank: Blank, program: Arc<Verified>, limit: u64) -> Result<RunBook<B>, Fault>
-        requires name { (arc_value program ≡ B.code) × (limit ≡ B.limit) × (table_of blank.table ≡ B.table) }
+    /// The book of the run, of which no event is committed. It makes lines of the trace or not.
+    pub fn open(
+        blank: Blank,
+        program: Arc<Verified>,
+        limit: u64,
+        traces: bool,
+    ) -> Result<RunBook<B>, Fault>
+        requires name { (arc_value program ≡ B.code) × (limit ≡ B.limit) × (traces ≡ B.traces) × (table_of blank.table ≡ B.table) }
         requires limit { IsLimit limit }
-        ensures book { IfOk result (λ run. run.book ≡ opened_desk B.code B.limit) }
+        ensures book { IfOk result (λ run. run.book ≡ opened_desk B.code B.limit B.traces) }
         ensures only { IfErr result (λ fault. fault ≡ Fault.Memory) }
     {
-        let book = Book::open(blank, program, limit)?;
+        let book = Book::open_tracing(blank, program, limit, traces)?;
         let event = book.blank_event();
         Ok(RunBook { book, event })
     }

@@ -4,10 +4,11 @@ use book::{BookName, Lease};
 use std::marker::{Brand, PhantomData};
 use std::sync::ledger::Ledger;
 
-/// Which run it is: the table of clocks of its book, its code, its clock limit, and the ledgers of its output and of its trace.
+/// Which run it is: the table of clocks of its book, its code, its clock limit, whether lines of its trace are made, and the ledgers of
+/// its output and of its trace.
 /// Each call of `run` names its own.
 pub(crate) trait RunName {
-    ghost use Rattle.std.specs.Prelude.{ℕ};
+    ghost use Rattle.std.specs.Prelude.{ℕ, Bool};
     ghost use Rattle.atomic_table.specs.Seated.{TableId};
     ghost use Rattle.bytecode.specs.Code.{Code};
 
@@ -17,12 +18,15 @@ pub(crate) trait RunName {
 
     ghost limit: { ℕ };
 
+    ghost traces: { Bool };
+
     ghost printed: { ℕ };
 
     ghost traced: { ℕ };
 }
 
 impl RunName for Brand {
+    ghost use Rattle.std.specs.Prelude.{true};
     ghost use Rattle.book.specs.Names.{no_code, no_table};
 
     ghost table = { no_table };
@@ -30,6 +34,8 @@ impl RunName for Brand {
     ghost code = { no_code };
 
     ghost limit = { 0 };
+
+    ghost traces = { true };
 
     ghost printed = { 0 };
 

@@ -42,7 +42,7 @@ pub(crate) fn write_run<B: RunName, R: Wait, O: Write, T: Write>(
     requires traced { IsReached (trace_run B.code B.limit) traced.progress traced.share.parts traced.share.amount }
     requires nothing { (progress_place printed.progress ≡ 0) × (progress_place traced.progress ≡ 0) }
     ensures output { ComesOf (output_run B.code B.limit) (O.contents out.old) (O.contents out.new) result }
-    ensures trace { ComesOf (trace_run B.code B.limit) (T.contents trace.old) (T.contents trace.new) result }
+    ensures trace { B.traces ≡ true → ComesOf (trace_run B.code B.limit) (T.contents trace.old) (T.contents trace.new) result }
     ensures write { IsErrOf result Fault.Write → (O.has_failed out.new ≡ true) ⊎ (T.has_failed trace.new ≡ true) }
     ensures only { IfErr result (λ fault. (fault ≡ Fault.Memory) ⊎ (fault ≡ Fault.Write)) }
 {

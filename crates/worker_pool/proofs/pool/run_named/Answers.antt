@@ -16,7 +16,7 @@ returns-in_err-queues-clause-trace g c =
     let p = err_from_is_err_and c.from_residual-in_err-queues.result c.from_residual-in_err-queues.ensures.1 in
     let run = trace_run g.B.RunName.code g.B.RunName.limit in
     let known = g.T.Write.contents c.args.trace.now in
-    stops run known known 0 c.from_residual-in_err-queues.result p.0 p.1 (written_none run known)
+    λ kept. stops run known known 0 c.from_residual-in_err-queues.result p.0 p.1 (written_none run known)
 
 pub returns-clause-output : goal.returns-clause-output
 returns-clause-output g c =
@@ -26,7 +26,7 @@ returns-clause-output g c =
 pub returns-clause-trace : goal.returns-clause-trace
 returns-clause-trace g c =
     let trace : c.trace-1.given.0 ≡ c.beside-out.result.1.now = search rules in
-    rw trace c.beside-out.ensures.3
+    λ kept. rw trace (c.beside-out.ensures.3 kept)
 
 pub returns-clause-write : goal.returns-clause-write
 returns-clause-write g c =

@@ -24,7 +24,7 @@ returns-in_err-handed-clause-output g c =
 pub returns-in_err-handed-clause-trace : goal.returns-in_err-handed-clause-trace
 returns-in_err-handed-clause-trace g c =
     let p = err_from_is_err_and c.from_residual.result c.from_residual.ensures.1 in
-    stops (trace_run g.B.RunName.code g.B.RunName.limit) (g.T.Write.contents c.args.trace.now) (g.T.Write.contents c.loop.trace) (progress_place c.loop.traced.progress) c.from_residual.result p.0 p.1 c.loop.invariant.trace
+    λ kept. stops (trace_run g.B.RunName.code g.B.RunName.limit) (g.T.Write.contents c.args.trace.now) (g.T.Write.contents c.loop.trace) (progress_place c.loop.traced.progress) c.from_residual.result p.0 p.1 c.loop.invariant.trace
 
 pub returns-in_err-write_piece-clause-output : goal.returns-in_err-write_piece-clause-output
 returns-in_err-write_piece-clause-output g c =
@@ -39,7 +39,7 @@ returns-in_err-write_piece-clause-output g c =
 pub returns-in_err-write_piece-clause-trace : goal.returns-in_err-write_piece-clause-trace
 returns-in_err-write_piece-clause-trace g c =
     let p = err_from_is_err_and c.from_residual-in_err-write_piece.result c.from_residual-in_err-write_piece.ensures.1 in
-    stops (trace_run g.B.RunName.code g.B.RunName.limit) (g.T.Write.contents c.args.trace.now) (g.T.Write.contents c.loop.trace) (progress_place c.loop.traced.progress) c.from_residual-in_err-write_piece.result p.0 p.1 c.loop.invariant.trace
+    λ kept. stops (trace_run g.B.RunName.code g.B.RunName.limit) (g.T.Write.contents c.args.trace.now) (g.T.Write.contents c.loop.trace) (progress_place c.loop.traced.progress) c.from_residual-in_err-write_piece.result p.0 p.1 c.loop.invariant.trace
 
 pub returns-in_err-write_piece-2-clause-output : goal.returns-in_err-write_piece-2-clause-output
 returns-in_err-write_piece-2-clause-output g c =
@@ -58,7 +58,7 @@ returns-in_err-write_piece-2-clause-trace g c =
     let run = trace_run g.B.RunName.code g.B.RunName.limit in
     let known = g.T.Write.contents c.args.trace.now in
     let new = g.T.Write.contents c.write_piece-in-loop.new.writer in
-    stops run known new (progress_place c.write_piece-in-loop.new.progress) c.from_residual-in_err-write_piece-2.result p.0 p.1
+    λ kept. stops run known new (progress_place c.write_piece-in-loop.new.progress) c.from_residual-in_err-write_piece-2.result p.0 p.1
     (wrote_on (run_of c.loop.traced.progress) run known (g.T.Write.contents c.loop.trace) new (progress_place c.loop.traced.progress) (progress_place c.write_piece-in-loop.new.progress) i.traced.run c.write_piece-in-loop.ensures.written i.trace)
 
 pub returns-in-Some-end-clause-output : goal.returns-in-Some-end-clause-output
@@ -74,7 +74,7 @@ returns-in-Some-end-clause-output g c =
     let result = c.into_parts-output.result in
     comes_to_end run known new place c.in-Some-end.end
     (wrote_on (run_of c.loop.printed.progress) run known (g.O.Write.contents c.loop.out) new (progress_place c.loop.printed.progress) place i.printed.run c.write_piece.ensures.written i.output)
-    (output_to_end code limit c.in_ok-handed.handed result.0 result.2 c.in-Some-end.end place c.into_parts-output.ensures.handing parts.0 parts.2 c.in-Some-end.is c.in_ok-write_piece.ensures.place)
+    (output_to_end code limit g.B.RunName.traces c.in_ok-handed.handed result.0 result.2 c.in-Some-end.end place c.into_parts-output.ensures.handing parts.0 parts.2 c.in-Some-end.is c.in_ok-write_piece.ensures.place)
 
 pub returns-in-Some-end-clause-trace : goal.returns-in-Some-end-clause-trace
 returns-in-Some-end-clause-trace g c =
@@ -87,9 +87,9 @@ returns-in-Some-end-clause-trace g c =
     let place = progress_place c.write_piece-in-loop.new.progress in
     let parts = c.into_parts-output.ensures.parts in
     let result = c.into_parts-output.result in
-    comes_to_end run known new place c.in-Some-end.end
+    λ kept. comes_to_end run known new place c.in-Some-end.end
     (wrote_on (run_of c.loop.traced.progress) run known (g.T.Write.contents c.loop.trace) new (progress_place c.loop.traced.progress) place i.traced.run c.write_piece-in-loop.ensures.written i.trace)
-    (trace_to_end code limit c.in_ok-handed.handed result.1 result.2 c.in-Some-end.end place c.into_parts-output.ensures.handing parts.1 parts.2 c.in-Some-end.is c.in_ok-write_piece-2.ensures.place)
+    (trace_to_end code limit g.B.RunName.traces c.in_ok-handed.handed result.1 result.2 c.in-Some-end.end place c.into_parts-output.ensures.handing kept parts.1 parts.2 c.in-Some-end.is c.in_ok-write_piece-2.ensures.place)
 
 pub loop-preserved : goal.loop-preserved
 loop-preserved g c =

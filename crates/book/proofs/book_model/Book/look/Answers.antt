@@ -13,7 +13,7 @@ use Rattle.book.proofs.book_model.Book.look.Goals as goal
 pub look-found-requires : goal.look-found-requires
 look-found-requires g c =
     let b = c.self.inside in
-    let d : Desk = record { code = arc_value b.program; limit = b.limit; core = b.core; taken = b.taken; pending = b.pending.items; traced = b.traced; lines = b.lines.items; words = words_of b.slots.seat; looks = seat_looks b.slots.seat } in
+    let d : Desk = record { code = arc_value b.program; limit = b.limit; core = b.core; taken = b.taken; pending = b.pending.items; traces = b.traces; traced = b.traced; lines = b.lines.items; words = words_of b.slots.seat; looks = seat_looks b.slots.seat } in
     let h = c.self.invariant in
     let n = c.args.number in
     let places = b.slots.places.items in
@@ -25,7 +25,7 @@ look-found-requires g c =
 pub at-requires : goal.at-requires
 at-requires g c =
     let b = c.self.inside in
-    let d : Desk = record { code = arc_value b.program; limit = b.limit; core = b.core; taken = b.taken; pending = b.pending.items; traced = b.traced; lines = b.lines.items; words = words_of b.slots.seat; looks = seat_looks b.slots.seat } in
+    let d : Desk = record { code = arc_value b.program; limit = b.limit; core = b.core; taken = b.taken; pending = b.pending.items; traces = b.traces; traced = b.traced; lines = b.lines.items; words = words_of b.slots.seat; looks = seat_looks b.slots.seat } in
     let h = c.self.invariant in
     let n = c.args.number in
     let places = b.slots.places.items in
@@ -40,7 +40,7 @@ at-requires g c =
 pub invariant_of-self : goal.invariant_of-self
 invariant_of-self g c =
     let b = c.self.inside in
-    let d : Desk = record { code = arc_value b.program; limit = b.limit; core = b.core; taken = b.taken; pending = b.pending.items; traced = b.traced; lines = b.lines.items; words = words_of b.slots.seat; looks = seat_looks b.slots.seat } in
+    let d : Desk = record { code = arc_value b.program; limit = b.limit; core = b.core; taken = b.taken; pending = b.pending.items; traces = b.traces; traced = b.traced; lines = b.lines.items; words = words_of b.slots.seat; looks = seat_looks b.slots.seat } in
     let h = c.self.invariant in
     let n = c.args.number in
     let places = b.slots.places.items in
@@ -54,7 +54,7 @@ invariant_of-self g c =
 pub returns : goal.returns
 returns g c =
     let b = c.self.inside in
-    let d : Desk = record { code = arc_value b.program; limit = b.limit; core = b.core; taken = b.taken; pending = b.pending.items; traced = b.traced; lines = b.lines.items; words = words_of b.slots.seat; looks = seat_looks b.slots.seat } in
+    let d : Desk = record { code = arc_value b.program; limit = b.limit; core = b.core; taken = b.taken; pending = b.pending.items; traces = b.traces; traced = b.traced; lines = b.lines.items; words = words_of b.slots.seat; looks = seat_looks b.slots.seat } in
     let h = c.self.invariant in
     let n = c.args.number in
     let places = b.slots.places.items in

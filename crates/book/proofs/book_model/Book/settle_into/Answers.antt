@@ -9,9 +9,9 @@ use Rattle.book.proofs.book_model.Book.settle_into.Goals as goal
 pub returns-in-Some-clause-settles : goal.returns-in-Some-clause-settles
 returns-in-Some-clause-settles g c =
     let b = c.self.inside in
-    let d : Desk = record { code = arc_value b.program; limit = b.limit; core = b.core; taken = b.taken; pending = b.pending.items; traced = b.traced; lines = b.lines.items; words = words_of b.slots.seat; looks = seat_looks b.slots.seat } in
+    let d : Desk = record { code = arc_value b.program; limit = b.limit; core = b.core; taken = b.taken; pending = b.pending.items; traces = b.traces; traced = b.traced; lines = b.lines.items; words = words_of b.slots.seat; looks = seat_looks b.slots.seat } in
     let e = c.in-Some.end in
-    (refl, subst (λ (x : Desk). IsEnd x.code x.limit x.core.events (x.taken + length x.pending) (x.traced + length x.lines) e) c.self.view_is (ended_desk d e c.self.invariant.desk (sym c.ending.ensures ∙ c.in-Some.is)))
+    (refl, subst (λ (x : Desk). IsEnd x.code x.limit x.traces x.core.events (x.taken + length x.pending) (x.traced + length x.lines) e) c.self.view_is (ended_desk d e c.self.invariant.desk (sym c.ending.ensures ∙ c.in-Some.is)))
 
 pub returns-in-Some-first_before-clause-leases : goal.returns-in-Some-first_before-clause-leases
 returns-in-Some-first_before-clause-leases g c = looks_leases c.args.self.now c.first_before.new.self c.in-Some-first_before.ensures.some.only

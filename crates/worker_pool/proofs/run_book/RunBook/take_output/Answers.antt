@@ -4,4 +4,4 @@ use Rattle.worker_pool.proofs.run_book.RunBook.take_output.Goals as goal
 pub returns-clause-piece : goal.returns-clause-piece
 returns-clause-piece g c =
     let taken = c.in_ok-piece.ensures in
-    hands_output g.B.RunName.code g.B.RunName.limit c.args.self.now.book c.in_ok-piece.piece c.args.self.now.ours taken.run taken.stands
+    hands_output g.B.RunName.code g.B.RunName.limit g.B.RunName.traces c.args.self.now.book c.in_ok-piece.piece c.args.self.now.ours taken.run taken.stands

@@ -1,0 +1,22 @@
+//! Writers of traces.
+
+ghost use Rattle.std.specs.Prelude.{◌≡◌, None, false, true};
+
+use std::io;
+use word::{Flagged, Write};
+
+/// What takes the lines of a run's trace.
+pub trait TraceWriter: Write {
+    /// Whether somebody reads what is written. Where nobody does, no line is made.
+    fn is_read(&self) -> bool
+        ensures { result ≡ false → Self.contents self.now ≡ None };
+}
+
+impl<W: io::Write + Drop> TraceWriter for Flagged<W> {
+    /// Always.
+    fn is_read(&self) -> bool
+        ensures { result ≡ true }
+    {
+        true
+    }
+}
