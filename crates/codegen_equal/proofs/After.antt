@@ -24,10 +24,10 @@ use Rattle.codegen_base.proofs.Noted.{Noted}
 use Rattle.codegen_base.proofs.Seen.{Rising, rising_up}
 use Rattle.codegen_base.proofs.Static.{AllKnown, Nested, IsPlaced}
 use Rattle.codegen_base.proofs.Typing.{Free, FieldsKnown, broken}
-use Rattle.codegen_statements.proofs.Stands.{View, scope_of, variables, Fine, SimpleMakes, RightMakes}
-use Rattle.codegen_statements.proofs.Grown.{grown}
-use Rattle.codegen_statements.proofs.Begun.{FineBehind}
-use Rattle.codegen_statements.proofs.Defined.{given_same}
+use Rattle.codegen_follows.proofs.Stands.{View, scope_of, variables, Fine, SimpleMakes, RightMakes}
+use Rattle.codegen_follows.proofs.Grown.{grown}
+use Rattle.codegen_follows.proofs.Begun.{FineBehind}
+use Rattle.codegen_follows.proofs.Defined.{given_same}
 use Rattle.codegen_fine.proofs.Layouts.{own_same}
 use Rattle.codegen_fine.proofs.Variables.{three_false, not_true, new_by, alike_values, all_each, variables_are}
 use Rattle.codegen_equal.proofs.Given.{Well, AllWell, AreMade, written_well, right_well}

@@ -29,9 +29,9 @@ use Rattle.codegen_base.proofs.Expressions.{Holding}
 use Rattle.codegen_base.proofs.Fields.{AllWide, AllTyped}
 use Rattle.codegen_base.proofs.Seen.{seen}
 use Rattle.codegen_base.proofs.Typing.{FieldsKnown}
-use Rattle.codegen_statements.proofs.Stands.{nowhere, View, variables, Fine, IsOn, LeadsOn, Fits, Sits, Live}
-use Rattle.codegen_statements.proofs.Begun.{FineBehind, parts, sits_all, SitsSoon}
-use Rattle.codegen_statements.proofs.Returned.{YieldKnown, Gives, AllWait}
+use Rattle.codegen_follows.proofs.Stands.{nowhere, View, variables, Fine, IsOn, LeadsOn, Fits, Sits, Live}
+use Rattle.codegen_follows.proofs.Begun.{FineBehind, parts, sits_all, SitsSoon}
+use Rattle.codegen_follows.proofs.Returned.{YieldKnown, Gives, AllWait}
 use Rattle.codegen_fine.proofs.Operands.{Grounds}
 use Rattle.codegen_fine.proofs.Operations.{Functions}
 use Rattle.codegen_fine.proofs.Places.{housed_of}

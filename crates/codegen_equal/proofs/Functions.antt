@@ -22,10 +22,10 @@ use Rattle.codegen_base.proofs.Assigned.{AreLike, all_words_of}
 use Rattle.codegen_base.proofs.Fields.{AllWide, AllTyped}
 use Rattle.codegen_base.proofs.Likeness.{kinds_long}
 use Rattle.codegen_base.proofs.Typing.{Free, FieldsKnown}
-use Rattle.codegen_statements.proofs.Begun.{FineBehind}
-use Rattle.codegen_statements.proofs.Returned.{AllWait}
-use Rattle.codegen_statements.proofs.Channels.{Grounds}
-use Rattle.codegen_statements.proofs.Calling.{IsFunction, AllThere, Starting}
+use Rattle.codegen_follows.proofs.Begun.{FineBehind}
+use Rattle.codegen_follows.proofs.Returned.{AllWait}
+use Rattle.codegen_follows.proofs.Channels.{Grounds}
+use Rattle.codegen_follows.proofs.Calling.{IsFunction, AllThere, Starting}
 use Rattle.codegen_fine.proofs.Operands.{Grounds as FineGrounds}
 use Rattle.codegen_fine.proofs.Operations.{Functions}
 use Rattle.codegen_base.specs.Grammar.{PostsTops}

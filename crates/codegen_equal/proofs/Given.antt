@@ -18,8 +18,8 @@ use Rattle.codegen_base.proofs.Known.{FieldsNoted, VariablesNoted, worth_noted}
 use Rattle.codegen_base.proofs.Noted.{Noted}
 use Rattle.codegen_base.proofs.Typing.{Free, FieldsKnown, broken, nodes_end, worth_there, not_false}
 use Rattle.codegen_base.proofs.Called.{same_count}
-use Rattle.codegen_statements.proofs.Channels.{channel_of}
-use Rattle.codegen_statements.proofs.Sets.{given_long}
+use Rattle.codegen_follows.proofs.Channels.{channel_of}
+use Rattle.codegen_follows.proofs.Sets.{given_long}
 use Rattle.codegen_fine.proofs.Layouts.{declarable_parts}
 use Rattle.codegen_fine.proofs.Makes.{type_outside}
 

@@ -10,7 +10,7 @@ use Rattle.codegen_base.specs.declared.element.Element.{Element}
 use Rattle.codegen_base.specs.Program.{noting, noting_right, noting_given, noting_simple, noting_first, noting_head, noting_statement, noting_statements, noting_branch, noting_otherwise, noting_clauses}
 use Rattle.codegen_base.proofs.Fields.{AllWide}
 use Rattle.codegen_base.proofs.Noted.{Noted, Grows, grows_on, noted_grows, type_noted}
-use Rattle.codegen_statements.proofs.Stands.{DeclaresNone, RightMakes, SimpleMakes, IfHeadMakes, Makes, AllMake, BranchMakes, OtherwiseMakes, ClausesMake}
+use Rattle.codegen_follows.proofs.Stands.{DeclaresNone, RightMakes, SimpleMakes, IfHeadMakes, Makes, AllMake, BranchMakes, OtherwiseMakes, ClausesMake}
 use Rattle.codegen_base.specs.Grammar.{StillAny, PostsStill, PostsAll, PostsBranch, PostsOtherwise, PostsClauses}
 use Rattle.codegen_fine.proofs.Noting.{given_grows, first_grows, statements_grow, otherwise_grows, clauses_grow}
 

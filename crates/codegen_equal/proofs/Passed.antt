@@ -24,7 +24,7 @@ use Rattle.codegen_base.proofs.Fields.{AllWide}
 use Rattle.codegen_base.proofs.Likeness.{like_length, like_long, fitted_like, kinds_zeros, kinds_long}
 use Rattle.codegen_base.proofs.Seen.{seen}
 use Rattle.codegen_base.proofs.Static.{IsPlaced}
-use Rattle.codegen_statements.proofs.Returned.{like_none}
+use Rattle.codegen_follows.proofs.Returned.{like_none}
 use Rattle.codegen_fine.proofs.Emitted.{all_kinds}
 
 -- ---- words

@@ -19,14 +19,14 @@ use Rattle.codegen_base.proofs.Expressions.{Holding}
 use Rattle.codegen_base.proofs.Fields.{AllWide, AllTyped}
 use Rattle.codegen_base.proofs.Seen.{seen}
 use Rattle.codegen_base.proofs.Typing.{FieldsKnown}
-use Rattle.codegen_statements.proofs.Paths.{AllKnown}
-use Rattle.codegen_statements.proofs.Stands.{Around, View, variables, Begins, Sits}
-use Rattle.codegen_statements.proofs.Begun.{FineBehind}
-use Rattle.codegen_statements.proofs.Valued.{Goes}
-use Rattle.codegen_statements.proofs.Returned.{Gives, AllWait}
-use Rattle.codegen_statements.proofs.Channels.{Grounds}
-use Rattle.codegen_statements.proofs.Calling.{AllThere, Starting}
-use Rattle.codegen_statements.proofs.Step.{step_goes}
+use Rattle.codegen_follows.proofs.Paths.{AllKnown}
+use Rattle.codegen_follows.proofs.Stands.{Around, View, variables, Begins, Sits}
+use Rattle.codegen_follows.proofs.Begun.{FineBehind}
+use Rattle.codegen_follows.proofs.Valued.{Goes}
+use Rattle.codegen_follows.proofs.Returned.{Gives, AllWait}
+use Rattle.codegen_follows.proofs.Channels.{Grounds}
+use Rattle.codegen_follows.proofs.Calling.{AllThere, Starting}
+use Rattle.codegen_follows.proofs.Step.{step_goes}
 
 module _ (file : File) (elements : List Element) (all : AllWide (globals file).structs) (typed : (n : ℕ) → AllTyped (globals file).structs (fields_of (globals file).structs n)) (known_fields : (s : Scope) → FieldsKnown (globals file) s) (code : Code) where
   -- the function that runs sits in its code, and those that wait for it do

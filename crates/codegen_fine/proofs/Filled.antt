@@ -25,7 +25,7 @@ use Rattle.codegen_base.specs.Program.{elements_of, code_of}
 use Rattle.codegen_base.specs.Grammar.{AllNamed, NamedTops}
 use Rattle.codegen_base.proofs.Fields.{AllWide}
 use Rattle.codegen_base.proofs.Typing.{Free, broken}
-use Rattle.codegen_fine_statement.proofs.Keeping.{tops_keeps}
+use Rattle.codegen_fine.proofs.Keeping.{tops_keeps}
 use Rattle.codegen_fine.proofs.Shapes.{last_or_old, mapped_from}
 
 -- ---- structs that are named have numbers that are there

@@ -17,16 +17,16 @@ use Rattle.codegen_base.proofs.Noted.{Grows}
 use Rattle.codegen_base.proofs.Typing.{Free}
 use Rattle.plan.specs.Plan.{Plan, Stop, reaches_end}
 use Rattle.plan.proofs.Typed.{outside}
-use Rattle.codegen_fine_statement.proofs.Pushing.{puts_zeros}
-use Rattle.codegen_fine_statement.proofs.Operands.{Grounds}
-use Rattle.codegen_fine_statement.proofs.Operations.{Functions}
-use Rattle.codegen_fine_statement.proofs.Layouts.{Room, longer_no}
-use Rattle.codegen_fine_statement.proofs.Makes.{noted_there}
+use Rattle.codegen_fine.proofs.Pushing.{puts_zeros}
+use Rattle.codegen_fine.proofs.Operands.{Grounds}
+use Rattle.codegen_fine.proofs.Operations.{Functions}
+use Rattle.codegen_fine.proofs.Layouts.{Room, longer_no}
+use Rattle.codegen_fine.proofs.Makes.{noted_there}
 use Rattle.codegen_base.proofs.Before.{before_ends, zeros_before}
-use Rattle.codegen_fine_statement.proofs.Bodies.{Runs, IsMade, Fits, fits_first, runs_seq}
-use Rattle.codegen_fine_statement.proofs.Returns.{IsResult}
-use Rattle.codegen_fine_statement.proofs.Statements.{typed_statements}
-use Rattle.codegen_fine_statement.proofs.Ranges.{typed_ranges}
+use Rattle.codegen_fine.proofs.Bodies.{Runs, IsMade, Fits, fits_first, runs_seq}
+use Rattle.codegen_fine.proofs.Returns.{IsResult}
+use Rattle.codegen_fine.proofs.Statements.{typed_statements}
+use Rattle.codegen_fine.proofs.Ranges.{typed_ranges}
 
 never_ends : (a b : Bool) → b ≡ false → (a && b) ≡ false
 never_ends true b e = e

@@ -19,10 +19,10 @@ use Rattle.codegen_base.specs.Program.{noting, noting_any, noting_declared, noti
 use Rattle.codegen_base.specs.Grammar.{PostsTops}
 use Rattle.codegen_base.proofs.Noted.{Noted, Grows, grows_no, grows_on}
 use Rattle.codegen_base.proofs.Typing.{Free, broken}
-use Rattle.codegen_fine_statement.proofs.Operands.{Grounds}
-use Rattle.codegen_fine_statement.proofs.Operations.{Functions}
-use Rattle.codegen_fine_statement.proofs.Makes.{written_noted}
-use Rattle.codegen_fine_statement.proofs.Noting.{declared_grow, any_grows, statements_grow, tops_grow}
+use Rattle.codegen_fine.proofs.Operands.{Grounds}
+use Rattle.codegen_fine.proofs.Operations.{Functions}
+use Rattle.codegen_fine.proofs.Makes.{written_noted}
+use Rattle.codegen_fine.proofs.Noting.{declared_grow, any_grows, statements_grow, tops_grow}
 use Rattle.codegen_fine.proofs.Wholes.{ParametersFine}
 use Rattle.codegen_fine.proofs.Programs.{AllFine, AllHold, file_functions}
 

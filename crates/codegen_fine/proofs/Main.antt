@@ -29,7 +29,7 @@ use Rattle.codegen_base.proofs.Typing.{Free, broken, not_false}
 use Rattle.plan.specs.Plan.{table_count}
 use Rattle.codegen_fine.proofs.Structs.{wide_of, grounds_of, file_verified}
 use Rattle.codegen_fine.proofs.Shapes.{shapes_there, shapes_short}
-use Rattle.codegen_fine_statement.proofs.Limits.{Small, short_tops}
+use Rattle.codegen_fine.proofs.Limits.{Small, short_tops}
 use Rattle.codegen_fine.proofs.Filled.{shapes_filled}
 
 abbrev pub first_place : {A : Type 0} → (A → Bool) → List A → Option ℕ

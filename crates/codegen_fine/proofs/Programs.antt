@@ -16,11 +16,11 @@ use Rattle.codegen_base.proofs.Typing.{Free}
 use Rattle.plan.specs.Plan.{tables, table_count}
 use Rattle.plan.proofs.Lists.{behind}
 use Rattle.plan.proofs.Tables.{all_made, tables_size}
-use Rattle.codegen_fine_statement.proofs.Operands.{Grounds}
-use Rattle.codegen_fine_statement.proofs.Operations.{Functions}
-use Rattle.codegen_fine_statement.proofs.Simples.{Prints}
-use Rattle.codegen_fine_statement.proofs.Noting.{tops_grow}
-use Rattle.codegen_fine_statement.proofs.Bodies.{prints_front, prints_back}
+use Rattle.codegen_fine.proofs.Operands.{Grounds}
+use Rattle.codegen_fine.proofs.Operations.{Functions}
+use Rattle.codegen_fine.proofs.Simples.{Prints}
+use Rattle.codegen_fine.proofs.Noting.{tops_grow}
+use Rattle.codegen_fine.proofs.Bodies.{prints_front, prints_back}
 use Rattle.codegen_fine.proofs.Wholes.{IsFine, typed_function}
 
 -- functions keep the rules, and select tables name shapes that are there

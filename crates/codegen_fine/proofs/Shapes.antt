@@ -26,8 +26,8 @@ use Rattle.codegen_base.specs.declared.element.Element.TheVariants as elements
 use Rattle.codegen_base.specs.Elements.{word_kind, found_at, element_of, shape_of, with_type, kinds_of, element_kinds, shapes_of}
 use Rattle.codegen_base.specs.Program.{elements_of, code_of}
 use Rattle.codegen_base.proofs.Noted.{Noted, type_noted, shape_there}
-use Rattle.codegen_fine_statement.proofs.Operands.{Grounds}
-use Rattle.codegen_fine_statement.proofs.Keeping.{tops_keeps}
+use Rattle.codegen_fine.proofs.Operands.{Grounds}
+use Rattle.codegen_fine.proofs.Keeping.{tops_keeps}
 
 -- the shape that an element of a channel type names is one of so many
 abbrev Within : ℕ → Element → Type 0

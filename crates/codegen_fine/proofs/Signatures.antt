@@ -28,12 +28,12 @@ use Rattle.codegen_base.proofs.Called.{KindsKnown}
 use Rattle.codegen_base.proofs.Noted.{Noted, Grows, grows_no, grows_on}
 use Rattle.codegen_base.proofs.Typing.{Free}
 use Rattle.plan.specs.Plan.{Stop, table_count}
-use Rattle.codegen_fine_statement.proofs.Operands.{Grounds}
-use Rattle.codegen_fine_statement.proofs.Emitted.{all_kinds, AllNoted}
-use Rattle.codegen_fine_statement.proofs.Operations.{Functions}
-use Rattle.codegen_fine_statement.proofs.Layouts.{longer_no}
-use Rattle.codegen_fine_statement.proofs.Growing.{longer_statements, longer_unless}
-use Rattle.codegen_fine_statement.proofs.Noting.{any_grows, statements_grow, tops_grow}
+use Rattle.codegen_fine.proofs.Operands.{Grounds}
+use Rattle.codegen_fine.proofs.Emitted.{all_kinds, AllNoted}
+use Rattle.codegen_fine.proofs.Operations.{Functions}
+use Rattle.codegen_fine.proofs.Layouts.{longer_no}
+use Rattle.codegen_fine.proofs.Growing.{longer_statements, longer_unless}
+use Rattle.codegen_fine.proofs.Noting.{any_grows, statements_grow, tops_grow}
 use Rattle.codegen_fine.proofs.Wholes.{ParametersFine}
 use Rattle.codegen_fine.proofs.Heads.{groups_fine, result_fine, file_holds}
 use Rattle.codegen_fine.proofs.Programs.{AllHold}

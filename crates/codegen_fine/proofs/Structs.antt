@@ -26,12 +26,12 @@ use Rattle.codegen_base.proofs.Known.{FieldsNoted}
 use Rattle.codegen_base.proofs.Noted.{Noted, Grows, grows_no, grows_on, shape_there}
 use Rattle.codegen_base.proofs.Tables.{fields_known}
 use Rattle.codegen_base.proofs.Typing.{Free}
-use Rattle.codegen_fine_statement.proofs.Operands.{Grounds}
-use Rattle.codegen_fine_statement.proofs.Layouts.{there_append}
-use Rattle.codegen_fine_statement.proofs.Noting.{tops_grow}
+use Rattle.codegen_fine.proofs.Operands.{Grounds}
+use Rattle.codegen_fine.proofs.Layouts.{there_append}
+use Rattle.codegen_fine.proofs.Noting.{tops_grow}
 use Rattle.codegen_fine.proofs.Wholes.{ParametersFine}
 use Rattle.codegen_fine.proofs.Heads.{groups_fine}
-use Rattle.codegen_fine_statement.proofs.Wide.{wide_all, none_endless}
+use Rattle.codegen_fine.proofs.Wide.{wide_all, none_endless}
 use Rattle.codegen_fine.proofs.Programs.{AllHold}
 use Rattle.codegen_fine.proofs.Signatures.{file_keeps}
 

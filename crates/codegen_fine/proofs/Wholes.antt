@@ -23,13 +23,13 @@ use Rattle.plan.specs.Plan.{Stop, tables}
 use Rattle.plan.proofs.Stacks.{holds_by}
 use Rattle.plan.proofs.Tables.{Makes, tabled}
 use Rattle.plan.proofs.Typed.{outside, typed_makes}
-use Rattle.codegen_fine_statement.proofs.Operands.{Grounds}
-use Rattle.codegen_fine_statement.proofs.Operations.{Functions}
-use Rattle.codegen_fine_statement.proofs.Layouts.{Longer, longer_no, longer_on, longer_declaring, Begins, begins_before, Room, room_declaring}
-use Rattle.codegen_fine_statement.proofs.Simples.{Prints}
-use Rattle.codegen_fine_statement.proofs.Growing.{longer_statements, longer_unless}
-use Rattle.codegen_fine_statement.proofs.Numbering.{numbered_body}
-use Rattle.codegen_fine_statement.proofs.Returns.{IsResult}
+use Rattle.codegen_fine.proofs.Operands.{Grounds}
+use Rattle.codegen_fine.proofs.Operations.{Functions}
+use Rattle.codegen_fine.proofs.Layouts.{Longer, longer_no, longer_on, longer_declaring, Begins, begins_before, Room, room_declaring}
+use Rattle.codegen_fine.proofs.Simples.{Prints}
+use Rattle.codegen_fine.proofs.Growing.{longer_statements, longer_unless}
+use Rattle.codegen_fine.proofs.Numbering.{numbered_body}
+use Rattle.codegen_fine.proofs.Returns.{IsResult}
 use Rattle.codegen_fine.proofs.Finished.{typed_body, result_there}
 
 module _ (globals : Globals) (elements : List Element) where
