@@ -1,8 +1,9 @@
 //! The queues in which leases lie until a worker takes them.
 
-ghost use Rattle.std.specs.Prelude.{◌≡◌, IfErr};
+ghost use Rattle.std.specs.Prelude.{◌≡◌, IfErr, IfNone, IfSome, OnOk};
 ghost use Rattle.std.specs.Arc.{arc_value};
-ghost use Rattle.run_queue.specs.Passes.{IsPutOf, IsTakeOf};
+ghost use Rattle.run_queue.specs.Passes.{IsPutOf, IsTakeOf, put_view, take_view};
+ghost use Rattle.run_queue.specs.Turns.{PutsOne, TakesOne};
 
 use crate::run_name::{RunLease, RunName};
 use go_text::Memory;
@@ -35,7 +36,8 @@ struct Stealer<B: RunName> {
 impl<B: RunName> Owner<B> {
     /// Puts a lease at the back; it comes back where the queue is full.
     fn put<R: Wait>(&mut self, rt: &R, lease: RunLease<B>) -> Result<(), RunLease<B>>
-        ensures { IfErr result (λ back. back ≡ lease) }
+        ensures ok { OnOk result (PutsOne (put_view self.old.pass) lease (put_view self.new.pass)) }
+        ensures back { IfErr result (λ back. (back ≡ lease) × (put_view self.new.pass ≡ put_view self.old.pass)) }
     {
         self.queue.put(rt, &mut self.pass, lease)
     }
@@ -50,7 +52,10 @@ impl<B: RunName> Stealer<B> {
     }
 
     /// The lease at the front.
-    fn take<R: Wait>(&mut self, rt: &R) -> Option<RunLease<B>> {
+    fn take<R: Wait>(&mut self, rt: &R) -> Option<RunLease<B>>
+        ensures some { IfSome result (λ lease. TakesOne (take_view self.old.pass) lease (take_view self.new.pass)) }
+        ensures none { IfNone result (take_view self.new.pass ≡ take_view self.old.pass) }
+    {
         self.queue.take(rt, &mut self.pass)
     }
 }
@@ -89,7 +94,8 @@ impl<B: RunName> WorkQueues<B> {
 
     /// Puts a lease into its own queue; it comes back where that is full.
     pub fn put<R: Wait>(&mut self, rt: &R, lease: RunLease<B>) -> Result<(), RunLease<B>>
-        ensures { IfErr result (λ back. back ≡ lease) }
+        ensures ok { OnOk result (PutsOne (put_view self.old.own.pass) lease (put_view self.new.own.pass)) }
+        ensures back { IfErr result (λ back. (back ≡ lease) × (put_view self.new.own.pass ≡ put_view self.old.own.pass)) }
     {
         self.own.put(rt, lease)?;
         self.filled = true;
