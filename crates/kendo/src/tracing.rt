@@ -37,7 +37,7 @@ impl Write for Trace {
 impl TraceWriter for Trace {
     /// A file is read, what is dropped is not.
     fn is_read(&self) -> bool
-        ensures unknown { result ≡ false → Self.contents self.now ≡ None }
+        ensures unknown { result ≡ false → ⟦<Trace as Write>⟧.contents self.now ≡ None }
         ensures file { result ≡ has_file self.now }
     {
         matches!(self, Trace::Kept(_))
