@@ -193,6 +193,7 @@ impl<B: RunName> Locked<B> {
     }
 
     /// Lends a goroutine, if there is one to be lent.
+    #[inline(always)]
     fn lend(&mut self) -> Result<Option<RunLease<B>>, Memory> {
         let lease = self.run.lend()?;
         if lease.is_some() {

@@ -47,6 +47,7 @@ impl<B: RunName> RunBook<B> {
     }
 
     /// Lends a goroutine, if there is one to be lent.
+    #[inline(always)]
     pub fn lend(&mut self) -> Result<Option<RunLease<B>>, Memory>
         ensures { KeepsTaken self.old.book self.new.book }
     {
@@ -61,6 +62,7 @@ impl<B: RunName> RunBook<B> {
     }
 
     /// Puts a lease back.
+    #[inline(always)]
     pub fn bring(&mut self, lease: RunLease<B>)
         ensures { KeepsTaken self.old.book self.new.book }
     {

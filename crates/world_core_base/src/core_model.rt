@@ -211,6 +211,7 @@ impl Core {
     }
 
     /// Lends the least of those that are neither lent nor parked: its number, and its state, which is moved out.
+    #[inline(always)]
     pub fn lend_least(&mut self) -> Option<(u64, GoState)>
         ensures none { IfNone result ((to_lend self.old ≡ None) × (self.new ≡ self.old)) }
         ensures key { IfSome result (λ l. to_lend self.old ≡ Some (record { clock = l.1.clock; number = l.0 })) }
