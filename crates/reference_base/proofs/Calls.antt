@@ -1,11 +1,17 @@
 -- Parameters of functions, and functions by their numbers.
-use Rattle.std.proofs.Common.{◌≡◌, ℕ, zero, suc, ◌-◌, ◌≤◌, List, [], ◌∷◌, ◌++◌, map, Option, Some, slice_get, refl, ap, arith}
-use Rattle.syntax.specs.Tree.{Function}
+use Rattle.std.proofs.Common.{◌≡◌, ℕ, zero, suc, ◌-◌, ◌+◌, ◌≤◌, ◌<◌, nat_lt, true, List, [], ◌∷◌, ◌++◌, map, length, Option, Some, slice_get, refl, ap, arith}
+use Rattle.std.proofs.lemmas.Bool.Decides.{nat_tests}
+use Rattle.word.specs.Kinds.{Ticks}
+use Rattle.word.specs.declared.limits.TheConstants.{MAX_DEPTH}
+use Rattle.syntax.specs.Tree.{File, Function}
 use Rattle.type_table.specs.Types.{ValueType}
 use Rattle.type_table.specs.Containment.{Field}
 use Rattle.type_table.specs.Scopes.{Globals}
 use Rattle.checker_declaration.specs.Kinds.{all_fields}
-use Rattle.meaning.specs.Source.{bound}
+use Rattle.checker_operation.specs.Operations.{result_of}
+use Rattle.meaning.specs.Destinations.{zero_result}
+use Rattle.meaning.specs.Source.{bound, called, calls, functions, globals as globals_in}
+use Rattle.meaning.specs.Tasks.{Task, Await, Purpose, Frame, Frames, frame}
 use Rattle.meaning.specs.Values.{Value, known}
 use Rattle.meaning.specs.Variables.{Blocks, declare, holding}
 use Rattle.reference_base.specs.Calls.{settled}
@@ -25,3 +31,11 @@ bound_settled globals (field ∷ rest) (argument ∷ arguments) blocks = bound_s
 pub later_function : (first : Function) (rest : List Function) (number : ℕ) → 1 ≤ number → slice_get (first ∷ rest) number ≡ slice_get rest (number - 1)
 later_function first rest zero some = absurd (omega (arith, some))
 later_function first rest (suc n) some = ap (slice_get rest) (let same : n ≡ suc n - 1 = omega arith in same)
+
+-- a call of a function that is there goes on in it, where it is not too deep
+pub call_goes : (file : File) (blocks : Blocks) (rest : List Task) (callers : Frames) (purpose : Purpose) (number : ℕ) (arguments : List Value) (function : Function) (top inner : Frame)
+    → slice_get (functions file) number ≡ Some function → length callers + 1 < MAX_DEPTH → inner ≡ called (globals_in file) function arguments
+    → top ≡ frame blocks (Await (zero_result (globals_in file) (result_of (globals_in file) number)) purpose ∷ rest)
+    → calls file blocks rest callers purpose number arguments ≡ Ticks (inner ∷ top ∷ callers)
+call_goes file blocks rest callers purpose number arguments function top inner there few is waits =
+    let near : nat_lt (length callers + 1) MAX_DEPTH ≡ true = grind (arith, nat_tests) in rw (there, near, is, waits) refl
