@@ -56,6 +56,7 @@ pub(crate) struct Clocks {
 }
 
 /// Row `number` has changed: its goroutine takes its place in the orders.
+#[inline(always)]
 pub(crate) fn note(orders: &mut Orders, rows: &[Option<Slot>], number: u64)
     ensures { orders.new ≡ noted orders.old number (clocks_of (slice_index_or rows.now number None)) }
 {

@@ -122,6 +122,7 @@ impl<B: BookName> Book<B> {
 
     /// Lends the goroutine of least key of those that are awake and neither lent nor parked; none where there is none, or
     /// the run has ended. Its clock is published before its lease exists.
+    #[inline(always)]
     pub fn lend(&mut self) -> Result<Option<Lease<B>>, Memory>
         ensures none { IfOk result (λ found. IfNone found ((to_lend self.old.core ≡ None) × (self.new ≡ self.old))) }
         ensures key { IfOk result (λ found. IfSome found (λ l. to_lend self.old.core ≡ Some (record { clock = l.base.clock; number = l.number }))) }
@@ -153,6 +154,7 @@ impl<B: BookName> Book<B> {
     }
 
     /// Puts the present state of a lease back; after an end that changes nothing but its slot, which is free again.
+    #[inline(always)]
     pub fn bring(&mut self, lease: Lease<B>)
         ensures out { IsLent self.old lease }
         ensures looks { WasLent (loan_for self.old.code self.old.limit lease.number lease.base) lease.published (word_at self.old.words lease.slot) }
