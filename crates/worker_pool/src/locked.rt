@@ -132,7 +132,12 @@ impl<B: RunName> Locked<B> {
         if yields && self.talkers > 0 {
             return self.idle_turn();
         }
-        match self.lease(rt, yields, queues) {
+        let found = if yields {
+            self.short_lease(rt, queues)
+        } else {
+            self.long_lease(rt, queues)
+        };
+        match found {
             Ok(Some(lease)) => Turn::Work(lease),
             Ok(None) => self.idle_turn(),
             Err(Memory) => {
@@ -142,19 +147,32 @@ impl<B: RunName> Locked<B> {
         }
     }
 
-    /// A lease of the book, else of a queue. A worker that yields comes back at once, so it gets one; another one gets all others
-    /// that can be lent put into its queue, where workers find them that have none.
-    fn lease<R: Wait>(
+    /// A lease for a worker whose goroutines talk: of the book, one at a time, since it comes back at once; else of a queue.
+    fn short_lease<R: Wait>(
         &mut self,
         rt: &R,
-        yields: bool,
         queues: &mut WorkQueues<B>,
     ) -> Result<Option<RunLease<B>>, Memory> {
         let lease = self.lend()?;
-        if lease.is_none() {
-            return Ok(queues.take(rt));
+        if lease.is_some() {
+            return Ok(lease);
         }
-        if !yields {
+        Ok(queues.take(rt))
+    }
+
+    /// A lease for a worker whose goroutines compute: of a queue; else of the book, with all others that can be lent put into
+    /// its queue, where workers find them that have none.
+    fn long_lease<R: Wait>(
+        &mut self,
+        rt: &R,
+        queues: &mut WorkQueues<B>,
+    ) -> Result<Option<RunLease<B>>, Memory> {
+        let found = queues.take(rt);
+        if found.is_some() {
+            return Ok(found);
+        }
+        let lease = self.lend()?;
+        if lease.is_some() {
             self.lend_more(rt, queues)?;
         }
         Ok(lease)

@@ -43,8 +43,7 @@ impl<B: RunName> Shared<B> {
         }
     }
 
-    /// Takes what a worker comes back with, and gives it its next lease, as soon as there is one; none once the run is over. One
-    /// whose goroutines compute finds it in a queue, without the lock, if there is one.
+    /// Takes what a worker comes back with, and gives it its next lease, as soon as there is one; none once the run is over.
     pub fn next_lease<R: Wait>(
         &self,
         rt: &R,
@@ -52,23 +51,21 @@ impl<B: RunName> Shared<B> {
         pace: &mut Pace,
         queues: &mut WorkQueues<B>,
     ) -> Option<RunLease<B>> {
-        let long = matches!(&back, Back::Running(_));
         let mut locked = self.locked.lock(rt);
+        let long = matches!(&back, Back::Running(_));
         pace.come(&mut locked, &back);
         locked.take_back(back);
-        if !pace.yields() && !locked.is_over() {
-            let lock = MutexGuard::unlock(locked);
-            let found = queues.take(rt);
-            if found.is_some() {
-                return found;
-            }
-            locked = lock.lock(rt);
-        }
         for _ in rt.forever() {
             match locked.turn(rt, pace.yields(), queues) {
                 Turn::Work(lease) => {
                     pace.go(&mut locked);
-                    self.call(&locked, long, queues.is_filled());
+                    let filled = queues.is_filled();
+                    if (long || filled) && locked.wants_call(filled) {
+                        self.watching.notify_one();
+                    }
+                    if locked.wants_watch() {
+                        self.waiting.notify_one();
+                    }
                     return Some(lease);
                 }
                 Turn::Watch => {
@@ -85,17 +82,6 @@ impl<B: RunName> Shared<B> {
             }
         }
         unreachable!()
-    }
-
-    /// Calls a worker that naps or waits, where there is a lease for it. Its caller came back with a long lease or not, and may
-    /// have filled its queue.
-    fn call(&self, locked: &Locked<B>, long: bool, filled: bool) {
-        if (long || filled) && locked.wants_call(filled) {
-            self.watching.notify_one();
-        }
-        if locked.wants_watch() {
-            self.waiting.notify_one();
-        }
     }
 
     /// What there is to write, after a nap that the end of the run cuts short.
