@@ -1,5 +1,6 @@
 -- What work makes of a lease.
-use Rattle.std.proofs.Common.{◌≡◌, ℕ, ◌≤◌, ◌∙◌, sym, subst, arith}
+use Rattle.std.proofs.Common.{◌≡◌, ℕ, ◌≤◌, Bool, true, Result, Ok, ◌∙◌, sym, subst, arith}
+use Rattle.std.specs.Prelude.{IfOk}
 use Rattle.atomic_table.specs.Seated.{TableId}
 use Rattle.bytecode.specs.Code.{Code}
 use Rattle.bytecode.specs.Machine.{code_kind}
@@ -16,6 +17,10 @@ use Rattle.world_core.specs.Slots.{State}
 use Rattle.world_core.proofs.Leases.{leads_goes}
 use Rattle.book.specs.Desks.{Held}
 use Rattle.book.specs.Leases.{IsHeldBy}
+
+-- an answer that a goroutine asks is right
+pub yes_asks : {E : Type 0} (answer : Result Bool E) (stands a : Bool) → IfOk answer (λ x. x ≡ a) → (stands ≡ true → answer ≡ Ok true) → stands ≡ true → a ≡ true
+yes_asks {E} answer stands a asks is e = sym (subst (λ (r : Result Bool E). IfOk r (λ x. x ≡ a)) (is e) asks)
 
 -- local steps never lower the clock
 goes_rises : (code : Code) (limit quantum : ℕ) (s t : State) → Goes code limit quantum s t → s.clock ≤ t.clock

@@ -1,6 +1,6 @@
 //! A goroutine that is lent, and runs ahead.
 
-ghost use Rattle.std.specs.Prelude.{◌≡◌, false, IfOk, OnErr};
+ghost use Rattle.std.specs.Prelude.{◌≡◌, Ok, false, IfOk, OnErr, true};
 ghost use Rattle.std.specs.Option.{is_some};
 ghost use Rattle.bytecode.specs.Machine.{code_kind};
 ghost use Rattle.goroutine_vm.specs.Advance.{Goes, IsStateOf, steps};
@@ -32,21 +32,28 @@ pub struct Lease<B: BookName> {
     number: u64,
     base: Snapshot<GoState>,
     present: GoState,
+    /// Whether it is known that the goroutine stands at a request.
+    stands: bool,
     seat: LeaseSeat,
     of: PhantomData<B>,
 }
 
 impl<B: BookName> Model for Lease<B> {
+    ghost use Rattle.std.specs.Prelude.{◌≡◌, true};
+    ghost use Rattle.std.specs.Option.{is_some};
+    ghost use Rattle.std.specs.Arc.{arc_value};
+    ghost use Rattle.bytecode.specs.Machine.{code_kind};
+    ghost use Rattle.word.specs.Kinds.{asks};
     ghost use Rattle.book.specs.Desks.{Held};
     ghost use Rattle.book.specs.Leases.{IsHeldBy};
-    ghost use Rattle.std.specs.Arc.{arc_value};
     ghost use Rattle.clock_table.specs.Seats.{lease_clock, lease_slot};
 
     ghost Value = { Held };
 
     ghost view = { λ l. record { code = arc_value l.program; limit = l.limit; number = l.number; base = l.base.value; present = l.present; slot = lease_slot l.seat; published = lease_clock l.seat } };
 
-    ghost invariant = { λ l. IsHeldBy B.table B.code B.limit (record { code = arc_value l.program; limit = l.limit; number = l.number; base = l.base.value; present = l.present; slot = lease_slot l.seat; published = lease_clock l.seat }) l.seat };
+    ghost invariant = { λ l. IsHeldBy B.table B.code B.limit (record { code = arc_value l.program; limit = l.limit; number = l.number; base = l.base.value; present = l.present; slot = lease_slot l.seat; published = lease_clock l.seat }) l.seat
+        × (l.stands ≡ true → is_some (asks (code_kind (arc_value l.program)) l.limit l.present) ≡ true) };
 }
 
 impl<B: BookName> Lease<B> {
@@ -61,6 +68,7 @@ impl<B: BookName> Lease<B> {
         let asking = self
             .present
             .step_ahead(self.alloc, &self.program, self.limit, quantum);
+        self.stands = is_yes(&asking);
         self.seat.advance(&self.present);
         Ok(asking?)
     }
@@ -76,7 +84,7 @@ impl<B: BookName> Lease<B> {
     pub fn is_asking(&self) -> bool
         ensures { result ≡ is_some (asks (code_kind self.now.code) self.now.limit self.now.present) }
     {
-        self.present.is_asking(&self.program, self.limit)
+        self.stands || self.present.is_asking(&self.program, self.limit)
     }
 
     /// The goroutine's clock and number.
@@ -127,8 +135,19 @@ impl<B: BookName> Lease<B> {
             number,
             base: Snapshot::of(&present),
             present,
+            stands: false,
             seat,
             of: PhantomData,
         }
+    }
+}
+
+/// Whether this is the answer that a goroutine stands at a request.
+fn is_yes(answer: &Result<bool, Memory>) -> bool
+    ensures { result ≡ true → answer.now ≡ Ok true }
+{
+    match answer {
+        Ok(asking) => *asking,
+        Err(_) => false,
     }
 }

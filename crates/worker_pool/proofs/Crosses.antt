@@ -211,7 +211,7 @@ lease_inside B g = recorded_send (lease.the_field B g).row _ _ (lease.the_type B
         search sendable,
         (
           search (sendable, crosses),
-          (search (sendable, crosses, state_send) depth 20, (seat_send, (search sendable, tt))),
+          (search (sendable, crosses, state_send) depth 20, (search sendable, (seat_send, (search sendable, tt)))),
         ),
       ),
     ),
