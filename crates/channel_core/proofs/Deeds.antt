@@ -1,6 +1,9 @@
 -- What sends and receives do, branch by branch.
-use Rattle.std.proofs.Common.{◌≡◌, ◌∙◌, ℕ, Bool, true, false, List, [], ◌∷◌, ◌++◌, Option, Some, None, Result, Ok, Err, IfOk, OnOk, refl, sym, ap, subst}
+use Rattle.std.proofs.Common.{◌≡◌, ◌∙◌, ℕ, Bool, true, false, List, [], ◌∷◌, ◌++◌, Option, Some, None, Result, Ok, Err, OnOk, refl, sym, ap, subst}
+use Rattle.std.specs.Global.{Vec}
 use Rattle.word.specs.declared.request.Case.{Case}
+use Rattle.word.specs.declared.request.EventOutcome.{EventOutcome as Fate}
+use Rattle.word.specs.declared.request.EventOutcome.TheVariants as fates
 use Rattle.word.specs.Values.{Item, Request, Send, Receive, Select}
 use Rattle.word.specs.Requests.{choose, receive_ready, send_ready, without}
 use Rattle.std.specs.Prelude.{drop, map, option_map, slice_index_or, slice_set, unwrap_or}
@@ -8,7 +11,7 @@ use Rattle.std.proofs.lemmas.List.{set-get_or}
 use Rattle.std.proofs.lemmas.Option.{none-some}
 use Rattle.word.specs.Requests.{Deed, GoesOn, channel_of, got, happened, no_channel, partner, receive_from, sent}
 use Rattle.word.specs.Values.{Channel, Done, Offer, Reply, Shared, Sleeper}
-use Rattle.channel_core.specs.Channels.{ChannelsValue, IsServed, Others, Partner, after_passing, deed_of, partner_of, shared_with, Does, Sends, Receives, Serves}
+use Rattle.channel_core.specs.Channels.{ChannelsValue, IsServed, Others, Partner, after_passing, came, deed_of, partner_of, shared_with, Does, DoesAlone, Sends, Receives, Serves}
 use Rattle.channel_core.specs.declared.outcome.Outcome.{Outcome}
 use Rattle.channel_core.specs.declared.outcome.Outcome.TheVariants as outcomes
 
@@ -84,12 +87,17 @@ pub receive_sleeps : (old : ChannelsValue) (n k : ℕ) → ((o : Others) (m c : 
 receive_sleeps old n k ready o c = rw (← ready o n c (Receive (Some k))) refl
 
 -- one that asked p, and fell asleep, as q stands for it
-pub falls_asleep : {E : Type 0} (old new : ChannelsValue) (n : ℕ) (q p : Request) (r : Result Outcome E) → IfOk r (λ outcome. outcome ≡ outcomes.Sleeps) → OnOk r (new ≡ with_sleeper old n q) → q ≡ p
-    → Does old n p outcomes.Sleeps (with_sleeper old n p) → IfOk r (λ outcome. Does old n p outcome new)
-falls_asleep old new n q p (Ok outcome) sleeps asleep same does =
+pub falls_asleep : {A E : Type 0} (old new : ChannelsValue) (n : ℕ) (q p : Request) (fate : Fate) (w : Vec (ℕ × Reply)) (r : Result A E) → OnOk r (fate ≡ fates.Sleeps) → OnOk r (new ≡ with_sleeper old n q) → q ≡ p
+    → Does old n p outcomes.Sleeps (with_sleeper old n p) → OnOk r (Does old n p (came fate w) new)
+falls_asleep old new n q p fate w (Ok x) sleeps asleep same does =
     let at_p : new ≡ with_sleeper old n p = asleep ∙ ap (with_sleeper old n) same in
-    subst (λ (o : Outcome). Does old n p o new) (sym sleeps) (subst (λ (v : ChannelsValue). Does old n p outcomes.Sleeps v) (sym at_p) does)
-falls_asleep old new n q p (Err e) sleeps asleep same does = tt
+    subst (λ (f : Fate). Does old n p (came f w) new) (sym sleeps) (subst (λ (v : ChannelsValue). Does old n p outcomes.Sleeps v) (sym at_p) does)
+falls_asleep old new n q p fate w (Err e) sleeps asleep same does = tt
+
+-- a request that wakes nobody
+pub nobody_woken : {A E : Type 0} (old new : ChannelsValue) (n : ℕ) (q p : Request) (fate : Fate) (w : Vec (ℕ × Reply)) (r : Result A E) → w.items ≡ [] → q ≡ p → OnOk r (DoesAlone old n p fate new) → OnOk r (Does old n q (came fate w) new)
+nobody_woken old new n q p fate w (Ok x) none same does = subst (λ (a : Request). Does old n a (came fate w) new) (sym same) (does w none)
+nobody_woken old new n q p fate w (Err e) none same does = tt
 
 pub send_nil : (old : ChannelsValue) (n : ℕ) (item : Item) → Does old n (Send None item) outcomes.Sleeps (with_sleeper old n (Send None item))
 send_nil old n item o c = refl

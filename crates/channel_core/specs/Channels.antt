@@ -1,12 +1,15 @@
 -- The channels and sleepers of a world, and what a request to them does.
 use Rattle.std.specs.Prelude.{◌≡◌, ℕ, ℤ, List, [], ◌∷◌, ◌++◌, drop, length, map, option_copied, slice_index_or, Option, Some, None}
 use Rattle.word.specs.declared.request.Case.{Case}
+use Rattle.std.specs.Global.{Vec}
+use Rattle.word.specs.declared.request.EventOutcome.{EventOutcome as Fate}
+use Rattle.word.specs.declared.request.EventOutcome.TheVariants as fates
 use Rattle.word.specs.declared.end.End.{End as Ending}
 use Rattle.word.specs.declared.end.End.TheVariants.{Panicked}
 use Rattle.word.specs.declared.value.Word.TheVariants.{Int}
 use Rattle.word.specs.Values.{Item, Request, Make, Send, Receive, Close, Select, Len, Cap, Reply, Value, Done, Sleeps, Panics, Event, Channel, Sleeper, Offer, Shared}
 use Rattle.word.specs.Requests.{Deed, GoesOn, Dozes, Stays, happened, act, channel_of, close_reply, do_clause, do_send, do_receive, receive_from}
-use Rattle.word.specs.Views.{reply_of}
+use Rattle.word.specs.Views.{outcome_of, reply_of}
 use Rattle.channel_core.specs.declared.outcome.Outcome.{Outcome}
 use Rattle.channel_core.specs.declared.outcome.Outcome.TheVariants as outcomes
 use Rattle.channel_core.specs.declared.sleepers.PartnerView.{PartnerView}
@@ -48,6 +51,12 @@ met v = record { number = v.number; case = v.case; item = option_copied v.item }
 abbrev pub partner_of : Sleeper × Offer → Partner
 partner_of p = record { number = p.0.number; case = p.1.case; item = p.1.item }
 
+-- the outcome of which this stands in an event, and these were woken
+abbrev pub came : Fate → Vec (ℕ × Reply) → Outcome
+came (fates.Done reply) woken = outcomes.Done reply woken
+came fates.Sleeps woken = outcomes.Sleeps
+came (fates.Panics cause k) woken = outcomes.Panics cause k
+
 -- goroutine n, at clock c, asked q: what it did, by its outcome
 module _ (o : Others) (n c : ℕ) (q : Request) where
   abbrev pub deed_of : Outcome → ChannelsValue → Deed
@@ -68,6 +77,10 @@ module _ (o : Others) (n c : ℕ) (q : Request) where
 -- the request of goroutine n has this outcome, after which channels and sleepers are these
 abbrev pub Does : ChannelsValue → ℕ → Request → Outcome → ChannelsValue → Type 0
 Does old n q outcome new = (o : Others) (c : ℕ) → act (shared_with o old) n c q q ≡ deed_of o n c q outcome new
+
+-- the same, where nobody is woken
+abbrev pub DoesAlone : ChannelsValue → ℕ → Request → Fate → ChannelsValue → Type 0
+DoesAlone old n q fate new = (w : Vec (ℕ × Reply)) → w.items ≡ [] → Does old n q (came fate w) new
 
 -- so does a send of this clause on channel k that is ready
 abbrev pub Sends : ChannelsValue → ℕ → ℕ → Item → ℕ → Outcome → ChannelsValue → Type 0
@@ -109,10 +122,9 @@ IsOfChannels (Len c) = Unit {0}
 IsOfChannels (Cap c) = Unit {0}
 IsOfChannels q = ⊥
 
--- it is told this number, and nobody is woken
-abbrev pub IsTold : Outcome → ℤ → Type 0
-IsTold (outcomes.Done reply woken) number = (reply_of reply ≡ Value (Int number)) × (woken.items ≡ [])
-IsTold outcome number = ⊥
+-- it is told this number
+abbrev pub IsTold : Fate → ℤ → Type 0
+IsTold fate number = outcome_of fate ≡ Done (Value (Int number))
 
 -- what is left of channel k's buffer when an item entered at its back and one left at its front
 abbrev pub after_passing : List Channel → ℕ → Item → List Item
@@ -125,6 +137,7 @@ IsServed old k clause p outcome new =
     → receive_from (shared_with o old) n c q k (channel_of old.channels k) clause (channel_of old.channels k).items (Some x) ≡ deed_of o n c q outcome new
 
 -- a receive of this clause on channel k met nobody
-abbrev pub IsAlone : ChannelsValue → ℕ → ℕ → Outcome → ChannelsValue → Type 0
-IsAlone old k clause outcome new =
-    (o : Others) (n c : ℕ) (q : Request) → receive_from (shared_with o old) n c q k (channel_of old.channels k) clause (channel_of old.channels k).items None ≡ deed_of o n c q outcome new
+abbrev pub IsAlone : ChannelsValue → ℕ → ℕ → Fate → ChannelsValue → Type 0
+IsAlone old k clause fate new =
+    (w : Vec (ℕ × Reply)) → w.items ≡ [] → (o : Others) (n c : ℕ) (q : Request)
+    → receive_from (shared_with o old) n c q k (channel_of old.channels k) clause (channel_of old.channels k).items None ≡ deed_of o n c q (came fate w) new

@@ -1,10 +1,11 @@
 //! The channels of a world, and those who sleep at them.
 
-ghost use Rattle.std.specs.Prelude.{◌≡◌, ℕ, ◌+◌, ◌<◌, ◌≤◌, ◌∷◌, [], ◌++◌, IfOk, IfNone, IfSome, OnErr, OnOk, Some, None, nat_lt, option_copied, option_map, pos, suc, true, length, slice_index_or, slice_set, unwrap_or};
+ghost use Rattle.std.specs.Prelude.{◌≡◌, ℕ, ◌+◌, ◌<◌, ◌≤◌, ◌∷◌, [], ◌++◌, IfOk, IfNone, IfSome, OnErr, OnOk, Some, None, nat_lt, option_copied, option_map, pos, suc, false, true, length, slice_index_or, slice_set, unwrap_or};
 ghost use Rattle.word.specs.Requests.{channel_of, choose, is_ready, no_channel, receive_ready, send_ready, without};
 ghost use Rattle.word.specs.Values.{Close, Make, Receive, Request as AnyRequest, Select, Send};
 ghost use Rattle.word.specs.Views.{reply_of, request_of};
-ghost use Rattle.channel_core.specs.Channels.{Does, IsAlone, IsOfChannels, IsTold, Others, Receives, Sends, Serves, after_passing, capacity_of, clause_at, length_of, shared_with};
+ghost use Rattle.word.specs.declared.request.EventOutcome.TheVariants as outcomes;
+ghost use Rattle.channel_core.specs.Channels.{Does, DoesAlone, IsAlone, IsOfChannels, IsTold, Others, Receives, Sends, Serves, after_passing, came, capacity_of, clause_at, length_of, shared_with};
 
 use crate::channel::Channel;
 use crate::outcome::{Outcome, Woken, got, sent};
@@ -15,7 +16,7 @@ use std::alloc::Global;
 use std::marker::Model;
 use word::limits::{MAX_CAPACITY, MAX_CHANNELS};
 use word::panic::Panic;
-use word::request::{Case, Reply, Request};
+use word::request::{Case, EventOutcome, Reply, Request};
 use word::value::{Item, Word};
 
 /// The channels of a world, and those who sleep at them, in the order in which they fell asleep.
@@ -70,25 +71,40 @@ impl Channels {
         ensures does { IfOk result (λ outcome. Does self.old number (request_of request.now) outcome self.new) }
         ensures memory { OnErr result (self.new ≡ self.old) }
     {
-        match request {
-            Request::Make(size, zero) => self.make_asked(number, *size, zero),
-            Request::Send(chan, item) => self.send_asked(number, request, *chan, item),
-            Request::Receive(chan) => self.receive_asked(number, request, *chan),
-            Request::Close(chan) => self.close(*chan),
-            Request::Select(cases, default) => {
-                self.select_asked(number, request, cases.as_slice(), *default)
-            }
-            Request::Len(chan) => Ok(self.counted(self.len(*chan))),
-            Request::Cap(chan) => Ok(self.counted(self.cap(*chan))),
-            _ => unreachable!(),
-        }
+        let mut outcome = EventOutcome::Sleeps;
+        let mut woken = Vec::new(self.alloc);
+        self.meet(number, request, &mut outcome, &mut woken)?;
+        Ok(Outcome::of(&outcome, woken))
     }
 
-    /// The outcome of a request that is told a number.
-    fn counted(&self, number: i64) -> Outcome
-        ensures { IsTold result number }
+    /// The same, but that it is written to these places what becomes of the request, and who is woken, in the order in which they
+    /// fell asleep. What stood there before is of no account.
+    pub fn meet(
+        &mut self,
+        number: u64,
+        request: &Request,
+        outcome: &mut EventOutcome,
+        woken: &mut Vec<Woken>,
+    ) -> Result<(), Memory>
+        requires { IsOfChannels (request_of request.now) }
+        ensures does { OnOk result (Does self.old number (request_of request.now) (came outcome.new woken.new) self.new) }
+        ensures memory { OnErr result (self.new ≡ self.old) }
     {
-        Outcome::Done(Reply::Word(Word::Int(number)), Vec::new(self.alloc))
+        woken.clear();
+        match request {
+            Request::Make(size, zero) => self.make_asked(number, *size, zero, outcome),
+            Request::Send(chan, item) => {
+                self.send_asked(number, request, *chan, item, outcome, woken)
+            }
+            Request::Receive(chan) => self.receive_asked(number, request, *chan, outcome, woken),
+            Request::Close(chan) => self.close_asked(*chan, outcome, woken),
+            Request::Select(cases, default) => {
+                self.select_asked(number, request, cases.as_slice(), *default, outcome, woken)
+            }
+            Request::Len(chan) => Ok(tell(outcome, self.len(*chan))),
+            Request::Cap(chan) => Ok(tell(outcome, self.cap(*chan))),
+            _ => unreachable!(),
+        }
     }
 
     /// A new channel (Go: Making slices, maps and channels). It panics where the size is negative or over 65,536, and
@@ -97,26 +113,34 @@ impl Channels {
         ensures does { IfOk result (λ outcome. Does self.old number (Make size zero) outcome self.new) }
         ensures memory { OnErr result (self.new ≡ self.old) }
     {
+        self.perform(number, &Request::Make(size, zero))
+    }
+
+    /// The same, where the zero item stays the caller's. It is a call, so that no other request makes room for an item.
+    #[inline(never)]
+    fn make_asked(
+        &mut self,
+        number: u64,
+        size: i64,
+        zero: &Item,
+        outcome: &mut EventOutcome,
+    ) -> Result<(), Memory>
+        ensures does { OnOk result (DoesAlone self.old number (Make size zero.now) outcome.new self.new) }
+        ensures memory { OnErr result (self.new ≡ self.old) }
+    {
         if size < 0 || size > MAX_CAPACITY as i64 {
-            return Ok(Outcome::Panics(Panic::ChannelSize, 0));
+            *outcome = EventOutcome::Panics(Panic::ChannelSize, 0);
+            return Ok(());
         }
         let place = self.channels.len();
         if place == MAX_CHANNELS + 1 {
-            return Ok(Outcome::Panics(Panic::TooManyChannels, 0));
+            *outcome = EventOutcome::Panics(Panic::TooManyChannels, 0);
+            return Ok(());
         }
         self.channels
-            .push(Channel::new(self.alloc, size as u32, zero))?;
-        let reply = Reply::Word(Word::Chan(Some(place as u32)));
-        Ok(Outcome::Done(reply, Vec::new(self.alloc)))
-    }
-
-    /// The same, where the zero item stays the caller's. It is a call, so that no other request makes room for a second item.
-    #[inline(never)]
-    fn make_asked(&mut self, number: u64, size: i64, zero: &Item) -> Result<Outcome, Memory>
-        ensures does { IfOk result (λ outcome. Does self.old number (Make size zero.now) outcome self.new) }
-        ensures memory { OnErr result (self.new ≡ self.old) }
-    {
-        self.make(number, size, zero.copy())
+            .push(Channel::new(self.alloc, size as u32, zero.copy()))?;
+        *outcome = EventOutcome::Done(Reply::Word(Word::Chan(Some(place as u32))));
+        Ok(())
     }
 
     /// A send by goroutine `number` (Go: Send statements): to the first sleeper that receives, else into the buffer, else
@@ -136,18 +160,21 @@ impl Channels {
         request: &Request,
         chan: Option<u32>,
         item: &Item,
-    ) -> Result<Outcome, Memory>
-        requires { request_of request.now ≡ Send chan item.now }
-        ensures does { IfOk result (λ outcome. Does self.old number (Send chan item.now) outcome self.new) }
+        outcome: &mut EventOutcome,
+        woken: &mut Vec<Woken>,
+    ) -> Result<(), Memory>
+        requires request { request_of request.now ≡ Send chan item.now }
+        requires nobody { woken.old.items ≡ [] }
+        ensures does { OnOk result (Does self.old number (Send chan item.now) (came outcome.new woken.new) self.new) }
         ensures memory { OnErr result (self.new ≡ self.old) }
     {
         let Some(chan) = chan else {
-            return self.sleep(number, request);
+            return self.sleep(number, request, outcome);
         };
         if !self.can_send(chan) {
-            return self.sleep(number, request);
+            return self.sleep(number, request, outcome);
         }
-        self.send_now(number, chan, item, 0)
+        self.send_now(number, chan, item, 0, outcome, woken)
     }
 
     /// A receive by goroutine `number` (Go: Receive operator): of the buffer's front item, whose place the first sleeping
@@ -167,18 +194,21 @@ impl Channels {
         number: u64,
         request: &Request,
         chan: Option<u32>,
-    ) -> Result<Outcome, Memory>
-        requires { request_of request.now ≡ Receive chan }
-        ensures does { IfOk result (λ outcome. Does self.old number (Receive chan) outcome self.new) }
+        outcome: &mut EventOutcome,
+        woken: &mut Vec<Woken>,
+    ) -> Result<(), Memory>
+        requires request { request_of request.now ≡ Receive chan }
+        requires nobody { woken.old.items ≡ [] }
+        ensures does { OnOk result (Does self.old number (Receive chan) (came outcome.new woken.new) self.new) }
         ensures memory { OnErr result (self.new ≡ self.old) }
     {
         let Some(chan) = chan else {
-            return self.sleep(number, request);
+            return self.sleep(number, request, outcome);
         };
         if !self.can_receive(chan) {
-            return self.sleep(number, request);
+            return self.sleep(number, request, outcome);
         }
-        self.receive_now(chan, 0)
+        self.receive_now(chan, 0, outcome, woken)
     }
 
     /// A close (Go: Close): it panics on `nil` and on a closed channel. Each sleeper with an offer on the channel is woken
@@ -187,16 +217,36 @@ impl Channels {
         ensures does { IfOk result (λ outcome. (n : ℕ) → Does self.old n (Close chan) outcome self.new) }
         ensures memory { OnErr result (self.new ≡ self.old) }
     {
+        let mut outcome = EventOutcome::Sleeps;
+        let mut woken = Vec::new(self.alloc);
+        self.close_asked(chan, &mut outcome, &mut woken)?;
+        Ok(Outcome::of(&outcome, woken))
+    }
+
+    /// The same, with what becomes of it in these places. It is a call, so that no other request makes room for an item.
+    #[inline(never)]
+    fn close_asked(
+        &mut self,
+        chan: Option<u32>,
+        outcome: &mut EventOutcome,
+        woken: &mut Vec<Woken>,
+    ) -> Result<(), Memory>
+        ensures does { OnOk result ((n : ℕ) → Does self.old n (Close chan) (came outcome.new woken.new) self.new) }
+        ensures memory { OnErr result (self.new ≡ self.old) }
+    {
         let Some(chan) = chan else {
-            return Ok(Outcome::Panics(Panic::CloseOfNil, 0));
+            *outcome = EventOutcome::Panics(Panic::CloseOfNil, 0);
+            return Ok(());
         };
         if self.is_closed(chan) {
-            return Ok(Outcome::Panics(Panic::CloseOfClosed, 0));
+            *outcome = EventOutcome::Panics(Panic::CloseOfClosed, 0);
+            return Ok(());
         }
         let zero = self.zero(chan);
-        let woken = self.asleep.close(chan, &zero)?;
+        *woken = self.asleep.close(chan, &zero)?;
         close_channel(self.channels.as_mut_slice(), chan);
-        Ok(Outcome::Done(Reply::Nothing, woken))
+        *outcome = EventOutcome::Done(Reply::Nothing);
+        Ok(())
     }
 
     /// How many items are in a channel's buffer; 0 for `nil` (Go: Length and capacity).
@@ -243,21 +293,25 @@ impl Channels {
         request: &Request,
         cases: &[Case],
         default: bool,
-    ) -> Result<Outcome, Memory>
-        requires { request_of request.now ≡ Select cases.now default }
-        ensures does { IfOk result (λ outcome. Does self.old number (Select cases.now default) outcome self.new) }
+        outcome: &mut EventOutcome,
+        woken: &mut Vec<Woken>,
+    ) -> Result<(), Memory>
+        requires request { request_of request.now ≡ Select cases.now default }
+        requires nobody { woken.old.items ≡ [] }
+        ensures does { OnOk result (Does self.old number (Select cases.now default) (came outcome.new woken.new) self.new) }
         ensures memory { OnErr result (self.new ≡ self.old) }
     {
         let Some(place) = self.first_ready(cases) else {
             if default {
-                return Ok(Outcome::Done(Reply::Default, Vec::new(self.alloc)));
+                *outcome = EventOutcome::Done(Reply::Default);
+                return Ok(());
             }
-            return self.sleep(number, request);
+            return self.sleep(number, request, outcome);
         };
-        let Some(outcome) = self.serve(number, &cases[place], place + 1)? else {
-            return self.sleep(number, request);
-        };
-        Ok(outcome)
+        if self.serve(number, &cases[place], place + 1, outcome, woken)? {
+            return Ok(());
+        }
+        self.sleep(number, request, outcome)
     }
 
     /// The first clause that is ready, counted from 0.
@@ -286,20 +340,28 @@ impl Channels {
         }
     }
 
-    /// A clause that is ready, of this number; none where it is on `nil`.
-    fn serve(&mut self, number: u64, case: &Case, clause: usize) -> Result<Option<Outcome>, Memory>
-        ensures some { IfOk result (λ found. IfSome found (λ outcome. Serves self.old number case.now clause outcome self.new)) }
-        ensures none { IfOk result (λ found. IfNone found ((case.now.chan ≡ None) × (self.new ≡ self.old))) }
+    /// A clause that is ready, of this number; no where it is on `nil`.
+    fn serve(
+        &mut self,
+        number: u64,
+        case: &Case,
+        clause: usize,
+        outcome: &mut EventOutcome,
+        woken: &mut Vec<Woken>,
+    ) -> Result<bool, Memory>
+        requires { woken.old.items ≡ [] }
+        ensures yes { IfOk result (λ served. served ≡ true → Serves self.old number case.now clause (came outcome.new woken.new) self.new) }
+        ensures no { IfOk result (λ served. served ≡ false → (case.now.chan ≡ None) × (self.new ≡ self.old)) }
         ensures memory { OnErr result (self.new ≡ self.old) }
     {
         let Some(chan) = case.chan else {
-            return Ok(None);
+            return Ok(false);
         };
-        let outcome = match &case.item {
-            Some(item) => self.send_now(number, chan, item, clause)?,
-            None => self.receive_now(chan, clause)?,
-        };
-        Ok(Some(outcome))
+        match &case.item {
+            Some(item) => self.send_now(number, chan, item, clause, outcome, woken)?,
+            None => self.receive_now(chan, clause, outcome, woken)?,
+        }
+        Ok(true)
     }
 
     /// How many goroutines are asleep.
@@ -330,65 +392,86 @@ impl Channels {
         chan: u32,
         item: &Item,
         clause: usize,
-    ) -> Result<Outcome, Memory>
-        ensures sends { IfOk result (λ outcome. Sends self.old number chan item.now clause outcome self.new) }
+        outcome: &mut EventOutcome,
+        woken: &mut Vec<Woken>,
+    ) -> Result<(), Memory>
+        requires { woken.old.items ≡ [] }
+        ensures sends { OnOk result (Sends self.old number chan item.now clause (came outcome.new woken.new) self.new) }
         ensures memory { OnErr result (self.new ≡ self.old) }
     {
         if self.is_closed(chan) {
-            return Ok(Outcome::Panics(Panic::SendOnClosed, clause));
+            *outcome = EventOutcome::Panics(Panic::SendOnClosed, clause);
+            return Ok(());
         }
         match self.asleep.partner(chan, false) {
             Some(partner) => {
                 let number = partner.number;
                 let reply = got(partner.case, item.copy(), true);
-                let woken = woken(self.alloc, number, reply)?;
+                wake(woken, number, reply)?;
                 self.asleep.leave(number);
-                Ok(Outcome::Done(sent(clause), woken))
+                *outcome = EventOutcome::Done(sent(clause));
+                Ok(())
             }
             None => {
                 push(self.channels.as_mut_slice(), chan, item.copy())?;
-                Ok(Outcome::Done(sent(clause), Vec::new(self.alloc)))
+                *outcome = EventOutcome::Done(sent(clause));
+                Ok(())
             }
         }
     }
 
     /// A receive that is ready.
-    fn receive_now(&mut self, chan: u32, clause: usize) -> Result<Outcome, Memory>
-        ensures receives { IfOk result (λ outcome. (n : ℕ) → Receives self.old n chan clause outcome self.new) }
+    fn receive_now(
+        &mut self,
+        chan: u32,
+        clause: usize,
+        outcome: &mut EventOutcome,
+        woken: &mut Vec<Woken>,
+    ) -> Result<(), Memory>
+        requires { woken.old.items ≡ [] }
+        ensures receives { OnOk result ((n : ℕ) → Receives self.old n chan clause (came outcome.new woken.new) self.new) }
         ensures memory { OnErr result (self.new ≡ self.old) }
     {
         let Some(partner) = self.asleep.partner(chan, true) else {
-            return Ok(self.receive_alone(chan, clause));
+            self.receive_alone(chan, clause, outcome);
+            return Ok(());
         };
         let number = partner.number;
-        let woken = woken(self.alloc, number, sent(partner.case))?;
+        wake(woken, number, sent(partner.case))?;
         let received = pass_through(self.alloc, &mut self.channels, chan, partner.item)?;
         self.asleep.leave(number);
-        Ok(Outcome::Done(got(clause, received, true), woken))
+        *outcome = EventOutcome::Done(got(clause, received, true));
+        Ok(())
     }
 
     /// A receive that meets nobody.
-    fn receive_alone(&mut self, chan: u32, clause: usize) -> Outcome
-        ensures { IsAlone self.old chan clause result self.new }
+    fn receive_alone(&mut self, chan: u32, clause: usize, outcome: &mut EventOutcome)
+        ensures { IsAlone self.old chan clause outcome.new self.new }
     {
         if !self.has_items(chan) {
-            let zero = self.zero(chan);
-            return Outcome::Done(got(clause, zero, false), Vec::new(self.alloc));
+            *outcome = EventOutcome::Done(got(clause, self.zero(chan), false));
+            return;
         }
         let Some(item) = pop(self.channels.as_mut_slice(), chan) else {
             unreachable!()
         };
-        Outcome::Done(got(clause, item, true), Vec::new(self.alloc))
+        *outcome = EventOutcome::Done(got(clause, item, true));
     }
 
     /// Goroutine `number` falls asleep at this request.
-    fn sleep(&mut self, number: u64, request: &Request) -> Result<Outcome, Memory>
-        ensures sleeps { IfOk result (λ outcome. outcome ≡ Outcome.Sleeps) }
+    fn sleep(
+        &mut self,
+        number: u64,
+        request: &Request,
+        outcome: &mut EventOutcome,
+    ) -> Result<(), Memory>
+        ensures sleeps { OnOk result (outcome.new ≡ outcomes.Sleeps) }
         ensures asleep { OnOk result (self.new ≡ record self.old { asleep = without self.old.asleep number ++ record { number = number; request = request_of request.now } ∷ [] }) }
         ensures memory { OnErr result (self.new ≡ self.old) }
     {
         self.asleep.enter(number, request)?;
-        Ok(Outcome::Sleeps)
+        *outcome = EventOutcome::Sleeps;
+        Ok(())
     }
 
     /// Whether a channel is closed.
@@ -512,12 +595,20 @@ fn pass_item(channels: &mut [Channel], chan: u32, item: &Item) -> Result<Item, M
     Ok(item.copy())
 }
 
-/// One that was asleep, and what it is told.
-#[inline(always)]
-fn woken(alloc: Global, number: u64, reply: Reply) -> Result<Vec<Woken>, Memory>
-    ensures { IfOk result (λ woken. woken.items ≡ (number, reply_of reply) ∷ []) }
+/// A request is told a number.
+fn tell(outcome: &mut EventOutcome, number: i64)
+    ensures { IsTold outcome.new number }
 {
-    let mut woken = Vec::with_capacity(alloc, 1)?;
+    *outcome = EventOutcome::Done(Reply::Word(Word::Int(number)));
+}
+
+/// One that was asleep is woken with what it is told, alone.
+#[inline(always)]
+fn wake(woken: &mut Vec<Woken>, number: u64, reply: Reply) -> Result<(), Memory>
+    requires { woken.old.items ≡ [] }
+    ensures { OnOk result (woken.new.items ≡ (number, reply_of reply) ∷ []) }
+{
+    woken.reserve(1)?;
     woken.push_reserved(Woken::new(number, reply));
-    Ok(woken)
+    Ok(())
 }

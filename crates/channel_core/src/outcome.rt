@@ -3,10 +3,11 @@
 ghost use Rattle.std.specs.Prelude.{◌≡◌};
 ghost use Rattle.word.specs.Requests.{got, sent};
 ghost use Rattle.word.specs.Views.{reply_of};
+ghost use Rattle.channel_core.specs.Channels.{came};
 
 use std::marker::Model;
 use word::panic::Panic;
-use word::request::Reply;
+use word::request::{EventOutcome, Reply};
 use word::value::Item;
 
 /// One that was asleep, and what it is told.
@@ -70,6 +71,34 @@ pub enum Outcome {
     Sleeps,
     /// It panics, in the clause of this number; 0 outside a select.
     Panics(Panic, usize),
+}
+
+impl Outcome {
+    /// The outcome that stands at this place, where these were woken.
+    pub(crate) fn of(fate: &EventOutcome, woken: Vec<Woken>) -> Outcome
+        ensures { result ≡ came fate.now woken }
+    {
+        match fate {
+            EventOutcome::Done(reply) => Outcome::Done(again(reply), woken),
+            EventOutcome::Sleeps => Outcome::Sleeps,
+            EventOutcome::Panics(cause, clause) => Outcome::Panics(*cause, *clause),
+        }
+    }
+}
+
+/// A reply once more.
+fn again(reply: &Reply) -> Reply
+    ensures { result ≡ reply.now }
+{
+    match reply {
+        Reply::Nothing => Reply::Nothing,
+        Reply::Word(word) => Reply::Word(*word),
+        Reply::Received(item, ok) => Reply::Received(item.copy(), *ok),
+        Reply::Clause(clause, None) => Reply::Clause(*clause, None),
+        Reply::Clause(clause, Some((item, ok))) => Reply::Clause(*clause, Some((item.copy(), *ok))),
+        Reply::Default => Reply::Default,
+        Reply::Closed => Reply::Closed,
+    }
 }
 
 /// What a sender is told, in a clause of a select, or outside of one where that is 0.

@@ -13,9 +13,9 @@ returns-clause-receives c =
     let k = c.args.chan in
     let item : Item = unwrap_or (option_copied c.in-Some.partner.item) [] in
     let same : c.self.inside.channels.items ≡ c.args.self.now.channels = ap (λ (v : ChannelsValue). v.channels) c.self.view_is in
-    receive_met c.args.self.now (record { channels = c.pass_through.new.channels.items; asleep = c.leave.new.self }) k c.args.clause (met c.in-Some.partner) (outcomes.Done c.got.result c.in_ok-woken.woken) (c.in-Some.ensures ∙ ap (λ (v : ChannelsValue). option_map partner_of (partner k true v.asleep)) c.self.view_is)
-    (served c.args.self.now k c.args.clause c.in_ok-received.received (met c.in-Some.partner) (reply_of c.got.result) c.in_ok-woken.woken.items c.pass_through.new.channels.items c.leave.new.self c.got.ensures
-    (c.in_ok-woken.ensures ∙ ap (told c.in-Some.partner.number) c.sent.ensures)
+    receive_met c.args.self.now (record { channels = c.pass_through.new.channels.items; asleep = c.leave.new.self }) k c.args.clause (met c.in-Some.partner) (outcomes.Done c.got.result c.wake.new.woken) (c.in-Some.ensures ∙ ap (λ (v : ChannelsValue). option_map partner_of (partner k true v.asleep)) c.self.view_is)
+    (served c.args.self.now k c.args.clause c.in_ok-received.received (met c.in-Some.partner) (reply_of c.got.result) c.wake.new.woken.items c.pass_through.new.channels.items c.leave.new.self c.got.ensures
+    (c.in_ok-wake.ensures ∙ ap (told c.in-Some.partner.number) c.sent.ensures)
     (subst (λ (cs : List Channel). (channel_of cs k).items ++ item ∷ [] ≡ c.in_ok-received.received ∷ after_passing cs k item) same c.in_ok-received.ensures.ok)
     (c.in_ok-received.ensures.rest ∙ ap (λ (cs : List Channel). slice_set cs k (record (channel_of cs k) { items = after_passing cs k item })) same)
     (c.leave.ensures ∙ ap (λ (v : ChannelsValue). without v.asleep c.in-Some.partner.number) c.self.view_is))
