@@ -6,7 +6,6 @@ use Rattle.std.proofs.lemmas.List.{length_push, set_past}
 use Rattle.bytecode.specs.Code.{Code}
 use Rattle.bytecode.specs.Machine.{code_kind}
 use Rattle.bytecode.specs.Rules.{IsFrameOf}
-use Rattle.turn_rule.specs.declared.Row.{Row}
 use Rattle.word.specs.Kinds.{told}
 use Rattle.word.specs.Values.{Reply}
 use Rattle.world_core_base.specs.Cores.{left_beds, woken_rows}

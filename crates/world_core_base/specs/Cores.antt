@@ -1,5 +1,5 @@
 -- A world of goroutines without its lists of events and bytes.
-use Rattle.std.specs.Prelude.{◌≡◌, ◌≢◌, ℕ, ◌+◌, ◌<◌, ◌≤◌, ◌^◌, ◌==◌, Bool, false, true, cond, List, [], ◌∷◌, ◌++◌, length, map, max, Option, Some, None, slice_index_or, slice_set}
+use Rattle.std.specs.Prelude.{◌≡◌, ◌≢◌, ℕ, ◌+◌, ◌<◌, ◌≤◌, ◌^◌, ◌==◌, false, true, cond, List, [], ◌∷◌, ◌++◌, length, map, max, Option, Some, None, slice_index_or, slice_set}
 use Rattle.std.specs.Option.{is_some, option_map}
 use Rattle.bytecode.specs.Code.{Code}
 use Rattle.bytecode.specs.Machine.{Frames, code_begin, code_kind}

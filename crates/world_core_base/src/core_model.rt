@@ -4,7 +4,7 @@ ghost use Rattle.std.specs.Prelude.{◌≡◌, ◌≢◌, ℕ, ◌+◌, ◌-◌,
 ghost use Rattle.std.specs.Option.{is_some};
 ghost use Rattle.bytecode.specs.Machine.{code_begin, code_kind};
 ghost use Rattle.bytecode.specs.Rules.{IsFrameOf, IsVerified};
-ghost use Rattle.channel_core.specs.Channels.{Does, IsOfChannels};
+ghost use Rattle.channel_core.specs.Channels.{Does, IsOfChannels, came};
 ghost use Rattle.goroutine_vm.specs.Advance.{IsQuiet};
 ghost use Rattle.logical_clock.specs.Order.{keys, least};
 ghost use Rattle.turn_rule.specs.Schedule.{has_turn};
@@ -16,7 +16,7 @@ ghost use Rattle.awake_rows.specs.Slots.{FitsAll, FitsRow, IsAwake, IsBefore, Is
 
 use crate::waking::{doze, make_rooms, wake};
 use awake_rows::{Among, AwakeRows, Away, Slot, put_at, take_at};
-use channel_core::{Channels, Outcome as Came, Woken};
+use channel_core::{Channels, Woken};
 use go_text::Memory;
 use goroutine_vm::{GoState, Room, Sleeping, spawn_state};
 use logical_clock::{Clock, Key, LAST};
@@ -38,6 +38,8 @@ pub struct Core {
     beds: Vec<Option<Sleeping>>,
     /// Rooms of those who fell asleep, for those who get up.
     rooms: Vec<Room>,
+    /// Where an event lists whom it wakes.
+    woken: Vec<Woken>,
     /// Goroutine n, if its state is taken out, is at place n, and at no place of the rows.
     taken: Vec<Option<Away>>,
     channels: Channels,
@@ -54,6 +56,7 @@ impl Drop for Core {
             rows,
             beds,
             rooms,
+            woken,
             taken,
             channels,
             live: _,
@@ -63,6 +66,7 @@ impl Drop for Core {
         drop(rows);
         drop(beds);
         drop(rooms);
+        drop(woken);
         drop(taken);
         drop(channels);
     }
@@ -90,6 +94,7 @@ impl Core {
             rows,
             beds,
             rooms: Vec::new(alloc),
+            woken: Vec::new(alloc),
             taken,
             channels,
             live: 1,
@@ -464,18 +469,21 @@ impl Core {
     {
         let most = most_woken(&self.channels, &event.request);
         let mut rooms = self.take_rooms(alloc, most)?;
-        self.meet_in(code, limit, event, &mut rooms)?;
+        let mut woken = mem::replace(&mut self.woken, Vec::new(alloc));
+        self.meet_in(code, limit, event, &mut rooms, &mut woken)?;
         self.rooms = rooms;
+        self.woken = woken;
         Ok(())
     }
 
-    /// The same, with rooms for those who are woken.
+    /// The same, with rooms for those who are woken, and a place for their list.
     fn meet_in(
         &mut self,
         code: &Verified,
         limit: u64,
         event: &mut Event,
         rooms: &mut Vec<Room>,
+        woken: &mut Vec<Woken>,
     ) -> Result<(), Memory>
         requires asked { IsAsked code.now limit self.old event.old.number event.old.clock (request_of event.old.request) }
         requires channels { IsOfChannels (request_of event.old.request) }
@@ -491,22 +499,20 @@ impl Core {
     {
         let most = most_woken(&self.channels, &event.request);
         event.partners.reserve(most)?;
-        match self.ask(event.number, &event.request)? {
-            Came::Done(reply, woken) => {
+        self.ask(event.number, &event.request, &mut event.outcome, woken)?;
+        match &event.outcome {
+            EventOutcome::Done(reply) => {
                 let later = next_time(event.clock, limit);
-                self.go_on(code, event.number, &reply, later);
-                self.wake_all(code, later, woken, rooms, &mut event.partners);
-                event.outcome = EventOutcome::Done(reply);
+                self.go_on(code, event.number, reply, later);
+                self.wake_all(code, later, woken.as_slice(), rooms, &mut event.partners);
                 Ok(())
             }
-            Came::Sleeps => {
+            EventOutcome::Sleeps => {
                 self.fall_asleep(event.number, rooms);
-                event.outcome = EventOutcome::Sleeps;
                 Ok(())
             }
-            Came::Panics(cause, clause) => {
-                self.stop(event.number, End::Panicked(cause));
-                event.outcome = EventOutcome::Panics(cause, clause);
+            EventOutcome::Panics(cause, _) => {
+                self.stop(event.number, End::Panicked(*cause));
                 Ok(())
             }
         }
@@ -597,14 +603,20 @@ impl Core {
         Ok(())
     }
 
-    /// What comes of a request to channels; nobody is told yet.
-    fn ask(&mut self, number: u64, request: &Request) -> Result<Came, Memory>
+    /// What comes of a request to channels, and who is woken, is written to these places; nobody is told yet.
+    fn ask(
+        &mut self,
+        number: u64,
+        request: &Request,
+        outcome: &mut EventOutcome,
+        woken: &mut Vec<Woken>,
+    ) -> Result<(), Memory>
         requires { IsOfChannels (request_of request.now) }
-        ensures does { IfOk result (λ came. Does self.old.channels number (request_of request.now) came self.new.channels) }
+        ensures does { OnOk result (Does self.old.channels number (request_of request.now) (came outcome.new woken.new) self.new.channels) }
         ensures rest { self.new ≡ record self.old { channels = self.new.channels } }
         ensures memory { OnErr result (self.new ≡ self.old) }
     {
-        self.channels.perform(number, request)
+        self.channels.meet(number, request, outcome, woken)
     }
 
     /// Takes out the rooms for those who get up, so many at least.
@@ -638,15 +650,15 @@ impl Core {
         &mut self,
         code: &Verified,
         clock: Clock,
-        woken: Vec<Woken>,
+        woken: &[Woken],
         rooms: &mut Vec<Room>,
         partners: &mut Vec<u64>,
     )
         requires fits { (k : ℕ) → IfSome (slice_index_or self.old.beds k None) (λ s. IsFrameOf code.now s.state) }
-        requires room { vec_len partners.old + length woken.items ≤ vec_capacity partners.old }
-        requires rooms { length woken.items ≤ length rooms.old.items }
-        ensures core { self.new ≡ record self.old { rows = woken_rows code.now self.old.rows self.old.beds clock woken.items; beds = left_beds self.old.beds woken.items } }
-        ensures numbers { partners.new.items ≡ partners.old.items ++ map (λ (w : ℕ × AnyReply). w.0) woken.items }
+        requires room { vec_len partners.old + length woken.now ≤ vec_capacity partners.old }
+        requires rooms { length woken.now ≤ length rooms.old.items }
+        ensures core { self.new ≡ record self.old { rows = woken_rows code.now self.old.rows self.old.beds clock woken.now; beds = left_beds self.old.beds woken.now } }
+        ensures numbers { partners.new.items ≡ partners.old.items ++ map (λ (w : ℕ × AnyReply). w.0) woken.now }
     {
         wake(
             &mut self.rows,
@@ -654,7 +666,7 @@ impl Core {
             rooms,
             code,
             clock,
-            woken.as_slice(),
+            woken,
             partners,
         );
     }

@@ -1,6 +1,6 @@
 use Rattle.std.proofs.Common.{◌≡◌, ◌+◌, ◌∷◌, suc, drop, drop-cons, arith, vec_capacity, vec_len}
 use Rattle.word.specs.Views.{reply_of}
-use Rattle.world_core_base.proofs.Roused.{Waking, next_room, next_wakes}
+use Rattle.world_core_base.proofs.Roused.{next_room, next_wakes}
 use Rattle.world_core_base.proofs.waking.wake.Goals as goal
 
 pub loop-one-preserved : goal.loop-one-preserved

@@ -1,4 +1,4 @@
-use Rattle.std.proofs.Common.{◌≡◌, ◌≢◌, ◌++◌, ◌≤◌, [], ◌∷◌, length, refl, sym, ap, subst, ◌∙◌, arith}
+use Rattle.std.proofs.Common.{◌≡◌, ◌≢◌, ◌++◌, [], ◌∷◌, length, refl, sym, ap, subst, ◌∙◌, arith}
 use Rattle.bytecode.specs.Machine.{code_begin}
 use Rattle.word.specs.Kinds.{at}
 use Rattle.word.specs.declared.panic.Panic.TheVariants.{TooManyGoroutines}
