@@ -12,6 +12,7 @@ use Rattle.book.specs.contracts.book_model.Book.TheInside as book
 use Rattle.book.specs.contracts.lease.Lease as Lease
 use Rattle.book.specs.contracts.lease.Lease.TheInside as lease
 use Rattle.channel_core.proofs.channel.Channel.TheSendSync.{the_send as channel_send}
+use Rattle.channel_core.proofs.outcome.Woken.TheSendSync.{the_send as woken_send}
 use Rattle.channel_core.specs.contracts.channels.Channels as Channels
 use Rattle.channel_core.specs.contracts.channels.Channels.TheInside as channels
 use Rattle.channel_core.specs.contracts.order.Order as Order
@@ -147,10 +148,13 @@ core_inside =
         (
           search (sendable, crosses, room_send) depth 20,
           (
-            search (sendable, crosses, away_send) depth 20,
+            search (sendable, crosses, woken_send) depth 20,
             (
-              channels_send,
-              (search sendable, (search sendable, (search (sendable, end_send) depth 20, tt))),
+              search (sendable, crosses, away_send) depth 20,
+              (
+                channels_send,
+                (search sendable, (search sendable, (search (sendable, end_send) depth 20, tt))),
+              ),
             ),
           ),
         ),
