@@ -1,6 +1,7 @@
 //! What is said of the end of a run.
 
-ghost use Rattle.std.specs.Prelude.{◌≡◌, ◌≤◌, ◌^◌, [], IfErr, IfOk};
+ghost use Rattle.std.specs.Prelude.{◌≡◌, ◌≤◌, ◌^◌, ◌⊎◌, ◌↔◌, [], IfErr, IfOk, IsErrOf};
+ghost use Rattle.one_thread.specs.Worlds.{IsLimit};
 ghost use Rattle.kendo_base.specs.Reading.{HasNoReading, IsRefusal, IsWhy};
 
 use crate::outcome::text_of_panic;
@@ -21,9 +22,11 @@ pub fn explain_end(
     limit: u64,
     end: End,
 ) -> Result<Vec<u8>, Fault>
+    ensures limit { IsErrOf result Fault.BadLimit ↔ (IsLimit limit → ⊥) }
     ensures finished { end ≡ End.Finished → IfOk result (λ told. told.items ≡ []) }
     ensures refused { IfErr result (λ fault. IsRefusal fault → HasNoReading bytes.items) }
     ensures why { IfErr result (λ fault. IsRefusal fault → IsWhy bytes.items fault) }
+    ensures only { IfErr result (λ fault. IsRefusal fault ⊎ ((fault ≡ Fault.Memory) ⊎ (fault ≡ Fault.BadLimit))) }
 {
     if limit < 1 || limit > 1 << 62 {
         return Err(Fault::BadLimit);
@@ -46,6 +49,7 @@ fn explain(
     requires { limit ≤ 2 ^ 62 }
     ensures refused { IfErr result (λ fault. IsRefusal fault → HasNoReading bytes.items) }
     ensures why { IfErr result (λ fault. IsRefusal fault → IsWhy bytes.items fault) }
+    ensures only { IfErr result (λ fault. IsRefusal fault ⊎ (fault ≡ Fault.Memory)) }
 {
     let (source, typed) = read(alloc, bytes)?;
     let told = end_explanation(alloc, path, &source, &typed, limit, cause)?;
