@@ -406,7 +406,7 @@ impl Channels {
         match self.asleep.partner(chan, false) {
             Some(partner) => {
                 let number = partner.number;
-                let reply = got(partner.case, item.copy(), true);
+                let reply = got(partner.case, item, true);
                 wake(woken, number, reply)?;
                 self.asleep.leave(number);
                 *outcome = EventOutcome::Done(sent(clause));
@@ -440,7 +440,7 @@ impl Channels {
         wake(woken, number, sent(partner.case))?;
         let received = pass_through(self.alloc, &mut self.channels, chan, partner.item)?;
         self.asleep.leave(number);
-        *outcome = EventOutcome::Done(got(clause, received, true));
+        *outcome = EventOutcome::Done(got(clause, &received, true));
         Ok(())
     }
 
@@ -449,13 +449,14 @@ impl Channels {
         ensures { IsAlone self.old chan clause outcome.new self.new }
     {
         if !self.has_items(chan) {
-            *outcome = EventOutcome::Done(got(clause, self.zero(chan), false));
+            let zero = self.zero(chan);
+            *outcome = EventOutcome::Done(got(clause, &zero, false));
             return;
         }
         let Some(item) = pop(self.channels.as_mut_slice(), chan) else {
             unreachable!()
         };
-        *outcome = EventOutcome::Done(got(clause, item, true));
+        *outcome = EventOutcome::Done(got(clause, &item, true));
     }
 
     /// Goroutine `number` falls asleep at this request.

@@ -112,13 +112,14 @@ pub(crate) fn sent(clause: usize) -> Reply
     Reply::Clause(clause, None)
 }
 
-/// What a receiver is told, in a clause of a select, or outside of one where that is 0.
-#[inline(always)]
-pub(crate) fn got(clause: usize, item: Item, ok: bool) -> Reply
-    ensures { reply_of result ≡ got clause item ok }
+/// What a receiver of this item is told, in a clause of a select, or outside of one where that is 0. It is a call, and each of
+/// its arms makes a copy of its own: so an item is copied as a whole, and not word by word.
+#[inline(never)]
+pub(crate) fn got(clause: usize, item: &Item, ok: bool) -> Reply
+    ensures { reply_of result ≡ got clause item.now ok }
 {
     if clause == 0 {
-        return Reply::Received(item, ok);
+        return Reply::Received(item.copy(), ok);
     }
-    Reply::Clause(clause, Some((item, ok)))
+    Reply::Clause(clause, Some((item.copy(), ok)))
 }

@@ -243,5 +243,5 @@ fn reply_at_close(case: usize, sends: bool, zero: &Item) -> Reply
     if sends {
         return Reply::Closed;
     }
-    got(case, zero.copy(), false)
+    got(case, zero, false)
 }

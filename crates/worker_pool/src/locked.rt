@@ -161,7 +161,9 @@ impl<B: RunName> Locked<B> {
     }
 
     /// A lease for a worker whose goroutines compute: of a queue; else of the book, with all others that can be lent put into
-    /// its queue, where workers find them that have none.
+    /// its queue, where workers find them that have none. It is a call, so that a worker whose goroutines talk
+    /// passes by what it doesn't need.
+    #[inline(never)]
     fn long_lease<R: Wait>(
         &mut self,
         rt: &R,

@@ -103,6 +103,7 @@ impl<B: RunName> WorkQueues<B> {
     }
 
     /// A lease of its own queue, else of the others', if there is one.
+    #[inline(never)]
     pub fn take<R: Wait>(&mut self, rt: &R) -> Option<RunLease<B>> {
         for (place, stealer) in self.stealers.iter_mut().enumerate() {
             let found = stealer.take(rt);
