@@ -34,8 +34,7 @@ invariant_of-self g c =
     let new = c.step_ahead-asking.new.self in
     let goes : Goes h.code h.limit c.args.quantum h.present new = subst (λ (code : Code). Goes code l.limit c.args.quantum l.present new) c.deref.ensures c.step_ahead-asking.ensures.steps in
     let state : IsStateOf h.code h.limit new = subst (λ (code : Code). IsStateOf code l.limit new) c.deref.ensures c.step_ahead-asking.ensures.state in
-    let asked = subst (λ (code : Code). IfOk c.step_ahead-asking.result (λ x. x ≡ is_some (asks (code_kind code) l.limit new))) c.deref.ensures c.step_ahead-asking.ensures.asks in
-    (
+    let asked = subst (λ (code : Code). IfOk c.step_ahead-asking.result (λ x. x ≡ is_some (asks (code_kind code) l.limit new))) c.deref.ensures c.step_ahead-asking.ensures.asks in (
       worked g.B.BookName.table g.B.BookName.code g.B.BookName.limit h l.seat c.args.quantum new c.self.invariant.0 goes c.advance.new.self state c.advance.ensures.clock c.advance.ensures.same.0 c.advance.ensures.same.2,
       yes_asks c.step_ahead-asking.result c.is_yes-self-inside.result (is_some (asks (code_kind (arc_value l.program)) l.limit new)) asked c.is_yes-self-inside.ensures,
     )
@@ -47,8 +46,7 @@ invariant_of-self-2 g c =
     let new = c.step_ahead-asking.new.self in
     let goes : Goes h.code h.limit c.args.quantum h.present new = subst (λ (code : Code). Goes code l.limit c.args.quantum l.present new) c.deref.ensures c.step_ahead-asking.ensures.steps in
     let state : IsStateOf h.code h.limit new = subst (λ (code : Code). IsStateOf code l.limit new) c.deref.ensures c.step_ahead-asking.ensures.state in
-    let asked = subst (λ (code : Code). IfOk c.step_ahead-asking.result (λ x. x ≡ is_some (asks (code_kind code) l.limit new))) c.deref.ensures c.step_ahead-asking.ensures.asks in
-    (
+    let asked = subst (λ (code : Code). IfOk c.step_ahead-asking.result (λ x. x ≡ is_some (asks (code_kind code) l.limit new))) c.deref.ensures c.step_ahead-asking.ensures.asks in (
       worked g.B.BookName.table g.B.BookName.code g.B.BookName.limit h l.seat c.args.quantum new c.self.invariant.0 goes c.advance.new.self state c.advance.ensures.clock c.advance.ensures.same.0 c.advance.ensures.same.2,
       yes_asks c.step_ahead-asking.result c.is_yes-self-inside.result (is_some (asks (code_kind (arc_value l.program)) l.limit new)) asked c.is_yes-self-inside.ensures,
     )
