@@ -4,12 +4,11 @@ use Rattle.std.specs.Prelude.{slice_index_or, ◌==◌}
 use Rattle.std.proofs.lemmas.Bool.{cases_eq}
 use Rattle.std.proofs.lemmas.Bool.Decides.{nat_tests}
 use Rattle.logical_clock.specs.declared.key.Key.{Key}
-use Rattle.logical_clock.specs.Order.{is_before}
-use Rattle.logical_clock.proofs.Keys.{IsNext, key, not_before_trans, before_or_not}
+use Rattle.logical_clock.specs.Order.{is_before, keys, least}
+use Rattle.logical_clock.proofs.Keys.{IsNext, next_is, key, not_before_trans, before_or_not}
 use Rattle.turn_rule.specs.declared.Row.{Row}
 use Rattle.turn_rule.specs.Schedule.{floor_above, has_turn}
-use Rattle.awake_rows.specs.Slots.{AreKeys, IsAwake, IsBefore, IsLeastOf, IsNobodyAwake, Rows, State, floor_clock}
-use Rattle.awake_rows.proofs.Kept.{least_is_next}
+use Rattle.awake_rows.specs.Slots.{IsAwake, IsBefore, IsNobodyAwake, Rows, State, floor_clock}
 
 -- ---- who has the turn
 
@@ -53,39 +52,42 @@ floor_row (Some row) c e = (row, refl, cc)
 
 -- ---- by the least floor
 
-module _ (ks : List (Option Key)) (rows : Rows) (a : AreKeys floor_clock ks rows) where
-  pub nobody : IsLeastOf ks None → IsNobodyAwake rows
-  nobody h n = go (slice_index_or rows n None) (least_is_next floor_clock ks rows None a h n) where
+module _ (rows : Rows) where
+  floor_is : (o : Option Key) → o ≡ least (keys floor_clock 0 rows) → IsNext floor_clock None rows o
+  floor_is o e = rw (← e) at (next_is floor_clock None refl rows)
+
+  pub nobody : None ≡ least (keys floor_clock 0 rows) → IsNobodyAwake rows
+  nobody h n = go (slice_index_or rows n None) (floor_is None h n) where
     go : (o : Option (Row State)) → ((c : ℕ) → floor_clock o ≡ Some c → ⊥) → o ≡ None
     go None f = refl
     go (Some row) f = absurd (f row.floor refl)
 
-  pub first_is_awake : (f : Key) → IsLeastOf ks (Some f) → IsAwake rows f.number
+  pub first_is_awake : (f : Key) → (Some f) ≡ least (keys floor_clock 0 rows) → IsAwake rows f.number
   first_is_awake f h =
-      let nx : IsNext floor_clock None rows (Some f) = least_is_next floor_clock ks rows (Some f) a h in
+      let nx : IsNext floor_clock None rows (Some f) = floor_is (Some f) h in
       let there = floor_row (slice_index_or rows f.number None) f.clock nx.0 in
       (there.0, there.1)
 
   module _ (k : Key) where
-    pub turn_alone : IsLeastOf ks None → has_turn k 0 rows ≡ true
-    turn_alone h = turn_if k rows (λ n c e. absurd (least_is_next floor_clock ks rows None a h n c e))
+    pub turn_alone : None ≡ least (keys floor_clock 0 rows) → has_turn k 0 rows ≡ true
+    turn_alone h = turn_if k rows (λ n c e. absurd (floor_is None h n c e))
 
     -- the least floor is another's, and the key is below it
-    pub turn_below : (f : Key) → IsLeastOf ks (Some f) → is_before k f ≡ true → has_turn k 0 rows ≡ true
+    pub turn_below : (f : Key) → (Some f) ≡ least (keys floor_clock 0 rows) → is_before k f ≡ true → has_turn k 0 rows ≡ true
     turn_below f h b =
-        let nx : IsNext floor_clock None rows (Some f) = least_is_next floor_clock ks rows (Some f) a h in
+        let nx : IsNext floor_clock None rows (Some f) = floor_is (Some f) h in
         turn_if k rows (λ n c e. or_before k n c (λ ne. before_not k f (key c n) b (nx.1 n c e)))
 
     -- the least floor is that of the key's own goroutine, and is not below the key
-    pub turn_own : (f : Key) → IsLeastOf ks (Some f) → is_before f k ≡ false → has_turn k 0 rows ≡ true
+    pub turn_own : (f : Key) → (Some f) ≡ least (keys floor_clock 0 rows) → is_before f k ≡ false → has_turn k 0 rows ≡ true
     turn_own f h b =
-        let nx : IsNext floor_clock None rows (Some f) = least_is_next floor_clock ks rows (Some f) a h in
+        let nx : IsNext floor_clock None rows (Some f) = floor_is (Some f) h in
         turn_if k rows (λ n c e. or_before k n c (λ ne. before_or_not (key c n) k (not_before_trans k f (key c n) b (nx.1 n c e)) ne))
 
     -- the least floor is another's, and the key is not below it
-    pub turn_waits : (f : Key) → IsLeastOf ks (Some f) → f.number ≢ k.number → is_before k f ≡ false → (has_turn k 0 rows ≡ false) × IsBefore rows k f.number
+    pub turn_waits : (f : Key) → (Some f) ≡ least (keys floor_clock 0 rows) → f.number ≢ k.number → is_before k f ≡ false → (has_turn k 0 rows ≡ false) × IsBefore rows k f.number
     turn_waits f h ne b =
-        let nx : IsNext floor_clock None rows (Some f) = least_is_next floor_clock ks rows (Some f) a h in
+        let nx : IsNext floor_clock None rows (Some f) = floor_is (Some f) h in
         let there = floor_row (slice_index_or rows f.number None) f.clock nx.0 in
         let waits : is_before k (key there.0.floor f.number) ≡ false = ap (λ c. is_before k (key c f.number)) there.2 ∙ b in
         let other : (f.number == k.number) ≡ false = grind (arith, nat_tests) in

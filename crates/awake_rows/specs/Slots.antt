@@ -3,7 +3,7 @@ use Rattle.std.specs.Prelude.{◌≡◌, ◌≢◌, ◌≤◌, ◌++◌, ◌∷�
 use Rattle.std.specs.Option.{is_some, option_map}
 use Rattle.bytecode.specs.Code.{Code}
 use Rattle.bytecode.specs.Machine.{Frames, code_kind}
-use Rattle.goroutine_vm.specs.Advance.{IsStateOf}
+use Rattle.goroutine_vm.specs.Advance.{Goes, IsStateOf, steps}
 use Rattle.logical_clock.specs.declared.key.Key.{Key}
 use Rattle.logical_clock.specs.Order.{is_before}
 use Rattle.turn_rule.specs.declared.Lease.{Lease as Loan}
@@ -91,15 +91,16 @@ abbrev pub waiting_clock : Option (Row State) → Option ℕ
 waiting_clock None = None
 waiting_clock (Some row) = cond row.parked (Some row.state.clock) None
 
--- its clock, where those that are parked count, or those that may be lent
-abbrev pub clock_among : Among → Option (Row State) → Option ℕ
-clock_among among.Parked row = waiting_clock row
-clock_among among.Free row = free_clock row
-
 -- the floor of one that is awake
 abbrev pub floor_clock : Option (Row State) → Option ℕ
 floor_clock None = None
 floor_clock (Some row) = Some row.floor
+
+-- its clock, where those that are parked count, or those that may be lent, or its floor, where all do
+abbrev pub clock_among : Among → Option (Row State) → Option ℕ
+clock_among among.Parked row = waiting_clock row
+clock_among among.Free row = free_clock row
+clock_among among.Awake row = floor_clock row
 
 -- ---- the orders in which they stand
 
@@ -113,25 +114,40 @@ pub record AreKeys (clock : Option (Row State) → Option ℕ) (keys : List (Opt
   pub room : length rows ≤ length keys
   pub each : (n : ℕ) → slice_index_or keys n None ≡ key_of n (clock (slice_index_or rows n None))
 
+-- the same but for one goroutine, which is late: its row changed since
+pub record AreKeysBut (late : ℕ) (clock : Option (Row State) → Option ℕ) (keys : List (Option Key)) (rows : Rows) : Type 0 where
+  pub room : length rows ≤ length keys
+  pub others : (n : ℕ) → n ≢ late → slice_index_or keys n None ≡ key_of n (clock (slice_index_or rows n None))
+
 pub record AreOrders (orders : Orders) (rows : Rows) : Type 0 where
-  pub parked : AreKeys waiting_clock orders.parked rows
-  pub free : AreKeys free_clock orders.free rows
-  pub floors : AreKeys floor_clock orders.floors rows
+  pub parked : AreKeysBut orders.late waiting_clock orders.parked rows
+  pub free : AreKeysBut orders.late free_clock orders.free rows
+  pub floors : AreKeysBut orders.late floor_clock orders.floors rows
+
+-- the order of those whose clocks count
+abbrev pub order_of : Among → Orders → List (Option Key)
+order_of among.Parked orders = orders.parked
+order_of among.Free orders = orders.free
+order_of among.Awake orders = orders.floors
 
 abbrev pub clocks_of : Option (Row State) → Clocks
 clocks_of row = record { parked = waiting_clock row; free = free_clock row; floor = floor_clock row }
 
 -- goroutine n stands by these clocks
 abbrev pub noted : Orders → ℕ → Clocks → Orders
-noted orders n clocks = record {
+noted orders n clocks = record orders {
   parked = slice_set orders.parked n (key_of n clocks.parked);
   free = slice_set orders.free n (key_of n clocks.free);
   floors = slice_set orders.floors n (key_of n clocks.floor);
 }
 
+-- who was late stands by its clocks, and goroutine n is late
+abbrev pub now_late : Orders → Rows → ℕ → Orders
+now_late orders rows n = record (noted orders orders.late (clocks_of (slice_index_or rows orders.late None))) { late = n }
+
 -- with a place more
 abbrev pub with_place : Orders → Orders
-with_place orders = record {
+with_place orders = record orders {
   parked = orders.parked ++ None ∷ [];
   free = orders.free ++ None ∷ [];
   floors = orders.floors ++ None ∷ [];
@@ -183,6 +199,18 @@ FitsAll code limit rows = (k : ℕ) → FitsRow code limit (slice_index_or rows 
 
 abbrev pub FitsBeds : Code → ℕ → Beds → Type 0
 FitsBeds code limit beds = (k : ℕ) → IfSome (slice_index_or beds k None) (λ s. IsStateOf code limit s)
+
+-- one that was in this state has made local steps, at most so many, and is parked if it asks; what it answers is whether it does,
+-- and where it doesn't it has made all of them. It answers nothing where memory is wanting
+abbrev pub IsWorked : Code → ℕ → ℕ → State → Option Bool → Row State → Type 0
+IsWorked code limit quantum base answer row =
+    Goes code limit quantum base row.state × IsStateOf code limit row.state × (row ≡ back_row row.state (is_some (asks (code_kind code) limit row.state)))
+    × IfSome answer (λ asking. (asking ≡ row.parked) × (asking ≡ false → steps code limit quantum base ≡ row.state))
+
+-- goroutine n, which may be lent, has made local steps where it stands
+abbrev pub WorksIn : Code → ℕ → ℕ → Rows → ℕ → Option Bool → Rows → Type 0
+WorksIn code limit quantum old n answer new =
+    (base : State) × (row : Row State) × IsFreeIn old n base × IsWorked code limit quantum base answer row × (new ≡ slice_set old n (Some row))
 
 -- ---- one step of a schedule
 

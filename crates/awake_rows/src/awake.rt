@@ -6,10 +6,10 @@ ghost use Rattle.bytecode.specs.Rules.{IsFrameOf};
 ghost use Rattle.logical_clock.specs.Order.{keys, least};
 ghost use Rattle.turn_rule.specs.Schedule.{has_turn};
 ghost use Rattle.word.specs.Views.{reply_of};
-ghost use Rattle.awake_rows.specs.Slots.{FitsAll, FitsRow, IsAwake, IsBefore, IsFreeIn, IsNobodyAwake, IsUnlent, answered_rows, clock_among, free_clock, free_row, lent_row, raised_row, stepped_rows};
+ghost use Rattle.awake_rows.specs.Slots.{FitsAll, FitsRow, IsAwake, IsBefore, IsFreeIn, IsNobodyAwake, IsUnlent, WorksIn, answered_rows, clock_among, free_clock, free_row, lent_row, raised_row, stepped_rows};
 
-use crate::orders::{Orders, least_key, note};
-use crate::rows::{answer_row, lend_row, put_at, raise_row, stay_row, step_row, take_at};
+use crate::orders::{Orders, key_of, least_with, note};
+use crate::rows::{answer_row, lend_row, put_at, raise_row, stay_row, step_row, take_at, work_row};
 use crate::slot::Slot;
 use crate::turns::{Among, blocker};
 use go_text::Memory;
@@ -123,6 +123,35 @@ impl AwakeRows {
         state
     }
 
+    /// Goroutine `number`, which may be lent, makes at most `quantum` local steps where it stands, up to a request, and is parked if
+    /// it then asks. Answers whether it does.
+    ///
+    /// Errors: want of memory, when some of the steps may be made.
+    pub fn work(
+        &mut self,
+        alloc: Global,
+        code: &Verified,
+        limit: u64,
+        number: u64,
+        quantum: u32,
+    ) -> Result<bool, Memory>
+        requires fits { FitsAll code.now limit self.old }
+        requires free { is_some (free_clock (slice_index_or self.old number None)) ≡ true }
+        ensures ok { IfOk result (λ asking. WorksIn code.now limit quantum self.old number (Some asking) self.new) }
+        ensures memory { OnErr result (WorksIn code.now limit quantum self.old number None self.new) }
+    {
+        let worked = work_row(
+            alloc,
+            self.slots.as_mut_slice(),
+            code,
+            limit,
+            number,
+            quantum,
+        );
+        note(&mut self.orders, &self.slots, number);
+        worked
+    }
+
     /// One step of goroutine `number`, as a schedule names it.
     pub fn step(
         &mut self,
@@ -154,20 +183,20 @@ impl AwakeRows {
 
 impl AwakeRows {
     /// The goroutine of least key of those whose clocks count.
+    #[inline(always)]
     pub fn least_among(&self, among: Among) -> Option<Key>
         ensures { result ≡ least (keys (clock_among among) 0 self.now) }
     {
-        match among {
-            Among::Parked => least_key(&self.orders.parked),
-            Among::Free => least_key(&self.orders.free),
-        }
+        let late = self.orders.late;
+        let own = key_of(late, among.clock_at(&self.slots, late));
+        least_with(self.orders.of(among), late, own)
     }
 
     /// Who stands before the key: an awake goroutine whose floor the key is not below. None where the key has the turn.
     pub fn blocker(&self, key: Key) -> Option<u64>
         ensures { MatchOption result (has_turn key 0 self.now ≡ true) (λ n. (has_turn key 0 self.now ≡ false) × IsBefore self.now key n) }
     {
-        let Some(floor) = least_key(&self.orders.floors) else {
+        let Some(floor) = self.least_among(Among::Awake) else {
             return None;
         };
         if floor.number == key.number {
@@ -186,7 +215,7 @@ impl AwakeRows {
     pub fn first_awake(&self) -> Option<u64>
         ensures { MatchOption result (IsNobodyAwake self.now) (λ n. IsAwake self.now n) }
     {
-        match least_key(&self.orders.floors) {
+        match self.least_among(Among::Awake) {
             Some(floor) => Some(floor.number),
             None => None,
         }

@@ -1,18 +1,20 @@
 //! The orders in which awake goroutines stand: by the clocks at which they are parked, by those at which they may be lent,
 //! and by their floors.
 
-ghost use Rattle.std.specs.Prelude.{◌≡◌, [], None, OnErr, OnOk, slice_index_or};
-ghost use Rattle.awake_rows.specs.Slots.{AreOrders, IsLeastOf, Rows, clocks_of, floor_clock, key_of, noted, with_place};
+ghost use Rattle.std.specs.Prelude.{◌≡◌, ◌≢◌, ◌<◌, [], IfSome, None, OnErr, OnOk, length, slice_index_or, slice_set};
+ghost use Rattle.awake_rows.specs.Slots.{AreOrders, IsLeastOf, Rows, clocks_of, floor_clock, key_of, noted, now_late, order_of, with_place};
 
 use crate::slot::Slot;
+use crate::turns::Among;
 use key_index::KeyIndex;
-use logical_clock::{Clock, Key};
+use logical_clock::{Clock, Key, sooner};
 use std::alloc::{AllocError, Global};
 use std::marker::Brand;
 use std::sync::ledger::{Blank, Ledger};
 use steps::Steps;
 
-/// The keys of goroutines, that of goroutine n at slot n.
+/// The keys of goroutines, that of goroutine n at slot n. A change of a row is noted once another row changes: one that changes
+/// several times in a row takes its places once.
 #[derive(Drop)]
 pub(crate) struct Orders {
     /// Of those that stand at their requests.
@@ -21,6 +23,8 @@ pub(crate) struct Orders {
     pub free: KeyIndex,
     /// Of all that are awake, by their floors.
     pub floors: KeyIndex,
+    /// The goroutine whose row changed last: it may stand elsewhere.
+    pub late: u64,
 }
 
 impl Orders {
@@ -32,6 +36,19 @@ impl Orders {
             parked: KeyIndex::empty(alloc),
             free: KeyIndex::empty(alloc),
             floors: KeyIndex::empty(alloc),
+            late: 0,
+        }
+    }
+
+    /// The order of those whose clocks count.
+    #[inline(always)]
+    pub(crate) fn of(&self, among: Among) -> &KeyIndex
+        ensures { result.now ≡ order_of among self.now }
+    {
+        match among {
+            Among::Parked => &self.parked,
+            Among::Free => &self.free,
+            Among::Awake => &self.floors,
         }
     }
 
@@ -55,15 +72,20 @@ pub(crate) struct Clocks {
     pub floor: Option<Clock>,
 }
 
-/// Row `number` has changed: its goroutine takes its place in the orders.
+/// Row `number` has changed, and its goroutine is late; the one that was takes its places.
 #[inline(always)]
 pub(crate) fn note(orders: &mut Orders, rows: &[Option<Slot>], number: u64)
-    ensures { orders.new ≡ noted orders.old number (clocks_of (slice_index_or rows.now number None)) }
+    ensures same { number ≡ orders.old.late → orders.new ≡ orders.old }
+    ensures other { number ≢ orders.old.late → orders.new ≡ now_late orders.old rows.now number }
 {
-    note_counted::<Brand>(orders, number, clocks_at(rows, number), Blank::new(1));
+    let late = orders.late;
+    if number != late {
+        note_counted::<Brand>(orders, late, clocks_at(rows, late), Blank::new(1));
+        orders.late = number;
+    }
 }
 
-/// The same, with the steps that it takes counted, which costs nothing.
+/// Goroutine `number` takes its places by these clocks. The steps that this takes are counted, which costs nothing.
 fn note_counted<L: Ledger>(orders: &mut Orders, number: u64, clocks: Clocks, blank: Blank)
     requires name { blank.name ≡ L.name }
     requires parts { blank.parts ≡ L.parts }
@@ -84,7 +106,7 @@ fn note_counted<L: Ledger>(orders: &mut Orders, number: u64, clocks: Clocks, bla
 }
 
 /// The key of goroutine `number` at this clock.
-fn key_of(number: u64, clock: Option<Clock>) -> Option<Key>
+pub(crate) fn key_of(number: u64, clock: Option<Clock>) -> Option<Key>
     ensures { result ≡ key_of number clock }
 {
     match clock {
@@ -113,12 +135,15 @@ fn clocks_at(rows: &[Option<Slot>], number: u64) -> Clocks
     }
 }
 
-/// The least key, if there is one.
-pub(crate) fn least_key(index: &KeyIndex) -> Option<Key>
-    ensures { IsLeastOf index.now result }
+/// The least key of an order, in which the late goroutine stands by this key.
+#[inline(always)]
+pub(crate) fn least_with(index: &KeyIndex, late: u64, own: Option<Key>) -> Option<Key>
+    requires { IfSome own (λ _. late < length index.now) }
+    ensures { IsLeastOf (slice_set index.now late own) result }
 {
-    match index.least() {
-        Some((_, key)) => Some(key),
-        None => None,
+    let others = index.least_but(late as usize);
+    match own {
+        None => others,
+        Some(own) => Some(sooner(own, others)),
     }
 }

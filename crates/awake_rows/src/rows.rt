@@ -4,7 +4,7 @@ ghost use Rattle.std.specs.Prelude.{◌≡◌, IfNone, IfOk, IfSome, OnErr, OnOk
 ghost use Rattle.std.specs.Option.{is_some};
 ghost use Rattle.bytecode.specs.Rules.{IsFrameOf};
 ghost use Rattle.word.specs.Views.{reply_of};
-ghost use Rattle.awake_rows.specs.Slots.{FitsAll, FitsRow, IsFreeIn, IsUnlent, answered_rows, free_clock, free_row, lent_row, raised_row, stepped_rows};
+ghost use Rattle.awake_rows.specs.Slots.{FitsAll, FitsRow, IsFreeIn, IsUnlent, WorksIn, answered_rows, free_clock, free_row, lent_row, raised_row, stepped_rows};
 
 use crate::slot::Slot;
 use go_text::Memory;
@@ -78,6 +78,28 @@ pub(crate) fn lend_row(rows: &mut [Option<Slot>], number: u64) -> Option<GoState
         }
     }
     None
+}
+
+/// Goroutine `number`, which may be lent, makes local steps where it stands: whether it then asks.
+pub(crate) fn work_row(
+    alloc: Global,
+    rows: &mut [Option<Slot>],
+    code: &Verified,
+    limit: u64,
+    number: u64,
+    quantum: u32,
+) -> Result<bool, Memory>
+    requires fits { FitsAll code.now limit rows.old }
+    requires free { is_some (free_clock (slice_index_or rows.old number None)) ≡ true }
+    ensures ok { IfOk result (λ asking. WorksIn code.now limit quantum rows.old number (Some asking) rows.new) }
+    ensures memory { OnErr result (WorksIn code.now limit quantum rows.old number None rows.new) }
+{
+    if (number as usize) < rows.len() {
+        if let Some(slot) = &mut rows[number as usize] {
+            return slot.work(alloc, code, limit, quantum);
+        }
+    }
+    unreachable!()
 }
 
 /// One step of goroutine `number`, as a schedule names it.

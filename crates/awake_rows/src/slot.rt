@@ -10,7 +10,7 @@ ghost use Rattle.turn_rule.specs.Schedule.{give_back, lend, local, look, publish
 ghost use Rattle.word.specs.Kinds.{asks, told};
 ghost use Rattle.word.specs.Worlds.{rules};
 ghost use Rattle.word.specs.Views.{reply_of};
-ghost use Rattle.awake_rows.specs.Slots.{IsRowOf, back_row, free_clock, free_row, lent_row, raised_row, stepped_row};
+ghost use Rattle.awake_rows.specs.Slots.{IsRowOf, IsWorked, State, back_row, free_clock, free_row, lent_row, raised_row, stepped_row};
 
 use go_text::Memory;
 use goroutine_vm::GoState;
@@ -178,6 +178,42 @@ impl Slot {
             Held::Here(state) => Some(state),
             Held::Gone(_) => unreachable!(),
         }
+    }
+
+    /// One that may be lent makes at most `quantum` local steps where it stands, up to a request, and is parked if it then asks.
+    /// Answers whether it does.
+    ///
+    /// Errors: want of memory, when some of the steps may be made.
+    pub(crate) fn work(
+        &mut self,
+        alloc: Global,
+        code: &Verified,
+        limit: u64,
+        quantum: u32,
+    ) -> Result<bool, Memory>
+        requires row { IsRowOf code.now limit self.old }
+        requires free { is_some (free_clock (Some self.old)) ≡ true }
+        ensures ok { IfOk result (λ asking. (base : State) × (self.old ≡ free_row base) × IsWorked code.now limit quantum base (Some asking) self.new) }
+        ensures memory { OnErr result ((base : State) × (self.old ≡ free_row base) × IsWorked code.now limit quantum base None self.new) }
+    {
+        let Standing::Free = &self.standing else {
+            unreachable!()
+        };
+        let Held::Here(state) = &mut self.held else {
+            unreachable!()
+        };
+        let worked = state.step_ahead(alloc, code, limit, quantum);
+        let asking = match &worked {
+            Ok(asking) => *asking,
+            Err(_) => state.is_asking(code, limit),
+        };
+        self.floor = state.clock();
+        self.standing = if asking {
+            Standing::Parked
+        } else {
+            Standing::Free
+        };
+        worked
     }
 
     /// Its request is done: it goes on with this reply, at this clock.

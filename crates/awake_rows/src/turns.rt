@@ -15,17 +15,35 @@ pub enum Among {
     Parked,
     /// Those that may be lent.
     Free,
+    /// All, by their floors.
+    Awake,
 }
 
 impl Among {
     /// The goroutine's clock, where it counts.
+    #[inline(always)]
     fn clock(self, slot: &Slot) -> Option<Clock>
         ensures { result ≡ clock_among self (Some slot.now) }
     {
         match self {
             Among::Parked => slot.parked_clock(),
             Among::Free => slot.free_clock(),
+            Among::Awake => Some(slot.floor()),
         }
+    }
+
+    /// The clock of goroutine `number`, where it is awake and counts.
+    #[inline(always)]
+    #[tactic(auto, using(crate::proofs::Kept::nobody_counts))]
+    pub(crate) fn clock_at(self, rows: &[Option<Slot>], number: u64) -> Option<Clock>
+        ensures { result ≡ clock_among self (slice_index_or rows.now number None) }
+    {
+        if (number as usize) < rows.len() {
+            if let Some(slot) = &rows[number as usize] {
+                return self.clock(slot);
+            }
+        }
+        None
     }
 }
 

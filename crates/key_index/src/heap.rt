@@ -1,6 +1,6 @@
 //! A heap of slots by their keys.
 
-ghost use Rattle.std.specs.Prelude.{◌≡◌, ℕ, ◌+◌, ◌-◌, ◌*◌, ◌<◌, ◌≤◌, ◌^◌, Option, length, slice_index, slice_index_or, slice_set, None, Some, false, IsSome, MatchOption};
+ghost use Rattle.std.specs.Prelude.{◌≡◌, ℕ, ◌+◌, ◌-◌, ◌*◌, ◌<◌, ◌≤◌, ◌^◌, Option, length, slice_index, slice_index_or, slice_set, None, Some, false, IfNone, IfSome, IsSome, MatchOption};
 ghost use Rattle.key_index.specs.Heap.{Exchanged, IsAboveChildren, IsBelowParent, IsHeap, IsHeapBut, IsIndex, IsInverse, SameTaken, key_at, key_or};
 ghost use Rattle.logical_clock.specs.Order.{is_before};
 
@@ -262,4 +262,37 @@ pub(crate) fn free<L: Ledger>(
         sift(keys, order, places, last, place, steps);
     }
     keys[slot] = None;
+}
+
+/// The key at a place.
+pub(crate) fn key_in(keys: &[Option<Key>], order: &[usize], place: usize) -> Key
+    requires place { place < length order.now }
+    requires slot { slice_index order.now place < length keys.now }
+    ensures { result ≡ key_at keys.now order.now place }
+{
+    key_or(keys[order[place]])
+}
+
+/// The least key behind the first place; none where nothing stands there.
+pub(crate) fn second(keys: &[Option<Key>], order: &[usize], len: usize) -> Option<Key>
+    requires len { len ≤ length order.now }
+    requires slots { (i : ℕ) → i < len → slice_index order.now i < length keys.now }
+    requires heap { IsHeap (key_at keys.now order.now) len }
+    ensures none { IfNone result (len ≤ 1) }
+    ensures there { IfSome result (λ key. (i : ℕ) × (0 < i) × (i < len) × (key_at keys.now order.now i ≡ key)) }
+    ensures least { IfSome result (λ key. (i : ℕ) → 0 < i → i < len → is_before (key_at keys.now order.now i) key ≡ false) }
+{
+    if len < 2 {
+        return None;
+    }
+    let left = key_in(keys, order, 1);
+    if len < 3 {
+        return Some(left);
+    }
+    let right = key_in(keys, order, 2);
+    if right.is_before(&left) {
+        Some(right)
+    } else {
+        Some(left)
+    }
 }

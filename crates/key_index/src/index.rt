@@ -1,10 +1,10 @@
 //! The keys of slots, and which of them is least.
 
-ghost use Rattle.std.specs.Prelude.{◌≡◌, ℕ, ◌+◌, ◌*◌, ◌<◌, ◌≤◌, ◌^◌, ◌∷◌, ◌++◌, [], length, slice_index_or, slice_set, replicate, None, Some, false, IfOk, IfNone, IfSome, IsSome, MatchOption, OnErr, OnOk};
+ghost use Rattle.std.specs.Prelude.{◌≡◌, ◌≢◌, ℕ, ◌+◌, ◌*◌, ◌<◌, ◌≤◌, ◌^◌, ◌∷◌, ◌++◌, [], length, slice_index_or, slice_set, replicate, None, Some, false, IfOk, IfNone, IfSome, IsSome, MatchOption, OnErr, OnOk};
 ghost use Rattle.logical_clock.specs.Order.{is_before};
 ghost use Rattle.logical_clock.specs.declared.key.Key.{Key};
 
-use crate::heap::{change, free, key_or, lift, put};
+use crate::heap::{change, free, key_in, key_or, lift, put, second};
 use go_text::Memory;
 use logical_clock::Key;
 use std::alloc::{AllocError, Global};
@@ -208,5 +208,19 @@ impl KeyIndex {
         }
         let slot = self.order[0];
         Some((slot, key_or(self.keys[slot])))
+    }
+    /// The least key of the slots but this one; none where all others are free. It compares at most two keys.
+    pub fn least_but(&self, slot: usize) -> Option<Key>
+        ensures none { IfNone result ((s : ℕ) → s ≢ slot → slice_index_or self.now s None ≡ None) }
+        ensures there { IfSome result (λ key. (s : ℕ) × (s ≢ slot) × (slice_index_or self.now s None ≡ Some key)) }
+        ensures least { IfSome result (λ key. (s : ℕ) (k : Key) → s ≢ slot → slice_index_or self.now s None ≡ Some k → is_before k key ≡ false) }
+    {
+        if self.len == 0 {
+            return None;
+        }
+        if self.order[0] != slot {
+            return Some(key_in(&self.keys, &self.order, 0));
+        }
+        second(&self.keys, &self.order, self.len)
     }
 }
