@@ -1,5 +1,5 @@
 -- A world of goroutines without its lists of events and bytes.
-use Rattle.std.specs.Prelude.{◌≡◌, ◌≢◌, ℕ, ◌+◌, ◌<◌, ◌≤◌, ◌^◌, ◌==◌, false, true, cond, List, [], ◌∷◌, ◌++◌, length, map, max, Option, Some, None, slice_index_or, slice_set}
+use Rattle.std.specs.Prelude.{◌≡◌, ◌≢◌, ℕ, ◌+◌, ◌<◌, ◌≤◌, ◌^◌, ◌==◌, Bool, false, true, cond, List, [], ◌∷◌, ◌++◌, length, map, max, Option, Some, None, slice_index_or, slice_set}
 use Rattle.std.specs.Option.{is_some, option_map}
 use Rattle.bytecode.specs.Code.{Code}
 use Rattle.bytecode.specs.Machine.{Frames, code_begin, code_kind}
@@ -22,7 +22,7 @@ use Rattle.word.specs.declared.limits.TheConstants.{MAX_GOROUTINES}
 use Rattle.word.specs.Values.{Request, Close, End, Exit, Exhausted, Go, Panic, Reply, Nothing, EventOutcome, Done, Sleeps, Panics, Event, Sleeper, Shared}
 use Rattle.word.specs.Views.{event_of}
 use Rattle.word.specs.Worlds.{Bed, Rest, in_bed, rules}
-use Rattle.awake_rows.specs.Slots.{State, Rows, Beds, FitsAll, FitsBeds, back_row, free_clock, free_row, waiting_clock}
+use Rattle.awake_rows.specs.Slots.{State, Rows, Beds, FitsAll, FitsBeds, WorksIn, back_row, free_clock, free_row, waiting_clock}
 pub use Rattle.awake_rows.specs.Slots.{IsFreeIn, answered_rows}
 
 abbrev pub CodeMachine : Type 0
@@ -172,6 +172,13 @@ Performs code limit old n event bytes new = (m : CodeMachine) → IsCoreOf m old
 -- the first to lend: of those awake, neither lent nor parked, the one of least key
 abbrev pub to_lend : CoreValue → Option Key
 to_lend core = cond (is_some core.ending) None (least (keys free_clock 0 core.rows))
+
+-- the first to lend has made local steps where it stands; what it answers is whether it then asks, or nothing where memory is wanting
+pub record Works (code : Code) (limit quantum : ℕ) (old : CoreValue) (answer : Option Bool) (new : CoreValue) : Type 0 where
+  pub key : Key
+  pub first : to_lend old ≡ Some key
+  pub worked : WorksIn code limit quantum old.rows key.number answer new.rows
+  pub rest : new ≡ record old { rows = new.rows }
 
 -- goroutine n is lent in this state
 abbrev pub IsLentRow : Rows → ℕ → State → Type 0

@@ -11,7 +11,7 @@ ghost use Rattle.turn_rule.specs.Schedule.{has_turn};
 ghost use Rattle.word.specs.Kinds.{at, told};
 ghost use Rattle.word.specs.Values.{End as EndRequest, Print as PrintRequest, Reply as AnyReply};
 ghost use Rattle.word.specs.Views.{event_of, outcome_of, reply_of, request_of};
-ghost use Rattle.world_core_base.specs.Cores.{Asks, FitsCore, IsAsked, IsAway, IsGo, IsLast, HasLease, IsHere, Performs, bytes_of, ended_as, left_beds, meant_after, most_partners, most_woken, no_event, opened_core, put_back, state_of, taken_out, to_lend, woken_rows};
+ghost use Rattle.world_core_base.specs.Cores.{Asks, FitsCore, IsAsked, IsAway, IsGo, IsLast, HasLease, IsHere, Performs, Works, bytes_of, ended_as, left_beds, meant_after, most_partners, most_woken, no_event, opened_core, put_back, state_of, taken_out, to_lend, woken_rows};
 ghost use Rattle.awake_rows.specs.Slots.{FitsAll, FitsRow, IsAwake, IsBefore, IsFreeIn, IsNobodyAwake, IsUnlent, answered_rows, back_row, free_clock, free_row, lent_row, raised_row, stepped_rows, waiting_clock};
 
 use crate::waking::{doze, make_rooms, wake};
@@ -233,6 +233,32 @@ impl Core {
             unreachable!()
         };
         Some((key.number, state))
+    }
+
+    /// The one that would be lent makes at most `quantum` local steps where it stands, up to a request, and is parked if it then
+    /// asks. Answers whether it does; none where there is nobody to lend.
+    ///
+    /// Errors: want of memory, when some of the steps may be made.
+    pub fn work_least(
+        &mut self,
+        alloc: Global,
+        code: &Verified,
+        limit: u64,
+        quantum: u32,
+    ) -> Result<Option<bool>, Memory>
+        requires { FitsCore code.now limit self.old }
+        ensures none { IfOk result (λ found. IfNone found ((to_lend self.old ≡ None) × (self.new ≡ self.old))) }
+        ensures works { IfOk result (λ found. IfSome found (λ asking. Works code.now limit quantum self.old (Some asking) self.new)) }
+        ensures memory { OnErr result (Works code.now limit quantum self.old None self.new) }
+    {
+        if self.ending.is_some() {
+            return Ok(None);
+        }
+        let Some(key) = self.least_free() else {
+            return Ok(None);
+        };
+        let asking = self.rows.work(alloc, code, limit, key.number, quantum)?;
+        Ok(Some(asking))
     }
 
     /// Whether there is a goroutine to lend.
