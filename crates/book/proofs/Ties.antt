@@ -17,7 +17,7 @@ use Rattle.word.specs.Kinds.{at}
 use Rattle.word.specs.Worlds.{rules}
 use Rattle.world_core.specs.Cores.{CoreValue, IsFreeIn, IsLentRow, opened_core}
 use Rattle.world_core.specs.Slots.{State, Rows, free_row, lent_row}
-use Rattle.book.specs.Desks.{CommitsNext, Desk, Held, IsDesk, IsLent, IsSight, Sighting, brought, lent_desk, opened_desk, seen_desk}
+use Rattle.book.specs.Desks.{CommitsNext, Desk, Held, IsDesk, IsLent, IsSight, KeepsLeases, Sighting, brought, lent_desk, opened_desk, seen_desk}
 use Rattle.book.specs.Slots.{IsOut, IsPlaced, IsTied, SamePlaces, place_of}
 use Rattle.book.proofs.Books.{commits_keeps}
 use Rattle.book.proofs.Lent.{performed_lent}
@@ -194,6 +194,29 @@ brought_going d places l row t going out unlent =
 pub brought_tied : (d : Desk) (places : List ℕ) (l : Held) (b : Bool) → is_some d.core.ending ≡ b → IsTied d places → IsLent d l → IsTied (brought d l) places
 brought_tied d places l true e t out = rw e (brought_over d places l t e)
 brought_tied d places l false e t out = rw e (brought_going d places l _ t e out refl)
+
+-- ---- work without a lease
+
+pub here_tied : (d : Desk) (places : List ℕ) (n : ℕ) (base : State) (row : Row State) → IsTied d places → IsFreeIn d.core.rows n base → row.lease ≡ None → IsTied (record d { core = record d.core { rows = slice_set d.core.rows n (Some row) } }) places
+here_tied d places n base row t free unlent =
+    let there : slice_index_or (slice_set d.core.rows n (Some row)) n None ≡ Some row = get_or-set_same d.core.rows n (Some row) None (within d.core.rows n (free_row base) free) in
+    record {
+      lent = λ going k old e is. elim (cases_eq k n) [
+        | inl same ↦
+            let is_row : old ≡ row = same_some row old (sym there ∙ ap (λ (j : ℕ). slice_index_or (slice_set d.core.rows n (Some row)) j None) (sym same) ∙ e) in
+            absurd (true≢false (sym is ∙ ap (λ (r : Row State). is_some r.lease) is_row ∙ ap is_some unlent))
+        | inr other ↦ t.lent going k old (sym (get_or-set_other d.core.rows n k (Some row) None other) ∙ e) is
+      ];
+      back = λ s terms on.
+          let o = t.back s terms on in
+          let ne = free_other d.core.rows n terms.number base terms.base free o.row in
+          record { code = o.code; limit = o.limit; row = lent_other_row d.core.rows n terms.number (Some row) terms.base ne o.row; place = o.place };
+    }
+
+pub here_leases : (d : Desk) (n : ℕ) (base : State) (row : Row State) → IsFreeIn d.core.rows n base → KeepsLeases d (record d { core = record d.core { rows = slice_set d.core.rows n (Some row) } })
+here_leases d n base row free l out =
+    let ne = free_other d.core.rows n l.number base l.base free out.row in
+    record { code = out.code; limit = out.limit; row = lent_other_row d.core.rows n l.number (Some row) l.base ne out.row; word = out.word }
 
 -- ---- settle
 

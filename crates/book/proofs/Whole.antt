@@ -1,6 +1,6 @@
 -- Each call of a book leaves it a book.
-use Rattle.std.proofs.Common.{◌≡◌, ℕ, ◌+◌, ◌<◌, ◌≤◌, ◌^◌, Bool, true, false, cond, List, [], ◌∷◌, length, Option, Some, None, refl, sym, ap, ◌∙◌, subst}
-use Rattle.std.specs.Prelude.{slice_index_or, slice_set}
+use Rattle.std.proofs.Common.{◌≡◌, ℕ, ◌+◌, ◌<◌, ◌≤◌, ◌^◌, ◌⊎◌, Bool, true, false, cond, List, [], ◌∷◌, length, Option, Some, None, Result, Ok, Err, refl, sym, ap, ◌∙◌, subst, inl, inr}
+use Rattle.std.specs.Prelude.{IfNone, IfOk, IfSome, OnErr, slice_index_or, slice_set}
 use Rattle.std.specs.Option.{is_some}
 use Rattle.std.proofs.lemmas.List.{set-get_or, set-set}
 use Rattle.bytecode.specs.Code.{Code}
@@ -18,13 +18,31 @@ use Rattle.turn_rule.specs.Turns.{Leads}
 use Rattle.word.specs.declared.request.Event.{Event as Recorded}
 use Rattle.word.specs.Kinds.{asks}
 use Rattle.word.specs.Worlds.{rules}
-use Rattle.world_core.specs.Cores.{CoreValue, HasLease, HasTurn, IsFreeIn}
+use Rattle.world_core.specs.Cores.{CoreValue, HasLease, HasTurn, IsFreeIn, Works}
 use Rattle.world_core.specs.Slots.{State, Rows, FitsRow, IsBefore, back_row, free_row, lent_row, waiting_clock}
 use Rattle.book.specs.Desks.{CommitsNext, Desk, Held, IsDesk, IsLent, IsNobodyLent, IsSeen, IsSight, KeepsLeases, Looks, OnlyLooks, Sighting, StandsBefore, Waits, back_core, brought, lent_desk, opened_desk, seen_desk}
 use Rattle.book.specs.Slots.{IsBook, IsPlaced, IsTied, SamePlaces, place_of}
-use Rattle.book.proofs.Books.{brought_by, lent_is_desk, opened_is_desk, output_taken, trace_taken, waits_free, waits_key}
+use Rattle.book.proofs.Books.{brought_by, brought_is_desk, lent_is_desk, opened_is_desk, output_taken, trace_taken, waits_free, waits_key}
 use Rattle.book.proofs.Looks.{IsKept, held_below, looks_keep, seen_is_desk, still_there}
-use Rattle.book.proofs.Ties.{brought_tied, committed_tied, is_out, lent_tied, opened_tied, same_tied, seen_tied, taken_tied, was_on}
+use Rattle.book.proofs.Ties.{brought_tied, committed_tied, here_leases, here_tied, is_out, lent_tied, opened_tied, same_tied, seen_tied, taken_tied, was_on}
+
+-- ---- work without a lease
+
+-- what work makes of a desk's core
+worked_core : (d : Desk) (quantum : ℕ) (answer : Option Bool) (core : CoreValue) (w : Works d.code d.limit quantum d.core answer core)
+    → core ≡ record d.core { rows = slice_set d.core.rows w.key.number (Some (back_row w.worked.1.state (is_some (asks (code_kind d.code) d.limit w.worked.1.state)))) }
+worked_core d quantum answer core w = w.rest ∙ ap (λ (rows : Rows). record d.core { rows = rows }) (w.worked.4 ∙ ap (λ (row : Row State). slice_set d.core.rows w.key.number (Some row)) w.worked.3.2)
+
+pub works_leases : (d : Desk) (quantum : ℕ) (answer : Option Bool) (core : CoreValue) → Works d.code d.limit quantum d.core answer core → KeepsLeases d (record d { core = core })
+works_leases d quantum answer core w =
+    let row = back_row w.worked.1.state (is_some (asks (code_kind d.code) d.limit w.worked.1.state)) in
+    subst (λ (x : CoreValue). KeepsLeases d (record d { core = x })) (sym (worked_core d quantum answer core w)) (here_leases d w.key.number w.worked.0 row w.worked.2)
+
+-- nobody, or one that asks or goes on, or one to which memory was refused
+pub works_as : {E : Type 0} (r : Result (Option Bool) E) (N : Type 0) (W : Option Bool → Type 0) → IfOk r (λ found. IfNone found N) → IfOk r (λ found. IfSome found (λ asking. W (Some asking))) → OnErr r (W None) → N ⊎ ((answer : Option Bool) × W answer)
+works_as {E} (Ok None) N W none some err = inl none
+works_as {E} (Ok (Some asking)) N W none some err = inr (Some asking, some)
+works_as {E} (Err e) N W none some err = inr (None, err)
 
 module _ (code : Code) (limit : ℕ) where
   pub book_opens : (traces : Bool) → limit ≤ 2 ^ 62 → IsVerified code → IsBook code limit (opened_desk code limit traces) []
@@ -58,6 +76,17 @@ module _ (code : Code) (limit : ℕ) where
     code_is = h.code_is;
     limit_is = h.limit_is;
   }
+
+  pub book_works : (d : Desk) (places : List ℕ) (quantum : ℕ) (answer : Option Bool) (core : CoreValue) → IsBook code limit d places → Works d.code d.limit quantum d.core answer core → IsBook code limit (record d { core = core }) places
+  book_works d places quantum answer core h w =
+      let made = brought_is_desk d w.key.number (free_row w.worked.0) w.worked.1.state h.desk w.worked.2 (w.worked.3.0.0, w.worked.3.0.2) w.worked.3.1 in
+      let row = back_row w.worked.1.state (is_some (asks (code_kind d.code) d.limit w.worked.1.state)) in
+      subst (λ (x : CoreValue). IsBook code limit (record d { core = x }) places) (sym (worked_core d quantum answer core w)) (record {
+        desk = made;
+        tied = here_tied d places w.key.number w.worked.0 row h.tied w.worked.2 refl;
+        code_is = h.code_is;
+        limit_is = h.limit_is;
+      })
 
   pub book_looks : (d : Desk) (places : List ℕ) (x : Sighting) → IsBook code limit d places → IsSight d x → IsBook code limit (seen_desk x d) places
   book_looks d places x h s = record { desk = seen_is_desk d x h.desk s; tied = seen_tied d places x h.tied; code_is = h.code_is; limit_is = h.limit_is }

@@ -12,7 +12,7 @@ ghost use Rattle.clock_table.specs.Seats.{table_of};
 ghost use Rattle.world_core.specs.Slots.{IsBefore, waiting_clock};
 ghost use Rattle.word.specs.declared.request.Event.{Event as Recorded};
 ghost use Rattle.word.specs.Views.{event_of};
-ghost use Rattle.world_core.specs.Cores.{HasLease, HasTurn, IsFreeIn, no_event, to_lend};
+ghost use Rattle.world_core.specs.Cores.{HasLease, HasTurn, IsFreeIn, Works, no_event, to_lend};
 ghost use Rattle.book.specs.Desks.{CommitsNext, IsDesk, IsLent, IsNobodyLent, IsPiece, IsSeen, IsSight, IsTracePiece, KeepsLeases, OnlyLooks, Settles, Sighting, Waits, brought, lent_desk, opened_desk, seen_desk, settled_by};
 
 use crate::blank::Blank;
@@ -168,6 +168,22 @@ impl<B: BookName> Book<B> {
             None => self.core.take_back(number, present, parked),
             Some(_) => {}
         }
+    }
+
+    /// The goroutine that would be lent makes at most `quantum` local steps where it stands, up to a request, and is parked if it then
+    /// asks. Answers whether it does; none where there is nobody to lend. It has no lease, so nothing is published of its clock:
+    /// who asks the book sees it.
+    ///
+    /// Errors: want of memory, when some of the steps may be made.
+    pub fn work(&mut self, quantum: u32) -> Result<Option<bool>, Memory>
+        ensures none { IfOk result (λ found. IfNone found ((to_lend self.old.core ≡ None) × (self.new.core ≡ self.old.core))) }
+        ensures works { IfOk result (λ found. IfSome found (λ asking. Works self.old.code self.old.limit quantum self.old.core (Some asking) self.new.core)) }
+        ensures memory { OnErr result (Works self.old.code self.old.limit quantum self.old.core None self.new.core) }
+        ensures rest { self.new ≡ record self.old { core = self.new.core } }
+        ensures leases { KeepsLeases self.old self.new }
+    {
+        self.core
+            .work_least(self.alloc, &self.program, self.limit, quantum)
     }
 
     /// Commits the next event of the one-thread run, or tells who stands before it, or how the run has ended. Every lease
