@@ -12,8 +12,15 @@ use crate::work_queues::{CAPACITY, WorkQueues};
 use go_text::Memory;
 use output::Piece;
 use std::sync::Wait;
+use std::sync::atomic::{AtomicU64, Ordering};
 use std::sync::ledger::{Book, Share};
 use word::end::End;
+
+/// How many local steps a goroutine that talks makes at most between two requests.
+const FEW_STEPS: u32 = 512;
+
+/// How many turns of goroutines that talk follow one another at most before a lease is given out again.
+const TALKS: u32 = 256;
 
 /// The book of a run, and what its threads tell each other.
 #[derive(Drop)]
@@ -31,7 +38,7 @@ pub(crate) struct Locked<B: RunName> {
     waiting: u64,
     /// Whether a worker watches, which looks by itself whether something can be lent.
     watched: bool,
-    /// How many leases were given out, modulo 2^64.
+    /// How many leases were given out, and turns taken without one, modulo 2^64.
     lent: u64,
     /// How many leases are out to workers that yield.
     talkers: u64,
@@ -103,7 +110,7 @@ impl<B: RunName> Locked<B> {
         }
     }
 
-    /// How many leases were given out, modulo 2^64.
+    /// How many leases were given out, and turns taken without one, modulo 2^64.
     pub fn lent(&self) -> u64 {
         self.lent
     }
@@ -234,9 +241,43 @@ impl<B: RunName> Locked<B> {
         Turn::Watch
     }
 
+    /// Goroutines that talk make their steps under the lock, one after the other and without a lease, and what can be committed is.
+    /// That ends where one computes, where there is nobody, where another worker whose goroutines talk is out, where somebody comes
+    /// to the lock, or after some turns.
+    pub fn talk(&mut self, coming: &AtomicU64) {
+        if self.talkers > 0 {
+            return;
+        }
+        for _ in 0..TALKS {
+            if self.over || coming.load(Ordering::SeqCst) > 0 || !self.talk_once() {
+                return;
+            }
+        }
+    }
+
+    /// One turn of that, and whether another one may follow.
+    fn talk_once(&mut self) -> bool {
+        let asking = match self.run.work(FEW_STEPS) {
+            Ok(Some(asking)) => asking,
+            Ok(None) => return false,
+            Err(Memory) => {
+                self.stop();
+                return false;
+            }
+        };
+        self.lent = self.lent.wrapping_add(1);
+        self.settle();
+        asking
+    }
+
     /// Puts a lease back, and commits all that can be committed.
     fn bring(&mut self, lease: RunLease<B>) {
         self.run.bring(lease);
+        self.settle();
+    }
+
+    /// Commits all that can be committed.
+    fn settle(&mut self) {
         match self.run.settle_all() {
             Ok(end) => self.over = self.over || end.is_some(),
             Err(Memory) => self.stop(),

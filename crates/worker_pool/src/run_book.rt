@@ -54,6 +54,14 @@ impl<B: RunName> RunBook<B> {
         self.book.lend()
     }
 
+    /// The goroutine that would be lent makes at most so many local steps where it stands, up to a request: whether it then asks;
+    /// none where there is nobody to lend.
+    pub fn work(&mut self, quantum: u32) -> Result<Option<bool>, Memory>
+        ensures { KeepsTaken self.old.book self.new.book }
+    {
+        self.book.work(quantum)
+    }
+
     /// Whether there is a goroutine to lend.
     pub fn may_lend(&self) -> bool
         ensures { result ≡ is_some (to_lend self.now.book.core) }

@@ -10,6 +10,7 @@ use crate::turn::{Back, Turn};
 use crate::work_queues::WorkQueues;
 use crate::worker::Pace;
 use go_text::Memory;
+use std::sync::atomic::{AtomicU64, Ordering};
 use std::sync::ledger::{Book, Share};
 use std::sync::{Condvar, Mutex, MutexGuard, Wait};
 use std::time::Duration;
@@ -21,6 +22,8 @@ const WRITING_NAP: u64 = 5;
 #[derive(Drop)]
 pub(crate) struct Shared<B: RunName> {
     locked: Mutex<Locked<B>>,
+    /// How many threads come to the lock.
+    coming: AtomicU64,
     /// The workers that wait: one of them is to watch.
     waiting: Condvar,
     /// The worker that watches: it is to look at once.
@@ -37,10 +40,19 @@ impl<B: RunName> Shared<B> {
     {
         Shared {
             locked: Mutex::new(Locked::new(run, printed, traced)),
+            coming: AtomicU64::new(0),
             waiting: Condvar::new(),
             watching: Condvar::new(),
             writing: Condvar::new(),
         }
+    }
+
+    /// Takes the lock; whoever has it sees that somebody comes.
+    fn lock<R: Wait>(&self, rt: &R) -> MutexGuard<'_, Locked<B>> {
+        self.coming.fetch_add(1, Ordering::SeqCst);
+        let locked = self.locked.lock(rt);
+        self.coming.fetch_sub(1, Ordering::SeqCst);
+        locked
     }
 
     /// Takes what a worker comes back with, and gives it its next lease, as soon as there is one; none once the run is over.
@@ -51,10 +63,13 @@ impl<B: RunName> Shared<B> {
         pace: &mut Pace,
         queues: &mut WorkQueues<B>,
     ) -> Option<RunLease<B>> {
-        let mut locked = self.locked.lock(rt);
+        let mut locked = self.lock(rt);
         let long = matches!(&back, Back::Running(_));
         pace.come(&mut locked, &back);
         locked.take_back(back);
+        if pace.talks() {
+            locked.talk(&self.coming);
+        }
         for _ in rt.forever() {
             match locked.turn(rt, pace.yields(), queues) {
                 Turn::Work(lease) => {
@@ -96,7 +111,7 @@ impl<B: RunName> Shared<B> {
         ensures output { IfOk result (λ h. (h.output.from ≡ printed.old.amount) × (printed.new.amount ≡ printed.old.amount + length h.output.bytes.items)) }
         ensures trace { IfOk result (λ h. (h.trace.from ≡ traced.old.amount) × (traced.new.amount ≡ traced.old.amount + length h.trace.bytes.items)) }
     {
-        let mut locked = self.locked.lock(rt);
+        let mut locked = self.lock(rt);
         if !locked.is_over() {
             locked = sleep(
                 rt,
@@ -110,13 +125,13 @@ impl<B: RunName> Shared<B> {
 
     /// The run stops for want of memory, unless it has ended.
     pub fn stop<R: Wait>(&self, rt: &R) {
-        self.locked.lock(rt).stop();
+        self.lock(rt).stop();
         self.wake_all();
     }
 
     /// No worker gets another lease.
     pub fn close<R: Wait>(&self, rt: &R) {
-        self.locked.lock(rt).close();
+        self.lock(rt).close();
         self.wake_all();
     }
 

@@ -25,13 +25,18 @@ const LONG_NAP: u64 = 16_000_000;
 /// Below so many ticks of its goroutine a lease was short: the worker was at the lock for longer than it worked.
 const FEW_TICKS: u64 = 64;
 
-/// Whether a worker leaves leases to another one, and how long it naps when it watches.
+/// After so many short leases in a row a worker's goroutines do nothing but talk.
+const MANY_SHORT: u32 = 64;
+
+/// Whether a worker leaves leases to another one, whether its goroutines only talk, and how long it naps when it watches.
 #[derive(Drop)]
 pub(crate) struct Pace {
     /// Whether it takes a lease only while no other such worker is out with one: its last lease was short, or it had none.
     yields: bool,
     /// Whether it went off as such a worker.
     counted: bool,
+    /// How many of its last leases were short, up to `MANY_SHORT`.
+    short: u32,
     /// Its next nap, in nanoseconds.
     nanos: u64,
 }
@@ -42,6 +47,7 @@ impl Pace {
         Pace {
             yields: true,
             counted: false,
+            short: 0,
             nanos: SHORT_NAP,
         }
     }
@@ -51,6 +57,11 @@ impl Pace {
         self.yields
     }
 
+    /// Whether its goroutines do nothing but talk.
+    pub fn talks(&self) -> bool {
+        self.short >= MANY_SHORT
+    }
+
     /// The worker comes to the lock with this.
     pub fn come<B: RunName>(&mut self, locked: &mut Locked<B>, back: &Back<B>) {
         if self.counted {
@@ -58,6 +69,11 @@ impl Pace {
         }
         self.counted = false;
         self.yields = matches!(back, Back::Begun | Back::Talking(_));
+        self.short = if matches!(back, Back::Talking(_)) {
+            self.short.saturating_add(1).min(MANY_SHORT)
+        } else {
+            0
+        };
         if !self.yields {
             self.nanos = SHORT_NAP;
         }
