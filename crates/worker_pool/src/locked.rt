@@ -241,33 +241,33 @@ impl<B: RunName> Locked<B> {
         Turn::Watch
     }
 
-    /// Goroutines that talk make their steps under the lock, one after the other and without a lease, and what can be committed is.
-    /// That ends where one computes, where there is nobody, where another worker whose goroutines talk is out, where somebody comes
-    /// to the lock, or after some turns.
+    /// Goroutines that talk make their steps under the lock, one after the other and without a lease, and what they ask is
+    /// committed. That ends where one computes, where there is nobody, where another worker whose goroutines talk is out, where
+    /// somebody comes to the lock, or after some turns.
     pub fn talk(&mut self, coming: &AtomicU64) {
         if self.talkers > 0 {
             return;
         }
         for _ in 0..TALKS {
-            if self.over || coming.load(Ordering::SeqCst) > 0 || !self.talk_once() {
-                return;
+            if coming.load(Ordering::SeqCst) > 0 {
+                break;
+            }
+            match self.talk_once() {
+                Ok(true) => {}
+                Ok(false) => break,
+                Err(Memory) => return self.stop(),
             }
         }
+        self.settle();
     }
 
     /// One turn of that, and whether another one may follow.
-    fn talk_once(&mut self) -> bool {
-        let asking = match self.run.work(FEW_STEPS) {
-            Ok(Some(asking)) => asking,
-            Ok(None) => return false,
-            Err(Memory) => {
-                self.stop();
-                return false;
-            }
-        };
+    #[inline(always)]
+    fn talk_once(&mut self) -> Result<bool, Memory> {
+        let asking = self.run.work(FEW_STEPS)?;
+        let committed = self.run.settle_one()?;
         self.lent = self.lent.wrapping_add(1);
-        self.settle();
-        asking
+        Ok(asking.unwrap_or(committed))
     }
 
     /// Puts a lease back, and commits all that can be committed.

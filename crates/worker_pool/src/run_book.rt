@@ -56,6 +56,7 @@ impl<B: RunName> RunBook<B> {
 
     /// The goroutine that would be lent makes at most so many local steps where it stands, up to a request: whether it then asks;
     /// none where there is nobody to lend.
+    #[inline(always)]
     pub fn work(&mut self, quantum: u32) -> Result<Option<bool>, Memory>
         ensures { KeepsTaken self.old.book self.new.book }
     {
@@ -75,6 +76,15 @@ impl<B: RunName> RunBook<B> {
         ensures { KeepsTaken self.old.book self.new.book }
     {
         self.book.bring(lease);
+    }
+
+    /// Commits the next event, and answers whether there was one to commit.
+    #[inline(always)]
+    pub fn settle_one(&mut self) -> Result<bool, Memory>
+        ensures { KeepsTaken self.old.book self.new.book }
+    {
+        let reached = self.book.settle_into(&mut self.event)?;
+        Ok(matches!(reached, Reached::Committed))
     }
 
     /// Commits all that can be committed, and answers the end, where the run has ended.
