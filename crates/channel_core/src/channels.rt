@@ -8,7 +8,7 @@ ghost use Rattle.word.specs.declared.request.EventOutcome.TheVariants as outcome
 ghost use Rattle.channel_core.specs.Channels.{Does, DoesAlone, IsAlone, IsOfChannels, IsTold, Others, Receives, Sends, Serves, after_passing, came, capacity_of, clause_at, length_of, shared_with};
 
 use crate::channel::Channel;
-use crate::outcome::{Outcome, Woken, got, sent};
+use crate::outcome::{Outcome, Woken, sent, tell_got, tell_sent, wake, wake_with};
 use crate::rows::copy_of;
 use crate::sleepers::Sleepers;
 use go_text::Memory;
@@ -406,15 +406,14 @@ impl Channels {
         match self.asleep.partner(chan, false) {
             Some(partner) => {
                 let number = partner.number;
-                let reply = got(partner.case, item, true);
-                wake(woken, number, reply)?;
+                wake_with(self.alloc, woken, number, partner.case, item)?;
                 self.asleep.leave(number);
-                *outcome = EventOutcome::Done(sent(clause));
+                tell_sent(outcome, clause);
                 Ok(())
             }
             None => {
                 push(self.channels.as_mut_slice(), chan, item.copy())?;
-                *outcome = EventOutcome::Done(sent(clause));
+                tell_sent(outcome, clause);
                 Ok(())
             }
         }
@@ -440,7 +439,7 @@ impl Channels {
         wake(woken, number, sent(partner.case))?;
         let received = pass_through(self.alloc, &mut self.channels, chan, partner.item)?;
         self.asleep.leave(number);
-        *outcome = EventOutcome::Done(got(clause, &received, true));
+        tell_got(self.alloc, outcome, clause, &received, true);
         Ok(())
     }
 
@@ -450,13 +449,13 @@ impl Channels {
     {
         if !self.has_items(chan) {
             let zero = self.zero(chan);
-            *outcome = EventOutcome::Done(got(clause, &zero, false));
+            tell_got(self.alloc, outcome, clause, &zero, false);
             return;
         }
         let Some(item) = pop(self.channels.as_mut_slice(), chan) else {
             unreachable!()
         };
-        *outcome = EventOutcome::Done(got(clause, &item, true));
+        tell_got(self.alloc, outcome, clause, &item, true);
     }
 
     /// Goroutine `number` falls asleep at this request.
@@ -601,15 +600,4 @@ fn tell(outcome: &mut EventOutcome, number: i64)
     ensures { IsTold outcome.new number }
 {
     *outcome = EventOutcome::Done(Reply::Word(Word::Int(number)));
-}
-
-/// One that was asleep is woken with what it is told, alone.
-#[inline(always)]
-fn wake(woken: &mut Vec<Woken>, number: u64, reply: Reply) -> Result<(), Memory>
-    requires { woken.old.items ≡ [] }
-    ensures { OnOk result (woken.new.items ≡ (number, reply_of reply) ∷ []) }
-{
-    woken.reserve(1)?;
-    woken.push_reserved(Woken::new(number, reply));
-    Ok(())
 }
