@@ -1,5 +1,5 @@
 -- What sends and receives do, branch by branch.
-use Rattle.std.proofs.Common.{◌≡◌, ◌∙◌, ℕ, zero, suc, Bool, true, false, List, [], ◌∷◌, ◌++◌, Option, Some, None, Result, Ok, Err, OnOk, refl, sym, ap, subst}
+use Rattle.std.proofs.Common.{◌≡◌, ◌∙◌, ℕ, zero, suc, Bool, true, false, List, [], ◌∷◌, ◌++◌, Option, Some, None, Result, Ok, Err, OnOk, refl, sym, ap, subst, arith, length}
 use Rattle.std.specs.Global.{Vec}
 use Rattle.word.specs.declared.request.Case.{Case}
 use Rattle.word.specs.declared.request.EventOutcome.{EventOutcome as Fate}
@@ -10,7 +10,7 @@ use Rattle.word.specs.Requests.{choose, receive_ready, send_ready, without}
 use Rattle.std.specs.Prelude.{drop, map, option_map, slice_index_or, slice_set, unwrap_or}
 use Rattle.std.proofs.lemmas.List.{set-get_or}
 use Rattle.std.proofs.lemmas.Option.{none-some}
-use Rattle.word.specs.Requests.{Deed, GoesOn, channel_of, got, happened, no_channel, partner, receive_from, send_to, sent}
+use Rattle.word.specs.Requests.{Deed, GoesOn, channel_of, got, happened, no_channel, partner, receive_from, sent}
 use Rattle.word.specs.Values.{Channel, Done, Offer, Reply, Shared, Sleeper}
 use Rattle.channel_core.specs.Channels.{ChannelsValue, IsServed, Others, Partner, after_passing, came, deed_of, given, partner_of, shared_with, Does, DoesAlone, Sends, Receives, Serves}
 use Rattle.channel_core.specs.declared.outcome.Outcome.{Outcome}
@@ -78,6 +78,12 @@ pub given_got : (k : ℕ) (item : Item) (ok : Bool) → given (got k [] ok) item
 given_got zero item ok = refl
 given_got (suc k) item ok = refl
 
+-- the only one is this now
+pub one_is : {A : Type 0} (xs : List A) (x : A) → length xs ≡ 1 → slice_set xs 0 x ≡ x ∷ []
+one_is [] x e = absurd (omega arith)
+one_is (y ∷ []) x e = refl
+one_is (y ∷ z ∷ zs) x e = absurd (omega arith)
+
 pub served : (old : ChannelsValue) (k clause : ℕ) (front : Item) (p : Partner) (r : Reply) (ws : List (ℕ × Reply)) (channels : List Channel) (asleep : List Sleeper)
     → r ≡ got clause front true → ws ≡ (p.number, sent p.case) ∷ []
     → (channel_of old.channels k).items ++ unwrap_or p.item [] ∷ [] ≡ front ∷ after_passing old.channels k (unwrap_or p.item [])
@@ -90,22 +96,6 @@ served old k clause front p r ws channels asleep reply woke passed put gone o n 
     ∙ ap (λ (l : List Sleeper). deed o n c q (got clause front true) ((x.0.number, sent x.1.case) ∷ []) channels l) (sym (subst (λ (m : Partner). asleep ≡ without old.asleep m.number) (sym e) gone))
     ∙ ap (λ (l : List (ℕ × Reply)). deed o n c q (got clause front true) l channels asleep) (sym (subst (λ (m : Partner). ws ≡ (m.number, sent m.case) ∷ []) (sym e) woke))
     ∙ ap (λ (a : Reply). deed o n c q a ws channels asleep) (sym reply)
-
--- a send that meets one who receives
-pub send_met : (old new : ChannelsValue) (k clause : ℕ) (item : Item) (p : Partner) (fate : Fate) (w : Vec (ℕ × Reply)) → (channel_of old.channels k).closed ≡ false
-    → Some p ≡ option_map partner_of (partner k false old.asleep) → w.items ≡ (p.number, got p.case item true) ∷ [] → new.channels ≡ old.channels → new.asleep ≡ without old.asleep p.number
-    → outcome_of fate ≡ Done (sent clause) → (n : ℕ) → Sends old n k item clause (came fate w) new
-send_met old new k clause item p fate w open_ e woke same gone tells n o c q = rw open_ (at (partner k false old.asleep) e)
-  where
-    at : (m : Option (Sleeper × Offer)) → Some p ≡ option_map partner_of m → send_to (shared_with o old) n c q k (channel_of old.channels k) item clause m ≡ deed_of o n c q (came fate w) new
-    at None h = absurd (none-some p (sym h))
-    at (Some x) h =
-        let is : partner_of x ≡ p = partner_inj (partner_of x) p (sym h) in
-        ap (λ (v : Partner). deed o n c q (sent clause) ((v.number, got v.case item true) ∷ []) old.channels (without old.asleep v.number)) is
-        ∙ ap (λ (l : List (ℕ × Reply)). deed o n c q (sent clause) l old.channels (without old.asleep p.number)) (sym woke)
-        ∙ ap (λ (l : List Channel). deed o n c q (sent clause) w.items l (without old.asleep p.number)) (sym same)
-        ∙ ap (λ (l : List Sleeper). deed o n c q (sent clause) w.items new.channels l) (sym gone)
-        ∙ done_is o n c q fate w (sent clause) new tells
 
 abbrev pub with_sleeper : ChannelsValue → ℕ → Request → ChannelsValue
 with_sleeper old n q = record { channels = old.channels; asleep = without old.asleep n ++ record { number = n; request = q } ∷ [] }

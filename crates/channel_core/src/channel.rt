@@ -88,11 +88,12 @@ impl Channel {
     }
 
     /// Puts an item at the buffer's back.
-    pub(crate) fn push(&mut self, item: Item) -> Result<(), AllocError>
-        ensures ok { OnOk result (self.new ≡ record self.old { items = self.old.items ++ item ∷ [] }) }
+    pub(crate) fn push(&mut self, item: &Item) -> Result<(), AllocError>
+        ensures ok { OnOk result (self.new ≡ record self.old { items = self.old.items ++ item.now ∷ [] }) }
         ensures err { OnErr result (self.new ≡ self.old) }
     {
-        self.items.push_back(item)?;
+        self.items.reserve(1)?;
+        self.items.push_back_reserved(item.copy());
         Ok(())
     }
 
@@ -115,7 +116,7 @@ impl Channel {
         if self.items.is_empty() {
             return Ok(item.copy());
         }
-        self.items.push_back(item.copy())?;
+        self.push(item)?;
         match self.items.pop_front() {
             Some(front) => Ok(front),
             None => unreachable!(),

@@ -78,7 +78,7 @@ impl Channels {
     }
 
     /// The same, but that it is written to these places what becomes of the request, and who is woken, in the order in which they
-    /// fell asleep. What stood there before is of no account.
+    /// fell asleep; the list is of no account where it isn't done. What stood there before is of no account.
     pub fn meet(
         &mut self,
         number: u64,
@@ -90,9 +90,11 @@ impl Channels {
         ensures does { OnOk result (Does self.old number (request_of request.now) (came outcome.new woken.new) self.new) }
         ensures memory { OnErr result (self.new ≡ self.old) }
     {
-        woken.clear();
         match request {
-            Request::Make(size, zero) => self.make_asked(number, *size, zero, outcome),
+            Request::Make(size, zero) => {
+                woken.clear();
+                self.make_asked(number, *size, zero, outcome)
+            }
             Request::Send(chan, item) => {
                 self.send_asked(number, request, *chan, item, outcome, woken)
             }
@@ -101,8 +103,8 @@ impl Channels {
             Request::Select(cases, default) => {
                 self.select_asked(number, request, cases.as_slice(), *default, outcome, woken)
             }
-            Request::Len(chan) => Ok(tell(outcome, self.len(*chan))),
-            Request::Cap(chan) => Ok(tell(outcome, self.cap(*chan))),
+            Request::Len(chan) => Ok(tell(outcome, self.len(*chan), woken)),
+            Request::Cap(chan) => Ok(tell(outcome, self.cap(*chan), woken)),
             _ => unreachable!(),
         }
     }
@@ -163,8 +165,7 @@ impl Channels {
         outcome: &mut EventOutcome,
         woken: &mut Vec<Woken>,
     ) -> Result<(), Memory>
-        requires request { request_of request.now ≡ Send chan item.now }
-        requires nobody { woken.old.items ≡ [] }
+        requires { request_of request.now ≡ Send chan item.now }
         ensures does { OnOk result (Does self.old number (Send chan item.now) (came outcome.new woken.new) self.new) }
         ensures memory { OnErr result (self.new ≡ self.old) }
     {
@@ -197,8 +198,7 @@ impl Channels {
         outcome: &mut EventOutcome,
         woken: &mut Vec<Woken>,
     ) -> Result<(), Memory>
-        requires request { request_of request.now ≡ Receive chan }
-        requires nobody { woken.old.items ≡ [] }
+        requires { request_of request.now ≡ Receive chan }
         ensures does { OnOk result (Does self.old number (Receive chan) (came outcome.new woken.new) self.new) }
         ensures memory { OnErr result (self.new ≡ self.old) }
     {
@@ -296,13 +296,13 @@ impl Channels {
         outcome: &mut EventOutcome,
         woken: &mut Vec<Woken>,
     ) -> Result<(), Memory>
-        requires request { request_of request.now ≡ Select cases.now default }
-        requires nobody { woken.old.items ≡ [] }
+        requires { request_of request.now ≡ Select cases.now default }
         ensures does { OnOk result (Does self.old number (Select cases.now default) (came outcome.new woken.new) self.new) }
         ensures memory { OnErr result (self.new ≡ self.old) }
     {
         let Some(place) = self.first_ready(cases) else {
             if default {
+                woken.clear();
                 *outcome = EventOutcome::Done(Reply::Default);
                 return Ok(());
             }
@@ -349,7 +349,6 @@ impl Channels {
         outcome: &mut EventOutcome,
         woken: &mut Vec<Woken>,
     ) -> Result<bool, Memory>
-        requires { woken.old.items ≡ [] }
         ensures yes { IfOk result (λ served. served ≡ true → Serves self.old number case.now clause (came outcome.new woken.new) self.new) }
         ensures no { IfOk result (λ served. served ≡ false → (case.now.chan ≡ None) × (self.new ≡ self.old)) }
         ensures memory { OnErr result (self.new ≡ self.old) }
@@ -395,7 +394,6 @@ impl Channels {
         outcome: &mut EventOutcome,
         woken: &mut Vec<Woken>,
     ) -> Result<(), Memory>
-        requires { woken.old.items ≡ [] }
         ensures sends { OnOk result (Sends self.old number chan item.now clause (came outcome.new woken.new) self.new) }
         ensures memory { OnErr result (self.new ≡ self.old) }
     {
@@ -412,7 +410,8 @@ impl Channels {
                 Ok(())
             }
             None => {
-                push(self.channels.as_mut_slice(), chan, item.copy())?;
+                woken.clear();
+                push(self.channels.as_mut_slice(), chan, item)?;
                 tell_sent(outcome, clause);
                 Ok(())
             }
@@ -427,11 +426,11 @@ impl Channels {
         outcome: &mut EventOutcome,
         woken: &mut Vec<Woken>,
     ) -> Result<(), Memory>
-        requires { woken.old.items ≡ [] }
         ensures receives { OnOk result ((n : ℕ) → Receives self.old n chan clause (came outcome.new woken.new) self.new) }
         ensures memory { OnErr result (self.new ≡ self.old) }
     {
         let Some(partner) = self.asleep.partner(chan, true) else {
+            woken.clear();
             self.receive_alone(chan, clause, outcome);
             return Ok(());
         };
@@ -538,9 +537,10 @@ fn copy_of_cases(alloc: Global, cases: &[Case]) -> Result<Vec<Case>, Memory>
     Ok(copy)
 }
 
-/// Puts an item at the back of a channel's buffer.
-fn push(channels: &mut [Channel], chan: u32, item: Item) -> Result<(), Memory>
-    ensures ok { OnOk result (channels.new ≡ slice_set channels.old chan (record (channel_of channels.old chan) { items = (channel_of channels.old chan).items ++ item ∷ [] })) }
+/// Puts an item at the back of a channel's buffer. It is a call, so that nothing else makes room for an item.
+#[inline(never)]
+fn push(channels: &mut [Channel], chan: u32, item: &Item) -> Result<(), Memory>
+    ensures ok { OnOk result (channels.new ≡ slice_set channels.old chan (record (channel_of channels.old chan) { items = (channel_of channels.old chan).items ++ item.now ∷ [] })) }
     ensures err { OnErr result (channels.new ≡ channels.old) }
 {
     if (chan as usize) < channels.len() {
@@ -595,9 +595,11 @@ fn pass_item(channels: &mut [Channel], chan: u32, item: &Item) -> Result<Item, M
     Ok(item.copy())
 }
 
-/// A request is told a number.
-fn tell(outcome: &mut EventOutcome, number: i64)
-    ensures { IsTold outcome.new number }
+/// A request is told a number, and nobody is woken.
+fn tell(outcome: &mut EventOutcome, number: i64, woken: &mut Vec<Woken>)
+    ensures told { IsTold outcome.new number }
+    ensures nobody { woken.new.items ≡ [] }
 {
+    woken.clear();
     *outcome = EventOutcome::Done(Reply::Word(Word::Int(number)));
 }

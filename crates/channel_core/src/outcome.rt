@@ -2,7 +2,7 @@
 
 ghost use Rattle.std.specs.Prelude.{◌≡◌, ◌∷◌, [], OnOk, slice_index_or, slice_set, true};
 ghost use Rattle.word.specs.Requests.{got, sent};
-ghost use Rattle.word.specs.Values.{Done};
+ghost use Rattle.word.specs.Values.{Done, Received};
 ghost use Rattle.word.specs.Views.{outcome_of, reply_of};
 ghost use Rattle.channel_core.specs.Channels.{came, given, nobody, with_item};
 
@@ -31,7 +31,8 @@ impl Model for Woken {
 }
 
 impl Woken {
-    ghost use Rattle.std.specs.Prelude.{◌≡◌};
+    ghost use Rattle.std.specs.Prelude.{◌≡◌, true};
+    ghost use Rattle.word.specs.Values.{Received};
     ghost use Rattle.word.specs.Views.{reply_of};
     ghost use Rattle.channel_core.specs.Channels.{with_item};
 
@@ -63,6 +64,22 @@ impl Woken {
         ensures { self.new ≡ with_item self.old item.now }
     {
         give(&mut self.reply, item);
+    }
+
+    /// Goroutine `number` is told this item outside of a select; no where another reply than one with an item stood here.
+    #[inline(always)]
+    fn receives(&mut self, number: u64, item: &Item) -> bool
+        ensures { result ≡ true → self.new ≡ (number, Received item.now true) }
+    {
+        match &mut self.reply {
+            Reply::Received(room, ok) => {
+                room.set(item.words());
+                *ok = true;
+                self.number = number;
+                true
+            }
+            _ => false,
+        }
     }
 
     /// What it is told.
@@ -179,19 +196,20 @@ fn give(reply: &mut Reply, item: &Item)
     }
 }
 
-/// One that was asleep is woken with what it is told, alone.
+/// One that was asleep is woken with what it is told, alone. Those who were woken before are of no account.
 #[inline(always)]
 pub(crate) fn wake(woken: &mut Vec<Woken>, number: u64, reply: Reply) -> Result<(), Memory>
-    requires { woken.old.items ≡ [] }
     ensures { OnOk result (woken.new.items ≡ (number, reply_of reply) ∷ []) }
 {
+    woken.clear();
     woken.reserve(1)?;
     woken.push_reserved(Woken::new(number, reply));
     Ok(())
 }
 
-/// A receiver that was asleep is woken with this item, alone, in a clause of its select, or outside of one where that is 0.
-#[tactic(auto, using(crate::proofs::Deeds::given_got))]
+/// A receiver that was asleep is woken with this item, alone, in a clause of its select, or outside of one where that is 0. Where
+/// a receiver was woken before, alone, its item's room is used again.
+#[tactic(auto, using(crate::proofs::Deeds::given_got, crate::proofs::Deeds::one_is))]
 pub(crate) fn wake_with(
     alloc: Global,
     woken: &mut Vec<Woken>,
@@ -199,15 +217,29 @@ pub(crate) fn wake_with(
     clause: usize,
     item: &Item,
 ) -> Result<(), Memory>
-    requires { woken.old.items ≡ [] }
     ensures { OnOk result (woken.new.items ≡ (number, got clause item.now true) ∷ []) }
 {
+    if clause == 0 && woken.len() == 1 && wake_first(woken.as_mut_slice(), number, item) {
+        return Ok(());
+    }
     wake_with_room(alloc, woken, number, clause)?;
     give_first(woken.as_mut_slice(), item);
     Ok(())
 }
 
-/// The same, with an item of no words.
+/// A receiver is woken with this item, outside of a select, in the place of the first who was; no where that one was told something
+/// else.
+#[inline(always)]
+fn wake_first(woken: &mut [Woken], number: u64, item: &Item) -> bool
+    ensures { result ≡ true → woken.new ≡ slice_set woken.old 0 (number, Received item.now true) }
+{
+    if woken.is_empty() {
+        return false;
+    }
+    woken[0].receives(number, item)
+}
+
+/// A receiver is woken with an item of no words, alone, in a clause of its select, or outside of one where that is 0.
 #[inline(always)]
 fn wake_with_room(
     alloc: Global,
@@ -215,7 +247,6 @@ fn wake_with_room(
     number: u64,
     clause: usize,
 ) -> Result<(), Memory>
-    requires { woken.old.items ≡ [] }
     ensures { OnOk result (woken.new.items ≡ (number, got clause [] true) ∷ []) }
 {
     if clause == 0 {
