@@ -78,6 +78,17 @@ pub given_got : (k : ℕ) (item : Item) (ok : Bool) → given (got k [] ok) item
 given_got zero item ok = refl
 given_got (suc k) item ok = refl
 
+-- an item enters at a buffer's back, and one leaves at its front
+pub front_is : (xs : List Item) (item : Item) → xs ++ item ∷ [] ≡ slice_index_or (xs ++ item ∷ []) 0 [] ∷ drop 1 (xs ++ item ∷ [])
+front_is [] item = refl
+front_is (y ∷ ys) item = refl
+
+pub front_of : (xs ys : List Item) (x : Item) → xs ≡ x ∷ ys → slice_index_or xs 0 [] ≡ x
+front_of xs ys x e = ap (λ (l : List Item). slice_index_or l 0 []) e
+
+pub rest_of : (xs ys : List Item) (x : Item) → xs ≡ x ∷ ys → drop 1 xs ≡ ys
+rest_of xs ys x e = ap (λ (l : List Item). drop 1 l) e
+
 -- the only one is this now
 pub one_is : {A : Type 0} (xs : List A) (x : A) → length xs ≡ 1 → slice_set xs 0 x ≡ x ∷ []
 one_is [] x e = absurd (omega arith)

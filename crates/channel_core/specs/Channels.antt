@@ -143,6 +143,10 @@ IsTold fate number = outcome_of fate ≡ Done (Value (Int number))
 abbrev pub after_passing : List Channel → ℕ → Item → List Item
 after_passing cs k item = drop 1 ((channel_of cs k).items ++ item ∷ [])
 
+-- the one that left at its front
+abbrev pub front_after : List Channel → ℕ → Item → Item
+front_after cs k item = slice_index_or ((channel_of cs k).items ++ item ∷ []) 0 []
+
 -- a receive of this clause on channel k met this sender, and so it was done
 abbrev pub IsServed : ChannelsValue → ℕ → ℕ → Partner → Outcome → ChannelsValue → Type 0
 IsServed old k clause p outcome new =

@@ -1,11 +1,11 @@
 //! The channels of a world, and those who sleep at them.
 
 ghost use Rattle.std.specs.Prelude.{◌≡◌, ℕ, ◌+◌, ◌<◌, ◌≤◌, ◌∷◌, [], ◌++◌, IfOk, IfNone, IfSome, OnErr, OnOk, Some, None, nat_lt, option_copied, option_map, pos, suc, false, true, length, slice_index_or, slice_set, unwrap_or};
-ghost use Rattle.word.specs.Requests.{channel_of, choose, is_ready, no_channel, receive_ready, send_ready, without};
-ghost use Rattle.word.specs.Values.{Close, Make, Receive, Request as AnyRequest, Select, Send};
-ghost use Rattle.word.specs.Views.{reply_of, request_of};
+ghost use Rattle.word.specs.Requests.{channel_of, choose, got, is_ready, no_channel, receive_ready, send_ready, without};
+ghost use Rattle.word.specs.Values.{Close, Done, Make, Receive, Request as AnyRequest, Select, Send};
+ghost use Rattle.word.specs.Views.{outcome_of, request_of};
 ghost use Rattle.word.specs.declared.request.EventOutcome.TheVariants as outcomes;
-ghost use Rattle.channel_core.specs.Channels.{Does, DoesAlone, IsAlone, IsOfChannels, IsTold, Others, Receives, Sends, Serves, after_passing, came, capacity_of, clause_at, length_of, shared_with};
+ghost use Rattle.channel_core.specs.Channels.{Does, DoesAlone, IsAlone, IsOfChannels, IsTold, Others, Receives, Sends, Serves, after_passing, came, capacity_of, clause_at, front_after, length_of, shared_with};
 
 use crate::channel::Channel;
 use crate::outcome::{Outcome, Woken, sent, tell_got, tell_sent, wake, wake_with};
@@ -91,10 +91,7 @@ impl Channels {
         ensures memory { OnErr result (self.new ≡ self.old) }
     {
         match request {
-            Request::Make(size, zero) => {
-                woken.clear();
-                self.make_asked(number, *size, zero, outcome)
-            }
+            Request::Make(size, zero) => self.make_asked(number, *size, zero, outcome, woken),
             Request::Send(chan, item) => {
                 self.send_asked(number, request, *chan, item, outcome, woken)
             }
@@ -126,10 +123,13 @@ impl Channels {
         size: i64,
         zero: &Item,
         outcome: &mut EventOutcome,
+        woken: &mut Vec<Woken>,
     ) -> Result<(), Memory>
         ensures does { OnOk result (DoesAlone self.old number (Make size zero.now) outcome.new self.new) }
+        ensures nobody { woken.new.items ≡ [] }
         ensures memory { OnErr result (self.new ≡ self.old) }
     {
+        woken.clear();
         if size < 0 || size > MAX_CAPACITY as i64 {
             *outcome = EventOutcome::Panics(Panic::ChannelSize, 0);
             return Ok(());
@@ -155,6 +155,7 @@ impl Channels {
     }
 
     /// The same of goroutine `number`, which asks this.
+    #[inline(always)]
     #[tactic(auto, using(crate::proofs::Deeds::send_done))]
     fn send_asked(
         &mut self,
@@ -189,6 +190,7 @@ impl Channels {
     }
 
     /// The same of goroutine `number`, which asks this.
+    #[inline(always)]
     #[tactic(auto, using(crate::proofs::Deeds::receive_done))]
     fn receive_asked(
         &mut self,
@@ -286,6 +288,7 @@ impl Channels {
     }
 
     /// The same of goroutine `number`, which asks this.
+    #[inline(never)]
     #[tactic(auto, using(crate::proofs::Deeds::select_done))]
     fn select_asked(
         &mut self,
@@ -385,6 +388,7 @@ impl Channels {
     }
 
     /// A send that is ready.
+    #[inline(never)]
     fn send_now(
         &mut self,
         number: u64,
@@ -419,6 +423,7 @@ impl Channels {
     }
 
     /// A receive that is ready.
+    #[inline(never)]
     fn receive_now(
         &mut self,
         chan: u32,
@@ -436,9 +441,15 @@ impl Channels {
         };
         let number = partner.number;
         wake(woken, number, sent(partner.case))?;
-        let received = pass_through(self.alloc, &mut self.channels, chan, partner.item)?;
+        pass_through(
+            self.alloc,
+            &mut self.channels,
+            chan,
+            partner.item,
+            clause,
+            outcome,
+        )?;
         self.asleep.leave(number);
-        tell_got(self.alloc, outcome, clause, &received, true);
         Ok(())
     }
 
@@ -562,40 +573,55 @@ fn pop(channels: &mut [Channel], chan: u32) -> Option<Item>
 }
 
 /// Puts an item, or one of no words, at the back of a channel's buffer, and takes the one at its front, which is the same
-/// one where the buffer is empty.
+/// one where the buffer is empty: a receiver is told it at this place.
 fn pass_through(
     alloc: Global,
     channels: &mut Vec<Channel>,
     chan: u32,
     item: Option<&Item>,
-) -> Result<Item, Memory>
-    ensures ok { IfOk result (λ front. (channel_of channels.old.items chan).items ++ unwrap_or (option_copied item.entry) [] ∷ [] ≡ front ∷ after_passing channels.old.items chan (unwrap_or (option_copied item.entry) [])) }
+    clause: usize,
+    outcome: &mut EventOutcome,
+) -> Result<(), Memory>
+    ensures told { OnOk result (outcome_of outcome.new ≡ Done (got clause (front_after channels.old.items chan (unwrap_or (option_copied item.entry) [])) true)) }
     ensures rest { OnOk result (channels.new.items ≡ slice_set channels.old.items chan (record (channel_of channels.old.items chan) { items = after_passing channels.old.items chan (unwrap_or (option_copied item.entry) []) })) }
     ensures err { OnErr result (channels.new.items ≡ channels.old.items) }
 {
     match item {
-        Some(item) => pass_item(channels.as_mut_slice(), chan, item),
+        Some(item) => pass_item(alloc, channels.as_mut_slice(), chan, item, clause, outcome),
         None => pass_item(
+            alloc,
             channels.as_mut_slice(),
             chan,
-            &Item::new(alloc, [].as_slice()),
+            &Item::empty(alloc),
+            clause,
+            outcome,
         ),
     }
 }
 
 /// The same of this item.
-fn pass_item(channels: &mut [Channel], chan: u32, item: &Item) -> Result<Item, Memory>
-    ensures ok { IfOk result (λ front. (channel_of channels.old chan).items ++ item.now ∷ [] ≡ front ∷ after_passing channels.old chan item.now) }
+#[inline(never)]
+fn pass_item(
+    alloc: Global,
+    channels: &mut [Channel],
+    chan: u32,
+    item: &Item,
+    clause: usize,
+    outcome: &mut EventOutcome,
+) -> Result<(), Memory>
+    ensures told { OnOk result (outcome_of outcome.new ≡ Done (got clause (front_after channels.old chan item.now) true)) }
     ensures rest { OnOk result (channels.new ≡ slice_set channels.old chan (record (channel_of channels.old chan) { items = after_passing channels.old chan item.now })) }
     ensures err { OnErr result (channels.new ≡ channels.old) }
 {
     if (chan as usize) < channels.len() {
-        return Ok(channels[chan as usize].pass_through(item)?);
+        return Ok(channels[chan as usize].pass_through(alloc, item, clause, outcome)?);
     }
-    Ok(item.copy())
+    tell_got(alloc, outcome, clause, item, true);
+    Ok(())
 }
 
 /// A request is told a number, and nobody is woken.
+#[inline(never)]
 fn tell(outcome: &mut EventOutcome, number: i64, woken: &mut Vec<Woken>)
     ensures told { IsTold outcome.new number }
     ensures nobody { woken.new.items ≡ [] }

@@ -1,8 +1,8 @@
 //! What became of a request to a channel.
 
-ghost use Rattle.std.specs.Prelude.{◌≡◌, ◌∷◌, [], OnOk, slice_index_or, slice_set, true};
+ghost use Rattle.std.specs.Prelude.{◌≡◌, ◌∷◌, [], None, OnOk, slice_index_or, slice_set, true};
 ghost use Rattle.word.specs.Requests.{got, sent};
-ghost use Rattle.word.specs.Values.{Done, Received};
+ghost use Rattle.word.specs.Values.{Clause, Done, Received};
 ghost use Rattle.word.specs.Views.{outcome_of, reply_of};
 ghost use Rattle.channel_core.specs.Channels.{came, given, nobody, with_item};
 
@@ -71,11 +71,15 @@ impl Woken {
     fn receives(&mut self, number: u64, item: &Item) -> bool
         ensures { result ≡ true → self.new ≡ (number, Received item.now true) }
     {
-        match &mut self.reply {
+        let Woken {
+            number: place,
+            reply,
+        } = self;
+        match reply {
             Reply::Received(room, ok) => {
                 room.set(item.words());
                 *ok = true;
-                self.number = number;
+                *place = number;
                 true
             }
             _ => false,
@@ -159,8 +163,17 @@ pub(crate) fn tell_sent(outcome: &mut EventOutcome, clause: usize)
     if clause == 0 {
         *outcome = EventOutcome::Done(Reply::Nothing);
     } else {
-        *outcome = EventOutcome::Done(Reply::Clause(clause, None));
+        tell_clause(outcome, clause);
     }
+}
+
+/// A select is told at this place that its clause of this number, which sends, was done. It is a call, so that what a sender is told
+/// outside of a select makes no room for an item.
+#[inline(never)]
+fn tell_clause(outcome: &mut EventOutcome, clause: usize)
+    ensures { outcome_of outcome.new ≡ Done (Clause clause None) }
+{
+    *outcome = EventOutcome::Done(Reply::Clause(clause, None));
 }
 
 /// A receiver is told this item at this place, in a clause of a select, or outside of one where that is 0. A reply that has the room
@@ -209,7 +222,8 @@ pub(crate) fn wake(woken: &mut Vec<Woken>, number: u64, reply: Reply) -> Result<
 
 /// A receiver that was asleep is woken with this item, alone, in a clause of its select, or outside of one where that is 0. Where
 /// a receiver was woken before, alone, its item's room is used again.
-#[tactic(auto, using(crate::proofs::Deeds::given_got, crate::proofs::Deeds::one_is))]
+#[inline(always)]
+#[tactic(auto, using(crate::proofs::Deeds::one_is))]
 pub(crate) fn wake_with(
     alloc: Global,
     woken: &mut Vec<Woken>,
@@ -222,6 +236,21 @@ pub(crate) fn wake_with(
     if clause == 0 && woken.len() == 1 && wake_first(woken.as_mut_slice(), number, item) {
         return Ok(());
     }
+    wake_anew(alloc, woken, number, clause, item)
+}
+
+/// The same, with a new room for the item. It is a call, so that nothing else makes room for an item.
+#[inline(never)]
+#[tactic(auto, using(crate::proofs::Deeds::given_got))]
+fn wake_anew(
+    alloc: Global,
+    woken: &mut Vec<Woken>,
+    number: u64,
+    clause: usize,
+    item: &Item,
+) -> Result<(), Memory>
+    ensures { OnOk result (woken.new.items ≡ (number, got clause item.now true) ∷ []) }
+{
     wake_with_room(alloc, woken, number, clause)?;
     give_first(woken.as_mut_slice(), item);
     Ok(())
