@@ -1,17 +1,18 @@
 -- What sends and receives do, branch by branch.
-use Rattle.std.proofs.Common.{◌≡◌, ◌∙◌, ℕ, Bool, true, false, List, [], ◌∷◌, ◌++◌, Option, Some, None, Result, Ok, Err, OnOk, refl, sym, ap, subst}
+use Rattle.std.proofs.Common.{◌≡◌, ◌∙◌, ℕ, zero, suc, Bool, true, false, List, [], ◌∷◌, ◌++◌, Option, Some, None, Result, Ok, Err, OnOk, refl, sym, ap, subst, arith, length}
 use Rattle.std.specs.Global.{Vec}
 use Rattle.word.specs.declared.request.Case.{Case}
 use Rattle.word.specs.declared.request.EventOutcome.{EventOutcome as Fate}
 use Rattle.word.specs.declared.request.EventOutcome.TheVariants as fates
 use Rattle.word.specs.Values.{Item, Request, Send, Receive, Select}
+use Rattle.word.specs.Views.{outcome_of, reply_of}
 use Rattle.word.specs.Requests.{choose, receive_ready, send_ready, without}
 use Rattle.std.specs.Prelude.{drop, map, option_map, slice_index_or, slice_set, unwrap_or}
 use Rattle.std.proofs.lemmas.List.{set-get_or}
 use Rattle.std.proofs.lemmas.Option.{none-some}
 use Rattle.word.specs.Requests.{Deed, GoesOn, channel_of, got, happened, no_channel, partner, receive_from, sent}
 use Rattle.word.specs.Values.{Channel, Done, Offer, Reply, Shared, Sleeper}
-use Rattle.channel_core.specs.Channels.{ChannelsValue, IsServed, Others, Partner, after_passing, came, deed_of, partner_of, shared_with, Does, DoesAlone, Sends, Receives, Serves}
+use Rattle.channel_core.specs.Channels.{ChannelsValue, IsServed, Others, Partner, after_passing, came, deed_of, given, partner_of, shared_with, Does, DoesAlone, Sends, Receives, Serves}
 use Rattle.channel_core.specs.declared.outcome.Outcome.{Outcome}
 use Rattle.channel_core.specs.declared.outcome.Outcome.TheVariants as outcomes
 
@@ -63,6 +64,36 @@ module _ (old : ChannelsValue) (k clause : ℕ) (front : Item) (o : Others) (n c
       ∙ ap (λ (cs : List Channel). deed o n c q (got clause front true) woken cs left) (sym same)
   passes (y ∷ ys) e h =
       ap (λ (i : Item). deed o n c q (got clause i true) woken (slice_set old.channels k (record ch { items = ys ++ sent_item ∷ [] })) left) (ap (λ (l : List Item). slice_index_or l 0 []) h)
+
+done_inj : (a b : Reply) → Done a ≡ Done b → a ≡ b
+done_inj a b e = cc
+
+-- a request of which this stands in an event is done, and these are woken
+pub done_is : (o : Others) (n c : ℕ) (q : Request) (fate : Fate) (w : Vec (ℕ × Reply)) (r : Reply) (new : ChannelsValue) → outcome_of fate ≡ Done r → deed o n c q r w.items new.channels new.asleep ≡ deed_of o n c q (came fate w) new
+done_is o n c q (fates.Done reply) w r new e = ap (λ (a : Reply). deed o n c q a w.items new.channels new.asleep) (sym (done_inj (reply_of reply) r e))
+done_is o n c q fates.Sleeps w r new e = cc
+done_is o n c q (fates.Panics cause k) w r new e = cc
+
+pub given_got : (k : ℕ) (item : Item) (ok : Bool) → given (got k [] ok) item ≡ got k item ok
+given_got zero item ok = refl
+given_got (suc k) item ok = refl
+
+-- an item enters at a buffer's back, and one leaves at its front
+pub front_is : (xs : List Item) (item : Item) → xs ++ item ∷ [] ≡ slice_index_or (xs ++ item ∷ []) 0 [] ∷ drop 1 (xs ++ item ∷ [])
+front_is [] item = refl
+front_is (y ∷ ys) item = refl
+
+pub front_of : (xs ys : List Item) (x : Item) → xs ≡ x ∷ ys → slice_index_or xs 0 [] ≡ x
+front_of xs ys x e = ap (λ (l : List Item). slice_index_or l 0 []) e
+
+pub rest_of : (xs ys : List Item) (x : Item) → xs ≡ x ∷ ys → drop 1 xs ≡ ys
+rest_of xs ys x e = ap (λ (l : List Item). drop 1 l) e
+
+-- the only one is this now
+pub one_is : {A : Type 0} (xs : List A) (x : A) → length xs ≡ 1 → slice_set xs 0 x ≡ x ∷ []
+one_is [] x e = absurd (omega arith)
+one_is (y ∷ []) x e = refl
+one_is (y ∷ z ∷ zs) x e = absurd (omega arith)
 
 pub served : (old : ChannelsValue) (k clause : ℕ) (front : Item) (p : Partner) (r : Reply) (ws : List (ℕ × Reply)) (channels : List Channel) (asleep : List Sleeper)
     → r ≡ got clause front true → ws ≡ (p.number, sent p.case) ∷ []

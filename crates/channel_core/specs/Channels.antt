@@ -7,7 +7,7 @@ use Rattle.word.specs.declared.request.EventOutcome.TheVariants as fates
 use Rattle.word.specs.declared.end.End.{End as Ending}
 use Rattle.word.specs.declared.end.End.TheVariants.{Panicked}
 use Rattle.word.specs.declared.value.Word.TheVariants.{Int}
-use Rattle.word.specs.Values.{Item, Request, Make, Send, Receive, Close, Select, Len, Cap, Reply, Value, Done, Sleeps, Panics, Event, Channel, Sleeper, Offer, Shared}
+use Rattle.word.specs.Values.{Item, Request, Make, Send, Receive, Close, Select, Len, Cap, Reply, Nothing, Received, Clause, Value, Done, Sleeps, Panics, Event, Channel, Sleeper, Offer, Shared}
 use Rattle.word.specs.Requests.{Deed, GoesOn, Dozes, Stays, happened, act, channel_of, close_reply, do_clause, do_send, do_receive, receive_from}
 use Rattle.word.specs.Views.{outcome_of, reply_of}
 use Rattle.channel_core.specs.declared.outcome.Outcome.{Outcome}
@@ -56,6 +56,19 @@ abbrev pub came : Fate → Vec (ℕ × Reply) → Outcome
 came (fates.Done reply) woken = outcomes.Done reply woken
 came fates.Sleeps woken = outcomes.Sleeps
 came (fates.Panics cause k) woken = outcomes.Panics cause k
+
+-- a reply that hands over this item, where it hands one over
+abbrev pub given : Reply → Item → Reply
+given (Received other ok) item = Received item ok
+given (Clause k (Some got)) item = Clause k (Some (item, got.1))
+given reply item = reply
+
+-- one who is woken, and the reply
+abbrev pub with_item : ℕ × Reply → Item → ℕ × Reply
+with_item one item = (one.0, given one.1 item)
+
+abbrev pub nobody : ℕ × Reply
+nobody = (0, Nothing)
 
 -- goroutine n, at clock c, asked q: what it did, by its outcome
 module _ (o : Others) (n c : ℕ) (q : Request) where
@@ -129,6 +142,10 @@ IsTold fate number = outcome_of fate ≡ Done (Value (Int number))
 -- what is left of channel k's buffer when an item entered at its back and one left at its front
 abbrev pub after_passing : List Channel → ℕ → Item → List Item
 after_passing cs k item = drop 1 ((channel_of cs k).items ++ item ∷ [])
+
+-- the one that left at its front
+abbrev pub front_after : List Channel → ℕ → Item → Item
+front_after cs k item = slice_index_or ((channel_of cs k).items ++ item ∷ []) 0 []
 
 -- a receive of this clause on channel k met this sender, and so it was done
 abbrev pub IsServed : ChannelsValue → ℕ → ℕ → Partner → Outcome → ChannelsValue → Type 0

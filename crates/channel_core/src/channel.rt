@@ -1,11 +1,15 @@
 //! A channel without its sleepers.
 
-ghost use Rattle.std.specs.Prelude.{◌≡◌, ◌<◌, ◌++◌, ◌∷◌, [], false, nat_lt, pos, true, length, IfOk, IfSome, IfNone, OnErr, OnOk};
-ghost use Rattle.word.specs.Requests.{no_channel};
+ghost use Rattle.std.specs.Prelude.{◌≡◌, ◌<◌, ◌++◌, ◌∷◌, [], false, drop, nat_lt, pos, slice_index_or, true, length, IfSome, IfNone, OnErr, OnOk};
+ghost use Rattle.word.specs.Requests.{got, no_channel};
+ghost use Rattle.word.specs.Values.{Done};
+ghost use Rattle.word.specs.Views.{outcome_of};
 
+use crate::outcome::tell_got;
 use std::alloc::{AllocError, Global};
 use std::collections::VecDeque;
 use std::marker::Model;
+use word::request::EventOutcome;
 use word::value::Item;
 
 /// A channel without its sleepers: its capacity, what is in its buffer, whether it is closed, and the zero item.
@@ -88,11 +92,12 @@ impl Channel {
     }
 
     /// Puts an item at the buffer's back.
-    pub(crate) fn push(&mut self, item: Item) -> Result<(), AllocError>
-        ensures ok { OnOk result (self.new ≡ record self.old { items = self.old.items ++ item ∷ [] }) }
+    pub(crate) fn push(&mut self, item: &Item) -> Result<(), AllocError>
+        ensures ok { OnOk result (self.new ≡ record self.old { items = self.old.items ++ item.now ∷ [] }) }
         ensures err { OnErr result (self.new ≡ self.old) }
     {
-        self.items.push_back(item)?;
+        self.items.reserve(1)?;
+        self.items.push_back_reserved(item.copy());
         Ok(())
     }
 
@@ -106,18 +111,29 @@ impl Channel {
     }
 
     /// Puts an item at the buffer's back, and takes the one at its front, which is the same one where the buffer is
-    /// empty.
-    pub(crate) fn pass_through(&mut self, item: &Item) -> Result<Item, AllocError>
-        ensures ok { IfOk result (λ front. self.old.items ++ item.now ∷ [] ≡ front ∷ self.new.items) }
-        ensures rest { OnOk result (self.new ≡ record self.old { items = self.new.items }) }
+    /// empty: a receiver is told it at this place.
+    #[tactic(auto, using(crate::proofs::Deeds::front_of, crate::proofs::Deeds::rest_of))]
+    pub(crate) fn pass_through(
+        &mut self,
+        alloc: Global,
+        item: &Item,
+        clause: usize,
+        outcome: &mut EventOutcome,
+    ) -> Result<(), AllocError>
+        ensures told { OnOk result (outcome_of outcome.new ≡ Done (got clause (slice_index_or (self.old.items ++ item.now ∷ []) 0 []) true)) }
+        ensures rest { OnOk result (self.new ≡ record self.old { items = drop 1 (self.old.items ++ item.now ∷ []) }) }
         ensures err { OnErr result (self.new ≡ self.old) }
     {
         if self.items.is_empty() {
-            return Ok(item.copy());
+            tell_got(alloc, outcome, clause, item, true);
+            return Ok(());
         }
-        self.items.push_back(item.copy())?;
+        self.push(item)?;
         match self.items.pop_front() {
-            Some(front) => Ok(front),
+            Some(front) => {
+                tell_got(alloc, outcome, clause, &front, true);
+                Ok(())
+            }
             None => unreachable!(),
         }
     }

@@ -1,14 +1,14 @@
 //! The channels of a world, and those who sleep at them.
 
 ghost use Rattle.std.specs.Prelude.{◌≡◌, ℕ, ◌+◌, ◌<◌, ◌≤◌, ◌∷◌, [], ◌++◌, IfOk, IfNone, IfSome, OnErr, OnOk, Some, None, nat_lt, option_copied, option_map, pos, suc, false, true, length, slice_index_or, slice_set, unwrap_or};
-ghost use Rattle.word.specs.Requests.{channel_of, choose, is_ready, no_channel, receive_ready, send_ready, without};
-ghost use Rattle.word.specs.Values.{Close, Make, Receive, Request as AnyRequest, Select, Send};
-ghost use Rattle.word.specs.Views.{reply_of, request_of};
+ghost use Rattle.word.specs.Requests.{channel_of, choose, got, is_ready, no_channel, receive_ready, send_ready, without};
+ghost use Rattle.word.specs.Values.{Close, Done, Make, Receive, Request as AnyRequest, Select, Send};
+ghost use Rattle.word.specs.Views.{outcome_of, request_of};
 ghost use Rattle.word.specs.declared.request.EventOutcome.TheVariants as outcomes;
-ghost use Rattle.channel_core.specs.Channels.{Does, DoesAlone, IsAlone, IsOfChannels, IsTold, Others, Receives, Sends, Serves, after_passing, came, capacity_of, clause_at, length_of, shared_with};
+ghost use Rattle.channel_core.specs.Channels.{Does, DoesAlone, IsAlone, IsOfChannels, IsTold, Others, Receives, Sends, Serves, after_passing, came, capacity_of, clause_at, front_after, length_of, shared_with};
 
 use crate::channel::Channel;
-use crate::outcome::{Outcome, Woken, got, sent};
+use crate::outcome::{Outcome, Woken, sent, tell_got, tell_sent, wake, wake_with};
 use crate::rows::copy_of;
 use crate::sleepers::Sleepers;
 use go_text::Memory;
@@ -78,7 +78,7 @@ impl Channels {
     }
 
     /// The same, but that it is written to these places what becomes of the request, and who is woken, in the order in which they
-    /// fell asleep. What stood there before is of no account.
+    /// fell asleep; the list is of no account where it isn't done. What stood there before is of no account.
     pub fn meet(
         &mut self,
         number: u64,
@@ -90,9 +90,8 @@ impl Channels {
         ensures does { OnOk result (Does self.old number (request_of request.now) (came outcome.new woken.new) self.new) }
         ensures memory { OnErr result (self.new ≡ self.old) }
     {
-        woken.clear();
         match request {
-            Request::Make(size, zero) => self.make_asked(number, *size, zero, outcome),
+            Request::Make(size, zero) => self.make_asked(number, *size, zero, outcome, woken),
             Request::Send(chan, item) => {
                 self.send_asked(number, request, *chan, item, outcome, woken)
             }
@@ -101,8 +100,8 @@ impl Channels {
             Request::Select(cases, default) => {
                 self.select_asked(number, request, cases.as_slice(), *default, outcome, woken)
             }
-            Request::Len(chan) => Ok(tell(outcome, self.len(*chan))),
-            Request::Cap(chan) => Ok(tell(outcome, self.cap(*chan))),
+            Request::Len(chan) => Ok(tell(outcome, self.len(*chan), woken)),
+            Request::Cap(chan) => Ok(tell(outcome, self.cap(*chan), woken)),
             _ => unreachable!(),
         }
     }
@@ -124,10 +123,13 @@ impl Channels {
         size: i64,
         zero: &Item,
         outcome: &mut EventOutcome,
+        woken: &mut Vec<Woken>,
     ) -> Result<(), Memory>
         ensures does { OnOk result (DoesAlone self.old number (Make size zero.now) outcome.new self.new) }
+        ensures nobody { woken.new.items ≡ [] }
         ensures memory { OnErr result (self.new ≡ self.old) }
     {
+        woken.clear();
         if size < 0 || size > MAX_CAPACITY as i64 {
             *outcome = EventOutcome::Panics(Panic::ChannelSize, 0);
             return Ok(());
@@ -153,6 +155,7 @@ impl Channels {
     }
 
     /// The same of goroutine `number`, which asks this.
+    #[inline(always)]
     #[tactic(auto, using(crate::proofs::Deeds::send_done))]
     fn send_asked(
         &mut self,
@@ -163,8 +166,7 @@ impl Channels {
         outcome: &mut EventOutcome,
         woken: &mut Vec<Woken>,
     ) -> Result<(), Memory>
-        requires request { request_of request.now ≡ Send chan item.now }
-        requires nobody { woken.old.items ≡ [] }
+        requires { request_of request.now ≡ Send chan item.now }
         ensures does { OnOk result (Does self.old number (Send chan item.now) (came outcome.new woken.new) self.new) }
         ensures memory { OnErr result (self.new ≡ self.old) }
     {
@@ -188,6 +190,7 @@ impl Channels {
     }
 
     /// The same of goroutine `number`, which asks this.
+    #[inline(always)]
     #[tactic(auto, using(crate::proofs::Deeds::receive_done))]
     fn receive_asked(
         &mut self,
@@ -197,8 +200,7 @@ impl Channels {
         outcome: &mut EventOutcome,
         woken: &mut Vec<Woken>,
     ) -> Result<(), Memory>
-        requires request { request_of request.now ≡ Receive chan }
-        requires nobody { woken.old.items ≡ [] }
+        requires { request_of request.now ≡ Receive chan }
         ensures does { OnOk result (Does self.old number (Receive chan) (came outcome.new woken.new) self.new) }
         ensures memory { OnErr result (self.new ≡ self.old) }
     {
@@ -286,6 +288,7 @@ impl Channels {
     }
 
     /// The same of goroutine `number`, which asks this.
+    #[inline(never)]
     #[tactic(auto, using(crate::proofs::Deeds::select_done))]
     fn select_asked(
         &mut self,
@@ -296,13 +299,13 @@ impl Channels {
         outcome: &mut EventOutcome,
         woken: &mut Vec<Woken>,
     ) -> Result<(), Memory>
-        requires request { request_of request.now ≡ Select cases.now default }
-        requires nobody { woken.old.items ≡ [] }
+        requires { request_of request.now ≡ Select cases.now default }
         ensures does { OnOk result (Does self.old number (Select cases.now default) (came outcome.new woken.new) self.new) }
         ensures memory { OnErr result (self.new ≡ self.old) }
     {
         let Some(place) = self.first_ready(cases) else {
             if default {
+                woken.clear();
                 *outcome = EventOutcome::Done(Reply::Default);
                 return Ok(());
             }
@@ -349,7 +352,6 @@ impl Channels {
         outcome: &mut EventOutcome,
         woken: &mut Vec<Woken>,
     ) -> Result<bool, Memory>
-        requires { woken.old.items ≡ [] }
         ensures yes { IfOk result (λ served. served ≡ true → Serves self.old number case.now clause (came outcome.new woken.new) self.new) }
         ensures no { IfOk result (λ served. served ≡ false → (case.now.chan ≡ None) × (self.new ≡ self.old)) }
         ensures memory { OnErr result (self.new ≡ self.old) }
@@ -386,6 +388,7 @@ impl Channels {
     }
 
     /// A send that is ready.
+    #[inline(never)]
     fn send_now(
         &mut self,
         number: u64,
@@ -395,7 +398,6 @@ impl Channels {
         outcome: &mut EventOutcome,
         woken: &mut Vec<Woken>,
     ) -> Result<(), Memory>
-        requires { woken.old.items ≡ [] }
         ensures sends { OnOk result (Sends self.old number chan item.now clause (came outcome.new woken.new) self.new) }
         ensures memory { OnErr result (self.new ≡ self.old) }
     {
@@ -406,21 +408,22 @@ impl Channels {
         match self.asleep.partner(chan, false) {
             Some(partner) => {
                 let number = partner.number;
-                let reply = got(partner.case, item, true);
-                wake(woken, number, reply)?;
+                wake_with(self.alloc, woken, number, partner.case, item)?;
                 self.asleep.leave(number);
-                *outcome = EventOutcome::Done(sent(clause));
+                tell_sent(outcome, clause);
                 Ok(())
             }
             None => {
-                push(self.channels.as_mut_slice(), chan, item.copy())?;
-                *outcome = EventOutcome::Done(sent(clause));
+                woken.clear();
+                push(self.channels.as_mut_slice(), chan, item)?;
+                tell_sent(outcome, clause);
                 Ok(())
             }
         }
     }
 
     /// A receive that is ready.
+    #[inline(never)]
     fn receive_now(
         &mut self,
         chan: u32,
@@ -428,19 +431,25 @@ impl Channels {
         outcome: &mut EventOutcome,
         woken: &mut Vec<Woken>,
     ) -> Result<(), Memory>
-        requires { woken.old.items ≡ [] }
         ensures receives { OnOk result ((n : ℕ) → Receives self.old n chan clause (came outcome.new woken.new) self.new) }
         ensures memory { OnErr result (self.new ≡ self.old) }
     {
         let Some(partner) = self.asleep.partner(chan, true) else {
+            woken.clear();
             self.receive_alone(chan, clause, outcome);
             return Ok(());
         };
         let number = partner.number;
         wake(woken, number, sent(partner.case))?;
-        let received = pass_through(self.alloc, &mut self.channels, chan, partner.item)?;
+        pass_through(
+            self.alloc,
+            &mut self.channels,
+            chan,
+            partner.item,
+            clause,
+            outcome,
+        )?;
         self.asleep.leave(number);
-        *outcome = EventOutcome::Done(got(clause, &received, true));
         Ok(())
     }
 
@@ -450,13 +459,13 @@ impl Channels {
     {
         if !self.has_items(chan) {
             let zero = self.zero(chan);
-            *outcome = EventOutcome::Done(got(clause, &zero, false));
+            tell_got(self.alloc, outcome, clause, &zero, false);
             return;
         }
         let Some(item) = pop(self.channels.as_mut_slice(), chan) else {
             unreachable!()
         };
-        *outcome = EventOutcome::Done(got(clause, &item, true));
+        tell_got(self.alloc, outcome, clause, &item, true);
     }
 
     /// Goroutine `number` falls asleep at this request.
@@ -539,9 +548,10 @@ fn copy_of_cases(alloc: Global, cases: &[Case]) -> Result<Vec<Case>, Memory>
     Ok(copy)
 }
 
-/// Puts an item at the back of a channel's buffer.
-fn push(channels: &mut [Channel], chan: u32, item: Item) -> Result<(), Memory>
-    ensures ok { OnOk result (channels.new ≡ slice_set channels.old chan (record (channel_of channels.old chan) { items = (channel_of channels.old chan).items ++ item ∷ [] })) }
+/// Puts an item at the back of a channel's buffer. It is a call, so that nothing else makes room for an item.
+#[inline(never)]
+fn push(channels: &mut [Channel], chan: u32, item: &Item) -> Result<(), Memory>
+    ensures ok { OnOk result (channels.new ≡ slice_set channels.old chan (record (channel_of channels.old chan) { items = (channel_of channels.old chan).items ++ item.now ∷ [] })) }
     ensures err { OnErr result (channels.new ≡ channels.old) }
 {
     if (chan as usize) < channels.len() {
@@ -563,53 +573,59 @@ fn pop(channels: &mut [Channel], chan: u32) -> Option<Item>
 }
 
 /// Puts an item, or one of no words, at the back of a channel's buffer, and takes the one at its front, which is the same
-/// one where the buffer is empty.
+/// one where the buffer is empty: a receiver is told it at this place.
 fn pass_through(
     alloc: Global,
     channels: &mut Vec<Channel>,
     chan: u32,
     item: Option<&Item>,
-) -> Result<Item, Memory>
-    ensures ok { IfOk result (λ front. (channel_of channels.old.items chan).items ++ unwrap_or (option_copied item.entry) [] ∷ [] ≡ front ∷ after_passing channels.old.items chan (unwrap_or (option_copied item.entry) [])) }
+    clause: usize,
+    outcome: &mut EventOutcome,
+) -> Result<(), Memory>
+    ensures told { OnOk result (outcome_of outcome.new ≡ Done (got clause (front_after channels.old.items chan (unwrap_or (option_copied item.entry) [])) true)) }
     ensures rest { OnOk result (channels.new.items ≡ slice_set channels.old.items chan (record (channel_of channels.old.items chan) { items = after_passing channels.old.items chan (unwrap_or (option_copied item.entry) []) })) }
     ensures err { OnErr result (channels.new.items ≡ channels.old.items) }
 {
     match item {
-        Some(item) => pass_item(channels.as_mut_slice(), chan, item),
+        Some(item) => pass_item(alloc, channels.as_mut_slice(), chan, item, clause, outcome),
         None => pass_item(
+            alloc,
             channels.as_mut_slice(),
             chan,
-            &Item::new(alloc, [].as_slice()),
+            &Item::empty(alloc),
+            clause,
+            outcome,
         ),
     }
 }
 
 /// The same of this item.
-fn pass_item(channels: &mut [Channel], chan: u32, item: &Item) -> Result<Item, Memory>
-    ensures ok { IfOk result (λ front. (channel_of channels.old chan).items ++ item.now ∷ [] ≡ front ∷ after_passing channels.old chan item.now) }
+#[inline(never)]
+fn pass_item(
+    alloc: Global,
+    channels: &mut [Channel],
+    chan: u32,
+    item: &Item,
+    clause: usize,
+    outcome: &mut EventOutcome,
+) -> Result<(), Memory>
+    ensures told { OnOk result (outcome_of outcome.new ≡ Done (got clause (front_after channels.old chan item.now) true)) }
     ensures rest { OnOk result (channels.new ≡ slice_set channels.old chan (record (channel_of channels.old chan) { items = after_passing channels.old chan item.now })) }
     ensures err { OnErr result (channels.new ≡ channels.old) }
 {
     if (chan as usize) < channels.len() {
-        return Ok(channels[chan as usize].pass_through(item)?);
+        return Ok(channels[chan as usize].pass_through(alloc, item, clause, outcome)?);
     }
-    Ok(item.copy())
-}
-
-/// A request is told a number.
-fn tell(outcome: &mut EventOutcome, number: i64)
-    ensures { IsTold outcome.new number }
-{
-    *outcome = EventOutcome::Done(Reply::Word(Word::Int(number)));
-}
-
-/// One that was asleep is woken with what it is told, alone.
-#[inline(always)]
-fn wake(woken: &mut Vec<Woken>, number: u64, reply: Reply) -> Result<(), Memory>
-    requires { woken.old.items ≡ [] }
-    ensures { OnOk result (woken.new.items ≡ (number, reply_of reply) ∷ []) }
-{
-    woken.reserve(1)?;
-    woken.push_reserved(Woken::new(number, reply));
+    tell_got(alloc, outcome, clause, item, true);
     Ok(())
+}
+
+/// A request is told a number, and nobody is woken.
+#[inline(never)]
+fn tell(outcome: &mut EventOutcome, number: i64, woken: &mut Vec<Woken>)
+    ensures told { IsTold outcome.new number }
+    ensures nobody { woken.new.items ≡ [] }
+{
+    woken.clear();
+    *outcome = EventOutcome::Done(Reply::Word(Word::Int(number)));
 }

@@ -1,10 +1,13 @@
 //! What became of a request to a channel.
 
-ghost use Rattle.std.specs.Prelude.{◌≡◌};
+ghost use Rattle.std.specs.Prelude.{◌≡◌, ◌∷◌, [], None, OnOk, slice_index_or, slice_set, true};
 ghost use Rattle.word.specs.Requests.{got, sent};
-ghost use Rattle.word.specs.Views.{reply_of};
-ghost use Rattle.channel_core.specs.Channels.{came};
+ghost use Rattle.word.specs.Values.{Clause, Done, Received};
+ghost use Rattle.word.specs.Views.{outcome_of, reply_of};
+ghost use Rattle.channel_core.specs.Channels.{came, given, nobody, with_item};
 
+use go_text::Memory;
+use std::alloc::Global;
 use std::marker::Model;
 use word::panic::Panic;
 use word::request::{EventOutcome, Reply};
@@ -28,8 +31,10 @@ impl Model for Woken {
 }
 
 impl Woken {
-    ghost use Rattle.std.specs.Prelude.{◌≡◌};
+    ghost use Rattle.std.specs.Prelude.{◌≡◌, true};
+    ghost use Rattle.word.specs.Values.{Received};
     ghost use Rattle.word.specs.Views.{reply_of};
+    ghost use Rattle.channel_core.specs.Channels.{with_item};
 
     /// Goroutine `number`, which is told this.
     #[inline(always)]
@@ -51,6 +56,34 @@ impl Woken {
         ensures { reply_of result.now ≡ self.now.1 }
     {
         &self.reply
+    }
+
+    /// The item that it is told, if it is told one, is this.
+    #[inline(always)]
+    fn give(&mut self, item: &Item)
+        ensures { self.new ≡ with_item self.old item.now }
+    {
+        give(&mut self.reply, item);
+    }
+
+    /// Goroutine `number` is told this item outside of a select; no where another reply than one with an item stood here.
+    #[inline(always)]
+    fn receives(&mut self, number: u64, item: &Item) -> bool
+        ensures { result ≡ true → self.new ≡ (number, Received item.now true) }
+    {
+        let Woken {
+            number: place,
+            reply,
+        } = self;
+        match reply {
+            Reply::Received(room, ok) => {
+                room.set(item.words());
+                *ok = true;
+                *place = number;
+                true
+            }
+            _ => false,
+        }
     }
 
     /// What it is told.
@@ -112,9 +145,7 @@ pub(crate) fn sent(clause: usize) -> Reply
     Reply::Clause(clause, None)
 }
 
-/// What a receiver of this item is told, in a clause of a select, or outside of one where that is 0. It is a call, and each of
-/// its arms makes a copy of its own: so an item is copied as a whole, and not word by word.
-#[inline(never)]
+/// What a receiver of this item is told, in a clause of a select, or outside of one where that is 0.
 pub(crate) fn got(clause: usize, item: &Item, ok: bool) -> Reply
     ensures { reply_of result ≡ got clause item.now ok }
 {
@@ -122,4 +153,147 @@ pub(crate) fn got(clause: usize, item: &Item, ok: bool) -> Reply
         return Reply::Received(item.copy(), ok);
     }
     Reply::Clause(clause, Some((item.copy(), ok)))
+}
+
+/// A sender is told at this place that its item was accepted, in a clause of a select, or outside of one where that is 0.
+#[inline(always)]
+pub(crate) fn tell_sent(outcome: &mut EventOutcome, clause: usize)
+    ensures { outcome_of outcome.new ≡ Done (sent clause) }
+{
+    if clause == 0 {
+        *outcome = EventOutcome::Done(Reply::Nothing);
+    } else {
+        tell_clause(outcome, clause);
+    }
+}
+
+/// A select is told at this place that its clause of this number, which sends, was done. It is a call, so that what a sender is told
+/// outside of a select makes no room for an item.
+#[inline(never)]
+fn tell_clause(outcome: &mut EventOutcome, clause: usize)
+    ensures { outcome_of outcome.new ≡ Done (Clause clause None) }
+{
+    *outcome = EventOutcome::Done(Reply::Clause(clause, None));
+}
+
+/// A receiver is told this item at this place, in a clause of a select, or outside of one where that is 0. A reply that has the room
+/// of an item stands there first, and then its words are written: so no item is moved.
+pub(crate) fn tell_got(
+    alloc: Global,
+    outcome: &mut EventOutcome,
+    clause: usize,
+    item: &Item,
+    ok: bool,
+)
+    ensures { outcome_of outcome.new ≡ Done (got clause item.now ok) }
+{
+    if clause == 0 {
+        *outcome = EventOutcome::Done(Reply::Received(Item::empty(alloc), ok));
+    } else {
+        *outcome = EventOutcome::Done(Reply::Clause(clause, Some((Item::empty(alloc), ok))));
+    }
+    if let EventOutcome::Done(reply) = outcome {
+        give(reply, item);
+    }
+}
+
+/// The item that a reply hands over, if it hands one over, is this.
+#[inline(always)]
+fn give(reply: &mut Reply, item: &Item)
+    ensures { reply_of reply.new ≡ given (reply_of reply.old) item.now }
+{
+    match reply {
+        Reply::Received(room, _) => room.set(item.words()),
+        Reply::Clause(_, Some((room, _))) => room.set(item.words()),
+        _ => {}
+    }
+}
+
+/// One that was asleep is woken with what it is told, alone. Those who were woken before are of no account.
+#[inline(always)]
+pub(crate) fn wake(woken: &mut Vec<Woken>, number: u64, reply: Reply) -> Result<(), Memory>
+    ensures { OnOk result (woken.new.items ≡ (number, reply_of reply) ∷ []) }
+{
+    woken.clear();
+    woken.reserve(1)?;
+    woken.push_reserved(Woken::new(number, reply));
+    Ok(())
+}
+
+/// A receiver that was asleep is woken with this item, alone, in a clause of its select, or outside of one where that is 0. Where
+/// a receiver was woken before, alone, its item's room is used again.
+#[inline(always)]
+#[tactic(auto, using(crate::proofs::Deeds::one_is))]
+pub(crate) fn wake_with(
+    alloc: Global,
+    woken: &mut Vec<Woken>,
+    number: u64,
+    clause: usize,
+    item: &Item,
+) -> Result<(), Memory>
+    ensures { OnOk result (woken.new.items ≡ (number, got clause item.now true) ∷ []) }
+{
+    if clause == 0 && woken.len() == 1 && wake_first(woken.as_mut_slice(), number, item) {
+        return Ok(());
+    }
+    wake_anew(alloc, woken, number, clause, item)
+}
+
+/// The same, with a new room for the item. It is a call, so that nothing else makes room for an item.
+#[inline(never)]
+#[tactic(auto, using(crate::proofs::Deeds::given_got))]
+fn wake_anew(
+    alloc: Global,
+    woken: &mut Vec<Woken>,
+    number: u64,
+    clause: usize,
+    item: &Item,
+) -> Result<(), Memory>
+    ensures { OnOk result (woken.new.items ≡ (number, got clause item.now true) ∷ []) }
+{
+    wake_with_room(alloc, woken, number, clause)?;
+    give_first(woken.as_mut_slice(), item);
+    Ok(())
+}
+
+/// A receiver is woken with this item, outside of a select, in the place of the first who was; no where that one was told something
+/// else.
+#[inline(always)]
+fn wake_first(woken: &mut [Woken], number: u64, item: &Item) -> bool
+    ensures { result ≡ true → woken.new ≡ slice_set woken.old 0 (number, Received item.now true) }
+{
+    if woken.is_empty() {
+        return false;
+    }
+    woken[0].receives(number, item)
+}
+
+/// A receiver is woken with an item of no words, alone, in a clause of its select, or outside of one where that is 0.
+#[inline(always)]
+fn wake_with_room(
+    alloc: Global,
+    woken: &mut Vec<Woken>,
+    number: u64,
+    clause: usize,
+) -> Result<(), Memory>
+    ensures { OnOk result (woken.new.items ≡ (number, got clause [] true) ∷ []) }
+{
+    if clause == 0 {
+        return wake(woken, number, Reply::Received(Item::empty(alloc), true));
+    }
+    wake(
+        woken,
+        number,
+        Reply::Clause(clause, Some((Item::empty(alloc), true))),
+    )
+}
+
+/// The item that the first of those who are woken is told, if it is told one, is this.
+#[inline(always)]
+fn give_first(woken: &mut [Woken], item: &Item)
+    ensures { woken.new ≡ slice_set woken.old 0 (with_item (slice_index_or woken.old 0 nobody) item.now) }
+{
+    if !woken.is_empty() {
+        woken[0].give(item);
+    }
 }

@@ -59,10 +59,28 @@ impl Item {
         requires { length words.now ≤ MAX_WORDS }
         ensures { result ≡ words.now }
     {
-        match SmallVec::from_slice(alloc, words) {
-            Ok(words) => Item { words },
-            Err(_) => unreachable!(),
+        let mut item = Item::empty(alloc);
+        item.set(words);
+        item
+    }
+
+    /// An item of no words.
+    #[inline(always)]
+    pub fn empty(alloc: Global) -> Item
+        ensures { result ≡ [] }
+    {
+        Item {
+            words: SmallVec::new(alloc),
         }
+    }
+
+    /// The item is these words now. It stays where it is: only words are written, those that it had and those that it gets.
+    #[inline(always)]
+    pub fn set(&mut self, words: &[Word])
+        requires { length words.now ≤ MAX_WORDS }
+        ensures { self.new ≡ words.now }
+    {
+        fill(&mut self.words, words);
     }
 
     /// The item's words.
@@ -79,5 +97,18 @@ impl Item {
         ensures { result ≡ self.now }
     {
         Item::new(*self.words.allocator(), self.words.as_slice())
+    }
+}
+
+/// These words stand here now, and no others.
+#[inline(always)]
+fn fill(kept: &mut SmallVec<Word, MAX_WORDS>, words: &[Word])
+    requires { length words.now ≤ MAX_WORDS }
+    ensures { kept.new.items ≡ words.now }
+{
+    kept.clear();
+    let _room = kept.capacity();
+    for word in words {
+        kept.push_reserved(*word);
     }
 }
