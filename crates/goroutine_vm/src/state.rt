@@ -224,11 +224,15 @@ impl GoState {
         ensures memory { OnErr result (self.new ≡ self.old) }
         ensures state { IsStateOf code.now limit self.new }
     {
+        let source = code.code();
         if self.doomed {
             return Ok(true);
         }
+        if self.frames.is_at_request(source) {
+            return Ok(true);
+        }
         let may = self.clock.time() < limit;
-        match self.frames.step(alloc, code.code(), may)? {
+        match self.frames.step(alloc, source, may)? {
             Stepped::Slid => Ok(false),
             Stepped::Ticked => {
                 if !may {

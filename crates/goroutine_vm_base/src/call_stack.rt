@@ -2,10 +2,11 @@
 
 ghost use Rattle.std.specs.Prelude.{◌≡◌, ◌+◌, ◌<◌, ◌≤◌, ◌^◌, ◌++◌, ◌∷◌, [], OnErr, OnOk, Some, drop, length, reverse, slice_get, take};
 ghost use Rattle.bytecode.specs.Machine.{Frame as FrameValue, Frames, begun, goes_on};
-ghost use Rattle.goroutine_vm_base.specs.Steps.{Resumes, ResumesWith, ahead};
+ghost use Rattle.goroutine_vm_base.specs.Steps.{Resumes, ResumesInto, ResumesWith, ahead};
 ghost use Rattle.word.specs.declared.value.Word.TheVariants.{Int};
 
 use crate::frame::{Frame, empty};
+use crate::fused::keep;
 use bytecode::WordKind;
 use std::alloc::{AllocError, Global};
 use std::marker::Model;
@@ -61,7 +62,7 @@ impl CallStack {
     }
 
     /// Puts the function that runs before those that wait.
-    pub(crate) fn park(&mut self, alloc: Global, frame: &mut Frame) -> Result<(), AllocError>
+    pub fn park(&mut self, alloc: Global, frame: &mut Frame) -> Result<(), AllocError>
         ensures ok { OnOk result (self.new ≡ frame.old ∷ self.old) }
         ensures err { OnErr result ((frame.new ≡ frame.old) × (self.new ≡ self.old)) }
     {
@@ -72,7 +73,7 @@ impl CallStack {
     }
 
     /// Takes the last one called out of these.
-    pub(crate) fn unpark(&mut self, frame: &mut Frame)
+    pub fn unpark(&mut self, frame: &mut Frame)
         requires { 0 < length self.old }
         ensures { self.old ≡ frame.new ∷ self.new }
     {
@@ -86,6 +87,15 @@ impl CallStack {
         ensures { (c : FrameValue) → (cs : Frames) → self.now ≡ c ∷ cs → result.now ≡ c }
     {
         &self.frames[self.depth - 1]
+    }
+
+    /// The one that waits for the last one called.
+    #[inline(always)]
+    pub(crate) fn caller(&self) -> &Frame
+        requires { 1 < length self.now }
+        ensures { (c x : FrameValue) → (cs : Frames) → self.now ≡ c ∷ (x ∷ cs) → result.now ≡ x }
+    {
+        &self.frames[self.depth - 2]
     }
 
     /// The last one called calls another with the words from a place of its stack on, and waits behind the call.
@@ -155,6 +165,20 @@ impl CallStack {
         self.frames[self.depth - 2].push_number(number)?;
         self.depth -= 1;
         Ok(())
+    }
+
+    /// The last one called returns to the one before it with an int, which that stores in a local, and makes the tick behind it.
+    #[inline(always)]
+    pub(crate) fn resume_into(&mut self, to: usize, number: i64)
+        requires some { 1 < length self.old }
+        requires to { (c x : FrameValue) → (cs : Frames) → self.old ≡ c ∷ (x ∷ cs) → to < length x.locals }
+        requires place { (c x : FrameValue) → (cs : Frames) → self.old ≡ c ∷ (x ∷ cs) → x.place + 2 < 2 ^ 64 }
+        ensures { ResumesInto to number self.old self.new }
+    {
+        let frame = &mut self.frames[self.depth - 2];
+        let next = frame.place + 2;
+        keep(frame, to, number, next);
+        self.depth -= 1;
     }
 
     /// The last one called returns to the one before it, with the words of its stack.

@@ -1,14 +1,16 @@
 //! The instruction at a frame.
 
-ghost use Rattle.std.specs.Prelude.{◌+◌, ◌<◌, ◌^◌, IfSome};
+ghost use Rattle.std.specs.Prelude.{◌≡◌, ◌+◌, ◌<◌, ◌^◌, ◌∷◌, IfSome, IsTrue};
+ghost use Rattle.bytecode.specs.Machine.{Frames, code_next, is_told};
 ghost use Rattle.bytecode.specs.Rules.{IsVerified};
-ghost use Rattle.goroutine_vm_base.specs.Steps.{Fetched};
+ghost use Rattle.goroutine_vm_base.specs.Steps.{AsksOrFails, Fetched};
 
 use crate::frame::Frame;
 use bytecode::{Code, Instr};
 use operands::width::pops_of;
 
 /// The instruction at a frame and how many words it pops.
+#[inline(always)]
 pub fn fetch(code: &Code, frame: &Frame) -> Option<(Instr, usize)>
     requires { IsVerified code.now }
     ensures fetched { Fetched code.now frame.now result }
@@ -21,5 +23,31 @@ pub fn fetch(code: &Code, frame: &Frame) -> Option<(Instr, usize)>
     match f.instrs().get(frame.place) {
         Some(i) => Some((*i, pops_of(code, f, *i))),
         None => None,
+    }
+}
+
+/// Whether an instruction that is no select asks.
+fn is_request(i: &Instr) -> bool
+    ensures { result ≡ is_told i.now }
+{
+    match i {
+        Instr::Make(_) | Instr::Go(_) | Instr::Send(_) | Instr::Receive(_) => true,
+        Instr::Close | Instr::Len | Instr::Cap | Instr::Print(_) => true,
+        _ => false,
+    }
+}
+
+/// Whether a frame stands at such an instruction, which in verified code asks whatever its operands are.
+pub fn stands_at_request(code: &Code, frame: &Frame) -> bool
+    ensures { IsTrue result → (callers : Frames) → AsksOrFails (code_next code.now (frame.now ∷ callers)) }
+{
+    frame.quiet();
+    let f = match code.functions().get(frame.function) {
+        Some(f) => f,
+        None => return false,
+    };
+    match f.instrs().get(frame.place) {
+        Some(i) => is_request(i),
+        None => false,
     }
 }

@@ -18,7 +18,7 @@ use word::limits::MAX_DEPTH;
 use word::value::Word;
 
 /// Pushes a word, and goes on to the next instruction.
-pub(crate) fn push(frame: &mut Frame, word: Word) -> Result<(), AllocError>
+pub fn push(frame: &mut Frame, word: Word) -> Result<(), AllocError>
     requires { frame.old.place + 1 < 2 ^ 64 }
     ensures ok { OnOk result (frame.new ≡ goes_on frame.old (frame.old.stack ++ word ∷ [])) }
     ensures err { OnErr result (frame.new ≡ frame.old) }
@@ -29,7 +29,7 @@ pub(crate) fn push(frame: &mut Frame, word: Word) -> Result<(), AllocError>
 }
 
 /// Pushes the locals of a range, and goes on.
-fn load(frame: &mut Frame, from: usize, to: usize) -> Result<(), AllocError>
+pub fn load(frame: &mut Frame, from: usize, to: usize) -> Result<(), AllocError>
     requires place { frame.old.place + 1 < 2 ^ 64 }
     requires within { to ≤ length frame.old.locals }
     requires order { from ≤ to }
@@ -42,7 +42,7 @@ fn load(frame: &mut Frame, from: usize, to: usize) -> Result<(), AllocError>
 }
 
 /// Pops words from a place of the stack on into the locals from another on, and goes on.
-pub(crate) fn store(frame: &mut Frame, from: usize, at: usize)
+pub fn store(frame: &mut Frame, from: usize, at: usize)
     requires place { frame.old.place + 1 < 2 ^ 64 }
     requires at { at ≤ length frame.old.stack }
     requires within { from + (length frame.old.stack - at) ≤ length frame.old.locals }
@@ -54,7 +54,7 @@ pub(crate) fn store(frame: &mut Frame, from: usize, at: usize)
 }
 
 /// Keeps of the words from a place of the stack on those of a range, and goes on.
-fn pick(
+pub fn pick(
     alloc: Global,
     frame: &mut Frame,
     at: usize,
@@ -98,7 +98,7 @@ pub(crate) fn go_on(frame: &mut Frame)
 }
 
 /// Goes to a place with what lies below another place of the stack.
-pub(crate) fn go_to(frame: &mut Frame, to: usize, at: usize)
+pub fn go_to(frame: &mut Frame, to: usize, at: usize)
     ensures { frame.new ≡ goes_to frame.old to (take at frame.old.stack) }
 {
     frame.stack.truncate(at);
@@ -107,7 +107,7 @@ pub(crate) fn go_to(frame: &mut Frame, to: usize, at: usize)
 
 /// Puts an operator's value in place of its operands, and goes on; or asks to panic.
 #[inline(always)]
-pub(crate) fn operate(frame: &mut Frame, op: Op, at: usize) -> Stepped
+pub fn operate(frame: &mut Frame, op: Op, at: usize) -> Stepped
     requires place { frame.old.place + 1 < 2 ^ 64 }
     requires at { at + count (operands op) ≡ length frame.old.stack }
     ensures step { (may : Bool) → (code : CodeValue) → (callers : Frames) → Does may (frame.old ∷ callers) (instr_next code frame.old callers (take at frame.old.stack) (drop at frame.old.stack) (Instr.Apply op)) result (frame.new ∷ callers) }
@@ -127,7 +127,7 @@ pub(crate) fn operate(frame: &mut Frame, op: Op, at: usize) -> Stepped
 }
 
 /// Goes on where the truth value on the top is true, else to a place.
-pub(crate) fn choose(frame: &mut Frame, to: usize, at: usize) -> Stepped
+pub fn choose(frame: &mut Frame, to: usize, at: usize) -> Stepped
     requires place { frame.old.place + 1 < 2 ^ 64 }
     requires at { at + 1 ≡ length frame.old.stack }
     requires small { to < 2 ^ 32 }
@@ -150,7 +150,7 @@ pub(crate) fn choose(frame: &mut Frame, to: usize, at: usize) -> Stepped
 
 /// The last function called calls another with the words from a place of its stack on, where a tick may be made; or asks to panic.
 #[inline(always)]
-pub(crate) fn call(
+pub fn call(
     alloc: Global,
     code: &Code,
     may: bool,
@@ -182,7 +182,7 @@ pub(crate) fn call(
 
 /// The last function called returns to its caller with the words on its stack; or asks to end.
 #[inline(always)]
-pub(crate) fn leave(frames: &mut CallStack, at: usize) -> Result<Stepped, AllocError>
+pub fn leave(frames: &mut CallStack, at: usize) -> Result<Stepped, AllocError>
     requires some { 0 < length frames.old }
     requires at { (c : FrameValue) → (cs : Frames) → frames.old ≡ c ∷ cs → at ≤ length c.stack }
     ensures ok { IfOk result (λ step. (may : Bool) → (code : CodeValue) → (c : FrameValue) → (cs : Frames) → frames.old ≡ c ∷ cs → Does may frames.old (instr_next code c cs (take at c.stack) (drop at c.stack) Instr.Return) step frames.new) }
@@ -199,121 +199,8 @@ pub(crate) fn leave(frames: &mut CallStack, at: usize) -> Result<Stepped, AllocE
     Ok(Stepped::Slid)
 }
 
-/// The running function calls another with the words from a place of its stack on.
-fn call_from(
-    alloc: Global,
-    code: &Code,
-    may: bool,
-    frame: &mut Frame,
-    callers: &mut CallStack,
-    function: u32,
-    at: usize,
-) -> Result<Stepped, AllocError>
-    requires place { frame.old.place + 1 < 2 ^ 64 }
-    requires at { at ≤ length frame.old.stack }
-    ensures ok { IfOk result (λ step. Does may (frame.old ∷ callers.old) (instr_next code.now frame.old callers.old (take at frame.old.stack) (drop at frame.old.stack) (Instr.Call function)) step (frame.new ∷ callers.new)) }
-    ensures err { OnErr result ((frame.new ≡ frame.old) × (callers.new ≡ callers.old)) }
-{
-    callers.park(alloc, frame)?;
-    let done = call(alloc, code, may, callers, function, at);
-    callers.unpark(frame);
-    done
-}
-
-/// The running function returns with the words on its stack.
-fn leave_from(
-    alloc: Global,
-    frame: &mut Frame,
-    callers: &mut CallStack,
-    at: usize,
-) -> Result<Stepped, AllocError>
-    requires at { at ≤ length frame.old.stack }
-    ensures ok { IfOk result (λ step. (may : Bool) → (code : CodeValue) → Does may (frame.old ∷ callers.old) (instr_next code frame.old callers.old (take at frame.old.stack) (drop at frame.old.stack) Instr.Return) step (frame.new ∷ callers.new)) }
-    ensures err { OnErr result ((frame.new ≡ frame.old) × (callers.new ≡ callers.old)) }
-{
-    callers.park(alloc, frame)?;
-    let done = leave(callers, at);
-    callers.unpark(frame);
-    done
-}
-
-/// One instruction, whose operands begin at a place of the stack.
-pub fn instr(
-    alloc: Global,
-    code: &Code,
-    may: bool,
-    frame: &mut Frame,
-    callers: &mut CallStack,
-    i: Instr,
-    at: usize,
-) -> Result<Stepped, AllocError>
-    requires place { frame.old.place + 1 < 2 ^ 64 }
-    requires at { FitsAt i at (length frame.old.stack) }
-    requires below { at ≤ length frame.old.stack }
-    requires sound { instr_next code.now frame.old callers.old (take at frame.old.stack) (drop at frame.old.stack) i ≡ Stuck → ⊥ }
-    ensures ok { IfOk result (λ step. Does may (frame.old ∷ callers.old) (instr_next code.now frame.old callers.old (take at frame.old.stack) (drop at frame.old.stack) i) step (frame.new ∷ callers.new)) }
-    ensures err { OnErr result ((frame.new ≡ frame.old) × (callers.new ≡ callers.old)) }
-{
-    match i {
-        Instr::Int(number) => {
-            push(frame, Word::Int(number))?;
-            Ok(Stepped::Slid)
-        }
-        Instr::Bool(truth) => {
-            push(frame, Word::Bool(truth))?;
-            Ok(Stepped::Slid)
-        }
-        Instr::Nil(_) => {
-            push(frame, Word::Chan(None))?;
-            Ok(Stepped::Slid)
-        }
-        Instr::Load(a, n) => {
-            let to = a as usize + n as usize;
-            if to > frame.locals.len() {
-                return Ok(Stepped::Stuck);
-            }
-            load(frame, a as usize, to)?;
-            Ok(Stepped::Slid)
-        }
-        Instr::Store(a, n) => {
-            if a as usize + n as usize > frame.locals.len() {
-                return Ok(Stepped::Stuck);
-            }
-            store(frame, a as usize, at);
-            Ok(Stepped::Slid)
-        }
-        Instr::Pick(t, a, n) => {
-            let to = a as usize + n as usize;
-            if to > t as usize {
-                return Ok(Stepped::Stuck);
-            }
-            pick(alloc, frame, at, a as usize, to)?;
-            Ok(Stepped::Slid)
-        }
-        Instr::Discard(_) => {
-            let next = frame.place + 1;
-            go_to(frame, next, at);
-            Ok(Stepped::Slid)
-        }
-        Instr::Apply(op) => Ok(operate(frame, op, at)),
-        Instr::Tick => {
-            let next = frame.place + 1;
-            Ok(tick_to(may, frame, next, at))
-        }
-        Instr::Jump(to) => {
-            go_to(frame, to as usize, at);
-            Ok(Stepped::Slid)
-        }
-        Instr::Unless(to) => Ok(choose(frame, to as usize, at)),
-        Instr::Loop(to) => Ok(tick_to(may, frame, to as usize, at)),
-        Instr::Call(function) => Ok(call_from(alloc, code, may, frame, callers, function, at)?),
-        Instr::Return => Ok(leave_from(alloc, frame, callers, at)?),
-        _ => Ok(Stepped::Asking),
-    }
-}
-
 /// Goes to a place where a tick may be made, with what lies below another place of the stack.
-pub(crate) fn tick_to(may: bool, frame: &mut Frame, to: usize, at: usize) -> Stepped
+pub fn tick_to(may: bool, frame: &mut Frame, to: usize, at: usize) -> Stepped
     ensures step { (callers : Frames) → Does may (frame.old ∷ callers) (Ticks (goes_to frame.old to (take at frame.old.stack) ∷ callers)) result (frame.new ∷ callers) }
     ensures same { frame.new.function ≡ frame.old.function }
 {

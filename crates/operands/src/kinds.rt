@@ -85,6 +85,18 @@ pub fn fit(made: &mut Vec<Word>, kinds: &[WordKind], words: &[Word]) -> Result<(
 }
 
 /// Zeros of these kinds over as many others, from an index on.
+#[inline(never)]
+fn overwrite_any(made: &mut [Word], kinds: &[WordKind], from: usize)
+    requires same { length made.old ≡ length kinds.now }
+    requires within { from ≤ length kinds.now }
+    ensures { made.new ≡ take from made.old ++ fitted_of (drop from kinds.now) [] }
+{
+    for index in from..kinds.len() {
+        made[index] = zero_of(kinds[index]);
+    }
+}
+
+/// The same; most are ints.
 #[inline(always)]
 fn overwrite_rest(made: &mut [Word], kinds: &[WordKind], from: usize)
     requires same { length made.old ≡ length kinds.now }
@@ -92,7 +104,13 @@ fn overwrite_rest(made: &mut [Word], kinds: &[WordKind], from: usize)
     ensures { made.new ≡ take from made.old ++ fitted_of (drop from kinds.now) [] }
 {
     for index in from..kinds.len() {
-        made[index] = zero_of(kinds[index]);
+        match kinds[index] {
+            WordKind::Int => made[index] = Word::Int(0),
+            _ => {
+                overwrite_any(made, kinds, index);
+                return;
+            }
+        }
     }
 }
 

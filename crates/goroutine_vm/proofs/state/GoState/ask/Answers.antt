@@ -1,4 +1,4 @@
-use Rattle.std.proofs.Common.{◌∙◌, ap, sym}
+use Rattle.std.proofs.Common.{ap, sym}
 use Rattle.bytecode.specs.Machine.{Frames}
 use Rattle.word.specs.Kinds.{Clocked}
 use Rattle.goroutine_vm.proofs.Turns.{sound_at}

@@ -3,7 +3,7 @@ use Rattle.bytecode.specs.declared.instr.Instr.TheVariants as instrs
 use Rattle.bytecode.specs.Machine.{Frames, instr_next}
 use Rattle.goroutine_vm_base.specs.Steps.{Does}
 use Rattle.goroutine_vm_base.proofs.Stacks.{if_ok}
-use Rattle.goroutine_vm_base.proofs.instrs.leave_from.Goals as goal
+use Rattle.goroutine_vm.proofs.step.leave_from.Goals as goal
 
 pub returns-clause-ok : goal.returns-clause-ok
 returns-clause-ok c =

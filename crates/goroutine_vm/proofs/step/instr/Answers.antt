@@ -1,4 +1,4 @@
-use Rattle.goroutine_vm_base.proofs.instrs.instr.Goals as goal
+use Rattle.goroutine_vm.proofs.step.instr.Goals as goal
 
 pub returns-in-Apply-clause-ok : goal.returns-in-Apply-clause-ok
 returns-in-Apply-clause-ok c = rw c.in-Apply.is (c.operate.ensures.step c.args.may c.args.code.now c.args.callers.now)
