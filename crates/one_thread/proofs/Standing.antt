@@ -33,6 +33,12 @@ set_twice [] n x y = refl
 set_twice (z ∷ zs) zero x y = refl
 set_twice (z ∷ zs) (suc n) x y = ap (λ ws. z ∷ ws) (set_twice zs n x y)
 
+-- what stands at a place is written there
+set_here : {A : Type 0} (xs : List A) (n : ℕ) (d : A) → slice_set xs n (slice_index_or xs n d) ≡ xs
+set_here [] n d = refl
+set_here (x ∷ xs) zero d = refl
+set_here (x ∷ xs) (suc n) d = ap (λ ws. x ∷ ws) (set_here xs n d)
+
 pub read_as : {A : Type 0} (xs : List A) (n : ℕ) (x d y : A) → n < length xs → slice_index_or xs n x ≡ y → slice_index_or xs n d ≡ y
 read_as [] n x d y lt is = absurd (omega (arith, lt))
 read_as (z ∷ zs) zero x d y lt is = is
@@ -71,6 +77,17 @@ module _ {S H : Type 0} (held : S → H) where
 module _ {S : Type 0} (K : GoroutineKind) (held : S → K.State) (limit : ℕ) where
   pub nobody : (old : List (Option (Goroutine S))) (n : ℕ) → here (awake_of held) old n ≡ None → AdvancesAt K held limit turns.Stepped old n old
   nobody old n none = ((λ w. ap (move_at (rules K limit) (record { awake = awake_in held old; shared = w }) n) none), λ k. refl)
+
+  -- nobody is there, or who is there is asleep
+  pub nobody_stays : (old : List (Option (Goroutine S))) (n : ℕ) (r : Option (Goroutine S)) → n < length old → r ≡ slice_index_or old n r → r ≡ None → AdvancesAt K held limit turns.Stepped old n (slice_set old n (slice_index_or old n r))
+  nobody_stays old n r lt is none =
+      let at : slice_index_or old n None ≡ None = read_at old n r None lt is ∙ none in
+      subst (λ (ws : List (Option (Goroutine S))). AdvancesAt K held limit turns.Stepped old n ws) (sym (set_here old n r)) (nobody old n (ap (awake_of held) at))
+
+  pub asleep_stays : (old : List (Option (Goroutine S))) (n : ℕ) (g : Goroutine S) → slice_index_or old n None ≡ Some g → g.asleep ≡ true → AdvancesAt K held limit turns.Stepped old n (slice_set old n (Some g))
+  asleep_stays old n g at down =
+      let same : slice_set old n (Some g) ≡ old = ap (slice_set old n) (sym at) ∙ set_here old n None in
+      subst (λ (ws : List (Option (Goroutine S))). AdvancesAt K held limit turns.Stepped old n ws) (sym same) (nobody old n (ap (awake_of held) at ∙ ap (λ b. cond b None (Some (clocked held g))) down))
 
   pub turned : (old : List (Option (Goroutine S))) (n : ℕ) (g h : Goroutine S) (turn : Turn) → slice_index_or old n None ≡ Some g → n < length old → g.asleep ≡ false → h.asleep ≡ g.asleep → Advances K limit turn (clocked held g) (clocked held h) → AdvancesAt K held limit turn old n (slice_set old n (Some h))
   turned old n g h turns.Stepped at lt up same step =

@@ -37,7 +37,6 @@ pub(crate) fn least<S: Drop>(places: &[Option<Goroutine<S>>]) -> Option<Key>
 }
 
 /// The goroutine at this place has its turn, if it is awake.
-#[tactic(auto, using(crate::proofs::Standing::turned, crate::proofs::Standing::nobody))]
 pub(crate) fn advance_at<P: Interpreter>(
     program: &P,
     alloc: Global,
@@ -64,7 +63,6 @@ pub(crate) fn advance_at<P: Interpreter>(
 }
 
 /// The awake goroutine at this place goes on at this clock, and is told this.
-#[tactic(auto, using(crate::proofs::Standing::told_ok, crate::proofs::Standing::beyond))]
 pub(crate) fn tell_at<P: Interpreter>(
     program: &P,
     alloc: Global,
@@ -86,7 +84,6 @@ pub(crate) fn tell_at<P: Interpreter>(
 }
 
 /// The sleeping goroutine at this place is woken, told this, and goes on at this clock.
-#[tactic(auto, using(crate::proofs::Standing::woken_ok, crate::proofs::Standing::none_woken, crate::proofs::Standing::none_beyond))]
 fn wake_at<P: Interpreter>(
     program: &P,
     alloc: Global,

@@ -1,11 +1,11 @@
 //! Simple statements.
 
 ghost use Rattle.std.specs.Prelude.{◌≡◌, true, false, Some, map, option_map};
-ghost use Rattle.syntax.specs.Tree.{Value, CallAlone, Close, ReceiveAlone, Send, Increment, Decrement};
+ghost use Rattle.syntax.specs.Tree.{Simple, Value, CallAlone, Close, ReceiveAlone, Send, Increment, Decrement};
 ghost use Rattle.syntax.specs.Measures.{Entries};
 ghost use Rattle.syntax.specs.View.{expression_of, part_of, simple_of};
 ghost use Rattle.parser_base.specs.Cursor.{ahead};
-ghost use Rattle.parser_base.specs.Reading.{Gives, TooMany, entry_next, listed, closed};
+ghost use Rattle.parser_base.specs.Reading.{Gives, Reading, TooMany, entry_next, listed, closed};
 ghost use Rattle.parser_simple.specs.Reading.{as_one, begins_part, part, parts, print, received, argument, arguments, builtin_call, assigned, defined, stepped, updated, behind_place, formed, led, send_operand, sent, led_or_sent, simple, defines};
 
 use crate::form::{Form, begins_with, defines, fits, form_of, update_kind};
@@ -315,15 +315,17 @@ fn operator_assignment(
     })
 }
 
-/// A simple statement, as what was looked for.
-fn as_some(found: Found<'_, SimpleNode>) -> Found<'_, Option<SimpleNode>>
-    ensures simple { option_map simple_of result.node ≡ Some (simple_of found.entry.node) }
-    ensures rest { ahead result.rest ≡ ahead found.entry.rest }
+/// A simple statement that was read, as what was looked for.
+fn as_some(
+    read: Result<Found<'_, SimpleNode>, Fault>,
+) -> Result<Found<'_, Option<SimpleNode>>, Fault>
+    ensures { (words : Reading Simple) → Gives (λ x. (simple_of x.node, ahead x.rest)) read.entry words → Gives (λ x. (option_map simple_of x.node, ahead x.rest)) result (as_one (λ (s : Simple). Some s) words) }
 {
-    Found {
+    let found = read?;
+    Ok(Found {
         node: Some(found.node),
         rest: found.rest,
-    }
+    })
 }
 
 /// A statement that begins with a place and has this form, if it has any.
@@ -338,29 +340,26 @@ fn place_statement(
 ) -> Result<Found<'_, Option<SimpleNode>>, Fault>
     ensures { Gives (λ x. (option_map simple_of x.node, ahead x.rest)) result (formed literals defining MAX_ENTRIES room form (ahead cursor.entry)) }
 {
-    let read = match form {
-        Form::Increment => increment_statement(alloc, cursor),
-        Form::Decrement => decrement_statement(alloc, cursor),
-        Form::Update(operator) => operator_assignment(alloc, literals, room, operator, cursor),
-        Form::Assign(_) => assignment(alloc, literals, room, cursor),
-        Form::Define(_) if defining && defines(cursor) => short_var_declaration(
-            alloc, literals, room, cursor,
-        ),
-        Form::Define(_) => assignment(alloc, literals, room, cursor),
+    match form {
+        Form::Increment => as_some(increment_statement(alloc, cursor)),
+        Form::Decrement => as_some(decrement_statement(alloc, cursor)),
+        Form::Update(operator) => as_some(operator_assignment(
+            alloc, literals, room, operator, cursor,
+        )),
+        Form::Assign(_) => as_some(assignment(alloc, literals, room, cursor)),
         Form::List if room < 1 => {
             let first = place(alloc, cursor)?;
-            return Err(Fault::TooDeep(first.rest.place()));
+            Err(Fault::TooDeep(first.rest.place()))
         }
-        Form::List if defining && defines(cursor) => short_var_declaration(
-            alloc, literals, room, cursor,
-        ),
-        Form::List => assignment(alloc, literals, room, cursor),
-        Form::Other => return Ok(Found {
+        Form::Define(_) | Form::List if defining && defines(cursor) => {
+            as_some(short_var_declaration(alloc, literals, room, cursor))
+        }
+        Form::Define(_) | Form::List => as_some(assignment(alloc, literals, room, cursor)),
+        Form::Other => Ok(Found {
             node: None,
             rest: cursor,
         }),
-    };
-    Ok(as_some(read?))
+    }
 }
 
 /// A simple statement, if anything else comes next than a value or a send.
@@ -376,17 +375,14 @@ pub fn statement_unless_value(
 {
     match cursor.next() {
         Some((Word::Mark(TokenKind::Arrow), rest)) => {
-            let found = receive_statement(alloc, literals, room, cursor, rest)?;
-            Ok(as_some(found))
+            as_some(receive_statement(alloc, literals, room, cursor, rest))
         }
         Some((Word::Name(name), rest)) => {
             if is_builtin(name) {
-                let found = builtin_call(alloc, literals, room, name, cursor, rest)?;
-                return Ok(as_some(found));
+                return as_some(builtin_call(alloc, literals, room, name, cursor, rest));
             }
             if begins_with(TokenKind::LeftParenthesis, rest) {
-                let found = call_statement(alloc, literals, room, name, rest)?;
-                return Ok(as_some(found));
+                return as_some(call_statement(alloc, literals, room, name, rest));
             }
             let form = form_of(cursor);
             place_statement(alloc, literals, defining, room, form, cursor)

@@ -78,6 +78,11 @@ longest_name (x ∷ xs) (suc n) pos is begins le all end =
       past zero lt len = absurd (omega arith)
       past (suc m) lt len = exact_no_name x (take m xs) is (name_ends (suc n) (suc m) (x ∷ xs) lt len all end)
 
+-- it has a letter at least
+pub name_pos : (text : List ℕ) (n : ℕ) → begins_letter text ≡ true → begins_letter_or_digit (drop n text) ≡ false → 1 ≤ n
+name_pos text zero begins end = let wrong : true ≡ false = sym (letter_is_either text begins) ∙ end in absurd cc
+name_pos text (suc n) begins end = omega arith
+
 pub longest_no_letter : (text : List ℕ) → 1 ≤ length text → is_letter_byte (get_or text 0 0) ≡ true → begins_letter text ≡ false → longest text ≡ None
 longest_no_letter [] pos is begins = absurd (omega arith)
 longest_no_letter (x ∷ xs) pos is begins = longest_none (x ∷ xs) past where

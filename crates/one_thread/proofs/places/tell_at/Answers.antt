@@ -2,7 +2,7 @@ use Rattle.std.proofs.Common.{None, Some, arith}
 use Rattle.word.specs.Related.{kind_of}
 use Rattle.word.specs.Views.{reply_of}
 use Rattle.std.proofs.lemmas.Result.{on_ok_weaker}
-use Rattle.one_thread.proofs.Standing.{read_as, told_ok, within_set}
+use Rattle.one_thread.proofs.Standing.{beyond, read_as, told_ok, within_set}
 use Rattle.one_thread.proofs.places.tell_at.Goals as goal
 
 pub returns-clause-told : goal.returns-clause-told
@@ -16,3 +16,6 @@ returns-clause-within g c =
 
 pub returns-in_default-clause-within : goal.returns-in_default-clause-within
 returns-in_default-clause-within g c = λ limit le all. within_set limit c.args.places.now c.args.place _ (all c.args.place c.index-places-place.result (omega arith)) all
+
+pub returns-then-place-places-clause-told : goal.returns-then-place-places-clause-told
+returns-then-place-places-clause-told g c = λ s up. absurd (beyond (g.P.Interpreter.held c.args.program.now) c.args.places.now c.args.place s (omega arith) up)

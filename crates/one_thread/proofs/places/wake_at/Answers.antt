@@ -2,7 +2,7 @@ use Rattle.std.proofs.Common.{None, Some, ◌∙◌, arith}
 use Rattle.word.specs.Related.{kind_of}
 use Rattle.word.specs.Views.{reply_of}
 use Rattle.std.proofs.lemmas.Result.{on_ok_weaker}
-use Rattle.one_thread.proofs.Standing.{awake_woken, none_stays, read_as, within_at, within_set, woken_ok}
+use Rattle.one_thread.proofs.Standing.{awake_woken, none_beyond, none_stays, read_as, within_at, within_set, woken_ok}
 use Rattle.one_thread.proofs.places.wake_at.Goals as goal
 
 pub returns-clause-woken : goal.returns-clause-woken
@@ -30,3 +30,7 @@ pub returns-then-not-goroutine-clause-within : goal.returns-then-not-goroutine-c
 returns-then-not-goroutine-clause-within g c = λ limit le all.
     let at = read_as c.args.places.now c.args.place c.index-places-place.result None (Some c.in-Some.goroutine) (omega arith) c.in-Some.is in
     within_set limit _ c.args.place None tt (within_set limit c.args.places.now c.args.place (Some c.in-Some.goroutine) (within_at limit c.args.places.now c.args.place c.in-Some.goroutine (omega arith) at all) all)
+
+pub returns-then-place-places-clause-woken : goal.returns-then-place-places-clause-woken
+returns-then-place-places-clause-woken g c =
+    none_beyond (kind_of (g.P.Interpreter.parts c.args.program.now)) (g.P.Interpreter.held c.args.program.now) c.args.places.now c.args.place c.args.clock (reply_of c.args.reply) (omega arith)

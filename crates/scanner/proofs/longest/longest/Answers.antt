@@ -1,8 +1,8 @@
-use Rattle.std.proofs.Common.{◌≡◌, drop, sym, ◌∙◌, arith}
+use Rattle.std.proofs.Common.{◌≡◌, ◌≤◌, ◌+◌, drop, length, length-drop, sym, ◌∙◌, arith}
 use Rattle.std.proofs.lemmas.Bool.{eq-eqb, ne_eqb}
 use Rattle.scanner.specs.Lexical.{is_digit, hexadecimal_len}
 use Rattle.scanner.proofs.Reading.{rest_is}
-use Rattle.scanner.proofs.Greatest.{longest_name, longest_no_letter, longest_number, longest_zero, longest_other, run_pos}
+use Rattle.scanner.proofs.Greatest.{longest_name, longest_no_letter, longest_number, longest_zero, longest_other, name_pos, run_pos}
 use Rattle.std.proofs.lemmas.List.Sums.{prefix_len-le-length}
 use Rattle.scanner.proofs.longest.longest.Goals as goal
 
@@ -33,3 +33,23 @@ returns-then-is_digit-clause-within c =
 pub returns-clause-token : goal.returns-clause-token
 returns-clause-token c =
     c.longest_mark.ensures.token ∙ sym (longest_other c.args.text.now c.requires.some (sym c.is_letter_byte.ensures ∙ c.if-is_letter_byte.false) (sym c.is_digit.ensures ∙ c.if-is_digit.false))
+
+pub returns-then-is_letter_byte-clause-within : goal.returns-then-is_letter_byte-clause-within
+returns-then-is_letter_byte-clause-within c =
+    (name_pos c.args.text.now c.name_run-len.result (sym c.begins_letter.ensures ∙ c.if-not-begins_letter.false) c.name_run-len.ensures.end, c.name_run-len.ensures.within)
+
+pub hexadecimal_len-requires : goal.hexadecimal_len-requires
+hexadecimal_len-requires c = rw (rest_is 1 c.args.text.now) (omega (arith, length-drop 1 c.args.text.now))
+
+pub overflow_add-result : goal.overflow_add-result
+overflow_add-result c =
+    let within : c.hexadecimal_len.result ≤ length (drop 1 c.args.text.now) = rw (rest_is 1 c.args.text.now) at c.hexadecimal_len.ensures.within in
+    omega (arith, length-drop 1 c.args.text.now)
+
+pub returns-then-first-eq48-clause-within : goal.returns-then-first-eq48-clause-within
+returns-then-first-eq48-clause-within c =
+    let within : c.hexadecimal_len.result ≤ length (drop 1 c.args.text.now) = rw (rest_is 1 c.args.text.now) at c.hexadecimal_len.ensures.within in
+    (omega arith, omega (arith, length-drop 1 c.args.text.now))
+
+pub returns-clause-within : goal.returns-clause-within
+returns-clause-within c = c.longest_mark.ensures.within
