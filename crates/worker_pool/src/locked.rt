@@ -245,7 +245,7 @@ impl<B: RunName> Locked<B> {
     /// committed. That ends where one computes, where there is nobody, where another worker whose goroutines talk is out, where
     /// somebody comes to the lock, or after some turns.
     pub fn talk(&mut self, coming: &AtomicU64) {
-        if self.talkers > 0 {
+        if self.over || self.talkers > 0 {
             return;
         }
         for _ in 0..TALKS {
