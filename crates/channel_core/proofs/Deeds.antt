@@ -7,12 +7,14 @@ use Rattle.word.specs.declared.request.EventOutcome.TheVariants as fates
 use Rattle.word.specs.Values.{Item, Request, Send, Receive, Select}
 use Rattle.word.specs.Views.{outcome_of, reply_of}
 use Rattle.word.specs.Requests.{choose, receive_ready, send_ready, without}
-use Rattle.std.specs.Prelude.{drop, map, option_map, slice_index_or, slice_set, unwrap_or}
+use Rattle.std.specs.Prelude.{◌-◌, drop, nat_lt, map, option_map, slice_index_or, slice_set, unwrap_or}
 use Rattle.std.proofs.lemmas.List.{set-get_or}
 use Rattle.std.proofs.lemmas.Option.{none-some}
+use Rattle.std.proofs.Common.{◌<◌, length-append}
+use Rattle.std.proofs.lemmas.Bool.{lt-ltb}
 use Rattle.word.specs.Requests.{Deed, GoesOn, channel_of, got, happened, no_channel, partner, receive_from, sent}
 use Rattle.word.specs.Values.{Channel, Done, Offer, Reply, Shared, Sleeper}
-use Rattle.channel_core.specs.Channels.{ChannelsValue, IsServed, Others, Partner, after_passing, came, deed_of, given, partner_of, shared_with, Does, DoesAlone, Sends, Receives, Serves}
+use Rattle.channel_core.specs.Channels.{ChannelsValue, IsAlone, IsServed, Others, Partner, after_passing, came, deed_of, given, partner_of, shared_with, Does, DoesAlone, Sends, Receives, Serves}
 use Rattle.channel_core.specs.declared.outcome.Outcome.{Outcome}
 use Rattle.channel_core.specs.declared.outcome.Outcome.TheVariants as outcomes
 
@@ -89,6 +91,19 @@ front_of xs ys x e = ap (λ (l : List Item). slice_index_or l 0 []) e
 pub rest_of : (xs ys : List Item) (x : Item) → xs ≡ x ∷ ys → drop 1 xs ≡ ys
 rest_of xs ys x e = ap (λ (l : List Item). drop 1 l) e
 
+pub is_longer : (xs : List Item) (item : Item) → nat_lt 0 (length (xs ++ item ∷ [])) ≡ true
+is_longer xs item = let h : 0 < length (xs ++ item ∷ []) = omega (arith, length-append xs (item ∷ [])) in lt-ltb 0 (length (xs ++ item ∷ [])) h
+
+-- the last one is this now
+set_last : (xs : List Item) (x y : Item) → slice_set (xs ++ x ∷ []) (length xs) y ≡ xs ++ y ∷ []
+set_last [] x y = refl
+set_last (z ∷ zs) x y = ap (λ (l : List Item). z ∷ l) (set_last zs x y)
+
+pub last_is : (xs : List Item) (n : ℕ) (x y : Item) → n ≡ length (xs ++ x ∷ []) → slice_set (xs ++ x ∷ []) (n - 1) y ≡ xs ++ y ∷ []
+last_is xs n x y e =
+    let at : n - 1 ≡ length xs = simp length-append at (ap (λ (k : ℕ). k - 1) e) ∙ omega arith in
+    ap (λ (k : ℕ). slice_set (xs ++ x ∷ []) k y) at ∙ set_last xs x y
+
 -- the only one is this now
 pub one_is : {A : Type 0} (xs : List A) (x : A) → length xs ≡ 1 → slice_set xs 0 x ≡ x ∷ []
 one_is [] x e = absurd (omega arith)
@@ -107,6 +122,23 @@ served old k clause front p r ws channels asleep reply woke passed put gone o n 
     ∙ ap (λ (l : List Sleeper). deed o n c q (got clause front true) ((x.0.number, sent x.1.case) ∷ []) channels l) (sym (subst (λ (m : Partner). asleep ≡ without old.asleep m.number) (sym e) gone))
     ∙ ap (λ (l : List (ℕ × Reply)). deed o n c q (got clause front true) l channels asleep) (sym (subst (λ (m : Partner). ws ≡ (m.number, sent m.case) ∷ []) (sym e) woke))
     ∙ ap (λ (a : Reply). deed o n c q a ws channels asleep) (sym reply)
+
+-- a receive that meets nobody, where an item is in the buffer
+pub popped : (old new : ChannelsValue) (k clause : ℕ) (fate : Fate) → nat_lt 0 (length (channel_of old.channels k).items) ≡ true
+    → outcome_of fate ≡ Done (got clause (slice_index_or (channel_of old.channels k).items 0 []) true)
+    → new.channels ≡ slice_set old.channels k (record (channel_of old.channels k) { items = drop 1 (channel_of old.channels k).items }) → new.asleep ≡ old.asleep → IsAlone old k clause fate new
+popped old new k clause fate some tells put same w none o n c q =
+    let told_it : Reply = got clause (slice_index_or (channel_of old.channels k).items 0 []) true in
+    at (channel_of old.channels k).items some
+    ∙ ap (λ (l : List (ℕ × Reply)). deed o n c q told_it l (slice_set old.channels k (record (channel_of old.channels k) { items = drop 1 (channel_of old.channels k).items })) old.asleep) (sym none)
+    ∙ ap (λ (l : List Channel). deed o n c q told_it w.items l old.asleep) (sym put)
+    ∙ ap (λ (l : List Sleeper). deed o n c q told_it w.items new.channels l) (sym same)
+    ∙ done_is o n c q fate w told_it new tells
+  where
+    at : (xs : List Item) → nat_lt 0 (length xs) ≡ true
+        → receive_from (shared_with o old) n c q k (channel_of old.channels k) clause xs None ≡ deed o n c q (got clause (slice_index_or xs 0 []) true) [] (slice_set old.channels k (record (channel_of old.channels k) { items = drop 1 xs })) old.asleep
+    at [] e = cc
+    at (x ∷ xs) e = refl
 
 abbrev pub with_sleeper : ChannelsValue → ℕ → Request → ChannelsValue
 with_sleeper old n q = record { channels = old.channels; asleep = without old.asleep n ++ record { number = n; request = q } ∷ [] }

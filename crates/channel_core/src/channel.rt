@@ -1,6 +1,6 @@
 //! A channel without its sleepers.
 
-ghost use Rattle.std.specs.Prelude.{◌≡◌, ◌<◌, ◌++◌, ◌∷◌, [], false, drop, nat_lt, pos, slice_index_or, true, length, IfSome, IfNone, OnErr, OnOk};
+ghost use Rattle.std.specs.Prelude.{◌≡◌, ◌<◌, ◌++◌, ◌∷◌, [], false, drop, nat_lt, pos, slice_index_or, true, length, OnErr, OnOk};
 ghost use Rattle.word.specs.Requests.{got, no_channel};
 ghost use Rattle.word.specs.Values.{Done};
 ghost use Rattle.word.specs.Views.{outcome_of};
@@ -92,27 +92,35 @@ impl Channel {
     }
 
     /// Puts an item at the buffer's back.
+    #[tactic(auto, using(crate::proofs::Deeds::last_is))]
     pub(crate) fn push(&mut self, item: &Item) -> Result<(), AllocError>
         ensures ok { OnOk result (self.new ≡ record self.old { items = self.old.items ++ item.now ∷ [] }) }
         ensures err { OnErr result (self.new ≡ self.old) }
     {
         self.items.reserve(1)?;
-        self.items.push_back_reserved(item.copy());
+        let alloc = *self.items.allocator();
+        self.items.push_back_reserved(Item::empty(alloc));
+        if let Some(room) = self.items.back_mut() {
+            room.set(item.words());
+        }
         Ok(())
     }
 
-    /// Takes the item at the buffer's front.
-    pub(crate) fn pop(&mut self) -> Option<Item>
-        ensures some { IfSome result (λ item. self.old.items ≡ item ∷ self.new.items) }
-        ensures none { IfNone result (self.old.items ≡ []) }
-        ensures rest { self.new ≡ record self.old { items = self.new.items } }
+    /// Takes the item at the buffer's front, if there is one: a receiver is told it at this place.
+    #[tactic(auto, using(crate::proofs::Deeds::front_of, crate::proofs::Deeds::rest_of))]
+    pub(crate) fn pop(&mut self, alloc: Global, clause: usize, outcome: &mut EventOutcome)
+        ensures told { nat_lt 0 (length self.old.items) ≡ true → outcome_of outcome.new ≡ Done (got clause (slice_index_or self.old.items 0 []) true) }
+        ensures rest { self.new ≡ record self.old { items = drop 1 self.old.items } }
     {
-        self.items.pop_front()
+        if let Some(front) = self.items.front() {
+            tell_got(alloc, outcome, clause, front, true);
+        }
+        let _ = self.items.pop_front();
     }
 
     /// Puts an item at the buffer's back, and takes the one at its front, which is the same one where the buffer is
     /// empty: a receiver is told it at this place.
-    #[tactic(auto, using(crate::proofs::Deeds::front_of, crate::proofs::Deeds::rest_of))]
+    #[tactic(auto, using(crate::proofs::Deeds::is_longer))]
     pub(crate) fn pass_through(
         &mut self,
         alloc: Global,
@@ -129,12 +137,7 @@ impl Channel {
             return Ok(());
         }
         self.push(item)?;
-        match self.items.pop_front() {
-            Some(front) => {
-                tell_got(alloc, outcome, clause, &front, true);
-                Ok(())
-            }
-            None => unreachable!(),
-        }
+        self.pop(alloc, clause, outcome);
+        Ok(())
     }
 }

@@ -1,6 +1,6 @@
 //! The channels of a world, and those who sleep at them.
 
-ghost use Rattle.std.specs.Prelude.{◌≡◌, ℕ, ◌+◌, ◌<◌, ◌≤◌, ◌∷◌, [], ◌++◌, IfOk, IfNone, IfSome, OnErr, OnOk, Some, None, nat_lt, option_copied, option_map, pos, suc, false, true, length, slice_index_or, slice_set, unwrap_or};
+ghost use Rattle.std.specs.Prelude.{◌≡◌, ℕ, ◌+◌, ◌<◌, ◌≤◌, ◌∷◌, [], ◌++◌, IfOk, IfNone, IfSome, OnErr, OnOk, Some, None, drop, nat_lt, option_copied, option_map, pos, suc, false, true, length, slice_index_or, slice_set, unwrap_or};
 ghost use Rattle.word.specs.Requests.{channel_of, choose, got, is_ready, no_channel, receive_ready, send_ready, without};
 ghost use Rattle.word.specs.Values.{Close, Done, Make, Receive, Request as AnyRequest, Select, Send};
 ghost use Rattle.word.specs.Views.{outcome_of, request_of};
@@ -454,6 +454,7 @@ impl Channels {
     }
 
     /// A receive that meets nobody.
+    #[tactic(auto, using(crate::proofs::Deeds::popped))]
     fn receive_alone(&mut self, chan: u32, clause: usize, outcome: &mut EventOutcome)
         ensures { IsAlone self.old chan clause outcome.new self.new }
     {
@@ -462,10 +463,13 @@ impl Channels {
             tell_got(self.alloc, outcome, clause, &zero, false);
             return;
         }
-        let Some(item) = pop(self.channels.as_mut_slice(), chan) else {
-            unreachable!()
-        };
-        tell_got(self.alloc, outcome, clause, &item, true);
+        pop(
+            self.alloc,
+            self.channels.as_mut_slice(),
+            chan,
+            clause,
+            outcome,
+        );
     }
 
     /// Goroutine `number` falls asleep at this request.
@@ -560,16 +564,20 @@ fn push(channels: &mut [Channel], chan: u32, item: &Item) -> Result<(), Memory>
     Ok(())
 }
 
-/// Takes the item at the front of a channel's buffer.
-fn pop(channels: &mut [Channel], chan: u32) -> Option<Item>
-    ensures some { IfSome result (λ item. (channel_of channels.old chan).items ≡ item ∷ (channel_of channels.new chan).items) }
-    ensures none { IfNone result ((channel_of channels.old chan).items ≡ []) }
-    ensures rest { channels.new ≡ slice_set channels.old chan (record (channel_of channels.old chan) { items = (channel_of channels.new chan).items }) }
+/// Takes the item at the front of a channel's buffer, if there is one: a receiver is told it at this place.
+fn pop(
+    alloc: Global,
+    channels: &mut [Channel],
+    chan: u32,
+    clause: usize,
+    outcome: &mut EventOutcome,
+)
+    ensures told { nat_lt 0 (length (channel_of channels.old chan).items) ≡ true → outcome_of outcome.new ≡ Done (got clause (slice_index_or (channel_of channels.old chan).items 0 []) true) }
+    ensures rest { channels.new ≡ slice_set channels.old chan (record (channel_of channels.old chan) { items = drop 1 (channel_of channels.old chan).items }) }
 {
     if (chan as usize) < channels.len() {
-        return channels[chan as usize].pop();
+        channels[chan as usize].pop(alloc, clause, outcome);
     }
-    None
 }
 
 /// Puts an item, or one of no words, at the back of a channel's buffer, and takes the one at its front, which is the same

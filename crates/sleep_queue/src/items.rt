@@ -1,17 +1,18 @@
 //! The items of offers, in a store of their own.
 
 ghost use Rattle.std.specs.Prelude.{◌≡◌, ◌≢◌, ℕ, IfSome, None, Some, option_copied, option_map};
-ghost use Rattle.slab.specs.Slab.{HasRoomFor, get};
+ghost use Rattle.slab.specs.Slab.{HasRoomFor, Updates, get};
 ghost use Rattle.sleep_queue.specs.Stored.{item_at, offer_of, stored_item, view_of};
 ghost use Rattle.sleep_queue.specs.declared.offer.Stored.{Stored};
 
 use crate::offer::{Kept, OfferView, Stored};
 use slab::Slab;
+use std::alloc::Global;
 use std::snapshot::Snapshot;
 use word::value::Item;
 
 /// Puts an item, if there is one, at a free place of the store.
-pub(crate) fn store(items: &mut Slab<Item>, item: Option<&Item>) -> Option<Stored>
+pub(crate) fn store(alloc: Global, items: &mut Slab<Item>, item: Option<&Item>) -> Option<Stored>
     requires { HasRoomFor items.old 1 }
     ensures item { stored_item result ≡ option_copied item.entry }
     ensures at { IfSome result (λ s. get items.new s.place ≡ Some s.item.value) }
@@ -20,13 +21,24 @@ pub(crate) fn store(items: &mut Slab<Item>, item: Option<&Item>) -> Option<Store
 {
     match item {
         Some(item) => {
-            let place = items.insert_reserved(item.copy());
+            let place = items.insert_reserved(Item::empty(alloc));
+            write(items, place, item);
             Some(Stored {
                 place,
                 item: Snapshot::of(item),
             })
         }
         None => None,
+    }
+}
+
+/// What stands at this place of the store is this item now.
+fn write(items: &mut Slab<Item>, place: usize, item: &Item)
+    requires { get items.old place ≢ None }
+    ensures { Updates items.old items.new place (Some item.now) }
+{
+    if let Some(room) = items.get_mut(place) {
+        room.set(item.words());
     }
 }
 

@@ -22,6 +22,7 @@ use word::value::Item;
 /// goroutine leave together; nothing is searched.
 #[derive(Drop)]
 pub struct SleepQueues {
+    alloc: Global,
     slots: Slab<Node>,
     /// The items of offers to send.
     items: Slab<Item>,
@@ -54,6 +55,7 @@ impl SleepQueues {
         ensures { result ≡ record { rows = 0; waiting = [] } }
     {
         SleepQueues {
+            alloc,
             slots: Slab::new(alloc),
             items: Slab::new(alloc),
             time: 0,
@@ -108,7 +110,7 @@ impl SleepQueues {
             number: offer.number,
             case: offer.case,
             chan: offer.chan,
-            item: store(&mut self.items, offer.item),
+            item: store(self.alloc, &mut self.items, offer.item),
         };
         self.slots.insert_reserved(Node { row, stamp, offer });
         self.time = later;
