@@ -30,18 +30,25 @@ pub(crate) fn draw(alloc: Global, recording: &Recording) -> Result<String, Memor
     let lanes = Lanes::of(alloc, recording)?;
     let scale = Scale::of(alloc, recording, LEFT)?;
     let mut text = String::new(alloc);
-    push_head(&mut text, lanes.lanes.len() as u64, &scale)?;
-    push_lanes(&mut text, recording, &lanes, &scale)?;
-    push_arrows(&mut text, &lanes, &scale)?;
-    push_events(alloc, &mut text, recording, &scale)?;
-    push_axis(&mut text, height(lanes.lanes.len() as u64), &scale)?;
-    push_foot(
-        alloc,
-        &mut text,
-        recording,
-        height(lanes.lanes.len() as u64),
-    )?;
+    push_all(alloc, &mut text, recording, &lanes, &scale)?;
     Ok(text)
+}
+
+/// The lanes with what happens in them, the axis, and what stands around them.
+fn push_all(
+    alloc: Global,
+    text: &mut String,
+    recording: &Recording,
+    lanes: &Lanes,
+    scale: &Scale,
+) -> Result<(), AllocError> {
+    let count = lanes.lanes.len() as u64;
+    push_head(text, count, scale)?;
+    push_lanes(text, recording, lanes, scale)?;
+    push_arrows(text, lanes, scale)?;
+    push_events(alloc, text, recording, scale)?;
+    push_axis(text, height(count), scale)?;
+    push_foot(alloc, text, recording, height(count))
 }
 
 /// The height at which the lane of a goroutine lies.

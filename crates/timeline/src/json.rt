@@ -16,18 +16,29 @@ use word::request::Event;
 /// `Memory` where memory is refused.
 pub(crate) fn trace_events(alloc: Global, recording: &Recording) -> Result<String, Memory> {
     let lanes = Lanes::of(alloc, recording)?;
-    let mut text = String::from_str(alloc, "{\"traceEvents\":[\n")?;
+    let mut text = String::new(alloc);
+    push_all(alloc, &mut text, recording, &lanes)?;
+    Ok(text)
+}
+
+/// The threads, the instants and the flows, and how the run ended.
+fn push_all(
+    alloc: Global,
+    text: &mut String,
+    recording: &Recording,
+    lanes: &Lanes,
+) -> Result<(), AllocError> {
+    text.push_str("{\"traceEvents\":[\n")?;
     for lane in lanes.lanes.iter() {
-        push_lane(&mut text, recording, lane)?;
+        push_lane(text, recording, lane)?;
     }
     for event in recording.events.iter() {
-        push_event(alloc, &mut text, event)?;
+        push_event(alloc, text, event)?;
     }
     for (flow, arrow) in lanes.arrows.iter().enumerate() {
-        push_flow(&mut text, flow, *arrow)?;
+        push_flow(text, flow, *arrow)?;
     }
-    push_end(alloc, &mut text, recording, lanes.last)?;
-    Ok(text)
+    push_end(alloc, text, recording, lanes.last)
 }
 
 /// A thread: its name, and slices for its life and its sleeps.
@@ -67,8 +78,14 @@ fn push_event(alloc: Global, text: &mut String, event: &Event) -> Result<(), All
         text,
         "{{\"ph\":\"i\",\"s\":\"t\",\"pid\":1,\"tid\":{number},\"ts\":{clock},\"name\":\""
     )?;
-    push_quoted(text, event_label(alloc, event)?.as_str())?;
+    push_label(alloc, text, event)?;
     text.push_str("\"},\n")
+}
+
+/// What an event is.
+fn push_label(alloc: Global, text: &mut String, event: &Event) -> Result<(), AllocError> {
+    let label = event_label(alloc, event)?;
+    push_quoted(text, label.as_str())
 }
 
 /// A flow from one thread to another.

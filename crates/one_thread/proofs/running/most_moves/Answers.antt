@@ -13,3 +13,13 @@ returns-in-Some-clause-goes g c = λ known st. rw c.in-Some.is at (c.in_ok-end.e
 
 pub returns-clause-begins : goal.returns-clause-begins
 returns-clause-begins g c = λ known st. begins (kind_of (g.P.Interpreter.parts c.args.program.now)) (g.P.Interpreter.held c.args.program.now) c.args.limit known (g.W.Write.contents c.loop.output) c.loop.places.items c.loop.shared (c.loop.invariant.kept known st)
+
+pub loop-preserved : goal.loop-preserved
+loop-preserved g c = record {
+  going = c.in_ok-end.ensures.going c.in_default.is;
+  within = c.in_ok-end.ensures.within;
+  kept = λ known st. rw c.in_default.is at (c.in_ok-end.ensures.goes known (c.loop.invariant.kept known st));
+}
+
+pub returns-clause-goes : goal.returns-clause-goes
+returns-clause-goes g c = λ known st. c.loop.invariant.kept known st
