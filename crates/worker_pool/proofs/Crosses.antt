@@ -109,10 +109,13 @@ node_send = struct_send (shape Node.the_type) (search sendable, (search sendable
 queues_inside : IsSend queues.the_row
 queues_inside =
     recorded_send queues.the_field.row _ _ queues.the_type.to_one (struct_send (shape queues.the_type) (
-      search (sendable, crosses, slab_send, node_send) depth 20,
+      search (sendable, crosses),
       (
-        search (sendable, crosses, slab_send, item_send) depth 20,
-        (search sendable, (rings_send, (search (sendable, crosses) depth 20, (rings_send, (keys_send, tt))))),
+        search (sendable, crosses, slab_send, node_send) depth 20,
+        (
+          search (sendable, crosses, slab_send, item_send) depth 20,
+          (search sendable, (rings_send, (search (sendable, crosses) depth 20, (rings_send, (keys_send, tt))))),
+        ),
       ),
     ))
 
