@@ -144,3 +144,123 @@ fit_fields-returns-clause-misfit t c =
     narrows-end (ValuesFail globals scope c.args.first (map expression_of c.args.values.now) (field_kinds (map (field_in types) c.args.fields.now)))
     (ValuesFail globals scope c.loop-number.end (map expression_of (drop c.loop-number.number c.args.values.now)) (field_kinds (map (field_in types) (drop c.loop-number.number c.args.fields.now))))
     c.loop-number.misfit (λ flaw has. rw none at has) c.loop-number.invariant.fits
+
+pub checked-checked-requires : goal.checked-checked-requires
+checked-checked-requires t c = search (rules, the_lemmas)
+
+pub checked-returns-in_err-inner-in-Parenthesized-clause-one : goal.checked-returns-in_err-inner-in-Parenthesized-clause-one
+checked-returns-in_err-inner-in-Parenthesized-clause-one t c = search (rules, the_lemmas)
+
+pub checked-overflow_add-result : goal.checked-overflow_add-result
+checked-overflow_add-result t c = search (rules, the_lemmas)
+
+pub checked-checked-requires-in-Selection : goal.checked-checked-requires-in-Selection
+checked-checked-requires-in-Selection t c = search (rules, the_lemmas)
+
+pub checked-returns-in_err-whole-in-Selection-clause-one : goal.checked-returns-in_err-whole-in-Selection-clause-one
+checked-returns-in_err-whole-in-Selection-clause-one t c = search (rules, the_lemmas)
+
+pub checked-selection-requires : goal.checked-selection-requires
+checked-selection-requires t c = search (rules, the_lemmas)
+
+pub checked-composite-requires : goal.checked-composite-requires
+checked-composite-requires t c = search (rules, the_lemmas)
+
+pub checked-checked-requires-in-Unary : goal.checked-checked-requires-in-Unary
+checked-checked-requires-in-Unary t c = search (rules, the_lemmas)
+
+pub checked-returns-in_err-operand-in-Unary-clause-one : goal.checked-returns-in_err-operand-in-Unary-clause-one
+checked-returns-in_err-operand-in-Unary-clause-one t c = search (rules, the_lemmas)
+
+pub checked-before-requires-clause-small : goal.checked-before-requires-clause-small
+checked-before-requires-clause-small t c = search (rules, the_lemmas)
+
+pub checked-checked-requires-in-Binary : goal.checked-checked-requires-in-Binary
+checked-checked-requires-in-Binary t c = search (rules, the_lemmas)
+
+pub checked-returns-in_err-left-in-Binary-clause-one : goal.checked-returns-in_err-left-in-Binary-clause-one
+checked-returns-in_err-left-in-Binary-clause-one t c = search (rules, the_lemmas)
+
+pub checked-overflow_add-left : goal.checked-overflow_add-left
+checked-overflow_add-left t c = search (rules, the_lemmas)
+
+pub checked-checked-requires-in-Binary-2 : goal.checked-checked-requires-in-Binary-2
+checked-checked-requires-in-Binary-2 t c = search (rules, the_lemmas)
+
+pub checked-returns-in_err-right-in-Binary-clause-one : goal.checked-returns-in_err-right-in-Binary-clause-one
+checked-returns-in_err-right-in-Binary-clause-one t c = search (rules, the_lemmas)
+
+pub checked-between-requires-clause-small : goal.checked-between-requires-clause-small
+checked-between-requires-clause-small t c = search (rules, the_lemmas)
+
+pub checked-returns-in-Integer-clause-worth : goal.checked-returns-in-Integer-clause-worth
+checked-returns-in-Integer-clause-worth t c = search (rules, the_lemmas)
+
+pub checked-returns-in-Integer-clause-end : goal.checked-returns-in-Integer-clause-end
+checked-returns-in-Integer-clause-end t c = search (rules, the_lemmas)
+
+pub checked-returns-in-Integer-clause-none : goal.checked-returns-in-Integer-clause-none
+checked-returns-in-Integer-clause-none t c = search (rules, the_lemmas)
+
+pub checked-returns-in-Integer-clause-one : goal.checked-returns-in-Integer-clause-one
+checked-returns-in-Integer-clause-one t c = search (rules, the_lemmas)
+
+pub checked-returns-in-Named-clause-worth : goal.checked-returns-in-Named-clause-worth
+checked-returns-in-Named-clause-worth t c = search (rules, the_lemmas)
+
+pub checked-returns-in-Named-clause-end : goal.checked-returns-in-Named-clause-end
+checked-returns-in-Named-clause-end t c = search (rules, the_lemmas)
+
+pub checked-returns-in-Named-clause-none : goal.checked-returns-in-Named-clause-none
+checked-returns-in-Named-clause-none t c = search (rules, the_lemmas)
+
+pub checked-returns-in-Named-clause-one : goal.checked-returns-in-Named-clause-one
+checked-returns-in-Named-clause-one t c = search (rules, the_lemmas)
+
+pub checked-returns-in_ok-inner-in-Parenthesized-clause-worth : goal.checked-returns-in_ok-inner-in-Parenthesized-clause-worth
+checked-returns-in_ok-inner-in-Parenthesized-clause-worth t c = search (rules, the_lemmas)
+
+pub checked-returns-in_ok-inner-in-Parenthesized-clause-end : goal.checked-returns-in_ok-inner-in-Parenthesized-clause-end
+checked-returns-in_ok-inner-in-Parenthesized-clause-end t c = search (rules, the_lemmas)
+
+pub checked-returns-in_ok-inner-in-Parenthesized-clause-none : goal.checked-returns-in_ok-inner-in-Parenthesized-clause-none
+checked-returns-in_ok-inner-in-Parenthesized-clause-none t c = search (rules, the_lemmas)
+
+pub checked-returns-in_ok-whole-in-Selection-clause-worth : goal.checked-returns-in_ok-whole-in-Selection-clause-worth
+checked-returns-in_ok-whole-in-Selection-clause-worth t c = search (rules, the_lemmas)
+
+pub checked-returns-in_ok-whole-in-Selection-clause-end : goal.checked-returns-in_ok-whole-in-Selection-clause-end
+checked-returns-in_ok-whole-in-Selection-clause-end t c = search (rules, the_lemmas)
+
+pub checked-returns-in_ok-whole-in-Selection-clause-none : goal.checked-returns-in_ok-whole-in-Selection-clause-none
+checked-returns-in_ok-whole-in-Selection-clause-none t c = search (rules, the_lemmas)
+
+pub checked-returns-in_ok-whole-in-Selection-clause-one : goal.checked-returns-in_ok-whole-in-Selection-clause-one
+checked-returns-in_ok-whole-in-Selection-clause-one t c = search (rules, the_lemmas)
+
+pub checked-returns-in-Composite-clause-end : goal.checked-returns-in-Composite-clause-end
+checked-returns-in-Composite-clause-end t c = search (rules, the_lemmas)
+
+pub checked-returns-in_ok-operand-in-Unary-clause-worth : goal.checked-returns-in_ok-operand-in-Unary-clause-worth
+checked-returns-in_ok-operand-in-Unary-clause-worth t c = search (rules, the_lemmas)
+
+pub checked-returns-in_ok-operand-in-Unary-clause-end : goal.checked-returns-in_ok-operand-in-Unary-clause-end
+checked-returns-in_ok-operand-in-Unary-clause-end t c = search (rules, the_lemmas)
+
+pub checked-returns-in_ok-operand-in-Unary-clause-none : goal.checked-returns-in_ok-operand-in-Unary-clause-none
+checked-returns-in_ok-operand-in-Unary-clause-none t c = search (rules, the_lemmas)
+
+pub checked-returns-in_ok-operand-in-Unary-clause-one : goal.checked-returns-in_ok-operand-in-Unary-clause-one
+checked-returns-in_ok-operand-in-Unary-clause-one t c = search (rules, the_lemmas)
+
+pub checked-returns-in_ok-right-in-Binary-clause-worth : goal.checked-returns-in_ok-right-in-Binary-clause-worth
+checked-returns-in_ok-right-in-Binary-clause-worth t c = search (rules, the_lemmas)
+
+pub checked-returns-in_ok-right-in-Binary-clause-end : goal.checked-returns-in_ok-right-in-Binary-clause-end
+checked-returns-in_ok-right-in-Binary-clause-end t c = search (rules, the_lemmas)
+
+pub checked-returns-in_ok-right-in-Binary-clause-none : goal.checked-returns-in_ok-right-in-Binary-clause-none
+checked-returns-in_ok-right-in-Binary-clause-none t c = search (rules, the_lemmas)
+
+pub checked-returns-in_ok-right-in-Binary-clause-one : goal.checked-returns-in_ok-right-in-Binary-clause-one
+checked-returns-in_ok-right-in-Binary-clause-one t c = search (rules, the_lemmas)
