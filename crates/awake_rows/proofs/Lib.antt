@@ -1,4 +1,5 @@
 pub mod Floors
 pub mod Found
 pub mod Kept
+pub mod Least
 pub mod Stepping

@@ -5,7 +5,7 @@ use Rattle.bytecode.specs.Code.{Code}
 use Rattle.bytecode.specs.Machine.{Frames, code_kind}
 use Rattle.goroutine_vm.specs.Advance.{Goes, IsStateOf, steps}
 use Rattle.logical_clock.specs.declared.key.Key.{Key}
-use Rattle.logical_clock.specs.Order.{is_before}
+use Rattle.logical_clock.specs.Order.{is_before, sooner}
 use Rattle.turn_rule.specs.declared.Lease.{Lease as Loan}
 use Rattle.turn_rule.specs.declared.Row.{Row}
 use Rattle.turn_rule.specs.declared.Step.{Step}
@@ -96,6 +96,11 @@ abbrev pub floor_clock : Option (Row State) → Option ℕ
 floor_clock None = None
 floor_clock (Some row) = Some row.floor
 
+-- the floor of one that is lent
+abbrev pub lent_clock : Option (Row State) → Option ℕ
+lent_clock None = None
+lent_clock (Some row) = cond (is_some row.lease) (Some row.floor) None
+
 -- its clock, where those that are parked count, or those that may be lent, or its floor, where all do
 abbrev pub clock_among : Among → Option (Row State) → Option ℕ
 clock_among among.Parked row = waiting_clock row
@@ -109,36 +114,35 @@ abbrev pub key_of : ℕ → Option ℕ → Option Key
 key_of n None = None
 key_of n (Some clock) = Some (record { clock = clock; number = n })
 
--- these are the keys of those who have a clock, that of goroutine n at place n. There may be more places
-pub record AreKeys (clock : Option (Row State) → Option ℕ) (keys : List (Option Key)) (rows : Rows) : Type 0 where
-  pub room : length rows ≤ length keys
-  pub each : (n : ℕ) → slice_index_or keys n None ≡ key_of n (clock (slice_index_or rows n None))
-
--- the same but for one goroutine, which is late: its row changed since
+-- these are the keys of those who have a clock, that of goroutine n at place n, but for one goroutine, which is late: its row changed since.
+-- There may be more places
 pub record AreKeysBut (late : ℕ) (clock : Option (Row State) → Option ℕ) (keys : List (Option Key)) (rows : Rows) : Type 0 where
   pub room : length rows ≤ length keys
   pub others : (n : ℕ) → n ≢ late → slice_index_or keys n None ≡ key_of n (clock (slice_index_or rows n None))
 
+-- as a slot keeps it: the floor of one that is not lent is its clock, and who is parked is not lent
+pub record KeepsFloor (row : Row State) : Type 0 where
+  pub floor : row.lease ≡ None → row.floor ≡ row.state.clock
+  pub unlent : row.parked ≡ true → row.lease ≡ None
+
+abbrev pub AllKeepFloors : Rows → Type 0
+AllKeepFloors rows = (n : ℕ) → IfSome (slice_index_or rows n None) KeepsFloor
+
 pub record AreOrders (orders : Orders) (rows : Rows) : Type 0 where
   pub parked : AreKeysBut orders.late waiting_clock orders.parked rows
   pub free : AreKeysBut orders.late free_clock orders.free rows
-  pub floors : AreKeysBut orders.late floor_clock orders.floors rows
-
--- the order of those whose clocks count
-abbrev pub order_of : Among → Orders → List (Option Key)
-order_of among.Parked orders = orders.parked
-order_of among.Free orders = orders.free
-order_of among.Awake orders = orders.floors
+  pub lent : AreKeysBut orders.late lent_clock orders.lent rows
+  pub floors : AllKeepFloors rows
 
 abbrev pub clocks_of : Option (Row State) → Clocks
-clocks_of row = record { parked = waiting_clock row; free = free_clock row; floor = floor_clock row }
+clocks_of row = record { parked = waiting_clock row; free = free_clock row; lent = lent_clock row }
 
 -- goroutine n stands by these clocks
 abbrev pub noted : Orders → ℕ → Clocks → Orders
 noted orders n clocks = record orders {
   parked = slice_set orders.parked n (key_of n clocks.parked);
   free = slice_set orders.free n (key_of n clocks.free);
-  floors = slice_set orders.floors n (key_of n clocks.floor);
+  lent = slice_set orders.lent n (key_of n clocks.lent);
 }
 
 -- who was late stands by its clocks, and goroutine n is late
@@ -150,13 +154,22 @@ abbrev pub with_place : Orders → Orders
 with_place orders = record orders {
   parked = orders.parked ++ None ∷ [];
   free = orders.free ++ None ∷ [];
-  floors = orders.floors ++ None ∷ [];
+  lent = orders.lent ++ None ∷ [];
 }
 
--- the least of some keys, if there are any
-abbrev pub IsLeastOf : List (Option Key) → Option Key → Type 0
-IsLeastOf keys None = (n : ℕ) → slice_index_or keys n None ≡ None
-IsLeastOf keys (Some k) = ((n : ℕ) × (slice_index_or keys n None ≡ Some k)) × ((n : ℕ) (j : Key) → slice_index_or keys n None ≡ Some j → is_before j k ≡ false)
+-- the key of another one than the late one, where it has such a clock
+abbrev pub IsOther : ℕ → (Option (Row State) → Option ℕ) → Rows → Key → Type 0
+IsOther late clock rows k = (k.number ≢ late) × (clock (slice_index_or rows k.number None) ≡ Some k.clock)
+
+-- the least of the keys that count, if any does
+abbrev pub IsFirst : (Key → Type 0) → Option Key → Type 0
+IsFirst Counts None = (k : Key) → Counts k → ⊥
+IsFirst Counts (Some k) = Counts k × ((j : Key) → Counts j → is_before j k ≡ false)
+
+-- the first of two keys, where there are any
+abbrev pub soonest : Option Key → Option Key → Option Key
+soonest None other = other
+soonest (Some k) other = sooner k other
 
 -- ---- changes of a row
 

@@ -8,7 +8,7 @@ ghost use Rattle.turn_rule.specs.Schedule.{has_turn};
 ghost use Rattle.word.specs.Views.{reply_of};
 ghost use Rattle.awake_rows.specs.Slots.{FitsAll, FitsRow, IsAwake, IsBefore, IsFreeIn, IsNobodyAwake, IsUnlent, WorksIn, answered_rows, clock_among, free_clock, free_row, lent_row, raised_row, stepped_rows};
 
-use crate::orders::{Orders, key_of, least_with, note};
+use crate::orders::{Orders, key_of, note, soonest};
 use crate::rows::{answer_row, lend_row, put_at, raise_row, stay_row, step_row, take_at, work_row};
 use crate::slot::Slot;
 use crate::turns::{Among, blocker};
@@ -189,7 +189,7 @@ impl AwakeRows {
     {
         let late = self.orders.late;
         let own = key_of(late, among.clock_at(&self.slots, late));
-        least_with(self.orders.of(among), late, own)
+        soonest(own, self.orders.others(among))
     }
 
     /// Who stands before the key: an awake goroutine whose floor the key is not below. None where the key has the turn.

@@ -1,8 +1,8 @@
 //! The orders in which awake goroutines stand: by the clocks at which they are parked, by those at which they may be lent,
-//! and by their floors.
+//! and, those that are lent, by their floors.
 
-ghost use Rattle.std.specs.Prelude.{◌≡◌, ◌≢◌, ◌<◌, [], IfSome, None, OnErr, OnOk, length, slice_index_or, slice_set};
-ghost use Rattle.awake_rows.specs.Slots.{AreOrders, IsLeastOf, Rows, clocks_of, floor_clock, key_of, noted, now_late, order_of, with_place};
+ghost use Rattle.std.specs.Prelude.{◌≡◌, ◌≢◌, [], IfSome, None, OnErr, OnOk, slice_index_or};
+ghost use Rattle.awake_rows.specs.Slots.{AreOrders, IsFirst, IsOther, KeepsFloor, Rows, clock_among, clocks_of, key_of, noted, now_late, soonest, with_place};
 
 use crate::slot::Slot;
 use crate::turns::Among;
@@ -21,8 +21,8 @@ pub(crate) struct Orders {
     pub parked: KeyIndex,
     /// Of those that may be lent.
     pub free: KeyIndex,
-    /// Of all that are awake, by their floors.
-    pub floors: KeyIndex,
+    /// Of those that are lent, by their floors.
+    pub lent: KeyIndex,
     /// The goroutine whose row changed last: it may stand elsewhere.
     pub late: u64,
 }
@@ -35,20 +35,24 @@ impl Orders {
         Orders {
             parked: KeyIndex::empty(alloc),
             free: KeyIndex::empty(alloc),
-            floors: KeyIndex::empty(alloc),
+            lent: KeyIndex::empty(alloc),
             late: 0,
         }
     }
 
-    /// The order of those whose clocks count.
+    /// The least key of those whose clocks count, but for the late goroutine. The floor of one that is not lent is its clock.
     #[inline(always)]
-    pub(crate) fn of(&self, among: Among) -> &KeyIndex
-        ensures { result.now ≡ order_of among self.now }
+    pub(crate) fn others(&self, among: Among) -> Option<Key>
+        ensures { (rows : Rows) → AreOrders self.now rows → IsFirst (IsOther self.now.late (clock_among among) rows) result }
     {
+        let late = self.late as usize;
         match among {
-            Among::Parked => &self.parked,
-            Among::Free => &self.free,
-            Among::Awake => &self.floors,
+            Among::Parked => self.parked.least_but(late),
+            Among::Free => self.free.least_but(late),
+            Among::Awake => {
+                let unlent = soonest(self.parked.least_but(late), self.free.least_but(late));
+                soonest(unlent, self.lent.least_but(late))
+            }
         }
     }
 
@@ -59,7 +63,7 @@ impl Orders {
     {
         self.parked.push()?;
         self.free.push()?;
-        self.floors.push()?;
+        self.lent.push()?;
         Ok(())
     }
 }
@@ -69,15 +73,17 @@ impl Orders {
 pub(crate) struct Clocks {
     pub parked: Option<Clock>,
     pub free: Option<Clock>,
-    pub floor: Option<Clock>,
+    pub lent: Option<Clock>,
 }
 
-/// Row `number` has changed, and its goroutine is late; the one that was takes its places.
+/// Row `number` has changed, and its goroutine is late; the one that was takes its places. What stands there keeps its floor.
 #[inline(always)]
 pub(crate) fn note(orders: &mut Orders, rows: &[Option<Slot>], number: u64)
     ensures same { number ≡ orders.old.late → orders.new ≡ orders.old }
     ensures other { number ≢ orders.old.late → orders.new ≡ now_late orders.old rows.now number }
+    ensures floor { IfSome (slice_index_or rows.now number None) KeepsFloor }
 {
+    keeps_floor_at(rows, number);
     let late = orders.late;
     if number != late {
         note_counted::<Brand>(orders, late, clocks_at(rows, late), Blank::new(1));
@@ -101,8 +107,8 @@ fn note_counted<L: Ledger>(orders: &mut Orders, number: u64, clocks: Clocks, bla
         .free
         .set(slot, key_of(number, clocks.free), &mut steps);
     orders
-        .floors
-        .set(slot, key_of(number, clocks.floor), &mut steps);
+        .lent
+        .set(slot, key_of(number, clocks.lent), &mut steps);
 }
 
 /// The key of goroutine `number` at this clock.
@@ -124,26 +130,36 @@ fn clocks_at(rows: &[Option<Slot>], number: u64) -> Clocks
             return Clocks {
                 parked: slot.parked_clock(),
                 free: slot.free_clock(),
-                floor: Some(slot.floor()),
+                lent: slot.lent_clock(),
             };
         }
     }
     Clocks {
         parked: None,
         free: None,
-        floor: None,
+        lent: None,
     }
 }
 
-/// The least key of an order, in which the late goroutine stands by this key.
+/// What stands at a place keeps its floor. This does nothing.
 #[inline(always)]
-pub(crate) fn least_with(index: &KeyIndex, late: u64, own: Option<Key>) -> Option<Key>
-    requires { IfSome own (λ _. late < length index.now) }
-    ensures { IsLeastOf (slice_set index.now late own) result }
+fn keeps_floor_at(rows: &[Option<Slot>], number: u64)
+    ensures { IfSome (slice_index_or rows.now number None) KeepsFloor }
 {
-    let others = index.least_but(late as usize);
-    match own {
-        None => others,
-        Some(own) => Some(sooner(own, others)),
+    if (number as usize) < rows.len() {
+        if let Some(slot) = &rows[number as usize] {
+            slot.keeps_floor();
+        }
+    }
+}
+
+/// The first of two keys, where there are any.
+#[inline(always)]
+pub(crate) fn soonest(key: Option<Key>, other: Option<Key>) -> Option<Key>
+    ensures { result ≡ soonest key other }
+{
+    match key {
+        None => other,
+        Some(key) => Some(sooner(key, other)),
     }
 }

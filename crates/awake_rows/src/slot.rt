@@ -10,7 +10,7 @@ ghost use Rattle.turn_rule.specs.Schedule.{give_back, lend, local, look, publish
 ghost use Rattle.word.specs.Kinds.{asks, told};
 ghost use Rattle.word.specs.Worlds.{rules};
 ghost use Rattle.word.specs.Views.{reply_of};
-ghost use Rattle.awake_rows.specs.Slots.{IsRowOf, IsWorked, State, back_row, free_clock, free_row, lent_row, raised_row, stepped_row};
+ghost use Rattle.awake_rows.specs.Slots.{IsRowOf, KeepsFloor, IsWorked, State, back_row, free_clock, free_row, lent_clock, lent_row, raised_row, stepped_row};
 
 use go_text::Memory;
 use goroutine_vm::GoState;
@@ -118,6 +118,24 @@ impl Slot {
             }
             Standing::Lent | Standing::Ahead(_, _) | Standing::Parked => None,
         }
+    }
+
+    /// The goroutine's floor, where it is lent.
+    pub(crate) fn lent_clock(&self) -> Option<Clock>
+        ensures { result ≡ lent_clock (Some self.now) }
+    {
+        match &self.standing {
+            Standing::Lent | Standing::Ahead(_, _) => Some(self.floor),
+            Standing::Free | Standing::Parked => None,
+        }
+    }
+
+    /// The floor of one that is not lent is its clock, and one that is parked is not lent. This does nothing.
+    #[inline(always)]
+    pub(crate) fn keeps_floor(&self)
+        ensures { KeepsFloor self.now }
+    {
+        let _standing = &self.standing;
     }
 
     /// A clock that the goroutine's next request is not below.
