@@ -84,14 +84,22 @@ pub(crate) fn note(orders: &mut Orders, rows: &[Option<Slot>], number: u64)
     ensures floor { IfSome (slice_index_or rows.now number None) KeepsFloor }
 {
     keeps_floor_at(rows, number);
-    let late = orders.late;
-    if number != late {
-        note_counted::<Brand>(orders, late, clocks_at(rows, late), Blank::new(1));
+    if number != orders.late {
+        take_places(orders, rows);
         orders.late = number;
     }
 }
 
+/// The late goroutine takes its places, by what stands in its row.
+fn take_places(orders: &mut Orders, rows: &[Option<Slot>])
+    ensures { orders.new ≡ noted orders.old orders.old.late (clocks_of (slice_index_or rows.now orders.old.late None)) }
+{
+    let late = orders.late;
+    note_counted::<Brand>(orders, late, clocks_at(rows, late), Blank::new(1));
+}
+
 /// Goroutine `number` takes its places by these clocks. The steps that this takes are counted, which costs nothing.
+#[inline(always)]
 fn note_counted<L: Ledger>(orders: &mut Orders, number: u64, clocks: Clocks, blank: Blank)
     requires name { blank.name ≡ L.name }
     requires parts { blank.parts ≡ L.parts }
@@ -112,6 +120,7 @@ fn note_counted<L: Ledger>(orders: &mut Orders, number: u64, clocks: Clocks, bla
 }
 
 /// The key of goroutine `number` at this clock.
+#[inline(always)]
 pub(crate) fn key_of(number: u64, clock: Option<Clock>) -> Option<Key>
     ensures { result ≡ key_of number clock }
 {
@@ -122,6 +131,7 @@ pub(crate) fn key_of(number: u64, clock: Option<Clock>) -> Option<Key>
 }
 
 /// The clocks of goroutine `number` by what stands at its place.
+#[inline(always)]
 fn clocks_at(rows: &[Option<Slot>], number: u64) -> Clocks
     ensures { result ≡ clocks_of (slice_index_or rows.now number None) }
 {

@@ -57,6 +57,20 @@ fn exchange(order: &mut [usize], places: &mut [usize], a: usize, b: usize)
     places[x] = b;
 }
 
+/// The same where the places may be one.
+fn bring(order: &mut [usize], places: &mut [usize], a: usize, b: usize)
+    requires inverse { IsInverse order.old places.old }
+    requires a_in { a < length places.old }
+    requires b_in { b < length places.old }
+    ensures inverse { IsInverse order.new places.new }
+    ensures order { Exchanged order.old order.new a b }
+    ensures places { Exchanged places.old places.new (slice_index order.old a) (slice_index order.old b) }
+{
+    if a != b {
+        exchange(order, places, a, b);
+    }
+}
+
 /// The key at `place` may be before its parents'.
 fn sift_up<L: Ledger>(
     keys: &[Option<Key>],
@@ -192,7 +206,7 @@ pub(crate) fn put<L: Ledger>(
     ensures steps { (d : ℕ) → length keys.old < 2 ^ d → steps.new ≤ steps.old + 2 * d }
 {
     let place = places[slot];
-    exchange(order, places, len, place);
+    bring(order, places, len, place);
     keys[slot] = Some(key);
     sift_up(keys, order, places, len + 1, len, steps);
 }
@@ -257,7 +271,7 @@ pub(crate) fn free<L: Ledger>(
 {
     let place = places[slot];
     let last = len - 1;
-    exchange(order, places, place, last);
+    bring(order, places, place, last);
     if place < last {
         sift(keys, order, places, last, place, steps);
     }

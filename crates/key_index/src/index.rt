@@ -87,15 +87,11 @@ impl KeyIndex {
 
     /// Gives a slot this key, or frees it, where there is such a slot. It takes no more comparisons than `insert`.
     #[inline(always)]
-    #[tactic(auto, using(crate::proofs::Places::kept))]
     pub fn set<L: Ledger>(&mut self, slot: usize, key: Option<Key>, steps: &mut Steps<L>)
         ensures contents { self.new ≡ slice_set self.old slot key }
         ensures steps { (d : ℕ) → length self.old < 2 ^ d → steps.new ≤ steps.old + 2 * d }
     {
         if slot >= self.keys.len() {
-            return;
-        }
-        if self.keys[slot] == key {
             return;
         }
         match key {
@@ -105,6 +101,8 @@ impl KeyIndex {
     }
 
     /// Gives a slot that is there this key, which it may have already.
+    #[inline(always)]
+    #[tactic(auto, using(crate::proofs::Places::kept))]
     fn give<L: Ledger>(&mut self, slot: usize, key: Key, steps: &mut Steps<L>)
         requires { slot < length self.old }
         ensures contents { self.new ≡ slice_set self.old slot (Some key) }
@@ -112,11 +110,16 @@ impl KeyIndex {
     {
         match self.keys[slot] {
             None => self.insert(slot, key, steps),
-            Some(_) => self.change(slot, key, steps),
+            Some(old) => {
+                if old != key {
+                    self.change(slot, key, steps);
+                }
+            }
         }
     }
 
     /// Frees a slot that is there, and may be free already.
+    #[inline(always)]
     #[tactic(auto, using(crate::proofs::Places::kept))]
     fn clear<L: Ledger>(&mut self, slot: usize, steps: &mut Steps<L>)
         requires { slot < length self.old }
