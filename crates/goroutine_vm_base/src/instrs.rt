@@ -18,6 +18,7 @@ use word::limits::MAX_DEPTH;
 use word::value::Word;
 
 /// Pushes a word, and goes on to the next instruction.
+#[inline(always)]
 pub fn push(frame: &mut Frame, word: Word) -> Result<(), AllocError>
     requires { frame.old.place + 1 < 2 ^ 64 }
     ensures ok { OnOk result (frame.new ≡ goes_on frame.old (frame.old.stack ++ word ∷ [])) }
@@ -98,6 +99,7 @@ pub(crate) fn go_on(frame: &mut Frame)
 }
 
 /// Goes to a place with what lies below another place of the stack.
+#[inline(always)]
 pub fn go_to(frame: &mut Frame, to: usize, at: usize)
     ensures { frame.new ≡ goes_to frame.old to (take at frame.old.stack) }
 {
@@ -200,9 +202,11 @@ pub fn leave(frames: &mut CallStack, at: usize) -> Result<Stepped, AllocError>
 }
 
 /// Goes to a place where a tick may be made, with what lies below another place of the stack.
+#[inline(always)]
 pub fn tick_to(may: bool, frame: &mut Frame, to: usize, at: usize) -> Stepped
     ensures step { (callers : Frames) → Does may (frame.old ∷ callers) (Ticks (goes_to frame.old to (take at frame.old.stack) ∷ callers)) result (frame.new ∷ callers) }
     ensures same { frame.new.function ≡ frame.old.function }
+    ensures locals { frame.new.locals ≡ frame.old.locals }
 {
     if may {
         go_to(frame, to, at);

@@ -8,3 +8,4 @@ mod fused;
 pub mod instrs;
 pub mod outcome;
 pub mod run;
+mod step;
