@@ -5,6 +5,7 @@ pub mod call_stack;
 pub mod fetch;
 pub mod frame;
 mod fused;
-pub mod instrs;
+mod instrs;
 pub mod outcome;
 pub mod run;
+pub mod single;
