@@ -3,10 +3,11 @@
 ghost use Rattle.std.specs.Prelude.{◌≡◌, IfOk};
 ghost use Rattle.goroutine_vm.specs.Advance.{IsQuiet};
 
-use crate::frames::{Frames, Running};
+use crate::frames::Frames;
 use crate::state::GoState;
 use crate::told::Told;
 use go_text::Memory;
+use goroutine_vm_base::call_stack::CallStack;
 use logical_clock::Clock;
 use std::alloc::Global;
 use std::marker::Model;
@@ -30,17 +31,16 @@ impl Room {
 pub struct Sleeping {
     clock: Clock,
     doomed: bool,
-    running: Box<Running>,
+    running: Box<CallStack>,
 }
 
 impl Model for Sleeping {
-    ghost use Rattle.std.specs.Prelude.{◌∷◌};
     ghost use Rattle.bytecode.specs.Machine.{Frames as FramesValue};
     ghost use Rattle.word.specs.Kinds.{Clocked};
 
     ghost Value = { Clocked FramesValue };
 
-    ghost view = { λ s. record { clock = s.clock; doomed = s.doomed; state = s.running.value.frame ∷ s.running.value.callers } };
+    ghost view = { λ s. record { clock = s.clock; doomed = s.doomed; state = s.running.value } };
 }
 
 impl GoState {
@@ -50,7 +50,7 @@ impl GoState {
         ensures { result.0 ≡ self }
     {
         let (clock, doomed, frames) = self.into_parts();
-        frames.running.frame.quiet();
+        frames.running.as_ref().quiet();
         let Frames { running, told } = frames;
         let sleeping = Sleeping {
             clock,
@@ -66,7 +66,7 @@ impl Sleeping {
     pub fn get_up(self, room: Room) -> GoState
         ensures { result ≡ self }
     {
-        self.running.frame.quiet();
+        self.running.as_ref().quiet();
         let Sleeping {
             clock,
             doomed,

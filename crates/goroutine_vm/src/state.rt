@@ -1,6 +1,6 @@
 //! A goroutine's state, and its local steps.
 
-ghost use Rattle.std.specs.Prelude.{◌≡◌, ◌+◌, ◌<◌, ◌≤◌, ◌^◌, ◌↔◌, false, true, IsTrue, IfOk, OnErr, OnOk, None, Some, cond, length, option_map};
+ghost use Rattle.std.specs.Prelude.{◌≡◌, ◌+◌, ◌<◌, ◌≤◌, ◌^◌, ◌↔◌, ◌++◌, ◌∷◌, [], false, true, IsTrue, IfOk, OnErr, OnOk, None, Some, cond, length, option_map};
 ghost use Rattle.std.specs.Option.{is_some};
 ghost use Rattle.bytecode.specs.Code.{Code};
 ghost use Rattle.bytecode.specs.Machine.{code_begin, code_kind, code_next, frames_told, reply_words};
@@ -20,7 +20,7 @@ use std::marker::Model;
 use verifier::Verified;
 use word::panic::Panic;
 use word::request::{Reply, Request};
-use word::value::Word;
+use word::value::{Item, Word};
 
 /// A goroutine: its clock, whether a close woke it at its send, and the functions that run.
 pub struct GoState {
@@ -332,16 +332,29 @@ impl GoState {
             Reply::Closed => self.doom(clock),
             Reply::Nothing => self.go_on(code, None, &[], clock),
             Reply::Word(word) => self.go_on(code, None, &[*word], clock),
-            Reply::Received(item, ok) => {
-                let words = words_of(item, *ok);
-                self.go_on(code, None, words.words(), clock);
-            }
+            Reply::Received(item, ok) => self.receive(code, item, *ok, clock),
             Reply::Clause(clause, None) => self.go_on(code, Some(*clause), &[], clock),
             Reply::Clause(clause, Some((item, ok))) => {
                 let words = words_of(item, *ok);
                 self.go_on(code, Some(*clause), words.words(), clock);
             }
             Reply::Default => self.go_on(code, None, &[], clock),
+        }
+    }
+
+    /// It receives this item, at this clock; most have one word.
+    #[inline(always)]
+    fn receive(&mut self, code: &Verified, item: &Item, ok: bool, clock: Clock)
+        requires { IsFrameOf code.now self.old.state }
+        ensures told { self.new ≡ at clock (frames_told code.now self.old.state None (item.now ++ Word.Bool ok ∷ [])) }
+        ensures frame { IsFrameOf code.now self.new.state }
+    {
+        match item.words() {
+            [word] => self.go_on(code, None, &[*word, Word::Bool(ok)], clock),
+            _ => {
+                let words = words_of(item, ok);
+                self.go_on(code, None, words.words(), clock);
+            }
         }
     }
 

@@ -1,8 +1,9 @@
 //! The functions that were called and have not returned.
 
 ghost use Rattle.std.specs.Prelude.{◌≡◌, ◌+◌, ◌<◌, ◌≤◌, ◌^◌, ◌++◌, ◌∷◌, [], OnErr, OnOk, Some, drop, length, reverse, slice_get, take};
+ghost use Rattle.bytecode.specs.Effects.{below};
 ghost use Rattle.bytecode.specs.Machine.{Frame as FrameValue, Frames, begun, goes_on};
-ghost use Rattle.goroutine_vm_base.specs.Steps.{Resumes, ResumesInto, ResumesWith, ahead};
+ghost use Rattle.goroutine_vm_base.specs.Steps.{IsCalm, Resumes, ResumesInto, ResumesWith, ahead};
 ghost use Rattle.word.specs.declared.value.Word.TheVariants.{Int};
 
 use crate::frame::{Frame, empty};
@@ -10,10 +11,10 @@ use crate::fused::keep;
 use bytecode::WordKind;
 use std::alloc::{AllocError, Global};
 use std::marker::Model;
-use std::mem::swap;
+use word::value::Word;
 
-/// Functions of which each waits for the one called after it; contracts see the last one called first. Frames are kept for later
-/// calls, which no contract sees.
+/// Functions, of which there is one at least, and each waits for the one called after it; contracts see the last one called first.
+/// Frames are kept for later calls, which no contract sees.
 pub struct CallStack {
     pub(crate) frames: Vec<Frame>,
     pub(crate) depth: usize,
@@ -27,19 +28,20 @@ impl Drop for CallStack {
 }
 
 impl Model for CallStack {
-    ghost use Rattle.std.specs.Prelude.{◌≤◌, length, reverse, take};
+    ghost use Rattle.std.specs.Prelude.{◌<◌, ◌≤◌, length, reverse, take};
     ghost use Rattle.bytecode.specs.Machine.{Frames};
 
     ghost Value = { Frames };
 
     ghost view = { λ s. reverse (take s.depth s.frames.items) };
 
-    ghost invariant = { λ s. s.depth ≤ length s.frames.items };
+    ghost invariant = { λ s. (s.depth ≤ length s.frames.items) × (0 < s.depth) };
 }
 
 impl CallStack {
     /// These, the last one called last, and none that are kept.
     pub fn of(frames: Vec<Frame>) -> CallStack
+        requires { 0 < length frames.items }
         ensures { result ≡ reverse frames.items }
     {
         let depth = frames.len();
@@ -49,6 +51,7 @@ impl CallStack {
     /// How many there are.
     pub fn len(&self) -> usize
         ensures len { result ≡ length self.now }
+        ensures some { 0 < result }
         ensures within { result + 1 < 2 ^ 64 }
     {
         self.depth
@@ -56,37 +59,45 @@ impl CallStack {
 
     /// The frames, the last one called last.
     pub fn as_slice(&self) -> &[Frame]
-        ensures { reverse result.now ≡ self.now }
+        ensures frames { reverse result.now ≡ self.now }
+        ensures some { 0 < length result.now }
     {
         &self.frames[..self.depth]
     }
 
-    /// Puts the function that runs before those that wait.
-    pub fn park(&mut self, alloc: Global, frame: &mut Frame) -> Result<(), AllocError>
-        ensures ok { OnOk result (self.new ≡ frame.old ∷ self.old) }
-        ensures err { OnErr result ((frame.new ≡ frame.old) × (self.new ≡ self.old)) }
+    /// The last one called.
+    #[inline(always)]
+    pub fn last(&self) -> &Frame
+        ensures last { (c : FrameValue) → (cs : Frames) → self.now ≡ c ∷ cs → result.now ≡ c }
+        ensures some { 0 < length self.now }
     {
-        keep_one(alloc, &mut self.frames, self.depth)?;
-        swap(frame, &mut self.frames[self.depth]);
-        self.depth += 1;
+        &self.frames[self.depth - 1]
+    }
+
+    /// There is one at least, and a frame itself was told nothing.
+    #[inline(always)]
+    pub fn quiet(&self)
+        ensures { IsCalm self.now }
+    {
+        self.last().quiet();
+    }
+
+    /// Puts words onto the operand stack of the last one called.
+    #[inline(always)]
+    pub fn put_words(&mut self, words: &[Word]) -> Result<(), AllocError>
+        ensures ok { OnOk result ((c : FrameValue) → (cs : Frames) → self.old ≡ c ∷ cs → self.new ≡ record c { stack = c.stack ++ words.now } ∷ cs) }
+        ensures err { OnErr result (self.new ≡ self.old) }
+    {
+        self.frames[self.depth - 1].push_all(words)?;
         Ok(())
     }
 
-    /// Takes the last one called out of these.
-    pub fn unpark(&mut self, frame: &mut Frame)
-        requires { 0 < length self.old }
-        ensures { self.old ≡ frame.new ∷ self.new }
+    /// Drops so many words of the operand stack of the last one called, or all of fewer, and that goes to a place.
+    #[inline(always)]
+    pub fn drop_to(&mut self, count: usize, place: usize)
+        ensures { (c : FrameValue) → (cs : Frames) → self.old ≡ c ∷ cs → self.new ≡ record c { place = place; stack = below count c.stack } ∷ cs }
     {
-        self.depth -= 1;
-        swap(frame, &mut self.frames[self.depth]);
-    }
-
-    /// The last one called.
-    pub(crate) fn last(&self) -> &Frame
-        requires { 0 < length self.now }
-        ensures { (c : FrameValue) → (cs : Frames) → self.now ≡ c ∷ cs → result.now ≡ c }
-    {
-        &self.frames[self.depth - 1]
+        self.frames[self.depth - 1].drop_to(count, place);
     }
 
     /// The one that waits for the last one called.

@@ -1,6 +1,6 @@
 //! What a goroutine asks.
 
-ghost use Rattle.std.specs.Prelude.{◌≡◌, ◌+◌, ◌∷◌, ◌≤◌, IfOk, List, None, Some, cond, drop, length, option_map, take};
+ghost use Rattle.std.specs.Prelude.{◌≡◌, ◌+◌, ◌<◌, ◌≤◌, ◌^◌, IfOk, List, None, Some, cond, drop, length, option_map, take};
 ghost use Rattle.bytecode.specs.Code.{Code as CodeValue};
 ghost use Rattle.bytecode.specs.Effects.{count, operands};
 ghost use Rattle.bytecode.specs.Machine.{Frame as FrameValue, Frames, code_next, instr_next};
@@ -74,7 +74,25 @@ fn go(
     Ok(true)
 }
 
+/// A send is written to a place. Where a send stands there, its item stays where it is, and only words are written.
+#[inline(always)]
+fn write_send(alloc: Global, chan: Option<u32>, item: &[Word], place: &mut Request)
+    requires { length item.now ≤ MAX_WORDS }
+    ensures { place.new ≡ Request.Send chan item.now }
+{
+    if let Request::Send(to, words) = place {
+        *to = chan;
+        words.set(item);
+        return;
+    }
+    *place = Request::Send(chan, Item::empty(alloc));
+    if let Request::Send(_, words) = place {
+        words.set(item);
+    }
+}
+
 /// What a send asks, likewise.
+#[inline(always)]
 fn send(alloc: Global, frame: &Frame, shape: u32, at: usize, place: &mut Request) -> bool
     requires { at ≤ length frame.now.stack }
     ensures { (code : CodeValue) → (callers : Frames) → AsksFor (instr_next code frame.now callers (take at frame.now.stack) (drop at frame.now.stack) (Instr.Send shape)) (cond result (Some place.new) None) }
@@ -85,7 +103,7 @@ fn send(alloc: Global, frame: &Frame, shape: u32, at: usize, place: &mut Request
             if item.len() > MAX_WORDS {
                 return false;
             }
-            *place = Request::Send(*chan, Item::new(alloc, item));
+            write_send(alloc, *chan, item, place);
             true
         }
         _ => false,
@@ -93,6 +111,7 @@ fn send(alloc: Global, frame: &Frame, shape: u32, at: usize, place: &mut Request
 }
 
 /// What a receive asks, likewise.
+#[inline(always)]
 fn receive(frame: &Frame, shape: u32, at: usize, place: &mut Request) -> bool
     requires { at + 1 ≡ length frame.now.stack }
     ensures { (code : CodeValue) → (callers : Frames) → AsksFor (instr_next code frame.now callers (take at frame.now.stack) (drop at frame.now.stack) (Instr.Receive shape)) (cond result (Some place.new) None) }
@@ -150,6 +169,7 @@ fn cap(frame: &Frame, at: usize, place: &mut Request) -> bool
 }
 
 /// The channel on the top of the stack.
+#[inline(always)]
 fn channel(frame: &Frame, at: usize) -> Option<Option<u32>>
     requires { at + 1 ≡ length frame.now.stack }
     ensures { IsChannelOn (drop at frame.now.stack) result }
@@ -161,12 +181,14 @@ fn channel(frame: &Frame, at: usize) -> Option<Option<u32>>
     }
 }
 
-/// What an instruction asks, whose operands begin at a place of the stack, likewise; false where it is a local step.
+/// What an instruction asks, whose operands begin at a place of the stack, where so many functions wait for the running one,
+/// likewise; false where it is a local step.
+#[inline(always)]
 fn ask(
     alloc: Global,
     code: &Code,
     frame: &Frame,
-    callers: &CallStack,
+    depth: usize,
     i: Instr,
     at: usize,
     place: &mut Request,
@@ -174,13 +196,13 @@ fn ask(
     requires at { FitsAt i at (length frame.now.stack) }
     requires below { at ≤ length frame.now.stack }
     requires verified { IsVerified code.now }
-    ensures { IfOk result (λ asking. AsksFor (instr_next code.now frame.now callers.now (take at frame.now.stack) (drop at frame.now.stack) i) (cond asking (Some place.new) None)) }
+    ensures { IfOk result (λ asking. (callers : Frames) → length callers ≡ depth → AsksFor (instr_next code.now frame.now callers (take at frame.now.stack) (drop at frame.now.stack) i) (cond asking (Some place.new) None)) }
 {
     match i {
         Instr::Apply(op) => Ok(panics(frame, op, at, place)),
-        Instr::Call(function) => Ok(too_deep(code, callers.len(), function, place)),
+        Instr::Call(function) => Ok(too_deep(code, depth, function, place)),
         Instr::Return => {
-            if at > 0 || callers.len() > 0 {
+            if at > 0 || depth > 0 {
                 return Ok(false);
             }
             *place = Request::End;
@@ -248,17 +270,18 @@ fn too_deep(code: &Code, depth: usize, function: u32, place: &mut Request) -> bo
     false
 }
 
-/// Whether an instruction of verified code asks, whose operands begin at a place of the stack; at the limit also whether it
-/// ticks.
-fn asks(at_limit: bool, frame: &Frame, callers: &CallStack, i: Instr, at: usize) -> bool
+/// Whether an instruction of verified code asks, whose operands begin at a place of the stack, where so many functions wait for the
+/// running one; at the limit also whether it ticks.
+fn asks(at_limit: bool, frame: &Frame, depth: usize, i: Instr, at: usize) -> bool
     requires at { FitsAt i at (length frame.now.stack) }
     requires below { at ≤ length frame.now.stack }
-    ensures { (code : CodeValue) → (instr_next code frame.now callers.now (take at frame.now.stack) (drop at frame.now.stack) i ≡ Stuck → ⊥) → result ≡ stops at_limit (instr_next code frame.now callers.now (take at frame.now.stack) (drop at frame.now.stack) i) }
+    requires depth { depth + 1 < 2 ^ 64 }
+    ensures { (code : CodeValue) → (callers : Frames) → length callers ≡ depth → (instr_next code frame.now callers (take at frame.now.stack) (drop at frame.now.stack) i ≡ Stuck → ⊥) → result ≡ stops at_limit (instr_next code frame.now callers (take at frame.now.stack) (drop at frame.now.stack) i) }
 {
     match i {
         Instr::Apply(op) => panic_of(frame, op, at).is_some(),
-        Instr::Call(_) => at_limit || callers.len() + 1 >= MAX_DEPTH,
-        Instr::Return => callers.len() == 0,
+        Instr::Call(_) => at_limit || depth + 1 >= MAX_DEPTH,
+        Instr::Return => depth == 0,
         Instr::Tick => at_limit,
         Instr::Loop(_) => at_limit,
         Instr::Make(_)
@@ -278,13 +301,13 @@ fn asks(at_limit: bool, frame: &Frame, callers: &CallStack, i: Instr, at: usize)
 pub fn request(
     alloc: Global,
     code: &Code,
-    frame: &Frame,
-    callers: &CallStack,
+    frames: &CallStack,
     place: &mut Request,
 ) -> Result<bool, AllocError>
     requires { IsVerified code.now }
-    ensures { IfOk result (λ asking. AsksFor (code_next code.now (frame.now ∷ callers.now)) (cond asking (Some place.new) None)) }
+    ensures { IfOk result (λ asking. AsksFor (code_next code.now frames.now) (cond asking (Some place.new) None)) }
 {
+    let frame = frames.last();
     frame.quiet();
     let have = frame.stack().len();
     match fetch(code, frame) {
@@ -293,18 +316,19 @@ pub fn request(
             if have < wanted {
                 return Ok(false);
             }
-            let at = have - wanted;
-            Ok(ask(alloc, code, frame, callers, i, at, place)?)
+            let depth = frames.len() - 1;
+            Ok(ask(alloc, code, frame, depth, i, have - wanted, place)?)
         }
     }
 }
 
 /// Whether frames of verified code ask that were told nothing; at the limit also whether they tick.
-pub fn is_asking(at_limit: bool, code: &Code, frame: &Frame, callers: &CallStack) -> bool
+pub fn is_asking(at_limit: bool, code: &Code, frames: &CallStack) -> bool
     requires verified { IsVerified code.now }
-    requires sound { code_next code.now (frame.now ∷ callers.now) ≡ Stuck → ⊥ }
-    ensures { result ≡ stops at_limit (code_next code.now (frame.now ∷ callers.now)) }
+    requires sound { code_next code.now frames.now ≡ Stuck → ⊥ }
+    ensures { result ≡ stops at_limit (code_next code.now frames.now) }
 {
+    let frame = frames.last();
     frame.quiet();
     let have = frame.stack().len();
     match fetch(code, frame) {
@@ -313,7 +337,7 @@ pub fn is_asking(at_limit: bool, code: &Code, frame: &Frame, callers: &CallStack
             if have < wanted {
                 return false;
             }
-            asks(at_limit, frame, callers, i, have - wanted)
+            asks(at_limit, frame, frames.len() - 1, i, have - wanted)
         }
     }
 }

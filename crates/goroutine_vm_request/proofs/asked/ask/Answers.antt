@@ -2,39 +2,39 @@ use Rattle.std.proofs.Common.{◌≡◌, ◌∙◌, ◌<◌, ◌-◌, List, leng
 use Rattle.std.proofs.lemmas.List.{take_rest}
 use Rattle.std.proofs.lemmas.Option.{slice_get-get_or}
 use Rattle.bytecode.specs.Code.{PrintTable}
-use Rattle.bytecode.specs.Machine.{Frame, printed}
+use Rattle.bytecode.specs.Machine.{printed}
 use Rattle.goroutine_vm_request.proofs.Asking.{print_for}
 use Rattle.goroutine_vm_request.proofs.asked.ask.Goals as goal
 
 pub returns-in-Apply : goal.returns-in-Apply
-returns-in-Apply c = rw c.in-Apply.is (c.panics.ensures c.args.code.now c.args.callers.now)
+returns-in-Apply c = λ callers deep. rw c.in-Apply.is (c.panics.ensures c.args.code.now callers)
 
 pub returns-in_ok-make-in-Make : goal.returns-in_ok-make-in-Make
-returns-in_ok-make-in-Make c = rw c.in-Make.is (c.in_ok-make-in-Make.ensures c.args.callers.now)
+returns-in_ok-make-in-Make c = λ callers deep. rw c.in-Make.is (c.in_ok-make-in-Make.ensures callers)
 
 pub returns-in-Send : goal.returns-in-Send
-returns-in-Send c = rw c.in-Send.is (c.send.ensures c.args.code.now c.args.callers.now)
+returns-in-Send c = λ callers deep. rw c.in-Send.is (c.send.ensures c.args.code.now callers)
 
 pub returns-in-Receive : goal.returns-in-Receive
-returns-in-Receive c = rw c.in-Receive.is (c.receive.ensures c.args.code.now c.args.callers.now)
+returns-in-Receive c = λ callers deep. rw c.in-Receive.is (c.receive.ensures c.args.code.now callers)
 
 pub returns-in-Close : goal.returns-in-Close
-returns-in-Close c = rw c.in-Close.is (c.close.ensures c.args.code.now c.args.callers.now)
+returns-in-Close c = λ callers deep. rw c.in-Close.is (c.close.ensures c.args.code.now callers)
 
 pub returns-in-Len : goal.returns-in-Len
-returns-in-Len c = rw c.in-Len.is (c.len-in-Len.ensures c.args.code.now c.args.callers.now)
+returns-in-Len c = λ callers deep. rw c.in-Len.is (c.len.ensures c.args.code.now callers)
 
 pub returns-in-Cap : goal.returns-in-Cap
-returns-in-Cap c = rw c.in-Cap.is (c.cap.ensures c.args.code.now c.args.callers.now)
+returns-in-Cap c = λ callers deep. rw c.in-Cap.is (c.cap.ensures c.args.code.now callers)
 
 pub returns-in_ok-select-in-Select : goal.returns-in_ok-select-in-Select
-returns-in_ok-select-in-Select c = rw c.in-Select.is (c.in_ok-select-in-Select.ensures c.args.callers.now)
+returns-in_ok-select-in-Select c = λ callers deep. rw c.in-Select.is (c.in_ok-select-in-Select.ensures callers)
 
 pub returns-in_ok-go-in-Go : goal.returns-in_ok-go-in-Go
-returns-in_ok-go-in-Go c = rw c.in-Go.is (c.in_ok-go-in-Go.ensures c.args.callers.now)
+returns-in_ok-go-in-Go c = λ callers deep. rw c.in-Go.is (c.in_ok-go-in-Go.ensures callers)
 
 pub returns-in_ok-text-in-Print : goal.returns-in_ok-text-in-Print
-returns-in_ok-text-in-Print c =
+returns-in_ok-text-in-Print c = λ callers deep.
     let prints : List PrintTable = c.prints-prints.result.now in
     let table : PrintTable = c.index-prints-table.result in
     let words : take (length c.stack.result.now - c.args.at) (drop c.args.at c.stack.result.now) ≡ drop c.args.at c.args.frame.now.stack = take_rest c.stack.result.now c.args.at ∙ ap (drop c.args.at) c.stack.ensures in

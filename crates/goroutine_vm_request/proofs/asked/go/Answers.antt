@@ -1,6 +1,5 @@
 use Rattle.std.proofs.Common.{◌≡◌, ◌∙◌, ◌<◌, length, drop, ap, rules}
 use Rattle.std.proofs.lemmas.List.{take_rest}
-use Rattle.bytecode.specs.Machine.{Frame}
 use Rattle.goroutine_vm_request.proofs.Asking.{go_for}
 use Rattle.goroutine_vm_request.proofs.asked.go.Goals as goal
 

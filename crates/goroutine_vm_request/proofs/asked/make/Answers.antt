@@ -4,7 +4,7 @@ use mir.Val.{to_z, of_z}
 use Rattle.std.proofs.Math.Facts.{to_z-of_z}
 use Rattle.std.proofs.lemmas.Option.{slice_get-get_or}
 use Rattle.bytecode.specs.declared.instr.WordKind.{WordKind}
-use Rattle.bytecode.specs.Machine.{Frame, zero_of}
+use Rattle.bytecode.specs.Machine.{zero_of}
 use Rattle.word.specs.declared.value.Word.{Word}
 use Rattle.word.specs.declared.value.Word.TheVariants.{Int}
 use Rattle.goroutine_vm_base.proofs.Quick.{drop_one}

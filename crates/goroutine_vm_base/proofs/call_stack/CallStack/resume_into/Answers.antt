@@ -7,7 +7,7 @@ use Rattle.goroutine_vm_base.proofs.call_stack.CallStack.resume_into.Goals.{Afte
 
 -- the caller stands before the last one called
 there : (c : After-index_mut-frame) → (y : Frame) × (rest : Frames) × (c.args.self.now ≡ y ∷ (c.index_mut-frame.result.now ∷ rest)) × (reverse (take (c.self.inside.depth - 1) (slice_set c.self.inside.frames.items (c.self.inside.depth - 2) c.index_mut-frame.result.now)) ≡ c.index_mut-frame.result.now ∷ rest)
-there c = second_put c.self.inside.frames.items c.args.self.now c.self.inside.depth c.index_mut-frame.result.now c.index_mut-frame.result.now c.requires.some c.self.invariant c.self.view_is c.index_mut-frame.ensures.value
+there c = second_put c.self.inside.frames.items c.args.self.now c.self.inside.depth c.index_mut-frame.result.now c.index_mut-frame.result.now c.requires.some c.self.invariant.0 c.self.view_is c.index_mut-frame.ensures.value
 
 pub overflow_add-next : goal.overflow_add-next
 overflow_add-next c =
@@ -27,7 +27,7 @@ returns c =
     let n = c.args.number in
     let to = c.args.to in
     let same : to_z w64 (of_z w64 n) ≡ n = search rules in
-    resumed_into c.self.inside.frames.items c.args.self.now c.self.inside.depth to r c.keep.new.frame n c.requires.some c.self.invariant c.self.view_is c.index_mut-frame.ensures.value
+    resumed_into c.self.inside.frames.items c.args.self.now c.self.inside.depth to r c.keep.new.frame n c.requires.some c.self.invariant.0 c.self.view_is c.index_mut-frame.ensures.value
     (c.keep.ensures
     ∙ ap (λ (z : ℤ). record r { place = c.frame.inside.place + 2; locals = slice_set r.locals to (Int z); told = [] }) same
     ∙ ap (λ (v : Frame). record r { place = v.place + 2; locals = slice_set r.locals to (Int n); told = [] }) c.frame.view_is)
