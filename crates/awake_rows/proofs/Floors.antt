@@ -1,6 +1,6 @@
 -- Whose turn it is, by the least floor.
-use Rattle.std.proofs.Common.{◌≡◌, ◌≢◌, ◌∙◌, ℕ, zero, suc, ◌+◌, Bool, true, false, ◌&&◌, ◌||◌, [], ◌∷◌, Option, Some, None, refl, ap, arith, inl, inr}
-use Rattle.std.specs.Prelude.{slice_index_or, ◌==◌}
+use Rattle.std.proofs.Common.{◌≡◌, ◌≢◌, ◌∙◌, ℕ, zero, suc, ◌+◌, Bool, true, false, ◌&&◌, ◌||◌, [], ◌∷◌, Option, Some, None, refl, ap, sym, subst, arith, inl, inr}
+use Rattle.std.specs.Prelude.{IfNone, IfSome, slice_index_or, ◌==◌}
 use Rattle.std.proofs.lemmas.Bool.{cases_eq}
 use Rattle.std.proofs.lemmas.Bool.Decides.{nat_tests}
 use Rattle.logical_clock.specs.declared.key.Key.{Key}
@@ -8,7 +8,9 @@ use Rattle.logical_clock.specs.Order.{is_before, keys, least}
 use Rattle.logical_clock.proofs.Keys.{IsNext, next_is, key, not_before_trans, before_or_not}
 use Rattle.turn_rule.specs.declared.Row.{Row}
 use Rattle.turn_rule.specs.Schedule.{floor_above, has_turn}
-use Rattle.awake_rows.specs.Slots.{IsAwake, IsBefore, IsNobodyAwake, Rows, State, floor_clock}
+use Rattle.awake_rows.specs.Slots.{AreOrders, IsAwake, IsBefore, IsClear, IsFirst, IsNobodyAwake, IsNotClear, IsOther, Rows, State, floor_clock, free_clock, key_of, lent_clock, waiting_clock}
+use Rattle.awake_rows.specs.declared.orders.Orders.{Orders}
+use Rattle.awake_rows.proofs.Least.{among_floor, first_alone, floor_among, key_of_some}
 
 -- ---- who has the turn
 
@@ -68,28 +70,65 @@ module _ (rows : Rows) where
       let there = floor_row (slice_index_or rows f.number None) f.clock nx.0 in
       (there.0, there.1)
 
-  module _ (k : Key) where
-    pub turn_alone : None ≡ least (keys floor_clock 0 rows) → has_turn k 0 rows ≡ true
-    turn_alone h = turn_if k rows (λ n c e. absurd (floor_is None h n c e))
+-- ---- by the first of each order
 
-    -- the least floor is another's, and the key is below it
-    pub turn_below : (f : Key) → (Some f) ≡ least (keys floor_clock 0 rows) → is_before k f ≡ true → has_turn k 0 rows ≡ true
-    turn_below f h b =
-        let nx : IsNext floor_clock None rows (Some f) = floor_is (Some f) h in
-        turn_if k rows (λ n c e. or_before k n c (λ ne. before_not k f (key c n) b (nx.1 n c e)))
+-- all others come after the key, and its own goroutine not before it
+clear_all : (k : Key) (P : Key → Type 0) (r : Option Key) → IsFirst P r → IfSome r (IsClear k) → (j : Key) → P j → ((j.number == k.number) || is_before k j) ≡ true
+clear_all k P None first clear j p = absurd (first j p)
+clear_all k P (Some f) first clear j p = or_before k j.number j.clock (λ ne. elim (cases_eq f.number k.number) [
+  | inl e ↦ before_or_not j k (not_before_trans k f j (clear.0 e) (first.1 j p)) ne
+  | inr nf ↦ before_not k f j (clear.1 nf) (first.1 j p)
+])
 
-    -- the least floor is that of the key's own goroutine, and is not below the key
-    pub turn_own : (f : Key) → (Some f) ≡ least (keys floor_clock 0 rows) → is_before f k ≡ false → has_turn k 0 rows ≡ true
-    turn_own f h b =
-        let nx : IsNext floor_clock None rows (Some f) = floor_is (Some f) h in
-        turn_if k rows (λ n c e. or_before k n c (λ ne. before_or_not (key c n) k (not_before_trans k f (key c n) b (nx.1 n c e)) ne))
+turn_waits : (rows : Rows) (k f : Key) → floor_clock (slice_index_or rows f.number None) ≡ Some f.clock → f.number ≢ k.number → is_before k f ≡ false → (has_turn k 0 rows ≡ false) × IsBefore rows k f.number
+turn_waits rows k f is ne b =
+    let there = floor_row (slice_index_or rows f.number None) f.clock is in
+    let waits : is_before k (key there.0.floor f.number) ≡ false = ap (λ c. is_before k (key c f.number)) there.2 ∙ b in
+    let other : (f.number == k.number) ≡ false = grind (arith, nat_tests) in
+    let below : floor_above k f.number (slice_index_or rows f.number None) ≡ false = ap (λ (o : Option (Row State)). floor_above k f.number o) there.1 ∙ ap (λ x. x || is_before k (key there.0.floor f.number)) other ∙ waits in
+    (no_turn k rows 0 f.number (ap (λ n. floor_above k n (slice_index_or rows f.number None)) (omega arith) ∙ below), (there.0, there.1, ne, waits))
 
-    -- the least floor is another's, and the key is not below it
-    pub turn_waits : (f : Key) → (Some f) ≡ least (keys floor_clock 0 rows) → f.number ≢ k.number → is_before k f ≡ false → (has_turn k 0 rows ≡ false) × IsBefore rows k f.number
-    turn_waits f h ne b =
-        let nx : IsNext floor_clock None rows (Some f) = floor_is (Some f) h in
-        let there = floor_row (slice_index_or rows f.number None) f.clock nx.0 in
-        let waits : is_before k (key there.0.floor f.number) ≡ false = ap (λ c. is_before k (key c f.number)) there.2 ∙ b in
-        let other : (f.number == k.number) ≡ false = grind (arith, nat_tests) in
-        let below : floor_above k f.number (slice_index_or rows f.number None) ≡ false = ap (λ (o : Option (Row State)). floor_above k f.number o) there.1 ∙ ap (λ x. x || is_before k (key there.0.floor f.number)) other ∙ waits in
-        (no_turn k rows 0 f.number (ap (λ n. floor_above k n (slice_index_or rows f.number None)) (omega arith) ∙ below), (there.0, there.1, ne, waits))
+waits_of : (rows : Rows) (k : Key) (P : Key → Type 0) (r : Option Key) (n : ℕ) → IsFirst P r → ((j : Key) → P j → floor_clock (slice_index_or rows j.number None) ≡ Some j.clock) → IsNotClear k r n → n ≢ k.number → (has_turn k 0 rows ≡ false) × IsBefore rows k n
+waits_of rows k P None n first floor h ne = absurd h
+waits_of rows k P (Some f) n first floor h ne =
+    subst (λ (m : ℕ). (has_turn k 0 rows ≡ false) × IsBefore rows k m) h.0 (turn_waits rows k f (floor f first.0) (λ e. ne (sym h.0 ∙ e)) (h.1 ne))
+
+module _ (orders : Orders) (rows : Rows) (all : AreOrders orders rows) (k : Key) where
+  pub waits_free : (r : Option Key) (n : ℕ) → IsFirst (IsOther orders.late free_clock rows) r → IsNotClear k r n → n ≢ k.number → (has_turn k 0 rows ≡ false) × IsBefore rows k n
+  waits_free r n first h ne = waits_of rows k (IsOther orders.late free_clock rows) r n first (λ j p. among_floor (slice_index_or rows j.number None) j.clock (all.floors j.number) (inl (inr p.1))) h ne
+
+  pub waits_parked : (r : Option Key) (n : ℕ) → IsFirst (IsOther orders.late waiting_clock rows) r → IsNotClear k r n → n ≢ k.number → (has_turn k 0 rows ≡ false) × IsBefore rows k n
+  waits_parked r n first h ne = waits_of rows k (IsOther orders.late waiting_clock rows) r n first (λ j p. among_floor (slice_index_or rows j.number None) j.clock (all.floors j.number) (inl (inl p.1))) h ne
+
+  pub waits_lent : (r : Option Key) (n : ℕ) → IsFirst (IsOther orders.late lent_clock rows) r → IsNotClear k r n → n ≢ k.number → (has_turn k 0 rows ≡ false) × IsBefore rows k n
+  waits_lent r n first h ne = waits_of rows k (IsOther orders.late lent_clock rows) r n first (λ j p. among_floor (slice_index_or rows j.number None) j.clock (all.floors j.number) (inr p.1)) h ne
+
+  module _ (own : Option Key) (is : own ≡ key_of orders.late (floor_clock (slice_index_or rows orders.late None))) where
+    own_floor : (j : Key) → own ≡ Some j → floor_clock (slice_index_or rows j.number None) ≡ Some j.clock
+    own_floor j e =
+        let found = key_of_some orders.late (floor_clock (slice_index_or rows orders.late None)) j (sym is ∙ e) in
+        ap (λ (i : ℕ). floor_clock (slice_index_or rows i None)) (sym found.1) ∙ found.0
+
+    pub waits_own : (n : ℕ) → IsNotClear k own n → n ≢ k.number → (has_turn k 0 rows ≡ false) × IsBefore rows k n
+    waits_own n h ne = waits_of rows k (λ j. own ≡ Some j) own n (first_alone own) own_floor h ne
+
+    pub turn_clear : (w f l : Option Key) → IsFirst (IsOther orders.late waiting_clock rows) w → IsFirst (IsOther orders.late free_clock rows) f → IsFirst (IsOther orders.late lent_clock rows) l
+        → IfSome own (IsClear k) → IfSome w (IsClear k) → IfSome f (IsClear k) → IfSome l (IsClear k) → has_turn k 0 rows ≡ true
+    turn_clear w f l x y z co cw cf cl = turn_if k rows (λ n c e. elim (cases_eq n orders.late) [
+      | inl q ↦ clear_all k (λ j. own ≡ Some j) own (first_alone own) co (key c n) (is ∙ ap (λ (j : ℕ). key_of j (floor_clock (slice_index_or rows j None))) (sym q) ∙ ap (key_of n) e)
+      | inr ne ↦ elim (floor_among (slice_index_or rows n None) c (all.floors n) e) [
+        | inl a ↦ elim a [
+          | inl p ↦ clear_all k (IsOther orders.late waiting_clock rows) w x cw (key c n) (ne, p)
+          | inr p ↦ clear_all k (IsOther orders.late free_clock rows) f y cf (key c n) (ne, p)
+        ]
+        | inr p ↦ clear_all k (IsOther orders.late lent_clock rows) l z cl (key c n) (ne, p)
+      ]
+    ])
+
+pub for_none : (r : Option ℕ) (A B : Type 0) → IfNone r A → (A → B) → IfNone r B
+for_none None A B a f = f a
+for_none (Some n) A B a f = tt
+
+pub for_some : (r : Option ℕ) (P Q : ℕ → Type 0) → IfSome r P → ((n : ℕ) → P n → Q n) → IfSome r Q
+for_some None P Q p f = tt
+for_some (Some n) P Q p f = f n p

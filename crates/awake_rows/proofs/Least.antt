@@ -42,13 +42,13 @@ module _ (P Q : Key → Type 0) where
   first_same None to back h = λ k q. h k (back k q)
   first_same (Some k) to back h = (to k h.0, λ j q. h.1 j (back j q))
 
-first_alone : (o : Option Key) → IsFirst (λ k. o ≡ Some k) o
+pub first_alone : (o : Option Key) → IsFirst (λ k. o ≡ Some k) o
 first_alone None = λ k e. cc
 first_alone (Some j) = (refl, λ k e. let same : j ≡ k = cc in ap (λ (x : Key). is_before x j) (sym same) ∙ not_before_self j)
 
 -- ---- the others
 
-key_of_some : (n : ℕ) (o : Option ℕ) (k : Key) → key_of n o ≡ Some k → (o ≡ Some k.clock) × (n ≡ k.number)
+pub key_of_some : (n : ℕ) (o : Option ℕ) (k : Key) → key_of n o ≡ Some k → (o ≡ Some k.clock) × (n ≡ k.number)
 key_of_some n None k e = absurd (cc)
 key_of_some n (Some c) k e =
     let same : record { clock = c; number = n } ≡ k = cc in
@@ -87,11 +87,11 @@ or_floor floor clock (Some l) false same apart c (inl (inl e)) = absurd (cc)
 or_floor floor clock (Some l) false same apart c (inl (inr e)) = absurd (cc)
 or_floor floor clock (Some l) false same apart c (inr e) = e
 
-floor_among : (o : Option (Row State)) (c : ℕ) → IfSome o KeepsFloor → floor_clock o ≡ Some c → ((waiting_clock o ≡ Some c) ⊎ (free_clock o ≡ Some c)) ⊎ (lent_clock o ≡ Some c)
+pub floor_among : (o : Option (Row State)) (c : ℕ) → IfSome o KeepsFloor → floor_clock o ≡ Some c → ((waiting_clock o ≡ Some c) ⊎ (free_clock o ≡ Some c)) ⊎ (lent_clock o ≡ Some c)
 floor_among None c k e = absurd (cc)
 floor_among (Some row) c k e = floor_or row.floor row.state.clock row.lease row.parked k.floor k.unlent c e
 
-among_floor : (o : Option (Row State)) (c : ℕ) → IfSome o KeepsFloor → ((waiting_clock o ≡ Some c) ⊎ (free_clock o ≡ Some c)) ⊎ (lent_clock o ≡ Some c) → floor_clock o ≡ Some c
+pub among_floor : (o : Option (Row State)) (c : ℕ) → IfSome o KeepsFloor → ((waiting_clock o ≡ Some c) ⊎ (free_clock o ≡ Some c)) ⊎ (lent_clock o ≡ Some c) → floor_clock o ≡ Some c
 among_floor None c k (inl (inl e)) = e
 among_floor None c k (inl (inr e)) = e
 among_floor None c k (inr e) = e
@@ -134,7 +134,7 @@ module _ (orders : Orders) (rows : Rows) (o : AreOrders orders rows) where
   pub others_free : (r : Option Key) → IsLeastBut orders.late orders.free r → IsFirst (IsOther orders.late free_clock rows) r
   others_free r h = first_other orders.late free_clock orders.free rows r o.free h.none h.there h.least
 
-  others_lent : (r : Option Key) → IsLeastBut orders.late orders.lent r → IsFirst (IsOther orders.late lent_clock rows) r
+  pub others_lent : (r : Option Key) → IsLeastBut orders.late orders.lent r → IsFirst (IsOther orders.late lent_clock rows) r
   others_lent r h = first_other orders.late lent_clock orders.lent rows r o.lent h.none h.there h.least
 
   pub others_awake : (w f l : Option Key) → IsLeastBut orders.late orders.parked w → IsLeastBut orders.late orders.free f → IsLeastBut orders.late orders.lent l → IsFirst (IsOther orders.late floor_clock rows) (soonest (soonest w f) l)

@@ -166,6 +166,15 @@ abbrev pub IsFirst : (Key → Type 0) → Option Key → Type 0
 IsFirst Counts None = (k : Key) → Counts k → ⊥
 IsFirst Counts (Some k) = Counts k × ((j : Key) → Counts j → is_before j k ≡ false)
 
+-- the key is before another one's, or not after its own goroutine's
+abbrev pub IsClear : Key → Key → Type 0
+IsClear k j = (j.number ≡ k.number → is_before j k ≡ false) × (j.number ≢ k.number → is_before k j ≡ true)
+
+-- the key is not before that of goroutine n, unless n is its own
+abbrev pub IsNotClear : Key → Option Key → ℕ → Type 0
+IsNotClear k None n = ⊥
+IsNotClear k (Some j) n = (j.number ≡ n) × (n ≢ k.number → is_before k j ≡ false)
+
 -- the first of two keys, where there are any
 abbrev pub soonest : Option Key → Option Key → Option Key
 soonest None other = other

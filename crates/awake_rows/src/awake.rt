@@ -1,6 +1,6 @@
 //! Rows of awake goroutines, of which the first by their clocks stand in heaps.
 
-ghost use Rattle.std.specs.Prelude.{◌≡◌, ◌++◌, ◌∷◌, [], IfNone, IfOk, IfSome, MatchOption, None, OnErr, OnOk, Some, false, length, option_map, slice_index_or, slice_set, true};
+ghost use Rattle.std.specs.Prelude.{◌≡◌, ◌≢◌, ◌++◌, ◌∷◌, [], IfNone, IfOk, IfSome, MatchOption, None, OnErr, OnOk, Some, false, length, option_map, slice_index_or, slice_set, true};
 ghost use Rattle.std.specs.Option.{is_some};
 ghost use Rattle.bytecode.specs.Rules.{IsFrameOf};
 ghost use Rattle.logical_clock.specs.Order.{keys, least};
@@ -11,7 +11,7 @@ ghost use Rattle.awake_rows.specs.Slots.{FitsAll, FitsRow, IsAwake, IsBefore, Is
 use crate::orders::{Orders, key_of, note, soonest};
 use crate::rows::{answer_row, lend_row, put_at, raise_row, stay_row, step_row, take_at, work_row};
 use crate::slot::Slot;
-use crate::turns::{Among, blocker};
+use crate::turns::{Among, blocker, not_above};
 use go_text::Memory;
 use goroutine_vm::GoState;
 use logical_clock::{Clock, Key};
@@ -196,19 +196,34 @@ impl AwakeRows {
     pub fn blocker(&self, key: Key) -> Option<u64>
         ensures { MatchOption result (has_turn key 0 self.now ≡ true) (λ n. (has_turn key 0 self.now ≡ false) × IsBefore self.now key n) }
     {
-        let Some(floor) = self.least_among(Among::Awake) else {
+        let Some(number) = self.not_above(&key) else {
             return None;
         };
-        if floor.number == key.number {
-            if floor.is_before(&key) {
-                return blocker(&self.slots, key);
-            }
-            return None;
+        if number == key.number {
+            return blocker(&self.slots, key);
         }
-        if key.is_before(&floor) {
-            return None;
+        Some(number)
+    }
+
+    /// Who is not above the key: one that stands before it, or its own goroutine at an earlier floor. Where nobody is, the key has
+    /// the turn.
+    #[inline(always)]
+    fn not_above(&self, key: &Key) -> Option<u64>
+        ensures none { IfNone result (has_turn key.now 0 self.now ≡ true) }
+        ensures some { IfSome result (λ n. n ≢ key.now.number → (has_turn key.now 0 self.now ≡ false) × IsBefore self.now key.now n) }
+    {
+        let late = self.orders.late;
+        if let Some(number) = not_above(self.orders.others(Among::Free), key) {
+            return Some(number);
         }
-        Some(floor.number)
+        let own = key_of(late, Among::Awake.clock_at(&self.slots, late));
+        if let Some(number) = not_above(own, key) {
+            return Some(number);
+        }
+        if let Some(number) = not_above(self.orders.others(Among::Parked), key) {
+            return Some(number);
+        }
+        not_above(self.orders.lent.least_but(late as usize), key)
     }
 
     /// The goroutine of least floor of those that are awake.

@@ -95,12 +95,7 @@ impl Slot {
         ensures { result ≡ cond self.now.parked (Some self.now.state.clock) None }
     {
         match &self.standing {
-            Standing::Parked => {
-                let Held::Here(state) = &self.held else {
-                    unreachable!()
-                };
-                Some(state.clock())
-            }
+            Standing::Parked => Some(self.floor),
             Standing::Free | Standing::Lent | Standing::Ahead(_, _) => None,
         }
     }
@@ -110,12 +105,7 @@ impl Slot {
         ensures { result ≡ free_clock (Some self.now) }
     {
         match &self.standing {
-            Standing::Free => {
-                let Held::Here(state) = &self.held else {
-                    unreachable!()
-                };
-                Some(state.clock())
-            }
+            Standing::Free => Some(self.floor),
             Standing::Lent | Standing::Ahead(_, _) | Standing::Parked => None,
         }
     }

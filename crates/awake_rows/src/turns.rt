@@ -1,9 +1,9 @@
 //! Whose turn it is.
 
-ghost use Rattle.std.specs.Prelude.{◌≡◌, ◌+◌, ◌<◌, IfSome, MatchOption, None, Some, drop, false, length, slice_index_or, true};
+ghost use Rattle.std.specs.Prelude.{◌≡◌, ◌+◌, ◌<◌, IfNone, IfSome, MatchOption, None, Some, drop, false, length, slice_index_or, true};
 ghost use Rattle.logical_clock.specs.Order.{keys, least};
 ghost use Rattle.turn_rule.specs.Schedule.{has_turn};
-ghost use Rattle.awake_rows.specs.Slots.{IsAwake, IsBefore, IsNobodyAwake, clock_among, waiting_clock};
+ghost use Rattle.awake_rows.specs.Slots.{IsAwake, IsBefore, IsClear, IsNobodyAwake, IsNotClear, clock_among, waiting_clock};
 
 use crate::slot::Slot;
 use logical_clock::{Clock, Key, sooner};
@@ -93,6 +93,27 @@ pub fn blocker(rows: &[Option<Slot>], key: Key) -> Option<u64>
         }
     }
     None
+}
+
+/// Whose this first key is, unless the key is before it, or it is an own one that is not earlier.
+#[inline(always)]
+pub(crate) fn not_above(first: Option<Key>, key: &Key) -> Option<u64>
+    ensures none { IfNone result (IfSome first (IsClear key.now)) }
+    ensures some { IfSome result (IsNotClear key.now first) }
+{
+    let Some(first) = first else {
+        return None;
+    };
+    if first.number == key.number {
+        if first.is_before(key) {
+            return Some(first.number);
+        }
+        return None;
+    }
+    if key.is_before(&first) {
+        return None;
+    }
+    Some(first.number)
 }
 
 /// Whether another goroutine than the key's is awake at a place, and the key is not below its floor.

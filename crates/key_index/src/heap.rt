@@ -1,7 +1,7 @@
 //! A heap of slots by their keys.
 
 ghost use Rattle.std.specs.Prelude.{◌≡◌, ℕ, ◌+◌, ◌-◌, ◌*◌, ◌<◌, ◌≤◌, ◌^◌, Option, length, slice_index, slice_index_or, slice_set, None, Some, false, IfNone, IfSome, IsSome, MatchOption};
-ghost use Rattle.key_index.specs.Heap.{Exchanged, IsAboveChildren, IsBelowParent, IsHeap, IsHeapBut, IsIndex, IsInverse, SameTaken, key_at, key_or};
+ghost use Rattle.key_index.specs.Heap.{AreTaken, Exchanged, IsAboveChildren, IsBelowParent, IsHeap, IsHeapBut, IsIndex, IsInverse, SameTaken, key_at, key_or};
 ghost use Rattle.logical_clock.specs.Order.{is_before};
 
 use logical_clock::{Clock, Key};
@@ -21,6 +21,20 @@ pub(crate) fn key_or(key: Option<Key>) -> Key
     }
 }
 
+/// The key of the slot at a place, which has one.
+#[inline(always)]
+pub(crate) fn key_in(keys: &[Option<Key>], order: &[usize], place: usize) -> Key
+    requires place { place < length order.now }
+    requires slot { slice_index order.now place < length keys.now }
+    requires taken { IsSome (slice_index_or keys.now (slice_index order.now place) None) }
+    ensures { result ≡ key_at keys.now order.now place }
+{
+    match keys[order[place]] {
+        Some(key) => key,
+        None => unreachable!(),
+    }
+}
+
 /// Whether the key at place `a` is before that at place `b`.
 fn compare<L: Ledger>(
     keys: &[Option<Key>],
@@ -33,11 +47,13 @@ fn compare<L: Ledger>(
     requires b_in { b < length order.now }
     requires a_slot { slice_index order.now a < length keys.now }
     requires b_slot { slice_index order.now b < length keys.now }
+    requires a_taken { IsSome (slice_index_or keys.now (slice_index order.now a) None) }
+    requires b_taken { IsSome (slice_index_or keys.now (slice_index order.now b) None) }
     ensures value { result ≡ is_before (key_at keys.now order.now a) (key_at keys.now order.now b) }
     ensures steps { steps.new ≡ steps.old + 1 }
 {
     steps.add();
-    key_or(keys[order[a]]).is_before(&key_or(keys[order[b]]))
+    key_in(keys, order, a).is_before(&key_in(keys, order, b))
 }
 
 /// Exchanges the slots at two places.
@@ -86,6 +102,7 @@ fn sift_up<L: Ledger>(
     requires place { place < len }
     requires but { IsHeapBut (key_at keys.now order.old) len place }
     requires above { IsAboveChildren (key_at keys.now order.old) len place }
+    requires taken { AreTaken keys.now order.old len }
     ensures inverse { IsInverse order.new places.new }
     ensures taken { SameTaken places.old places.new len }
     ensures heap { IsHeap (key_at keys.now order.new) len }
@@ -113,6 +130,7 @@ fn lesser_child<L: Ledger>(
     requires len { len ≤ length order.now }
     requires slots { (i : ℕ) → i < len → slice_index order.now i < length keys.now }
     requires place { 2 * place + 2 ≤ len }
+    requires taken { AreTaken keys.now order.now len }
     ensures low { 2 * place + 1 ≤ result }
     ensures high { result ≤ 2 * place + 2 }
     ensures within { result < len }
@@ -142,6 +160,7 @@ fn sift_down<L: Ledger>(
     requires place { place < len }
     requires but { IsHeapBut (key_at keys.now order.old) len place }
     requires below { IsBelowParent (key_at keys.now order.old) place }
+    requires taken { AreTaken keys.now order.old len }
     ensures inverse { IsInverse order.new places.new }
     ensures taken { SameTaken places.old places.new len }
     ensures heap { IsHeap (key_at keys.now order.new) len }
@@ -172,6 +191,7 @@ fn sift<L: Ledger>(
     requires bound { len ≤ length places.old }
     requires place { place < len }
     requires but { IsHeapBut (key_at keys.now order.old) len place }
+    requires taken { AreTaken keys.now order.old len }
     ensures inverse { IsInverse order.new places.new }
     ensures taken { SameTaken places.old places.new len }
     ensures heap { IsHeap (key_at keys.now order.new) len }
@@ -278,20 +298,12 @@ pub(crate) fn free<L: Ledger>(
     keys[slot] = None;
 }
 
-/// The key at a place.
-pub(crate) fn key_in(keys: &[Option<Key>], order: &[usize], place: usize) -> Key
-    requires place { place < length order.now }
-    requires slot { slice_index order.now place < length keys.now }
-    ensures { result ≡ key_at keys.now order.now place }
-{
-    key_or(keys[order[place]])
-}
-
 /// The least key behind the first place; none where nothing stands there.
 pub(crate) fn second(keys: &[Option<Key>], order: &[usize], len: usize) -> Option<Key>
     requires len { len ≤ length order.now }
     requires slots { (i : ℕ) → i < len → slice_index order.now i < length keys.now }
     requires heap { IsHeap (key_at keys.now order.now) len }
+    requires taken { AreTaken keys.now order.now len }
     ensures none { IfNone result (len ≤ 1) }
     ensures there { IfSome result (λ key. (i : ℕ) × (0 < i) × (i < len) × (key_at keys.now order.now i ≡ key)) }
     ensures least { IfSome result (λ key. (i : ℕ) → 0 < i → i < len → is_before (key_at keys.now order.now i) key ≡ false) }

@@ -212,7 +212,9 @@ impl KeyIndex {
         let slot = self.order[0];
         Some((slot, key_or(self.keys[slot])))
     }
+
     /// The least key of the slots but this one; none where all others are free. It compares at most two keys.
+    #[tactic(auto, using(crate::proofs::Places::index_taken))]
     pub fn least_but(&self, slot: usize) -> Option<Key>
         ensures none { IfNone result ((s : ℕ) → s ≢ slot → slice_index_or self.now s None ≡ None) }
         ensures there { IfSome result (λ key. (s : ℕ) × (s ≢ slot) × (slice_index_or self.now s None ≡ Some key)) }

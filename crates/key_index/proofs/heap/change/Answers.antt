@@ -1,5 +1,5 @@
 use Rattle.std.proofs.Common.{arith, ◌<◌, ◌∙◌, length, length-set, refl, Some, None, get_or}
-use Rattle.key_index.proofs.Places.{raise_but, raise_taken, some_key, some_within, taken_place}
+use Rattle.key_index.proofs.Places.{all_taken, raise_but, raise_taken, some_key, some_within, taken_place}
 use Rattle.key_index.proofs.heap.change.Goals as goal
 
 pub bounds-places-slot : goal.bounds-places-slot
@@ -27,3 +27,10 @@ returns-clause-index g c =
       taken = λ s sl. raise_taken _ _ _ _ c.requires.index _ (omega (arith, c.requires.index.slots)) c.args.key _ (some_key (get_or c.args.keys.now c.args.slot None) c.requires.taken) _ refl _ c.sift.ensures.taken s (omega arith);
       heap = c.sift.ensures.heap;
     }
+
+pub sift-requires-clause-taken : goal.sift-requires-clause-taken
+sift-requires-clause-taken g c =
+    let slot : c.args.slot < length c.args.keys.now = some_within c.args.keys.now c.args.slot c.requires.taken in
+    let within : c.args.slot < length c.args.places.now = omega (arith, c.requires.index.slots) in
+    all_taken _ c.args.order.now c.args.places.now c.args.len c.requires.index.inverse c.requires.index.bound
+    (λ s sl. raise_taken _ _ _ _ c.requires.index _ within c.args.key _ (some_key (get_or c.args.keys.now c.args.slot None) c.requires.taken) _ refl c.args.places.now (λ s sl. refl) s sl)
