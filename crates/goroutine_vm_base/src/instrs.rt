@@ -129,12 +129,14 @@ pub fn operate(frame: &mut Frame, op: Op, at: usize) -> Stepped
 }
 
 /// Goes on where the truth value on the top is true, else to a place.
+#[inline(always)]
 pub fn choose(frame: &mut Frame, to: usize, at: usize) -> Stepped
     requires place { frame.old.place + 1 < 2 ^ 64 }
     requires at { at + 1 ≡ length frame.old.stack }
     requires small { to < 2 ^ 32 }
     ensures step { (may : Bool) → (code : CodeValue) → (callers : Frames) → Does may (frame.old ∷ callers) (instr_next code frame.old callers (take at frame.old.stack) (drop at frame.old.stack) (Instr.Unless to)) result (frame.new ∷ callers) }
     ensures same { frame.new.function ≡ frame.old.function }
+    ensures locals { frame.new.locals ≡ frame.old.locals }
 {
     match frame.stack[at] {
         Word::Bool(true) => {

@@ -71,10 +71,12 @@ fn apply_op(frame: &mut Frame, op: Op) -> Stepped
 }
 
 /// Goes on where the truth value on the top is true, else to a place.
-fn unless(frame: &mut Frame, to: u32) -> Stepped
+#[inline(always)]
+pub(crate) fn unless(frame: &mut Frame, to: u32) -> Stepped
     requires { frame.old.place + 1 < 2 ^ 64 }
     ensures step { (may : Bool) → (code : CodeValue) → (callers : Frames) → (f : FunctionValue) → Quickly may (at_instr code frame.old callers f (Instr.Unless to)) callers result frame.old frame.new }
     ensures same { frame.new.function ≡ frame.old.function }
+    ensures locals { frame.new.locals ≡ frame.old.locals }
 {
     let have = frame.stack.len();
     if have == 0 {
