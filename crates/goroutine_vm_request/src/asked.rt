@@ -91,6 +91,18 @@ fn write_send(alloc: Global, chan: Option<u32>, item: &[Word], place: &mut Reque
     }
 }
 
+/// A receive is written to a place. Where one stands there, its channel alone is.
+#[inline(always)]
+fn write_receive(chan: Option<u32>, place: &mut Request)
+    ensures { place.new ≡ Request.Receive chan }
+{
+    if let Request::Receive(from) = place {
+        *from = chan;
+        return;
+    }
+    *place = Request::Receive(chan);
+}
+
 /// What a send asks, likewise.
 #[inline(always)]
 fn send(alloc: Global, frame: &Frame, shape: u32, at: usize, place: &mut Request) -> bool
@@ -119,7 +131,7 @@ fn receive(frame: &Frame, shape: u32, at: usize, place: &mut Request) -> bool
     let _shape = shape;
     match channel(frame, at) {
         Some(chan) => {
-            *place = Request::Receive(chan);
+            write_receive(chan, place);
             true
         }
         None => false,
