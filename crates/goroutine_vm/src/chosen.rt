@@ -11,6 +11,7 @@ use operands::width::clauses_of;
 use word::value::Word;
 
 /// An item of a shape and a truth value are told.
+#[inline(always)]
 pub(crate) fn tell_item(told: &mut Told, code: &Code, shape: u32, words: &[Word])
     requires { IsVerified code.now }
     ensures { told.new ≡ fitted (shape_kinds code.now shape ++ WordKind.Bool ∷ []) words.now }

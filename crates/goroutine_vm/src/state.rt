@@ -332,30 +332,51 @@ impl GoState {
             Reply::Closed => self.doom(clock),
             Reply::Nothing => self.go_on(code, None, &[], clock),
             Reply::Word(word) => self.go_on(code, None, &[*word], clock),
-            Reply::Received(item, ok) => self.receive(code, item, *ok, clock),
+            Reply::Received(item, ok) => self.receive(code, None, item, *ok, clock),
             Reply::Clause(clause, None) => self.go_on(code, Some(*clause), &[], clock),
             Reply::Clause(clause, Some((item, ok))) => {
-                let words = words_of(item, *ok);
-                self.go_on(code, Some(*clause), words.words(), clock);
+                self.receive(code, Some(*clause), item, *ok, clock);
             }
             Reply::Default => self.go_on(code, None, &[], clock),
         }
     }
 
-    /// It receives this item, at this clock; most have one word.
+    /// It receives this item, at this clock, of a select in this clause; most have one word.
     #[inline(always)]
-    fn receive(&mut self, code: &Verified, item: &Item, ok: bool, clock: Clock)
+    fn receive(
+        &mut self,
+        code: &Verified,
+        clause: Option<usize>,
+        item: &Item,
+        ok: bool,
+        clock: Clock,
+    )
         requires { IsFrameOf code.now self.old.state }
-        ensures told { self.new ≡ at clock (frames_told code.now self.old.state None (item.now ++ Word.Bool ok ∷ [])) }
+        ensures told { self.new ≡ at clock (frames_told code.now self.old.state clause (item.now ++ Word.Bool ok ∷ [])) }
         ensures frame { IsFrameOf code.now self.new.state }
     {
         match item.words() {
-            [word] => self.go_on(code, None, &[*word, Word::Bool(ok)], clock),
-            _ => {
-                let words = words_of(item, ok);
-                self.go_on(code, None, words.words(), clock);
-            }
+            [word] => self.go_on(code, clause, &[*word, Word::Bool(ok)], clock),
+            _ => self.receive_all(code, clause, item, ok, clock),
         }
+    }
+
+    /// The same of any number of words.
+    #[inline(never)]
+    fn receive_all(
+        &mut self,
+        code: &Verified,
+        clause: Option<usize>,
+        item: &Item,
+        ok: bool,
+        clock: Clock,
+    )
+        requires { IsFrameOf code.now self.old.state }
+        ensures told { self.new ≡ at clock (frames_told code.now self.old.state clause (item.now ++ Word.Bool ok ∷ [])) }
+        ensures frame { IsFrameOf code.now self.new.state }
+    {
+        let words = words_of(item, ok);
+        self.go_on(code, clause, words.words(), clock);
     }
 
     /// A close woke the goroutine at its send, at this clock.

@@ -71,6 +71,16 @@ impl Told {
         }
     }
 
+    /// These two words alone.
+    #[inline(always)]
+    fn pair(&mut self, first: Word, second: Word)
+        ensures { self.new ≡ first ∷ (second ∷ []) }
+    {
+        self.clear();
+        self.push(first);
+        self.push(second);
+    }
+
     /// Appends a word.
     fn push(&mut self, word: Word)
         requires { length self.old < 17 }
@@ -92,8 +102,21 @@ pub(crate) fn tell(told: &mut Told, kinds: &[WordKind], words: &[Word])
     }
 }
 
-/// The same, and a truth value behind them.
+/// The same, and a truth value behind them. Most often it is one word.
+#[inline(always)]
 pub(crate) fn tell_with_truth(told: &mut Told, kinds: &[WordKind], words: &[Word])
+    requires { length kinds.now ≤ 16 }
+    ensures { told.new ≡ fitted_of (kinds.now ++ WordKind.Bool ∷ []) words.now }
+{
+    match (kinds, words) {
+        ([kind], [_, Word::Bool(truth)]) => told.pair(word_at(*kind, words, 0), Word::Bool(*truth)),
+        _ => tell_all_with_truth(told, kinds, words),
+    }
+}
+
+/// The same of any number of words.
+#[inline(never)]
+fn tell_all_with_truth(told: &mut Told, kinds: &[WordKind], words: &[Word])
     requires { length kinds.now ≤ 16 }
     ensures { told.new ≡ fitted_of (kinds.now ++ WordKind.Bool ∷ []) words.now }
 {

@@ -1,13 +1,39 @@
 //! The instruction at a frame.
 
 ghost use Rattle.std.specs.Prelude.{◌≡◌, ◌+◌, ◌<◌, ◌^◌, ◌∷◌, IfSome, IsTrue};
-ghost use Rattle.bytecode.specs.Machine.{Frames, code_next, is_told};
+ghost use Rattle.bytecode.specs.Code.{Function as FunctionValue};
+ghost use Rattle.bytecode.specs.Machine.{Frames, code_next, is_told, pops};
 ghost use Rattle.bytecode.specs.Rules.{IsVerified};
-ghost use Rattle.goroutine_vm_base.specs.Steps.{AsksOrFails, Fetched};
+ghost use Rattle.goroutine_vm_base.specs.Steps.{AsksOrFails, Fetched, StandsAt};
 
 use crate::frame::Frame;
 use bytecode::{Code, Instr};
 use operands::width::pops_of;
+
+/// The instruction at a frame.
+#[inline(always)]
+pub fn instr_of<'a>(code: &'a Code, frame: &Frame) -> Option<&'a Instr>
+    ensures stands { IfSome result (λ i. StandsAt code.now frame.now i.now) }
+    ensures within { IfSome result (λ _. frame.now.place + 1 < 2 ^ 64) }
+{
+    let f = match code.functions().get(frame.function) {
+        Some(f) => f,
+        None => return None,
+    };
+    f.instrs().get(frame.place)
+}
+
+/// How many words a send of this shape pops.
+#[inline(always)]
+pub fn sent_words(code: &Code, shape: u32) -> usize
+    requires { IsVerified code.now }
+    ensures { (f : FunctionValue) → result ≡ pops code.now f (Instr.Send shape) }
+{
+    match code.shapes().get(shape as usize) {
+        Some(shape) => shape.kinds().len() + 1,
+        None => 1,
+    }
+}
 
 /// The instruction at a frame and how many words it pops.
 #[inline(always)]

@@ -1,15 +1,17 @@
 -- What the instructions that ask do ask.
-use Rattle.std.proofs.Common.{◌≡◌, ℕ, ℤ, ◌<◌, ◌≤◌, Bool, false, cond, List, [], ◌∷◌, length, map, Option, Some, None, Result, Ok, Err, refl, sym, ap, ◌∙◌, subst, arith, nat_lt, slice_get}
+use Rattle.std.proofs.Common.{◌≡◌, ℕ, ℤ, ◌-◌, ◌<◌, ◌≤◌, Bool, false, cond, List, [], ◌∷◌, length, map, take, drop, Option, Some, None, Result, Ok, Err, refl, sym, ap, ◌∙◌, subst, arith, nat_lt, slice_get}
 use Rattle.std.specs.Prelude.{option_map}
 use Rattle.std.proofs.lemmas.Bool.Decides.{nat_tests}
 use Rattle.bytecode.specs.declared.instr.WordKind.{WordKind}
+use Rattle.bytecode.specs.declared.instr.Instr.{Instr}
 use Rattle.bytecode.specs.declared.instr.Instr.TheVariants as instrs
 use Rattle.bytecode.specs.Code.{Function, Code}
-use Rattle.bytecode.specs.Machine.{Frame, Frames, NextFrames as NextStep, zero_of, if_there, if_within, on_int, applied, on_value, pushed, printed, instr_next}
+use Rattle.bytecode.specs.Machine.{Frame, Frames, NextFrames as NextStep, zero_of, if_there, if_within, on_int, applied, on_value, pushed, printed, instr_next, code_next, pops}
 use Rattle.std.specs.Option.{is_some}
 use Rattle.std.specs.Global.{Vec}
 use Rattle.bytecode.specs.Code.{PrintTable}
-use Rattle.goroutine_vm_base.specs.Steps.{AsksFor, stops}
+use Rattle.goroutine_vm_base.specs.Steps.{AsksFor, StandsAt, stops}
+use Rattle.goroutine_vm_base.proofs.Fetching.{next_instr, next_short}
 use Rattle.word.specs.declared.request.Request.{Request as Asked}
 use Rattle.word.specs.declared.apply.Op.{Op}
 use Rattle.word.specs.declared.request.Request.TheVariants as asked
@@ -68,3 +70,11 @@ panic_asked o = option_map (λ cause. asked.Panic cause) o
 pub panic_some : (o : Option Cause) → is_some (panic_asked o) ≡ is_some o
 panic_some None = refl
 panic_some (Some cause) = refl
+
+-- what comes next where the last one called stands at this instruction
+module _ (code : Code) (fs : Frames) (r : Frame) (cs : Frames) (i : Instr) (n : ℕ) (is : fs ≡ r ∷ cs) (quiet : r.told ≡ []) (s : StandsAt code r i) (many : n ≡ pops code s.0 i) where
+  pub asks_at : (at : ℕ) (o : Option Asked) → at ≡ length r.stack - n → n ≤ length r.stack → AsksFor (instr_next code r cs (take at r.stack) (drop at r.stack) i) o → AsksFor (code_next code fs) o
+  asks_at at o goes enough asks = subst (λ x. AsksFor x o) (sym (ap (code_next code) is ∙ next_instr code r cs i n quiet (s.0, s.1, s.2, many) at goes enough)) asks
+
+  pub none_at : length r.stack < n → AsksFor (code_next code fs) None
+  none_at short = subst (λ x. AsksFor x None) (sym (ap (code_next code) is ∙ next_short code r cs i n quiet (s.0, s.1, s.2, many) short)) tt

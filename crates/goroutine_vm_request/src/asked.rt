@@ -12,7 +12,7 @@ ghost use Rattle.word.specs.Kinds.{Stuck};
 use crate::select::select;
 use bytecode::{Code, Instr};
 use goroutine_vm_base::call_stack::CallStack;
-use goroutine_vm_base::fetch::fetch;
+use goroutine_vm_base::fetch::{fetch, instr_of, sent_words};
 use goroutine_vm_base::frame::Frame;
 use operands::kinds::zeros;
 use operands::print::print;
@@ -91,6 +91,18 @@ fn write_send(alloc: Global, chan: Option<u32>, item: &[Word], place: &mut Reque
     }
 }
 
+/// A receive is written to a place. Where one stands there, its channel alone is.
+#[inline(always)]
+fn write_receive(chan: Option<u32>, place: &mut Request)
+    ensures { place.new ≡ Request.Receive chan }
+{
+    if let Request::Receive(from) = place {
+        *from = chan;
+        return;
+    }
+    *place = Request::Receive(chan);
+}
+
 /// What a send asks, likewise.
 #[inline(always)]
 fn send(alloc: Global, frame: &Frame, shape: u32, at: usize, place: &mut Request) -> bool
@@ -119,7 +131,7 @@ fn receive(frame: &Frame, shape: u32, at: usize, place: &mut Request) -> bool
     let _shape = shape;
     match channel(frame, at) {
         Some(chan) => {
-            *place = Request::Receive(chan);
+            write_receive(chan, place);
             true
         }
         None => false,
@@ -183,7 +195,6 @@ fn channel(frame: &Frame, at: usize) -> Option<Option<u32>>
 
 /// What an instruction asks, whose operands begin at a place of the stack, where so many functions wait for the running one,
 /// likewise; false where it is a local step.
-#[inline(always)]
 fn ask(
     alloc: Global,
     code: &Code,
@@ -297,8 +308,42 @@ fn asks(at_limit: bool, frame: &Frame, depth: usize, i: Instr, at: usize) -> boo
     }
 }
 
-/// Whether frames ask that were told nothing, and do not make a local step; what they ask is written to this place.
+/// Whether frames ask that were told nothing, and do not make a local step; what they ask is written to this place. Most often they
+/// send or receive.
+#[inline(always)]
 pub fn request(
+    alloc: Global,
+    code: &Code,
+    frames: &CallStack,
+    place: &mut Request,
+) -> Result<bool, AllocError>
+    requires { IsVerified code.now }
+    ensures { IfOk result (λ asking. AsksFor (code_next code.now frames.now) (cond asking (Some place.new) None)) }
+{
+    let frame = frames.last();
+    frame.quiet();
+    let have = frame.stack().len();
+    match instr_of(code, frame) {
+        Some(&Instr::Send(shape)) => {
+            let wanted = sent_words(code, shape);
+            if have < wanted {
+                return Ok(false);
+            }
+            Ok(send(alloc, frame, shape, have - wanted, place))
+        }
+        Some(&Instr::Receive(shape)) => {
+            if have < 1 {
+                return Ok(false);
+            }
+            Ok(receive(frame, shape, have - 1, place))
+        }
+        _ => Ok(request_any(alloc, code, frames, place)?),
+    }
+}
+
+/// The same at any instruction.
+#[inline(never)]
+fn request_any(
     alloc: Global,
     code: &Code,
     frames: &CallStack,

@@ -4,7 +4,7 @@ use Rattle.word.specs.declared.value.Word.{Word}
 use Rattle.bytecode.proofs.Fitted.{fitted_length}
 use Rattle.goroutine_vm.proofs.Quiet.{fitted_last}
 use Rattle.bytecode.specs.Machine.{fitted}
-use Rattle.goroutine_vm.proofs.told.tell_with_truth.Goals as goal
+use Rattle.goroutine_vm.proofs.told.tell_all_with_truth.Goals as goal
 
 pub push-requires : goal.push-requires
 push-requires c = let e = ap length c.tell.ensures ∙ fitted_length c.args.kinds.now c.args.words.now in let r = c.requires in omega (arith, e, r)
