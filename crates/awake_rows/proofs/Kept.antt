@@ -8,12 +8,12 @@ use Rattle.std.proofs.Math.ListN.{get_or-eq_default}
 use Rattle.bytecode.specs.Code.{Code}
 use Rattle.logical_clock.specs.declared.key.Key.{Key}
 use Rattle.turn_rule.specs.declared.Row.{Row}
-use Rattle.awake_rows.specs.Slots.{AllKeepFloors, AreKeysBut, AreOrders, IsFloor, IsFreeIn, KeepsFloor, Rows, State, WorksIn, clock_among, free_clock, is_parked, key_of, lease_of, lent_clock, lent_row, now_late, waiting_clock, with_place}
+use Rattle.awake_rows.specs.Slots.{AllKeepFloors, AreKeysBut, AreOrders, IsFloor, IsFreeIn, KeepsFloor, Rows, State, WorksIn, clock_among, free_clock, held_state, key_of, lease_of, lent_clock, lent_row, now_late, waiting_clock, with_place}
 use Rattle.awake_rows.specs.declared.turns.Among.{Among}
 use Rattle.awake_rows.specs.declared.turns.Among.TheVariants as among
 use Rattle.awake_rows.specs.declared.orders.Orders.{Orders}
-use Rattle.awake_rows.specs.declared.slot.Standing.{Standing}
-use Rattle.awake_rows.specs.declared.slot.Standing.TheVariants.{Free, Lent, Ahead, Parked}
+use Rattle.awake_rows.specs.declared.slot.Held.{Held}
+use Rattle.awake_rows.specs.declared.slot.Held.TheVariants.{Here, Lent, Ahead}
 
 none_more : (ks : List (Option Key)) (m : ℕ) → slice_index_or (ks ++ None ∷ []) m None ≡ slice_index_or ks m None
 none_more [] zero = refl
@@ -159,11 +159,10 @@ worked_at {E} code limit quantum before rows n (Err e) ok err = (Some err.1, err
 
 -- ---- a slot keeps its floor
 
-pub slot_keeps : (standing : Standing) (floor : ℕ) (state : State) → IsFloor standing floor state → KeepsFloor (record { state = state; floor = floor; lease = lease_of standing state; parked = is_parked standing })
-slot_keeps Free floor state h = record { floor = λ e. h; unlent = λ e. refl }
-slot_keeps Lent floor state h = record { floor = λ e. absurd (cc); unlent = λ e. absurd (cc) }
-slot_keeps (Ahead present published) floor state h = record { floor = λ e. absurd (cc); unlent = λ e. absurd (cc) }
-slot_keeps Parked floor state h = record { floor = λ e. h; unlent = λ e. refl }
+pub slot_keeps : (held : Held) (floor : ℕ) (parked : Bool) → IsFloor held floor parked → KeepsFloor (record { state = held_state held; floor = floor; lease = lease_of held; parked = parked })
+slot_keeps (Here state) floor parked h = record { floor = λ e. h; unlent = λ e. refl }
+slot_keeps (Lent kept) floor parked h = record { floor = λ e. absurd (cc); unlent = λ e. absurd (cc) }
+slot_keeps (Ahead ahead) floor parked h = record { floor = λ e. absurd (cc); unlent = λ e. absurd (cc) }
 
 pub nobody_counts : (a : Among) → clock_among a None ≡ None
 nobody_counts among.Parked = refl

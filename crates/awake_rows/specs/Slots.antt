@@ -17,9 +17,7 @@ use Rattle.word.specs.Worlds.{rules}
 use Rattle.awake_rows.specs.declared.orders.Clocks.{Clocks}
 use Rattle.awake_rows.specs.declared.orders.Orders.{Orders}
 use Rattle.awake_rows.specs.declared.slot.Held.{Held}
-use Rattle.awake_rows.specs.declared.slot.Held.TheVariants.{Here, Gone}
-use Rattle.awake_rows.specs.declared.slot.Standing.{Standing}
-use Rattle.awake_rows.specs.declared.slot.Standing.TheVariants.{Free, Lent, Ahead, Parked}
+use Rattle.awake_rows.specs.declared.slot.Held.TheVariants.{Here, Lent, Ahead}
 use Rattle.awake_rows.specs.declared.turns.Among.{Among}
 use Rattle.awake_rows.specs.declared.turns.Among.TheVariants as among
 
@@ -34,38 +32,23 @@ Rows = List (Option (Row State))
 abbrev pub Beds : Type 0
 Beds = List (Option State)
 
--- of one that is lent away the base stands for the state in which it is
-abbrev pub lease_of : Standing → State → Option (Loan State)
-lease_of Free state = None
-lease_of Lent state = Some (record { present = state; published = state.clock })
-lease_of (Ahead present published) state = Some (record { present = present; published = published })
-lease_of Parked state = None
-
-abbrev pub is_parked : Standing → Bool
-is_parked Free = false
-is_parked Lent = false
-is_parked (Ahead present published) = false
-is_parked Parked = true
-
--- a floor is the state's clock, but of one that runs ahead
-abbrev pub IsFloor : Standing → ℕ → State → Type 0
-IsFloor Free floor state = floor ≡ state.clock
-IsFloor Lent floor state = Unit {0}
-IsFloor (Ahead present published) floor state = Unit {0}
-IsFloor Parked floor state = floor ≡ state.clock
-
 -- the state, also of one that was moved out
 abbrev pub held_state : Held → State
 held_state (Here state) = state
-held_state (Gone kept) = kept.value
+held_state (Lent kept) = kept.value
+held_state (Ahead ahead) = ahead.value.base
 
--- the state is moved out only of one that is lent
-abbrev pub IsHeld : Held → Standing → Type 0
-IsHeld (Here state) standing = Unit {0}
-IsHeld (Gone kept) Free = ⊥
-IsHeld (Gone kept) Lent = Unit {0}
-IsHeld (Gone kept) (Ahead present published) = ⊥
-IsHeld (Gone kept) Parked = ⊥
+-- of one that was moved out the base stands for the state in which it is
+abbrev pub lease_of : Held → Option (Loan State)
+lease_of (Here state) = None
+lease_of (Lent kept) = Some (record { present = kept.value; published = kept.value.clock })
+lease_of (Ahead ahead) = Some (record { present = ahead.value.present; published = ahead.value.published })
+
+-- the floor of one that is not lent is its clock, and who is lent is not parked
+abbrev pub IsFloor : Held → ℕ → Bool → Type 0
+IsFloor (Here state) floor parked = floor ≡ state.clock
+IsFloor (Lent kept) floor parked = parked ≡ false
+IsFloor (Ahead ahead) floor parked = parked ≡ false
 
 -- if a goroutine stands here, it is not lent
 abbrev pub IsUnlent : Option (Row State) → Type 0

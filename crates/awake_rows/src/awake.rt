@@ -50,6 +50,7 @@ impl AwakeRows {
     }
 
     /// The places.
+    #[inline(always)]
     pub fn as_slice(&self) -> &[Option<Slot>]
         ensures { result.now ≡ self.now }
     {
@@ -57,6 +58,7 @@ impl AwakeRows {
     }
 
     /// How many places there are.
+    #[inline(always)]
     pub fn len(&self) -> usize
         ensures { result ≡ length self.now }
     {
@@ -77,6 +79,7 @@ impl AwakeRows {
     }
 
     /// Takes out what stands at place `number`, if anything does.
+    #[inline(always)]
     pub fn take(&mut self, number: u64) -> Option<Slot>
         ensures item { result ≡ slice_index_or self.old number None }
         ensures places { self.new ≡ slice_set self.old number None }
@@ -87,6 +90,7 @@ impl AwakeRows {
     }
 
     /// Puts this at place `number`, where there is such a place.
+    #[inline(always)]
     pub fn put(&mut self, number: u64, row: Option<Slot>)
         ensures { self.new ≡ slice_set self.old number row }
     {
@@ -95,6 +99,7 @@ impl AwakeRows {
     }
 
     /// A goroutine's request is done: it goes on with this reply, at this clock.
+    #[inline(always)]
     pub fn answer(&mut self, code: &Verified, number: u64, reply: &Reply, clock: Clock)
         requires frame { IfSome (slice_index_or self.old number None) (λ row. IsFrameOf code.now row.state.state) }
         requires unlent { IsUnlent (slice_index_or self.old number None) }
@@ -193,6 +198,7 @@ impl AwakeRows {
     }
 
     /// Who stands before the key: an awake goroutine whose floor the key is not below. None where the key has the turn.
+    #[inline(always)]
     pub fn blocker(&self, key: Key) -> Option<u64>
         ensures { MatchOption result (has_turn key 0 self.now ≡ true) (λ n. (has_turn key 0 self.now ≡ false) × IsBefore self.now key n) }
     {

@@ -17,6 +17,7 @@ use verifier::Verified;
 use word::request::Reply;
 
 /// A goroutine's request is done: it goes on with this reply, at this clock.
+#[inline(always)]
 pub(crate) fn answer_row(
     rows: &mut [Option<Slot>],
     code: &Verified,
@@ -36,6 +37,7 @@ pub(crate) fn answer_row(
 }
 
 /// Takes out what stands at place `number`, if anything does.
+#[inline(always)]
 pub fn take_at<T>(places: &mut [Option<T>], number: u64) -> Option<T>
     ensures item { result ≡ slice_index_or places.old number None }
     ensures places { places.new ≡ slice_set places.old number None }
@@ -47,6 +49,7 @@ pub fn take_at<T>(places: &mut [Option<T>], number: u64) -> Option<T>
 }
 
 /// Puts this at place `number`, where there is such a place.
+#[inline(always)]
 pub fn put_at<T: Drop>(places: &mut [Option<T>], number: u64, item: Option<T>)
     ensures { places.new ≡ slice_set places.old number item }
 {

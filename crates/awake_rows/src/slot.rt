@@ -15,7 +15,7 @@ ghost use Rattle.awake_rows.specs.Slots.{IsRowOf, KeepsFloor, IsWorked, State, b
 use go_text::Memory;
 use goroutine_vm::GoState;
 use logical_clock::Clock;
-use std::alloc::{AllocError, Global};
+use std::alloc::Global;
 use std::marker::Model;
 use std::mem;
 use std::snapshot::Snapshot;
@@ -23,26 +23,25 @@ use turn_rule::Step;
 use verifier::Verified;
 use word::request::Reply;
 
-/// Where an awake goroutine is.
-#[derive(Drop)]
-pub enum Standing {
-    /// It may be lent.
-    Free,
-    /// It is lent away; contracts still see the state in which it was.
-    Lent,
-    /// It is lent: its present state, and the clock that was last published.
-    Ahead(GoState, Clock),
-    /// It stands at its request, and waits for its turn.
-    Parked,
-}
-
 /// The state of an awake goroutine, or what contracts still see of it.
 #[derive(Drop)]
-pub enum Held {
-    /// It is here.
+pub(crate) enum Held {
+    /// It is here, and not lent.
     Here(GoState),
-    /// It was moved out; this has no bytes.
-    Gone(Snapshot<GoState>),
+    /// It is lent, and was moved out; this has no bytes.
+    Lent(Snapshot<GoState>),
+    /// It is lent, and runs ahead here.
+    Ahead(Box<Ahead>),
+}
+
+/// A goroutine that is lent, as a schedule moves it.
+#[derive(Drop)]
+pub(crate) struct Ahead {
+    /// The state in which it was lent.
+    pub base: GoState,
+    pub present: GoState,
+    /// The clock that was last published.
+    pub published: Clock,
 }
 
 /// An awake goroutine: its state, or that in which it was lent.
@@ -51,22 +50,24 @@ pub struct Slot {
     held: Held,
     /// A clock that its next request is not below.
     floor: Clock,
-    standing: Standing,
+    /// Whether it stands at its request, and waits for its turn.
+    parked: bool,
 }
 
 impl Model for Slot {
-    ghost use Rattle.awake_rows.specs.Slots.{IsFloor, IsHeld, State, held_state, is_parked, lease_of};
+    ghost use Rattle.awake_rows.specs.Slots.{IsFloor, State, held_state, lease_of};
     ghost use Rattle.turn_rule.specs.declared.Row.{Row};
 
     ghost Value = { Row State };
 
-    ghost view = { λ s. record { state = held_state s.held; floor = s.floor; lease = lease_of s.standing (held_state s.held); parked = is_parked s.standing } };
+    ghost view = { λ s. record { state = held_state s.held; floor = s.floor; lease = lease_of s.held; parked = s.parked } };
 
-    ghost invariant = { λ s. IsFloor s.standing s.floor (held_state s.held) × IsHeld s.held s.standing };
+    ghost invariant = { λ s. IsFloor s.held s.floor s.parked };
 }
 
 impl Slot {
     /// A goroutine that may be lent.
+    #[inline(always)]
     pub fn free(state: GoState) -> Slot
         ensures { result ≡ free_row state }
     {
@@ -74,49 +75,48 @@ impl Slot {
     }
 
     /// A goroutine that stands at its request, or may be lent.
+    #[inline(always)]
     pub fn back(state: GoState, parked: bool) -> Slot
         ensures { result ≡ back_row state parked }
     {
-        let floor = state.clock();
-        let standing = if parked {
-            Standing::Parked
-        } else {
-            Standing::Free
-        };
         Slot {
+            floor: state.clock(),
             held: Held::Here(state),
-            floor,
-            standing,
+            parked,
         }
     }
 
     /// The goroutine's clock, where it is parked.
+    #[inline(always)]
     pub fn parked_clock(&self) -> Option<Clock>
         ensures { result ≡ cond self.now.parked (Some self.now.state.clock) None }
     {
-        match &self.standing {
-            Standing::Parked => Some(self.floor),
-            Standing::Free | Standing::Lent | Standing::Ahead(_, _) => None,
+        match &self.held {
+            Held::Here(state) if self.parked => Some(state.clock()),
+            _ => None,
         }
     }
 
     /// The goroutine's clock, where it may be lent.
+    #[inline(always)]
     pub fn free_clock(&self) -> Option<Clock>
         ensures { result ≡ free_clock (Some self.now) }
     {
-        match &self.standing {
-            Standing::Free => Some(self.floor),
-            Standing::Lent | Standing::Ahead(_, _) | Standing::Parked => None,
+        match &self.held {
+            Held::Here(state) if !self.parked => Some(state.clock()),
+            _ => None,
         }
     }
 
     /// The goroutine's floor, where it is lent.
+    #[inline(always)]
     pub(crate) fn lent_clock(&self) -> Option<Clock>
         ensures { result ≡ lent_clock (Some self.now) }
     {
-        match &self.standing {
-            Standing::Lent | Standing::Ahead(_, _) => Some(self.floor),
-            Standing::Free | Standing::Parked => None,
+        if self.is_lent() {
+            Some(self.floor)
+        } else {
+            None
         }
     }
 
@@ -125,10 +125,11 @@ impl Slot {
     pub(crate) fn keeps_floor(&self)
         ensures { KeepsFloor self.now }
     {
-        let _standing = &self.standing;
+        let _held = &self.held;
     }
 
     /// A clock that the goroutine's next request is not below.
+    #[inline(always)]
     pub fn floor(&self) -> Clock
         ensures { result ≡ self.now.floor }
     {
@@ -136,55 +137,57 @@ impl Slot {
     }
 
     /// Whether it is lent.
+    #[inline(always)]
     pub fn is_lent(&self) -> bool
         ensures { result ≡ is_some self.now.lease }
     {
-        match &self.standing {
-            Standing::Lent | Standing::Ahead(_, _) => true,
-            Standing::Free | Standing::Parked => false,
+        match &self.held {
+            Held::Here(_) => false,
+            Held::Lent(_) | Held::Ahead(_) => true,
         }
     }
 
     /// The state of a goroutine that is not lent.
+    #[inline(always)]
     pub fn state(&self) -> &GoState
         requires { self.now.lease ≡ None }
         ensures { result.now ≡ self.now.state }
     {
-        match &self.held {
-            Held::Here(state) => state,
-            Held::Gone(_) => unreachable!(),
-        }
+        let Held::Here(state) = &self.held else {
+            unreachable!()
+        };
+        state
     }
 
     /// The state of a goroutine that is not lent.
+    #[inline(always)]
     pub fn into_state(self) -> GoState
         requires { self.lease ≡ None }
         ensures { result ≡ self.state }
     {
         let Slot { held, .. } = self;
-        match held {
-            Held::Here(state) => state,
-            Held::Gone(_) => unreachable!(),
-        }
+        let Held::Here(state) = held else {
+            unreachable!()
+        };
+        state
     }
 
     /// Lends it, if it may be lent: its state is moved out.
+    #[inline(always)]
     pub fn lend(&mut self) -> Option<GoState>
         ensures none { IfNone result ((free_clock (Some self.old) ≡ None) × (self.new ≡ self.old)) }
         ensures some { IfSome result (λ s. (self.old ≡ free_row s) × (self.new ≡ lent_row s)) }
     {
-        match &self.standing {
-            Standing::Free => {}
-            Standing::Lent | Standing::Ahead(_, _) | Standing::Parked => return None,
+        if self.parked {
+            return None;
         }
-        let gone = match &self.held {
-            Held::Here(state) => Held::Gone(Snapshot::of(state)),
-            Held::Gone(_) => unreachable!(),
+        let lent = match &self.held {
+            Held::Here(state) => Held::Lent(Snapshot::of(state)),
+            Held::Lent(_) | Held::Ahead(_) => return None,
         };
-        self.standing = Standing::Lent;
-        match mem::replace(&mut self.held, gone) {
+        match mem::replace(&mut self.held, lent) {
             Held::Here(state) => Some(state),
-            Held::Gone(_) => unreachable!(),
+            Held::Lent(_) | Held::Ahead(_) => unreachable!(),
         }
     }
 
@@ -204,23 +207,15 @@ impl Slot {
         ensures ok { IfOk result (λ asking. (base : State) × (self.old ≡ free_row base) × IsWorked code.now limit quantum base (Some asking) self.new) }
         ensures memory { OnErr result ((base : State) × (self.old ≡ free_row base) × IsWorked code.now limit quantum base None self.new) }
     {
-        let Standing::Free = &self.standing else {
-            unreachable!()
-        };
         let Held::Here(state) = &mut self.held else {
             unreachable!()
         };
         let worked = state.step_ahead(alloc, code, limit, quantum);
-        let asking = match &worked {
+        self.parked = match &worked {
             Ok(asking) => *asking,
             Err(_) => state.is_asking(code, limit),
         };
         self.floor = state.clock();
-        self.standing = if asking {
-            Standing::Parked
-        } else {
-            Standing::Free
-        };
         worked
     }
 
@@ -234,17 +229,18 @@ impl Slot {
     }
 
     /// The same, where the reply stays the caller's.
+    #[inline(always)]
     pub(crate) fn tell(&mut self, code: &Verified, reply: &Reply, clock: Clock)
         requires frame { IsFrameOf code.now self.old.state.state }
         requires unlent { self.old.lease ≡ None }
         ensures { self.new ≡ free_row (told (code_kind code.now) self.old.state clock (reply_of reply.now)) }
     {
-        match &mut self.held {
-            Held::Here(state) => state.tell(code, reply, clock),
-            Held::Gone(_) => unreachable!(),
-        }
+        let Held::Here(state) = &mut self.held else {
+            unreachable!()
+        };
+        state.tell(code, reply, clock);
         self.floor = clock;
-        self.standing = Standing::Free;
+        self.parked = false;
     }
 
     /// It is as it was, though its request was performed: the run ends.
@@ -252,11 +248,11 @@ impl Slot {
         requires { self.old.lease ≡ None }
         ensures { self.new ≡ free_row self.old.state }
     {
-        match &self.held {
-            Held::Here(state) => self.floor = state.clock(),
-            Held::Gone(_) => unreachable!(),
-        }
-        self.standing = Standing::Free;
+        let Held::Here(state) = &self.held else {
+            unreachable!()
+        };
+        self.floor = state.clock();
+        self.parked = false;
     }
 
     /// One step of its goroutine, as a schedule names it: it is lent, makes a local step, publishes its clock, is looked at
@@ -275,32 +271,37 @@ impl Slot {
         ensures fits { OnOk result (IsRowOf code.now limit self.new) }
     {
         match step {
-            Step::Lend(_) => Ok(self.lend_here(alloc, code, limit)?),
+            Step::Lend(_) => self.lend_here(alloc, code, limit),
             Step::Local(_) => self.local(alloc, code, limit),
             Step::Publish(_) => {
                 self.publish(code, limit);
                 Ok(())
             }
             Step::Look(_) => self.look(code, limit),
-            Step::Return(_) => self.give_back(code, limit),
+            Step::Return(_) => self.give_back(alloc, code, limit),
             Step::Settle => Ok(()),
         }
     }
 
     /// It is lent, if it may be.
-    fn lend_here(&mut self, alloc: Global, code: &Verified, limit: u64) -> Result<(), AllocError>
+    fn lend_here(&mut self, alloc: Global, code: &Verified, limit: u64) -> Result<(), Memory>
         requires { IsRowOf code.now limit self.old }
         ensures ok { OnOk result (self.new ≡ lend (rules (code_kind code.now) limit) self.old self.old.lease) }
         ensures memory { OnErr result (self.new ≡ self.old) }
         ensures fits { OnOk result (IsRowOf code.now limit self.new) }
     {
-        if let Standing::Free = &self.standing {
-            let Held::Here(state) = &self.held else {
-                unreachable!()
-            };
-            let present = state.try_clone(alloc)?;
-            self.standing = Standing::Ahead(present, state.clock());
+        if self.parked {
+            return Ok(());
         }
+        let Held::Here(state) = &self.held else {
+            return Ok(());
+        };
+        let ahead = Ahead {
+            base: state.try_clone(alloc)?,
+            present: state.try_clone(alloc)?,
+            published: state.clock(),
+        };
+        self.held = Held::Ahead(Box::new(alloc, ahead)?);
         Ok(())
     }
 
@@ -311,21 +312,15 @@ impl Slot {
         ensures memory { OnErr result (self.new ≡ self.old) }
         ensures fits { OnOk result (IsRowOf code.now limit self.new) }
     {
-        match &mut self.standing {
-            Standing::Free | Standing::Parked => {}
-            Standing::Lent => {
-                let Held::Here(state) = &self.held else {
-                    return Err(Memory);
-                };
-                let present = after_step(alloc, code, limit, state)?;
-                self.standing = Standing::Ahead(present, state.clock());
-            }
-            Standing::Ahead(present, _) => {
-                let next = after_step(alloc, code, limit, present)?;
-                *present = next;
+        match &mut self.held {
+            Held::Here(_) => Ok(()),
+            Held::Lent(_) => Err(Memory),
+            Held::Ahead(ahead) => {
+                let next = after_step(alloc, code, limit, &ahead.present)?;
+                ahead.present = next;
+                Ok(())
             }
         }
-        Ok(())
     }
 
     /// One that is lent publishes its present clock.
@@ -334,8 +329,8 @@ impl Slot {
         ensures ok { self.new ≡ publish (rules (code_kind code.now) limit) self.old self.old.lease }
         ensures fits { IsRowOf code.now limit self.new }
     {
-        if let Standing::Ahead(present, published) = &mut self.standing {
-            *published = present.clock();
+        if let Held::Ahead(ahead) = &mut self.held {
+            ahead.published = ahead.present.clock();
         }
     }
 
@@ -346,15 +341,14 @@ impl Slot {
         ensures memory { OnErr result (self.new ≡ self.old) }
         ensures fits { OnOk result (IsRowOf code.now limit self.new) }
     {
-        match &self.standing {
-            Standing::Free | Standing::Parked => {}
-            Standing::Lent => match &self.held {
-                Held::Here(state) => self.floor = state.clock(),
-                Held::Gone(_) => return Err(Memory),
-            },
-            Standing::Ahead(_, published) => self.floor = *published,
+        match &self.held {
+            Held::Here(_) => Ok(()),
+            Held::Lent(_) => Err(Memory),
+            Held::Ahead(ahead) => {
+                self.floor = ahead.published;
+                Ok(())
+            }
         }
-        Ok(())
     }
 
     /// The floor of one that is lent becomes the clock that a look found.
@@ -362,56 +356,29 @@ impl Slot {
         requires { is_some self.old.lease ≡ true }
         ensures { self.new ≡ raised_row clock self.old }
     {
-        match &self.standing {
-            Standing::Free | Standing::Parked => unreachable!(),
-            Standing::Lent | Standing::Ahead(_, _) => self.floor = clock,
+        if self.is_lent() {
+            self.floor = clock;
+        } else {
+            unreachable!()
         }
     }
 
     /// One that is lent comes back in its present state, and is parked if it stands at a request.
-    fn give_back(&mut self, code: &Verified, limit: u64) -> Result<(), Memory>
+    fn give_back(&mut self, alloc: Global, code: &Verified, limit: u64) -> Result<(), Memory>
         requires { IsRowOf code.now limit self.old }
         ensures ok { OnOk result (self.new ≡ give_back (rules (code_kind code.now) limit) self.old self.old.lease) }
         ensures memory { OnErr result (self.new ≡ self.old) }
         ensures fits { OnOk result (IsRowOf code.now limit self.new) }
     {
-        if let Held::Gone(_) = &self.held {
-            return Err(Memory);
-        }
-        match mem::replace(&mut self.standing, Standing::Free) {
-            Standing::Free => {}
-            Standing::Parked => self.standing = Standing::Parked,
-            Standing::Lent => {
-                if let Held::Here(state) = &self.held {
-                    self.floor = state.clock();
-                }
-                self.come_back(code, limit);
-            }
-            Standing::Ahead(present, _) => {
-                self.floor = present.clock();
-                self.held = Held::Here(present);
-                self.come_back(code, limit);
-            }
-        }
+        let present = match &self.held {
+            Held::Here(_) => return Ok(()),
+            Held::Lent(_) => return Err(Memory),
+            Held::Ahead(ahead) => ahead.present.try_clone(alloc)?,
+        };
+        self.floor = present.clock();
+        self.parked = present.is_asking(code, limit);
+        self.held = Held::Here(present);
         Ok(())
-    }
-
-    /// It stands in its state again, parked or not.
-    fn come_back(&mut self, code: &Verified, limit: u64)
-        requires state { IsStateOf code.now limit self.old.state }
-        requires unlent { self.old.lease ≡ None }
-        ensures ok { self.new ≡ record { state = self.old.state; floor = self.old.state.clock; lease = None; parked = is_some (asks (code_kind code.now) limit self.old.state) } }
-    {
-        let Held::Here(state) = &self.held else {
-            unreachable!()
-        };
-        let parked = state.is_asking(code, limit);
-        self.floor = state.clock();
-        self.standing = if parked {
-            Standing::Parked
-        } else {
-            Standing::Free
-        };
     }
 }
 
@@ -422,12 +389,11 @@ impl Slot {
         ensures state { result.0 ≡ self.state }
         ensures away { result.1 ≡ self }
     {
-        let Slot { held, standing, .. } = self;
+        let Slot { held, parked, .. } = self;
         let Held::Here(state) = held else {
             unreachable!()
         };
         let kept = Snapshot::of(&state);
-        let parked = matches!(&standing, Standing::Parked);
         (state, Away { kept, parked })
     }
 }

@@ -5,5 +5,5 @@ mod schedule;
 
 pub use schedule::{World, run_schedule};
 pub use world_core_base::{
-    Away, Core, Slot, Standing, Step, blank_event, blocker, first_awake, least_parked,
+    Away, Core, Slot, Step, blank_event, blocker, first_awake, least_parked,
 };

@@ -2,8 +2,9 @@
 #![tactic(auto)]
 
 mod core_model;
+mod situation;
 mod waking;
 
-pub use awake_rows::{Away, Held, Slot, Standing, blocker, first_awake, least_parked};
+pub use awake_rows::{Away, Slot, blocker, first_awake, least_parked};
 pub use core_model::{Core, blank_event};
 pub use turn_rule::Step;

@@ -22,6 +22,25 @@ use word::request::Reply;
 /// How many rooms of those who fell asleep are kept for those who get up.
 const MOST_SPARE: usize = 64;
 
+/// What an event leaves to those behind it. Contracts don't see it.
+#[derive(Drop)]
+pub(crate) struct Spare {
+    /// Rooms of those who fell asleep, for those who get up.
+    pub rooms: Vec<Room>,
+    /// Where an event lists whom it wakes.
+    pub woken: Vec<Woken>,
+}
+
+impl Spare {
+    /// No rooms.
+    pub fn none(alloc: Global) -> Spare {
+        Spare {
+            rooms: Vec::new(alloc),
+            woken: Vec::new(alloc),
+        }
+    }
+}
+
 /// Makes sure that there are so many rooms.
 pub(crate) fn make_rooms(alloc: Global, rooms: &mut Vec<Room>, count: usize) -> Result<(), Memory>
     ensures { OnOk result (count ≤ length rooms.new.items) }
@@ -34,6 +53,7 @@ pub(crate) fn make_rooms(alloc: Global, rooms: &mut Vec<Room>, count: usize) -> 
 
 /// Those who are woken get up with their replies, at this clock, each in one of these rooms; their numbers are put behind the
 /// others.
+#[inline(always)]
 pub(crate) fn wake(
     rows: &mut AwakeRows,
     beds: &mut [Option<Sleeping>],
@@ -61,6 +81,7 @@ pub(crate) fn wake(
 }
 
 /// One who is woken gets up with this reply, at this clock.
+#[inline(always)]
 fn wake_one(
     rows: &mut AwakeRows,
     beds: &mut [Option<Sleeping>],
@@ -74,18 +95,17 @@ fn wake_one(
     ensures rows { rows.new ≡ slice_set rows.old number (option_map (λ s. free_row (told (code_kind code.now) s clock (reply_of reply.now))) (slice_index_or beds.old number None)) }
     ensures beds { beds.new ≡ slice_set beds.old number None }
 {
-    let slot = match take_at(beds, number) {
-        Some(sleeping) => {
-            let mut state = sleeping.get_up(room);
-            state.tell(code, reply, clock);
-            Some(Slot::free(state))
-        }
-        None => None,
+    let Some(sleeping) = take_at(beds, number) else {
+        rows.put(number, None);
+        return;
     };
-    rows.put(number, slot);
+    let mut state = sleeping.get_up(room);
+    state.tell(code, reply, clock);
+    rows.put(number, Some(Slot::free(state)));
 }
 
 /// A goroutine that is awake falls asleep in its state, and leaves its room for one who gets up.
+#[inline(always)]
 pub(crate) fn doze(
     rows: &mut AwakeRows,
     beds: &mut [Option<Sleeping>],
@@ -97,15 +117,13 @@ pub(crate) fn doze(
     ensures rows { rows.new ≡ slice_set rows.old number None }
     ensures beds { beds.new ≡ slice_set beds.old number (option_map (λ row. row.state) (slice_index_or rows.old number None)) }
 {
-    let bed = match rows.take(number) {
-        Some(slot) => {
-            let (sleeping, room) = slot.into_state().fall_asleep();
-            if rooms.len() < MOST_SPARE {
-                let _ = rooms.push(room);
-            }
-            Some(sleeping)
-        }
-        None => None,
+    let Some(slot) = rows.take(number) else {
+        put_at(beds, number, None);
+        return;
     };
-    put_at(beds, number, bed);
+    let (sleeping, room) = slot.into_state().fall_asleep();
+    if rooms.len() < MOST_SPARE {
+        let _ = rooms.push(room);
+    }
+    put_at(beds, number, Some(sleeping));
 }

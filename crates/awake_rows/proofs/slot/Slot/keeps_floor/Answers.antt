@@ -1,6 +1,5 @@
-use Rattle.awake_rows.specs.Slots.{held_state}
 use Rattle.awake_rows.proofs.Kept.{slot_keeps}
 use Rattle.awake_rows.proofs.slot.Slot.keeps_floor.Goals as goal
 
 pub returns : goal.returns
-returns c = rw (← c.self.view_is) (slot_keeps c.self.inside.standing c.self.inside.floor (held_state c.self.inside.held) c.self.invariant.0)
+returns c = rw (← c.self.view_is) (slot_keeps c.self.inside.held c.self.inside.floor c.self.inside.parked c.self.invariant)

@@ -1,7 +1,7 @@
 use Rattle.word.specs.declared.request.Event.{Event as Recorded}
 use Rattle.world_core_base.specs.Cores.{ended_as}
 use Rattle.world_core_base.proofs.Events.{last_quiet, made_last}
-use Rattle.world_core_base.proofs.core_model.Core.end.Goals as goal
+use Rattle.world_core_base.proofs.situation.Situation.end.Goals as goal
 
 pub returns-clause-performs : goal.returns-clause-performs
 returns-clause-performs c =

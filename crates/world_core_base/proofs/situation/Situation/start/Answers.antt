@@ -10,7 +10,7 @@ use Rattle.world_core_base.specs.Cores.{CoreValue}
 use Rattle.world_core_base.proofs.Events.{go_below, go_quiet, made_full, made_started}
 use Rattle.world_core_base.proofs.Shapes.{added_core}
 use Rattle.world_core_base.proofs.Starting.{StartsWithin, starts_within}
-use Rattle.world_core_base.proofs.core_model.Core.start.Goals as goal
+use Rattle.world_core_base.proofs.situation.Situation.start.Goals as goal
 
 pub next_time-later-requires-clause-below : goal.next_time-later-requires-clause-below
 next_time-later-requires-clause-below c =

@@ -1,4 +1,4 @@
-use Rattle.std.proofs.Common.{◌≡◌, ◌++◌, ℕ, List, length, map, ap, ◌∙◌, subst, arith}
+use Rattle.std.proofs.Common.{◌≡◌, ◌++◌, ℕ, length, map, ap, ◌∙◌, subst, arith}
 use Rattle.channel_core.specs.Channels.{Does, came as came_as}
 use Rattle.channel_core.specs.declared.outcome.Outcome.TheVariants as outcomes
 use Rattle.word.specs.declared.request.EventOutcome.{EventOutcome as Fate}
@@ -9,7 +9,7 @@ use Rattle.word.specs.Views.{outcome_of, reply_of, request_of}
 use Rattle.world_core_base.specs.Cores.{CoreValue, left_beds, most_woken, woken_rows}
 use Rattle.world_core_base.proofs.Events.{channels_quiet, made_met, meets_below, sleeper_quiet}
 use Rattle.world_core_base.proofs.Shapes.{done_core, few_partners, few_woken, recorded, slept_core, stopped_core}
-use Rattle.world_core_base.proofs.core_model.Core.meet_in.Goals as goal
+use Rattle.world_core_base.proofs.situation.Situation.meet.Goals as goal
 
 pub next_time-later-requires-clause-below : goal.next_time-later-requires-clause-below
 next_time-later-requires-clause-below c =
@@ -37,8 +37,10 @@ wake_all-requires-clause-rooms c =
     let channels = c.ask.new.self.channels in
     let does : Does core.channels ev.number means (outcomes.Done c.in-Done.reply c.ask.new.woken) channels = subst (λ (f : Fate). Does core.channels ev.number means (came_as f c.ask.new.woken) channels) c.in-Done.is c.in_ok-ask.ensures.does in
     let few = few_woken core.channels ev.number means (outcomes.Done c.in-Done.reply c.ask.new.woken) channels does in
-    let most = c.requires.rooms in
-    omega (arith, few, most)
+    let most = c.most_woken-most.ensures in
+    let same = ap (λ (x : CoreValue). most_woken means (length x.channels.asleep)) c.self.view_is in
+    let rooms = c.in_ok-make_rooms.ensures in
+    omega (arith, few, most, same, rooms)
 
 pub fall_asleep-requires-clause-quiet : goal.fall_asleep-requires-clause-quiet
 fall_asleep-requires-clause-quiet c =
@@ -56,11 +58,10 @@ returns-in-Done-clause-performs c =
     let does : Does core.channels ev.number means (outcomes.Done c.in-Done.reply c.ask.new.woken) channels = subst (λ (f : Fate). Does core.channels ev.number means (came_as f c.ask.new.woken) channels) c.in-Done.is c.in_ok-ask.ensures.does in
     let later = c.next_time-later.result in
     let below = meets_below code c.args.limit core ev.number ev.clock means c.requires.asked c.requires.channels in
-    let same : c.as_slice.result.now ≡ c.ask.new.woken.items = c.as_slice.ensures.value in
-    let numbers : c.wake_all.new.partners.items ≡ c.reserve.new.self.items ++ map (λ (w : ℕ × Reply). w.0) c.ask.new.woken.items = c.wake_all.ensures.numbers ∙ ap (λ (l : List (ℕ × Reply)). c.reserve.new.self.items ++ map (λ (w : ℕ × Reply). w.0) l) same in
+    let numbers : c.wake_all.new.partners.items ≡ c.reserve.new.self.items ++ map (λ (w : ℕ × Reply). w.0) c.ask.new.woken.items = c.wake_all.ensures.numbers in
     let new = c.wake_all.new.self in
     let told = c.go_on.new.self in
-    let woke : new ≡ record told { rows = woken_rows code told.rows told.beds later c.ask.new.woken.items; beds = left_beds told.beds c.ask.new.woken.items } = c.wake_all.ensures.core ∙ ap (λ (l : List (ℕ × Reply)). record told { rows = woken_rows code told.rows told.beds later l; beds = left_beds told.beds l }) same in
+    let woke : new ≡ record told { rows = woken_rows code told.rows told.beds later c.ask.new.woken.items; beds = left_beds told.beds c.ask.new.woken.items } = c.wake_all.ensures.core in
     let is = done_core code ev.number later (reply_of c.in-Done.reply) c.ask.new.woken.items core c.ask.new.self c.go_on.new.self new c.in_ok-ask.ensures.rest c.go_on.ensures woke in
     let event : Recorded = record ev { outcome = c.ask.new.outcome; partners = c.wake_all.new.partners } in
     (made_met code c.args.limit core event new c.requires.asked c.requires.fits c.requires.events (outcomes.Done c.in-Done.reply c.ask.new.woken) channels c.requires.channels does (record {
@@ -84,11 +85,10 @@ returns-in-Done-clause-fits c =
     let does : Does core.channels ev.number means (outcomes.Done c.in-Done.reply c.ask.new.woken) channels = subst (λ (f : Fate). Does core.channels ev.number means (came_as f c.ask.new.woken) channels) c.in-Done.is c.in_ok-ask.ensures.does in
     let later = c.next_time-later.result in
     let below = meets_below code c.args.limit core ev.number ev.clock means c.requires.asked c.requires.channels in
-    let same : c.as_slice.result.now ≡ c.ask.new.woken.items = c.as_slice.ensures.value in
-    let numbers : c.wake_all.new.partners.items ≡ c.reserve.new.self.items ++ map (λ (w : ℕ × Reply). w.0) c.ask.new.woken.items = c.wake_all.ensures.numbers ∙ ap (λ (l : List (ℕ × Reply)). c.reserve.new.self.items ++ map (λ (w : ℕ × Reply). w.0) l) same in
+    let numbers : c.wake_all.new.partners.items ≡ c.reserve.new.self.items ++ map (λ (w : ℕ × Reply). w.0) c.ask.new.woken.items = c.wake_all.ensures.numbers in
     let new = c.wake_all.new.self in
     let told = c.go_on.new.self in
-    let woke : new ≡ record told { rows = woken_rows code told.rows told.beds later c.ask.new.woken.items; beds = left_beds told.beds c.ask.new.woken.items } = c.wake_all.ensures.core ∙ ap (λ (l : List (ℕ × Reply)). record told { rows = woken_rows code told.rows told.beds later l; beds = left_beds told.beds l }) same in
+    let woke : new ≡ record told { rows = woken_rows code told.rows told.beds later c.ask.new.woken.items; beds = left_beds told.beds c.ask.new.woken.items } = c.wake_all.ensures.core in
     let is = done_core code ev.number later (reply_of c.in-Done.reply) c.ask.new.woken.items core c.ask.new.self c.go_on.new.self new c.in_ok-ask.ensures.rest c.go_on.ensures woke in
     let event : Recorded = record ev { outcome = c.ask.new.outcome; partners = c.wake_all.new.partners } in
     (made_met code c.args.limit core event new c.requires.asked c.requires.fits c.requires.events (outcomes.Done c.in-Done.reply c.ask.new.woken) channels c.requires.channels does (record {
@@ -106,8 +106,7 @@ returns-in-Done-clause-partners c =
     let means = request_of ev.request in
     let channels = c.ask.new.self.channels in
     let does : Does core.channels ev.number means (outcomes.Done c.in-Done.reply c.ask.new.woken) channels = subst (λ (f : Fate). Does core.channels ev.number means (came_as f c.ask.new.woken) channels) c.in-Done.is c.in_ok-ask.ensures.does in
-    let same : c.as_slice.result.now ≡ c.ask.new.woken.items = c.as_slice.ensures.value in
-    let numbers : c.wake_all.new.partners.items ≡ c.reserve.new.self.items ++ map (λ (w : ℕ × Reply). w.0) c.ask.new.woken.items = c.wake_all.ensures.numbers ∙ ap (λ (l : List (ℕ × Reply)). c.reserve.new.self.items ++ map (λ (w : ℕ × Reply). w.0) l) same in
+    let numbers : c.wake_all.new.partners.items ≡ c.reserve.new.self.items ++ map (λ (w : ℕ × Reply). w.0) c.ask.new.woken.items = c.wake_all.ensures.numbers in
     let is = numbers ∙ ap (λ ns. ns ++ map (λ (w : ℕ × Reply). w.0) c.ask.new.woken.items) (c.reserve.ensures.items ∙ c.requires.alone) in
     few_partners core.channels ev.number means (outcomes.Done c.in-Done.reply c.ask.new.woken) channels does c.wake_all.new.partners.items is
 

@@ -5,7 +5,7 @@ use Rattle.word.specs.declared.request.Reply.TheVariants as replies
 use Rattle.word.specs.Views.{request_of}
 use Rattle.world_core_base.specs.Cores.{bytes_of}
 use Rattle.world_core_base.proofs.Events.{made_printed, print_below}
-use Rattle.world_core_base.proofs.core_model.Core.print.Goals as goal
+use Rattle.world_core_base.proofs.situation.Situation.print.Goals as goal
 
 pub next_time-requires-clause-below : goal.next_time-requires-clause-below
 next_time-requires-clause-below c =

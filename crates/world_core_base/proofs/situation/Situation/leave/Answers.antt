@@ -3,7 +3,7 @@ use Rattle.word.specs.declared.request.Event.{Event as Recorded}
 use Rattle.word.specs.declared.request.EventOutcome.TheVariants as came
 use Rattle.word.specs.declared.request.Reply.TheVariants as replies
 use Rattle.world_core_base.proofs.Events.{end_quiet, made_ended}
-use Rattle.world_core_base.proofs.core_model.Core.leave.Goals as goal
+use Rattle.world_core_base.proofs.situation.Situation.leave.Goals as goal
 
 pub returns-clause-performs : goal.returns-clause-performs
 returns-clause-performs c =
