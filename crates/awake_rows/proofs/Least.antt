@@ -128,10 +128,10 @@ pub record IsLeastBut (late : ℕ) (ks : List (Option Key)) (o : Option Key) : T
   pub least : IfSome o (λ k. (s : ℕ) (j : Key) → s ≢ late → slice_index_or ks s None ≡ Some j → is_before j k ≡ false)
 
 module _ (orders : Orders) (rows : Rows) (o : AreOrders orders rows) where
-  pub others_parked : (r : Option Key) → IsLeastBut orders.late orders.parked r → IsFirst (IsOther orders.late waiting_clock rows) r
+  others_parked : (r : Option Key) → IsLeastBut orders.late orders.parked r → IsFirst (IsOther orders.late waiting_clock rows) r
   others_parked r h = first_other orders.late waiting_clock orders.parked rows r o.parked h.none h.there h.least
 
-  pub others_free : (r : Option Key) → IsLeastBut orders.late orders.free r → IsFirst (IsOther orders.late free_clock rows) r
+  others_free : (r : Option Key) → IsLeastBut orders.late orders.free r → IsFirst (IsOther orders.late free_clock rows) r
   others_free r h = first_other orders.late free_clock orders.free rows r o.free h.none h.there h.least
 
   pub others_lent : (r : Option Key) → IsLeastBut orders.late orders.lent r → IsFirst (IsOther orders.late lent_clock rows) r
