@@ -202,6 +202,7 @@ impl<B: BookName> Book<B> {
     }
 
     /// The same, but that the event is written to this place, where what stood before is of no account.
+    #[inline(always)]
     pub fn settle_into(&mut self, event: &mut Event) -> Result<Reached, Memory>
         ensures settles { IfOk result (λ r. Settles self.old (settled_by r event.new) self.new) }
         ensures leases { KeepsLeases self.old self.new }
@@ -228,6 +229,7 @@ impl<B: BookName> Book<B> {
     }
 
     /// What a settling comes to where nobody is parked.
+    #[inline(never)]
     fn nobody_parked(&mut self) -> Reached
         requires ending { self.old.core.ending ≡ None }
         requires parked { least (keys waiting_clock 0 self.old.core.rows) ≡ None }
@@ -246,6 +248,7 @@ impl<B: BookName> Book<B> {
 
     /// Who stands before the key of the goroutine that is parked first, if not only until a look at the clocks that are
     /// published.
+    #[inline(always)]
     fn first_before(&mut self, key: &Key) -> Option<u64>
         requires ending { self.old.core.ending ≡ None }
         requires least { least (keys waiting_clock 0 self.old.core.rows) ≡ Some key.now }
@@ -265,6 +268,7 @@ impl<B: BookName> Book<B> {
     }
 
     /// Looks at the clocks of those who are lent and stand before the key, up to one that then still does.
+    #[inline(never)]
     fn look_before(&mut self, key: &Key) -> Option<u64>
         requires { self.old.core.ending ≡ None }
         ensures none { IfNone result (OnlyLooks self.old self.new × IsNobodyLent self.new.core.rows key.now) }
@@ -283,6 +287,7 @@ impl<B: BookName> Book<B> {
     }
 
     /// Who stands before the key; none where it has the turn.
+    #[inline(always)]
     fn blocker(&self, key: &Key) -> Option<u64>
         ensures stands { IsDesk self.now }
         ensures blocker { MatchOption result (has_turn key.now 0 self.now.core.rows ≡ true) (λ n. IsBefore self.now.core.rows key.now n) }
@@ -291,6 +296,7 @@ impl<B: BookName> Book<B> {
     }
 
     /// How many places the rows of goroutines have.
+    #[inline(always)]
     fn count(&self) -> usize
         ensures { result ≡ length self.now.core.rows }
     {
@@ -298,6 +304,7 @@ impl<B: BookName> Book<B> {
     }
 
     /// Whether goroutine `number` is awake, and lent.
+    #[inline(always)]
     fn is_lent(&self, number: u64) -> bool
         ensures { IsTrue result ↔ HasLease self.now.core.rows number }
     {
@@ -322,6 +329,7 @@ impl<B: BookName> Book<B> {
     }
 
     /// Performs the request of the goroutine that has the turn.
+    #[inline(always)]
     fn commit(&mut self, number: u64, event: &mut Event) -> Result<(), Memory>
         requires { HasTurn self.old.core number }
         ensures commits { OnOk result (CommitsNext self.old event.new self.new) }

@@ -10,6 +10,7 @@ use tracer::{append_line, reserve_line};
 use word::request::Event;
 
 /// Makes room for the line of an event with at most so many partners, where lines are kept.
+#[inline(always)]
 pub(crate) fn reserve_kept(traces: bool, lines: &mut Vec<u8>, partners: usize) -> Result<(), Memory>
     ensures items { lines.new.items ≡ lines.old.items }
     ensures room { OnOk result (traces ≡ true → HasRoom lines.new (longest_line partners)) }
@@ -21,6 +22,7 @@ pub(crate) fn reserve_kept(traces: bool, lines: &mut Vec<u8>, partners: usize) -
 }
 
 /// Puts the line of an event behind the others, where lines are kept, in room that was made for it.
+#[inline(always)]
 pub(crate) fn append_kept(traces: bool, lines: &mut Vec<u8>, event: &Event)
     requires { traces ≡ true → HasRoom lines.old (longest_line (length event.now.partners.items)) }
     ensures { lines.new.items ≡ lines.old.items ++ kept_line traces (event_of event.now) }
