@@ -4,7 +4,7 @@
 ghost use Rattle.std.specs.Prelude.{◌≡◌, ◌⊎◌, ◌↔◌, ◌≤◌, IsErr, IsErrOf, IfErr, IfOk, map, string_bytes};
 ghost use Rattle.clap.specs.Values.{kind_of};
 ghost use Rattle.kendo.specs.Answers.{EndsAs, Finds, HasReading, IsStatus, Obeys, ShowsAs, Tells};
-ghost use Rattle.kendo_base.specs.Reading.{HasNoReading, IsOfText, IsRefusal, IsWhy};
+ghost use Rattle.kendo_front.specs.Reading.{HasNoReading, IsOfText, IsRefusal, IsWhy};
 ghost use Rattle.worker_pool.specs.Runs.{IsWorkers};
 ghost use Rattle.one_thread.specs.Worlds.{IsLimit};
 

@@ -1,4 +1,2 @@
-pub mod Outcome
-pub mod Reading
 pub mod Listed
 pub mod Recorded

@@ -1,5 +1,5 @@
 use Rattle.std.proofs.lemmas.Result.{err_from_is_err_and}
-use Rattle.kendo_base.proofs.interpretation.reference_bytes.Goals as goal
+use Rattle.kendo_front.proofs.interpretation.reference_bytes.Goals as goal
 
 pub returns-in_err-_source-clause-refused : goal.returns-in_err-_source-clause-refused
 returns-in_err-_source-clause-refused g c =

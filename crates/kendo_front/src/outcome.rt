@@ -1,7 +1,7 @@
 //! The line on standard error and the exit status, for each way in which a run can end.
 ghost use Rattle.std.specs.Prelude.{◌≡◌, ◌++◌, IfOk, Some, string_bytes};
 ghost use Rattle.std.specs.Fmt.{DisplaysOnOk};
-ghost use Rattle.kendo_base.specs.Outcome.{fault_text, panic_number, panic_text, position_text, report_line, report_status};
+ghost use Rattle.kendo_front.specs.Outcome.{fault_text, panic_number, panic_text, position_text, report_line, report_status};
 
 use go_text::{Fault, Memory, Place, Position};
 use std::alloc::{AllocError, Global};

@@ -2,7 +2,7 @@
 
 ghost use Rattle.std.specs.Prelude.{◌≡◌, ◌≤◌, ◌^◌, ◌⊎◌, ◌↔◌, [], IfErr, IfOk, IsErrOf};
 ghost use Rattle.one_thread.specs.Worlds.{IsLimit};
-ghost use Rattle.kendo_base.specs.Reading.{HasNoReading, IsRefusal, IsWhy};
+ghost use Rattle.kendo_front.specs.Reading.{HasNoReading, IsRefusal, IsWhy};
 
 use crate::outcome::text_of_panic;
 use crate::reading::read;

@@ -13,7 +13,7 @@ ghost use Rattle.syntax.specs.declared.tree.Tree.{Tree as OneTree};
 ghost use Rattle.spans.specs.Places.{file_spans};
 ghost use Rattle.syntax.specs.Spans.{tree_of, spans_of};
 ghost use Rattle.syntax.specs.Measures.{height, most_entries, most_clauses};
-ghost use Rattle.kendo_base.specs.Reading.{HasNoReading, HasNoTokens, HasNoTree, IsOfText, IsRefusal, IsUnspelt, IsWhy, Reads, located_in};
+ghost use Rattle.kendo_front.specs.Reading.{HasNoReading, HasNoTokens, HasNoTree, IsOfText, IsRefusal, IsUnspelt, IsWhy, Reads, located_in};
 
 use checker::{Typed, check};
 use go_text::source::MAX_LENGTH;
@@ -23,9 +23,11 @@ use scanner::{Token, scan};
 use std::alloc::Global;
 use syntax::Tree;
 
-/// The text, and the checked program that it is, or why it is none, with line and column.
+/// The text, and the checked program that it is.
+///
+/// Errors: by the numbers 1 to 10 why it is none, with line and column; `Memory`.
 #[tactic(auto, using(crate::proofs::Refusals::treeless, crate::proofs::Refusals::untyped, crate::proofs::Refusals::reads))]
-pub(crate) fn read(alloc: Global, bytes: Vec<u8>) -> Result<(Source, Typed), Fault>
+pub fn read(alloc: Global, bytes: Vec<u8>) -> Result<(Source, Typed), Fault>
     ensures text { IfOk result (λ read. bytes_of read.0 ≡ bytes.items) }
     ensures reads { IfOk result (λ read. Reads bytes.items (tree_of (tree_in read.1))) }
     ensures refused { IfErr result (λ fault. IsRefusal fault → HasNoReading bytes.items) }
