@@ -43,11 +43,14 @@ use Rattle.word.proofs.request.Event.TheSendSync.{the_field_send as event_send}
 use Rattle.word.proofs.value.Item.TheSendSync.{the_send as item_send}
 use Rattle.logical_clock.proofs.clock.Clock.TheSendSync.{the_send as clock_send}
 use Rattle.awake_rows.proofs.orders.Orders.TheSendSync.{the_field_send as orders_send}
-use Rattle.awake_rows.proofs.slot.Standing.TheSendSync.{the_field_send as standing_send}
+use Rattle.awake_rows.proofs.slot.Ahead.TheSendSync.{the_field_send as ahead_send}
 use Rattle.awake_rows.specs.contracts.awake.AwakeRows as AwakeRows
 use Rattle.awake_rows.specs.contracts.awake.AwakeRows.TheInside as awake
 use Rattle.world_core_base.specs.contracts.core_model.Core as Core
 use Rattle.world_core_base.specs.contracts.core_model.Core.TheInside as core
+use Rattle.world_core_base.specs.contracts.situation.Situation as Situation
+use Rattle.world_core_base.specs.contracts.situation.Situation.TheInside as situation
+use Rattle.world_core_base.specs.contracts.waking.Spare as Spare
 use Rattle.awake_rows.specs.contracts.slot.Held as Held
 use Rattle.awake_rows.specs.contracts.slot.Slot as Slot
 use Rattle.awake_rows.specs.contracts.slot.Slot.TheInside as slot
@@ -71,10 +74,10 @@ away_send : IsSend Away.the_row
 away_send = view_send _ _ _ _ _ away_inside
 
 held_send : IsSend Held.the_field.row
-held_send = enum_send (enum.shape Held.the_type) ((search (sendable, crosses, state_send) depth 20, tt), ((search (sendable, crosses) depth 20, tt), tt))
+held_send = enum_send (enum.shape Held.the_type) ((search (sendable, crosses, state_send) depth 20, tt), ((search (sendable, crosses) depth 20, tt), ((search (sendable, crosses, ahead_send) depth 20, tt), tt)))
 
 slot_inside : IsSend slot.the_row
-slot_inside = recorded_send slot.the_field.row _ _ slot.the_type.to_one (struct_send (shape slot.the_type) (held_send, (search (sendable, crosses, clock_send) depth 20, (standing_send, tt))))
+slot_inside = recorded_send slot.the_field.row _ _ slot.the_type.to_one (struct_send (shape slot.the_type) (held_send, (search (sendable, crosses, clock_send) depth 20, (search sendable, tt))))
 
 slot_send : IsSend Slot.the_row
 slot_send = view_send _ _ _ _ _ slot_inside
@@ -142,27 +145,27 @@ channels_inside =
 channels_send : IsSend Channels.the_row
 channels_send = view_send _ _ _ _ _ channels_inside
 
-core_inside : IsSend core.the_row
-core_inside =
-    recorded_send core.the_field.row _ _ core.the_type.to_one (struct_send (shape core.the_type) (
+situation_inside : IsSend situation.the_row
+situation_inside =
+    recorded_send situation.the_field.row _ _ situation.the_type.to_one (struct_send (shape situation.the_type) (
       awake_send,
       (
         search (sendable, crosses, sleeping_send) depth 20,
         (
-          search (sendable, crosses, room_send) depth 20,
-          (
-            search (sendable, crosses, woken_send) depth 20,
-            (
-              search (sendable, crosses, away_send) depth 20,
-              (
-                channels_send,
-                (search sendable, (search sendable, (search (sendable, end_send) depth 20, tt))),
-              ),
-            ),
-          ),
+          search (sendable, crosses, away_send) depth 20,
+          (channels_send, (search sendable, (search sendable, (search (sendable, end_send) depth 20, tt)))),
         ),
       ),
     ))
+
+situation_send : IsSend Situation.the_row
+situation_send = view_send _ _ _ _ _ situation_inside
+
+spare_send : IsSend Spare.the_field.row
+spare_send = struct_send (shape Spare.the_type) (search (sendable, crosses, room_send) depth 20, (search (sendable, crosses, woken_send) depth 20, tt))
+
+core_inside : IsSend core.the_row
+core_inside = recorded_send core.the_field.row _ _ core.the_type.to_one (struct_send (shape core.the_type) (situation_send, (spare_send, tt)))
 
 core_send : IsSend Core.the_row
 core_send = view_send _ _ _ _ _ core_inside
