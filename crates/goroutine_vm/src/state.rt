@@ -5,15 +5,15 @@ ghost use Rattle.std.specs.Option.{is_some};
 ghost use Rattle.bytecode.specs.Code.{Code};
 ghost use Rattle.bytecode.specs.Machine.{code_begin, code_kind, code_next, frames_told, reply_words};
 ghost use Rattle.bytecode.specs.Rules.{IsFrameOf, IsVerified};
+ghost use Rattle.call_frame.specs.Steps.{Does};
 ghost use Rattle.goroutine_vm.specs.Advance.{Advances, Bursts, Goes, IsFew, IsStateOf, IsStop, Turns, steps};
-ghost use Rattle.goroutine_vm_base.specs.Steps.{Does};
 ghost use Rattle.word.specs.Kinds.{asks, at, told};
 ghost use Rattle.word.specs.Views.{reply_of, request_of};
 
 use crate::frames::Frames;
 use crate::told::words_of;
+use call_frame::outcome::Stepped;
 use go_text::Memory;
-use goroutine_vm_base::outcome::Stepped;
 use logical_clock::Clock;
 use std::alloc::{AllocError, Global};
 use std::marker::Model;

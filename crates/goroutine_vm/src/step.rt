@@ -3,13 +3,13 @@
 ghost use Rattle.std.specs.Prelude.{◌≡◌, IfOk, OnErr};
 ghost use Rattle.bytecode.specs.Machine.{code_next};
 ghost use Rattle.bytecode.specs.Rules.{IsVerified};
-ghost use Rattle.goroutine_vm_base.specs.Steps.{Does};
+ghost use Rattle.call_frame.specs.Steps.{Does};
 ghost use Rattle.word.specs.Kinds.{Stuck};
 
 use bytecode::Code;
+use call_frame::fetch::fetch;
+use call_frame::outcome::Stepped;
 use goroutine_vm_base::call_stack::CallStack;
-use goroutine_vm_base::fetch::fetch;
-use goroutine_vm_base::outcome::Stepped;
 use goroutine_vm_base::single::instr;
 use std::alloc::{AllocError, Global};
 

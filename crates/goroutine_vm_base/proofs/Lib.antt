@@ -1,6 +1,3 @@
 pub mod Calls
-pub mod Fetching
-pub mod Quick
+pub mod Crossing
 pub mod Stacks
-pub mod Several
-pub mod Superinstructions

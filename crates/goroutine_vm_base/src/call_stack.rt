@@ -3,12 +3,13 @@
 ghost use Rattle.std.specs.Prelude.{◌≡◌, ◌+◌, ◌<◌, ◌≤◌, ◌^◌, ◌++◌, ◌∷◌, [], OnErr, OnOk, Some, drop, length, reverse, slice_get, take};
 ghost use Rattle.bytecode.specs.Effects.{below};
 ghost use Rattle.bytecode.specs.Machine.{Frame as FrameValue, Frames, begun, goes_on};
-ghost use Rattle.goroutine_vm_base.specs.Steps.{IsCalm, Resumes, ResumesInto, ResumesWith, ahead};
+ghost use Rattle.call_frame.specs.Steps.{ahead};
+ghost use Rattle.goroutine_vm_base.specs.Steps.{IsCalm, Resumes, ResumesInto, ResumesWith};
 ghost use Rattle.word.specs.declared.value.Word.TheVariants.{Int};
 
-use crate::frame::{Frame, empty};
-use crate::fused::keep;
 use bytecode::WordKind;
+use call_frame::frame::{Frame, empty};
+use call_frame::fused::keep;
 use std::alloc::{AllocError, Global};
 use std::marker::Model;
 use word::value::Word;
@@ -187,7 +188,7 @@ impl CallStack {
         ensures { ResumesInto to number self.old self.new }
     {
         let frame = &mut self.frames[self.depth - 2];
-        let next = frame.place + 2;
+        let next = frame.place() + 2;
         keep(frame, to, number, next);
         self.depth -= 1;
     }

@@ -1,12 +1,6 @@
-//! The functions of a goroutine that run, and what single instructions do to them.
+//! The functions of a goroutine that run: calls, returns, and local steps one after the other.
 #![tactic(auto)]
 
 pub mod call_stack;
-pub mod fetch;
-pub mod frame;
-mod fused;
-mod instrs;
-pub mod outcome;
 pub mod run;
 pub mod single;
-mod step;

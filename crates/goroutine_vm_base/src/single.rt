@@ -1,89 +1,67 @@
-//! One instruction of the function that runs.
+//! One instruction of the function called last.
 
-ghost use Rattle.std.specs.Prelude.{◌≡◌, ◌+◌, ◌<◌, ◌≤◌, ◌^◌, ◌∷◌, IfOk, OnErr, drop, length, take};
+ghost use Rattle.std.specs.Prelude.{◌≡◌, ◌+◌, ◌<◌, ◌≤◌, ◌^◌, ◌∷◌, IfOk, OnErr, Bool, drop, length, take};
 ghost use Rattle.bytecode.specs.Code.{Code as CodeValue};
 ghost use Rattle.bytecode.specs.Machine.{Frame as FrameValue, Frames, instr_next};
-ghost use Rattle.goroutine_vm_base.specs.Steps.{Does, FitsAt, Remains};
+ghost use Rattle.call_frame.specs.Steps.{Does, FitsAt, Remains};
 ghost use Rattle.word.specs.Kinds.{Stuck};
 
 use crate::call_stack::CallStack;
-use crate::frame::Frame;
-use crate::instrs::{call, choose, go_to, leave, load, operate, pick, push, store, tick_to};
-use crate::outcome::Stepped;
 use bytecode::{Code, Instr};
+use call_frame::outcome::Stepped;
+use call_frame::plain::plain;
 use std::alloc::{AllocError, Global};
-use word::value::Word;
+use word::limits::MAX_DEPTH;
 
-/// An instruction that neither calls a function nor returns from one, and whose operands begin at a place of the stack; `may` is
-/// whether a tick is made.
-fn plain(
+/// The last function called calls another with the words from a place of its stack on, where a tick may be made; or asks to panic.
+#[inline(always)]
+pub fn call(
     alloc: Global,
+    code: &Code,
     may: bool,
-    frame: &mut Frame,
-    i: Instr,
+    frames: &mut CallStack,
+    function: u32,
     at: usize,
 ) -> Result<Stepped, AllocError>
-    requires place { frame.old.place + 1 < 2 ^ 64 }
-    requires at { FitsAt i at (length frame.old.stack) }
-    requires below { at ≤ length frame.old.stack }
-    requires remains { Remains i }
-    ensures ok { IfOk result (λ step. (code : CodeValue) → (callers : Frames) → (instr_next code frame.old callers (take at frame.old.stack) (drop at frame.old.stack) i ≡ Stuck → ⊥) → Does may (frame.old ∷ callers) (instr_next code frame.old callers (take at frame.old.stack) (drop at frame.old.stack) i) step (frame.new ∷ callers)) }
-    ensures err { OnErr result (frame.new ≡ frame.old) }
+    requires some { 0 < length frames.old }
+    requires at { (c : FrameValue) → (cs : Frames) → frames.old ≡ c ∷ cs → at ≤ length c.stack }
+    requires place { (c : FrameValue) → (cs : Frames) → frames.old ≡ c ∷ cs → c.place + 1 < 2 ^ 64 }
+    ensures ok { IfOk result (λ step. (c : FrameValue) → (cs : Frames) → frames.old ≡ c ∷ cs → Does may frames.old (instr_next code.now c cs (take at c.stack) (drop at c.stack) (Instr.Call function)) step frames.new) }
+    ensures err { OnErr result (frames.new ≡ frames.old) }
+    ensures some { 0 < length frames.new }
 {
-    match i {
-        Instr::Int(number) => {
-            push(frame, Word::Int(number))?;
-            Ok(Stepped::Slid)
-        }
-        Instr::Bool(truth) => {
-            push(frame, Word::Bool(truth))?;
-            Ok(Stepped::Slid)
-        }
-        Instr::Nil(_) => {
-            push(frame, Word::Chan(None))?;
-            Ok(Stepped::Slid)
-        }
-        Instr::Load(a, n) => {
-            let to = a as usize + n as usize;
-            if to > frame.locals.len() {
-                return Ok(Stepped::Stuck);
-            }
-            load(frame, a as usize, to)?;
-            Ok(Stepped::Slid)
-        }
-        Instr::Store(a, n) => {
-            if a as usize + n as usize > frame.locals.len() {
-                return Ok(Stepped::Stuck);
-            }
-            store(frame, a as usize, at);
-            Ok(Stepped::Slid)
-        }
-        Instr::Pick(t, a, n) => {
-            let to = a as usize + n as usize;
-            if to > t as usize {
-                return Ok(Stepped::Stuck);
-            }
-            pick(alloc, frame, at, a as usize, to)?;
-            Ok(Stepped::Slid)
-        }
-        Instr::Discard(_) => {
-            let next = frame.place + 1;
-            go_to(frame, next, at);
-            Ok(Stepped::Slid)
-        }
-        Instr::Apply(op) => Ok(operate(frame, op, at)),
-        Instr::Tick => {
-            let next = frame.place + 1;
-            Ok(tick_to(may, frame, next, at))
-        }
-        Instr::Jump(to) => {
-            go_to(frame, to as usize, at);
-            Ok(Stepped::Slid)
-        }
-        Instr::Unless(to) => Ok(choose(frame, to as usize, at)),
-        Instr::Loop(to) => Ok(tick_to(may, frame, to as usize, at)),
-        _ => Ok(Stepped::Asking),
+    let functions = code.functions();
+    if function as usize >= functions.len() {
+        return Ok(Stepped::Stuck);
     }
+    if frames.len() >= MAX_DEPTH {
+        return Ok(Stepped::Asking);
+    }
+    if !may {
+        return Ok(Stepped::Ticked);
+    }
+    let locals = functions[function as usize].locals();
+    frames.enter(alloc, locals, function as usize, at)?;
+    Ok(Stepped::Ticked)
+}
+
+/// The last function called returns to its caller with the words on its stack; or asks to end.
+#[inline(always)]
+pub fn leave(frames: &mut CallStack, at: usize) -> Result<Stepped, AllocError>
+    requires some { 0 < length frames.old }
+    requires at { (c : FrameValue) → (cs : Frames) → frames.old ≡ c ∷ cs → at ≤ length c.stack }
+    ensures ok { IfOk result (λ step. (may : Bool) → (code : CodeValue) → (c : FrameValue) → (cs : Frames) → frames.old ≡ c ∷ cs → Does may frames.old (instr_next code c cs (take at c.stack) (drop at c.stack) Instr.Return) step frames.new) }
+    ensures err { OnErr result (frames.new ≡ frames.old) }
+    ensures some { 0 < length frames.new }
+{
+    if at > 0 {
+        return Ok(Stepped::Stuck);
+    }
+    if frames.len() == 1 {
+        return Ok(Stepped::Asking);
+    }
+    frames.resume()?;
+    Ok(Stepped::Slid)
 }
 
 impl CallStack {

@@ -10,8 +10,9 @@ use Rattle.bytecode.specs.Machine.{Frame, Frames, NextFrames as NextStep, zero_o
 use Rattle.std.specs.Option.{is_some}
 use Rattle.std.specs.Global.{Vec}
 use Rattle.bytecode.specs.Code.{PrintTable}
-use Rattle.goroutine_vm_base.specs.Steps.{AsksFor, StandsAt, stops}
-use Rattle.goroutine_vm_base.proofs.Fetching.{next_instr, next_short}
+use Rattle.goroutine_vm_base.specs.Steps.{AsksFor, stops}
+use Rattle.call_frame.specs.Steps.{StandsAt}
+use Rattle.call_frame.proofs.Fetching.{next_instr, next_short}
 use Rattle.word.specs.declared.request.Request.{Request as Asked}
 use Rattle.word.specs.declared.apply.Op.{Op}
 use Rattle.word.specs.declared.request.Request.TheVariants as asked

@@ -6,7 +6,7 @@ ghost use Rattle.bytecode.specs.Rules.{IsVerified};
 ghost use Rattle.goroutine_vm_base.specs.Steps.{AsksFor};
 
 use bytecode::{Code, Instr};
-use goroutine_vm_base::frame::Frame;
+use call_frame::frame::Frame;
 use operands::select::cases;
 use std::alloc::{AllocError, Global};
 use word::request::Request;

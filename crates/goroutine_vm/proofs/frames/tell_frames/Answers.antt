@@ -1,7 +1,7 @@
 use Rattle.std.proofs.Common.{◌+◌, refl, ap}
 use Rattle.bytecode.specs.declared.instr.Instr.TheVariants as instrs
 use Rattle.goroutine_vm_base.proofs.Stacks.{first_of}
-use Rattle.goroutine_vm_base.specs.Steps.{StandsAt}
+use Rattle.call_frame.specs.Steps.{StandsAt}
 use Rattle.goroutine_vm.proofs.Quiet.{told_here}
 use Rattle.goroutine_vm.proofs.frames.tell_frames.Goals as goal
 

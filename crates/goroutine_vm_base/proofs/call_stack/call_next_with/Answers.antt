@@ -1,7 +1,7 @@
 use Rattle.std.proofs.Common.{◌≡◌, ◌+◌, [], ◌∷◌, ◌++◌, ℤ, take, drop, ap, ◌∙◌, rules, slice_set, to_z, of_z, w64}
 use Rattle.bytecode.specs.Machine.{Frame, Frames, begun}
 use Rattle.goroutine_vm_base.proofs.Stacks.{both_put, front_at}
-use Rattle.goroutine_vm_base.specs.Steps.{ahead}
+use Rattle.call_frame.specs.Steps.{ahead}
 use Rattle.word.specs.declared.value.Word.TheVariants.{Int}
 use Rattle.goroutine_vm_base.proofs.call_stack.call_next_with.Goals as goal
 

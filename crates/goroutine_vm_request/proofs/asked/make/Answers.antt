@@ -7,7 +7,7 @@ use Rattle.bytecode.specs.declared.instr.WordKind.{WordKind}
 use Rattle.bytecode.specs.Machine.{zero_of}
 use Rattle.word.specs.declared.value.Word.{Word}
 use Rattle.word.specs.declared.value.Word.TheVariants.{Int}
-use Rattle.goroutine_vm_base.proofs.Quick.{drop_one}
+use Rattle.call_frame.proofs.Quick.{drop_one}
 use Rattle.goroutine_vm_request.proofs.Asking.{make_for}
 use Rattle.goroutine_vm_request.proofs.asked.make.Goals as goal
 

@@ -1,7 +1,7 @@
 use Rattle.std.proofs.Common.{ℕ, ◌-◌, ◌<◌, ◌≤◌, List, Some, None, cond, length, ap, refl, arith}
 use Rattle.bytecode.specs.declared.instr.Instr.TheVariants as instrs
 use Rattle.goroutine_vm_base.proofs.Stacks.{first_of}
-use Rattle.goroutine_vm_base.specs.Steps.{StandsAt}
+use Rattle.call_frame.specs.Steps.{StandsAt}
 use Rattle.word.specs.declared.value.Word.{Word}
 use Rattle.goroutine_vm_request.proofs.Asking.{asks_at, none_at}
 use Rattle.goroutine_vm_request.proofs.asked.request.Goals as goal

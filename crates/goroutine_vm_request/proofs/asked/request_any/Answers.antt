@@ -1,7 +1,8 @@
 use Rattle.std.proofs.Common.{◌≡◌, ℕ, ◌∙◌, ◌-◌, ◌≤◌, List, length, Some, None, cond, ap, sym, subst, arith}
 use Rattle.bytecode.specs.Machine.{code_next}
-use Rattle.goroutine_vm_base.specs.Steps.{AsksFor, Fetched}
-use Rattle.goroutine_vm_base.proofs.Fetching.{next_instr}
+use Rattle.goroutine_vm_base.specs.Steps.{AsksFor}
+use Rattle.call_frame.specs.Steps.{Fetched}
+use Rattle.call_frame.proofs.Fetching.{next_instr}
 use Rattle.goroutine_vm_base.proofs.Stacks.{first_of}
 use Rattle.word.specs.declared.value.Word.{Word}
 use Rattle.goroutine_vm_request.proofs.asked.request_any.Goals as goal

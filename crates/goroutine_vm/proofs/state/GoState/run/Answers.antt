@@ -1,7 +1,7 @@
 use Rattle.std.proofs.Common.{◌≡◌, ◌∙◌, ◌+◌, ◌≤◌, ap, arith, rules, subst, sym}
 use Rattle.bytecode.specs.Machine.{Frames}
 use Rattle.bytecode.specs.Rules.{IsVerified}
-use Rattle.goroutine_vm_base.specs.Steps.{Runs}
+use Rattle.call_frame.specs.Steps.{Runs}
 use Rattle.goroutine_vm.specs.Advance.{IsStateOf}
 use Rattle.goroutine_vm.proofs.Turns.{Ran, ran, same_view}
 use Rattle.superinstruction.specs.Forms.{IsTableOf}

@@ -2,7 +2,7 @@ use Rattle.std.proofs.Common.{◌≡◌, ◌<◌, ◌∙◌, ap, false, refl, su
 use Rattle.word.specs.Kinds.{Clocked}
 use Rattle.bytecode.specs.Machine.{Frames, code_next}
 use Rattle.bytecode.specs.Rules.{IsVerified}
-use Rattle.goroutine_vm_base.specs.Steps.{AsksOrFails}
+use Rattle.call_frame.specs.Steps.{AsksOrFails}
 use Rattle.goroutine_vm.proofs.Turns.{sound_at, slid_state, surely_asks, ticked_state, never}
 use Rattle.goroutine_vm.proofs.state.GoState.turn.Goals as goal
 

@@ -2,7 +2,7 @@ use Rattle.std.proofs.Common.{◌≡◌, ◌+◌, ◌-◌, ◌≤◌, [], ◌∷
 use Rattle.std.proofs.lemmas.List.{with_items_is}
 use Rattle.bytecode.specs.Machine.{Frames, begun}
 use Rattle.goroutine_vm_base.proofs.Stacks.{entered_view, last_is, some_deep}
-use Rattle.goroutine_vm_base.specs.Steps.{ahead}
+use Rattle.call_frame.specs.Steps.{ahead}
 use Rattle.word.specs.declared.value.Word.TheVariants.{Int}
 use Rattle.goroutine_vm_base.proofs.call_stack.CallStack.enter_with.Goals as goal
 

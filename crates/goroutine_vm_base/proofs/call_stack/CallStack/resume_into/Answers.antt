@@ -1,4 +1,4 @@
-use Rattle.std.proofs.Common.{◌≡◌, ◌∙◌, ◌+◌, ◌-◌, [], ◌∷◌, ℤ, ap, arith, reverse, rules, slice_set, take, to_z, of_z, w64}
+use Rattle.std.proofs.Common.{◌≡◌, ◌∙◌, ℕ, ◌+◌, ◌-◌, [], ◌∷◌, ℤ, ap, arith, reverse, rules, slice_set, take, to_z, of_z, w64}
 use Rattle.bytecode.specs.Machine.{Frame, Frames}
 use Rattle.goroutine_vm_base.proofs.Stacks.{resumed_into, second_put}
 use Rattle.word.specs.declared.value.Word.TheVariants.{Int}
@@ -13,7 +13,7 @@ pub overflow_add-next : goal.overflow_add-next
 overflow_add-next c =
     let p = there (goal.at.overflow_add-next c).After-index_mut-frame in
     let low = c.requires.place p.0 c.index_mut-frame.result.now p.1 p.2 in
-    let same = ap (λ (v : Frame). v.place) c.frame.view_is in
+    let same = c.place-next.ensures in
     omega (arith, low, same)
 
 pub keep-requires : goal.keep-requires
@@ -29,5 +29,5 @@ returns c =
     let same : to_z w64 (of_z w64 n) ≡ n = search rules in
     resumed_into c.self.inside.frames.items c.args.self.now c.self.inside.depth to r c.keep.new.frame n c.requires.some c.self.invariant.0 c.self.view_is c.index_mut-frame.ensures.value
     (c.keep.ensures
-    ∙ ap (λ (z : ℤ). record r { place = c.frame.inside.place + 2; locals = slice_set r.locals to (Int z); told = [] }) same
-    ∙ ap (λ (v : Frame). record r { place = v.place + 2; locals = slice_set r.locals to (Int n); told = [] }) c.frame.view_is)
+    ∙ ap (λ (z : ℤ). record r { place = c.place-next.result + 2; locals = slice_set r.locals to (Int z); told = [] }) same
+    ∙ ap (λ (p : ℕ). record r { place = p + 2; locals = slice_set r.locals to (Int n); told = [] }) c.place-next.ensures)

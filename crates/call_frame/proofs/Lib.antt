@@ -1,0 +1,4 @@
+pub mod Fetching
+pub mod Quick
+pub mod Several
+pub mod Superinstructions
