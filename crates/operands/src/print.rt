@@ -25,8 +25,8 @@ fn put_part(
             text.extend_from_slice(bytes.bytes())?;
             Ok(index)
         }
-        Part::Int => Ok(put_word(text, words, index)?),
-        Part::Bool => Ok(put_word(text, words, index)?),
+        Part::Int => put_word(text, words, index),
+        Part::Bool => put_word(text, words, index),
     }
 }
 

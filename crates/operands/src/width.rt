@@ -105,10 +105,7 @@ pub fn pops_of(code: &Code, f: &Function, i: Instr) -> usize
         Instr::Go(g) => params_of(code, g),
         Instr::Return => f.results().len(),
         Instr::Make(_) => 1,
-        Instr::Send(s) => match code.shapes().get(s as usize) {
-            Some(shape) => shape.kinds().len() + 1,
-            None => 1,
-        },
+        Instr::Send(shape) => item_width(code, shape) + 1,
         Instr::Receive(_) | Instr::Close | Instr::Len | Instr::Cap => 1,
         Instr::Print(q) => match code.prints().get(q as usize) {
             Some(table) => values_of(table.parts()),
