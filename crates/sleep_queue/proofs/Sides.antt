@@ -12,7 +12,7 @@ use Rattle.sleep_queue.specs.Stored.{offer_of}
 use Rattle.word.specs.Values.{Item}
 use Rattle.sleep_queue.specs.Queue.{Places, IsRing, Left, Entered, IsStamped, IsHeadOf, IsSide, IsQueues, QueuesValue, by_row, by_number, head_at, Waiting, waiting_at, in_order, is_other, is_at, is_of, is_not_of, is_in_row, row_of, first, AreApart, AreBefore, head_with, head_without, number_of, places_by, is_in_either, node_at, sooner}
 use Rattle.sleep_queue.proofs.Times.{in_order_enter, in_order_leave, all_stay, both_stay, one_fewer, empty_test, first_test}
-use Rattle.std.specs.Prelude.{[], ◌∷◌, ◌++◌, ◌||◌, cond, nat_lt, option_map}
+use Rattle.std.specs.Prelude.{[], ◌∷◌, ◌++◌, ◌||◌, cond, nat_lt, option_map, IfSome}
 use Rattle.std.specs.List.{filter}
 use Rattle.sleep_queue.proofs.Orders.{left_here, left_other}
 use Rattle.sleep_queue.proofs.Entering.{entered_here, entered_other}
@@ -175,6 +175,20 @@ head_some xs t r k n next head d b i e its =
 pub head_taken : (xs : List (Option Node)) (r k : ℕ) (next : List ℕ) (head : ℕ → Option ℕ) → IsSide by_row xs next head → head r ≡ Some k → is_some (slice_index_or xs k None) ≡ true
 head_taken xs r k next head i e =
     let h : IsHeadOf (places_by by_row xs) r (Some k) = subst (λ (j : Option ℕ). IsHeadOf (places_by by_row xs) r j) e (i.heads r) in h.taken
+
+-- a key that is free: it is alone in each ring, and first of no group
+module _ (f : Node → ℕ) (s : Slab Node) (x : ℕ) (rows : List ℕ) (heads : ℕ → Option ℕ) (side : IsSide f s.slots rows heads) (free : get s x ≡ None) where
+  pub free_alone : (rows1 : List ℕ) → ((i : ℕ) → link rows1 i ≡ link rows i) → link rows1 x ≡ x
+  free_alone rows1 same = same x ∙ side.ring.alone x (ap is_some free)
+
+  first_apart : (q n h : ℕ) → length rows ≤ n → IsHeadOf (places_by f s.slots) q (Some h) → (h < n) × (x ≢ h)
+  first_apart q n h more first =
+      let l = side.covered h first.taken in
+      (omega arith, λ (e : x ≡ h). both_ways (is_some (get s h)) (ap is_some (sym (ap (get s) e) ∙ free)) first.taken)
+
+  pub free_not_first : (q n : ℕ) (o : Option ℕ) → length rows ≤ n → o ≡ heads q → IfSome o (λ (h : ℕ). (h < n) × (x ≢ h))
+  free_not_first q n None more e = tt
+  free_not_first q n (Some h) more e = first_apart q n h more (subst (λ (o : Option ℕ). IsHeadOf (places_by f s.slots) q o) (sym e) (side.heads q))
 
 pub side_enter : (f : Node → ℕ) (s v : Slab Node) (x k t : ℕ) (n : Node) (rows rows1 rows' : List ℕ) (heads heads' : ℕ → Option ℕ) (head : Option ℕ)
     → AreApart s.slots → AreBefore t s.slots → IsSide f s.slots rows heads → Updates s v k (Some n) → get s k ≡ None → k ≡ x → n.stamp ≡ t
