@@ -101,8 +101,8 @@ pub fn instr(
 {
     let _first = frames.last();
     match i {
-        Instr::Call(function) => Ok(call(alloc, code, may, frames, function, at)?),
-        Instr::Return => Ok(leave(frames, at)?),
-        _ => Ok(frames.plain_last(alloc, may, i, at)?),
+        Instr::Call(function) => call(alloc, code, may, frames, function, at),
+        Instr::Return => leave(frames, at),
+        _ => frames.plain_last(alloc, may, i, at),
     }
 }

@@ -220,8 +220,8 @@ fn ask(
             *place = Request::End;
             Ok(true)
         }
-        Instr::Make(shape) => Ok(make(alloc, code, frame, shape, at, place)?),
-        Instr::Go(function) => Ok(go(alloc, code, frame, function, at, place)?),
+        Instr::Make(shape) => make(alloc, code, frame, shape, at, place),
+        Instr::Go(function) => go(alloc, code, frame, function, at, place),
         Instr::Send(shape) => Ok(send(alloc, frame, shape, at, place)),
         Instr::Receive(shape) => Ok(receive(frame, shape, at, place)),
         Instr::Close => Ok(close(frame, at, place)),
@@ -236,7 +236,7 @@ fn ask(
             *place = Request::Print(text);
             Ok(true)
         }
-        Instr::Select(table) => Ok(select(alloc, code, frame, table, at, place)?),
+        Instr::Select(table) => select(alloc, code, frame, table, at, place),
         _ => Ok(false),
     }
 }
@@ -338,7 +338,7 @@ pub fn request(
             }
             Ok(receive(frame, shape, have - 1, place))
         }
-        _ => Ok(request_any(alloc, code, frames, place)?),
+        _ => request_any(alloc, code, frames, place),
     }
 }
 
@@ -363,7 +363,7 @@ fn request_any(
                 return Ok(false);
             }
             let depth = frames.len() - 1;
-            Ok(ask(alloc, code, frame, depth, i, have - wanted, place)?)
+            ask(alloc, code, frame, depth, i, have - wanted, place)
         }
     }
 }

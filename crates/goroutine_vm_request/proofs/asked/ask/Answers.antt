@@ -1,6 +1,7 @@
 use Rattle.std.proofs.Common.{◌≡◌, ◌∙◌, ◌<◌, ◌-◌, List, length, take, drop, Some, ap, sym, rules, slice_get}
 use Rattle.std.proofs.lemmas.List.{take_rest}
 use Rattle.std.proofs.lemmas.Option.{slice_get-get_or}
+use Rattle.std.proofs.lemmas.Result.{IfOk-weaker}
 use Rattle.bytecode.specs.Code.{PrintTable}
 use Rattle.bytecode.specs.Machine.{printed}
 use Rattle.goroutine_vm_request.proofs.Asking.{print_for}
@@ -9,8 +10,8 @@ use Rattle.goroutine_vm_request.proofs.asked.ask.Goals as goal
 pub returns-in-Apply : goal.returns-in-Apply
 returns-in-Apply c = λ callers deep. rw c.in-Apply.is (c.panics.ensures c.args.code.now callers)
 
-pub returns-in_ok-make-in-Make : goal.returns-in_ok-make-in-Make
-returns-in_ok-make-in-Make c = λ callers deep. rw c.in-Make.is (c.in_ok-make-in-Make.ensures callers)
+pub returns-in-Make : goal.returns-in-Make
+returns-in-Make c = IfOk-weaker c.make.result _ _ (λ asking h callers deep. rw c.in-Make.is (h callers)) c.make.ensures
 
 pub returns-in-Send : goal.returns-in-Send
 returns-in-Send c = λ callers deep. rw c.in-Send.is (c.send.ensures c.args.code.now callers)
@@ -27,11 +28,11 @@ returns-in-Len c = λ callers deep. rw c.in-Len.is (c.len.ensures c.args.code.no
 pub returns-in-Cap : goal.returns-in-Cap
 returns-in-Cap c = λ callers deep. rw c.in-Cap.is (c.cap.ensures c.args.code.now callers)
 
-pub returns-in_ok-select-in-Select : goal.returns-in_ok-select-in-Select
-returns-in_ok-select-in-Select c = λ callers deep. rw c.in-Select.is (c.in_ok-select-in-Select.ensures callers)
+pub returns-in-Select : goal.returns-in-Select
+returns-in-Select c = IfOk-weaker c.select.result _ _ (λ asking h callers deep. rw c.in-Select.is (h callers)) c.select.ensures
 
-pub returns-in_ok-go-in-Go : goal.returns-in_ok-go-in-Go
-returns-in_ok-go-in-Go c = λ callers deep. rw c.in-Go.is (c.in_ok-go-in-Go.ensures callers)
+pub returns-in-Go : goal.returns-in-Go
+returns-in-Go c = IfOk-weaker c.go.result _ _ (λ asking h callers deep. rw c.in-Go.is (h callers)) c.go.ensures
 
 pub returns-in_ok-text-in-Print : goal.returns-in_ok-text-in-Print
 returns-in_ok-text-in-Print c = λ callers deep.

@@ -1,4 +1,5 @@
 use Rattle.std.proofs.Common.{◌≡◌, ℕ, ◌∙◌, ◌-◌, ◌≤◌, List, length, Some, None, cond, ap, sym, subst, arith}
+use Rattle.std.proofs.lemmas.Result.{IfOk-weaker}
 use Rattle.bytecode.specs.Machine.{code_next}
 use Rattle.goroutine_vm_base.specs.Steps.{AsksFor}
 use Rattle.call_frame.specs.Steps.{Fetched}
@@ -7,8 +8,8 @@ use Rattle.goroutine_vm_base.proofs.Stacks.{first_of}
 use Rattle.word.specs.declared.value.Word.{Word}
 use Rattle.goroutine_vm_request.proofs.asked.request_any.Goals as goal
 
-pub returns-in_ok-ask-in-Some : goal.returns-in_ok-ask-in-Some
-returns-in_ok-ask-in-Some c =
+pub returns-else-have-wanted : goal.returns-else-have-wanted
+returns-else-have-wanted c =
     let code = c.args.code.now in
     let x = c.last-frame.result.now in
     let first = first_of c.args.frames.now x c.last-frame.ensures.some c.last-frame.ensures.last in
@@ -20,4 +21,4 @@ returns-in_ok-ask-in-Some c =
     let many = ap length first.1 in
     let depth : length first.0 ≡ c.len-depth.result - 1 = omega (arith, many, c.len-depth.ensures.len) in
     let goes = ap (code_next code) first.1 ∙ next in
-    subst (λ n. AsksFor n (cond c.in_ok-ask-in-Some.field-0 (Some c.ask.new.place) None)) (sym goes) (c.in_ok-ask-in-Some.ensures first.0 depth)
+    IfOk-weaker c.ask.result _ _ (λ asking h. subst (λ n. AsksFor n (cond asking (Some c.ask.new.place) None)) (sym goes) (h first.0 depth)) c.ask.ensures
