@@ -135,7 +135,7 @@ impl GoState {
         ensures state { IsStateOf code.now limit self.new }
     {
         self.step_ahead(alloc, code, limit, quantum)?;
-        Ok(self.stop(alloc, code, limit)?)
+        self.stop(alloc, code, limit)
     }
 
     /// The same steps: whether the goroutine then stands at a request, which is not made.

@@ -34,7 +34,7 @@ pub(crate) fn step(
             if have < wanted {
                 unreachable!()
             }
-            Ok(instr(alloc, code, may, frames, i, have - wanted)?)
+            instr(alloc, code, may, frames, i, have - wanted)
         }
     }
 }

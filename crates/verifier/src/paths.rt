@@ -214,7 +214,7 @@ fn look(
     match step_at(alloc, code, f, table, place)? {
         Transfer::Dead => Ok(Visit::Settles),
         Transfer::Unfits(rule) => Ok(Visit::Unfit(rule)),
-        Transfer::Leads(i, kinds, at) => Ok(spread(alloc, code, f, table, place, i, &kinds, at)?),
+        Transfer::Leads(i, kinds, at) => spread(alloc, code, f, table, place, i, &kinds, at),
     }
 }
 

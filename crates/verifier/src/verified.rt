@@ -260,7 +260,7 @@ fn rule_in(alloc: Global, code: &Code, f: &Function) -> Result<Option<(Rule, usi
     if !is_headed(code, f) {
         return Ok(Some((Rule::Names, 0)));
     }
-    Ok(check_function(alloc, code, f)?)
+    check_function(alloc, code, f)
 }
 
 /// The first rule that a function breaks, the function's number, and the place.

@@ -221,7 +221,7 @@ fn give_clause(
     ensures ok { OnOk result (out.new.items ≡ out.old.items ++ clause_gives code.now clause) }
 {
     match clause {
-        Some(Clause::Receive(s, _)) => Ok(give_item(code, s, out)?),
+        Some(Clause::Receive(s, _)) => give_item(code, s, out),
         Some(Clause::Send(_, _)) => Ok(()),
         None => Ok(()),
     }
