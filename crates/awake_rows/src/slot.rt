@@ -424,7 +424,6 @@ impl Away {
 }
 
 /// The state after one local step, where there is one.
-#[tactic(auto, using(crate::proofs::Stepping::one_step))]
 fn after_step(
     alloc: Global,
     code: &Verified,
@@ -436,6 +435,6 @@ fn after_step(
     ensures fits { IfOk result (λ next. IsStateOf code.now limit next) }
 {
     let mut next = state.try_clone(alloc)?;
-    next.advance(alloc, code, limit, 1)?;
+    next.step_ahead(alloc, code, limit, 1)?;
     Ok(next)
 }
