@@ -116,7 +116,6 @@ impl fmt::Display for Instr {
 
 /// The text of a code: for each function, in order, a line with its name and how many words its parameters, its locals and
 /// its results take, and a line for each instruction, behind its place.
-#[tactic(auto, using(crate::proofs::Listings::one_function_more))]
 pub fn listing(alloc: Global, code: &Code) -> Result<Vec<u8>, Memory>
     ensures { IfOk result (λ text. text.items ≡ listing_of code.now) }
 {
