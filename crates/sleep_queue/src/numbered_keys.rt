@@ -107,7 +107,6 @@ impl NumberedKeys {
         let Some(size) = place.checked_add(1) else {
             return Err(AllocError);
         };
-        self.keys.resize(size, None)?;
-        Ok(())
+        self.keys.resize(size, None)
     }
 }
