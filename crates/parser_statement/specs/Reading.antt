@@ -154,6 +154,11 @@ no_clause (Mark kinds.Case ∷ rest) = Err TooDeep
 no_clause (Mark kinds.Default ∷ rest) = Err TooDeep
 no_clause words = Err Syntax
 
+-- what follows a statement of a block or, where this holds, of a clause
+abbrev pub next_of : (clause : Bool) → List Lexeme → Reading Next
+next_of true = clause_next
+next_of false = statement_next
+
 -- what follows a clause
 unfoldable pub clauses_next : List Lexeme → Reading Next
 clauses_next words = if begins_with kinds.RightBrace words then (expect kinds.RightBrace words >>= λ after. Ok (End false, after)) else Ok (More, words)
