@@ -17,14 +17,14 @@ use Rattle.parser_simple.specs.declared.form.Form.{Form}
 use Rattle.parser_simple.specs.declared.form.Form.TheVariants as forms
 use Rattle.parser_simple.specs.Spelling.{name_words, IsName, place_words, IsPlace, IsPrimary, right_words, IsRight, update_kind, simple_words, IsSimple}
 use Rattle.parser_header.specs.Spelling.{IsAny, second_name_words, second_place_words, comm_words, IsComm, if_head_words, IsIfHead, optional, target_words, IsTarget, for_head_words, IsForHead}
-use Rattle.parser_simple.specs.Reading.{as_one, begins_with, begins_operation, defines, form_of, place, primary, sent, simple, led, fits}
+use Rattle.parser_simple.specs.Reading.{as_one, behind_mark, before_mark, begins_with, begins_operation, defines, form_of, place, primary, sent, simple, led, fits}
 use Rattle.parser_simple.proofs.BeginLaws.{value_not}
-use Rattle.parser_header.specs.Reading.{Head, HeadSimple, HeadCondition, is_primary, condition_or_sent, led_or_condition, head, second, comm_defined, comm_assigned, comm_formed, comm, condition, behind_semicolon, behind_head, if_headed, if_header, unless_next, post_behind, for_clauses, ranged, range_defined, range_assigned, for_headed, ranges, for_begun, for_header}
+use Rattle.parser_header.specs.Reading.{Head, HeadSimple, HeadCondition, is_primary, condition_or_sent, led_or_condition, head, second, received, comm_defined, comm_assigned, comm_formed, comm, condition, behind_semicolon, behind_head, if_headed, if_header, unless_next, post_behind, for_clauses, ranged, range_defined, range_assigned, for_headed, ranges, for_begun, for_header}
 use Rattle.parser_simple.proofs.PlaceLaws.{place_again, place_sound}
 use Rattle.parser_simple.proofs.FormLaws.{update_again, fields_form, no_defines, no_form, led_none}
 use Rattle.parser_simple.proofs.FitLaws.{fits_again, operand_fits, condition_fits}
 use Rattle.parser_simple.proofs.RightLaws.{Stops, value_again, primary_again, no_operation, value_sound, primary_sound}
-use Rattle.parser_simple.proofs.SimpleLaws.{SimpleSound, is_send, led_again, led_channel, LedSound, led_sound, sent_again, sent_sound, simple_again, simple_sound}
+use Rattle.parser_simple.proofs.SimpleLaws.{SimpleSound, before_mark_sound, is_send, led_again, led_channel, LedSound, led_sound, sent_again, sent_sound, simple_again, simple_sound}
 
 -- ---- simple statements and conditions
 
@@ -98,11 +98,11 @@ both_true false b e = absurd cc
 condition_or_sent_sound : (most room : ℕ) (ws : List Lexeme) (c : Expression) (after : List Lexeme) → Sound before (IsGrouped false) expression_height room expression_longest most ws c after
     → (h : Head) (rest : List Lexeme) → condition_or_sent most room (c, after) ≡ gave h rest → HeadSound most room ws h rest
 condition_or_sent_sound most room ws c after s h rest e =
-    elim (either (begins_with kinds.Arrow after && is_primary c) (expect kinds.Arrow after >>= λ behind. as_one (λ (value : Expression). HeadSimple (Send c value)) (expression false most room 0 behind)) (gave (HeadCondition c) after) (h, rest) e) [
+    elim (either (begins_with kinds.Arrow after && is_primary c) (as_one (λ (value : Expression). HeadSimple (Send c value)) (behind_mark kinds.Arrow (expression false most room 0) after)) (gave (HeadCondition c) after) (h, rest) e) [
       | inl sends ↦
-          let a = bind_ok (expect kinds.Arrow after) (λ behind. as_one (λ (value : Expression). HeadSimple (Send c value)) (expression false most room 0 behind)) (h, rest) sends.1 in
-          let b = made_is (λ (value : Expression). HeadSimple (Send c value)) (expression false most room 0 a.0) h rest a.2 in
-          let v = value_sound false most room a.0 b.0 rest b.1 in
+          let b = made_is (λ (value : Expression). HeadSimple (Send c value)) (behind_mark kinds.Arrow (expression false most room 0) after) h rest sends.1 in
+          let a = bind_ok (expect kinds.Arrow after) (expression false most room 0) (b.0, rest) b.1 in
+          let v = value_sound false most room a.0 b.0 rest a.2 in
           let primary = is_seven (outer_precedence c) (both_true (begins_with kinds.Arrow after) (is_primary c) sends.0) in
           subst (λ (x : Head). HeadSound most room ws x rest) b.2 (record {
             parts = s.parts ∙ ap (before c) (expect_is kinds.Arrow after a.0 a.1 ∙ ap (λ (x : List Lexeme). Mark kinds.Arrow ∷ x) v.parts);
@@ -441,9 +441,9 @@ clauses_sound most room first first_is low few all ws parts h rest e =
 ranged_sound : (most room : ℕ) (target : Target) → IsTarget target → (all ws : List Lexeme) → all ≡ target_words target ws → (h : ForHead) (rest : List Lexeme) → ranged target most room ws ≡ gave h rest → ForSound most room all h rest
 unfolding ranged
 ranged_sound most room target is all ws parts h rest e =
-    let a = bind_ok (expect kinds.Range ws) (λ after. as_one (Range target) (condition most room after)) (h, rest) e in
-    let b = made_is (Range target) (condition most room a.0) h rest a.2 in
-    let v = value_sound false most room a.0 b.0 rest b.1 in
+    let b = made_is (Range target) (behind_mark kinds.Range (condition most room) ws) h rest e in
+    let a = bind_ok (expect kinds.Range ws) (condition most room) (b.0, rest) b.1 in
+    let v = value_sound false most room a.0 b.0 rest a.2 in
     subst (λ (x : ForHead). ForSound most room all x rest) b.2 (record {
       parts = parts ∙ ap (target_words target) (expect_is kinds.Range ws a.0 a.1 ∙ ap (λ (x : List Lexeme). Mark kinds.Range ∷ x) v.parts);
       is = (is, v.is);
@@ -462,10 +462,9 @@ defined_sound most room ws h rest e =
 assigned_sound : (most room : ℕ) (ws : List Lexeme) (h : ForHead) (rest : List Lexeme) → range_assigned most room ws ≡ gave h rest → ForSound most room ws h rest
 unfolding range_assigned
 assigned_sound most room ws h rest e =
-    let a = bind_ok (place ws) (λ target. expect kinds.Assign target.1 >>= λ after. ranged (AssignTarget target.0) most room after) (h, rest) e in
-    let b = bind_ok (expect kinds.Assign a.0.1) (ranged (AssignTarget a.0.0) most room) (h, rest) a.2 in
-    let p = place_sound ws a.0.0 a.0.1 a.1 in
-    ranged_sound most room (AssignTarget a.0.0) p.1 ws b.0 (p.0 ∙ ap (place_words a.0.0) (expect_is kinds.Assign a.0.1 b.0 b.1)) h rest b.2
+    let a = bind_ok (before_mark kinds.Assign ws) (λ target. ranged (AssignTarget target.0) most room target.1) (h, rest) e in
+    let p = before_mark_sound kinds.Assign ws a.0.0 a.0.1 a.1 in
+    ranged_sound most room (AssignTarget a.0.0) p.1 ws a.0.1 p.0 h rest a.2
 
 for_headed_sound : (most room : ℕ) (ws : List Lexeme) (head' : Head) (after : List Lexeme) → HeadSound most room ws head' after → (h : ForHead) (rest : List Lexeme) → for_headed most room (head', after) ≡ gave h rest → ForSound most room ws h rest
 for_headed_sound most room ws (HeadSimple s) after sound h rest e =
@@ -613,42 +612,51 @@ second_place_is : (ok : Option Place) (rest : List Lexeme) → optional (λ y af
 second_place_is None rest = refl
 second_place_is (Some p) rest = refl
 
+abbrev received_words : TokenKind → Expression → List Lexeme → List Lexeme
+received_words mark channel rest = Mark mark ∷ Mark kinds.Arrow ∷ before channel rest
+
+received_sound : (mark : TokenKind) (most room : ℕ) (ws : List Lexeme) (c : Expression) (rest : List Lexeme) → received mark most room ws ≡ gave c rest → Sound (received_words mark) (IsPrimary true) expression_height room expression_longest most ws c rest
+received_sound mark most room ws c rest e =
+    let a = bind_ok (expect mark ws) (behind_mark kinds.Arrow (primary true most room)) (c, rest) e in
+    let b = bind_ok (expect kinds.Arrow a.0) (primary true most room) (c, rest) a.2 in
+    let p = primary_sound true most room b.0 c rest b.2 in
+    record {
+      parts = expect_is mark ws a.0 a.1 ∙ ap (λ (x : List Lexeme). Mark mark ∷ x) (expect_is kinds.Arrow a.0 b.0 b.1 ∙ ap (λ (x : List Lexeme). Mark kinds.Arrow ∷ x) p.parts);
+      is = p.is;
+      low = p.low;
+      few = p.few;
+    }
+
 comm_defined_sound : (most room : ℕ) (ws : List Lexeme) (c : Comm) (rest : List Lexeme) → comm_defined most room ws ≡ gave c rest → CommSound most room ws c rest
 unfolding comm_defined
 comm_defined_sound most room ws c rest e =
-    let a = bind_ok (plain_name ws) (λ item. second plain_name item.1 >>= λ ok. expect kinds.Define ok.1 >>= λ mark. expect kinds.Arrow mark >>= λ arrow. primary true most room arrow >>= λ channel. gave (CommDefine item.0 ok.0 channel.0) channel.1) (c, rest) e in
-    let b = bind_ok (second plain_name a.0.1) (λ ok. expect kinds.Define ok.1 >>= λ mark. expect kinds.Arrow mark >>= λ arrow. primary true most room arrow >>= λ channel. gave (CommDefine a.0.0 ok.0 channel.0) channel.1) (c, rest) a.2 in
-    let d = bind_ok (expect kinds.Define b.0.1) (λ mark. expect kinds.Arrow mark >>= λ arrow. primary true most room arrow >>= λ channel. gave (CommDefine a.0.0 b.0.0 channel.0) channel.1) (c, rest) b.2 in
-    let f = bind_ok (expect kinds.Arrow d.0) (λ arrow. primary true most room arrow >>= λ channel. gave (CommDefine a.0.0 b.0.0 channel.0) channel.1) (c, rest) d.2 in
-    let g = made_is (CommDefine a.0.0 b.0.0) (primary true most room f.0) c rest f.2 in
+    let a = bind_ok (plain_name ws) (λ item. second plain_name item.1 >>= λ ok. received kinds.Define most room ok.1 >>= λ channel. gave (CommDefine item.0 ok.0 channel.0) channel.1) (c, rest) e in
+    let b = bind_ok (second plain_name a.0.1) (λ ok. received kinds.Define most room ok.1 >>= λ channel. gave (CommDefine a.0.0 ok.0 channel.0) channel.1) (c, rest) a.2 in
+    let g = made_is (CommDefine a.0.0 b.0.0) (received kinds.Define most room b.0.1) c rest b.2 in
+    let r = received_sound kinds.Define most room b.0.1 g.0 rest g.1 in
     let n = plain_name_is ws a.0.0 a.0.1 a.1 in
     let s = second_sound name_words IsName plain_name plain_name_is a.0.1 b.0.0 b.0.1 b.1 in
-    let p = primary_sound true most room f.0 g.0 rest g.1 in
-    let received = expect_is kinds.Define b.0.1 d.0 d.1 ∙ ap (λ (x : List Lexeme). Mark kinds.Define ∷ x) (expect_is kinds.Arrow d.0 f.0 f.1 ∙ ap (λ (x : List Lexeme). Mark kinds.Arrow ∷ x) p.parts) in
     subst (λ (x : Comm). CommSound most room ws x rest) g.2 (record {
-      parts = n.0 ∙ ap (λ (x : List Lexeme). Name a.0.0 ∷ x) (s.0 ∙ second_name_is b.0.0 b.0.1 ∙ ap (second_name_words b.0.0) received);
-      is = (n.1, s.1, p.is);
-      low = p.low;
-      few = p.few;
+      parts = n.0 ∙ ap (λ (x : List Lexeme). Name a.0.0 ∷ x) (s.0 ∙ second_name_is b.0.0 b.0.1 ∙ ap (second_name_words b.0.0) r.parts);
+      is = (n.1, s.1, r.is);
+      low = r.low;
+      few = r.few;
     })
 
 comm_assigned_sound : (most room : ℕ) (ws : List Lexeme) (c : Comm) (rest : List Lexeme) → comm_assigned most room ws ≡ gave c rest → CommSound most room ws c rest
 unfolding comm_assigned
 comm_assigned_sound most room ws c rest e =
-    let a = bind_ok (place ws) (λ item. second place item.1 >>= λ ok. expect kinds.Assign ok.1 >>= λ mark. expect kinds.Arrow mark >>= λ arrow. primary true most room arrow >>= λ channel. gave (CommAssign item.0 ok.0 channel.0) channel.1) (c, rest) e in
-    let b = bind_ok (second place a.0.1) (λ ok. expect kinds.Assign ok.1 >>= λ mark. expect kinds.Arrow mark >>= λ arrow. primary true most room arrow >>= λ channel. gave (CommAssign a.0.0 ok.0 channel.0) channel.1) (c, rest) a.2 in
-    let d = bind_ok (expect kinds.Assign b.0.1) (λ mark. expect kinds.Arrow mark >>= λ arrow. primary true most room arrow >>= λ channel. gave (CommAssign a.0.0 b.0.0 channel.0) channel.1) (c, rest) b.2 in
-    let f = bind_ok (expect kinds.Arrow d.0) (λ arrow. primary true most room arrow >>= λ channel. gave (CommAssign a.0.0 b.0.0 channel.0) channel.1) (c, rest) d.2 in
-    let g = made_is (CommAssign a.0.0 b.0.0) (primary true most room f.0) c rest f.2 in
+    let a = bind_ok (place ws) (λ item. second place item.1 >>= λ ok. received kinds.Assign most room ok.1 >>= λ channel. gave (CommAssign item.0 ok.0 channel.0) channel.1) (c, rest) e in
+    let b = bind_ok (second place a.0.1) (λ ok. received kinds.Assign most room ok.1 >>= λ channel. gave (CommAssign a.0.0 ok.0 channel.0) channel.1) (c, rest) a.2 in
+    let g = made_is (CommAssign a.0.0 b.0.0) (received kinds.Assign most room b.0.1) c rest b.2 in
+    let r = received_sound kinds.Assign most room b.0.1 g.0 rest g.1 in
     let n = place_sound ws a.0.0 a.0.1 a.1 in
     let s = second_sound place_words IsPlace place place_sound a.0.1 b.0.0 b.0.1 b.1 in
-    let p = primary_sound true most room f.0 g.0 rest g.1 in
-    let received = expect_is kinds.Assign b.0.1 d.0 d.1 ∙ ap (λ (x : List Lexeme). Mark kinds.Assign ∷ x) (expect_is kinds.Arrow d.0 f.0 f.1 ∙ ap (λ (x : List Lexeme). Mark kinds.Arrow ∷ x) p.parts) in
     subst (λ (x : Comm). CommSound most room ws x rest) g.2 (record {
-      parts = n.0 ∙ ap (place_words a.0.0) (s.0 ∙ second_place_is b.0.0 b.0.1 ∙ ap (second_place_words b.0.0) received);
-      is = (n.1, s.1, p.is);
-      low = p.low;
-      few = p.few;
+      parts = n.0 ∙ ap (place_words a.0.0) (s.0 ∙ second_place_is b.0.0 b.0.1 ∙ ap (second_place_words b.0.0) r.parts);
+      is = (n.1, s.1, r.is);
+      low = r.low;
+      few = r.few;
     })
 
 comm_sent_sound : (most room : ℕ) (ws : List Lexeme) (c : Comm) (rest : List Lexeme) → sent CommSend true most room ws ≡ gave c rest → CommSound most room ws c rest

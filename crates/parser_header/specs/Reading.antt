@@ -9,7 +9,7 @@ use Rattle.parser_base.specs.Spelling.{outer_precedence}
 use Rattle.parser_base.specs.Reading.{Reading, ◌>>=◌, is_kind, expect, plain_name, expression}
 use Rattle.parser_simple.specs.declared.form.Form.{Form}
 use Rattle.parser_simple.specs.declared.form.Form.TheVariants as forms
-use Rattle.parser_simple.specs.Reading.{as_one, begins_with, form_of, defines, place, primary, led, sent, simple, fits}
+use Rattle.parser_simple.specs.Reading.{as_one, behind_mark, before_mark, begins_with, form_of, defines, place, primary, led, sent, simple, fits}
 
 -- ---- headers
 
@@ -26,7 +26,7 @@ is_primary expression = outer_precedence expression == 7
 abbrev pub condition_or_sent : ℕ → ℕ → Expression × List Lexeme → Reading Head
 condition_or_sent most room (channel, rest) =
     if begins_with kinds.Arrow rest && is_primary channel
-    then (expect kinds.Arrow rest >>= λ after. as_one (λ value. HeadSimple (Send channel value)) (expression false most room 0 after))
+    then as_one (λ value. HeadSimple (Send channel value)) (behind_mark kinds.Arrow (expression false most room 0) rest)
     else Ok (HeadCondition channel, rest)
 
 abbrev pub led_or_condition : ℕ → ℕ → Option Simple × List Lexeme → Reading Head
@@ -43,14 +43,16 @@ unfoldable pub second : {A : Type 0} → (List Lexeme → Reading A) → List Le
 second one words =
     if begins_with kinds.Comma words then (expect kinds.Comma words >>= λ behind. as_one (λ x. Some x) (one behind)) else Ok (None, words)
 
+-- a receive behind this mark
+abbrev pub received : TokenKind → ℕ → ℕ → List Lexeme → Reading Expression
+received mark most room words = expect mark words >>= behind_mark kinds.Arrow (primary true most room)
+
 -- a receive with a `:=` of one name or two
 unfoldable pub comm_defined : ℕ → ℕ → List Lexeme → Reading Comm
 comm_defined most room words = do
   item ← plain_name words
   ok ← second plain_name item.1
-  mark ← expect kinds.Define ok.1
-  arrow ← expect kinds.Arrow mark
-  channel ← primary true most room arrow
+  channel ← received kinds.Define most room ok.1
   Ok (CommDefine item.0 ok.0 channel.0, channel.1)
 
 -- a receive with an assignment to one place or two
@@ -58,9 +60,7 @@ unfoldable pub comm_assigned : ℕ → ℕ → List Lexeme → Reading Comm
 comm_assigned most room words = do
   item ← place words
   ok ← second place item.1
-  mark ← expect kinds.Assign ok.1
-  arrow ← expect kinds.Arrow mark
-  channel ← primary true most room arrow
+  channel ← received kinds.Assign most room ok.1
   Ok (CommAssign item.0 ok.0 channel.0, channel.1)
 
 unfoldable pub comm_formed : ℕ → ℕ → Form → List Lexeme → Reading Comm
@@ -116,13 +116,13 @@ for_clauses first most room words = do
 
 -- the `range` of a `for`, from its word on
 unfoldable pub ranged : Target → ℕ → ℕ → List Lexeme → Reading ForHead
-ranged target most room words = expect kinds.Range words >>= λ after. as_one (Range target) (condition most room after)
+ranged target most room words = as_one (Range target) (behind_mark kinds.Range (condition most room) words)
 
 unfoldable pub range_defined : ℕ → ℕ → List Lexeme → Reading ForHead
 range_defined most room words = plain_name words >>= λ name. expect kinds.Define name.1 >>= λ after. ranged (DefineTarget name.0) most room after
 
 unfoldable pub range_assigned : ℕ → ℕ → List Lexeme → Reading ForHead
-range_assigned most room words = place words >>= λ target. expect kinds.Assign target.1 >>= λ after. ranged (AssignTarget target.0) most room after
+range_assigned most room words = before_mark kinds.Assign words >>= λ target. ranged (AssignTarget target.0) most room target.1
 
 abbrev pub for_headed : ℕ → ℕ → Head × List Lexeme → Reading ForHead
 for_headed most room (HeadSimple simple, rest) = expect kinds.Semicolon rest >>= λ after. for_clauses (Some simple) most room after

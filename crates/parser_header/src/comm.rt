@@ -2,24 +2,24 @@
 
 ghost use Rattle.std.specs.Prelude.{true, option_map};
 ghost use Rattle.syntax.specs.Tree.{CommSend, CommReceive};
-ghost use Rattle.syntax.specs.View.{name_of, place_of, comm_of};
+ghost use Rattle.syntax.specs.View.{name_of, expression_of, place_of, comm_of};
 ghost use Rattle.parser_base.specs.Cursor.{ahead};
 ghost use Rattle.parser_base.specs.Reading.{Gives, plain_name};
 ghost use Rattle.parser_simple.specs.Reading.{as_one, primary, place, sent};
-ghost use Rattle.parser_header.specs.Reading.{second, comm_defined, comm_assigned, comm_formed, comm};
+ghost use Rattle.parser_header.specs.Reading.{second, received, comm_defined, comm_assigned, comm_formed, comm};
 
 use go_text::Fault;
 use parser_base::beside::beside;
 use parser_base::cursor::{Cursor, Word};
-use parser_base::expression::expression;
+use parser_base::found::Found;
 use parser_simple::form::{Form, begins_with, defines, form_of};
 use parser_simple::place::{name_at, place};
-use parser_simple::right::primary_expression;
+use parser_simple::right::{expression_behind, primary_expression};
 use parser_simple::simple::send_operand;
 use scanner::TokenKind;
 use std::alloc::Global;
 use syntax::limits::MAX_ENTRIES;
-use syntax::{CommNode, Name, PlaceNode};
+use syntax::{CommNode, ExpressionNode, Name, PlaceNode};
 
 /// A second name behind a comma, if there is one.
 #[tactic(auto, unfolding(crate::specs::Reading::second))]
@@ -47,6 +47,20 @@ fn second_place(alloc: Global, cursor: Cursor<'_>) -> Result<(Option<PlaceNode>,
     Ok((Some(target.node), target.rest))
 }
 
+/// A receive behind this mark.
+fn receive_behind(
+    alloc: Global,
+    room: u32,
+    mark: TokenKind,
+    cursor: Cursor<'_>,
+) -> Result<Found<'_, ExpressionNode>, Fault>
+    ensures { Gives (λ x. (expression_of x.node, ahead x.rest)) result (received mark MAX_ENTRIES room (ahead cursor.entry)) }
+{
+    let arrow = cursor.expect(mark)?;
+    let rest = arrow.expect(TokenKind::Arrow)?;
+    primary_expression(alloc, true, room, rest)
+}
+
 /// A receive with a `:=` of one name or two.
 #[tactic(auto, unfolding(crate::specs::Reading::comm_defined))]
 fn defining_receive(
@@ -58,9 +72,10 @@ fn defining_receive(
 {
     let (item, rest) = name_at(alloc, cursor)?;
     let (item, (ok, rest)) = beside(item, second_name(alloc, rest))?;
-    let (names, rest) = beside((item, ok), rest.expect(TokenKind::Define))?;
-    let (names, rest) = beside(names, rest.expect(TokenKind::Arrow))?;
-    let ((item, ok), channel) = beside(names, primary_expression(alloc, true, room, rest))?;
+    let ((item, ok), channel) = beside(
+        (item, ok),
+        receive_behind(alloc, room, TokenKind::Define, rest),
+    )?;
     Ok((CommNode::Define(item, ok, channel.node), channel.rest))
 }
 
@@ -75,9 +90,10 @@ fn assigning_receive(
 {
     let item = place(alloc, cursor)?;
     let (item, (ok, rest)) = beside(item.node, second_place(alloc, item.rest))?;
-    let (places, rest) = beside((item, ok), rest.expect(TokenKind::Assign))?;
-    let (places, rest) = beside(places, rest.expect(TokenKind::Arrow))?;
-    let ((item, ok), channel) = beside(places, primary_expression(alloc, true, room, rest))?;
+    let ((item, ok), channel) = beside(
+        (item, ok),
+        receive_behind(alloc, room, TokenKind::Assign, rest),
+    )?;
     Ok((CommNode::Assign(item, ok, channel.node), channel.rest))
 }
 
@@ -91,8 +107,10 @@ fn send_statement(
     ensures { Gives (λ x. (comm_of x.0, ahead x.1)) result (sent CommSend true MAX_ENTRIES room (ahead cursor.entry)) }
 {
     let channel = send_operand(alloc, true, room, cursor)?;
-    let (channel, rest) = beside(channel.node, channel.rest.expect(TokenKind::Arrow))?;
-    let (channel, value) = beside(channel, expression(alloc, true, room, 0, rest))?;
+    let (channel, value) = beside(
+        channel.node,
+        expression_behind(alloc, true, room, TokenKind::Arrow, channel.rest),
+    )?;
     Ok((CommNode::Send(channel, value.node), value.rest))
 }
 

@@ -5,7 +5,7 @@ ghost use Rattle.syntax.specs.View.{expression_of, simple_of, if_head_of, target
 ghost use Rattle.parser_base.specs.Cursor.{ahead};
 ghost use Rattle.parser_base.specs.Reading.{Gives};
 ghost use Rattle.parser_simple.specs.Reading.{as_one, simple};
-ghost use Rattle.parser_header.specs.Reading.{is_primary, condition_or_sent, head, condition, behind_semicolon, if_header, unless_next, for_clauses, post_behind, ranged, range_defined, range_assigned, ranges, for_begun, for_header};
+ghost use Rattle.parser_header.specs.Reading.{is_primary, condition_or_sent, head, condition, if_header, unless_next, for_clauses, post_behind, ranged, range_defined, range_assigned, ranges, for_begun, for_header};
 ghost use Rattle.parser_header.specs.Heads.{head_of};
 
 use go_text::Fault;
@@ -14,7 +14,8 @@ use parser_base::cursor::Cursor;
 use parser_base::expression::expression;
 use parser_base::found::Found;
 use parser_simple::form::{Form, begins_with, defines, fits, form_of};
-use parser_simple::place::{name_at, place};
+use parser_simple::place::{name_at, place_before};
+use parser_simple::right::expression_behind;
 use parser_simple::simple::{simple_statement, statement_unless_value};
 use scanner::TokenKind;
 use std::alloc::Global;
@@ -49,8 +50,10 @@ fn condition_or_send(
     if !begins_with(TokenKind::Arrow, found.rest) || !is_primary(&found.node) {
         return Ok((HeadNode::Condition(found.node), found.rest));
     }
-    let (channel, rest) = beside(found.node, found.rest.expect(TokenKind::Arrow))?;
-    let (channel, value) = beside(channel, expression(alloc, false, room, 0, rest))?;
+    let (channel, value) = beside(
+        found.node,
+        expression_behind(alloc, false, room, TokenKind::Arrow, found.rest),
+    )?;
     let sent = SimpleNode::Send(channel, value.node);
     Ok((HeadNode::Simple(sent), value.rest))
 }
@@ -76,18 +79,6 @@ pub fn simple_or_condition(
     }
 }
 
-/// A condition behind a semicolon.
-fn condition_behind_semicolon(
-    alloc: Global,
-    room: u32,
-    cursor: Cursor<'_>,
-) -> Result<Found<'_, ExpressionNode>, Fault>
-    ensures { Gives (λ x. (expression_of x.node, ahead x.rest)) result (behind_semicolon MAX_ENTRIES room (ahead cursor.entry)) }
-{
-    let rest = cursor.expect(TokenKind::Semicolon)?;
-    expression(alloc, false, room, 0, rest)
-}
-
 /// What stands between an `if` and its block ("If statements" of the Go specification), below which there are at most
 /// so many levels.
 #[tactic(auto, unfolding(crate::specs::Reading::if_header))]
@@ -99,13 +90,16 @@ pub fn if_header(
     ensures { Gives (λ x. ((if_head_of x.0.0, expression_of x.0.1), ahead x.1)) result (if_header MAX_ENTRIES room (ahead cursor.entry)) }
 {
     if begins_with(TokenKind::Semicolon, cursor) {
-        let found = condition_behind_semicolon(alloc, room, cursor)?;
+        let found = expression_behind(alloc, false, room, TokenKind::Semicolon, cursor)?;
         return Ok(((IfHeader::Semicolon, found.node), found.rest));
     }
     let (head, rest) = simple_or_condition(alloc, room, cursor)?;
     match head {
         HeadNode::Simple(simple) => {
-            let (simple, found) = beside(simple, condition_behind_semicolon(alloc, room, rest))?;
+            let (simple, found) = beside(
+                simple,
+                expression_behind(alloc, false, room, TokenKind::Semicolon, rest),
+            )?;
             Ok(((IfHeader::Simple(simple), found.node), found.rest))
         }
         HeadNode::Condition(condition) => Ok(((IfHeader::Bare, condition), rest)),
@@ -182,8 +176,10 @@ fn range_clause(
 ) -> Result<(ForHeader, Cursor<'_>), Fault>
     ensures { Gives (λ x. (for_head_of x.0, ahead x.1)) result (ranged (target_of target) MAX_ENTRIES room (ahead cursor.entry)) }
 {
-    let (target, rest) = beside(target, cursor.expect(TokenKind::Range))?;
-    let (target, found) = beside(target, expression(alloc, false, room, 0, rest))?;
+    let (target, found) = beside(
+        target,
+        expression_behind(alloc, false, room, TokenKind::Range, cursor),
+    )?;
     Ok((ForHeader::Range(target, found.node), found.rest))
 }
 
@@ -210,8 +206,7 @@ fn assigning_range(
 ) -> Result<(ForHeader, Cursor<'_>), Fault>
     ensures { Gives (λ x. (for_head_of x.0, ahead x.1)) result (range_assigned MAX_ENTRIES room (ahead cursor.entry)) }
 {
-    let target = place(alloc, cursor)?;
-    let (place, rest) = beside(target.node, target.rest.expect(TokenKind::Assign))?;
+    let (place, rest) = place_before(alloc, TokenKind::Assign, cursor)?;
     range_clause(alloc, room, RangeTarget::Assign(place), rest)
 }
 

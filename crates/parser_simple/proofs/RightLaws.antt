@@ -19,7 +19,7 @@ use Rattle.parser_base.proofs.ExpressionSound.{expression_sound, values_sound}
 use Rattle.parser_base.proofs.TypeLaws.{type_again, type_sound, Found as TypeFound, High as TypeHigh, type_height_positive}
 use Rattle.parser_base.proofs.Steps.{then_again, made_again, listed_outcome, gave, Sound, made_is, either}
 use Rattle.parser_simple.specs.Spelling.{IsName, IsPrimary, arguments_words, AreArguments, size_words, IsSize, operation_words, IsOperation, right_words, IsRight}
-use Rattle.parser_simple.specs.Reading.{as_one, begins_with, separator_next, begins_primary, primary, needing, received, arguments, argument, size, make, builtin_operation, begins_operation, operation, value_list, right}
+use Rattle.parser_simple.specs.Reading.{as_one, behind_mark, begins_with, separator_next, begins_primary, primary, needing, received, arguments, argument, size, size_closed, make, builtin_operation, begins_operation, operation, value_list, right}
 use Rattle.parser_simple.proofs.PlaceLaws.{separator_again, no_separator, separator_more_sound, separator_end_sound}
 
 -- ---- what may follow
@@ -125,6 +125,12 @@ size_again literals most room None rest is = Found (omega arith) (λ listing. om
 size_again literals most room (Some s) rest is =
     made_again (λ (e : Expression). Some e) (value_again literals most room s (Mark kinds.RightParenthesis ∷ rest) is (parenthesis_ends literals rest)) (λ high. high) (λ low. low) (λ listing. refl)
 
+size_closed_again : (literals : Bool) (most room : ℕ) (s : Option Expression) (rest : List Lexeme) → IsSize literals s
+    → ReadBack (size_closed literals most room (size_words s (Mark kinds.RightParenthesis ∷ rest))) s rest (if_any expression_height s) room (λ listing. if_any (expression_longest listing) s) most
+unfolding expect
+size_closed_again literals most room s rest is =
+    then_again _ (size_again literals most room s rest is) (λ high. high) (λ listing. omega arith) (λ low few. Found low few refl)
+
 -- the most levels below an operation
 abbrev pub below : Operation → ℕ
 below (Call function all) = arguments_height all
@@ -153,7 +159,7 @@ make_again : (literals : Bool) (most room : ℕ) (t : TypeExpression) (s : Optio
 unfolding make expect
 make_again literals most room t s rest is size_is =
     then_again _ (type_outcome room most t (size_words s (Mark kinds.RightParenthesis ∷ rest)) is) (λ high. omega arith) (λ listing. omega arith) (λ low few.
-    then_again _ (size_again literals most room s rest size_is) (λ high. omega arith) (λ listing. omega arith) (λ low' few'.
+    then_again _ (size_closed_again literals most room s rest size_is) (λ high. omega arith) (λ listing. omega arith) (λ low' few'.
     Found (omega arith) few' refl))
 
 pub operation_again : (literals : Bool) (most room : ℕ) (o : Operation) (rest : List Lexeme) → IsOperation literals o → Stops literals rest
@@ -328,12 +334,12 @@ abbrev pub OperationSound : (literals : Bool) (most room : ℕ) → List Lexeme 
 OperationSound literals most room = Sound operation_words (IsOperation literals) below room operation_longest most
 
 either_size : (literals : Bool) (most room : ℕ) (b : Bool) (ws : List Lexeme) (s : Option Expression) (rest : List Lexeme)
-    → cond b (expect kinds.Comma ws >>= λ behind. as_one (λ (value : Expression). Some value) (expression literals most room 0 behind)) (gave None ws) ≡ gave s rest
+    → cond b (as_one (λ (value : Expression). Some value) (behind_mark kinds.Comma (expression literals most room 0) ws)) (gave None ws) ≡ gave s rest
     → Sound size_words (IsSize literals) (if_any expression_height) room (λ listing. if_any (expression_longest listing)) most ws s rest
 either_size literals most room true ws s rest e =
-    let a = bind_ok (expect kinds.Comma ws) (λ behind. as_one (λ (value : Expression). Some value) (expression literals most room 0 behind)) (s, rest) e in
-    let b = made_is (λ (value : Expression). Some value) (expression literals most room 0 a.0) s rest a.2 in
-    let v = value_sound literals most room a.0 b.0 rest b.1 in
+    let b = made_is (λ (value : Expression). Some value) (behind_mark kinds.Comma (expression literals most room 0) ws) s rest e in
+    let a = bind_ok (expect kinds.Comma ws) (expression literals most room 0) (b.0, rest) b.1 in
+    let v = value_sound literals most room a.0 b.0 rest a.2 in
     subst (λ (x : Option Expression). Sound size_words (IsSize literals) (if_any expression_height) room (λ listing. if_any (expression_longest listing)) most ws x rest) b.2 (record {
       parts = expect_is kinds.Comma ws a.0 a.1 ∙ ap (λ (x : List Lexeme). Mark kinds.Comma ∷ x) v.parts;
       is = v.is;
@@ -347,13 +353,15 @@ either_size literals most room false ws s rest e =
 make_sound : (literals : Bool) (most room : ℕ) (ws : List Lexeme) (o : Operation) (rest : List Lexeme) → make literals most room ws ≡ gave o rest → OperationSound literals most room (Name (codes "make") ∷ ws) o rest
 unfolding make size
 make_sound literals most room ws o rest e =
-    let a = bind_ok (expect kinds.LeftParenthesis ws) (λ inside. type_at room inside >>= λ channel. size literals most room channel.1 >>= λ buffer. expect kinds.RightParenthesis buffer.1 >>= λ after. gave (Make channel.0 buffer.0) after) (o, rest) e in
-    let b = bind_ok (type_at room a.0) (λ channel. size literals most room channel.1 >>= λ buffer. expect kinds.RightParenthesis buffer.1 >>= λ after. gave (Make channel.0 buffer.0) after) (o, rest) a.2 in
-    let c = bind_ok (size literals most room b.0.1) (λ buffer. expect kinds.RightParenthesis buffer.1 >>= λ after. gave (Make b.0.0 buffer.0) after) (o, rest) b.2 in
-    let d = bind_ok (expect kinds.RightParenthesis c.0.1) (λ after. gave (Make b.0.0 c.0.0) after) (o, rest) c.2 in
+    let a = bind_ok (expect kinds.LeftParenthesis ws) (λ inside. type_at room inside >>= λ channel. size_closed literals most room channel.1 >>= λ buffer. gave (Make channel.0 buffer.0) buffer.1) (o, rest) e in
+    let b = bind_ok (type_at room a.0) (λ channel. size_closed literals most room channel.1 >>= λ buffer. gave (Make channel.0 buffer.0) buffer.1) (o, rest) a.2 in
+    let m = made_is (Make b.0.0) (size_closed literals most room b.0.1) o rest b.2 in
+    let c = bind_ok (size literals most room b.0.1) (λ buffer. expect kinds.RightParenthesis buffer.1 >>= λ after. gave buffer.0 after) (m.0, rest) m.1 in
+    let d = bind_ok (expect kinds.RightParenthesis c.0.1) (λ after. gave c.0.0 after) (m.0, rest) c.2 in
     let t = type_sound room a.0 b.0.0 b.0.1 b.1 in
     let s = either_size literals most room (begins_with kinds.Comma b.0.1) b.0.1 c.0.0 c.0.1 c.1 in
-    subst (λ (x : Operation × List Lexeme). OperationSound literals most room (Name (codes "make") ∷ ws) x.0 x.1) (ok_is (Make b.0.0 c.0.0, d.0) (o, rest) d.2) (record {
+    let same = ok_is (c.0.0, d.0) (m.0, rest) d.2 in
+    subst (λ (x : Operation × List Lexeme). OperationSound literals most room (Name (codes "make") ∷ ws) x.0 x.1) (ap (λ (x : Option Expression × List Lexeme). (Make b.0.0 x.0, x.1)) same ∙ ap (λ (x : Operation). (x, rest)) m.2) (record {
       parts = ap (λ (x : List Lexeme). Name (codes "make") ∷ x) (expect_is kinds.LeftParenthesis ws a.0 a.1
           ∙ ap (λ (x : List Lexeme). Mark kinds.LeftParenthesis ∷ x) (t.parts ∙ ap (λ (x : List Lexeme). type_words b.0.0 ++ x) (s.parts ∙ ap (size_words c.0.0) (expect_is kinds.RightParenthesis c.0.1 d.0 d.1))));
       is = (t.is, s.is);

@@ -16,7 +16,7 @@ use Rattle.parser_base.proofs.Steps.{then_again, made_again, listed_outcome, gav
 use Rattle.parser_simple.specs.declared.form.Form.{Form}
 use Rattle.parser_simple.specs.declared.form.Form.TheVariants as forms
 use Rattle.parser_simple.specs.Spelling.{name_words, IsName, place_words, IsPlace, IsPrimary, right_words, IsRight, part_words, IsPart, print_name, update_kind, simple_words, IsSimple}
-use Rattle.parser_simple.specs.Reading.{as_one, begins_with, defines, form_of, names, place, places, needing, behind_place, received, primary, arguments, argument, right, begins_part, part, parts, print, builtin_call, assigned, defined, stepped, updated, formed, led, send_operand, sent, led_or_sent, simple, fits}
+use Rattle.parser_simple.specs.Reading.{as_one, behind_mark, before_mark, begins_with, defines, form_of, names, place, places, needing, behind_place, received, primary, arguments, argument, right, begins_part, part, parts, print, builtin_call, assigned, defined, stepped, updated, formed, led, send_operand, sent, led_or_sent, simple, fits}
 use Rattle.parser_simple.proofs.PlaceLaws.{names_again, names_sound, place_again, place_sound, places_again, places_sound}
 use Rattle.parser_simple.proofs.FormLaws.{update_again, update_shut, update_no_field, form_strong, led_formed, defines_names, no_defines, no_form, led_none}
 use Rattle.parser_simple.proofs.FitLaws.{fits_again, operand_fits}
@@ -394,11 +394,11 @@ builtin_call_sound literals defining most room name ws s rest e =
 assigned_sound : (literals defining : Bool) (most room : ℕ) (ws : List Lexeme) (s : Simple) (rest : List Lexeme) → assigned literals most room ws ≡ gave s rest → SimpleSound literals defining most room ws s rest
 unfolding assigned
 assigned_sound literals defining most room ws s rest e =
-    let a = bind_ok (places most ws) (λ all. expect kinds.Assign all.1 >>= λ after. right literals most room after >>= λ value. gave (Assign all.0.0 value.0) value.1) (s, rest) e in
-    let b = bind_ok (expect kinds.Assign a.0.1) (λ after. right literals most room after >>= λ value. gave (Assign a.0.0.0 value.0) value.1) (s, rest) a.2 in
-    let c = made_is (λ (r : Right). Assign a.0.0.0 r) (right literals most room b.0) s rest b.2 in
+    let a = bind_ok (places most ws) (λ all. behind_mark kinds.Assign (right literals most room) all.1 >>= λ value. gave (Assign all.0.0 value.0) value.1) (s, rest) e in
+    let c = made_is (λ (r : Right). Assign a.0.0.0 r) (behind_mark kinds.Assign (right literals most room) a.0.1) s rest a.2 in
+    let b = bind_ok (expect kinds.Assign a.0.1) (right literals most room) (c.0, rest) c.1 in
     let p = places_sound most ws a.0 a.1 in
-    let r = right_sound literals most room b.0 c.0 rest c.1 in
+    let r = right_sound literals most room b.0 c.0 rest b.2 in
     subst (λ (x : Simple). SimpleSound literals defining most room ws x rest) c.2 (record {
       parts = p.parts ∙ ap (joined place_words (behind kinds.Comma) a.0.0.0) (expect_is kinds.Assign a.0.1 b.0 b.1 ∙ ap (λ (x : List Lexeme). Mark kinds.Assign ∷ x) r.parts);
       is = (p.are, r.is);
@@ -409,11 +409,11 @@ assigned_sound literals defining most room ws s rest e =
 defined_sound : (literals : Bool) (most room : ℕ) (ws : List Lexeme) (s : Simple) (rest : List Lexeme) → defined literals most room ws ≡ gave s rest → SimpleSound literals true most room ws s rest
 unfolding defined
 defined_sound literals most room ws s rest e =
-    let a = bind_ok (names kinds.Comma most ws) (λ all. expect kinds.Define all.1 >>= λ after. right literals most room after >>= λ value. gave (Define all.0.0 value.0) value.1) (s, rest) e in
-    let b = bind_ok (expect kinds.Define a.0.1) (λ after. right literals most room after >>= λ value. gave (Define a.0.0.0 value.0) value.1) (s, rest) a.2 in
-    let c = made_is (λ (r : Right). Define a.0.0.0 r) (right literals most room b.0) s rest b.2 in
+    let a = bind_ok (names kinds.Comma most ws) (λ all. behind_mark kinds.Define (right literals most room) all.1 >>= λ value. gave (Define all.0.0 value.0) value.1) (s, rest) e in
+    let c = made_is (λ (r : Right). Define a.0.0.0 r) (behind_mark kinds.Define (right literals most room) a.0.1) s rest a.2 in
+    let b = bind_ok (expect kinds.Define a.0.1) (right literals most room) (c.0, rest) c.1 in
     let n = names_sound kinds.Comma most ws a.0 a.1 in
-    let r = right_sound literals most room b.0 c.0 rest c.1 in
+    let r = right_sound literals most room b.0 c.0 rest b.2 in
     subst (λ (x : Simple). SimpleSound literals true most room ws x rest) c.2 (record {
       parts = n.parts ∙ ap (joined name_words (behind kinds.Comma) a.0.0.0) (expect_is kinds.Define a.0.1 b.0 b.1 ∙ ap (λ (x : List Lexeme). Mark kinds.Define ∷ x) r.parts);
       is = (refl, n.are, r.is);
@@ -421,29 +421,36 @@ defined_sound literals most room ws s rest e =
       few = λ listing. omega (arith, r.few listing, n.count, entries-le listing (length a.0.0.0));
     })
 
+pub before_mark_sound : (kind : TokenKind) (ws : List Lexeme) (p : Place) (rest : List Lexeme) → before_mark kind ws ≡ gave p rest → (ws ≡ place_words p (Mark kind ∷ rest)) × IsPlace p
+before_mark_sound kind ws p rest e =
+    let a = bind_ok (place ws) (λ target. expect kind target.1 >>= λ after. gave target.0 after) (p, rest) e in
+    let b = bind_ok (expect kind a.0.1) (λ after. gave a.0.0 after) (p, rest) a.2 in
+    let t = place_sound ws a.0.0 a.0.1 a.1 in
+    subst (λ (x : Place × List Lexeme). (ws ≡ place_words x.0 (Mark kind ∷ x.1)) × IsPlace x.0) (ok_is (a.0.0, b.0) (p, rest) b.2)
+    (t.0 ∙ ap (place_words a.0.0) (expect_is kind a.0.1 b.0 b.1), t.1)
+
 stepped_sound : (make : Place → Simple) (kind : TokenKind) (literals defining : Bool) (most room : ℕ) → ((p : Place) (rest : List Lexeme) → place_words p (Mark kind ∷ rest) ≡ simple_words (make p) rest) → ((p : Place) → IsPlace p → IsSimple literals defining (make p))
     → ((p : Place) → simple_height (make p) ≡ 0) → ((p : Place) (listing : Listing) → simple_longest listing (make p) ≡ 0)
     → (ws : List Lexeme) (s : Simple) (rest : List Lexeme) → stepped make kind ws ≡ gave s rest → SimpleSound literals defining most room ws s rest
 unfolding stepped
 stepped_sound make kind literals defining most room words is high long ws s rest e =
-    let a = bind_ok (place ws) (λ target. expect kind target.1 >>= λ after. gave (make target.0) after) (s, rest) e in
-    let b = bind_ok (expect kind a.0.1) (λ after. gave (make a.0.0) after) (s, rest) a.2 in
-    let p = place_sound ws a.0.0 a.0.1 a.1 in
-    subst (λ (x : Simple × List Lexeme). SimpleSound literals defining most room ws x.0 x.1) (ok_is (make a.0.0, b.0) (s, rest) b.2) (record {
-      parts = p.0 ∙ ap (place_words a.0.0) (expect_is kind a.0.1 b.0 b.1) ∙ words a.0.0 b.0;
-      is = is a.0.0 p.1;
-      low = omega (arith, high a.0.0);
-      few = λ listing. omega (arith, long a.0.0 listing);
+    let a = made_is make (before_mark kind ws) s rest e in
+    let p = before_mark_sound kind ws a.0 rest a.1 in
+    subst (λ (x : Simple). SimpleSound literals defining most room ws x rest) a.2 (record {
+      parts = p.0 ∙ words a.0 rest;
+      is = is a.0 p.1;
+      low = omega (arith, high a.0);
+      few = λ listing. omega (arith, long a.0 listing);
     })
 
 updated_sound : (literals defining : Bool) (most room : ℕ) (o : BinaryOperator) (ws : List Lexeme) (s : Simple) (rest : List Lexeme) → 4 ≤ precedence o → updated literals most room o ws ≡ gave s rest → SimpleSound literals defining most room ws s rest
 unfolding updated
 updated_sound literals defining most room o ws s rest strong e =
-    let a = bind_ok (place ws) (λ target. expect (update_kind o) target.1 >>= λ after. expression literals most room 0 after >>= λ value. gave (Update target.0 o value.0) value.1) (s, rest) e in
-    let b = bind_ok (expect (update_kind o) a.0.1) (λ after. expression literals most room 0 after >>= λ value. gave (Update a.0.0 o value.0) value.1) (s, rest) a.2 in
-    let c = made_is (λ (v : Expression). Update a.0.0 o v) (expression literals most room 0 b.0) s rest b.2 in
+    let a = bind_ok (place ws) (λ target. behind_mark (update_kind o) (expression literals most room 0) target.1 >>= λ value. gave (Update target.0 o value.0) value.1) (s, rest) e in
+    let c = made_is (λ (v : Expression). Update a.0.0 o v) (behind_mark (update_kind o) (expression literals most room 0) a.0.1) s rest a.2 in
+    let b = bind_ok (expect (update_kind o) a.0.1) (expression literals most room 0) (c.0, rest) c.1 in
     let p = place_sound ws a.0.0 a.0.1 a.1 in
-    let v = value_sound literals most room b.0 c.0 rest c.1 in
+    let v = value_sound literals most room b.0 c.0 rest b.2 in
     subst (λ (x : Simple). SimpleSound literals defining most room ws x rest) c.2 (record {
       parts = p.0 ∙ ap (place_words a.0.0) (expect_is (update_kind o) a.0.1 b.0 b.1 ∙ ap (λ (x : List Lexeme). Mark (update_kind o) ∷ x) v.parts);
       is = (p.1, strong, v.is);
@@ -470,11 +477,11 @@ pub record IsSent {A : Type 0} (make : Expression → Expression → A) (literal
 pub sent_sound : {A : Type 0} (make : Expression → Expression → A) (literals : Bool) (most room : ℕ) (ws : List Lexeme) (x : A) (rest : List Lexeme) → sent make literals most room ws ≡ gave x rest → IsSent make literals most room ws x rest
 unfolding sent
 sent_sound make literals most room ws x rest e =
-    let a = bind_ok (send_operand literals most room ws) (λ channel. expect kinds.Arrow channel.1 >>= λ after. expression literals most room 0 after >>= λ value. gave (make channel.0 value.0) value.1) (x, rest) e in
-    let b = bind_ok (expect kinds.Arrow a.0.1) (λ after. expression literals most room 0 after >>= λ value. gave (make a.0.0 value.0) value.1) (x, rest) a.2 in
-    let c = made_is (make a.0.0) (expression literals most room 0 b.0) x rest b.2 in
+    let a = bind_ok (send_operand literals most room ws) (λ channel. behind_mark kinds.Arrow (expression literals most room 0) channel.1 >>= λ value. gave (make channel.0 value.0) value.1) (x, rest) e in
+    let c = made_is (make a.0.0) (behind_mark kinds.Arrow (expression literals most room 0) a.0.1) x rest a.2 in
+    let b = bind_ok (expect kinds.Arrow a.0.1) (expression literals most room 0) (c.0, rest) c.1 in
     let p = send_operand_sound literals most room ws a.0.0 a.0.1 a.1 in
-    let v = value_sound literals most room b.0 c.0 rest c.1 in
+    let v = value_sound literals most room b.0 c.0 rest b.2 in
     record {
       channel = a.0.0;
       value = c.0;

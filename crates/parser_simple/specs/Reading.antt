@@ -25,6 +25,10 @@ as_one make read = read >>= λ found. Ok (make found.0, found.1)
 abbrev pub needing : {A : Type 0} → (least room : ℕ) → Result A Refusal → Result A Refusal
 needing least room read = if nat_le least room then read else Err TooDeep
 
+-- what stands behind a mark that is wanted here
+abbrev pub behind_mark : {A : Type 0} → TokenKind → (List Lexeme → Reading A) → List Lexeme → Reading A
+behind_mark kind one words = expect kind words >>= one
+
 -- this mark comes next
 unfoldable pub begins_with : TokenKind → List Lexeme → Bool
 begins_with kind (Mark first ∷ rest) = is_kind first kind
@@ -174,17 +178,23 @@ argument literals most room words = do
 -- the size of a channel's buffer behind a comma, if there is one
 unfoldable pub size : Bool → ℕ → ℕ → List Lexeme → Reading (Option Expression)
 size literals most room words =
-    if begins_with kinds.Comma words then (expect kinds.Comma words >>= λ behind. as_one (λ value. Some value) (expression literals most room 0 behind))
+    if begins_with kinds.Comma words then as_one (λ value. Some value) (behind_mark kinds.Comma (expression literals most room 0) words)
     else Ok (None, words)
+
+-- the same, and the closing parenthesis
+abbrev pub size_closed : Bool → ℕ → ℕ → List Lexeme → Reading (Option Expression)
+size_closed literals most room words = do
+  buffer ← size literals most room words
+  after ← expect kinds.RightParenthesis buffer.1
+  Ok (buffer.0, after)
 
 -- what stands behind `make`
 unfoldable pub make : Bool → ℕ → ℕ → List Lexeme → Reading Operation
 make literals most room words = do
   inside ← expect kinds.LeftParenthesis words
   channel ← type_at room inside
-  buffer ← size literals most room channel.1
-  after ← expect kinds.RightParenthesis buffer.1
-  Ok (Make channel.0 buffer.0, after)
+  buffer ← size_closed literals most room channel.1
+  Ok (Make channel.0 buffer.0, buffer.1)
 
 -- a built-in function that makes or measures a channel, behind its name
 unfoldable pub builtin_operation : Bool → ℕ → ℕ → List ℕ → List Lexeme → Reading Operation
@@ -257,28 +267,29 @@ builtin_call literals most room name rest =
 unfoldable pub assigned : Bool → ℕ → ℕ → List Lexeme → Reading Simple
 assigned literals most room words = do
   all ← places most words
-  after ← expect kinds.Assign all.1
-  value ← right literals most room after
+  value ← behind_mark kinds.Assign (right literals most room) all.1
   Ok (Assign all.0.0 value.0, value.1)
 
 -- a `:=`
 unfoldable pub defined : Bool → ℕ → ℕ → List Lexeme → Reading Simple
 defined literals most room words = do
   all ← names kinds.Comma most words
-  after ← expect kinds.Define all.1
-  value ← right literals most room after
+  value ← behind_mark kinds.Define (right literals most room) all.1
   Ok (Define all.0.0 value.0, value.1)
+
+-- a place before this mark
+abbrev pub before_mark : TokenKind → List Lexeme → Reading Place
+before_mark kind words = place words >>= λ target. expect kind target.1 >>= λ after. Ok (target.0, after)
 
 -- a `++` or `--` behind a place
 unfoldable pub stepped : (Place → Simple) → TokenKind → List Lexeme → Reading Simple
-stepped make kind words = place words >>= λ target. expect kind target.1 >>= λ after. Ok (make target.0, after)
+stepped make kind words = as_one make (before_mark kind words)
 
 -- an assignment with an operator
 unfoldable pub updated : Bool → ℕ → ℕ → BinaryOperator → List Lexeme → Reading Simple
 updated literals most room operator words = do
   target ← place words
-  after ← expect (update_kind operator) target.1
-  value ← expression literals most room 0 after
+  value ← behind_mark (update_kind operator) (expression literals most room 0) target.1
   Ok (Update target.0 operator value.0, value.1)
 
 -- what needs a level from what follows a place on
@@ -315,8 +326,7 @@ send_operand literals most room words = fits false literals true 0 room words >>
 unfoldable pub sent : {A : Type 0} → (Expression → Expression → A) → Bool → ℕ → ℕ → List Lexeme → Reading A
 sent make literals most room words = do
   channel ← send_operand literals most room words
-  after ← expect kinds.Arrow channel.1
-  value ← expression literals most room 0 after
+  value ← behind_mark kinds.Arrow (expression literals most room 0) channel.1
   Ok (make channel.0 value.0, value.1)
 
 -- a simple statement, or a send where none was read yet

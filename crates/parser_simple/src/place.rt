@@ -5,10 +5,11 @@ ghost use Rattle.syntax.specs.Measures.{Entries};
 ghost use Rattle.syntax.specs.View.{name_of, place_of};
 ghost use Rattle.parser_base.specs.Cursor.{ahead};
 ghost use Rattle.parser_base.specs.Reading.{Gives, TooMany, plain_name, listed};
-ghost use Rattle.parser_simple.specs.Reading.{begins_name, separator_next, names, fields, place, places};
+ghost use Rattle.parser_simple.specs.Reading.{begins_name, separator_next, names, fields, place, before_mark, places};
 
 use crate::form::{begins_with, name_next};
 use go_text::{Fault, LimitKind};
+use parser_base::beside::beside;
 use parser_base::cursor::Cursor;
 use parser_base::expression::name_node;
 use parser_base::found::Found;
@@ -81,6 +82,18 @@ pub fn place(alloc: Global, cursor: Cursor<'_>) -> Result<Found<'_, PlaceNode>, 
         node: PlaceNode { name, fields },
         rest,
     })
+}
+
+/// A place before this mark, and what follows the mark.
+pub fn place_before(
+    alloc: Global,
+    mark: TokenKind,
+    cursor: Cursor<'_>,
+) -> Result<(PlaceNode, Cursor<'_>), Fault>
+    ensures { Gives (λ x. (place_of x.0, ahead x.1)) result (before_mark mark (ahead cursor.entry)) }
+{
+    let target = place(alloc, cursor)?;
+    beside(target.node, target.rest.expect(mark))
 }
 
 /// Places with a comma between each two.

@@ -6,7 +6,7 @@ ghost use Rattle.syntax.specs.Tree.{Length, Capacity, Call, Receive};
 ghost use Rattle.syntax.specs.View.{expression_of, arguments_of, operation_of, right_of};
 ghost use Rattle.parser_base.specs.Cursor.{ahead};
 ghost use Rattle.parser_base.specs.Reading.{Gives, expression};
-ghost use Rattle.parser_simple.specs.Reading.{as_one, begins_primary, primary, received, arguments, argument, size, make, builtin_operation, begins_operation, operation, value_list, right};
+ghost use Rattle.parser_simple.specs.Reading.{as_one, behind_mark, begins_primary, primary, received, arguments, argument, size, size_closed, make, builtin_operation, begins_operation, operation, value_list, right};
 
 use crate::form::{begins_with, value_next};
 use go_text::{Fault, LimitKind, Place, is_word};
@@ -48,6 +48,24 @@ pub fn primary_expression(
         return Err(Fault::Syntax(cursor.place()));
     }
     expression(alloc, literals, room, 7, cursor)
+}
+
+/// An expression behind this mark. Where there is no room for one, the mark is too deep.
+#[tactic(auto, unfolding(parser_base::specs::Reading::expression))]
+pub fn expression_behind(
+    alloc: Global,
+    literals: bool,
+    room: u32,
+    mark: TokenKind,
+    cursor: Cursor<'_>,
+) -> Result<Found<'_, ExpressionNode>, Fault>
+    ensures { Gives (λ x. (expression_of x.node, ahead x.rest)) result (behind_mark mark (expression literals MAX_ENTRIES room 0) (ahead cursor.entry)) }
+{
+    let rest = cursor.expect(mark)?;
+    if room == 0 {
+        return Err(Fault::TooDeep(cursor.place()));
+    }
+    expression(alloc, literals, room, 0, rest)
 }
 
 /// The operand of a receive, behind its arrow, which stands at `arrow`.
@@ -118,9 +136,21 @@ fn buffer_size(
     if !begins_with(TokenKind::Comma, cursor) {
         return Ok((None, cursor));
     }
-    let behind = cursor.expect(TokenKind::Comma)?;
-    let value = expression(alloc, literals, room, 0, behind)?;
+    let value = expression_behind(alloc, literals, room, TokenKind::Comma, cursor)?;
     Ok((Some(value.node), value.rest))
+}
+
+/// The size of a channel's buffer, if there is one, and the closing parenthesis.
+fn closed_size(
+    alloc: Global,
+    literals: bool,
+    room: u32,
+    cursor: Cursor<'_>,
+) -> Result<(Option<ExpressionNode>, Cursor<'_>), Fault>
+    ensures { Gives (λ x. (option_map expression_of x.0, ahead x.1)) result (size_closed literals MAX_ENTRIES room (ahead cursor.entry)) }
+{
+    let (size, rest) = buffer_size(alloc, literals, room, cursor)?;
+    beside(size, rest.expect(TokenKind::RightParenthesis))
 }
 
 /// What stands behind `make`.
@@ -137,11 +167,12 @@ fn make_call(
     let channel = type_at(alloc, room, inside)?;
     let (kind, (size, rest)) = beside(
         channel.node,
-        buffer_size(alloc, literals, room, channel.rest),
+        closed_size(alloc, literals, room, channel.rest),
     )?;
-    let made = OperationNode::Make(kind, size);
-    let (node, rest) = beside(made, rest.expect(TokenKind::RightParenthesis))?;
-    Ok(Found { node, rest })
+    Ok(Found {
+        node: OperationNode::Make(kind, size),
+        rest,
+    })
 }
 
 /// What stands behind `len`.
@@ -341,4 +372,22 @@ pub fn right_side(
         node: RightNode::Values(values.entries),
         rest: values.rest,
     })
+}
+
+/// The right side of an assignment behind this mark. Where there is no room for one, the mark is too deep.
+#[tactic(auto, unfolding(crate::specs::Reading::right))]
+pub fn right_behind(
+    alloc: Global,
+    literals: bool,
+    room: u32,
+    mark: TokenKind,
+    cursor: Cursor<'_>,
+) -> Result<Found<'_, RightNode>, Fault>
+    ensures { Gives (λ x. (right_of x.node, ahead x.rest)) result (behind_mark mark (right literals MAX_ENTRIES room) (ahead cursor.entry)) }
+{
+    let rest = cursor.expect(mark)?;
+    if room == 0 {
+        return Err(Fault::TooDeep(cursor.place()));
+    }
+    right_side(alloc, literals, room, rest)
 }

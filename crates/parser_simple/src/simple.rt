@@ -9,8 +9,10 @@ ghost use Rattle.parser_base.specs.Reading.{Gives, Reading, TooMany, entry_next,
 ghost use Rattle.parser_simple.specs.Reading.{as_one, begins_part, part, parts, print, received, argument, arguments, builtin_call, assigned, defined, stepped, updated, behind_place, formed, led, send_operand, sent, led_or_sent, simple, defines};
 
 use crate::form::{Form, begins_with, defines, fits, form_of, update_kind};
-use crate::place::{names, place, places};
-use crate::right::{argument, arguments, primary_expression, receive_operand, right_side};
+use crate::place::{names, place, place_before, places};
+use crate::right::{
+    argument, arguments, expression_behind, primary_expression, receive_operand, right_behind,
+};
 use go_text::{Fault, LimitKind, is_word};
 use parser_base::beside::beside;
 use parser_base::cursor::{Cursor, Word, is_builtin};
@@ -223,7 +225,7 @@ fn receive_statement<'a>(
 }
 
 /// An assignment to places.
-#[tactic(auto, unfolding(crate::specs::Reading::assigned, crate::specs::Reading::right))]
+#[tactic(auto, unfolding(crate::specs::Reading::assigned))]
 fn assignment(
     alloc: Global,
     literals: bool,
@@ -233,11 +235,10 @@ fn assignment(
     ensures { Gives (λ x. (simple_of x.node, ahead x.rest)) result (assigned literals MAX_ENTRIES room (ahead cursor.entry)) }
 {
     let all = places(alloc, cursor)?;
-    let (entries, rest) = beside(all.entries, all.rest.expect(TokenKind::Assign))?;
-    if room == 0 {
-        return Err(Fault::TooDeep(all.rest.place()));
-    }
-    let (entries, value) = beside(entries, right_side(alloc, literals, room, rest))?;
+    let (entries, value) = beside(
+        all.entries,
+        right_behind(alloc, literals, room, TokenKind::Assign, all.rest),
+    )?;
     Ok(Found {
         node: SimpleNode::Assign(entries, value.node),
         rest: value.rest,
@@ -245,7 +246,7 @@ fn assignment(
 }
 
 /// A `:=`.
-#[tactic(auto, unfolding(crate::specs::Reading::defined, crate::specs::Reading::right))]
+#[tactic(auto, unfolding(crate::specs::Reading::defined))]
 fn short_var_declaration(
     alloc: Global,
     literals: bool,
@@ -255,11 +256,10 @@ fn short_var_declaration(
     ensures { Gives (λ x. (simple_of x.node, ahead x.rest)) result (defined literals MAX_ENTRIES room (ahead cursor.entry)) }
 {
     let all = names(alloc, TokenKind::Comma, MAX_ENTRIES as usize, cursor)?;
-    let (entries, rest) = beside(all.entries, all.rest.expect(TokenKind::Define))?;
-    if room == 0 {
-        return Err(Fault::TooDeep(all.rest.place()));
-    }
-    let (entries, value) = beside(entries, right_side(alloc, literals, room, rest))?;
+    let (entries, value) = beside(
+        all.entries,
+        right_behind(alloc, literals, room, TokenKind::Define, all.rest),
+    )?;
     Ok(Found {
         node: SimpleNode::Define(entries, value.node),
         rest: value.rest,
@@ -271,8 +271,7 @@ fn short_var_declaration(
 fn increment_statement(alloc: Global, cursor: Cursor<'_>) -> Result<Found<'_, SimpleNode>, Fault>
     ensures { Gives (λ x. (simple_of x.node, ahead x.rest)) result (stepped Increment TokenKind.Increment (ahead cursor.entry)) }
 {
-    let target = place(alloc, cursor)?;
-    let (place, rest) = beside(target.node, target.rest.expect(TokenKind::Increment))?;
+    let (place, rest) = place_before(alloc, TokenKind::Increment, cursor)?;
     Ok(Found {
         node: SimpleNode::Increment(place),
         rest,
@@ -284,8 +283,7 @@ fn increment_statement(alloc: Global, cursor: Cursor<'_>) -> Result<Found<'_, Si
 fn decrement_statement(alloc: Global, cursor: Cursor<'_>) -> Result<Found<'_, SimpleNode>, Fault>
     ensures { Gives (λ x. (simple_of x.node, ahead x.rest)) result (stepped Decrement TokenKind.Decrement (ahead cursor.entry)) }
 {
-    let target = place(alloc, cursor)?;
-    let (place, rest) = beside(target.node, target.rest.expect(TokenKind::Decrement))?;
+    let (place, rest) = place_before(alloc, TokenKind::Decrement, cursor)?;
     Ok(Found {
         node: SimpleNode::Decrement(place),
         rest,
@@ -293,7 +291,7 @@ fn decrement_statement(alloc: Global, cursor: Cursor<'_>) -> Result<Found<'_, Si
 }
 
 /// An assignment with an operator.
-#[tactic(auto, unfolding(crate::specs::Reading::updated, parser_base::specs::Reading::expression))]
+#[tactic(auto, unfolding(crate::specs::Reading::updated))]
 fn operator_assignment(
     alloc: Global,
     literals: bool,
@@ -304,11 +302,10 @@ fn operator_assignment(
     ensures { Gives (λ x. (simple_of x.node, ahead x.rest)) result (updated literals MAX_ENTRIES room operator (ahead cursor.entry)) }
 {
     let target = place(alloc, cursor)?;
-    let (place, rest) = beside(target.node, target.rest.expect(update_kind(operator)))?;
-    if room == 0 {
-        return Err(Fault::TooDeep(target.rest.place()));
-    }
-    let (place, value) = beside(place, expression(alloc, literals, room, 0, rest))?;
+    let (place, value) = beside(
+        target.node,
+        expression_behind(alloc, literals, room, update_kind(operator), target.rest),
+    )?;
     Ok(Found {
         node: SimpleNode::Update(place, operator, value.node),
         rest: value.rest,
@@ -419,8 +416,10 @@ fn send_statement(
     ensures { Gives (λ x. (simple_of x.node, ahead x.rest)) result (sent Send literals MAX_ENTRIES room (ahead cursor.entry)) }
 {
     let channel = send_operand(alloc, literals, room, cursor)?;
-    let (channel, rest) = beside(channel.node, channel.rest.expect(TokenKind::Arrow))?;
-    let (channel, value) = beside(channel, expression(alloc, literals, room, 0, rest))?;
+    let (channel, value) = beside(
+        channel.node,
+        expression_behind(alloc, literals, room, TokenKind::Arrow, channel.rest),
+    )?;
     Ok(Found {
         node: SimpleNode::Send(channel, value.node),
         rest: value.rest,

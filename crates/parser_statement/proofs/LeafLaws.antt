@@ -15,7 +15,7 @@ use Rattle.parser_base.proofs.ExpressionAgain.{shut, begins_again, height_positi
 use Rattle.parser_base.proofs.TypeLaws.{type_sound, type_height_positive}
 use Rattle.parser_base.proofs.Steps.{then_again, made_again, gave, Sound, made_is, either}
 use Rattle.parser_simple.specs.Spelling.{IsName, AreArguments, arguments_words, operation_words, IsOperation, right_words, IsRight}
-use Rattle.parser_simple.specs.Reading.{as_one, begins_with, names, arguments, begins_operation, operation, right, simple}
+use Rattle.parser_simple.specs.Reading.{as_one, behind_mark, begins_with, names, arguments, begins_operation, operation, right, simple}
 use Rattle.parser_simple.proofs.PlaceLaws.{names_again, names_sound}
 use Rattle.parser_simple.proofs.RightLaws.{Stops, needing_again, needing_ok, value_again, arguments_again, below_is, type_outcome, right_positive, operation_again, operation_begins, no_operation, right_again, value_sound, arguments_sound, operation_sound, right_sound}
 use Rattle.parser_simple.proofs.SimpleLaws.{simple_sound}
@@ -264,11 +264,11 @@ InitialSound most room = Sound initial_words (IsAny (IsRight true)) (if_any righ
 
 initial_sound : (most room : ℕ) (ws : List Lexeme) (r : Option Right) (rest : List Lexeme) → behind_next kinds.Assign (right true most room) ws ≡ gave r rest → InitialSound most room ws r rest
 initial_sound most room ws r rest e =
-    elim (either (begins_with kinds.Assign ws) (expect kinds.Assign ws >>= λ after. as_one (λ (x : Right). Some x) (right true most room after)) (gave None ws) (r, rest) e) [
+    elim (either (begins_with kinds.Assign ws) (as_one (λ (x : Right). Some x) (behind_mark kinds.Assign (right true most room) ws)) (gave None ws) (r, rest) e) [
       | inl some ↦
-          let a = bind_ok (expect kinds.Assign ws) (λ after. as_one (λ (x : Right). Some x) (right true most room after)) (r, rest) some.1 in
-          let b = made_is (λ (x : Right). Some x) (right true most room a.0) r rest a.2 in
-          let p = right_sound true most room a.0 b.0 rest b.1 in
+          let b = made_is (λ (x : Right). Some x) (behind_mark kinds.Assign (right true most room) ws) r rest some.1 in
+          let a = bind_ok (expect kinds.Assign ws) (right true most room) (b.0, rest) b.1 in
+          let p = right_sound true most room a.0 b.0 rest a.2 in
           subst (λ (x : Option Right). InitialSound most room ws x rest) b.2 (record {
             parts = expect_is kinds.Assign ws a.0 a.1 ∙ ap (λ (x : List Lexeme). Mark kinds.Assign ∷ x) p.parts;
             is = p.is;
@@ -299,9 +299,9 @@ typed_sound most room all ns ws are s rest e =
 untyped_sound : (most room : ℕ) (all : List Lexeme) (ns : List (List ℕ)) (ws : List Lexeme) → AreVariables most all ns ws → (s : Statement) (rest : List Lexeme) → untyped ns most room ws ≡ gave s rest → StatementSound most (suc room) (Mark kinds.Var ∷ all) s rest
 unfolding untyped
 untyped_sound most room all ns ws are s rest e =
-    let a = bind_ok (expect kinds.Assign ws) (λ after. as_one (VarUntyped ns) (right true most room after)) (s, rest) e in
-    let b = made_is (VarUntyped ns) (right true most room a.0) s rest a.2 in
-    let p = right_sound true most room a.0 b.0 rest b.1 in
+    let b = made_is (VarUntyped ns) (behind_mark kinds.Assign (right true most room) ws) s rest e in
+    let a = bind_ok (expect kinds.Assign ws) (right true most room) (b.0, rest) b.1 in
+    let p = right_sound true most room a.0 b.0 rest a.2 in
     subst (λ (x : Statement). StatementSound most (suc room) (Mark kinds.Var ∷ all) x rest) b.2 (record {
       parts = ap (λ (x : List Lexeme). Mark kinds.Var ∷ x) (are.0 ∙ ap (names_words ns) (expect_is kinds.Assign ws a.0 a.1 ∙ ap (λ (x : List Lexeme). Mark kinds.Assign ∷ x) p.parts));
       is = (are.1, p.is);

@@ -12,7 +12,7 @@ use Rattle.parser_base.specs.Lexemes.{Lexeme, Name, Mark}
 use Rattle.parser_base.specs.Spelling.{is_builtin}
 use Rattle.parser_base.specs.Reading.{Syntax, TooDeep, TooMany, Reading, ◌>>=◌, expect, plain_name, begins, listed, expression}
 use Rattle.parser_base.specs.TypeReading.{type_at}
-use Rattle.parser_simple.specs.Reading.{as_one, needing, begins_with, names, arguments, begins_operation, operation, right, simple}
+use Rattle.parser_simple.specs.Reading.{as_one, behind_mark, needing, begins_with, names, arguments, begins_operation, operation, right, simple}
 use Rattle.parser_header.specs.Reading.{comm, if_header, for_header}
 
 -- ---- what ends a statement
@@ -67,7 +67,7 @@ started most room words = plain_name words >>= λ name. as_one (Go name.0) (argu
 
 -- what is there, if this mark comes next, behind it
 abbrev pub behind_next : {A : Type 0} → TokenKind → (List Lexeme → Reading A) → List Lexeme → Reading (Option A)
-behind_next kind one words = if begins_with kind words then (expect kind words >>= λ after. as_one (λ x. Some x) (one after)) else Ok (None, words)
+behind_next kind one words = if begins_with kind words then as_one (λ x. Some x) (behind_mark kind one words) else Ok (None, words)
 
 -- the type and the values of what is declared
 unfoldable pub typed : List (List ℕ) → ℕ → ℕ → List Lexeme → Reading Statement
@@ -78,7 +78,7 @@ typed all most room words = do
 
 -- the values of what is declared without a type
 unfoldable pub untyped : List (List ℕ) → ℕ → ℕ → List Lexeme → Reading Statement
-untyped all most room words = expect kinds.Assign words >>= λ after. as_one (VarUntyped all) (right true most room after)
+untyped all most room words = as_one (VarUntyped all) (behind_mark kinds.Assign (right true most room) words)
 
 -- the names behind `var`, and their type or values
 unfoldable pub variables : ℕ → ℕ → List Lexeme → Reading Statement
@@ -153,6 +153,11 @@ unfoldable pub no_clause : List Lexeme → Reading OneClause
 no_clause (Mark kinds.Case ∷ rest) = Err TooDeep
 no_clause (Mark kinds.Default ∷ rest) = Err TooDeep
 no_clause words = Err Syntax
+
+-- what follows a statement of a block or, where this holds, of a clause
+abbrev pub next_of : (clause : Bool) → List Lexeme → Reading Next
+next_of true = clause_next
+next_of false = statement_next
 
 -- what follows a clause
 unfoldable pub clauses_next : List Lexeme → Reading Next

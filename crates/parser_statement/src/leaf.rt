@@ -18,7 +18,7 @@ use parser_base::expression::{begins, expression};
 use parser_base::types::type_at;
 use parser_simple::form::begins_with;
 use parser_simple::place::{name_at, names};
-use parser_simple::right::{arguments, begins_operation, operation, right_side};
+use parser_simple::right::{arguments, begins_operation, operation, right_behind};
 use parser_simple::simple;
 use scanner::TokenKind;
 use std::alloc::Global;
@@ -149,8 +149,7 @@ fn initial_values(
     if !begins_with(TokenKind::Assign, cursor) {
         return Ok((None, cursor));
     }
-    let rest = cursor.expect(TokenKind::Assign)?;
-    let found = right_side(alloc, true, room, rest)?;
+    let found = right_behind(alloc, true, room, TokenKind::Assign, cursor)?;
     Ok((Some(found.node), found.rest))
 }
 
@@ -182,8 +181,10 @@ fn untyped_var(
 ) -> Result<(StatementNode, Cursor<'_>), Fault>
     ensures { Gives (λ x. (statement_of x.0, ahead x.1)) result (untyped (map name_of names.items) MAX_ENTRIES room (ahead cursor.entry)) }
 {
-    let (names, rest) = beside(names, cursor.expect(TokenKind::Assign))?;
-    let (names, found) = beside(names, right_side(alloc, true, room, rest))?;
+    let (names, found) = beside(
+        names,
+        right_behind(alloc, true, room, TokenKind::Assign, cursor),
+    )?;
     Ok((StatementNode::Untyped(names, found.node), found.rest))
 }
 

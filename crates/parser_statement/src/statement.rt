@@ -9,7 +9,7 @@ ghost use Rattle.parser_base.specs.Lexemes.{Mark};
 ghost use Rattle.parser_base.specs.Cursor.{ahead};
 ghost use Rattle.parser_base.specs.Reading.{Gives, Fails, Syntax, TooMany, listed};
 ghost use Rattle.parser_simple.specs.Reading.{as_one};
-ghost use Rattle.parser_statement.specs.Reading.{statement_next, clause_next, clauses_next, waited, clause_body, other, otherwise, branched, repeated, one_clause, no_clause, selected, marked, stated, statement, block, branch, clause};
+ghost use Rattle.parser_statement.specs.Reading.{statement_next, clause_next, next_of, clauses_next, waited, clause_body, other, otherwise, branched, repeated, one_clause, no_clause, selected, marked, stated, statement, block, branch, clause};
 ghost use Rattle.parser_statement.specs.Views.{branch_of, otherwise_of, clause_of};
 
 use crate::leaf::{ends_statement, leaf, simple_statement};
@@ -51,6 +51,17 @@ fn clause_next(cursor: Cursor<'_>) -> Result<(Next, Cursor<'_>), Fault>
         return Ok((Next::End(false), cursor));
     }
     Err(Fault::Syntax(cursor.place()))
+}
+
+/// What follows a statement of a block or, where `clause` holds, of a clause.
+fn next_of(clause: bool, cursor: Cursor<'_>) -> Result<(Next, Cursor<'_>), Fault>
+    ensures { Gives (λ x. (x.0, ahead x.1)) result (next_of clause (ahead cursor.entry)) }
+{
+    if clause {
+        clause_next(cursor)
+    } else {
+        statement_next(cursor)
+    }
 }
 
 /// What follows a clause.
@@ -100,21 +111,22 @@ fn clause_node(comm: Option<CommNode>, body: Vec<StatementNode>) -> ClauseNode
 
 // ---- blocks
 
-/// The statements of a block, each of at most so many levels, behind its first brace.
+/// The statements of a block or, where `clause` holds, of a clause, each of at most so many levels, to what ends them.
 #[cycle(statement)]
-pub fn statement_list(
+fn statements_to_end(
     alloc: Global,
     room: u32,
+    clause: bool,
     cursor: Cursor<'_>,
 ) -> Result<List<'_, StatementNode>, Fault>
-    ensures { Gives (λ x. ((map statement_of x.entries.items, x.trailing), ahead x.rest)) result (listed (statement MAX_ENTRIES room) statement_next Syntax (length (ahead cursor.entry)) (ahead cursor.entry)) }
+    ensures { Gives (λ x. ((map statement_of x.entries.items, x.trailing), ahead x.rest)) result (listed (statement MAX_ENTRIES room) (next_of clause) Syntax (length (ahead cursor.entry)) (ahead cursor.entry)) }
 {
     let mut entries = Vec::new(alloc);
     let mut rest = cursor;
     for _ in 0..cursor.len() {
         let (one, behind) = statement(alloc, room, rest)?;
         entries.push(one)?;
-        let (next, after) = statement_next(behind)?;
+        let (next, after) = next_of(clause, behind)?;
         match next {
             Next::More => rest = after,
             Next::End(trailing) => return Ok(List {
@@ -125,6 +137,18 @@ pub fn statement_list(
         }
     }
     Err(Fault::Syntax(rest.place()))
+}
+
+/// The statements of a block, each of at most so many levels, behind its first brace.
+#[cycle(statement)]
+pub fn statement_list(
+    alloc: Global,
+    room: u32,
+    cursor: Cursor<'_>,
+) -> Result<List<'_, StatementNode>, Fault>
+    ensures { Gives (λ x. ((map statement_of x.entries.items, x.trailing), ahead x.rest)) result (listed (statement MAX_ENTRIES room) statement_next Syntax (length (ahead cursor.entry)) (ahead cursor.entry)) }
+{
+    statements_to_end(alloc, room, false, cursor)
 }
 
 /// A block of at most so many levels ("Blocks" of the Go specification).
@@ -247,33 +271,6 @@ fn comm_case(alloc: Global, room: u32, cursor: Cursor<'_>) -> Result<(CommNode, 
     comm_statement(alloc, room - 1, cursor)
 }
 
-/// The statements of a clause, each of at most so many levels, behind its colon.
-#[cycle(statement)]
-fn clause_statement_list(
-    alloc: Global,
-    room: u32,
-    cursor: Cursor<'_>,
-) -> Result<List<'_, StatementNode>, Fault>
-    ensures { Gives (λ x. ((map statement_of x.entries.items, x.trailing), ahead x.rest)) result (listed (statement MAX_ENTRIES room) clause_next Syntax (length (ahead cursor.entry)) (ahead cursor.entry)) }
-{
-    let mut entries = Vec::new(alloc);
-    let mut rest = cursor;
-    for _ in 0..cursor.len() {
-        let (one, behind) = statement(alloc, room, rest)?;
-        entries.push(one)?;
-        let (next, after) = clause_next(behind)?;
-        match next {
-            Next::More => rest = after,
-            Next::End(trailing) => return Ok(List {
-                entries,
-                trailing,
-                rest: after,
-            }),
-        }
-    }
-    Err(Fault::Syntax(rest.place()))
-}
-
 /// A clause from its colon on, with statements of at most so many levels.
 #[cycle(statement)]
 #[tactic(auto, unfolding(crate::specs::Reading::clause_body))]
@@ -286,7 +283,7 @@ fn clause_body(
     ensures { Gives (λ x. (clause_of x.0, ahead x.1)) result (clause_body (statement MAX_ENTRIES room) (option_map comm_of waits) (ahead cursor.entry)) }
 {
     let (waits, rest) = beside(waits, cursor.expect(TokenKind::Colon))?;
-    let (waits, body) = beside(waits, clause_statement_list(alloc, room, rest))?;
+    let (waits, body) = beside(waits, statements_to_end(alloc, room, true, rest))?;
     Ok((clause_node(waits, body.entries), body.rest))
 }
 

@@ -7,7 +7,7 @@ use Rattle.syntax.specs.declared.limits.TheConstants.{MAX_CLAUSES, MAX_ENTRIES}
 use Rattle.parser_base.specs.Cursor.{ahead}
 use Rattle.parser_base.specs.Reading.{Syntax, TooMany}
 use Rattle.parser_base.proofs.Lists.{more, ends, one_fails, next_fails, is_full}
-use Rattle.parser_statement.specs.Reading.{statement, statement_next, clause, clause_next, clauses_next}
+use Rattle.parser_statement.specs.Reading.{statement, next_of, clause, clauses_next}
 use Rattle.parser_statement.specs.Views.{clause_of}
 use Rattle.parser_statement.proofs.Rooms.{statement_begins, clause_begins, block_done, block_fails}
 use Rattle.parser_statement.proofs.statement.+statement.Goals as goal
@@ -27,77 +27,41 @@ pub block-returns : goal.block-returns
 block-returns t c =
     block_done MAX_ENTRIES c.args.room (ahead c.args.cursor) (ahead c.in_ok-rest.rest) (map statement_of c.in_ok-all.all.entries.items) c.in_ok-all.all.trailing (ahead c.in_ok-all.all.rest) (omega arith) c.in_ok-rest.ensures c.in_ok-all.ensures
 
-pub statement_list-returns-in_err-one : goal.statement_list-returns-in_err-one
-statement_list-returns-in_err-one t c =
+pub statements_to_end-returns-in_err-one : goal.statements_to_end-returns-in_err-one
+statements_to_end-returns-in_err-one t c =
     let p = err_from_is_err_and c.from_residual.result c.from_residual.ensures.1 in
     let turns = length (ahead c.args.cursor) in
     let lt : c.loop.counter < turns = omega (arith, c.len-end.ensures) in
-    rw (p.1, p.2) (one_fails c.in_err-one.field-0.0 (statement MAX_ENTRIES c.args.room) statement_next Syntax turns c.loop.counter _ (ahead c.loop.rest) _ lt c.in_err-one.ensures c.loop.invariant.total)
+    rw (p.1, p.2) (one_fails c.in_err-one.field-0.0 (statement MAX_ENTRIES c.args.room) (next_of c.args.clause) Syntax turns c.loop.counter _ (ahead c.loop.rest) _ lt c.in_err-one.ensures c.loop.invariant.total)
 
-pub statement_list-returns-in_err-next : goal.statement_list-returns-in_err-next
-statement_list-returns-in_err-next t c =
+pub statements_to_end-returns-in_err-next : goal.statements_to_end-returns-in_err-next
+statements_to_end-returns-in_err-next t c =
     let p = err_from_is_err_and c.from_residual-in_err-next.result c.from_residual-in_err-next.ensures.1 in
     let turns = length (ahead c.args.cursor) in
     let lt : c.loop.counter < turns = omega (arith, c.len-end.ensures) in
-    rw (p.1, p.2) (next_fails c.in_err-next.field-0.0 (statement MAX_ENTRIES c.args.room) statement_next Syntax turns c.loop.counter _ (ahead c.loop.rest) (statement_of c.in_ok-one.one) (ahead c.in_ok-one.behind) _ lt c.in_ok-one.ensures c.in_err-next.ensures c.loop.invariant.total)
+    rw (p.1, p.2) (next_fails c.in_err-next.field-0.0 (statement MAX_ENTRIES c.args.room) (next_of c.args.clause) Syntax turns c.loop.counter _ (ahead c.loop.rest) (statement_of c.in_ok-one.one) (ahead c.in_ok-one.behind) _ lt c.in_ok-one.ensures c.in_err-next.ensures c.loop.invariant.total)
 
-pub statement_list-returns-in-End : goal.statement_list-returns-in-End
-statement_list-returns-in-End t c =
+pub statements_to_end-returns-in-End : goal.statements_to_end-returns-in-End
+statements_to_end-returns-in-End t c =
     let pushed = chosen _ _ _ _ c.push.ensures.items (ap is_ok c.in_ok-push.was) in
     let turns = length (ahead c.args.cursor) in
     let lt : c.loop.counter < turns = omega (arith, c.len-end.ensures) in
-    rw pushed (ends statement_of (statement MAX_ENTRIES c.args.room) statement_next Syntax turns c.loop.counter c.loop.entries.items (ahead c.loop.rest) c.in_ok-one.one c.in-End.trailing (ahead c.in_ok-one.behind) (ahead c.in_ok-next.after) _ lt c.in_ok-one.ensures (rw c.in-End.is at c.in_ok-next.ensures) c.loop.invariant.total)
+    rw pushed (ends statement_of (statement MAX_ENTRIES c.args.room) (next_of c.args.clause) Syntax turns c.loop.counter c.loop.entries.items (ahead c.loop.rest) c.in_ok-one.one c.in-End.trailing (ahead c.in_ok-one.behind) (ahead c.in_ok-next.after) _ lt c.in_ok-one.ensures (rw c.in-End.is at c.in_ok-next.ensures) c.loop.invariant.total)
 
-pub statement_list-loop-preserved : goal.statement_list-loop-preserved
-statement_list-loop-preserved t c =
+pub statements_to_end-loop-preserved : goal.statements_to_end-loop-preserved
+statements_to_end-loop-preserved t c =
     let pushed = chosen _ _ _ _ c.push.ensures.items (ap is_ok c.in_ok-push.was) in
     let turns = length (ahead c.args.cursor) in
     let lt : c.loop.counter < turns = omega (arith, c.len-end.ensures) in
     record {
-      total = rw pushed (more statement_of (statement MAX_ENTRIES c.args.room) statement_next Syntax turns c.loop.counter c.loop.entries.items (ahead c.loop.rest) c.in_ok-one.one (ahead c.in_ok-one.behind) (ahead c.in_ok-next.after) _ lt c.in_ok-one.ensures (rw c.in-More.is at c.in_ok-next.ensures) c.loop.invariant.total);
+      total = rw pushed (more statement_of (statement MAX_ENTRIES c.args.room) (next_of c.args.clause) Syntax turns c.loop.counter c.loop.entries.items (ahead c.loop.rest) c.in_ok-one.one (ahead c.in_ok-one.behind) (ahead c.in_ok-next.after) _ lt c.in_ok-one.ensures (rw c.in-More.is at c.in_ok-next.ensures) c.loop.invariant.total);
     }
 
-pub statement_list-returns : goal.statement_list-returns
-statement_list-returns t c =
+pub statements_to_end-returns : goal.statements_to_end-returns
+statements_to_end-returns t c =
     let turns = length (ahead c.args.cursor) in
     let le : turns ≤ c.loop.counter = omega (arith, c.len-end.ensures) in
-    is_full (statement MAX_ENTRIES c.args.room) statement_next Syntax turns c.loop.counter _ (ahead c.loop.rest) _ le c.loop.invariant.total
-
-pub clause_statement_list-returns-in_err-one : goal.clause_statement_list-returns-in_err-one
-clause_statement_list-returns-in_err-one t c =
-    let p = err_from_is_err_and c.from_residual.result c.from_residual.ensures.1 in
-    let turns = length (ahead c.args.cursor) in
-    let lt : c.loop.counter < turns = omega (arith, c.len-end.ensures) in
-    rw (p.1, p.2) (one_fails c.in_err-one.field-0.0 (statement MAX_ENTRIES c.args.room) clause_next Syntax turns c.loop.counter _ (ahead c.loop.rest) _ lt c.in_err-one.ensures c.loop.invariant.total)
-
-pub clause_statement_list-returns-in_err-next : goal.clause_statement_list-returns-in_err-next
-clause_statement_list-returns-in_err-next t c =
-    let p = err_from_is_err_and c.from_residual-in_err-next.result c.from_residual-in_err-next.ensures.1 in
-    let turns = length (ahead c.args.cursor) in
-    let lt : c.loop.counter < turns = omega (arith, c.len-end.ensures) in
-    rw (p.1, p.2) (next_fails c.in_err-next.field-0.0 (statement MAX_ENTRIES c.args.room) clause_next Syntax turns c.loop.counter _ (ahead c.loop.rest) (statement_of c.in_ok-one.one) (ahead c.in_ok-one.behind) _ lt c.in_ok-one.ensures c.in_err-next.ensures c.loop.invariant.total)
-
-pub clause_statement_list-returns-in-End : goal.clause_statement_list-returns-in-End
-clause_statement_list-returns-in-End t c =
-    let pushed = chosen _ _ _ _ c.push.ensures.items (ap is_ok c.in_ok-push.was) in
-    let turns = length (ahead c.args.cursor) in
-    let lt : c.loop.counter < turns = omega (arith, c.len-end.ensures) in
-    rw pushed (ends statement_of (statement MAX_ENTRIES c.args.room) clause_next Syntax turns c.loop.counter c.loop.entries.items (ahead c.loop.rest) c.in_ok-one.one c.in-End.trailing (ahead c.in_ok-one.behind) (ahead c.in_ok-next.after) _ lt c.in_ok-one.ensures (rw c.in-End.is at c.in_ok-next.ensures) c.loop.invariant.total)
-
-pub clause_statement_list-loop-preserved : goal.clause_statement_list-loop-preserved
-clause_statement_list-loop-preserved t c =
-    let pushed = chosen _ _ _ _ c.push.ensures.items (ap is_ok c.in_ok-push.was) in
-    let turns = length (ahead c.args.cursor) in
-    let lt : c.loop.counter < turns = omega (arith, c.len-end.ensures) in
-    record {
-      total = rw pushed (more statement_of (statement MAX_ENTRIES c.args.room) clause_next Syntax turns c.loop.counter c.loop.entries.items (ahead c.loop.rest) c.in_ok-one.one (ahead c.in_ok-one.behind) (ahead c.in_ok-next.after) _ lt c.in_ok-one.ensures (rw c.in-More.is at c.in_ok-next.ensures) c.loop.invariant.total);
-    }
-
-pub clause_statement_list-returns : goal.clause_statement_list-returns
-clause_statement_list-returns t c =
-    let turns = length (ahead c.args.cursor) in
-    let le : turns ≤ c.loop.counter = omega (arith, c.len-end.ensures) in
-    is_full (statement MAX_ENTRIES c.args.room) clause_next Syntax turns c.loop.counter _ (ahead c.loop.rest) _ le c.loop.invariant.total
+    is_full (statement MAX_ENTRIES c.args.room) (next_of c.args.clause) Syntax turns c.loop.counter _ (ahead c.loop.rest) _ le c.loop.invariant.total
 
 pub comm_clauses-returns-in_err-one : goal.comm_clauses-returns-in_err-one
 comm_clauses-returns-in_err-one t c =

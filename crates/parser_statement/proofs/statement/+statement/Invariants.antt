@@ -5,7 +5,7 @@ use Rattle.syntax.specs.declared.limits.TheConstants.{MAX_CLAUSES, MAX_ENTRIES}
 use Rattle.parser_base.specs.Cursor.{ahead}
 use Rattle.parser_base.specs.Reading.{Syntax, TooMany, listed}
 use Rattle.parser_base.proofs.Lists.{with_front}
-use Rattle.parser_statement.specs.Reading.{statement, statement_next, clause, clause_next, clauses_next}
+use Rattle.parser_statement.specs.Reading.{statement, next_of, clause, clauses_next}
 use Rattle.parser_statement.specs.Views.{clause_of}
 use Rattle.parser_statement.proofs.statement.+statement.Given as goal
 
@@ -16,7 +16,7 @@ abbrev pub decreases-keyword_statement : goal.decreases-keyword_statement
 decreases-keyword_statement l = 8 * l.room + 4
 
 abbrev pub decreases-statement_list : goal.decreases-statement_list
-decreases-statement_list l = 8 * l.room + 1
+decreases-statement_list l = 8 * l.room + 2
 
 abbrev pub decreases-block : goal.decreases-block
 decreases-block l = 8 * l.room
@@ -33,8 +33,8 @@ decreases-if_statement l = 8 * l.room + 3
 abbrev pub decreases-for_statement : goal.decreases-for_statement
 decreases-for_statement l = 8 * l.room + 3
 
-abbrev pub decreases-clause_statement_list : goal.decreases-clause_statement_list
-decreases-clause_statement_list l = 8 * l.room + 1
+abbrev pub decreases-statements_to_end : goal.decreases-statements_to_end
+decreases-statements_to_end l = 8 * l.room + 1
 
 abbrev pub decreases-clause_body : goal.decreases-clause_body
 decreases-clause_body l = 8 * l.room + 2
@@ -54,14 +54,9 @@ decreases-comm_clauses l = 8 * l.room + 1
 abbrev pub decreases-select_statement : goal.decreases-select_statement
 decreases-select_statement l = 8 * l.room + 2
 
-abbrev pub invariant-statement_list-loop : goal.invariant-statement_list-loop
-invariant-statement_list-loop l = record {
-  total : with_front (map statement_of l.entries.items) (listed (statement MAX_ENTRIES l.room) statement_next Syntax (length (ahead l.fn.cursor) - l.counter) (ahead l.rest)) ≡ listed (statement MAX_ENTRIES l.room) statement_next Syntax (length (ahead l.fn.cursor)) (ahead l.fn.cursor);
-}
-
-abbrev pub invariant-clause_statement_list-loop : goal.invariant-clause_statement_list-loop
-invariant-clause_statement_list-loop l = record {
-  total : with_front (map statement_of l.entries.items) (listed (statement MAX_ENTRIES l.room) clause_next Syntax (length (ahead l.fn.cursor) - l.counter) (ahead l.rest)) ≡ listed (statement MAX_ENTRIES l.room) clause_next Syntax (length (ahead l.fn.cursor)) (ahead l.fn.cursor);
+abbrev pub invariant-statements_to_end-loop : goal.invariant-statements_to_end-loop
+invariant-statements_to_end-loop l = record {
+  total : with_front (map statement_of l.entries.items) (listed (statement MAX_ENTRIES l.room) (next_of l.clause) Syntax (length (ahead l.fn.cursor) - l.counter) (ahead l.rest)) ≡ listed (statement MAX_ENTRIES l.room) (next_of l.clause) Syntax (length (ahead l.fn.cursor)) (ahead l.fn.cursor);
 }
 
 abbrev pub invariant-comm_clauses-loop : goal.invariant-comm_clauses-loop
