@@ -1,7 +1,8 @@
 -- Instructions of operators, behind those of their operands.
 use Rattle.std.proofs.Common.{◌≡◌, ℕ, ℤ, ◌+◌, ◌<◌, ◌≤◌, Bool, true, false, not, ◌&&◌, ◌||◌, List, [], ◌∷◌, ◌++◌, length, map, take, Option, Some, None, Result, Ok, Err, refl, sym, ap, ◌∙◌, subst, arith, append_assoc}
 use Rattle.std.specs.Prelude.{if◌then◌else◌, bytes_eq, codes}
-use Rattle.std.specs.Prelude.{option_map}
+use Rattle.std.specs.Prelude.{option_map, option_and_then}
+use Rattle.std.specs.Result.{result_ok}
 use Rattle.std.proofs.lemmas.Option.{same_Some}
 use Rattle.std.proofs.lemmas.List.{append-nil}
 use Rattle.syntax.specs.declared.node.UnaryOperator.{UnaryOperator}
@@ -217,6 +218,12 @@ constant_emits made is old new part same = subst (λ m. Emits (Some m) old new p
 pub both_known : (globals : Globals) (scope : Scope) (left right : Expression) (P : Option Worth → Option Worth → Type 0) (a b : Worth) → worth globals scope left ≡ Some a → worth globals scope right ≡ Some b → P (Some a) (Some b) → P (worth globals scope left) (worth globals scope right)
 both_known globals scope left right P a b wa wb p = subst (λ x. P x (worth globals scope right)) (sym wa) (subst (P (Some a)) (sym wb) p)
 
+-- what an operation is worth
+pub worth_between : (globals : Globals) (scope : Scope) (operator : BinaryOperator) (left right : Expression) (a b made : Worth) → worth globals scope left ≡ Some a → worth globals scope right ≡ Some b → binary_worth operator a b ≡ Ok made
+    → worth globals scope (Binary operator left right) ≡ Some made
+worth_between globals scope operator left right a b made wa wb ok =
+    both_known globals scope left right (λ x y. option_and_then (λ m. option_and_then (λ n. result_ok (binary_worth operator m n)) y) x ≡ Some made) a b wa wb (ap result_ok ok)
+
 -- the same of expressions
 pub emits_binary : (globals : Globals) (elements : List Element) (scope : Scope) (operator : BinaryOperator) (left right : Expression) (a b made : Worth) (i0 i1 i2 i3 i4 : List Instr) → is_logical operator ≡ false
     → worth globals scope left ≡ Some a → worth globals scope right ≡ Some b → binary_worth operator a b ≡ Ok made → Emits (Some a) i0 i1 (emits globals elements scope left) → i2 ≡ i1 ++ at_once a
@@ -237,6 +244,9 @@ emits_selection globals elements scope whole field (Typed kind) made i0 i1 i2 w 
       emits_typed made (k, sym (same_Some (Typed k) made is)) i0 i2 (emits globals elements scope (Selection whole field)) (rw w (puts_both i0 i1 i2 (emits globals elements scope whole) (Do pick) p (puts_do i1 i2 pick e)))
 emits_selection globals elements scope whole field (Constant v) made i0 i1 i2 w s p e = absurd cc
 emits_selection globals elements scope whole field Nil made i0 i1 i2 w s p e = absurd cc
+
+pub worth_before : (globals : Globals) (scope : Scope) (operator : UnaryOperator) (operand : Expression) (a made : Worth) → worth globals scope operand ≡ Some a → unary_worth operator a ≡ Ok made → worth globals scope (Unary operator operand) ≡ Some made
+worth_before globals scope operator operand a made w ok = ap (option_and_then (λ x. result_ok (unary_worth operator x))) w ∙ ap result_ok ok
 
 -- an operator before an operand
 pub emits_unary : (globals : Globals) (elements : List Element) (scope : Scope) (operator : UnaryOperator) (operand : Expression) (a made : Worth) (i0 i1 i2 : List Instr) → worth globals scope operand ≡ Some a → unary_worth operator a ≡ Ok made

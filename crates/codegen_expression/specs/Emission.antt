@@ -1,6 +1,6 @@
 -- Instructions that are appended for a part of a plan, whatever comes behind it.
 use Rattle.std.specs.Int.{w64, int_wrap}
-use Rattle.std.specs.Prelude.{◌≡◌, ℕ, ℤ, List, [], ◌∷◌, ◌++◌, length, take, Option, Some, None}
+use Rattle.std.specs.Prelude.{◌≡◌, ◌+◌, ℕ, ℤ, true, false, List, [], ◌∷◌, ◌++◌, length, slice_set, take, Option, Some, None}
 use Rattle.syntax.specs.declared.node.UnaryOperator.{UnaryOperator}
 use Rattle.syntax.specs.declared.node.UnaryOperator.TheVariants as signs
 use Rattle.syntax.specs.declared.node.BinaryOperator.{BinaryOperator}
@@ -79,6 +79,14 @@ operated elements operator left right made first code = code ++ finishing elemen
 abbrev pub signed_with : UnaryOperator → Worth → List Instr
 signed_with operator (Typed kind) = listed (signing operator)
 signed_with operator worth = []
+
+-- behind the right operand of `&&` comes `false`, to which the instruction `test` leads
+abbrev pub or_false : ℕ → List Instr → List Instr
+or_false test code = slice_set code test (instrs.Unless (length code + 1)) ++ instrs.Jump (length code + 2) ∷ instrs.Bool false ∷ []
+
+-- behind the left operand of `||`, so many instructions from the start: `true` where it is, and a jump that is aimed later
+abbrev pub true_or : ℕ → List Instr
+true_or start = instrs.Unless (start + 3) ∷ instrs.Bool true ∷ instrs.Jump 0 ∷ []
 
 -- a field is kept of an operand
 abbrev pub picks : Globals → List Element → Worth → List ℕ → List Instr

@@ -1,6 +1,6 @@
 //! Expressions: the instructions that push their values ("Expressions" of the Go specification).
 
-ghost use Rattle.std.specs.Prelude.{◌≡◌, ◌++◌, ◌∷◌, [], Bool, IfOk, Ok, OnOk, Some, false, map, slice_set, take};
+ghost use Rattle.std.specs.Prelude.{◌≡◌, ◌+◌, ◌++◌, ◌∷◌, [], Bool, IfOk, Ok, OnOk, Some, false, length, map, slice_set, take};
 ghost use Rattle.syntax.specs.Tree.{Binary, Composite, Named, expressions};
 ghost use Rattle.syntax.specs.View.{expression_of, name_of};
 ghost use Rattle.type_table.specs.Views.{field_in, kind_of};
@@ -8,7 +8,7 @@ ghost use Rattle.type_table.specs.Visible.{globals_in, scope_of, types_of};
 ghost use Rattle.checker_base.specs.Views.{IsSmall, worth_of};
 ghost use Rattle.checker_base.specs.Worths.{binary_worth, is_logical, selected_worth, unary_worth, worth};
 ghost use Rattle.codegen_base.specs.Pushes.{emits, emits_fields, kinds_in, operator_of};
-ghost use Rattle.codegen_expression.specs.Emission.{Emits, Puts, comparing, literal_part, operated, picks, settling, signed_with};
+ghost use Rattle.codegen_expression.specs.Emission.{Emits, Puts, comparing, literal_part, operated, or_false, picks, settling, signed_with, true_or};
 
 use crate::element_list::ElementList;
 use crate::halt::Halt;
@@ -130,8 +130,7 @@ pub fn emit<'t, 'l, 'v, 'e, 'm, 'k>(
         }
         ExpressionNode::Unary(operator, operand) => {
             let operand = emit(alloc, table, elements, visible, operand, code)?;
-            let made = emit_sign(*operator, operand, code)?;
-            Ok(made)
+            emit_sign(*operator, operand, code)
         }
         ExpressionNode::Binary(operator, left, right) => match operator {
             BinaryOperator::LogicalAnd => emit_and(
@@ -168,8 +167,26 @@ fn emit_binary<'t, 'l, 'v, 'e, 'f, 'm, 'k>(
     let first = code.len();
     push_constant(a, code)?;
     let b = emit(alloc, table, elements, visible, right, code)?;
-    let made = made_between(table, operator, a, b)?;
-    operate(table, elements, operator, a, b, made, first, code)?;
+    end_binary(table, elements, operator, a, b, first, code)
+}
+
+/// What an operator does whose operands are pushed, and what is made of them; of two constants so many instructions stay.
+fn end_binary<'t>(
+    table: &TypeTable<'_>,
+    elements: &ElementList,
+    operator: BinaryOperator,
+    left: Worth<'_>,
+    right: Worth<'_>,
+    first: usize,
+    code: &mut Vec<Instr>,
+) -> Result<Worth<'t>, Halt>
+    requires left { IsSmall left }
+    requires right { IsSmall right }
+    ensures small { IfOk result IsSmall }
+    ensures made { IfOk result (λ w. (binary_worth operator (worth_of (types_of table.now) left.entry) (worth_of (types_of table.now) right.entry) ≡ Ok (worth_of (types_of table.now) w)) × (code.new.items ≡ operated elements.now operator (worth_of (types_of table.now) left.entry) (worth_of (types_of table.now) right.entry) (worth_of (types_of table.now) w) first code.old.items)) }
+{
+    let made = made_between(table, operator, left, right)?;
+    operate(table, elements, operator, left, right, made, first, code)?;
     Ok(made)
 }
 
@@ -315,9 +332,8 @@ fn emit_sign<'t>(
     code: &mut Vec<Instr>,
 ) -> Result<Worth<'t>, Halt>
     requires { IsSmall operand }
-    ensures worth { IfOk result (λ w. (types : _) → unary_worth operator (worth_of types operand.entry) ≡ Ok (worth_of types w)) }
     ensures small { IfOk result IsSmall }
-    ensures emitted { (types : _) → OnOk result (code.new.items ≡ code.old.items ++ signed_with operator (worth_of types operand.entry)) }
+    ensures made { IfOk result (λ w. ((types : _) → unary_worth operator (worth_of types operand.entry) ≡ Ok (worth_of types w)) × ((types : _) → code.new.items ≡ code.old.items ++ signed_with operator (worth_of types operand.entry))) }
 {
     let Ok(made) = unary_worth(operator, operand) else {
         return Err(Halt::Flawed);
@@ -358,12 +374,27 @@ fn emit_and<'t, 'l, 'v, 'e, 'f, 'm, 'k>(
     let test = code.len();
     code.push(Instr::Unless(0))?;
     let b = emit(alloc, table, elements, visible, right, code)?;
-    let made = made_between(table, BinaryOperator::LogicalAnd, a, b)?;
-    let over = code.len();
-    code.push(Instr::Jump(0))?;
-    aim(code, test, Instr::Unless(number(code.len())?));
+    end_and(table, a, b, test, code)
+}
+
+/// Behind the right operand of `&&` comes `false`, to which the test of the left one leads.
+fn end_and<'t>(
+    table: &TypeTable<'_>,
+    left: Worth<'_>,
+    right: Worth<'_>,
+    test: usize,
+    code: &mut Vec<Instr>,
+) -> Result<Worth<'t>, Halt>
+    requires left { IsSmall left }
+    requires right { IsSmall right }
+    ensures small { IfOk result IsSmall }
+    ensures made { IfOk result (λ w. (binary_worth BinaryOperator.LogicalAnd (worth_of (types_of table.now) left.entry) (worth_of (types_of table.now) right.entry) ≡ Ok (worth_of (types_of table.now) w)) × (code.new.items ≡ or_false test code.old.items)) }
+{
+    let made = made_between(table, BinaryOperator::LogicalAnd, left, right)?;
+    let end = code.len();
+    aim(code, test, Instr::Unless(number(end + 1)?));
+    code.push(Instr::Jump(number(end + 2)?))?;
     code.push(Instr::Bool(false))?;
-    aim(code, over, Instr::Jump(number(code.len())?));
     Ok(made)
 }
 
@@ -383,12 +414,38 @@ fn emit_or<'t, 'l, 'v, 'e, 'f, 'm, 'k>(
     ensures emitted { IfOk result (λ w. Emits (Some (worth_of (types_of table.now) w)) code.old.items code.new.items (emits (globals_in table.now) elements.now (scope_of table.now visible.now) (Binary BinaryOperator.LogicalOr (expression_of left.now) (expression_of right.now)))) }
 {
     let a = emit(alloc, table, elements, visible, left, code)?;
+    let over = start_or(code)?;
+    let b = emit(alloc, table, elements, visible, right, code)?;
+    end_or(table, a, b, over, code)
+}
+
+/// Behind the left operand of `||` comes `true` where it is, and a jump over the right one, at the place that is answered.
+fn start_or(code: &mut Vec<Instr>) -> Result<usize, Halt>
+    ensures place { IfOk result (λ over. over ≡ length code.old.items + 2) }
+    ensures emitted { OnOk result (code.new.items ≡ code.old.items ++ true_or (length code.old.items)) }
+{
     let test = code.len();
     code.push(Instr::Unless(number(test + 3)?))?;
     code.push(Instr::Bool(true))?;
     code.push(Instr::Jump(0))?;
-    let b = emit(alloc, table, elements, visible, right, code)?;
-    let made = made_between(table, BinaryOperator::LogicalOr, a, b)?;
-    aim(code, test + 2, Instr::Jump(number(code.len())?));
+    Ok(test + 2)
+}
+
+/// Behind the right operand of `||`: the jump over it leads there.
+fn end_or<'t>(
+    table: &TypeTable<'_>,
+    left: Worth<'_>,
+    right: Worth<'_>,
+    over: usize,
+    code: &mut Vec<Instr>,
+) -> Result<Worth<'t>, Halt>
+    requires left { IsSmall left }
+    requires right { IsSmall right }
+    ensures small { IfOk result IsSmall }
+    ensures made { IfOk result (λ w. (binary_worth BinaryOperator.LogicalOr (worth_of (types_of table.now) left.entry) (worth_of (types_of table.now) right.entry) ≡ Ok (worth_of (types_of table.now) w)) × (code.new.items ≡ slice_set code.old.items over (Instr.Jump (length code.old.items)))) }
+{
+    let made = made_between(table, BinaryOperator::LogicalOr, left, right)?;
+    let end = number(code.len())?;
+    aim(code, over, Instr::Jump(end));
     Ok(made)
 }
