@@ -4,7 +4,7 @@ use Rattle.kendo.specs.Answers.{EndsAs, Finds, HasReading, IsReason, IsStatus, T
 use Rattle.command_line.specs.declared.arguments.Subcommand.{Subcommand}
 use Rattle.command_line.specs.declared.arguments.Subcommand.TheVariants as subcommands
 use Rattle.kendo_front.specs.Outcome.{fault_status, report_status}
-use Rattle.kendo_front.specs.Reading.{HasNoReading, IsOfText, IsRefusal, IsWhy}
+use Rattle.kendo_reading.specs.Reading.{HasNoReading, IsOfText, IsRefusal, IsWhy}
 use Rattle.worker_pool.specs.Runs.{IsWorkers}
 use Rattle.one_thread.specs.Worlds.{IsLimit}
 use Rattle.go_text.specs.declared.fault.Fault.{Fault}

@@ -4,7 +4,7 @@
 ghost use Rattle.std.specs.Prelude.{◌≡◌, ◌⊎◌, ◌↔◌, ◌≤◌, IsErr, IsErrOf, IfErr, IfOk, map, string_bytes};
 ghost use Rattle.clap.specs.Values.{kind_of};
 ghost use Rattle.kendo.specs.Answers.{EndsAs, Finds, HasReading, IsStatus, Obeys, ShowsAs, Tells};
-ghost use Rattle.kendo_front.specs.Reading.{HasNoReading, IsOfText, IsRefusal, IsWhy};
+ghost use Rattle.kendo_reading.specs.Reading.{HasNoReading, IsOfText, IsRefusal, IsWhy};
 ghost use Rattle.worker_pool.specs.Runs.{IsWorkers};
 ghost use Rattle.one_thread.specs.Worlds.{IsLimit};
 
@@ -17,7 +17,9 @@ use command_line::arguments::{Invocation, Subcommand, command, invocation_of};
 use diagnostic::explanation;
 use go_text::source::MAX_LENGTH;
 use go_text::{Fault, Memory};
-use kendo_base::{Gate, check_bytes, explain_end, list_bytes, reference_bytes, report, run_bytes};
+use kendo_base::{Gate, list_bytes, run_bytes};
+use kendo_front::{explain_end, reference_bytes, report};
+use kendo_reading::check_bytes;
 use pictures::picture;
 use std::alloc::Global;
 use std::fs::File;

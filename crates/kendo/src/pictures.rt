@@ -2,7 +2,7 @@
 
 ghost use Rattle.std.specs.Prelude.{◌≡◌, ◌⊎◌, IfErr, IfOk, IsErrOf};
 ghost use Rattle.kendo.specs.Answers.{HasReading};
-ghost use Rattle.kendo_front.specs.Reading.{HasNoReading, IsRefusal, IsWhy};
+ghost use Rattle.kendo_reading.specs.Reading.{HasNoReading, IsRefusal, IsWhy};
 ghost use Rattle.one_thread.specs.Worlds.{IsLimit};
 
 use crate::flush;

@@ -1,4 +1,4 @@
-//! The whole product over bytes: a run of a text, its listing and its recording, beside what `kendo_front` makes of it.
+//! From bytes to what needs code: a run of a text, its listing and its recording.
 #![tactic(auto)]
 
 mod listing;
@@ -6,7 +6,6 @@ mod pictures;
 pub mod run;
 mod running;
 
-pub use kendo_front::{check_bytes, explain_end, reference_bytes, report};
 pub use listing::list_bytes;
 pub use pictures::timeline_bytes;
 pub use run::run_bytes;

@@ -2,7 +2,7 @@
 
 ghost use Rattle.std.specs.Prelude.{◌≡◌, ◌≤◌, ◌⊎◌, ◌↔◌, IfErr, IfNone, IfOk, IfSome, IsErrOf, length, map};
 ghost use Rattle.meaning.specs.Source.{source_kind};
-ghost use Rattle.kendo_front.specs.Reading.{HasNoReading, IsRefusal, IsWhy, Reads};
+ghost use Rattle.kendo_reading.specs.Reading.{HasNoReading, IsRefusal, IsWhy, Reads};
 ghost use Rattle.kendo_base.specs.Recorded.{IsRecorded};
 ghost use Rattle.one_thread.specs.Worlds.{IsLimit};
 ghost use Rattle.syntax.specs.Tree.{File};
@@ -14,7 +14,7 @@ ghost use Rattle.syntax.specs.Spans.{tree_of};
 use checker::Typed;
 use codegen::compile;
 use go_text::Fault;
-use kendo_front::read;
+use kendo_reading::read;
 use recorder::record;
 use std::alloc::Global;
 use std::sync::Arc;
@@ -25,7 +25,7 @@ use verifier::verify;
 /// many, and how the run ended where it has no more: what a picture of the run shows. What it prints is not written.
 ///
 /// Errors: by the numbers 1 to 10 why the text is no program, with line and column; `Memory`; `BadLimit`.
-#[tactic(auto, using(kendo_front::proofs::Spelled::grammatical, kendo_front::proofs::Spelled::limited))]
+#[tactic(auto, using(kendo_reading::proofs::Spelled::grammatical, kendo_reading::proofs::Spelled::limited))]
 pub fn timeline_bytes(
     alloc: Global,
     bytes: Vec<u8>,

@@ -2,7 +2,7 @@
 
 ghost use Rattle.std.specs.Prelude.{◌≡◌, ◌≤◌, ◌⊎◌, ◌↔◌, IfErr, IfOk, IsErrOf, true};
 ghost use Rattle.meaning.specs.Source.{source_kind};
-ghost use Rattle.kendo_front.specs.Reading.{HasNoReading, IsRefusal, IsWhy, Reads};
+ghost use Rattle.kendo_reading.specs.Reading.{HasNoReading, IsRefusal, IsWhy, Reads};
 ghost use Rattle.one_thread.specs.Worlds.{BeginsOutput, IsLimit, IsWhole};
 ghost use Rattle.syntax.specs.Tree.{File};
 ghost use Rattle.tracer.specs.Trace.{BeginsTrace, IsWholeTrace};
@@ -10,7 +10,7 @@ ghost use Rattle.worker_pool.specs.Runs.{IsWorkers};
 
 use crate::running::run_typed;
 use go_text::Fault;
-use kendo_front::read;
+use kendo_reading::read;
 use std::alloc::Global;
 use std::sync::Wait;
 use std::thread::Threads;
@@ -24,7 +24,7 @@ use worker_pool::{Gate, TraceWriter};
 /// without a reading is refused before anything is written.
 ///
 /// Errors: by the numbers 1 to 10 why it is none, with line and column; `Memory`; `Write`; `BadWorkers`; `BadLimit`.
-#[tactic(auto, using(kendo_front::proofs::Spelled::grammatical, kendo_front::proofs::Spelled::limited))]
+#[tactic(auto, using(kendo_reading::proofs::Spelled::grammatical, kendo_reading::proofs::Spelled::limited))]
 pub fn run_bytes<R: Threads + Wait + Sync, G: Gate + Sync, O: Write, T: TraceWriter>(
     rt: &R,
     alloc: Global,

@@ -16,8 +16,8 @@ use Rattle.parser.proofs.FileLaws.{one_file}
 use Rattle.parser_base.specs.Lexemes.{lexemes}
 use Rattle.syntax.specs.Tree.{File}
 use Rattle.one_thread.specs.Worlds.{IsWhole}
-use Rattle.kendo_front.specs.Reading.{Reads}
-use Rattle.kendo_front.proofs.Refusals.{spelt_by}
+use Rattle.kendo_reading.specs.Reading.{Reads}
+use Rattle.kendo_reading.proofs.Refusals.{spelt_by}
 
 nobody : {S : Type 0} (clock : S → ℕ) (n : ℕ) (xs : List (Option S)) → is_deserted (map is_some xs) ≡ true → keys (option_map clock) n xs ≡ []
 nobody clock n [] e = refl

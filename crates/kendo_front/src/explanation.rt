@@ -2,12 +2,12 @@
 
 ghost use Rattle.std.specs.Prelude.{◌≡◌, ◌≤◌, ◌^◌, ◌⊎◌, ◌↔◌, [], IfErr, IfOk, IsErrOf};
 ghost use Rattle.one_thread.specs.Worlds.{IsLimit};
-ghost use Rattle.kendo_front.specs.Reading.{HasNoReading, IsRefusal, IsWhy};
+ghost use Rattle.kendo_reading.specs.Reading.{HasNoReading, IsRefusal, IsWhy};
 
 use crate::outcome::text_of_panic;
-use crate::reading::read;
 use end_explanation::end_explanation;
 use go_text::Fault;
+use kendo_reading::read;
 use std::alloc::Global;
 use word::end::End;
 

@@ -2,12 +2,12 @@
 
 ghost use Rattle.std.specs.Prelude.{◌≡◌, ◌⊎◌, ◌↔◌, IfErr, IfOk, IsErrOf, true};
 ghost use Rattle.meaning.specs.Source.{source_kind};
-ghost use Rattle.kendo_front.specs.Reading.{HasNoReading, IsRefusal, IsWhy, Reads};
+ghost use Rattle.kendo_reading.specs.Reading.{HasNoReading, IsRefusal, IsWhy, Reads};
 ghost use Rattle.one_thread.specs.Worlds.{BeginsOutput, IsLimit, IsWhole};
 ghost use Rattle.syntax.specs.Tree.{File};
 
-use crate::reading::read;
 use go_text::Fault;
+use kendo_reading::read;
 use reference::run_source;
 use std::alloc::Global;
 use word::Write;

@@ -1,7 +1,9 @@
 //! Runs of a text, and whether they are what a row tells.
 
 use go_text::Fault;
-use kendo_base::{Gate, check_bytes, reference_bytes, report, run_bytes};
+use kendo_base::{Gate, run_bytes};
+use kendo_front::{reference_bytes, report};
+use kendo_reading::check_bytes;
 use row_format::flaw::{Flaw, same};
 use row_format::row::Row;
 use std::alloc::Global;

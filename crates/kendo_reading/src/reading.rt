@@ -13,7 +13,7 @@ ghost use Rattle.syntax.specs.declared.tree.Tree.{Tree as OneTree};
 ghost use Rattle.spans.specs.Places.{file_spans};
 ghost use Rattle.syntax.specs.Spans.{tree_of, spans_of};
 ghost use Rattle.syntax.specs.Measures.{height, most_entries, most_clauses};
-ghost use Rattle.kendo_front.specs.Reading.{HasNoReading, HasNoTokens, HasNoTree, IsOfText, IsRefusal, IsUnspelt, IsWhy, Reads, located_in};
+ghost use Rattle.kendo_reading.specs.Reading.{HasNoReading, HasNoTokens, HasNoTree, IsOfText, IsRefusal, IsUnspelt, IsWhy, Reads, located_in};
 
 use checker::{Typed, check};
 use go_text::source::MAX_LENGTH;

@@ -1,7 +1,7 @@
 //! The check of a text.
 
 ghost use Rattle.std.specs.Prelude.{IfErr, IfOk};
-ghost use Rattle.kendo_front.specs.Reading.{HasNoReading, IsOfText, IsRefusal, IsWhy, Reads};
+ghost use Rattle.kendo_reading.specs.Reading.{HasNoReading, IsOfText, IsRefusal, IsWhy, Reads};
 ghost use Rattle.syntax.specs.Tree.{File};
 
 use crate::reading::read;

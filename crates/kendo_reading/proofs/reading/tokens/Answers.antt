@@ -1,7 +1,7 @@
 use Rattle.std.proofs.Common.{ap, arith, length}
 use Rattle.go_text.specs.Source.{bytes_of}
 use Rattle.parser.proofs.Counting.{length-tokens_of}
-use Rattle.kendo_front.proofs.reading.tokens.Goals as goal
+use Rattle.kendo_reading.proofs.reading.tokens.Goals as goal
 
 pub prove-unreachable-requires : goal.prove-unreachable-requires
 prove-unreachable-requires c =

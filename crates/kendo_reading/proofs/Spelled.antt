@@ -8,7 +8,7 @@ use Rattle.parser_header.specs.Spelling.{IsAny}
 use Rattle.parser_statement.specs.Spelling.{IsStatement, IsBody, AreStatements, IsBranch, IsOtherwise, AreClauses}
 use Rattle.parser.specs.Spelling.{IsDeclared, IsTop, Spells}
 use Rattle.codegen_base.specs.Grammar.{IsStill, StillAny, PostsStill, PostsAll, PostsBranch, PostsOtherwise, PostsClauses, PostsTops, AllNamed, NamedTops, IsGrammatical, IsLimited}
-use Rattle.kendo_front.specs.Reading.{Reads}
+use Rattle.kendo_reading.specs.Reading.{Reads}
 
 still : (simple : Simple) → IsSimple false false simple → IsStill simple
 still (CallAlone function arguments) is = tt

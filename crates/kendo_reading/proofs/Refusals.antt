@@ -16,7 +16,7 @@ use Rattle.spans.specs.Places.{file_spans}
 use Rattle.syntax.specs.Spans.{tree_of, spans_of}
 use Rattle.syntax.specs.Tree.{File}
 use Rattle.syntax.specs.Measures.{height, most_entries, most_clauses}
-use Rattle.kendo_front.specs.Reading.{Reads, HasNoReading, HasNoTree, IsUnspelt, IsUnread, IsWrong, IsWhy, located_in}
+use Rattle.kendo_reading.specs.Reading.{Reads, HasNoReading, HasNoTree, IsUnspelt, IsUnread, IsWrong, IsWhy, located_in}
 
 same_tokens : {E : Type 0} (r : Result (List Token) E) (ts us : List Token) → r ≡ Ok ts → r ≡ Ok us → ts ≡ us
 same_tokens (Ok vs) ts us a b = cc

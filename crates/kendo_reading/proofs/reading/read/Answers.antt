@@ -10,9 +10,9 @@ use Rattle.scanner.specs.declared.token.Token.{Token}
 use Rattle.syntax.specs.declared.tree.Tree.{Tree}
 use Rattle.spans.specs.Places.{file_spans}
 use Rattle.syntax.specs.Spans.{tree_of, spans_of}
-use Rattle.kendo_front.specs.Reading.{HasNoReading, HasNoTree, Reads}
-use Rattle.kendo_front.proofs.Refusals.{treeless, untyped, reads, unread, wrong}
-use Rattle.kendo_front.proofs.reading.read.Goals as goal
+use Rattle.kendo_reading.specs.Reading.{HasNoReading, HasNoTree, Reads}
+use Rattle.kendo_reading.proofs.Refusals.{treeless, untyped, reads, unread, wrong}
+use Rattle.kendo_reading.proofs.reading.read.Goals as goal
 
 pub returns-in_err-tree-clause-refused : goal.returns-in_err-tree-clause-refused
 returns-in_err-tree-clause-refused c =

@@ -1,0 +1,8 @@
+//! The reading of a text: from bytes to a checked program, or why there is none.
+#![tactic(auto)]
+
+mod checking;
+mod reading;
+
+pub use checking::check_bytes;
+pub use reading::read;
