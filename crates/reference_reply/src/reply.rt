@@ -1,25 +1,21 @@
 //! What becomes of the values that calls and requests give.
 
-ghost use Rattle.std.specs.Prelude.{◌≡◌, ◌-◌, ◌∷◌, [], ℕ, List, IfOk, OnOk, map, slice_get};
-ghost use Rattle.syntax.specs.Tree.{Block};
+ghost use Rattle.std.specs.Prelude.{◌≡◌, ◌-◌, ℕ, List, IfOk, OnOk, map, slice_get};
 ghost use Rattle.syntax.specs.View.{body_of};
 ghost use Rattle.word.specs.Views.{reply_of};
 ghost use Rattle.meaning.specs.Replies.{assigned, at_clause, at_default, at_way, awaited, chosen, give_back, goes_on, next_item, source_answer, told, used, with_item};
-ghost use Rattle.meaning.specs.Tasks.{Again, Do, frame};
-ghost use Rattle.meaning.specs.Values.{words_like};
-ghost use Rattle.meaning.specs.Variables.{entered};
+ghost use Rattle.meaning.specs.Tasks.{frame};
 ghost use Rattle.reference_value.specs.Destinations.{destinations_of};
 ghost use Rattle.reference_value.specs.Scopes.{blocks_of};
 ghost use Rattle.reference_value.specs.Values.{values_of};
 ghost use Rattle.reference_base.specs.Tasks.{frame_of, frames_of, loop_of, purpose_of, tasks_of, way_in};
-ghost use Rattle.reference_base.specs.declared.task.Loop.TheVariants as loops;
 ghost use Rattle.reference_reply.specs.Returns.{Returns};
 
 use crate::values::{first_of, parted, replied, reply_words};
 use go_text::Memory;
-use reference_base::task::{Frame, Loop, Purpose, Range, Task, Way};
+use reference_base::task::{Frame, Loop, Purpose, Task, Way};
 use reference_value::place::Destination;
-use reference_value::words::{with_first, words_like};
+use reference_value::words::words_like;
 use std::alloc::{AllocError, Global};
 use syntax::StatementNode;
 use word::request::Reply;
@@ -49,17 +45,6 @@ fn assign<'t>(
     Ok(())
 }
 
-/// The body of a loop over a channel is to be done, in a block of its own.
-fn turns<'t>(alloc: Global, top: &mut Frame<'t>, at: Box<Range<'t>>) -> Result<(), AllocError>
-    ensures { (types : List (List ℕ)) → OnOk result (frame_of types top.new ≡ frame (entered (blocks_of types top.old.scope)) (Do (Block (body_of at.entry.value.body.now)) ∷ (Again (loop_of types (loops.Ranging at.entry)) ∷ tasks_of types top.old.tasks.items))) }
-{
-    let body = at.body;
-    top.scope.enter(alloc)?;
-    top.push(Task::Again(Loop::Ranging(at)))?;
-    top.push(Task::Enclose(Box::new(alloc, body)?))?;
-    Ok(())
-}
-
 /// The body of a loop over a channel is to be done with this item, in a block of its own.
 fn with_item<'t>(
     alloc: Global,
@@ -73,7 +58,10 @@ fn with_item<'t>(
         Loop::Repeating(_) => Ok(()),
         Loop::Ranging(range) => {
             let destinations = Vec::from_slice(alloc, range.destinations.as_slice())?;
-            turns(alloc, top, range)?;
+            let body = range.body;
+            top.scope.enter(alloc)?;
+            top.push(Task::Again(Loop::Ranging(range)))?;
+            top.push(Task::Enclose(Box::new(alloc, body)?))?;
             assign(top, destinations, values)?;
             Ok(())
         }
@@ -254,22 +242,6 @@ pub fn answer<'t>(alloc: Global, frames: &mut Vec<Frame<'t>>, reply: Reply) -> R
     Ok(())
 }
 
-/// A call has returned these words, which its result takes where they are like this zero.
-fn with_result<'t>(
-    alloc: Global,
-    top: &mut Frame<'t>,
-    purpose: Purpose<'t>,
-    zero: &[Word],
-    words: &[Word],
-) -> Result<(), AllocError>
-    ensures { (types : List (List ℕ)) → OnOk result (frame_of types top.new ≡ used (blocks_of types top.old.scope) (tasks_of types top.old.tasks.items) (purpose_of types purpose.entry) (words_like zero.now words.now ∷ [])) }
-{
-    let given = words_like(alloc, zero, words)?;
-    let values = with_first(given, Vec::new(alloc))?;
-    used(alloc, top, purpose, values)?;
-    Ok(())
-}
-
 /// A function that waits for a call gets its result.
 #[tactic(auto, using(reference_value::proofs::Lasts::shown_last))]
 fn awaited<'t>(alloc: Global, top: &mut Frame<'t>, words: &[Word]) -> Result<(), AllocError>
@@ -278,7 +250,10 @@ fn awaited<'t>(alloc: Global, top: &mut Frame<'t>, words: &[Word]) -> Result<(),
     match top.tasks.pop() {
         None => Ok(()),
         Some(Task::Await(zero, purpose)) => {
-            with_result(alloc, top, purpose, zero.as_slice(), words)?;
+            let given = words_like(alloc, zero.as_slice(), words)?;
+            let mut values = Vec::new(alloc);
+            values.push(given)?;
+            used(alloc, top, purpose, values)?;
             Ok(())
         }
         Some(task) => {
