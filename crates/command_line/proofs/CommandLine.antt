@@ -71,7 +71,9 @@ taken_locally more (Err e) (Ok made) local takes = absurd takes
 taken_locally more before (Err e) local takes = tt
 
 -- what takes this subcommand too, behind what took this before
-pub extended_by : {E : Type 0} (base sub : App) {app : App} (made : Result Command E) (command : Command) → app ≡ base → IfOk made (λ c. app_of c ≡ sub)
-    → IfOk made IsLocal → IsExtended app made command → app_of command ≡ with_subcommand base sub.top
-extended_by base sub (Ok c) command before same local extends = extends local ∙ ap₂ with_subcommand before (ap (λ (a : App). a.top) same)
-extended_by base sub (Err e) command before same local extends = absurd extends
+pub extended_by : {E : Type 0} (base sub : App) (before made after : Result Command E) → IfOk before (λ c. app_of c ≡ base) → IfOk made (λ c. app_of c ≡ sub)
+    → IfOk made IsLocal → IfOk after (IsExtended before made) → IfOk after (λ c. app_of c ≡ with_subcommand base sub.top)
+extended_by base sub (Ok command) (Ok c) (Ok made) first same local extends = extends local ∙ ap₂ with_subcommand first (ap (λ (a : App). a.top) same)
+extended_by base sub (Err e) (Ok c) (Ok made) first same local extends = absurd extends
+extended_by base sub before (Err e) (Ok made) first same local extends = absurd extends
+extended_by base sub before made (Err e) first same local extends = tt

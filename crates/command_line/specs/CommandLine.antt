@@ -92,9 +92,10 @@ IsTaking (Ok before) rule command = (app_of command ≡ with_rule (app_of before
 IsTaking (Err e) rule command = ⊥
 
 -- the command takes what this one takes, and this subcommand too
-abbrev pub IsExtended : {E : Type 0} → App → Result Command E → Command → Type 0
-IsExtended app (Ok subcommand) command = IsLocal subcommand → app_of command ≡ with_subcommand app (app_of subcommand).top
-IsExtended app (Err e) command = ⊥
+abbrev pub IsExtended : {E : Type 0} → Result Command E → Result Command E → Command → Type 0
+IsExtended (Ok before) (Ok subcommand) command = IsLocal subcommand → app_of command ≡ with_subcommand (app_of before) (app_of subcommand).top
+IsExtended before (Err e) command = ⊥
+IsExtended (Err e) (Ok subcommand) command = ⊥
 
 -- ---- what the words ask for
 

@@ -164,8 +164,10 @@ fn taking<'a>(
     requires { argument.global ≡ false }
     ensures { IfOk result (IsTaking command.entry (rule_of argument.entry)) }
 {
-    let command = command?;
-    command.arg(argument)
+    match command {
+        Ok(command) => command.arg(argument),
+        Err(error) => Err(error),
+    }
 }
 
 /// A command of this name, which takes the text's file.
@@ -234,13 +236,14 @@ fn plain_run_command<'a>(alloc: Global) -> Result<Command<'a>, AllocError>
     taking(limited, trace_argument(alloc))
 }
 
-/// A command that also takes this subcommand, where there was memory to make it.
+/// A command that also takes this subcommand, where there was memory to make both.
 fn extended<'a>(
-    command: Command<'a>,
+    command: Result<Command<'a>, AllocError>,
     subcommand: Result<Command<'a>, AllocError>,
 ) -> Result<Command<'a>, AllocError>
-    ensures { IfOk result (IsExtended (app_of command.entry) subcommand.entry) }
+    ensures { IfOk result (IsExtended command.entry subcommand.entry) }
 {
+    let command = command?;
     command.subcommand(subcommand?)
 }
 
@@ -248,7 +251,7 @@ fn extended<'a>(
 pub fn command<'a>(alloc: Global) -> Result<Command<'a>, AllocError>
     ensures { IfOk result (λ c. app_of c ≡ kendo) }
 {
-    let commands = extended(first_commands(alloc)?, timeline_command(alloc))?;
+    let commands = extended(first_commands(alloc), timeline_command(alloc));
     extended(commands, run_command(alloc))
 }
 
@@ -256,9 +259,9 @@ pub fn command<'a>(alloc: Global) -> Result<Command<'a>, AllocError>
 fn first_commands<'a>(alloc: Global) -> Result<Command<'a>, AllocError>
     ensures { IfOk result (λ c. app_of c ≡ first_commands) }
 {
-    let commands = extended(named_command(alloc), check_command(alloc))?;
-    let commands = extended(commands, list_command(alloc))?;
-    extended(commands, reference_command(alloc))
+    let checking = extended(Ok(named_command(alloc)), check_command(alloc));
+    let listing = extended(checking, list_command(alloc));
+    extended(listing, reference_command(alloc))
 }
 
 /// The same with no command, of which one has to be there.

@@ -12,6 +12,7 @@ use reference_base::call::{Parameter, called, function_of, parameters};
 use reference_base::program::Program;
 use reference_base::task::Frame;
 use reference_value::part::words_in;
+use reference_value::words::with_first;
 use std::alloc::{AllocError, Global};
 use syntax::FunctionNode;
 use word::value::Word;
@@ -41,9 +42,8 @@ fn split<'a, 't>(
         return Ok(Vec::new(alloc));
     };
     let (value, words) = parted(words, words_in(&program.table, parameter.kind));
-    let mut all = split(alloc, program, parameters, words)?;
-    all.insert(0, Vec::from_slice(alloc, value)?)?;
-    Ok(all)
+    let others = split(alloc, program, parameters, words)?;
+    with_first(Vec::from_slice(alloc, value)?, others)
 }
 
 /// The values that a function's parameters take from the words of its arguments.

@@ -9,7 +9,7 @@ ghost use Rattle.checker_declaration.specs.Kinds.{all_fields, fields_declared};
 ghost use Rattle.checker_operation.specs.Operations.{result_of};
 ghost use Rattle.meaning.specs.Destinations.{functions_in, zero_result};
 ghost use Rattle.meaning.specs.Source.{bound, called, calls, functions, globals, operates, parameters_of};
-ghost use Rattle.meaning.specs.Variables.{entered};
+ghost use Rattle.meaning.specs.Variables.{declare, entered, holding};
 ghost use Rattle.reference_value.specs.Scopes.{blocks_of};
 ghost use Rattle.reference_value.specs.Values.{values_of};
 ghost use Rattle.reference_base.specs.Calls.{parameter_of, parameters_in, settled};
@@ -25,6 +25,7 @@ use reference_value::kind::{result_of, written_kind};
 use reference_value::place::holding;
 use reference_value::scope::Scope;
 use reference_value::value::values;
+use reference_value::words::with_first;
 use std::alloc::{AllocError, Global};
 use syntax::{ArgumentsNode, DeclaredNode, FunctionNode, Name, TopNode};
 use type_table::table::TypeTable;
@@ -51,10 +52,9 @@ fn before<'t>(
     let Some((name, names)) = names.split_first() else {
         return Ok(rest);
     };
-    let mut all = before(names, kind, rest)?;
+    let others = before(names, kind, rest)?;
     let name = name.bytes.as_slice();
-    all.insert(0, Parameter { name, kind })?;
-    Ok(all)
+    with_first(Parameter { name, kind }, others)
 }
 
 /// The parameters that are declared so, each of its own.
@@ -74,6 +74,20 @@ pub fn parameters<'a, 't>(
     before(group.names.as_slice(), kind, all)
 }
 
+/// Declares a parameter with its argument.
+fn bind_one<'t>(
+    alloc: Global,
+    table: &TypeTable<'t>,
+    scope: &mut Scope<'t>,
+    parameter: Parameter<'t>,
+    words: &[Word],
+) -> Result<(), AllocError>
+    ensures { OnOk result (blocks_of (types_of table.now) scope.new ≡ declare (holding (globals_in table.now).structs parameter.entry.name.now (kind_of (types_of table.now) parameter.entry.kind) words.now) (blocks_of (types_of table.now) scope.old)) }
+{
+    let variable = holding(alloc, table, parameter.name, parameter.kind, words)?;
+    scope.declare(alloc, variable)
+}
+
 /// Declares parameters with their arguments.
 fn bind<'a, 's, 't>(
     alloc: Global,
@@ -89,17 +103,12 @@ fn bind<'a, 's, 't>(
     };
     match arguments.split_first() {
         None => {
-            let variable = holding(alloc, table, first.name, first.kind, &[])?;
-            scope.declare(alloc, variable)?;
-            bind(alloc, table, scope, parameters, &[])?;
-            Ok(())
+            bind_one(alloc, table, scope, *first, &[])?;
+            bind(alloc, table, scope, parameters, &[])
         }
         Some((words, arguments)) => {
-            let words = words.as_slice();
-            let variable = holding(alloc, table, first.name, first.kind, words)?;
-            scope.declare(alloc, variable)?;
-            bind(alloc, table, scope, parameters, arguments)?;
-            Ok(())
+            bind_one(alloc, table, scope, *first, words.as_slice())?;
+            bind(alloc, table, scope, parameters, arguments)
         }
     }
 }
@@ -217,9 +226,9 @@ fn enter<'t>(
     if callers.len() + 1 >= MAX_DEPTH {
         return Err(Stop::Panics(Panic::CallDepth));
     }
-    let frame = called(alloc, program, function, arguments)?;
     let zero = zero_result(alloc, program, number)?;
     top.push(Task::Await(zero, purpose))?;
+    let frame = called(alloc, program, function, arguments)?;
     Ok(Move::Calls(frame))
 }
 

@@ -1,6 +1,8 @@
 //! Operands of statements.
 
 ghost use Rattle.std.specs.Prelude.{◌≡◌, ◌++◌, ◌∷◌, [], Bool, List, IfErr, IfOk, OnOk, Ok, map};
+ghost use Rattle.word.specs.declared.value.Word.TheVariants.{Bool as Truth};
+ghost use Rattle.word.specs.Text.{text_of};
 ghost use Rattle.syntax.specs.View.{expression_of, file_of, name_of, part_of, type_of};
 ghost use Rattle.type_table.specs.Views.{kind_of};
 ghost use Rattle.type_table.specs.Visible.{types_of};
@@ -16,7 +18,7 @@ use reference_value::kind::element_kind;
 use reference_value::place::item_of;
 use reference_value::scope::Scope;
 use reference_value::value::value;
-use reference_value::words::{single, word_in};
+use reference_value::words::{single, with_first, word_in};
 use std::alloc::{AllocError, Global};
 use syntax::{ExpressionNode, PartNode};
 use type_table::value_type::ValueType;
@@ -86,6 +88,15 @@ pub fn channel<'t>(
     Ok(channel_in(word))
 }
 
+/// The text of a word.
+fn word_text(alloc: Global, word: Word) -> Result<Vec<u8>, AllocError>
+    ensures { IfOk result (λ text. text.items ≡ text_of word) }
+{
+    let mut text = Vec::new(alloc);
+    append(&mut text, word)?;
+    Ok(text)
+}
+
 /// The text of a part of what is printed.
 fn part_text<'t>(
     alloc: Global,
@@ -100,9 +111,7 @@ fn part_text<'t>(
         PartNode::Text(bytes) => Ok(Vec::from_slice(alloc, bytes.as_slice())?),
         PartNode::Value(expression) => {
             let word = one(alloc, program, scope, expression)?;
-            let mut text = Vec::new(alloc);
-            append(&mut text, word)?;
-            Ok(text)
+            Ok(word_text(alloc, word)?)
         }
     }
 }
@@ -123,9 +132,8 @@ pub fn texts<'a, 't>(
         return Ok(Vec::new(alloc));
     };
     let text = part_text(alloc, program, scope, first)?;
-    let mut all = texts(alloc, program, scope, rest)?;
-    all.insert(0, text)?;
-    Ok(all)
+    let others = texts(alloc, program, scope, rest)?;
+    Ok(with_first(text, others)?)
 }
 
 /// Writes texts behind the first one.
@@ -207,11 +215,15 @@ pub fn item_zeros(
     ensures { IfOk result (λ v. values_of v.items ≡ item_zeros (globals (file_of program.now.file.now)) (kind_of (types_of program.now.table) kind.entry)) }
 {
     let item = zero_of(alloc, program, kind)?;
-    let sent = single(alloc, Word::Bool(false))?;
-    let mut all = Vec::new(alloc);
-    all.push(item)?;
-    all.push(sent)?;
-    Ok(all)
+    with_sent(alloc, item)
+}
+
+/// Zeros: this one, like an item, and one like whether it was sent.
+pub fn with_sent(alloc: Global, item: Vec<Word>) -> Result<Vec<Vec<Word>>, AllocError>
+    ensures { IfOk result (λ v. values_of v.items ≡ item.items ∷ ((Truth Bool.false ∷ []) ∷ [])) }
+{
+    let sent = one_value(alloc, Word::Bool(false))?;
+    with_first(item, sent)
 }
 
 /// The one value that is this word.
@@ -219,7 +231,5 @@ pub fn one_value(alloc: Global, word: Word) -> Result<Vec<Vec<Word>>, AllocError
     ensures { IfOk result (λ v. values_of v.items ≡ (word ∷ []) ∷ []) }
 {
     let words = single(alloc, word)?;
-    let mut all = Vec::new(alloc);
-    all.push(words)?;
-    Ok(all)
+    with_first(words, Vec::new(alloc))
 }

@@ -11,7 +11,7 @@ ghost use Rattle.reference_value.specs.Values.{values_of};
 ghost use Rattle.reference_base.specs.Tasks.{frame_of, frames_of, loop_of, purpose_of, tasks_of, way_in};
 ghost use Rattle.reference_reply.specs.Returns.{Returns};
 
-use crate::values::{first_of, parted, reply_words};
+use crate::values::{first_of, parted, replied, reply_words};
 use go_text::Memory;
 use reference_base::task::{Frame, Loop, Purpose, Task, Way};
 use reference_value::place::Destination;
@@ -87,6 +87,20 @@ fn next_item<'t>(
     Ok(())
 }
 
+/// A select goes on at its default.
+fn at_default<'t>(
+    alloc: Global,
+    top: &mut Frame<'t>,
+    body: &'t [StatementNode],
+) -> Result<(), AllocError>
+    ensures { (types : List (List ℕ)) → OnOk result (frame_of types top.new ≡ at_default (blocks_of types top.old.scope) (tasks_of types top.old.tasks.items) (body_of body.now)) }
+{
+    top.scope.enter(alloc)?;
+    top.push(Task::EndSelect)?;
+    top.push_all(alloc, body)?;
+    Ok(())
+}
+
 /// A select goes on at this clause, which received these words.
 fn at_way<'t>(
     alloc: Global,
@@ -98,9 +112,7 @@ fn at_way<'t>(
 {
     let values = parted(alloc, way.zeros.as_slice(), words)?;
     let destinations = Vec::from_slice(alloc, way.destinations.as_slice())?;
-    top.scope.enter(alloc)?;
-    top.push(Task::EndSelect)?;
-    top.push_all(alloc, way.body)?;
+    at_default(alloc, top, way.body)?;
     assign(top, destinations, values)?;
     Ok(())
 }
@@ -123,20 +135,6 @@ fn at_clause<'t>(
         }
         None => Ok(()),
     }
-}
-
-/// A select goes on at its default.
-fn at_default<'t>(
-    alloc: Global,
-    top: &mut Frame<'t>,
-    body: &'t [StatementNode],
-) -> Result<(), AllocError>
-    ensures { (types : List (List ℕ)) → OnOk result (frame_of types top.new ≡ at_default (blocks_of types top.old.scope) (tasks_of types top.old.tasks.items) (body_of body.now)) }
-{
-    top.scope.enter(alloc)?;
-    top.push(Task::EndSelect)?;
-    top.push_all(alloc, body)?;
-    Ok(())
 }
 
 /// A select goes on.
@@ -201,14 +199,12 @@ fn goes_on<'t>(
             Ok(())
         }
         Purpose::NextItem(at) => {
-            let words = reply_words(alloc, reply)?;
-            let values = parted(alloc, zeros, words.as_slice())?;
+            let values = replied(alloc, zeros, reply)?;
             next_item(alloc, top, at, values)?;
             Ok(())
         }
         Purpose::Unused | Purpose::GivenBack | Purpose::Assigned(_) => {
-            let words = reply_words(alloc, reply)?;
-            let values = parted(alloc, zeros, words.as_slice())?;
+            let values = replied(alloc, zeros, reply)?;
             used(alloc, top, purpose, values)?;
             Ok(())
         }

@@ -5,7 +5,7 @@ ghost use Rattle.word.specs.Views.{reply_of};
 ghost use Rattle.meaning.specs.Values.{first_of, parted, reply_words};
 ghost use Rattle.reference_value.specs.Values.{values_of};
 
-use reference_value::words::{single, words_like};
+use reference_value::words::{single, with_first, words_like};
 use std::alloc::{AllocError, Global};
 use word::request::Reply;
 use word::value::{Item, Word};
@@ -56,10 +56,20 @@ pub(crate) fn parted<'a>(
     let Some((zero, rest)) = zeros.split_first() else {
         return Ok(Vec::new(alloc));
     };
-    let first = words_like(alloc, zero.as_slice(), words)?;
-    let mut all = parted(alloc, rest, behind(zero.as_slice(), words))?;
-    all.insert(0, first)?;
-    Ok(all)
+    let others = parted(alloc, rest, behind(zero.as_slice(), words))?;
+    with_first(words_like(alloc, zero.as_slice(), words)?, others)
+}
+
+/// The values that a reply gives, each like its zero.
+pub(crate) fn replied(
+    alloc: Global,
+    zeros: &[Vec<Word>],
+    reply: &Reply,
+) -> Result<Vec<Vec<Word>>, AllocError>
+    ensures { IfOk result (λ v. values_of v.items ≡ parted (values_of zeros.now) (reply_words (reply_of reply.now))) }
+{
+    let words = reply_words(alloc, reply)?;
+    parted(alloc, zeros, words.as_slice())
 }
 
 /// The first one of these values.

@@ -19,6 +19,7 @@ use reference_value::fault::Stop;
 use reference_value::kind::element_kind;
 use reference_value::place::{Destination, new, placed};
 use reference_value::scope::Scope;
+use reference_value::words::with_first;
 use std::alloc::{AllocError, Global};
 use syntax::{CommNode, ExpressionNode, Name, PlaceNode, StatementNode};
 use type_table::value_type::ValueType;
@@ -90,12 +91,15 @@ fn defined_destinations<'t>(
     ensures { IfOk result (λ v. destinations_of (types_of program.now.table) v.items ≡ comm_destinations (file_of program.now.file.now) (blocks_of (types_of program.now.table) scope.now) [] [] (CommDefine (name_of item.now) (option_map name_of ok.now) (expression_of from.now))) }
 {
     let kind = element_kind(&program.table, scope, from);
-    let mut all = Vec::new(alloc);
-    all.push(new(item.bytes.as_slice(), kind))?;
-    if let Some(ok) = ok {
-        all.push(new(ok.bytes.as_slice(), ValueType::Bool))?;
+    let first = new(item.bytes.as_slice(), kind);
+    let none = Vec::new(alloc);
+    match ok {
+        Some(ok) => {
+            let second = with_first(new(ok.bytes.as_slice(), ValueType::Bool), none)?;
+            with_first(first, second)
+        }
+        None => with_first(first, none),
     }
-    Ok(all)
 }
 
 /// Where a receive with an assignment puts what it receives.
@@ -108,12 +112,15 @@ fn assigned_destinations<'t>(
 ) -> Result<Vec<Destination<'t>>, AllocError>
     ensures { IfOk result (λ v. destinations_of (types_of program.now.table) v.items ≡ one_or_two (file_of program.now.file.now) (blocks_of (types_of program.now.table) scope.now) [] [] (placed (globals (file_of program.now.file.now)) (blocks_of (types_of program.now.table) scope.now) (place_of item.now)) (option_map (placed (globals (file_of program.now.file.now)) (blocks_of (types_of program.now.table) scope.now)) (option_map place_of ok.now))) }
 {
-    let mut all = Vec::new(alloc);
-    all.push(placed(&program.table, scope, item))?;
-    if let Some(ok) = ok {
-        all.push(placed(&program.table, scope, ok))?;
+    let first = placed(&program.table, scope, item);
+    let none = Vec::new(alloc);
+    match ok {
+        Some(ok) => {
+            let second = with_first(placed(&program.table, scope, ok), none)?;
+            with_first(first, second)
+        }
+        None => with_first(first, none),
     }
-    Ok(all)
 }
 
 /// Where a clause puts what it receives.

@@ -17,6 +17,7 @@ use reference_base::program::Program;
 use reference_base::task::{Frame, Purpose, Task, Way};
 use reference_value::fault::Stop;
 use reference_value::scope::Scope;
+use reference_value::words::with_first;
 use std::alloc::{AllocError, Global};
 use syntax::{ClauseNode, StatementNode};
 use word::request::{Case, Request};
@@ -38,9 +39,8 @@ fn cases_of<'p, 's, 't>(
         None => cases_of(alloc, program, scope, rest),
         Some(comm) => {
             let case = case_of(alloc, program, scope, comm)?;
-            let mut cases = cases_of(alloc, program, scope, rest)?;
-            cases.insert(0, case)?;
-            Ok(cases)
+            let others = cases_of(alloc, program, scope, rest)?;
+            Ok(with_first(case, others)?)
         }
     }
 }
@@ -60,10 +60,9 @@ fn ways_of<'p, 's, 't>(
     match &first.comm {
         None => ways_of(alloc, program, scope, rest),
         Some(comm) => {
+            let others = ways_of(alloc, program, scope, rest)?;
             let way = way_of(alloc, program, scope, comm, first.body.as_slice())?;
-            let mut ways = ways_of(alloc, program, scope, rest)?;
-            ways.insert(0, way)?;
-            Ok(ways)
+            with_first(way, others)
         }
     }
 }

@@ -1,14 +1,15 @@
 //! What loops do.
 
 ghost use Rattle.std.specs.Prelude.{◌≡◌, ◌++◌, ◌∷◌, [], Bool, ℕ, List, IfErr, IfOk, OnOk, None, Some, option_map};
-ghost use Rattle.syntax.specs.Tree.{Range as RangeHead};
+ghost use Rattle.syntax.specs.Tree.{Alone, Range as RangeHead};
 ghost use Rattle.syntax.specs.View.{body_of, expression_of, file_of, for_head_of, simple_of, target_of};
 ghost use Rattle.type_table.specs.Views.{kind_of};
 ghost use Rattle.type_table.specs.Visible.{globals_in, types_of};
 ghost use Rattle.word.specs.declared.value.Word.TheVariants.{Bool as Truth, Chan};
 ghost use Rattle.meaning.specs.Expressions.{word_in};
-ghost use Rattle.meaning.specs.Source.{again_next, channel_in, for_next, globals, head_next, item_destinations, keeps};
-ghost use Rattle.meaning.specs.Tasks.{Again, Head, Repeating, all_of, frame};
+ghost use Rattle.meaning.specs.Source.{again_next, channel_in, for_next, globals, head_next, item_destinations, keeps, zero_of};
+ghost use Rattle.meaning.specs.Destinations.{element_kind};
+ghost use Rattle.meaning.specs.Tasks.{Again, Do, EndBlock, Head, Ranging, Repeating, Turn, all_of, frame, if_any};
 ghost use Rattle.meaning.specs.Variables.{blank, declare, entered, holding, in_block, innermost, value_of};
 ghost use Rattle.reference_value.specs.Destinations.{destinations_of};
 ghost use Rattle.reference_value.specs.Scopes.{blocks_of};
@@ -17,14 +18,15 @@ ghost use Rattle.reference_base.specs.Steps.{Goes, Panics};
 ghost use Rattle.reference_base.specs.declared.task.Loop.TheVariants as loops;
 ghost use Rattle.reference_base.specs.Tasks.{expression_in, frame_of, frames_of, loop_of, simple_in, tasks_of};
 
-use reference_base::operand::{channel, channel_in, one, truth_in, zero_of};
+use crate::statement::opens;
+use reference_base::operand::{channel, channel_in, one, truth_in, with_sent, zero_of};
 use reference_base::program::Program;
 use reference_base::task::{Frame, Loop, Purpose, Range, Repeat, Task};
 use reference_value::fault::Stop;
 use reference_value::kind::{element_kind, kind_in};
 use reference_value::place::{Destination, holding, new, placed};
 use reference_value::scope::Scope;
-use reference_value::words::{single, word_in};
+use reference_value::words::{single, with_first, word_in};
 use std::alloc::{AllocError, Global};
 use syntax::node::{ForHeader, RangeTarget};
 use syntax::{ExpressionNode, SimpleNode, StatementNode};
@@ -83,13 +85,34 @@ fn item_destinations<'t>(
 ) -> Result<Vec<Destination<'t>>, AllocError>
     ensures { IfOk result (λ v. destinations_of (types_of program.now.table) v.items ≡ item_destinations (file_of program.now.file.now) (blocks_of (types_of program.now.table) scope.now) [] [] (kind_of (types_of program.now.table) kind.entry) (target_of target.now)) }
 {
-    let mut all = Vec::new(alloc);
+    let none = Vec::new(alloc);
     match target {
-        RangeTarget::Nothing => {}
-        RangeTarget::Define(name) => all.push(new(name.bytes.as_slice(), kind))?,
-        RangeTarget::Assign(place) => all.push(placed(&program.table, scope, place))?,
+        RangeTarget::Nothing => Ok(none),
+        RangeTarget::Define(name) => with_first(new(name.bytes.as_slice(), kind), none),
+        RangeTarget::Assign(place) => with_first(placed(&program.table, scope, place), none),
     }
-    Ok(all)
+}
+
+/// What a loop over a channel does with its items.
+fn range_of<'t>(
+    alloc: Global,
+    program: &Program<'t>,
+    scope: &Scope<'t>,
+    target: &'t RangeTarget,
+    from: &'t ExpressionNode,
+    body: &'t [StatementNode],
+) -> Result<Loop<'t>, AllocError>
+    ensures { IfOk result (λ l. loop_of (types_of program.now.table) l ≡ Ranging (item_destinations (file_of program.now.file.now) (blocks_of (types_of program.now.table) scope.now) [] [] (element_kind (globals (file_of program.now.file.now)) (blocks_of (types_of program.now.table) scope.now) (expression_of from.now)) (target_of target.now)) (zero_of (globals (file_of program.now.file.now)) (element_kind (globals (file_of program.now.file.now)) (blocks_of (types_of program.now.table) scope.now) (expression_of from.now))) (body_of body.now)) }
+{
+    let kind = element_kind(&program.table, scope, from);
+    let zero = zero_of(alloc, program, kind)?;
+    let destinations = item_destinations(alloc, program, scope, kind, target)?;
+    let range = Range {
+        destinations,
+        zero,
+        body,
+    };
+    Ok(Loop::Ranging(Box::new(alloc, range)?))
 }
 
 /// A loop over a channel.
@@ -107,18 +130,11 @@ fn ranges<'t>(
 {
     let _callers = callers;
     let c = channel(alloc, program, &top.scope, from)?;
-    let kind = element_kind(&program.table, &top.scope, from);
-    let destinations = item_destinations(alloc, program, &top.scope, kind, target)?;
-    let zero = zero_of(alloc, program, kind)?;
-    let kept_kind = kind_in(&program.table, &top.scope, from);
-    keep(alloc, program, &mut top.scope, kept_kind, c)?;
-    let range = Range {
-        destinations,
-        zero,
-        body,
-    };
+    let range = range_of(alloc, program, &top.scope, target, from, body)?;
+    let kind = kind_in(&program.table, &top.scope, from);
+    keep(alloc, program, &mut top.scope, kind, c)?;
     top.push(Task::EndBlock)?;
-    top.push(Task::Head(Loop::Ranging(Box::new(alloc, range)?)))?;
+    top.push(Task::Head(range))?;
     Ok(())
 }
 
@@ -138,6 +154,28 @@ fn repeats<'t>(
         body,
     };
     top.push(Task::Head(Loop::Repeating(Box::new(alloc, repeat)?)))
+}
+
+/// A loop with clauses is a block of its own, in which its first statement is to be done first.
+fn clauses<'t>(
+    alloc: Global,
+    top: &mut Frame<'t>,
+    first: Option<&'t SimpleNode>,
+    condition: Option<&'t ExpressionNode>,
+    post: Option<&'t SimpleNode>,
+    body: &'t [StatementNode],
+) -> Result<(), AllocError>
+    ensures { (types : List (List ℕ)) → OnOk result (frame_of types top.new ≡ frame (entered (blocks_of types top.old.scope)) (if_any (simple_in first.entry) (Head (Repeating (expression_in condition.entry) (simple_in post.entry) (body_of body.now)) ∷ []) ++ EndBlock ∷ tasks_of types top.old.tasks.items)) }
+{
+    opens(alloc, top)?;
+    repeats(alloc, top, condition, post, body)?;
+    match first {
+        Some(first) => {
+            top.push(Task::Simply(Box::new(alloc, first)?))?;
+            Ok(())
+        }
+        None => Ok(()),
+    }
 }
 
 /// A for.
@@ -162,13 +200,8 @@ pub fn for_loop<'t>(
             Ok(())
         }
         ForHeader::Clauses(first, condition, post) => {
-            top.scope.enter(alloc)?;
-            top.push(Task::EndBlock)?;
-            repeats(alloc, top, condition.as_ref(), post.as_ref(), body)?;
-            match first {
-                Some(first) => top.push(Task::Simply(Box::new(alloc, first)?))?,
-                None => {}
-            }
+            let (condition, post) = (condition.as_ref(), post.as_ref());
+            clauses(alloc, top, first.as_ref(), condition, post, body)?;
             Ok(())
         }
         ForHeader::Range(target, from) => {
@@ -182,11 +215,7 @@ fn next_zeros(alloc: Global, zero: &[Word]) -> Result<Vec<Vec<Word>>, AllocError
     ensures { IfOk result (λ v. values_of v.items ≡ zero.now ∷ ((Truth Bool.false ∷ []) ∷ [])) }
 {
     let item = Vec::from_slice(alloc, zero)?;
-    let sent = single(alloc, Word::Bool(false))?;
-    let mut all = Vec::new(alloc);
-    all.push(item)?;
-    all.push(sent)?;
-    Ok(all)
+    with_sent(alloc, item)
 }
 
 /// A loop goes into its body.
@@ -247,6 +276,21 @@ pub fn repeat<'t>(
     Ok(())
 }
 
+/// The post statement of a loop is to be done first, in a block of its own, and then the loop goes back to its head.
+fn posts<'t>(
+    alloc: Global,
+    top: &mut Frame<'t>,
+    at: Box<Repeat<'t>>,
+    post: &'t SimpleNode,
+) -> Result<(), AllocError>
+    ensures { (types : List (List ℕ)) → OnOk result (frame_of types top.new ≡ frame (entered (blocks_of types top.old.scope)) (Do (Alone (simple_of post.now)) ∷ (EndBlock ∷ (Turn (loop_of types (loops.Repeating at.entry)) ∷ tasks_of types top.old.tasks.items)))) }
+{
+    top.push(Task::Turn(Loop::Repeating(at)))?;
+    opens(alloc, top)?;
+    top.push(Task::Simply(Box::new(alloc, post)?))?;
+    Ok(())
+}
+
 /// A loop at the end of its body.
 pub fn again<'t>(
     alloc: Global,
@@ -264,12 +308,7 @@ pub fn again<'t>(
         Loop::Ranging(range) => top.push(Task::Turn(Loop::Ranging(range))),
         Loop::Repeating(repeat) => match repeat.post {
             None => top.push(Task::Turn(Loop::Repeating(repeat))),
-            Some(post) => {
-                top.scope.enter(alloc)?;
-                top.push(Task::Turn(Loop::Repeating(repeat)))?;
-                top.push(Task::EndBlock)?;
-                top.push(Task::Simply(Box::new(alloc, post)?))
-            }
+            Some(post) => posts(alloc, top, repeat, post),
         },
     }
 }

@@ -1,18 +1,18 @@
 //! What simple statements do.
 
-ghost use Rattle.std.specs.Prelude.{◌≡◌, ◌++◌, ◌∷◌, [], Bool, List, IfErr, IfOk, OnOk, Ok, map};
-ghost use Rattle.syntax.specs.Tree.{Assign, Close, Define, Print, Send, Update};
+ghost use Rattle.std.specs.Prelude.{◌≡◌, ◌∷◌, [], IfErr, IfOk, Ok, OnOk, Some, map};
+ghost use Rattle.syntax.specs.Tree.{Assign, Capacity, Close, Define, Length, Make, Print, Receive, Send, Update};
 ghost use Rattle.syntax.specs.View.{expression_of, file_of, name_of, operation_of, part_of, place_of, right_of, simple_of, type_of};
 ghost use Rattle.type_table.specs.Views.{kind_of};
 ghost use Rattle.type_table.specs.Visible.{types_of};
 ghost use Rattle.meaning.specs.Destinations.{placed};
 ghost use Rattle.meaning.specs.Source.{globals, gives, made_kind, makes, operates, simple_next, updates, value_at};
-ghost use Rattle.meaning.specs.Expressions.{word_in};
+ghost use Rattle.meaning.specs.Expressions.{beside, value, word_in};
 ghost use Rattle.meaning.specs.Tasks.{Store, frame};
 ghost use Rattle.reference_value.specs.Destinations.{destinations_of};
 ghost use Rattle.reference_value.specs.Scopes.{blocks_of};
 ghost use Rattle.reference_value.specs.Stops.{Fails};
-ghost use Rattle.reference_base.specs.Steps.{Goes, Panics, Went};
+ghost use Rattle.reference_base.specs.Steps.{Panics, Went};
 ghost use Rattle.reference_base.specs.Tasks.{frame_of, frames_of, purpose_of, tasks_of};
 
 use crate::places::{assigned, defined};
@@ -26,8 +26,9 @@ use reference_base::task::{Frame, Purpose, Task};
 use reference_value::fault::Stop;
 use reference_value::kind::{element_kind, written_kind};
 use reference_value::place::{Destination, placed, value_at};
+use reference_value::scope::Scope;
 use reference_value::value::{value, values};
-use reference_value::words::{between, settled, word_in};
+use reference_value::words::{between, settled, with_first, word_in};
 use std::alloc::{AllocError, Global};
 use syntax::{
     BinaryOperator, ExpressionNode, Name, OperationNode, PartNode, PlaceNode, RightNode,
@@ -57,15 +58,90 @@ fn makes<'t>(
     kind: &'t TypeNode,
     size: i64,
     purpose: Purpose<'t>,
-) -> Result<(), Stop>
-    ensures ok { OnOk result (Goes (makes (file_of program.now.file.now) (blocks_of (types_of program.now.table) top.old.scope) (tasks_of (types_of program.now.table) top.old.tasks.items) (frames_of (types_of program.now.table) callers.now) (type_of kind.now) size (purpose_of (types_of program.now.table) purpose.entry)) (types_of program.now.table) top.new callers.now) }
+) -> Result<Move<'t>, Stop>
+    ensures ok { IfOk result (λ move. Went (makes (file_of program.now.file.now) (blocks_of (types_of program.now.table) top.old.scope) (tasks_of (types_of program.now.table) top.old.tasks.items) (frames_of (types_of program.now.table) callers.now) (type_of kind.now) size (purpose_of (types_of program.now.table) purpose.entry)) (types_of program.now.table) move top.new callers.now) }
     ensures err { IfErr result (Panics (makes (file_of program.now.file.now) (blocks_of (types_of program.now.table) top.old.scope) (tasks_of (types_of program.now.table) top.old.tasks.items) (frames_of (types_of program.now.table) callers.now) (type_of kind.now) size (purpose_of (types_of program.now.table) purpose.entry)) (types_of program.now.table) top.new top.old) }
 {
     let _callers = callers;
     let zero = zero(alloc, &program.table, made_kind(program, kind))?;
     let zeros = one_value(alloc, Word::Chan(None))?;
     top.push(Task::Ask(Request::Make(size, zero), zeros, purpose))?;
-    Ok(())
+    Ok(Move::Slides)
+}
+
+/// A new channel whose size is an operand.
+fn makes_sized<'t>(
+    alloc: Global,
+    program: &Program<'t>,
+    top: &mut Frame<'t>,
+    callers: &[Frame<'t>],
+    kind: &'t TypeNode,
+    size: &'t ExpressionNode,
+    purpose: Purpose<'t>,
+) -> Result<Move<'t>, Stop>
+    ensures ok { IfOk result (λ move. Went (operates (file_of program.now.file.now) (blocks_of (types_of program.now.table) top.old.scope) (tasks_of (types_of program.now.table) top.old.tasks.items) (frames_of (types_of program.now.table) callers.now) (Make (type_of kind.now) (Some (expression_of size.now))) (purpose_of (types_of program.now.table) purpose.entry)) (types_of program.now.table) move top.new callers.now) }
+    ensures err { IfErr result (Panics (operates (file_of program.now.file.now) (blocks_of (types_of program.now.table) top.old.scope) (tasks_of (types_of program.now.table) top.old.tasks.items) (frames_of (types_of program.now.table) callers.now) (Make (type_of kind.now) (Some (expression_of size.now))) (purpose_of (types_of program.now.table) purpose.entry)) (types_of program.now.table) top.new top.old) }
+{
+    let size = number_in(one(alloc, program, &top.scope, size)?);
+    makes(alloc, program, top, callers, kind, size, purpose)
+}
+
+/// A receive.
+fn receives<'t>(
+    alloc: Global,
+    program: &Program<'t>,
+    top: &mut Frame<'t>,
+    callers: &[Frame<'t>],
+    from: &'t ExpressionNode,
+    purpose: Purpose<'t>,
+) -> Result<Move<'t>, Stop>
+    ensures ok { IfOk result (λ move. Went (operates (file_of program.now.file.now) (blocks_of (types_of program.now.table) top.old.scope) (tasks_of (types_of program.now.table) top.old.tasks.items) (frames_of (types_of program.now.table) callers.now) (Receive (expression_of from.now)) (purpose_of (types_of program.now.table) purpose.entry)) (types_of program.now.table) move top.new callers.now) }
+    ensures err { IfErr result (Panics (operates (file_of program.now.file.now) (blocks_of (types_of program.now.table) top.old.scope) (tasks_of (types_of program.now.table) top.old.tasks.items) (frames_of (types_of program.now.table) callers.now) (Receive (expression_of from.now)) (purpose_of (types_of program.now.table) purpose.entry)) (types_of program.now.table) top.new top.old) }
+{
+    let _callers = callers;
+    let c = channel(alloc, program, &top.scope, from)?;
+    let kind = element_kind(&program.table, &top.scope, from);
+    let zeros = item_zeros(alloc, program, kind)?;
+    top.push(Task::Ask(Request::Receive(c), zeros, purpose))?;
+    Ok(Move::Slides)
+}
+
+/// How many items a channel holds.
+fn length<'t>(
+    alloc: Global,
+    program: &Program<'t>,
+    top: &mut Frame<'t>,
+    callers: &[Frame<'t>],
+    from: &'t ExpressionNode,
+    purpose: Purpose<'t>,
+) -> Result<Move<'t>, Stop>
+    ensures ok { IfOk result (λ move. Went (operates (file_of program.now.file.now) (blocks_of (types_of program.now.table) top.old.scope) (tasks_of (types_of program.now.table) top.old.tasks.items) (frames_of (types_of program.now.table) callers.now) (Length (expression_of from.now)) (purpose_of (types_of program.now.table) purpose.entry)) (types_of program.now.table) move top.new callers.now) }
+    ensures err { IfErr result (Panics (operates (file_of program.now.file.now) (blocks_of (types_of program.now.table) top.old.scope) (tasks_of (types_of program.now.table) top.old.tasks.items) (frames_of (types_of program.now.table) callers.now) (Length (expression_of from.now)) (purpose_of (types_of program.now.table) purpose.entry)) (types_of program.now.table) top.new top.old) }
+{
+    let _callers = callers;
+    let c = channel(alloc, program, &top.scope, from)?;
+    let zeros = one_value(alloc, Word::Int(0))?;
+    top.push(Task::Ask(Request::Len(c), zeros, purpose))?;
+    Ok(Move::Slides)
+}
+
+/// How many items a channel has room for.
+fn capacity<'t>(
+    alloc: Global,
+    program: &Program<'t>,
+    top: &mut Frame<'t>,
+    callers: &[Frame<'t>],
+    from: &'t ExpressionNode,
+    purpose: Purpose<'t>,
+) -> Result<Move<'t>, Stop>
+    ensures ok { IfOk result (λ move. Went (operates (file_of program.now.file.now) (blocks_of (types_of program.now.table) top.old.scope) (tasks_of (types_of program.now.table) top.old.tasks.items) (frames_of (types_of program.now.table) callers.now) (Capacity (expression_of from.now)) (purpose_of (types_of program.now.table) purpose.entry)) (types_of program.now.table) move top.new callers.now) }
+    ensures err { IfErr result (Panics (operates (file_of program.now.file.now) (blocks_of (types_of program.now.table) top.old.scope) (tasks_of (types_of program.now.table) top.old.tasks.items) (frames_of (types_of program.now.table) callers.now) (Capacity (expression_of from.now)) (purpose_of (types_of program.now.table) purpose.entry)) (types_of program.now.table) top.new top.old) }
+{
+    let _callers = callers;
+    let c = channel(alloc, program, &top.scope, from)?;
+    let zeros = one_value(alloc, Word::Int(0))?;
+    top.push(Task::Ask(Request::Cap(c), zeros, purpose))?;
+    Ok(Move::Slides)
 }
 
 /// What stands alone on the right of an assignment, or behind `return`.
@@ -86,34 +162,13 @@ pub(crate) fn operates<'t>(
         OperationNode::Call(name, arguments) => {
             call(alloc, program, top, callers, name, arguments, purpose)
         }
-        OperationNode::Receive(from) => {
-            let c = channel(alloc, program, &top.scope, from)?;
-            let kind = element_kind(&program.table, &top.scope, from);
-            let zeros = item_zeros(alloc, program, kind)?;
-            top.push(Task::Ask(Request::Receive(c), zeros, purpose))?;
-            Ok(Move::Slides)
-        }
-        OperationNode::Make(kind, None) => {
-            makes(alloc, program, top, callers, kind, 0, purpose)?;
-            Ok(Move::Slides)
-        }
+        OperationNode::Receive(from) => receives(alloc, program, top, callers, from, purpose),
+        OperationNode::Make(kind, None) => makes(alloc, program, top, callers, kind, 0, purpose),
         OperationNode::Make(kind, Some(size)) => {
-            let size = number_in(one(alloc, program, &top.scope, size)?);
-            makes(alloc, program, top, callers, kind, size, purpose)?;
-            Ok(Move::Slides)
+            makes_sized(alloc, program, top, callers, kind, size, purpose)
         }
-        OperationNode::Length(from) => {
-            let c = channel(alloc, program, &top.scope, from)?;
-            let zeros = one_value(alloc, Word::Int(0))?;
-            top.push(Task::Ask(Request::Len(c), zeros, purpose))?;
-            Ok(Move::Slides)
-        }
-        OperationNode::Capacity(from) => {
-            let c = channel(alloc, program, &top.scope, from)?;
-            let zeros = one_value(alloc, Word::Int(0))?;
-            top.push(Task::Ask(Request::Cap(c), zeros, purpose))?;
-            Ok(Move::Slides)
-        }
+        OperationNode::Length(from) => length(alloc, program, top, callers, from, purpose),
+        OperationNode::Capacity(from) => capacity(alloc, program, top, callers, from, purpose),
     }
 }
 
@@ -157,14 +212,14 @@ fn close<'t>(
     top: &mut Frame<'t>,
     callers: &[Frame<'t>],
     from: &'t ExpressionNode,
-) -> Result<(), Stop>
-    ensures ok { OnOk result (Goes (simple_next (file_of program.now.file.now) (blocks_of (types_of program.now.table) top.old.scope) (tasks_of (types_of program.now.table) top.old.tasks.items) (frames_of (types_of program.now.table) callers.now) (Close (expression_of from.now))) (types_of program.now.table) top.new callers.now) }
+) -> Result<Move<'t>, Stop>
+    ensures ok { IfOk result (λ move. Went (simple_next (file_of program.now.file.now) (blocks_of (types_of program.now.table) top.old.scope) (tasks_of (types_of program.now.table) top.old.tasks.items) (frames_of (types_of program.now.table) callers.now) (Close (expression_of from.now))) (types_of program.now.table) move top.new callers.now) }
     ensures err { IfErr result (Panics (simple_next (file_of program.now.file.now) (blocks_of (types_of program.now.table) top.old.scope) (tasks_of (types_of program.now.table) top.old.tasks.items) (frames_of (types_of program.now.table) callers.now) (Close (expression_of from.now))) (types_of program.now.table) top.new top.old) }
 {
     let _callers = callers;
     let c = channel(alloc, program, &top.scope, from)?;
     top.push(Task::Ask(Request::Close(c), Vec::new(alloc), Purpose::Unused))?;
-    Ok(())
+    Ok(Move::Slides)
 }
 
 /// A print.
@@ -176,8 +231,8 @@ fn print<'t>(
     line: bool,
     parts: &[PartNode],
     trailing: bool,
-) -> Result<(), Stop>
-    ensures ok { OnOk result (Goes (simple_next (file_of program.now.file.now) (blocks_of (types_of program.now.table) top.old.scope) (tasks_of (types_of program.now.table) top.old.tasks.items) (frames_of (types_of program.now.table) callers.now) (Print line (map part_of parts.now) trailing)) (types_of program.now.table) top.new callers.now) }
+) -> Result<Move<'t>, Stop>
+    ensures ok { IfOk result (λ move. Went (simple_next (file_of program.now.file.now) (blocks_of (types_of program.now.table) top.old.scope) (tasks_of (types_of program.now.table) top.old.tasks.items) (frames_of (types_of program.now.table) callers.now) (Print line (map part_of parts.now) trailing)) (types_of program.now.table) move top.new callers.now) }
     ensures err { IfErr result (Panics (simple_next (file_of program.now.file.now) (blocks_of (types_of program.now.table) top.old.scope) (tasks_of (types_of program.now.table) top.old.tasks.items) (frames_of (types_of program.now.table) callers.now) (Print line (map part_of parts.now) trailing)) (types_of program.now.table) top.new top.old) }
 {
     let _callers = callers;
@@ -185,7 +240,7 @@ fn print<'t>(
     let all = texts(alloc, program, &top.scope, parts)?;
     let bytes = printed(alloc, line, all.as_slice())?;
     top.push(Task::Ask(Request::Print(bytes), Vec::new(alloc), Purpose::Unused))?;
-    Ok(())
+    Ok(Move::Slides)
 }
 
 /// A send.
@@ -196,15 +251,15 @@ fn send<'t>(
     callers: &[Frame<'t>],
     to: &'t ExpressionNode,
     item: &'t ExpressionNode,
-) -> Result<(), Stop>
-    ensures ok { OnOk result (Goes (simple_next (file_of program.now.file.now) (blocks_of (types_of program.now.table) top.old.scope) (tasks_of (types_of program.now.table) top.old.tasks.items) (frames_of (types_of program.now.table) callers.now) (Send (expression_of to.now) (expression_of item.now))) (types_of program.now.table) top.new callers.now) }
+) -> Result<Move<'t>, Stop>
+    ensures ok { IfOk result (λ move. Went (simple_next (file_of program.now.file.now) (blocks_of (types_of program.now.table) top.old.scope) (tasks_of (types_of program.now.table) top.old.tasks.items) (frames_of (types_of program.now.table) callers.now) (Send (expression_of to.now) (expression_of item.now))) (types_of program.now.table) move top.new callers.now) }
     ensures err { IfErr result (Panics (simple_next (file_of program.now.file.now) (blocks_of (types_of program.now.table) top.old.scope) (tasks_of (types_of program.now.table) top.old.tasks.items) (frames_of (types_of program.now.table) callers.now) (Send (expression_of to.now) (expression_of item.now))) (types_of program.now.table) top.new top.old) }
 {
     let _callers = callers;
     let c = channel(alloc, program, &top.scope, to)?;
     let words = item_in(alloc, program, &top.scope, to, item)?;
     top.push(Task::Ask(Request::Send(c, words), Vec::new(alloc), Purpose::Unused))?;
-    Ok(())
+    Ok(Move::Slides)
 }
 
 /// The word that a place holds.
@@ -230,8 +285,8 @@ fn stores<'t>(
 ) -> Result<(), AllocError>
     ensures { OnOk result (frame_of (types_of program.now.table) top.new ≡ frame (blocks_of (types_of program.now.table) top.old.scope) (Store (placed (globals (file_of program.now.file.now)) (blocks_of (types_of program.now.table) top.old.scope) (place_of place.now) ∷ []) ((word ∷ []) ∷ []) ∷ (tasks_of (types_of program.now.table) top.old.tasks.items))) }
 {
-    let mut destinations = Vec::new(alloc);
-    destinations.push(placed(&program.table, &top.scope, place))?;
+    let destination = placed(&program.table, &top.scope, place);
+    let destinations = with_first(destination, Vec::new(alloc))?;
     let values = one_value(alloc, word)?;
     top.push(Task::Store(destinations, values))?;
     Ok(())
@@ -246,19 +301,40 @@ fn counts<'t>(
     place: &'t PlaceNode,
     operator: BinaryOperator,
     by: Word,
-) -> Result<(), Stop>
-    ensures ok { OnOk result (Goes (updates (file_of program.now.file.now) (blocks_of (types_of program.now.table) top.old.scope) (tasks_of (types_of program.now.table) top.old.tasks.items) (frames_of (types_of program.now.table) callers.now) (place_of place.now) operator (Ok (by ∷ []))) (types_of program.now.table) top.new callers.now) }
+) -> Result<Move<'t>, Stop>
+    ensures ok { IfOk result (λ move. Went (updates (file_of program.now.file.now) (blocks_of (types_of program.now.table) top.old.scope) (tasks_of (types_of program.now.table) top.old.tasks.items) (frames_of (types_of program.now.table) callers.now) (place_of place.now) operator (Ok (by ∷ []))) (types_of program.now.table) move top.new callers.now) }
     ensures err { IfErr result (Panics (updates (file_of program.now.file.now) (blocks_of (types_of program.now.table) top.old.scope) (tasks_of (types_of program.now.table) top.old.tasks.items) (frames_of (types_of program.now.table) callers.now) (place_of place.now) operator (Ok (by ∷ []))) (types_of program.now.table) top.new top.old) }
 {
     let _callers = callers;
     let a = held(alloc, program, top, place)?;
     if let Some(word) = settled(operator, a) {
         stores(alloc, program, top, place, word)?;
-        return Ok(());
+        return Ok(Move::Slides);
     }
     let word = between(operator, a, by)?;
     stores(alloc, program, top, place, word)?;
-    Ok(())
+    Ok(Move::Slides)
+}
+
+/// The word of an operator between a word and an operand.
+///
+/// Errors: the panic that is met first; want of memory.
+fn worked<'t>(
+    alloc: Global,
+    program: &Program<'t>,
+    scope: &Scope<'t>,
+    operator: BinaryOperator,
+    a: Word,
+    operand: &ExpressionNode,
+) -> Result<Word, Stop>
+    ensures ok { IfOk result (λ w. beside operator a (value (globals (file_of program.now.file.now)) (blocks_of (types_of program.now.table) scope.now) (expression_of operand.now)) ≡ Ok (w ∷ [])) }
+    ensures err { IfErr result (Fails (beside operator a (value (globals (file_of program.now.file.now)) (blocks_of (types_of program.now.table) scope.now) (expression_of operand.now)))) }
+{
+    if let Some(word) = settled(operator, a) {
+        return Ok(word);
+    }
+    let b = value(alloc, &program.table, scope, operand)?;
+    Ok(between(operator, a, word_in(b.as_slice()))?)
 }
 
 /// A place gets the value of an operator between its own and an operand.
@@ -270,20 +346,15 @@ fn updates<'t>(
     place: &'t PlaceNode,
     operator: BinaryOperator,
     operand: &'t ExpressionNode,
-) -> Result<(), Stop>
-    ensures ok { OnOk result (Goes (simple_next (file_of program.now.file.now) (blocks_of (types_of program.now.table) top.old.scope) (tasks_of (types_of program.now.table) top.old.tasks.items) (frames_of (types_of program.now.table) callers.now) (Update (place_of place.now) operator (expression_of operand.now))) (types_of program.now.table) top.new callers.now) }
+) -> Result<Move<'t>, Stop>
+    ensures ok { IfOk result (λ move. Went (simple_next (file_of program.now.file.now) (blocks_of (types_of program.now.table) top.old.scope) (tasks_of (types_of program.now.table) top.old.tasks.items) (frames_of (types_of program.now.table) callers.now) (Update (place_of place.now) operator (expression_of operand.now))) (types_of program.now.table) move top.new callers.now) }
     ensures err { IfErr result (Panics (simple_next (file_of program.now.file.now) (blocks_of (types_of program.now.table) top.old.scope) (tasks_of (types_of program.now.table) top.old.tasks.items) (frames_of (types_of program.now.table) callers.now) (Update (place_of place.now) operator (expression_of operand.now))) (types_of program.now.table) top.new top.old) }
 {
     let _callers = callers;
     let a = held(alloc, program, top, place)?;
-    if let Some(word) = settled(operator, a) {
-        stores(alloc, program, top, place, word)?;
-        return Ok(());
-    }
-    let b = value(alloc, &program.table, &top.scope, operand)?;
-    let word = between(operator, a, word_in(b.as_slice()))?;
+    let word = worked(alloc, program, &top.scope, operator, a, operand)?;
     stores(alloc, program, top, place, word)?;
-    Ok(())
+    Ok(Move::Slides)
 }
 
 /// An assignment.
@@ -343,10 +414,7 @@ pub fn simple<'t>(
                 Purpose::Unused,
             )
         }
-        SimpleNode::Close(from) => {
-            close(alloc, program, top, callers, from)?;
-            Ok(Move::Slides)
-        }
+        SimpleNode::Close(from) => close(alloc, program, top, callers, from),
         SimpleNode::Print(line, parts, trailing) => {
             print(
                 alloc,
@@ -356,20 +424,12 @@ pub fn simple<'t>(
                 *line,
                 parts.as_slice(),
                 *trailing,
-            )?;
-            Ok(Move::Slides)
+            )
         }
         SimpleNode::Receive(from) => {
-            let c = channel(alloc, program, &top.scope, from)?;
-            let kind = element_kind(&program.table, &top.scope, from);
-            let zeros = item_zeros(alloc, program, kind)?;
-            top.push(Task::Ask(Request::Receive(c), zeros, Purpose::Unused))?;
-            Ok(Move::Slides)
+            receives(alloc, program, top, callers, from, Purpose::Unused)
         }
-        SimpleNode::Send(to, item) => {
-            send(alloc, program, top, callers, to, item)?;
-            Ok(Move::Slides)
-        }
+        SimpleNode::Send(to, item) => send(alloc, program, top, callers, to, item),
         SimpleNode::Increment(place) => {
             counts(
                 alloc,
@@ -379,8 +439,7 @@ pub fn simple<'t>(
                 place,
                 BinaryOperator::Add,
                 Word::Int(1),
-            )?;
-            Ok(Move::Slides)
+            )
         }
         SimpleNode::Decrement(place) => {
             counts(
@@ -391,12 +450,10 @@ pub fn simple<'t>(
                 place,
                 BinaryOperator::Subtract,
                 Word::Int(1),
-            )?;
-            Ok(Move::Slides)
+            )
         }
         SimpleNode::Update(place, operator, operand) => {
-            updates(alloc, program, top, callers, place, *operator, operand)?;
-            Ok(Move::Slides)
+            updates(alloc, program, top, callers, place, *operator, operand)
         }
         SimpleNode::Assign(places, right) => {
             assign(alloc, program, top, callers, places.as_slice(), right)

@@ -1,10 +1,11 @@
 //! What blocks, ifs, loops and returns do.
 
-ghost use Rattle.std.specs.Prelude.{◌≡◌, ℕ, List, IfErr, OnOk, IfOk};
+ghost use Rattle.std.specs.Prelude.{◌≡◌, ◌∷◌, ℕ, List, IfErr, OnOk, IfOk};
 ghost use Rattle.syntax.specs.View.{body_of, branch_of, file_of, otherwise_of, returned_of};
 ghost use Rattle.type_table.specs.Visible.{types_of};
 ghost use Rattle.meaning.specs.Source.{branch_next, decides, enters_block, otherwise_next, return_next, task_next};
-ghost use Rattle.meaning.specs.Tasks.{all_of, broken, continued};
+ghost use Rattle.meaning.specs.Tasks.{EndBlock, all_of, broken, continued, frame};
+ghost use Rattle.meaning.specs.Variables.{entered};
 ghost use Rattle.reference_value.specs.Scopes.{blocks_of};
 ghost use Rattle.reference_base.specs.Steps.{Goes, Panics, Went};
 ghost use Rattle.reference_base.specs.Tasks.{decided, frame_of, frames_of, tasks_of};
@@ -46,13 +47,22 @@ pub fn go_on(top: &mut Frame<'_>) -> Result<(), AllocError>
     while let Some(task) = top.tasks.pop() {
         match task {
             Task::EndBlock | Task::EndSelect => top.scope.leave(),
-            Task::Again(again) => {
-                top.push(Task::Again(again))?;
+            Task::Again(_) => {
+                top.push(task)?;
                 return Ok(());
             }
             _ => {}
         }
     }
+    Ok(())
+}
+
+/// Goes into a block, at whose end it is left.
+pub(crate) fn opens(alloc: Global, top: &mut Frame<'_>) -> Result<(), AllocError>
+    ensures { (types : List (List ℕ)) → OnOk result (frame_of types top.new ≡ frame (entered (blocks_of types top.old.scope)) (EndBlock ∷ tasks_of types top.old.tasks.items)) }
+{
+    top.scope.enter(alloc)?;
+    top.push(Task::EndBlock)?;
     Ok(())
 }
 
@@ -68,8 +78,7 @@ pub fn block<'t>(
 {
     let _program = program;
     let _callers = callers;
-    top.scope.enter(alloc)?;
-    top.push(Task::EndBlock)?;
+    opens(alloc, top)?;
     top.push_all(alloc, body)?;
     Ok(())
 }
@@ -86,8 +95,7 @@ pub fn branch<'t>(
 {
     let _program = program;
     let _callers = callers;
-    top.scope.enter(alloc)?;
-    top.push(Task::EndBlock)?;
+    opens(alloc, top)?;
     top.push(Task::Decide(Box::new(alloc, branch)?))?;
     match &branch.header {
         IfHeader::Simple(first) => top.push(Task::Simply(Box::new(alloc, first)?))?,

@@ -19,6 +19,7 @@ use reference_base::program::Program;
 use reference_base::task::{Frame, Task};
 use reference_value::fault::Stop;
 use reference_value::kind::written_kind;
+use reference_value::words::with_first;
 use std::alloc::{AllocError, Global};
 use syntax::{Name, RightNode, TypeNode};
 use word::value::Word;
@@ -34,10 +35,8 @@ fn copies<'a>(
     let Some((_, rest)) = names.split_first() else {
         return Ok(Vec::new(alloc));
     };
-    let mut all = copies(alloc, words, rest)?;
-    let copy = Vec::from_slice(alloc, words)?;
-    all.insert(0, copy)?;
-    Ok(all)
+    let others = copies(alloc, words, rest)?;
+    with_first(Vec::from_slice(alloc, words)?, others)
 }
 
 /// The zero value of the type that is written here, for each of these names.

@@ -15,6 +15,7 @@ ghost use Rattle.meaning.specs.Variables.{scope_in};
 ghost use Rattle.reference_value.specs.Scopes.{blocks_of};
 
 use crate::scope::Scope;
+use crate::words::with_first;
 use crate::worth::{variable_named, worth};
 use checker_base::worth::Worth;
 use std::alloc::{AllocError, Global};
@@ -178,9 +179,8 @@ fn kinds_in<'a, 't>(
     let Some((first, rest)) = expressions.split_first() else {
         return Ok(Vec::new(alloc));
     };
-    let mut all = kinds_in(alloc, table, scope, rest)?;
-    all.insert(0, kind_in(table, scope, first))?;
-    Ok(all)
+    let others = kinds_in(alloc, table, scope, rest)?;
+    with_first(kind_in(table, scope, first), others)
 }
 
 /// The types of what a right side gives to so many places.

@@ -15,7 +15,7 @@ ghost use Rattle.reference_value.specs.Values.{values_of};
 
 use crate::part::{Slot, slot_in, words_at};
 use crate::scope::{Scope, Variable};
-use crate::words::words_like;
+use crate::words::{with_first, words_like};
 use std::alloc::{AllocError, Global};
 use syntax::{Name, PlaceNode};
 use type_table::scope::is_blank;
@@ -80,9 +80,8 @@ pub fn all_new<'a, 't>(
     let Some((kind, kinds)) = kinds.split_first() else {
         return Ok(Vec::new(alloc));
     };
-    let mut all = all_new(alloc, table, scope, names, kinds)?;
-    all.insert(0, new(name.bytes.as_slice(), *kind))?;
-    Ok(all)
+    let others = all_new(alloc, table, scope, names, kinds)?;
+    with_first(new(name.bytes.as_slice(), *kind), others)
 }
 
 /// Where names that are declared with this type put their values.
@@ -98,9 +97,8 @@ pub fn all_typed<'a, 't>(
     let Some((name, rest)) = names.split_first() else {
         return Ok(Vec::new(alloc));
     };
-    let mut all = all_typed(alloc, table, scope, rest, kind)?;
-    all.insert(0, new(name.bytes.as_slice(), kind))?;
-    Ok(all)
+    let others = all_typed(alloc, table, scope, rest, kind)?;
+    with_first(new(name.bytes.as_slice(), kind), others)
 }
 
 /// Where the names of a `:=` put their values.
@@ -119,9 +117,8 @@ pub fn all_defined<'a, 't>(
     let Some((kind, kinds)) = kinds.split_first() else {
         return Ok(Vec::new(alloc));
     };
-    let mut all = all_defined(alloc, table, scope, names, kinds)?;
-    all.insert(0, defined(scope, name.bytes.as_slice(), *kind))?;
-    Ok(all)
+    let others = all_defined(alloc, table, scope, names, kinds)?;
+    with_first(defined(scope, name.bytes.as_slice(), *kind), others)
 }
 
 /// The part of a variable that a place is.
@@ -159,9 +156,8 @@ pub fn all_placed<'a, 't>(
     let Some((first, rest)) = places.split_first() else {
         return Ok(Vec::new(alloc));
     };
-    let mut all = all_placed(alloc, table, scope, rest)?;
-    all.insert(0, placed(table, scope, first))?;
-    Ok(all)
+    let others = all_placed(alloc, table, scope, rest)?;
+    with_first(placed(table, scope, first), others)
 }
 
 /// What a place holds.

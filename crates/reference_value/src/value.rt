@@ -1,12 +1,14 @@
 //! The values of expressions.
 
-ghost use Rattle.std.specs.Prelude.{◌≡◌, ◌||◌, ◌∷◌, [], true, false, IfSome, IfNone, IfOk, IfErr, Ok, map};
+ghost use Rattle.std.specs.Prelude.{◌≡◌, ◌||◌, ◌∷◌, [], ℕ, List, true, false, IfSome, IfNone, IfOk, IfErr, Ok, map};
 ghost use Rattle.syntax.specs.Tree.{expressions};
 ghost use Rattle.syntax.specs.View.{expression_of};
 ghost use Rattle.type_table.specs.Visible.{types_of, globals_in};
 ghost use Rattle.checker_base.specs.Worths.{is_equality, is_order};
 ghost use Rattle.word.specs.Apply.{value as applied};
-ghost use Rattle.meaning.specs.Expressions.{one_word, operator_at, value, values, fields};
+ghost use Rattle.type_table.specs.Zeros.{zero_words};
+ghost use Rattle.meaning.specs.Expressions.{before, between, fields, one_word, operator_at, selected, type_of, value, values, word_in};
+ghost use Rattle.meaning.specs.Variables.{lookup, value_of};
 ghost use Rattle.reference_value.specs.Scopes.{blocks_of};
 ghost use Rattle.reference_value.specs.Stops.{Fails};
 ghost use Rattle.reference_value.specs.Values.{by_parts, fixed, values_of};
@@ -15,11 +17,11 @@ use crate::fault::Stop;
 use crate::kind::kind_in;
 use crate::part::selected;
 use crate::scope::Scope;
-use crate::words::{before, between, settled, single, word_in, wrapped};
+use crate::words::{before, between, settled, single, with_first, word_in, wrapped};
 use crate::worth::worth;
 use checker_base::worth::Worth;
 use std::alloc::{AllocError, Global};
-use syntax::{BinaryOperator, ExpressionNode};
+use syntax::{BinaryOperator, ExpressionNode, UnaryOperator};
 use type_table::scope::{is_nil, is_truth};
 use type_table::table::TypeTable;
 use type_table::zero::zero;
@@ -86,6 +88,65 @@ fn constant(table: &TypeTable<'_>, scope: &Scope<'_>, expression: &ExpressionNod
     }
 }
 
+/// The value of the variable of this name.
+fn held(alloc: Global, scope: &Scope<'_>, name: &[u8]) -> Result<Vec<Word>, AllocError>
+    ensures { (types : List (List ℕ)) → IfOk result (λ v. v.items ≡ value_of (lookup (blocks_of types scope.now) name.now)) }
+{
+    match scope.lookup(name) {
+        Some(variable) => Vec::from_slice(alloc, variable.words.as_slice()),
+        None => Ok(Vec::new(alloc)),
+    }
+}
+
+/// The zero value of an expression's type.
+fn zeros(
+    alloc: Global,
+    table: &TypeTable<'_>,
+    scope: &Scope<'_>,
+    expression: &ExpressionNode,
+) -> Result<Vec<Word>, AllocError>
+    ensures { IfOk result (λ v. v.items ≡ zero_words (globals_in table.now).structs (type_of (globals_in table.now) (blocks_of (types_of table.now) scope.now) (expression_of expression.now))) }
+{
+    let item = zero(alloc, table, kind_in(table, scope, expression))?;
+    Vec::from_slice(alloc, item.words())
+}
+
+/// The field of this name in a value of an expression's type.
+fn field_in(
+    alloc: Global,
+    table: &TypeTable<'_>,
+    scope: &Scope<'_>,
+    whole: &ExpressionNode,
+    name: &[u8],
+    words: &[Word],
+) -> Result<Vec<Word>, AllocError>
+    ensures { IfOk result (λ v. v.items ≡ selected (globals_in table.now) (blocks_of (types_of table.now) scope.now) (type_of (globals_in table.now) (blocks_of (types_of table.now) scope.now) (expression_of whole.now)) name.now words.now) }
+{
+    selected(alloc, table, kind_in(table, scope, whole), name, words)
+}
+
+/// The value of an operator before a value.
+///
+/// Errors: the panic that it meets; want of memory.
+fn unary(alloc: Global, operator: UnaryOperator, a: &[Word]) -> Result<Vec<Word>, Stop>
+    ensures ok { IfOk result (λ v. before operator (word_in a.now) ≡ Ok v.items) }
+    ensures err { IfErr result (Fails (before operator (word_in a.now))) }
+{
+    let word = before(operator, word_in(a))?;
+    Ok(single(alloc, word)?)
+}
+
+/// The value of an operator between a word and a value.
+///
+/// Errors: the panic that it meets; want of memory.
+fn binary(alloc: Global, operator: BinaryOperator, a: Word, b: &[Word]) -> Result<Vec<Word>, Stop>
+    ensures ok { IfOk result (λ v. between operator a (word_in b.now) ≡ Ok v.items) }
+    ensures err { IfErr result (Fails (between operator a (word_in b.now))) }
+{
+    let word = between(operator, a, word_in(b))?;
+    Ok(single(alloc, word)?)
+}
+
 /// The value of an expression.
 ///
 /// Errors: the panic that is met first; want of memory.
@@ -104,29 +165,22 @@ pub fn value<'a, 't>(
     }
     match expression {
         ExpressionNode::Integer(_) => Ok(Vec::new(alloc)),
-        ExpressionNode::Named(name) => match scope.lookup(name.bytes.as_slice()) {
-            Some(variable) => Ok(Vec::from_slice(alloc, variable.words.as_slice())?),
-            None => Ok(Vec::new(alloc)),
-        },
+        ExpressionNode::Named(name) => Ok(held(alloc, scope, name.bytes.as_slice())?),
         ExpressionNode::Parenthesized(inner) => value(alloc, table, scope, inner),
         ExpressionNode::Selection(whole, field) => {
             let words = value(alloc, table, scope, whole)?;
-            let kind = kind_in(table, scope, whole);
-            let name = field.bytes.as_slice();
-            Ok(selected(alloc, table, kind, name, words.as_slice())?)
+            let (name, words) = (field.bytes.as_slice(), words.as_slice());
+            Ok(field_in(alloc, table, scope, whole, name, words)?)
         }
         ExpressionNode::Composite(_, values, _) => {
             if values.is_empty() {
-                let kind = kind_in(table, scope, expression);
-                let item = zero(alloc, table, kind)?;
-                return Ok(Vec::from_slice(alloc, item.words())?);
+                return Ok(zeros(alloc, table, scope, expression)?);
             }
             fields(alloc, table, scope, values.as_slice())
         }
         ExpressionNode::Unary(operator, operand) => {
             let a = value(alloc, table, scope, operand)?;
-            let word = before(*operator, word_in(a.as_slice()))?;
-            Ok(single(alloc, word)?)
+            unary(alloc, *operator, a.as_slice())
         }
         ExpressionNode::Binary(operator, left, right) => {
             let a = value(alloc, table, scope, left)?;
@@ -135,8 +189,7 @@ pub fn value<'a, 't>(
                 return Ok(single(alloc, word)?);
             }
             let b = value(alloc, table, scope, right)?;
-            let word = between(*operator, a, word_in(b.as_slice()))?;
-            Ok(single(alloc, word)?)
+            binary(alloc, *operator, a, b.as_slice())
         }
     }
 }
@@ -178,7 +231,6 @@ pub fn values<'a, 't>(
         return Ok(Vec::new(alloc));
     };
     let words = value(alloc, table, scope, first)?;
-    let mut all = values(alloc, table, scope, rest)?;
-    all.insert(0, words)?;
-    Ok(all)
+    let others = values(alloc, table, scope, rest)?;
+    Ok(with_first(words, others)?)
 }

@@ -30,6 +30,15 @@ pub fn single(alloc: Global, word: Word) -> Result<Vec<Word>, AllocError>
     Ok(words)
 }
 
+/// The list with this one before the others.
+pub fn with_first<T: Drop>(first: T, others: Vec<T>) -> Result<Vec<T>, AllocError>
+    ensures { IfOk result (λ all. all.items ≡ first ∷ others.items) }
+{
+    let mut all = others;
+    all.insert(0, first)?;
+    Ok(all)
+}
+
 /// A number brought into 64 bits.
 pub fn wrapped(number: i128) -> i64
     ensures { result ≡ int_wrap w64 number }
@@ -57,14 +66,12 @@ pub fn words_like(alloc: Global, zeros: &[Word], words: &[Word]) -> Result<Vec<W
     match (zeros, words) {
         ([], _) => Ok(Vec::new(alloc)),
         ([zero, zeros @ ..], []) => {
-            let mut all = words_like(alloc, zeros, &[])?;
-            all.insert(0, *zero)?;
-            Ok(all)
+            let others = words_like(alloc, zeros, &[])?;
+            with_first(*zero, others)
         }
         ([zero, zeros @ ..], [word, words @ ..]) => {
-            let mut all = words_like(alloc, zeros, words)?;
-            all.insert(0, word_like(*zero, *word))?;
-            Ok(all)
+            let others = words_like(alloc, zeros, words)?;
+            with_first(word_like(*zero, *word), others)
         }
     }
 }

@@ -71,6 +71,20 @@ fn push_head(text: &mut String, count: u64, scale: &Scale) -> Result<(), AllocEr
     text.push_str(LEGEND)
 }
 
+/// A line of this class from one place to another.
+fn push_line(
+    text: &mut String,
+    class: &str,
+    from: (u64, u64),
+    to: (u64, u64),
+) -> Result<(), AllocError> {
+    let ((x1, y1), (x2, y2)) = (from, to);
+    write!(
+        text,
+        "<line class=\"{class}\" x1=\"{x1}\" y1=\"{y1}\" x2=\"{x2}\" y2=\"{y2}\"/>\n"
+    )
+}
+
 /// All lanes.
 fn push_lanes(
     text: &mut String,
@@ -96,10 +110,7 @@ fn push_name(
     let (number, y) = (lane.number, height(lane.number));
     let base = y.saturating_add(4);
     let name = recording.first_function(lane.function);
-    write!(
-        text,
-        "<line class=\"rail\" x1=\"{LEFT}\" y1=\"{y}\" x2=\"{right}\" y2=\"{y}\"/>\n"
-    )?;
+    push_line(text, "rail", (LEFT, y), (right, y))?;
     write!(text, "<text x=\"12\" y=\"{base}\">{number} {name}</text>\n")
 }
 
@@ -127,31 +138,20 @@ fn push_life(text: &mut String, lane: &Lane, scale: &Scale) -> Result<(), AllocE
     let y = height(lane.number);
     let (mut from, end) = (scale.place(lane.from), scale.place(lane.to));
     for sleep in lane.sleeps.iter() {
-        push_awake(text, from, scale.place(sleep.from), y)?;
+        push_line(text, "run", (from, y), (scale.place(sleep.from), y))?;
         from = scale.place(sleep.to);
     }
-    push_awake(text, from, end, y)?;
+    push_line(text, "run", (from, y), (end, y))?;
     if !lane.ended {
         return Ok(());
     }
     push_end(text, end, y)
 }
 
-/// A part of a life in which its goroutine is awake.
-fn push_awake(text: &mut String, from: u64, to: u64, y: u64) -> Result<(), AllocError> {
-    write!(
-        text,
-        "<line class=\"run\" x1=\"{from}\" y1=\"{y}\" x2=\"{to}\" y2=\"{y}\"/>\n"
-    )
-}
-
 /// The end of a life.
 fn push_end(text: &mut String, end: u64, y: u64) -> Result<(), AllocError> {
     let (top, bottom) = (y.saturating_sub(8), y.saturating_add(8));
-    write!(
-        text,
-        "<line class=\"end\" x1=\"{end}\" y1=\"{top}\" x2=\"{end}\" y2=\"{bottom}\"/>\n"
-    )
+    push_line(text, "end", (end, top), (end, bottom))
 }
 
 /// All arrows.
@@ -181,18 +181,14 @@ fn push_events(
     scale: &Scale,
 ) -> Result<(), AllocError> {
     for event in recording.events.iter() {
-        push_event(alloc, text, event, scale)?;
+        push_mark(text, event, scale)?;
+        push_title(alloc, text, event)?;
     }
     Ok(())
 }
 
-/// The mark of an event, which tells what it is where a pointer rests on it.
-fn push_event(
-    alloc: Global,
-    text: &mut String,
-    event: &Event,
-    scale: &Scale,
-) -> Result<(), AllocError> {
+/// The mark of an event, up to its title, which begins with its clock and its goroutine.
+fn push_mark(text: &mut String, event: &Event, scale: &Scale) -> Result<(), AllocError> {
     let (clock, number) = (event.clock.time(), event.number);
     let (x, y) = (scale.place(clock), height(number));
     let mark = mark_of(event);
@@ -200,20 +196,26 @@ fn push_event(
     write!(
         text,
         "<path class=\"{class}\" d=\"M{x} {y}{shape}\"><title>{clock} goroutine {number} "
-    )?;
-    push_escaped(text, event_label(alloc, event)?.as_str())?;
+    )
+}
+
+/// The title of an event's mark, which is shown where a pointer rests on it, and the end of the mark.
+fn push_title(alloc: Global, text: &mut String, event: &Event) -> Result<(), AllocError> {
+    let label = event_label(alloc, event)?;
+    push_escaped(text, label.as_str())?;
     text.push_str("</title></path>\n")
 }
 
 /// The axis under the last lane, which lies at this height, with the clocks of some events.
 fn push_axis(text: &mut String, lowest: u64, scale: &Scale) -> Result<(), AllocError> {
     let y = lowest.saturating_add(24);
-    let right = scale.right();
-    write!(
-        text,
-        "<line class=\"axis\" x1=\"{LEFT}\" y1=\"{y}\" x2=\"{right}\" y2=\"{y}\"/>\n"
-    )?;
+    push_line(text, "axis", (LEFT, y), (scale.right(), y))?;
     push_tick(text, 0, LEFT, y)?;
+    push_ticks(text, y, scale)
+}
+
+/// The clocks of events on the axis, of those that lie too near to each other the first.
+fn push_ticks(text: &mut String, y: u64, scale: &Scale) -> Result<(), AllocError> {
     let mut free = LEFT.saturating_add(TICKS);
     for stop in scale.stops.iter() {
         let x = scale.place(stop.clock);

@@ -29,16 +29,34 @@ fn push_all(
     lanes: &Lanes,
 ) -> Result<(), AllocError> {
     text.push_str("{\"traceEvents\":[\n")?;
-    for lane in lanes.lanes.iter() {
+    push_lanes(text, recording, lanes.lanes.as_slice())?;
+    push_events(alloc, text, recording.events.as_slice())?;
+    push_flows(text, lanes.arrows.as_slice())?;
+    push_end(alloc, text, recording, lanes.last)
+}
+
+/// The threads.
+fn push_lanes(text: &mut String, recording: &Recording, lanes: &[Lane]) -> Result<(), AllocError> {
+    for lane in lanes {
         push_lane(text, recording, lane)?;
     }
-    for event in recording.events.iter() {
+    Ok(())
+}
+
+/// The instants.
+fn push_events(alloc: Global, text: &mut String, events: &[Event]) -> Result<(), AllocError> {
+    for event in events {
         push_event(alloc, text, event)?;
     }
-    for (flow, arrow) in lanes.arrows.iter().enumerate() {
+    Ok(())
+}
+
+/// The flows.
+fn push_flows(text: &mut String, arrows: &[Arrow]) -> Result<(), AllocError> {
+    for (flow, arrow) in arrows.iter().enumerate() {
         push_flow(text, flow, *arrow)?;
     }
-    push_end(alloc, text, recording, lanes.last)
+    Ok(())
 }
 
 /// A thread: its name, and slices for its life and its sleeps.

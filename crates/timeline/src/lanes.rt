@@ -88,12 +88,17 @@ impl Lanes {
             last: 0,
             items: Items::new(alloc),
         };
-        lanes.begin(1, None, 0)?;
-        for event in recording.events.iter() {
-            lanes.take(event)?;
-        }
-        lanes.close()?;
+        lanes.take_all(recording.events.as_slice())?;
         Ok(lanes)
+    }
+
+    /// What the events of a whole run do to the lanes, of which there are none yet.
+    fn take_all(&mut self, events: &[Event]) -> Result<(), Memory> {
+        self.begin(1, None, 0)?;
+        for event in events {
+            self.take(event)?;
+        }
+        self.close()
     }
 
     /// A goroutine begins.

@@ -9,5 +9,5 @@ returns-in-Ranging c = on_ok_weaker c.push.result (λ put. search (rules, put)) 
 pub returns-in-None : goal.returns-in-None
 returns-in-None c = on_ok_weaker c.push-in-None.result (λ put. search (rules, put)) (c.push-in-None.ensures (types_of c.args.program.now.table))
 
-pub returns-in_ok-new-in-Some : goal.returns-in_ok-new-in-Some
-returns-in_ok-new-in-Some c = on_ok_weaker c.push-in-Some-3.result (λ put. search (rules, put)) (c.push-in-Some-3.ensures (types_of c.args.program.now.table))
+pub returns-in-Some : goal.returns-in-Some
+returns-in-Some c = on_ok_weaker c.posts.result (λ put. search (rules, put)) (c.posts.ensures (types_of c.args.program.now.table))
