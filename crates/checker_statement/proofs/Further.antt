@@ -1,5 +1,5 @@
 -- What holds of statements and clauses that are left, one further.
-use Rattle.std.proofs.Common.{◌≡◌, ℕ, ◌+◌, ◌<◌, ◌≤◌, Bool, true, false, ◌&&◌, nat_le, ◌∙◌, inl, inr, List, Option, Result, Ok, Err, map, length, take, refl, sym, ap, arith}
+use Rattle.std.proofs.Common.{◌≡◌, ℕ, ◌+◌, ◌<◌, ◌≤◌, Bool, true, false, ◌&&◌, nat_le, ◌∙◌, inl, inr, List, Option, Result, Ok, Err, length, take, refl, sym, ap, arith}
 use Rattle.std.proofs.lemmas.Bool.Decides.{nat_tests}
 use Rattle.std.proofs.lemmas.List.{length-take, take-take}
 use Rattle.std.proofs.Math.Seq.{take-length}
@@ -13,7 +13,7 @@ use Rattle.checker_base.specs.Views.{Refuses}
 use Rattle.type_table.specs.declared.table.TypeTable.{TypeTable}
 use Rattle.type_table.specs.declared.visible.Visible.{Visible}
 use Rattle.type_table.specs.Scopes.{Scope, entered, left}
-use Rattle.type_table.specs.Visible.{types_of, variable_of, scope_of, Keeps, Leaves}
+use Rattle.type_table.specs.Visible.{scope_of, Keeps, Leaves}
 use Rattle.checker_statement.specs.Statements.{Setting, StatementHas, StatementsHave, ClauseHas, ClausesHave, after, after_clause}
 
 few : {X : Type 0} (a b : List X) → take (length a) b ≡ a → length a ≤ length b

@@ -2,11 +2,11 @@ use Rattle.std.proofs.Common.{rules, ◌≡◌, [], ◌∷◌, ◌+◌, suc, ap,
 use Rattle.std.proofs.lemmas.List.{drop_all}
 use Rattle.std.proofs.Math.Seq.{take-length}
 use Rattle.std.proofs.lemmas.Result.{err_from_is_err_and, IfOk-weaker}
-use Rattle.syntax.specs.Tree.{Statement, Then, Clause}
+use Rattle.syntax.specs.Tree.{Statement, Then}
 use Rattle.syntax.specs.Measures.{statement_size}
 use Rattle.syntax.specs.View.{expression_of, body_of, statement_of, if_head_of, for_head_of, otherwise_of, clause_of, clauses}
 use Rattle.type_table.specs.Scopes.{Scope, entered, left}
-use Rattle.type_table.specs.Visible.{globals_in, scope_of, Keeps}
+use Rattle.type_table.specs.Visible.{globals_in, scope_of, Keeps, Leaves}
 use Rattle.checker_base.specs.declared.flaw.Flaw.{Flaw}
 use Rattle.checker_base.specs.Views.{Refuses}
 use Rattle.checker_statement.specs.Settings.{setting_in}
@@ -157,7 +157,7 @@ for_statement-returns-clause-after t c =
 
 pub clause_parts-returns-clause-kept : goal.clause_parts-returns-clause-kept
 clause_parts-returns-clause-kept t c =
-    IfOk-weaker c.statements.result _ _ (λ _ kept. keeps_on c.args.visible.now c.optional_comm.new.visible c.statements.new.visible c.in_ok-behind.ensures.kept kept) c.statements.ensures.kept
+    IfOk-weaker c.statements.result (λ _. Keeps c.optional_comm.new.visible c.statements.new.visible) (λ _. Keeps c.args.visible.now c.statements.new.visible) (λ _ kept. keeps_on c.args.visible.now c.optional_comm.new.visible c.statements.new.visible c.in_ok-behind.ensures.kept kept) c.statements.ensures.kept
 
 pub statements-returns-in_err-end-clause-one : goal.statements-returns-in_err-end-clause-one
 statements-returns-in_err-end-clause-one t c =
@@ -186,13 +186,13 @@ pub statement-returns-in_ok-return_statement-in-Return-clause-kept : goal.statem
 statement-returns-in_ok-return_statement-in-Return-clause-kept t c = keeps_same c.args.visible.now
 
 pub statement-returns-in-If-clause-kept : goal.statement-returns-in-If-clause-kept
-statement-returns-in-If-clause-kept t c = IfOk-weaker c.if_statement.result _ _ (λ _ same. keeps_left c.args.visible.now c.if_statement.new.visible same) c.if_statement.ensures.left
+statement-returns-in-If-clause-kept t c = IfOk-weaker c.if_statement.result (λ _. Leaves c.args.visible.now c.if_statement.new.visible) (λ _. Keeps c.args.visible.now c.if_statement.new.visible) (λ _ same. keeps_left c.args.visible.now c.if_statement.new.visible same) c.if_statement.ensures.left
 
 pub statement-returns-in-For-clause-kept : goal.statement-returns-in-For-clause-kept
-statement-returns-in-For-clause-kept t c = IfOk-weaker c.for_statement.result _ _ (λ _ same. keeps_left c.args.visible.now c.for_statement.new.visible same) c.for_statement.ensures.left
+statement-returns-in-For-clause-kept t c = IfOk-weaker c.for_statement.result (λ _. Leaves c.args.visible.now c.for_statement.new.visible) (λ _. Keeps c.args.visible.now c.for_statement.new.visible) (λ _ same. keeps_left c.args.visible.now c.for_statement.new.visible same) c.for_statement.ensures.left
 
 pub statement-returns-in-Select-clause-kept : goal.statement-returns-in-Select-clause-kept
-statement-returns-in-Select-clause-kept t c = IfOk-weaker c.select.result _ _ (λ _ same. keeps_left c.args.visible.now c.select.new.visible same) c.select.ensures.left
+statement-returns-in-Select-clause-kept t c = IfOk-weaker c.select.result (λ _. Leaves c.args.visible.now c.select.new.visible) (λ _. Keeps c.args.visible.now c.select.new.visible) (λ _ same. keeps_left c.args.visible.now c.select.new.visible same) c.select.ensures.left
 
 pub statement-returns-in-Go-clause-kept : goal.statement-returns-in-Go-clause-kept
 statement-returns-in-Go-clause-kept t c = always c.call_alone.result (Keeps c.args.visible.now c.args.visible.now) (keeps_same c.args.visible.now)
