@@ -1,13 +1,19 @@
 -- What holds of statements and clauses that are left, one further.
-use Rattle.std.proofs.Common.{◌≡◌, ℕ, ◌+◌, ◌<◌, ◌≤◌, true, nat_le, ◌∙◌, inl, inr, List, Option, length, take, sym, ap, arith}
+use Rattle.std.proofs.Common.{◌≡◌, ℕ, ◌+◌, ◌<◌, ◌≤◌, Bool, true, false, ◌&&◌, nat_le, ◌∙◌, inl, inr, List, Option, Result, Ok, Err, length, take, refl, sym, ap, arith}
 use Rattle.std.proofs.lemmas.Bool.Decides.{nat_tests}
 use Rattle.std.proofs.lemmas.List.{length-take, take-take}
+use Rattle.std.proofs.Math.Seq.{take-length}
+use Rattle.std.specs.Result.{IfOk}
 use Rattle.syntax.specs.Tree.{Comm, Statement, Statements, Then, Clauses, Clause}
 use Rattle.syntax.specs.Measures.{if_any, comm_size, statement_size, statements_size}
 use Rattle.checker_base.specs.declared.flaw.Flaw.{Flaw}
+use Rattle.checker_base.specs.declared.refusal.Refusal.{Refusal}
+use Rattle.checker_base.specs.declared.refusal.Refusal.TheVariants.{Memory, Flawed}
+use Rattle.checker_base.specs.Views.{Refuses}
+use Rattle.type_table.specs.declared.table.TypeTable.{TypeTable}
 use Rattle.type_table.specs.declared.visible.Visible.{Visible}
 use Rattle.type_table.specs.Scopes.{Scope, entered, left}
-use Rattle.type_table.specs.Visible.{Keeps}
+use Rattle.type_table.specs.Visible.{scope_of, Keeps, Leaves}
 use Rattle.checker_statement.specs.Statements.{Setting, StatementHas, StatementsHave, ClauseHas, ClausesHave, after, after_clause}
 
 few : {X : Type 0} (a b : List X) → take (length a) b ≡ a → length a ≤ length b
@@ -18,6 +24,30 @@ pub keeps_on : (a b c : Visible) → Keeps a b → Keeps b c → Keeps a c
 keeps_on a b c one other =
     let same = sym (take-take (length a.entries.items) (length b.entries.items) c.entries.items (few a.entries.items b.entries.items one.0)) in
     (same ∙ ap (take (length a.entries.items)) other.0 ∙ one.0, other.1 ∙ one.1)
+
+pub keeps_same : (a : Visible) → Keeps a a
+keeps_same a = (take-length a.entries.items, refl)
+
+-- what is left as it was is kept
+pub keeps_left : (a b : Visible) → Leaves a b → Keeps a b
+keeps_left a b same = (ap (take (length a.entries.items)) same.0 ∙ take-length a.entries.items, same.1)
+
+pub always : {X Y : Type 0} (r : Result X Y) (P : Type 0) → P → IfOk r (λ _. P)
+always (Ok x) P p = p
+always (Err e) P p = tt
+
+pub refuses_more : (P Q : Flaw → Type 0) (e : Refusal) → ((flaw : Flaw) → P flaw → Q flaw) → Refuses P e → Refuses Q e
+refuses_more P Q Memory more r = tt
+refuses_more P Q (Flawed flaw) more r = more flaw r
+
+-- where a block has ended, the variables from before it are visible, and what it took of the frame stays taken
+pub block_left : (table : TypeTable) (old begun inner new : Visible) (count : ℕ) (scope : Scope)
+    → count ≡ length old.entries.items → begun.entries.items ≡ old.entries.items → Keeps begun inner → scope_of table inner ≡ scope
+    → new.entries.items ≡ take count inner.entries.items → new.outer ≡ old.outer → new.words ≡ inner.words
+    → scope_of table new ≡ left (scope_of table old) scope
+block_left table old begun inner new count scope counts same keeps is items outer words =
+    let back : new.entries.items ≡ old.entries.items = items ∙ ap (λ (n : ℕ). take n inner.entries.items) (counts ∙ sym (ap length same)) ∙ keeps.0 ∙ same in
+    rw (back, outer, words) (ap (λ (s : Scope). left (scope_of table old) s) is)
 
 -- ---- one statement further
 
@@ -54,3 +84,9 @@ passed_clause setting P before scope first end comm body rest is ends passed goo
 -- fewer than two
 pub few_defaults : (n : ℕ) → n < 2 → nat_le 2 n ≡ true → ⊥
 few_defaults n below many = grind (arith, nat_tests, below, many)
+
+-- where two things hold, the third decides
+pub both_hold : (one other rest all : Bool) → (one && other) ≡ true → (one && other && rest) ≡ all → rest ≡ all
+both_hold true true rest all holds whole = whole
+both_hold true false rest all holds whole = absurd cc
+both_hold false other rest all holds whole = absurd cc

@@ -1,6 +1,6 @@
 //! Where parts of statements begin and end, by the numbers of nodes.
 
-use crate::number::{comm_end, expression_end, simple_end, type_end};
+use crate::number::{comm_end, expression_end, optional_end, simple_end, type_end};
 use crate::unit::{Walk, declared_end};
 use std::alloc::Global;
 use syntax::node::IfHeader;
@@ -62,10 +62,7 @@ pub fn post_first(alloc: Global, first: NodeId, header: &ForHeader) -> NodeId {
         None => first,
         Some(simple) => simple_end(first, simple),
     };
-    match condition {
-        None => middle,
-        Some(condition) => expression_end(middle, condition),
-    }
+    optional_end(middle, condition)
 }
 
 /// The number behind the nodes of a clause of a `select`.

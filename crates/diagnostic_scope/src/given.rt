@@ -9,7 +9,7 @@ use checker_operation::place::place;
 use std::alloc::Global;
 use syntax::{
     ArgumentsNode, BinaryOperator, CommNode, ExpressionNode, Name, NodeId, OperationNode, PartNode,
-    PlaceNode, RangeTarget, ReturnNode, RightNode, SimpleNode, TypeNode,
+    PlaceNode, RangeTarget, ReturnNode, RightNode, SimpleNode, StatementNode, TypeNode,
 };
 use type_table::entry::{FunctionEntry, StructEntry};
 use type_table::layout::{function_number, number_of};
@@ -147,22 +147,6 @@ fn role_at(target: Target<'_>) -> Role<'_> {
     }
 }
 
-/// The type that is wanted of the value with this number.
-fn wanted_at<'a>(
-    table: &TypeTable<'a>,
-    visible: &Visible<'a>,
-    target: Target<'a>,
-    index: usize,
-) -> Option<ValueType<'a>> {
-    match target {
-        Target::Places(places) => place_type(table, visible, places.get(index)?),
-        Target::Names(names) => name_type(table, visible, names.get(index)?),
-        Target::Variables(kind, count) => if index < count { kind } else { None },
-        Target::Untyped => None,
-        Target::Parameters(function) => parameter_type(table, function, index),
-    }
-}
-
 impl<'a> Parts<'a> {
     /// Nothing yet of a unit that begins with this node.
     fn new(alloc: Global, first: NodeId) -> Parts<'a> {
@@ -182,9 +166,7 @@ impl<'a> Parts<'a> {
 
     /// Takes a place.
     fn take_place(&mut self, place: &'a PlaceNode) {
-        if self.places.push(place).is_err() {
-            self.is_cut = true;
-        }
+        self.is_cut |= self.places.push(place).is_err();
         self.end = after(self.end);
     }
 
@@ -197,9 +179,7 @@ impl<'a> Parts<'a> {
 
     /// Takes a name that is declared.
     fn take_name(&mut self, name: &'a Name) {
-        if self.names.push(name).is_err() {
-            self.is_cut = true;
-        }
+        self.is_cut |= self.names.push(name).is_err();
     }
 
     /// Takes names that are declared.
@@ -219,9 +199,7 @@ impl<'a> Parts<'a> {
             end,
             written,
         };
-        if self.types.push(one).is_err() {
-            self.is_cut = true;
-        }
+        self.is_cut |= self.types.push(one).is_err();
     }
 
     /// Takes a value.
@@ -234,20 +212,14 @@ impl<'a> Parts<'a> {
         let first = self.end;
         let end = expression_end(first, expression);
         self.end = end;
-        self.keep(Given {
+        let value = Given {
             first,
             end,
             expression,
             role,
             wanted,
-        });
-    }
-
-    /// Keeps a value.
-    fn keep(&mut self, value: Given<'a>) {
-        if self.values.push(value).is_err() {
-            self.is_cut = true;
-        }
+        };
+        self.is_cut |= self.values.push(value).is_err();
     }
 
     /// Takes a channel from which one receives.
@@ -255,43 +227,16 @@ impl<'a> Parts<'a> {
         self.take(channel, Role::ReceivedFrom, None);
     }
 
-    /// Takes values that go there.
-    fn take_all(
-        &mut self,
-        table: &TypeTable<'a>,
-        visible: &Visible<'a>,
-        values: &'a [ExpressionNode],
-        target: Target<'a>,
-    ) {
-        for (index, value) in values.iter().enumerate() {
-            let wanted = wanted_at(table, visible, target, index);
-            self.take(value, role_at(target), wanted);
-        }
-    }
-
-    /// Takes a call.
-    fn take_call(
-        &mut self,
-        table: &TypeTable<'a>,
-        visible: &Visible<'a>,
-        function: &'a Name,
-        arguments: &'a ArgumentsNode,
-    ) {
-        let values = arguments.values.as_slice();
-        self.take_all(table, visible, values, Target::Parameters(function));
-        self.keep_call(Called {
-            node: self.end,
+    /// Keeps a call, and passes its node.
+    fn keep_call(&mut self, function: &'a Name, arguments: &'a ArgumentsNode) {
+        let node = self.end;
+        self.end = after(node);
+        let called = Called {
+            node,
             function,
             arguments,
-        });
-        self.end = after(self.end);
-    }
-
-    /// Keeps a call.
-    fn keep_call(&mut self, called: Called<'a>) {
-        if self.calls.push(called).is_err() {
-            self.is_cut = true;
-        }
+        };
+        self.is_cut |= self.calls.push(called).is_err();
     }
 
     /// Takes a `make`.
@@ -302,119 +247,19 @@ impl<'a> Parts<'a> {
         }
     }
 
-    /// Takes the values in an operation.
-    fn take_operands(
-        &mut self,
-        table: &TypeTable<'a>,
-        visible: &Visible<'a>,
-        operation: &'a OperationNode,
-    ) {
-        match operation {
-            OperationNode::Call(function, arguments) => {
-                self.take_call(table, visible, function, arguments);
-            }
-            OperationNode::Receive(channel) => self.take_channel(channel),
-            OperationNode::Make(written, size) => self.take_make(written, size),
-            OperationNode::Length(of) => self.take(of, Role::Measured("len"), None),
-            OperationNode::Capacity(of) => self.take(of, Role::Measured("cap"), None),
-        }
-    }
-
-    /// Takes an operation, whose value is for this.
-    fn take_operation(
-        &mut self,
-        table: &TypeTable<'a>,
-        visible: &Visible<'a>,
-        operation: &'a OperationNode,
-        role: Role<'a>,
-        wanted: Option<ValueType<'a>>,
-    ) {
-        let end = operation_end(self.end, operation);
-        self.take_operands(table, visible, operation);
-        self.keep_operation(Made {
-            node: end.saturating_sub(1),
-            operation,
-            role,
-            wanted,
-        });
-        self.end = end;
-    }
-
     /// Keeps an operation.
     fn keep_operation(&mut self, made: Made<'a>) {
-        if self.operations.push(made).is_err() {
-            self.is_cut = true;
-        }
-    }
-
-    /// Takes a right side, whose values go there.
-    fn take_right(
-        &mut self,
-        table: &TypeTable<'a>,
-        visible: &Visible<'a>,
-        right: &'a RightNode,
-        target: Target<'a>,
-    ) {
-        match right {
-            RightNode::Operation(operation) => {
-                let wanted = wanted_at(table, visible, target, 0);
-                self.take_operation(table, visible, operation, role_at(target), wanted);
-            }
-            RightNode::Values(values) => {
-                self.take_all(table, visible, values.as_slice(), target);
-            }
-        }
-    }
-
-    /// Takes an argument of a print.
-    fn take_part(&mut self, part: &'a PartNode) {
-        match part {
-            PartNode::Value(value) => self.take(value, Role::Printed, None),
-            PartNode::Text(_) => self.end = after(self.end),
-        }
+        self.is_cut |= self.operations.push(made).is_err();
     }
 
     /// Takes arguments of a print.
     fn take_printed(&mut self, parts: &'a [PartNode]) {
         for part in parts {
-            self.take_part(part);
+            match part {
+                PartNode::Value(value) => self.take(value, Role::Printed, None),
+                PartNode::Text(_) => self.end = after(self.end),
+            }
         }
-    }
-
-    /// Takes a send.
-    fn take_send(
-        &mut self,
-        table: &TypeTable<'a>,
-        visible: &Visible<'a>,
-        channel: &'a ExpressionNode,
-        value: &'a ExpressionNode,
-    ) {
-        self.take(channel, Role::SentTo, None);
-        self.take(value, Role::Sent, element_of(table, visible, channel));
-    }
-
-    /// Takes an assignment.
-    fn take_assigned(
-        &mut self,
-        table: &TypeTable<'a>,
-        visible: &Visible<'a>,
-        places: &'a [PlaceNode],
-        right: &'a RightNode,
-    ) {
-        self.take_places(places);
-        self.take_right(table, visible, right, Target::Places(places));
-    }
-
-    /// Takes a `:=`.
-    fn take_defined(
-        &mut self,
-        table: &TypeTable<'a>,
-        visible: &Visible<'a>,
-        names: &'a [Name],
-        right: &'a RightNode,
-    ) {
-        self.take_names(names);
-        self.take_right(table, visible, right, Target::Names(names));
     }
 
     /// Takes a `++` or a `--`.
@@ -432,35 +277,6 @@ impl<'a> Parts<'a> {
     ) {
         self.take_place(place);
         self.take(value, Role::Operand(operator), None);
-    }
-
-    /// Takes a simple statement.
-    fn take_simple(
-        &mut self,
-        table: &TypeTable<'a>,
-        visible: &Visible<'a>,
-        simple: &'a SimpleNode,
-    ) {
-        match simple {
-            SimpleNode::Call(function, arguments) => {
-                self.take_call(table, visible, function, arguments);
-            }
-            SimpleNode::Close(channel) => self.take(channel, Role::Closed, None),
-            SimpleNode::Print(_, parts, _) => self.take_printed(parts.as_slice()),
-            SimpleNode::Receive(channel) => self.take_channel(channel),
-            SimpleNode::Send(channel, value) => self.take_send(table, visible, channel, value),
-            SimpleNode::Increment(place) => self.take_step(place, "++"),
-            SimpleNode::Decrement(place) => self.take_step(place, "--"),
-            SimpleNode::Assign(places, right) => {
-                self.take_assigned(table, visible, places.as_slice(), right);
-            }
-            SimpleNode::Define(names, right) => {
-                self.take_defined(table, visible, names.as_slice(), right);
-            }
-            SimpleNode::Update(place, operator, value) => {
-                self.take_update(place, *operator, value);
-            }
-        }
     }
 
     /// Takes a clause of a `select` that assigns what it receives to one place, or to two.
@@ -491,45 +307,6 @@ impl<'a> Parts<'a> {
         self.take_channel(channel);
     }
 
-    /// Takes what a clause of a `select` waits for.
-    fn take_comm(&mut self, table: &TypeTable<'a>, visible: &Visible<'a>, comm: &'a CommNode) {
-        match comm {
-            CommNode::Send(channel, value) => self.take_send(table, visible, channel, value),
-            CommNode::Receive(channel) => self.take_channel(channel),
-            CommNode::Define(name, other, channel) => self.take_declared(name, other, channel),
-            CommNode::Assign(place, other, channel) => self.take_received(place, other, channel),
-        }
-    }
-
-    /// Takes a `var` with a type.
-    fn take_typed(
-        &mut self,
-        table: &TypeTable<'a>,
-        visible: &Visible<'a>,
-        names: &'a [Name],
-        written: &'a TypeNode,
-        right: &'a Option<RightNode>,
-    ) {
-        self.take_names(names);
-        self.take_type(written);
-        if let Some(right) = right {
-            let kind = type_in(table, visible, written);
-            self.take_right(table, visible, right, Target::Variables(kind, names.len()));
-        }
-    }
-
-    /// Takes a `var` with values alone.
-    fn take_untyped(
-        &mut self,
-        table: &TypeTable<'a>,
-        visible: &Visible<'a>,
-        names: &'a [Name],
-        right: &'a RightNode,
-    ) {
-        self.take_names(names);
-        self.take_right(table, visible, right, Target::Untyped);
-    }
-
     /// Takes the head of a range.
     fn take_range(&mut self, target: &'a RangeTarget, source: &'a ExpressionNode) {
         match target {
@@ -540,42 +317,192 @@ impl<'a> Parts<'a> {
         self.take(source, Role::Ranged, None);
     }
 
-    /// Takes what a `return` gives.
-    fn take_returned(
-        &mut self,
-        table: &TypeTable<'a>,
-        scene: &Scene<'a>,
-        returned: &'a ReturnNode,
-    ) {
-        let wanted = scene.result;
-        match returned {
-            ReturnNode::Nothing => {}
-            ReturnNode::Value(value) => self.take(value, Role::Returned, wanted),
-            ReturnNode::Operation(operation) => {
-                self.take_operation(table, &scene.visible, operation, Role::Returned, wanted);
-            }
-        }
-    }
-
     /// Takes a condition; `in_for` says whether it is that of a `for`.
     fn take_condition(&mut self, in_for: bool, condition: &'a ExpressionNode) {
         self.take(condition, Role::Condition(in_for), Some(ValueType::Bool));
     }
+}
+
+/// What is taken of a unit in this scene.
+struct Taking<'s, 'a> {
+    table: &'s TypeTable<'a>,
+    scene: &'s Scene<'a>,
+    parts: Parts<'a>,
+}
+
+impl<'a> Taking<'_, 'a> {
+    /// The type that is wanted of the value with this number.
+    fn wanted_at(&self, target: Target<'a>, index: usize) -> Option<ValueType<'a>> {
+        let visible = &self.scene.visible;
+        match target {
+            Target::Places(places) => place_type(self.table, visible, places.get(index)?),
+            Target::Names(names) => name_type(self.table, visible, names.get(index)?),
+            Target::Variables(kind, count) => if index < count { kind } else { None },
+            Target::Untyped => None,
+            Target::Parameters(function) => parameter_type(self.table, function, index),
+        }
+    }
+
+    /// Takes values that go there.
+    fn take_all(&mut self, values: &'a [ExpressionNode], target: Target<'a>) {
+        for (index, value) in values.iter().enumerate() {
+            let wanted = self.wanted_at(target, index);
+            self.parts.take(value, role_at(target), wanted);
+        }
+    }
+
+    /// Takes a call.
+    fn take_call(&mut self, function: &'a Name, arguments: &'a ArgumentsNode) {
+        self.take_all(arguments.values.as_slice(), Target::Parameters(function));
+        self.parts.keep_call(function, arguments);
+    }
+
+    /// Takes the values in an operation.
+    fn take_operands(&mut self, operation: &'a OperationNode) {
+        match operation {
+            OperationNode::Call(function, arguments) => self.take_call(function, arguments),
+            OperationNode::Receive(channel) => self.parts.take_channel(channel),
+            OperationNode::Make(written, size) => self.parts.take_make(written, size),
+            OperationNode::Length(of) => self.parts.take(of, Role::Measured("len"), None),
+            OperationNode::Capacity(of) => self.parts.take(of, Role::Measured("cap"), None),
+        }
+    }
+
+    /// Takes an operation, whose value is for this.
+    fn take_operation(
+        &mut self,
+        operation: &'a OperationNode,
+        role: Role<'a>,
+        wanted: Option<ValueType<'a>>,
+    ) {
+        let end = operation_end(self.parts.end, operation);
+        self.take_operands(operation);
+        self.parts.end = end;
+        self.parts.keep_operation(Made {
+            node: end.saturating_sub(1),
+            operation,
+            role,
+            wanted,
+        });
+    }
+
+    /// Takes a right side, whose values go there.
+    fn take_right(&mut self, right: &'a RightNode, target: Target<'a>) {
+        match right {
+            RightNode::Operation(operation) => {
+                let wanted = self.wanted_at(target, 0);
+                self.take_operation(operation, role_at(target), wanted);
+            }
+            RightNode::Values(values) => self.take_all(values.as_slice(), target),
+        }
+    }
+
+    /// Takes a send.
+    fn take_send(&mut self, channel: &'a ExpressionNode, value: &'a ExpressionNode) {
+        let wanted = element_of(self.table, &self.scene.visible, channel);
+        self.parts.take(channel, Role::SentTo, None);
+        self.parts.take(value, Role::Sent, wanted);
+    }
+
+    /// Takes an assignment.
+    fn take_assigned(&mut self, places: &'a [PlaceNode], right: &'a RightNode) {
+        self.parts.take_places(places);
+        self.take_right(right, Target::Places(places));
+    }
+
+    /// Takes a `:=`.
+    fn take_defined(&mut self, names: &'a [Name], right: &'a RightNode) {
+        self.parts.take_names(names);
+        self.take_right(right, Target::Names(names));
+    }
+
+    /// Takes a simple statement.
+    fn take_simple(&mut self, simple: &'a SimpleNode) {
+        match simple {
+            SimpleNode::Call(function, arguments) => self.take_call(function, arguments),
+            SimpleNode::Close(channel) => self.parts.take(channel, Role::Closed, None),
+            SimpleNode::Print(_, parts, _) => self.parts.take_printed(parts.as_slice()),
+            SimpleNode::Receive(channel) => self.parts.take_channel(channel),
+            SimpleNode::Send(channel, value) => self.take_send(channel, value),
+            SimpleNode::Increment(place) => self.parts.take_step(place, "++"),
+            SimpleNode::Decrement(place) => self.parts.take_step(place, "--"),
+            SimpleNode::Assign(places, right) => self.take_assigned(places.as_slice(), right),
+            SimpleNode::Define(names, right) => self.take_defined(names.as_slice(), right),
+            SimpleNode::Update(place, operator, value) => {
+                self.parts.take_update(place, *operator, value);
+            }
+        }
+    }
+
+    /// Takes what a clause of a `select` waits for.
+    fn take_comm(&mut self, comm: &'a CommNode) {
+        match comm {
+            CommNode::Send(channel, value) => self.take_send(channel, value),
+            CommNode::Receive(channel) => self.parts.take_channel(channel),
+            CommNode::Define(name, other, channel) => {
+                self.parts.take_declared(name, other, channel);
+            }
+            CommNode::Assign(place, other, channel) => {
+                self.parts.take_received(place, other, channel);
+            }
+        }
+    }
+
+    /// Takes a `var` with a type.
+    fn take_typed(
+        &mut self,
+        names: &'a [Name],
+        written: &'a TypeNode,
+        right: &'a Option<RightNode>,
+    ) {
+        self.parts.take_names(names);
+        self.parts.take_type(written);
+        if let Some(right) = right {
+            let kind = type_in(self.table, &self.scene.visible, written);
+            self.take_right(right, Target::Variables(kind, names.len()));
+        }
+    }
+
+    /// Takes a `var` with values alone.
+    fn take_untyped(&mut self, names: &'a [Name], right: &'a RightNode) {
+        self.parts.take_names(names);
+        self.take_right(right, Target::Untyped);
+    }
+
+    /// Takes what a `return` gives.
+    fn take_returned(&mut self, returned: &'a ReturnNode) {
+        let wanted = self.scene.result;
+        match returned {
+            ReturnNode::Nothing => {}
+            ReturnNode::Value(value) => self.parts.take(value, Role::Returned, wanted),
+            ReturnNode::Operation(operation) => {
+                self.take_operation(operation, Role::Returned, wanted);
+            }
+        }
+    }
+
+    /// Takes a statement that holds no other.
+    fn take_leaf(&mut self, statement: &'a StatementNode) {
+        match statement {
+            StatementNode::Simple(simple) => self.take_simple(simple),
+            StatementNode::Typed(names, written, right) => {
+                self.take_typed(names.as_slice(), written, right);
+            }
+            StatementNode::Untyped(names, right) => self.take_untyped(names.as_slice(), right),
+            StatementNode::Go(function, arguments) => self.take_call(function, arguments),
+            StatementNode::Return(returned) => self.take_returned(returned),
+            _ => {}
+        }
+    }
 
     /// Takes a unit.
-    fn take_unit(&mut self, table: &TypeTable<'a>, scene: &Scene<'a>, unit: &Unit<'a>) {
-        let visible = &scene.visible;
+    fn take_unit(&mut self, unit: &Unit<'a>) {
         match *unit {
-            Unit::Simple(simple) => self.take_simple(table, visible, simple),
-            Unit::Typed(names, written, right) => {
-                self.take_typed(table, visible, names, written, right);
-            }
-            Unit::Untyped(names, right) => self.take_untyped(table, visible, names, right),
-            Unit::Condition(in_for, condition) => self.take_condition(in_for, condition),
-            Unit::Range(target, source) => self.take_range(target, source),
-            Unit::Comm(comm) => self.take_comm(table, visible, comm),
-            Unit::Go(function, arguments) => self.take_call(table, visible, function, arguments),
-            Unit::Return(returned) => self.take_returned(table, scene, returned),
+            Unit::Simple(simple) => self.take_simple(simple),
+            Unit::Leaf(statement) => self.take_leaf(statement),
+            Unit::Condition(in_for, condition) => self.parts.take_condition(in_for, condition),
+            Unit::Range(target, source) => self.parts.take_range(target, source),
+            Unit::Comm(comm) => self.take_comm(comm),
             _ => {}
         }
     }
@@ -588,8 +515,17 @@ pub fn parts_of<'a>(
     scene: &Scene<'a>,
     found: &Found<'a>,
 ) -> Parts<'a> {
-    let mut parts = Parts::new(alloc, found.first);
-    parts.take_unit(table, scene, &found.unit);
+    let mut taking = Taking {
+        table,
+        scene,
+        parts: Parts::new(alloc, found.first),
+    };
+    taking.take_unit(&found.unit);
+    let Taking {
+        table: _,
+        scene: _,
+        parts,
+    } = taking;
     parts
 }
 

@@ -1,7 +1,8 @@
 //! The numbers of a tree's nodes, which are counted in postorder. A number that would be too large is the largest one.
 
 use syntax::{
-    CommNode, ExpressionNode, NodeId, OperationNode, PartNode, RightNode, SimpleNode, TypeNode,
+    CommNode, ExpressionNode, NodeId, OperationNode, PartNode, ReturnNode, RightNode, SimpleNode,
+    StatementNode, TypeNode,
 };
 
 /// The number behind a node.
@@ -36,7 +37,7 @@ pub(crate) fn expression_end(first: NodeId, expression: &ExpressionNode) -> Node
 
 /// The number behind the nodes of expressions.
 #[cycle(expression_end)]
-pub(crate) fn values_end(first: NodeId, values: &[ExpressionNode]) -> NodeId {
+fn values_end(first: NodeId, values: &[ExpressionNode]) -> NodeId {
     let mut end = first;
     for value in values {
         end = expression_end(end, value);
@@ -45,7 +46,7 @@ pub(crate) fn values_end(first: NodeId, values: &[ExpressionNode]) -> NodeId {
 }
 
 /// The number behind the nodes of an expression that may be left out.
-fn optional_end(first: NodeId, expression: &Option<ExpressionNode>) -> NodeId {
+pub(crate) fn optional_end(first: NodeId, expression: &Option<ExpressionNode>) -> NodeId {
     match expression {
         None => first,
         Some(expression) => expression_end(first, expression),
@@ -64,7 +65,7 @@ pub(crate) fn operation_end(first: NodeId, operation: &OperationNode) -> NodeId 
 }
 
 /// The number behind the nodes of a right side.
-pub(crate) fn right_end(first: NodeId, right: &RightNode) -> NodeId {
+fn right_end(first: NodeId, right: &RightNode) -> NodeId {
     match right {
         RightNode::Operation(operation) => operation_end(first, operation),
         RightNode::Values(values) => values_end(first, values.as_slice()),
@@ -120,4 +121,34 @@ pub(crate) fn comm_end(first: NodeId, comm: &CommNode) -> NodeId {
         }
     };
     after(last)
+}
+
+/// The number behind the nodes of a `var` with a type, but for its own.
+fn typed_end(first: NodeId, written: &TypeNode, right: &Option<RightNode>) -> NodeId {
+    let start = type_end(first, written);
+    match right {
+        None => start,
+        Some(right) => right_end(start, right),
+    }
+}
+
+/// The number behind the nodes of what a `return` gives.
+fn returned_end(first: NodeId, returned: &ReturnNode) -> NodeId {
+    match returned {
+        ReturnNode::Nothing => first,
+        ReturnNode::Operation(operation) => operation_end(first, operation),
+        ReturnNode::Value(value) => expression_end(first, value),
+    }
+}
+
+/// The number behind the nodes of a statement that holds no other.
+pub(crate) fn leaf_end(first: NodeId, statement: &StatementNode) -> NodeId {
+    match statement {
+        StatementNode::Simple(simple) => simple_end(first, simple),
+        StatementNode::Typed(_, written, right) => after(typed_end(first, written, right)),
+        StatementNode::Untyped(_, right) => after(right_end(first, right)),
+        StatementNode::Go(_, arguments) => after(values_end(first, arguments.values.as_slice())),
+        StatementNode::Return(returned) => after(returned_end(first, returned)),
+        _ => after(first),
+    }
 }

@@ -61,36 +61,23 @@ impl<'a> Scene<'a> {
     {
         self.result = head.result;
         self.declare_all(table, head.parameters.as_slice());
-        self.pass_statements(alloc, table, head.end, body);
+        let inside = Inside {
+            result: head.result,
+            breaks: false,
+            continues: false,
+        };
+        let visible = &mut self.visible;
+        if let Err(Refusal::Memory) = statements(alloc, table, inside, visible, head.end, body) {
+            self.is_cut = true;
+        }
     }
 
     /// Declares parameters.
     fn declare_all(&mut self, table: &TypeTable<'a>, parameters: &[FieldEntry<'a>]) {
         for parameter in parameters {
-            if declare(table, &mut self.visible, parameter.kind, parameter.name).is_err() {
-                self.is_cut = true;
-            }
-        }
-    }
-
-    /// Checks statements, whose nodes have numbers from `first` on.
-    fn pass_statements(
-        &mut self,
-        alloc: Global,
-        table: &TypeTable<'a>,
-        first: NodeId,
-        body: &'a [StatementNode],
-    )
-        requires small { first + statements_size (body_of body.now) < 2 ^ 32 }
-    {
-        let inside = Inside {
-            result: self.result,
-            breaks: false,
-            continues: false,
-        };
-        match statements(alloc, table, inside, &mut self.visible, first, body) {
-            Err(Refusal::Memory) => self.is_cut = true,
-            _ => {}
+            let visible = &mut self.visible;
+            let declared = declare(table, visible, parameter.kind, parameter.name);
+            self.is_cut |= declared.is_err();
         }
     }
 }

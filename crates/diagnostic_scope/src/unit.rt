@@ -1,23 +1,21 @@
 //! The part of a file in which a node stands.
 
-use crate::number::{
-    after, comm_end, expression_end, operation_end, right_end, simple_end, type_end, values_end,
-};
+use crate::ends::function_first;
+use crate::number::{after, comm_end, expression_end, leaf_end, simple_end, type_end};
 use std::alloc::Global;
 use syntax::{
-    ArgumentsNode, ClauseNode, CommNode, DeclaredNode, ElseNode, ExpressionNode, FileNode,
-    ForHeader, FunctionNode, IfHeader, IfNode, Name, NodeId, RangeTarget, ReturnNode, RightNode,
-    SimpleNode, StatementNode, StructNode, TopNode, TypeNode,
+    ClauseNode, CommNode, DeclaredNode, ElseNode, ExpressionNode, FileNode, ForHeader,
+    FunctionNode, IfHeader, IfNode, NodeId, RangeTarget, SimpleNode, StatementNode, StructNode,
+    TopNode,
 };
 
 /// A part of a file that holds no statements, or one that does without them.
 #[derive(Clone, Copy)]
 pub enum Unit<'a> {
+    /// A simple statement in the header of another one.
     Simple(&'a SimpleNode),
-    /// A `var` with a type.
-    Typed(&'a [Name], &'a TypeNode, &'a Option<RightNode>),
-    /// A `var` with values alone.
-    Untyped(&'a [Name], &'a RightNode),
+    /// A statement that holds no other.
+    Leaf(&'a StatementNode),
     /// The condition of an `if` or, where the first is true, of a `for`.
     Condition(bool, &'a ExpressionNode),
     Range(&'a RangeTarget, &'a ExpressionNode),
@@ -25,10 +23,6 @@ pub enum Unit<'a> {
     Comm(&'a CommNode),
     /// A `select`, by its clauses.
     Select(&'a [ClauseNode]),
-    Go(&'a Name, &'a ArgumentsNode),
-    Return(&'a ReturnNode),
-    Break,
-    Continue,
     /// A declaration of a struct type.
     Struct(&'a StructNode),
     /// A function, but for its statements.
@@ -70,18 +64,11 @@ impl<'a> Walk<'a> {
         self.end = after(self.end);
     }
 
-    /// Passes a unit, whose nodes have the numbers from `first` to before `end`.
+    /// Passes a unit, whose nodes have the numbers from `first` to before `end`, and keeps it if it holds the node.
     fn pass(&mut self, first: NodeId, end: NodeId, unit: Unit<'a>) {
         self.end = end;
         if first <= self.node && self.node < end {
-            self.keep(Found { first, unit });
-        }
-    }
-
-    /// Keeps a unit that holds the node.
-    fn keep(&mut self, found: Found<'a>) {
-        if self.found.push(found).is_err() {
-            self.is_cut = true;
+            self.is_cut |= self.found.push(Found { first, unit }).is_err();
         }
     }
 
@@ -178,59 +165,6 @@ impl<'a> Walk<'a> {
         self.pass(first, after(self.end), Unit::Select(clauses));
     }
 
-    /// Passes a `return`.
-    fn pass_return(&mut self, returned: &'a ReturnNode) {
-        let end = match returned {
-            ReturnNode::Nothing => self.end,
-            ReturnNode::Operation(operation) => operation_end(self.end, operation),
-            ReturnNode::Value(value) => expression_end(self.end, value),
-        };
-        self.pass(self.end, after(end), Unit::Return(returned));
-    }
-
-    /// Passes a `var` with a type.
-    fn pass_typed(
-        &mut self,
-        names: &'a [Name],
-        written: &'a TypeNode,
-        right: &'a Option<RightNode>,
-    ) {
-        let start = type_end(self.end, written);
-        let end = match right {
-            None => start,
-            Some(right) => right_end(start, right),
-        };
-        self.pass(self.end, after(end), Unit::Typed(names, written, right));
-    }
-
-    /// Passes a `var` with values alone.
-    fn pass_untyped(&mut self, names: &'a [Name], right: &'a RightNode) {
-        let end = after(right_end(self.end, right));
-        self.pass(self.end, end, Unit::Untyped(names, right));
-    }
-
-    /// Passes a `go`.
-    fn pass_go(&mut self, function: &'a Name, arguments: &'a ArgumentsNode) {
-        let end = after(values_end(self.end, arguments.values.as_slice()));
-        self.pass(self.end, end, Unit::Go(function, arguments));
-    }
-
-    /// Passes a statement that holds no other.
-    fn pass_leaf(&mut self, statement: &'a StatementNode) {
-        match statement {
-            StatementNode::Simple(simple) => self.pass_simple(simple),
-            StatementNode::Typed(names, written, right) => {
-                self.pass_typed(names.as_slice(), written, right);
-            }
-            StatementNode::Untyped(names, right) => self.pass_untyped(names.as_slice(), right),
-            StatementNode::Go(function, arguments) => self.pass_go(function, arguments),
-            StatementNode::Return(returned) => self.pass_return(returned),
-            StatementNode::Break => self.pass(self.end, after(self.end), Unit::Break),
-            StatementNode::Continue => self.pass(self.end, after(self.end), Unit::Continue),
-            _ => self.pass_node(),
-        }
-    }
-
     /// Passes a statement.
     #[cycle(statement)]
     pub(crate) fn pass_statement(&mut self, statement: &'a StatementNode) {
@@ -242,7 +176,10 @@ impl<'a> Walk<'a> {
             StatementNode::If(branch) => self.pass_if(branch),
             StatementNode::For(header, body) => self.pass_for(header, body.as_slice()),
             StatementNode::Select(clauses) => self.pass_select(clauses.as_slice()),
-            _ => self.pass_leaf(statement),
+            _ => {
+                let end = leaf_end(self.end, statement);
+                self.pass(self.end, end, Unit::Leaf(statement));
+            }
         }
     }
 
@@ -258,12 +195,7 @@ impl<'a> Walk<'a> {
     /// Passes a function. What is wrong with it as a whole is told at its last node.
     fn pass_function(&mut self, function: &'a FunctionNode) {
         let first = self.end;
-        let parameters = declared_end(first, function.parameters.as_slice());
-        let head = match &function.result {
-            None => parameters,
-            Some(written) => type_end(parameters, written),
-        };
-        self.pass(first, head, Unit::Head(function));
+        self.pass(first, function_first(first, function), Unit::Head(function));
         self.pass_block(function.body.as_slice());
         self.pass(first, after(self.end), Unit::Head(function));
     }

@@ -9,7 +9,7 @@ use diagnostic_scope::unit::{Found, Unit, Walk, declared_at};
 use diagnostic_words::words::Words;
 use go_text::Rule;
 use std::alloc::Global;
-use syntax::{DeclaredNode, FunctionNode, Name, NodeId, StructNode, TopNode};
+use syntax::{DeclaredNode, FunctionNode, Name, NodeId, StatementNode, StructNode, TopNode};
 use type_table::scope::{is_blank, is_reserved};
 
 /// Whether this is the name of a function of a file.
@@ -200,7 +200,7 @@ fn push_in_head(
 fn push_broken(
     alloc: Global,
     said: &mut Words,
-    text: Text<'_>,
+    text: &Text<'_>,
     found: &Found<'_>,
     rule: Rule,
     node: NodeId,
@@ -210,14 +210,14 @@ fn push_broken(
         Unit::Struct(one) => push_in_struct(said, text.tops(), one, first, rule, node),
         Unit::Head(function) => push_in_head(said, text.tops(), function, first, rule, node),
         Unit::Select(clauses) => push_select(alloc, said, text, first, clauses, rule),
-        Unit::Break => said.text("break is not in a loop or select"),
-        Unit::Continue => said.text("continue is not in a loop"),
+        Unit::Leaf(StatementNode::Break) => said.text("break is not in a loop or select"),
+        Unit::Leaf(StatementNode::Continue) => said.text("continue is not in a loop"),
         _ => {}
     }
 }
 
 /// Tells what is wrong with a unit, if that does not depend on what is visible there.
-fn push_in_found(alloc: Global, said: &mut Words, text: Text<'_>, found: &Found<'_>, flaw: Flaw) {
+fn push_in_found(alloc: Global, said: &mut Words, text: &Text<'_>, found: &Found<'_>, flaw: Flaw) {
     match flaw {
         Flaw::Broken(rule, node) => push_broken(alloc, said, text, found, rule, node),
         Flaw::Exceeded(kind, _) => push_exceeded(said, &found.unit, kind),
@@ -228,7 +228,7 @@ fn push_in_found(alloc: Global, said: &mut Words, text: Text<'_>, found: &Found<
 pub(crate) fn push_in_unit(
     alloc: Global,
     said: &mut Words,
-    text: Text<'_>,
+    text: &Text<'_>,
     walk: &Walk<'_>,
     flaw: Flaw,
 ) {

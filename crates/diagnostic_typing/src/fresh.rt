@@ -47,7 +47,7 @@ fn push_old(said: &mut Words, names: &[&Name]) {
 }
 
 /// Tells of a `:=` that has one name twice, or none that is new.
-pub(crate) fn push_no_new(said: &mut Words, at: Setting<'_, '_>) {
+pub(crate) fn push_no_new(said: &mut Words, at: &Setting<'_, '_>) {
     let names = at.parts.names.as_slice();
     if let Some(name) = first_repeated(names) {
         return said.around("", name, " repeated on left side of :=");

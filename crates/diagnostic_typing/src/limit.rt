@@ -72,14 +72,14 @@ fn push_overflow(said: &mut Words, noun: &str, whole: &ExpressionNode) {
 }
 
 /// Tells that a constant is shifted too far.
-fn push_far(said: &mut Words, at: Setting<'_, '_>, count: &ExpressionNode) {
+fn push_far(said: &mut Words, at: &Setting<'_, '_>, count: &ExpressionNode) {
     said.text("invalid shift count ");
     at.push_operand(said, count);
     said.text(": a constant is shifted by at most 100");
 }
 
 /// Whether a constant is no count for a shift of a constant.
-fn is_far(at: Setting<'_, '_>, operator: BinaryOperator, count: &ExpressionNode) -> bool {
+fn is_far(at: &Setting<'_, '_>, operator: BinaryOperator, count: &ExpressionNode) -> bool {
     match operator {
         BinaryOperator::ShiftLeft | BinaryOperator::ShiftRight => {
             match at.worth(count) {
@@ -92,7 +92,7 @@ fn is_far(at: Setting<'_, '_>, operator: BinaryOperator, count: &ExpressionNode)
 }
 
 /// Tells of a constant that is over 2^100 in size, or shifted by more than 100, if an operator makes it.
-pub(crate) fn push_size(said: &mut Words, at: Setting<'_, '_>) {
+pub(crate) fn push_size(said: &mut Words, at: &Setting<'_, '_>) {
     match at.part() {
         Some(ExpressionNode::Binary(operator, _, right)) if is_far(at, *operator, right) => {
             push_far(said, at, right);

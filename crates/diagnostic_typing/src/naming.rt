@@ -15,7 +15,7 @@ fn is_type(table: &TypeTable<'_>, name: &[u8]) -> bool {
 }
 
 /// Whether a name stands for something at all.
-fn is_known(at: Setting<'_, '_>, name: &[u8]) -> bool {
+fn is_known(at: &Setting<'_, '_>, name: &[u8]) -> bool {
     at.variable(name).is_some()
         || is_type(at.table, name)
         || function_number(at.table, name).is_some()
@@ -28,7 +28,7 @@ fn push_undefined(said: &mut Words, name: &Name) {
 }
 
 /// Tells of a name that was to be a value.
-fn push_no_value(said: &mut Words, at: Setting<'_, '_>, name: &Name) {
+fn push_no_value(said: &mut Words, at: &Setting<'_, '_>, name: &Name) {
     let bytes = name.bytes.as_slice();
     if is_blank(bytes) {
         said.text("cannot use _ as value");
@@ -43,7 +43,7 @@ fn push_no_value(said: &mut Words, at: Setting<'_, '_>, name: &Name) {
 }
 
 /// Tells of a name that was to be that of a type.
-fn push_no_type(said: &mut Words, at: Setting<'_, '_>, name: &Name) {
+fn push_no_type(said: &mut Words, at: &Setting<'_, '_>, name: &Name) {
     let bytes = name.bytes.as_slice();
     if is_type(at.table, bytes) && at.variable(bytes).is_none() {
         said.around("invalid composite literal type ", name, "");
@@ -55,7 +55,7 @@ fn push_no_type(said: &mut Words, at: Setting<'_, '_>, name: &Name) {
 }
 
 /// Tells of a name that was to be that of a variable.
-fn push_no_variable(said: &mut Words, at: Setting<'_, '_>, name: &Name) {
+fn push_no_variable(said: &mut Words, at: &Setting<'_, '_>, name: &Name) {
     if is_known(at, name.bytes.as_slice()) {
         said.around("cannot assign to ", name, ": it is not a variable");
     } else {
@@ -64,7 +64,7 @@ fn push_no_variable(said: &mut Words, at: Setting<'_, '_>, name: &Name) {
 }
 
 /// Tells that an operand has no such field.
-fn push_no_field(said: &mut Words, at: Setting<'_, '_>, whole: &ExpressionNode, field: &Name) {
+fn push_no_field(said: &mut Words, at: &Setting<'_, '_>, whole: &ExpressionNode, field: &Name) {
     push_expression(said, whole);
     said.around(".", field, " undefined (type ");
     at.push_worth(said, whole);
@@ -80,7 +80,7 @@ pub(crate) fn last_name(written: &TypeNode) -> &Name {
 }
 
 /// Tells of a part of an expression that is not visible, or is not what is wanted there. Answers whether it is such a part.
-fn push_in_part(said: &mut Words, at: Setting<'_, '_>) -> bool {
+fn push_in_part(said: &mut Words, at: &Setting<'_, '_>) -> bool {
     match at.part() {
         Some(ExpressionNode::Named(name)) => push_no_value(said, at, name),
         Some(ExpressionNode::Composite(name, _, _)) => push_no_type(said, at, name),
@@ -91,7 +91,7 @@ fn push_in_part(said: &mut Words, at: Setting<'_, '_>) -> bool {
 }
 
 /// Tells of what is not visible, or is not what is wanted there.
-pub(crate) fn push_invisible(said: &mut Words, at: Setting<'_, '_>) {
+pub(crate) fn push_invisible(said: &mut Words, at: &Setting<'_, '_>) {
     if push_in_part(said, at) {
         return;
     }
@@ -109,7 +109,7 @@ pub(crate) fn push_invisible(said: &mut Words, at: Setting<'_, '_>) {
 /// Tells that a part of a place, which has this type, has no such field.
 fn push_no_such(
     said: &mut Words,
-    at: Setting<'_, '_>,
+    at: &Setting<'_, '_>,
     place: &PlaceNode,
     kind: ValueType<'_>,
     field: &Name,
@@ -121,7 +121,7 @@ fn push_no_such(
 }
 
 /// Tells of the first field in a place that is not there.
-fn push_no_path(said: &mut Words, at: Setting<'_, '_>, place: &PlaceNode, kind: ValueType<'_>) {
+fn push_no_path(said: &mut Words, at: &Setting<'_, '_>, place: &PlaceNode, kind: ValueType<'_>) {
     let mut kind = kind;
     for field in place.fields.iter() {
         match field_of(at.table, kind, field.bytes.as_slice()) {
@@ -132,7 +132,7 @@ fn push_no_path(said: &mut Words, at: Setting<'_, '_>, place: &PlaceNode, kind: 
 }
 
 /// Tells of a place that is no variable, and no field of one.
-pub(crate) fn push_unassigned(said: &mut Words, at: Setting<'_, '_>) {
+pub(crate) fn push_unassigned(said: &mut Words, at: &Setting<'_, '_>) {
     let Some(place) = at.place() else {
         return;
     };
@@ -156,7 +156,7 @@ fn first_reserved<'a>(names: &[&'a Name]) -> Option<&'a Name> {
 }
 
 /// The first of these names that is declared in the innermost block.
-fn first_own<'a>(at: Setting<'_, '_>, names: &[&'a Name]) -> Option<&'a Name> {
+fn first_own<'a>(at: &Setting<'_, '_>, names: &[&'a Name]) -> Option<&'a Name> {
     for &name in names {
         if own_variable(at.table, &at.scene.visible, name.bytes.as_slice()).is_some() {
             return Some(name);
@@ -178,7 +178,7 @@ pub(crate) fn push_refused(said: &mut Words, name: &Name) {
 }
 
 /// Tells of a variable that is there already, or is declared twice.
-fn push_again(said: &mut Words, at: Setting<'_, '_>, names: &[&Name]) {
+fn push_again(said: &mut Words, at: &Setting<'_, '_>, names: &[&Name]) {
     if let Some(name) = first_repeated(names) {
         return push_refused(said, name);
     }
@@ -188,7 +188,7 @@ fn push_again(said: &mut Words, at: Setting<'_, '_>, names: &[&Name]) {
 }
 
 /// Tells of a variable that may not be declared.
-pub(crate) fn push_redeclared(said: &mut Words, at: Setting<'_, '_>) {
+pub(crate) fn push_redeclared(said: &mut Words, at: &Setting<'_, '_>) {
     let names = at.parts.names.as_slice();
     match first_reserved(names) {
         Some(name) => push_refused(said, name),

@@ -11,7 +11,7 @@ use syntax::{ClauseNode, NodeId};
 fn push_default(
     alloc: Global,
     said: &mut Words,
-    text: Text<'_>,
+    text: &Text<'_>,
     first: NodeId,
     clauses: &[ClauseNode],
     number: usize,
@@ -25,7 +25,7 @@ fn push_default(
 fn push_defaults(
     alloc: Global,
     said: &mut Words,
-    text: Text<'_>,
+    text: &Text<'_>,
     first: NodeId,
     clauses: &[ClauseNode],
 ) {
@@ -40,7 +40,7 @@ fn push_defaults(
 pub(crate) fn push_select(
     alloc: Global,
     said: &mut Words,
-    text: Text<'_>,
+    text: &Text<'_>,
     first: NodeId,
     clauses: &[ClauseNode],
     rule: Rule,

@@ -18,12 +18,12 @@ impl<'a> Text<'a> {
     }
 
     /// The declarations of the text.
-    pub(crate) fn tops(self) -> &'a [TopNode] {
+    pub(crate) fn tops(&self) -> &'a [TopNode] {
         self.tree.file().tops.as_slice()
     }
 
     /// Puts the line and the column where a node begins behind what is there.
-    pub(crate) fn push_position(self, said: &mut Words, node: NodeId) {
+    pub(crate) fn push_position(&self, said: &mut Words, node: NodeId) {
         if node < self.tree.count() {
             let position = self.source.line_column(self.tree.span(node).from);
             said.number(i128::from(position.line));

@@ -29,7 +29,7 @@ use syntax::{FileNode, NodeId};
 use type_table::table::TypeTable;
 
 /// Tells of a condition that is no bool.
-fn push_condition(said: &mut Words, at: Setting<'_, '_>) {
+fn push_condition(said: &mut Words, at: &Setting<'_, '_>) {
     let Some(value) = at.parts.values.first() else {
         return;
     };
@@ -42,7 +42,7 @@ fn push_condition(said: &mut Words, at: Setting<'_, '_>) {
 }
 
 /// Tells of a constant that can't stand where it does.
-fn push_wrong_constant(said: &mut Words, at: Setting<'_, '_>) {
+fn push_wrong_constant(said: &mut Words, at: &Setting<'_, '_>) {
     push_constant(said, at);
     if said.is_empty() {
         push_operator(said, at);
@@ -50,7 +50,7 @@ fn push_wrong_constant(said: &mut Words, at: Setting<'_, '_>) {
 }
 
 /// Tells how a rule is broken, if that is known.
-fn push_rule(said: &mut Words, rule: Rule, at: Setting<'_, '_>) {
+fn push_rule(said: &mut Words, rule: Rule, at: &Setting<'_, '_>) {
     match rule {
         Rule::Declared => push_redeclared(said, at),
         Rule::Visible => push_invisible(said, at),
@@ -72,7 +72,7 @@ fn push_rule(said: &mut Words, rule: Rule, at: Setting<'_, '_>) {
 }
 
 /// Tells how a rule is broken, or a limit exceeded, if that is known.
-fn push_at(said: &mut Words, flaw: Flaw, at: Setting<'_, '_>) {
+fn push_at(said: &mut Words, flaw: Flaw, at: &Setting<'_, '_>) {
     match flaw {
         Flaw::Broken(rule, _) => push_rule(said, rule, at),
         Flaw::Exceeded(LimitKind::ConstantSize, _) => push_size(said, at),
@@ -106,7 +106,7 @@ fn push_in_scene(
         parts: &parts,
         node: node_of(flaw),
     };
-    push_at(said, flaw, at);
+    push_at(said, flaw, &at);
 }
 
 /// Tells what is wrong in the functions of a file, in the innermost of these units.
@@ -140,7 +140,7 @@ fn push_in_file(alloc: Global, said: &mut Words, file: &FileNode, walk: &Walk<'_
 }
 
 /// Tells what is wrong with a tree.
-fn push_in_tree(alloc: Global, said: &mut Words, text: Text<'_>, flaw: Flaw) {
+fn push_in_tree(alloc: Global, said: &mut Words, text: &Text<'_>, flaw: Flaw) {
     let walk = units_at(alloc, text.tree.file(), node_of(flaw));
     if walk.is_cut {
         return said.refuse();
@@ -157,7 +157,7 @@ fn push_in_tokens(alloc: Global, said: &mut Words, source: &Source, tokens: &[To
         return;
     }
     match parse(alloc, source, tokens) {
-        Ok(tree) => push_in_tree(alloc, said, Text::new(source, &tree), flaw),
+        Ok(tree) => push_in_tree(alloc, said, &Text::new(source, &tree), flaw),
         Err(Fault::Memory) => said.refuse(),
         Err(_) => {}
     }

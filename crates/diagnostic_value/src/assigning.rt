@@ -54,7 +54,7 @@ fn push_wanted(
 }
 
 /// Tells that a value does not fit.
-fn push_value(said: &mut Words, at: Setting<'_, '_>, value: &Given<'_>) {
+fn push_value(said: &mut Words, at: &Setting<'_, '_>, value: &Given<'_>) {
     said.text("cannot use ");
     at.push_operand(said, value.expression);
     push_wanted(said, at.table, value.wanted, &value.role);
@@ -62,7 +62,7 @@ fn push_value(said: &mut Words, at: Setting<'_, '_>, value: &Given<'_>) {
 
 /// The type of the value of an operation.
 pub(crate) fn kind_made<'a>(
-    at: Setting<'_, 'a>,
+    at: &Setting<'_, 'a>,
     operation: &'a OperationNode,
 ) -> Option<ValueType<'a>> {
     match operation {
@@ -74,7 +74,7 @@ pub(crate) fn kind_made<'a>(
 }
 
 /// Tells that the value of an operation does not fit.
-fn push_operation_value(said: &mut Words, at: Setting<'_, '_>, made: &Made<'_>) {
+fn push_operation_value(said: &mut Words, at: &Setting<'_, '_>, made: &Made<'_>) {
     said.text("cannot use ");
     let kind = kind_made(at, made.operation);
     push_made(said, at.table, made.operation, kind);
@@ -82,14 +82,14 @@ fn push_operation_value(said: &mut Words, at: Setting<'_, '_>, made: &Made<'_>) 
 }
 
 /// The type of the field that a literal's value is for.
-fn field_type<'a>(at: Setting<'_, 'a>, filled: &Filled<'_>) -> Option<ValueType<'a>> {
+fn field_type<'a>(at: &Setting<'_, 'a>, filled: &Filled<'_>) -> Option<ValueType<'a>> {
     let entry = struct_named(at.table, filled.literal)?;
     let field = entry.fields.get(filled.index)?;
     Some(field.kind)
 }
 
 /// Tells that a value does not fit a literal's field.
-fn push_filled(said: &mut Words, at: Setting<'_, '_>, filled: &Filled<'_>) {
+fn push_filled(said: &mut Words, at: &Setting<'_, '_>, filled: &Filled<'_>) {
     said.text("cannot use ");
     at.push_operand(said, filled.value);
     push_as(said, at.table, field_type(at, filled));
@@ -97,7 +97,7 @@ fn push_filled(said: &mut Words, at: Setting<'_, '_>, filled: &Filled<'_>) {
 }
 
 /// Tells that what is received from a channel does not fit a place.
-fn push_item(said: &mut Words, at: Setting<'_, '_>, channel: &Given<'_>, place: &PlaceNode) {
+fn push_item(said: &mut Words, at: &Setting<'_, '_>, channel: &Given<'_>, place: &PlaceNode) {
     said.text("cannot use a value received from ");
     at.push_operand(said, channel.expression);
     let kind = at.place_type(place);
@@ -115,7 +115,7 @@ fn is_ranged(value: &Given<'_>) -> bool {
 }
 
 /// Tells of an item of a range, or of a clause, that does not fit the first place.
-fn push_received(said: &mut Words, at: Setting<'_, '_>) {
+fn push_received(said: &mut Words, at: &Setting<'_, '_>) {
     let Some(channel) = at.parts.values.first() else {
         return;
     };
@@ -125,7 +125,7 @@ fn push_received(said: &mut Words, at: Setting<'_, '_>) {
 }
 
 /// Tells of a value that does not fit: that of a range or a clause, or one that stands for itself.
-fn push_unfit_value(said: &mut Words, at: Setting<'_, '_>) {
+fn push_unfit_value(said: &mut Words, at: &Setting<'_, '_>) {
     match at.value() {
         Some(value) if !is_ranged(value) => push_value(said, at, value),
         _ => push_received(said, at),
@@ -133,7 +133,7 @@ fn push_unfit_value(said: &mut Words, at: Setting<'_, '_>) {
 }
 
 /// Tells of the value at the node of the fault, which does not fit.
-pub fn push_unfit(said: &mut Words, at: Setting<'_, '_>) {
+pub fn push_unfit(said: &mut Words, at: &Setting<'_, '_>) {
     if let Some(made) = at.made() {
         return push_operation_value(said, at, made);
     }
@@ -144,7 +144,7 @@ pub fn push_unfit(said: &mut Words, at: Setting<'_, '_>) {
 }
 
 /// Tells of a constant that is used as an int, and fits none.
-fn push_overflow(said: &mut Words, at: Setting<'_, '_>, part: &ExpressionNode) {
+fn push_overflow(said: &mut Words, at: &Setting<'_, '_>, part: &ExpressionNode) {
     match at.value() {
         Some(value) if value.wanted.is_some() => {
             push_value(said, at, value);
@@ -158,7 +158,7 @@ fn push_overflow(said: &mut Words, at: Setting<'_, '_>, part: &ExpressionNode) {
 }
 
 /// Tells of a constant that is used as an int, and fits none, if such a one is at the node of the fault.
-pub fn push_constant(said: &mut Words, at: Setting<'_, '_>) {
+pub fn push_constant(said: &mut Words, at: &Setting<'_, '_>) {
     let Some(part) = at.part() else {
         return;
     };
@@ -168,7 +168,7 @@ pub fn push_constant(said: &mut Words, at: Setting<'_, '_>) {
 }
 
 /// Tells of a `nil` that is a value by itself.
-fn push_lone_nil(said: &mut Words, at: Setting<'_, '_>, value: &Given<'_>) {
+fn push_lone_nil(said: &mut Words, at: &Setting<'_, '_>, value: &Given<'_>) {
     match value.wanted {
         Some(kind) => {
             said.text("cannot use nil as ");
@@ -181,7 +181,7 @@ fn push_lone_nil(said: &mut Words, at: Setting<'_, '_>, value: &Given<'_>) {
 }
 
 /// Tells of a `nil` for which no channel type is known.
-pub fn push_nil(said: &mut Words, at: Setting<'_, '_>) {
+pub fn push_nil(said: &mut Words, at: &Setting<'_, '_>) {
     let Some(value) = at.around() else {
         return;
     };

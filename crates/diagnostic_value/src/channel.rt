@@ -18,7 +18,7 @@ fn before_no_channel(role: &Role<'_>) -> Option<&'static str> {
 }
 
 /// Tells of the operand at the node of the fault, which is no channel.
-pub fn push_no_channel(said: &mut Words, at: Setting<'_, '_>) {
+pub fn push_no_channel(said: &mut Words, at: &Setting<'_, '_>) {
     let Some(value) = at.value() else {
         return;
     };
@@ -45,7 +45,7 @@ fn before_direction(role: &Role<'_>) -> Option<&'static str> {
 }
 
 /// Tells of an operation that the direction of its channel does not allow.
-pub fn push_direction(said: &mut Words, at: Setting<'_, '_>) {
+pub fn push_direction(said: &mut Words, at: &Setting<'_, '_>) {
     let Some(value) = at.parts.values.first() else {
         return;
     };
@@ -74,7 +74,7 @@ fn push_unmade_type(said: &mut Words, operation: &OperationNode) {
 }
 
 /// Tells of a `make` of no channel, or of its size.
-pub fn push_unmade(said: &mut Words, at: Setting<'_, '_>) {
+pub fn push_unmade(said: &mut Words, at: &Setting<'_, '_>) {
     if let Some(value) = at.value() {
         said.text("invalid argument: size ");
         at.push_operand(said, value.expression);

@@ -16,7 +16,7 @@ fn push_count(said: &mut Words, count: usize, one: &str, many: &str) {
 }
 
 /// Puts how many values there are behind what is there.
-fn push_values(said: &mut Words, at: Setting<'_, '_>) {
+fn push_values(said: &mut Words, at: &Setting<'_, '_>) {
     if let Some(called) = at.parts.calls.first() {
         push_call(said, called.function, called.arguments);
         return said.text(" returns 1 value");
@@ -30,7 +30,7 @@ fn push_values(said: &mut Words, at: Setting<'_, '_>) {
 }
 
 /// Tells of an assignment or a declaration with too many or too few values.
-fn push_mismatch(said: &mut Words, at: Setting<'_, '_>) {
+fn push_mismatch(said: &mut Words, at: &Setting<'_, '_>) {
     let places = at.parts.places.len().max(at.parts.names.len());
     if places > 0 {
         said.text("assignment mismatch: ");
@@ -40,7 +40,7 @@ fn push_mismatch(said: &mut Words, at: Setting<'_, '_>) {
 }
 
 /// Puts the type of a value that is given behind what is there.
-fn push_given(said: &mut Words, at: Setting<'_, '_>, value: &ExpressionNode) {
+fn push_given(said: &mut Words, at: &Setting<'_, '_>, value: &ExpressionNode) {
     match at.worth(value) {
         Some(Worth::Constant(_)) => said.text("number"),
         Some(Worth::Nil) => said.text("nil"),
@@ -49,7 +49,7 @@ fn push_given(said: &mut Words, at: Setting<'_, '_>, value: &ExpressionNode) {
 }
 
 /// Puts types of values behind what is there, in parentheses.
-fn push_have(said: &mut Words, at: Setting<'_, '_>, values: &[ExpressionNode]) {
+fn push_have(said: &mut Words, at: &Setting<'_, '_>, values: &[ExpressionNode]) {
     said.text("(");
     for (index, value) in values.iter().enumerate() {
         said.text(if index > 0 { ", " } else { "" });
@@ -59,7 +59,7 @@ fn push_have(said: &mut Words, at: Setting<'_, '_>, values: &[ExpressionNode]) {
 }
 
 /// Puts types behind what is there, in parentheses.
-fn push_want(said: &mut Words, at: Setting<'_, '_>, kinds: &[ValueType<'_>]) {
+fn push_want(said: &mut Words, at: &Setting<'_, '_>, kinds: &[ValueType<'_>]) {
     said.text("(");
     for (index, kind) in kinds.iter().enumerate() {
         said.text(if index > 0 { ", " } else { "" });
@@ -71,7 +71,7 @@ fn push_want(said: &mut Words, at: Setting<'_, '_>, kinds: &[ValueType<'_>]) {
 /// Tells of a call with too many or too few arguments of a function with parameters of these types.
 fn push_arguments(
     said: &mut Words,
-    at: Setting<'_, '_>,
+    at: &Setting<'_, '_>,
     called: &Called<'_>,
     parameters: &[ValueType<'_>],
 ) {
@@ -86,7 +86,7 @@ fn push_arguments(
 }
 
 /// Tells of a literal with too many or too few values.
-fn push_literal(said: &mut Words, at: Setting<'_, '_>, name: &Name, values: usize) {
+fn push_literal(said: &mut Words, at: &Setting<'_, '_>, name: &Name, values: usize) {
     let Some(entry) = struct_named(at.table, name) else {
         return;
     };
@@ -96,7 +96,7 @@ fn push_literal(said: &mut Words, at: Setting<'_, '_>, name: &Name, values: usiz
 }
 
 /// Tells of too many or too few values.
-pub fn push_numbers(said: &mut Words, at: Setting<'_, '_>) {
+pub fn push_numbers(said: &mut Words, at: &Setting<'_, '_>) {
     if let Some(ExpressionNode::Composite(name, values, _)) = at.part() {
         return push_literal(said, at, name, values.len());
     }
@@ -109,14 +109,14 @@ pub fn push_numbers(said: &mut Words, at: Setting<'_, '_>) {
 }
 
 /// Tells of a value that is returned where there is no result.
-fn push_unwanted(said: &mut Words, at: Setting<'_, '_>, value: &ExpressionNode) {
+fn push_unwanted(said: &mut Words, at: &Setting<'_, '_>, value: &ExpressionNode) {
     said.text("too many return values (have (");
     push_given(said, at, value);
     said.text("), want ())");
 }
 
 /// Tells of an operation whose value is returned where there is no result.
-fn push_unwanted_operation(said: &mut Words, at: Setting<'_, '_>, operation: &OperationNode) {
+fn push_unwanted_operation(said: &mut Words, at: &Setting<'_, '_>, operation: &OperationNode) {
     said.text("too many return values (have (");
     match kind_made(at, operation) {
         Some(kind) => push_type(said, at.table, kind),
@@ -126,14 +126,14 @@ fn push_unwanted_operation(said: &mut Words, at: Setting<'_, '_>, operation: &Op
 }
 
 /// Tells of a `return` without a value where there is a result of this type.
-fn push_nothing(said: &mut Words, at: Setting<'_, '_>, kind: ValueType<'_>) {
+fn push_nothing(said: &mut Words, at: &Setting<'_, '_>, kind: ValueType<'_>) {
     said.text("not enough return values (have (), want (");
     push_type(said, at.table, kind);
     said.text("))");
 }
 
 /// Tells of a `return` with a value too many or too few.
-pub fn push_returned(said: &mut Words, at: Setting<'_, '_>) {
+pub fn push_returned(said: &mut Words, at: &Setting<'_, '_>) {
     if let Some(kind) = at.scene.result {
         return push_nothing(said, at, kind);
     }
@@ -146,7 +146,7 @@ pub fn push_returned(said: &mut Words, at: Setting<'_, '_>) {
 }
 
 /// Tells of a call of a variable of this type.
-fn push_variable(said: &mut Words, at: Setting<'_, '_>, name: &Name, kind: ValueType<'_>) {
+fn push_variable(said: &mut Words, at: &Setting<'_, '_>, name: &Name, kind: ValueType<'_>) {
     said.around(
         "invalid operation: cannot call non-function ",
         name,
@@ -157,7 +157,7 @@ fn push_variable(said: &mut Words, at: Setting<'_, '_>, name: &Name, kind: Value
 }
 
 /// Tells of a call of what is no function.
-fn push_no_function(said: &mut Words, at: Setting<'_, '_>, name: &Name) {
+fn push_no_function(said: &mut Words, at: &Setting<'_, '_>, name: &Name) {
     match at.variable(name.bytes.as_slice()) {
         Some(entry) => push_variable(said, at, name, entry.kind),
         None => {
@@ -168,7 +168,7 @@ fn push_no_function(said: &mut Words, at: Setting<'_, '_>, name: &Name) {
 }
 
 /// Whether a name stands for a function where the fault is.
-fn is_function(at: Setting<'_, '_>, name: &Name) -> bool {
+fn is_function(at: &Setting<'_, '_>, name: &Name) -> bool {
     let bytes = name.bytes.as_slice();
     at.variable(bytes).is_none()
         && number_of(at.table, bytes).is_none()
@@ -176,7 +176,7 @@ fn is_function(at: Setting<'_, '_>, name: &Name) -> bool {
 }
 
 /// Tells of a value that can't be printed.
-fn push_unprinted(said: &mut Words, at: Setting<'_, '_>) {
+fn push_unprinted(said: &mut Words, at: &Setting<'_, '_>) {
     let Some(value) = at.value() else {
         return;
     };
@@ -186,7 +186,7 @@ fn push_unprinted(said: &mut Words, at: Setting<'_, '_>) {
 }
 
 /// Tells of a call of no function, of one without a result that is used as a value, and of what can't be printed.
-pub fn push_called(said: &mut Words, at: Setting<'_, '_>) {
+pub fn push_called(said: &mut Words, at: &Setting<'_, '_>) {
     let Some(called) = at.called() else {
         return push_unprinted(said, at);
     };

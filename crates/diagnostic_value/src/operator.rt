@@ -31,7 +31,7 @@ fn sort_of_type(kind: ValueType<'_>) -> Sort {
 }
 
 /// The sort of an operand.
-fn sort_of(at: Setting<'_, '_>, expression: &ExpressionNode) -> Sort {
+fn sort_of(at: &Setting<'_, '_>, expression: &ExpressionNode) -> Sort {
     match at.worth(expression) {
         Some(Worth::Typed(kind)) => sort_of_type(kind),
         Some(Worth::Constant(_)) => Sort::Int,
@@ -43,7 +43,7 @@ fn sort_of(at: Setting<'_, '_>, expression: &ExpressionNode) -> Sort {
 /// Puts that an operator is not defined on an operand behind what is there.
 fn push_undefined_on(
     said: &mut Words,
-    at: Setting<'_, '_>,
+    at: &Setting<'_, '_>,
     operator: &str,
     operand: &ExpressionNode,
 ) {
@@ -56,7 +56,7 @@ fn push_undefined_on(
 /// Puts the two types of operands that do not go together behind what is there.
 fn push_mismatch(
     said: &mut Words,
-    at: Setting<'_, '_>,
+    at: &Setting<'_, '_>,
     left: &ExpressionNode,
     right: &ExpressionNode,
 ) {
@@ -70,7 +70,7 @@ fn push_mismatch(
 /// Tells of an operator between two operands.
 fn push_binary(
     said: &mut Words,
-    at: Setting<'_, '_>,
+    at: &Setting<'_, '_>,
     operator: BinaryOperator,
     left: &ExpressionNode,
     right: &ExpressionNode,
@@ -92,7 +92,7 @@ fn push_binary(
 /// Tells of an operator before an operand.
 fn push_unary(
     said: &mut Words,
-    at: Setting<'_, '_>,
+    at: &Setting<'_, '_>,
     operator: UnaryOperator,
     operand: &ExpressionNode,
 ) {
@@ -101,7 +101,7 @@ fn push_unary(
 }
 
 /// Tells of a place of another type than int that is counted up or down.
-fn push_step(said: &mut Words, at: Setting<'_, '_>, place: &PlaceNode) {
+fn push_step(said: &mut Words, at: &Setting<'_, '_>, place: &PlaceNode) {
     said.text("invalid operation: ");
     push_place(said, place);
     said.text(at.parts.step);
@@ -115,7 +115,7 @@ fn push_step(said: &mut Words, at: Setting<'_, '_>, place: &PlaceNode) {
 /// Puts that the operator of an assignment is not defined on a place of this value's type behind what is there.
 fn push_undefined_at(
     said: &mut Words,
-    at: Setting<'_, '_>,
+    at: &Setting<'_, '_>,
     place: &PlaceNode,
     operator: BinaryOperator,
     value: &ExpressionNode,
@@ -144,7 +144,7 @@ fn push_assigned(
 }
 
 /// Puts the type of a place and that of a value, which do not go together, behind what is there.
-fn push_types(said: &mut Words, at: Setting<'_, '_>, kind: ValueType<'_>, value: &ExpressionNode) {
+fn push_types(said: &mut Words, at: &Setting<'_, '_>, kind: ValueType<'_>, value: &ExpressionNode) {
     said.text(" (mismatched types ");
     push_type(said, at.table, kind);
     said.text(" and ");
@@ -155,7 +155,7 @@ fn push_types(said: &mut Words, at: Setting<'_, '_>, kind: ValueType<'_>, value:
 /// Puts an assignment with an operator, and its two types, behind what is there.
 fn push_update(
     said: &mut Words,
-    at: Setting<'_, '_>,
+    at: &Setting<'_, '_>,
     place: &PlaceNode,
     operator: BinaryOperator,
     value: &ExpressionNode,
@@ -174,7 +174,7 @@ fn push_update(
 }
 
 /// The operator of an assignment, and the value behind it.
-fn update_in<'a>(at: Setting<'_, 'a>) -> Option<(BinaryOperator, &'a ExpressionNode)> {
+fn update_in<'a>(at: &Setting<'_, 'a>) -> Option<(BinaryOperator, &'a ExpressionNode)> {
     let value = at.parts.values.first()?;
     match value.role {
         Role::Operand(operator) => Some((operator, value.expression)),
@@ -183,7 +183,7 @@ fn update_in<'a>(at: Setting<'_, 'a>) -> Option<(BinaryOperator, &'a ExpressionN
 }
 
 /// Tells of an operator of a statement, which does not fit its place.
-fn push_operator_of(said: &mut Words, at: Setting<'_, '_>) {
+fn push_operator_of(said: &mut Words, at: &Setting<'_, '_>) {
     let Some(place) = at.parts.places.first() else {
         return;
     };
@@ -194,7 +194,7 @@ fn push_operator_of(said: &mut Words, at: Setting<'_, '_>) {
 }
 
 /// Tells of operands that do not fit their operator.
-pub fn push_operands(said: &mut Words, at: Setting<'_, '_>) {
+pub fn push_operands(said: &mut Words, at: &Setting<'_, '_>) {
     match at.part() {
         Some(whole @ ExpressionNode::Binary(operator, left, right)) => {
             push_binary(said, at, *operator, left, right, whole);
@@ -210,7 +210,7 @@ fn divides(operator: BinaryOperator) -> bool {
 }
 
 /// Tells that a shift counts by a negative constant.
-fn push_negative(said: &mut Words, at: Setting<'_, '_>, count: &ExpressionNode) {
+fn push_negative(said: &mut Words, at: &Setting<'_, '_>, count: &ExpressionNode) {
     said.text("invalid operation: negative shift count ");
     at.push_operand(said, count);
 }
@@ -218,7 +218,7 @@ fn push_negative(said: &mut Words, at: Setting<'_, '_>, count: &ExpressionNode) 
 /// Tells of an assignment with an operator, to the right of which stands zero, or a negative count.
 fn push_wrong_update(
     said: &mut Words,
-    at: Setting<'_, '_>,
+    at: &Setting<'_, '_>,
     place: &PlaceNode,
     operator: BinaryOperator,
     value: &ExpressionNode,
@@ -233,7 +233,7 @@ fn push_wrong_update(
 /// Tells of an operator in an expression, to the right of which stands zero, or a negative count.
 fn push_wrong_right(
     said: &mut Words,
-    at: Setting<'_, '_>,
+    at: &Setting<'_, '_>,
     operator: BinaryOperator,
     right: &ExpressionNode,
     whole: &ExpressionNode,
@@ -246,7 +246,7 @@ fn push_wrong_right(
 }
 
 /// Tells of an assignment with an operator whose constant right operand can not stand there.
-fn push_operator_in(said: &mut Words, at: Setting<'_, '_>) {
+fn push_operator_in(said: &mut Words, at: &Setting<'_, '_>) {
     let Some(place) = at.parts.places.first() else {
         return;
     };
@@ -256,7 +256,7 @@ fn push_operator_in(said: &mut Words, at: Setting<'_, '_>) {
 }
 
 /// Tells of an operator whose constant right operand can not stand there.
-pub fn push_operator(said: &mut Words, at: Setting<'_, '_>) {
+pub fn push_operator(said: &mut Words, at: &Setting<'_, '_>) {
     match at.part() {
         Some(whole @ ExpressionNode::Binary(operator, _, right)) => {
             push_wrong_right(said, at, *operator, right, whole);

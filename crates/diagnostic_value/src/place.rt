@@ -22,18 +22,8 @@ pub struct Setting<'s, 'a> {
 }
 
 impl<'s, 'a> Setting<'s, 'a> {
-    /// The value whose own node is that of the fault.
-    pub fn value(self) -> Option<&'s Given<'a>> {
-        for value in self.parts.values.as_slice() {
-            if value.end == self.node.saturating_add(1) {
-                return Some(value);
-            }
-        }
-        None
-    }
-
     /// The value in which the node of the fault stands.
-    pub fn around(self) -> Option<&'s Given<'a>> {
+    pub fn around(&self) -> Option<&'s Given<'a>> {
         for value in self.parts.values.as_slice() {
             if value.first <= self.node && self.node < value.end {
                 return Some(value);
@@ -42,8 +32,16 @@ impl<'s, 'a> Setting<'s, 'a> {
         None
     }
 
+    /// The value whose own node is that of the fault.
+    pub fn value(&self) -> Option<&'s Given<'a>> {
+        match self.around() {
+            Some(value) if value.end == self.node.saturating_add(1) => Some(value),
+            _ => None,
+        }
+    }
+
     /// The operation whose own node is that of the fault.
-    pub fn made(self) -> Option<&'s Made<'a>> {
+    pub fn made(&self) -> Option<&'s Made<'a>> {
         for made in self.parts.operations.as_slice() {
             if made.node == self.node {
                 return Some(made);
@@ -53,7 +51,7 @@ impl<'s, 'a> Setting<'s, 'a> {
     }
 
     /// The call whose own node is that of the fault.
-    pub fn called(self) -> Option<&'s Called<'a>> {
+    pub fn called(&self) -> Option<&'s Called<'a>> {
         for called in self.parts.calls.as_slice() {
             if called.node == self.node {
                 return Some(called);
@@ -63,13 +61,13 @@ impl<'s, 'a> Setting<'s, 'a> {
     }
 
     /// The place whose node is that of the fault.
-    pub fn place(self) -> Option<&'a PlaceNode> {
+    pub fn place(&self) -> Option<&'a PlaceNode> {
         let number = self.node.checked_sub(self.parts.first)?;
         self.parts.places.get(number as usize).copied()
     }
 
     /// The type in which the node of the fault stands.
-    pub fn written(self) -> Option<&'a TypeNode> {
+    pub fn written(&self) -> Option<&'a TypeNode> {
         for one in self.parts.types.as_slice() {
             if one.first <= self.node && self.node < one.end {
                 return Some(one.written);
@@ -79,39 +77,39 @@ impl<'s, 'a> Setting<'s, 'a> {
     }
 
     /// The expression whose own node is that of the fault.
-    pub fn part(self) -> Option<&'a ExpressionNode> {
+    pub fn part(&self) -> Option<&'a ExpressionNode> {
         let value = self.around()?;
         part_at(self.node, value.first, value.expression)
     }
 
     /// The value of a literal whose own node is that of the fault.
-    pub fn filled(self) -> Option<Filled<'a>> {
+    pub fn filled(&self) -> Option<Filled<'a>> {
         let value = self.around()?;
         filled_at(self.node, value.first, value.expression)
     }
 
     /// What an expression is worth there, if it is right.
-    pub fn worth(self, expression: &ExpressionNode) -> Option<Worth<'a>> {
+    pub fn worth(&self, expression: &ExpressionNode) -> Option<Worth<'a>> {
         worth(self.table, &self.scene.visible, expression)
     }
 
     /// The type of a place there, if it has one.
-    pub fn place_type(self, place: &PlaceNode) -> Option<ValueType<'a>> {
+    pub fn place_type(&self, place: &PlaceNode) -> Option<ValueType<'a>> {
         place_type(self.table, &self.scene.visible, place)
     }
 
     /// The variable for which a name stands there, if it stands for one.
-    pub fn variable(self, name: &[u8]) -> Option<Entry<'a>> {
+    pub fn variable(&self, name: &[u8]) -> Option<Entry<'a>> {
         variable_named(self.table, &self.scene.visible, name)
     }
 
     /// Puts an operand, with what it is worth there, behind what is there.
-    pub fn push_operand(self, said: &mut Words, operand: &ExpressionNode) {
+    pub fn push_operand(&self, said: &mut Words, operand: &ExpressionNode) {
         push_operand(said, self.table, &self.scene.visible, operand);
     }
 
     /// Puts what an operand is worth there behind what is there.
-    pub fn push_worth(self, said: &mut Words, operand: &ExpressionNode) {
+    pub fn push_worth(&self, said: &mut Words, operand: &ExpressionNode) {
         push_worth(said, self.table, &self.scene.visible, operand);
     }
 }
