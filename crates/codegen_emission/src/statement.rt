@@ -45,6 +45,7 @@ use type_table::value_type::ValueType;
 
 /// The statements of a block, in order. What can't be reached is left out.
 #[cycle(statement)]
+#[tactic(auto, using(crate::proofs::Listing::begins, crate::proofs::Listing::begins_more, crate::proofs::Listing::begins_all, crate::proofs::Listing::begins_cut))]
 pub(crate) fn emit_statements<'t, 'l, 'm, 's, 'a>(
     alloc: Global,
     table: &'t TypeTable<'a>,
@@ -78,6 +79,7 @@ pub(crate) fn emit_statements<'t, 'l, 'm, 's, 'a>(
 
 /// A block.
 #[cycle(statement)]
+#[tactic(auto, using(crate::proofs::Listing::emits_block))]
 fn emit_block<'t, 'l, 'm, 's, 'a>(
     alloc: Global,
     table: &'t TypeTable<'a>,
@@ -257,6 +259,7 @@ fn emit_header_clauses<'t, 'l, 'm, 's, 'a>(
 
 /// A loop.
 #[cycle(statement)]
+#[tactic(auto, using(crate::proofs::Looping::emits_turns))]
 fn emit_loop<'t, 'l, 'm, 's, 'a>(
     alloc: Global,
     table: &'t TypeTable<'a>,
@@ -328,6 +331,7 @@ fn emit_loop<'t, 'l, 'm, 's, 'a>(
 
 /// What stands behind `else`.
 #[cycle(statement)]
+#[tactic(auto, using(crate::proofs::Emitting::emits_nothing))]
 fn emit_other<'t, 'l, 'm, 's, 'a>(
     alloc: Global,
     table: &'t TypeTable<'a>,
@@ -417,6 +421,7 @@ fn emit_one_way<'t, 'l, 'm, 's, 'a>(
 
 /// A condition, and what is done where it is true and where it is false.
 #[cycle(statement)]
+#[tactic(auto, using(crate::proofs::Branching::with_other, crate::proofs::Branching::without_other))]
 fn emit_ways<'t, 'l, 'm, 's, 'a>(
     alloc: Global,
     table: &'t TypeTable<'a>,
@@ -715,6 +720,7 @@ fn emit_select<'t, 'l, 'm, 's, 'a>(
 
 /// A statement.
 #[cycle(statement)]
+#[tactic(auto, using(crate::proofs::Emitting::emits_nothing))]
 fn emit_statement<'t, 'l, 'm, 's, 'a>(
     alloc: Global,
     table: &'t TypeTable<'a>,

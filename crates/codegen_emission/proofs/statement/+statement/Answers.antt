@@ -9,7 +9,7 @@ use Rattle.syntax.specs.declared.node.ClauseNode.{ClauseNode}
 use Rattle.syntax.specs.declared.node.StatementNode.{StatementNode}
 use Rattle.syntax.specs.View.{OneClause, body_of, branch_of, clause_of, clauses, comm_of, expression_of, if_head_of, otherwise_of, simple_of, statement_of, target_of}
 use Rattle.syntax.specs.declared.node.ElseNode.TheFolds.{the_lemmas}
-use Rattle.syntax.specs.Tree.{Break, Clause, Conditional, Continue, Empty, NoClause, NoElse}
+use Rattle.syntax.specs.Tree.{Break, Clause, Conditional, Continue, NoClause}
 use Rattle.type_table.specs.Views.{kind_of, yield_of}
 use Rattle.type_table.specs.Visible.{globals_in, types_of}
 use Rattle.meaning.specs.Variables.{blank}
@@ -34,13 +34,12 @@ use Rattle.codegen_emission.proofs.Defaults.{all_ways, default_here, default_lat
 use Rattle.codegen_emission.proofs.Selecting.{emits_as_is, emits_comm, emits_select}
 use Rattle.codegen_flow.specs.Controls.{Control, control}
 use Rattle.codegen_emission.specs.Emitted.{Emits, site_of}
-use Rattle.codegen_emission.proofs.Emitting.{emits_break, emits_continue, emits_nothing}
-use Rattle.codegen_emission.proofs.Listing.{begins, begins_all, begins_cut, begins_more, emits_block, next_statement}
+use Rattle.codegen_emission.proofs.Emitting.{emits_break, emits_continue}
+use Rattle.codegen_emission.proofs.Listing.{begins_all, begins_cut, begins_more, emits_block, next_statement}
 use Rattle.codegen_emission.specs.Branches.{made_condition, made_other, made_within}
 use Rattle.codegen_emission.specs.Turns.{made_turns}
 use Rattle.codegen_emission.proofs.Blocks.{Entered, Left, emits_headed}
-use Rattle.codegen_emission.proofs.Branching.{Beside, emits_one_way, emits_two_ways, with_other, without_other}
-use Rattle.codegen_emission.proofs.Looping.{emits_turns}
+use Rattle.codegen_emission.proofs.Branching.{Beside, emits_one_way, emits_two_ways}
 use Rattle.codegen_emission.proofs.Turning.{emits_tested, emits_untested}
 use Rattle.codegen_emission.proofs.statement.+statement.Goals as goal
 
@@ -51,11 +50,6 @@ emit_block-returns t c =
     emits_block c.args.table.now (globals_in c.args.table.now) c.args.elements.now (yield_of (types_of c.args.table.now) c.args.result_type) (body_of c.args.body.now) e0 (record { code = e0.code; prints = e0.prints; selects = e0.selects; layout = c.enter-mark.new.layout }) e2
     (record { code = e2.code; prints = e2.prints; selects = e2.selects; layout = c.leave.new.layout }) c.enter-mark.result.count c.enter-mark.result.outer (control c.in_ok-flow.flow) refl refl refl (c.enter-mark.ensures.layout c.args.table.now) c.enter-mark.ensures.kept
     c.enter-mark.ensures.count c.enter-mark.ensures.outer c.in_ok-flow.ensures refl refl refl c.leave.ensures.entries c.leave.ensures.outer c.leave.ensures.words c.leave.ensures.locals
-
-pub emit_statements-loop-statement-init : goal.emit_statements-loop-statement-init
-emit_statements-loop-statement-init t c =
-    let table = c.args.table.now in
-    begins table (globals_in table) c.args.elements.now (yield_of (types_of table) c.args.result_type) c.args.emitter.now (control c.through-flow.result) (body_of c.args.body.now) c.through-flow.ensures
 
 pub emit_statements-returns-then-not-goes_on : goal.emit_statements-returns-then-not-goes_on
 emit_statements-returns-then-not-goes_on t c =
@@ -78,14 +72,6 @@ emit_statements-returns t c =
     let i = c.loop-statement.statement-index in
     begins_all table (globals_in table) c.args.elements.now (yield_of (types_of table) c.args.result_type) c.args.emitter.now c.loop-statement.emitter (control c.loop-statement.flow) (body_of (drop i all)) (body_of all) (ap body_of (drop_all i all c.loop-statement-test.false)) c.loop-statement.invariant
 
-pub emit_statement-returns-in-Empty : goal.emit_statement-returns-in-Empty
-emit_statement-returns-in-Empty t c =
-    let table = c.args.table.now in
-    let e0 = c.args.emitter.now in
-    let flow = control c.through.result in
-    let is : statement_of c.args.statement.now ≡ Empty = search (rules, the_lemmas) in
-    subst (λ s. Emits table e0 e0 flow (made (globals_in table) c.args.elements.now (yield_of (types_of table) c.args.result_type) (site_of table e0) s)) (sym is) (emits_nothing table e0 flow c.through.ensures)
-
 pub emit_statement-returns-in_ok-flow-in-Break : goal.emit_statement-returns-in_ok-flow-in-Break
 emit_statement-returns-in_ok-flow-in-Break t c =
     let table = c.args.table.now in
@@ -99,12 +85,6 @@ emit_statement-returns-in_ok-flow-in-Continue t c =
     let is : statement_of c.args.statement.now ≡ Continue = search (rules, the_lemmas) in
     subst (λ s. Emits table c.args.emitter.now c.emit_jump-in-Continue.new.emitter (control c.in_ok-flow-in-Continue.flow) (made (globals_in table) c.args.elements.now (yield_of (types_of table) c.args.result_type) (site_of table c.args.emitter.now) s)) (sym is)
     (emits_continue table c.args.emitter.now c.emit_jump-in-Continue.new.emitter (control c.in_ok-flow-in-Continue.flow) c.in_ok-flow-in-Continue.ensures)
-
-pub emit_loop-returns-in-Forever : goal.emit_loop-returns-in-Forever
-emit_loop-returns-in-Forever t c = search (rules, the_lemmas, emits_turns)
-
-pub emit_loop-returns-in-While : goal.emit_loop-returns-in-While
-emit_loop-returns-in-While t c = search (rules, the_lemmas, emits_turns)
 
 pub emit_endless-returns : goal.emit_endless-returns
 emit_endless-returns t c =
@@ -234,20 +214,6 @@ emit_two_ways-returns t c =
     emits_two_ways table globals elements result (expression_of c.args.branch.now.condition) so (λ site. made_other globals elements result site (otherwise_of c.args.branch.now.otherwise)) e0 e1 e2 e3 e4 e5 e6 f (control c.in_ok-other.other) (control c.join_way.new.flow) (c.in_ok-push_test.ensures e0.layout.locals.items)
     (record { prints = refl; selects = refl; layout = refl }) c.in_ok-push.ensures.items (record { prints = refl; selects = refl; layout = refl }) within begun (record { prints = refl; selects = refl; layout = refl }) c.in_ok-other.ensures ended_at (record { prints = refl; selects = refl; layout = refl })
     c.in_ok-join_way.ensures
-
-pub emit_other-returns-in-Nothing : goal.emit_other-returns-in-Nothing
-emit_other-returns-in-Nothing t c =
-    let table = c.args.table.now in
-    let e0 = c.args.emitter.now in
-    let flow = control c.through.result in
-    let is : otherwise_of c.args.otherwise.now ≡ NoElse = search (rules, the_lemmas) in
-    subst (λ o. Emits table e0 e0 flow (made_other (globals_in table) c.args.elements.now (yield_of (types_of table) c.args.result_type) (site_of table e0) o)) (sym is) (emits_nothing table e0 flow c.through.ensures)
-
-pub emit_ways-returns-then-has_other : goal.emit_ways-returns-then-has_other
-emit_ways-returns-then-has_other t c = search (rules, the_lemmas, with_other)
-
-pub emit_ways-returns-else-has_other : goal.emit_ways-returns-else-has_other
-emit_ways-returns-else-has_other t c = search (rules, the_lemmas, without_other)
 
 pub emit_item-returns : goal.emit_item-returns
 emit_item-returns t c =
