@@ -59,7 +59,7 @@ fn emit_end<'a>(
 }
 
 /// The statements of a body, and its end where that is reached.
-#[tactic(auto, using(crate::proofs::Ending::emits_finished, crate::proofs::Ending::emits_unfinished))]
+#[tactic(auto, using(crate::proofs::Ending::emits_unfinished))]
 fn emit_all<'a>(
     alloc: Global,
     table: &TypeTable<'a>,

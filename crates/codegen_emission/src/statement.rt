@@ -45,7 +45,7 @@ use type_table::value_type::ValueType;
 
 /// The statements of a block, in order. What can't be reached is left out.
 #[cycle(statement)]
-#[tactic(auto, using(crate::proofs::Listing::begins, crate::proofs::Listing::begins_more, crate::proofs::Listing::begins_all, crate::proofs::Listing::begins_cut))]
+#[tactic(auto, using(crate::proofs::Listing::begins))]
 pub(crate) fn emit_statements<'t, 'l, 'm, 's, 'a>(
     alloc: Global,
     table: &'t TypeTable<'a>,
@@ -79,7 +79,6 @@ pub(crate) fn emit_statements<'t, 'l, 'm, 's, 'a>(
 
 /// A block.
 #[cycle(statement)]
-#[tactic(auto, using(crate::proofs::Listing::emits_block))]
 fn emit_block<'t, 'l, 'm, 's, 'a>(
     alloc: Global,
     table: &'t TypeTable<'a>,
