@@ -1,4 +1,5 @@
 pub mod Literals
+pub mod Texts
 pub mod Results
 pub mod Marks
 pub mod Lists
