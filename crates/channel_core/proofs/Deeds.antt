@@ -14,9 +14,9 @@ use Rattle.std.proofs.lemmas.List.{length-set, set-get_or, with_items_is}
 use Rattle.std.proofs.lemmas.Option.{none-some}
 use Rattle.std.proofs.Common.{◌+◌, ◌<◌, ◌≤◌, get_or, length-append}
 use Rattle.std.proofs.lemmas.Bool.{lt-ltb}
-use Rattle.word.specs.Requests.{Deed, GoesOn, channel_of, do_send, got, happened, no_channel, partner, receive_from, send_to, sent}
-use Rattle.word.specs.Values.{Channel, Done, Offer, Reply, Shared, Sleeper}
-use Rattle.channel_core.specs.Channels.{ChannelsValue, IsAlone, IsServed, Others, Partner, after_passing, came, deed_of, given, clause_at, partner_of, shared_with, Does, DoesAlone, Sends, Receives, Serves}
+use Rattle.word.specs.Requests.{Deed, GoesOn, act, channel_of, do_send, got, happened, no_channel, partner, partners, receive_from, send_to, sent, without_all}
+use Rattle.word.specs.Values.{Channel, Close, Done, Nothing, Offer, Reply, Shared, Sleeper}
+use Rattle.channel_core.specs.Channels.{ChannelsValue, IsAlone, IsServed, Others, Partner, after_passing, came, deed_of, given, clause_at, closed_for, partner_of, shared_with, Does, DoesAlone, Sends, Receives, Serves}
 use Rattle.channel_core.specs.declared.outcome.Outcome.{Outcome}
 use Rattle.channel_core.specs.declared.outcome.Outcome.TheVariants as outcomes
 
@@ -101,6 +101,17 @@ module _ (v : Vec Channel) (ws : List Channel) where
 
   pub unwritten : ws ≡ v.items → (with_items v ws).items ≡ v.items
   unwritten is = with_items_is v ws (ap length is ∙ sym v.ok.0) ∙ is
+
+-- a close that wakes these
+pub close_done : (old new : ChannelsValue) (k n : ℕ) (fate : Fate) (w : Vec (ℕ × Reply)) → false ≡ (channel_of old.channels k).closed → outcome_of fate ≡ Done Nothing
+    → w.items ≡ closed_for (channel_of old.channels k).zero (partners k old.asleep) → new.channels ≡ slice_set old.channels k (record (channel_of old.channels k) { closed = true }) → new.asleep ≡ without_all old.asleep w.items
+    → Does old n (Close (Some k)) (came fate w) new
+close_done old new k n fate w is tells woke put left o c =
+    let q : Request = Close (Some k) in
+    let ws : List (ℕ × Reply) = closed_for (channel_of old.channels k).zero (partners k old.asleep) in
+    let channels : List Channel = slice_set old.channels k (record (channel_of old.channels k) { closed = true }) in
+    let closes : act (shared_with o old) n c q q ≡ deed o n c q Nothing ws channels (without_all old.asleep ws) = rw (← is) refl in
+    closes ∙ deed_is o n c q fate w Nothing new ws channels (without_all old.asleep ws) tells woke put (left ∙ ap (without_all old.asleep) woke)
 
 -- ---- a send that is ready
 module _ (old : ChannelsValue) (n k : ℕ) (item : Item) (clause : ℕ) where
