@@ -78,7 +78,7 @@ done_is o n c q (fates.Done reply) w r new e = ap (λ (a : Reply). deed o n c q 
 done_is o n c q fates.Sleeps w r new e = cc
 done_is o n c q (fates.Panics cause k) w r new e = cc
 
--- the deed that an event tells of, where these are what was woken, and what is left
+-- the same, where these are the woken, the channels and the sleepers
 deed_is : (o : Others) (n c : ℕ) (q : Request) (fate : Fate) (w : Vec (ℕ × Reply)) (r : Reply) (new : ChannelsValue) (ws : List (ℕ × Reply)) (channels : List Channel) (asleep : List Sleeper)
     → outcome_of fate ≡ Done r → w.items ≡ ws → new.channels ≡ channels → new.asleep ≡ asleep → deed o n c q r ws channels asleep ≡ deed_of o n c q (came fate w) new
 deed_is o n c q fate w r new ws channels asleep tells woke put left =
@@ -91,7 +91,7 @@ pub on_err_always : {A E : Type 0} (r : Result A E) (P : Type 0) → P → OnErr
 on_err_always (Ok x) P p = tt
 on_err_always (Err e) P p = p
 
--- the channels, where one of them was written: as many as before
+-- the channels, where one of them may have been written: as many as before
 module _ (v : Vec Channel) (ws : List Channel) where
   pub few_still : (most : ℕ) → length v.items ≤ most → length (with_items v ws).items ≤ most
   few_still most few = omega (arith, few, v.ok.0, (with_items v ws).ok.0)
@@ -202,10 +202,7 @@ pub popped : (old new : ChannelsValue) (k clause : ℕ) (fate : Fate) → nat_lt
 popped old new k clause fate some tells put same w none o n c q =
     let told_it : Reply = got clause (slice_index_or (channel_of old.channels k).items 0 []) true in
     at (channel_of old.channels k).items some
-    ∙ ap (λ (l : List (ℕ × Reply)). deed o n c q told_it l (slice_set old.channels k (record (channel_of old.channels k) { items = drop 1 (channel_of old.channels k).items })) old.asleep) (sym none)
-    ∙ ap (λ (l : List Channel). deed o n c q told_it w.items l old.asleep) (sym put)
-    ∙ ap (λ (l : List Sleeper). deed o n c q told_it w.items new.channels l) (sym same)
-    ∙ done_is o n c q fate w told_it new tells
+    ∙ deed_is o n c q fate w told_it new [] (slice_set old.channels k (record (channel_of old.channels k) { items = drop 1 (channel_of old.channels k).items })) old.asleep tells none put same
   where
     at : (xs : List Item) → nat_lt 0 (length xs) ≡ true
         → receive_from (shared_with o old) n c q k (channel_of old.channels k) clause xs None ≡ deed o n c q (got clause (slice_index_or xs 0 []) true) [] (slice_set old.channels k (record (channel_of old.channels k) { items = drop 1 xs })) old.asleep

@@ -1,4 +1,4 @@
-use Rattle.std.proofs.Common.{ap, refl, subst, sym, ◌∙◌, ◌≡◌, ℕ, List, Option, Some}
+use Rattle.std.proofs.Common.{ap, refl, subst, sym, ◌∙◌, ◌≡◌, ℕ, List, Option}
 use Rattle.std.specs.Prelude.{slice_set, true}
 use Rattle.std.specs.Vec.{with_items}
 use Rattle.word.specs.Requests.{channel_of, partners, without_all}
