@@ -1,4 +1,5 @@
 pub mod Fetching
+pub mod Operands
 pub mod Quick
 pub mod Several
 pub mod Superinstructions

@@ -1,20 +1,22 @@
 -- What sends and receives do, branch by branch.
-use Rattle.std.proofs.Common.{◌≡◌, ◌∙◌, ℕ, zero, suc, Bool, true, false, List, [], ◌∷◌, ◌++◌, Option, Some, None, Result, Ok, Err, OnOk, refl, sym, ap, subst, arith, length}
+use Rattle.std.proofs.Common.{◌≡◌, ◌∙◌, ℕ, zero, suc, Bool, true, false, List, [], ◌∷◌, ◌++◌, Option, Some, None, Result, Ok, Err, OnErr, OnOk, refl, sym, ap, subst, arith, length}
 use Rattle.std.specs.Global.{Vec}
+use Rattle.std.specs.Vec.{with_items}
 use Rattle.word.specs.declared.request.Case.{Case}
 use Rattle.word.specs.declared.request.EventOutcome.{EventOutcome as Fate}
 use Rattle.word.specs.declared.request.EventOutcome.TheVariants as fates
+use Rattle.word.specs.declared.panic.Panic.TheVariants.{SendOnClosed}
 use Rattle.word.specs.Values.{Item, Request, Send, Receive, Select}
 use Rattle.word.specs.Views.{outcome_of, reply_of}
 use Rattle.word.specs.Requests.{choose, receive_ready, send_ready, without}
 use Rattle.std.specs.Prelude.{◌-◌, drop, nat_lt, map, option_map, slice_index_or, slice_set, unwrap_or}
-use Rattle.std.proofs.lemmas.List.{set-get_or}
+use Rattle.std.proofs.lemmas.List.{length-set, set-get_or, with_items_is}
 use Rattle.std.proofs.lemmas.Option.{none-some}
-use Rattle.std.proofs.Common.{◌<◌, length-append}
+use Rattle.std.proofs.Common.{◌+◌, ◌<◌, ◌≤◌, get_or, length-append}
 use Rattle.std.proofs.lemmas.Bool.{lt-ltb}
-use Rattle.word.specs.Requests.{Deed, GoesOn, channel_of, got, happened, no_channel, partner, receive_from, sent}
-use Rattle.word.specs.Values.{Channel, Done, Offer, Reply, Shared, Sleeper}
-use Rattle.channel_core.specs.Channels.{ChannelsValue, IsAlone, IsServed, Others, Partner, after_passing, came, deed_of, given, partner_of, shared_with, Does, DoesAlone, Sends, Receives, Serves}
+use Rattle.word.specs.Requests.{Deed, GoesOn, act, channel_of, do_send, got, happened, no_channel, partner, partners, receive_from, send_to, sent, without_all}
+use Rattle.word.specs.Values.{Channel, Close, Done, Nothing, Offer, Reply, Shared, Sleeper}
+use Rattle.channel_core.specs.Channels.{ChannelsValue, IsAlone, IsServed, Others, Partner, after_passing, came, deed_of, given, clause_at, closed_for, partner_of, shared_with, Does, DoesAlone, Sends, Receives, Serves}
 use Rattle.channel_core.specs.declared.outcome.Outcome.{Outcome}
 use Rattle.channel_core.specs.declared.outcome.Outcome.TheVariants as outcomes
 
@@ -76,6 +78,76 @@ done_is o n c q (fates.Done reply) w r new e = ap (λ (a : Reply). deed o n c q 
 done_is o n c q fates.Sleeps w r new e = cc
 done_is o n c q (fates.Panics cause k) w r new e = cc
 
+-- the same, where these are the woken, the channels and the sleepers
+deed_is : (o : Others) (n c : ℕ) (q : Request) (fate : Fate) (w : Vec (ℕ × Reply)) (r : Reply) (new : ChannelsValue) (ws : List (ℕ × Reply)) (channels : List Channel) (asleep : List Sleeper)
+    → outcome_of fate ≡ Done r → w.items ≡ ws → new.channels ≡ channels → new.asleep ≡ asleep → deed o n c q r ws channels asleep ≡ deed_of o n c q (came fate w) new
+deed_is o n c q fate w r new ws channels asleep tells woke put left =
+    ap (λ (l : List (ℕ × Reply)). deed o n c q r l channels asleep) (sym woke)
+    ∙ ap (λ (l : List Channel). deed o n c q r w.items l asleep) (sym put)
+    ∙ ap (λ (l : List Sleeper). deed o n c q r w.items new.channels l) (sym left)
+    ∙ done_is o n c q fate w r new tells
+
+pub on_err_always : {A E : Type 0} (r : Result A E) (P : Type 0) → P → OnErr r P
+on_err_always (Ok x) P p = tt
+on_err_always (Err e) P p = p
+
+-- the channels, where one of them may have been written: as many as before
+module _ (v : Vec Channel) (ws : List Channel) where
+  pub few_still : (most : ℕ) → length v.items ≤ most → length (with_items v ws).items ≤ most
+  few_still most few = omega (arith, few, v.ok.0, (with_items v ws).ok.0)
+
+  pub written : (cs : List Channel) (k : ℕ) (x : Channel) → cs ≡ v.items → ws ≡ slice_set cs k x → (with_items v ws).items ≡ ws
+  written cs k x same is = with_items_is v ws (ap length is ∙ length-set cs k x ∙ ap length same ∙ sym v.ok.0)
+
+  pub unwritten : ws ≡ v.items → (with_items v ws).items ≡ v.items
+  unwritten is = with_items_is v ws (ap length is ∙ sym v.ok.0) ∙ is
+
+-- a close that wakes these
+pub close_done : (old new : ChannelsValue) (k n : ℕ) (fate : Fate) (w : Vec (ℕ × Reply)) → false ≡ (channel_of old.channels k).closed → outcome_of fate ≡ Done Nothing
+    → w.items ≡ closed_for (channel_of old.channels k).zero (partners k old.asleep) → new.channels ≡ slice_set old.channels k (record (channel_of old.channels k) { closed = true }) → new.asleep ≡ without_all old.asleep w.items
+    → Does old n (Close (Some k)) (came fate w) new
+close_done old new k n fate w is tells woke put left o c =
+    let q : Request = Close (Some k) in
+    let ws : List (ℕ × Reply) = closed_for (channel_of old.channels k).zero (partners k old.asleep) in
+    let channels : List Channel = slice_set old.channels k (record (channel_of old.channels k) { closed = true }) in
+    let closes : act (shared_with o old) n c q q ≡ deed o n c q Nothing ws channels (without_all old.asleep ws) = rw (← is) refl in
+    closes ∙ deed_is o n c q fate w Nothing new ws channels (without_all old.asleep ws) tells woke put (left ∙ ap (without_all old.asleep) woke)
+
+-- ---- a send that is ready
+module _ (old : ChannelsValue) (n k : ℕ) (item : Item) (clause : ℕ) where
+  pub send_closed : true ≡ (channel_of old.channels k).closed → Sends old n k item clause (outcomes.Panics SendOnClosed clause) old
+  send_closed closed o c q = rw (← closed) refl
+
+  live : (o : Others) (c : ℕ) (q : Request) → false ≡ (channel_of old.channels k).closed
+      → do_send (shared_with o old) n c q k item clause ≡ send_to (shared_with o old) n c q k (channel_of old.channels k) item clause (partner k false old.asleep)
+  live o c q is = rw (← is) refl
+
+  -- it meets one who receives
+  pub send_met : (new : ChannelsValue) (p : Partner) (fate : Fate) (w : Vec (ℕ × Reply)) → false ≡ (channel_of old.channels k).closed → Some p ≡ option_map partner_of (partner k false old.asleep)
+      → outcome_of fate ≡ Done (sent clause) → w.items ≡ (p.number, got p.case item true) ∷ [] → new.channels ≡ old.channels → new.asleep ≡ without old.asleep p.number
+      → Sends old n k item clause (came fate w) new
+  send_met new p fate w is e tells woke same left o c q =
+      live o c q is ∙ at (partner k false old.asleep) e
+      ∙ deed_is o n c q fate w (sent clause) new ((p.number, got p.case item true) ∷ []) old.channels (without old.asleep p.number) tells woke same left
+    where
+      at : (m : Option (Sleeper × Offer)) → Some p ≡ option_map partner_of m
+          → send_to (shared_with o old) n c q k (channel_of old.channels k) item clause m ≡ deed o n c q (sent clause) ((p.number, got p.case item true) ∷ []) old.channels (without old.asleep p.number)
+      at None h = absurd (none-some p (sym h))
+      at (Some x) h = ap (λ (m : Partner). deed o n c q (sent clause) ((m.number, got m.case item true) ∷ []) old.channels (without old.asleep m.number)) (partner_inj (partner_of x) p (sym h))
+
+  -- it meets nobody
+  pub send_buffered : (new : ChannelsValue) (fate : Fate) (w : Vec (ℕ × Reply)) → false ≡ (channel_of old.channels k).closed → None ≡ option_map partner_of (partner k false old.asleep)
+      → outcome_of fate ≡ Done (sent clause) → w.items ≡ [] → new.channels ≡ slice_set old.channels k (record (channel_of old.channels k) { items = (channel_of old.channels k).items ++ item ∷ [] }) → new.asleep ≡ old.asleep
+      → Sends old n k item clause (came fate w) new
+  send_buffered new fate w is e tells woke put same o c q =
+      live o c q is ∙ at (partner k false old.asleep) e
+      ∙ deed_is o n c q fate w (sent clause) new [] (slice_set old.channels k (record (channel_of old.channels k) { items = (channel_of old.channels k).items ++ item ∷ [] })) old.asleep tells woke put same
+    where
+      at : (m : Option (Sleeper × Offer)) → None ≡ option_map partner_of m
+          → send_to (shared_with o old) n c q k (channel_of old.channels k) item clause m ≡ deed o n c q (sent clause) [] (slice_set old.channels k (record (channel_of old.channels k) { items = (channel_of old.channels k).items ++ item ∷ [] })) old.asleep
+      at None h = refl
+      at (Some x) h = absurd (none-some (partner_of x) h)
+
 pub given_got : (k : ℕ) (item : Item) (ok : Bool) → given (got k [] ok) item ≡ got k item ok
 given_got zero item ok = refl
 given_got (suc k) item ok = refl
@@ -130,10 +202,7 @@ pub popped : (old new : ChannelsValue) (k clause : ℕ) (fate : Fate) → nat_lt
 popped old new k clause fate some tells put same w none o n c q =
     let told_it : Reply = got clause (slice_index_or (channel_of old.channels k).items 0 []) true in
     at (channel_of old.channels k).items some
-    ∙ ap (λ (l : List (ℕ × Reply)). deed o n c q told_it l (slice_set old.channels k (record (channel_of old.channels k) { items = drop 1 (channel_of old.channels k).items })) old.asleep) (sym none)
-    ∙ ap (λ (l : List Channel). deed o n c q told_it w.items l old.asleep) (sym put)
-    ∙ ap (λ (l : List Sleeper). deed o n c q told_it w.items new.channels l) (sym same)
-    ∙ done_is o n c q fate w told_it new tells
+    ∙ deed_is o n c q fate w told_it new [] (slice_set old.channels k (record (channel_of old.channels k) { items = drop 1 (channel_of old.channels k).items })) old.asleep tells none put same
   where
     at : (xs : List Item) → nat_lt 0 (length xs) ≡ true
         → receive_from (shared_with o old) n c q k (channel_of old.channels k) clause xs None ≡ deed o n c q (got clause (slice_index_or xs 0 []) true) [] (slice_set old.channels k (record (channel_of old.channels k) { items = drop 1 xs })) old.asleep
@@ -174,8 +243,23 @@ receive_nil old n o c = refl
 abbrev pub Chooses : ChannelsValue → List Case → Option (ℕ × Case) → Type 0
 Chooses old cases found = (o : Others) (m c : ℕ) (q : Request) → choose (shared_with o old) m c q 1 cases ≡ found
 
-pub select_done : (old new : ChannelsValue) (n i : ℕ) (x : Case) (cases : List Case) (default : Bool) (outcome : Outcome) → Chooses old cases (Some (i, x)) → Serves old n x i outcome new → Does old n (Select cases default) outcome new
+select_done : (old new : ChannelsValue) (n i : ℕ) (x : Case) (cases : List Case) (default : Bool) (outcome : Outcome) → Chooses old cases (Some (i, x)) → Serves old n x i outcome new → Does old n (Select cases default) outcome new
 select_done old new n i x cases default outcome first serves o c = rw (first o n c (Select cases default)) (serves o c (Select cases default))
+
+at_place : (cases : List Case) (i : ℕ) (x y : Case) → i < length cases → x ≡ get_or cases i x → slice_index_or cases i y ≡ x
+at_place [] i x y within is = absurd (omega (arith, within))
+at_place (z ∷ zs) zero x y within is = sym is
+at_place (z ∷ zs) (suc i) x y within is = at_place zs i x y (omega (arith, within)) is
+
+-- it is the one that stands at this place
+pub chosen : (old : ChannelsValue) (i : ℕ) (x : Case) (cases : List Case) → i < length cases → x ≡ get_or cases i x → Chooses old cases (Some (suc i, clause_at cases i)) → Chooses old cases (Some (suc i, x))
+chosen old i x cases within is first o m c q = first o m c q ∙ ap (λ (y : Case). Some (suc i, y)) (at_place cases i x _ within is)
+
+pub select_served : (old new : ChannelsValue) (n i : ℕ) (x : Case) (cases : List Case) (default : Bool) (outcome : Outcome) → i < length cases → x ≡ get_or cases i x → Chooses old cases (Some (suc i, clause_at cases i)) → Serves old n x (i + 1) outcome new
+    → Does old n (Select cases default) outcome new
+select_served old new n i x cases default outcome within is first serves =
+    let more : i + 1 ≡ suc i = omega arith in
+    select_done old new n (suc i) x cases default outcome (chosen old i x cases within is first) (subst (λ (k : ℕ). Serves old n x k outcome new) more serves)
 
 pub select_sleeps : (old : ChannelsValue) (n : ℕ) (cases : List Case) → Chooses old cases None → Does old n (Select cases false) outcomes.Sleeps (with_sleeper old n (Select cases false))
 select_sleeps old n cases first o c = rw (first o n c (Select cases false)) refl

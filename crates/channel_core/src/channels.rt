@@ -289,7 +289,6 @@ impl Channels {
 
     /// The same of goroutine `number`, which asks this.
     #[inline(never)]
-    #[tactic(auto, using(crate::proofs::Deeds::select_done))]
     fn select_asked(
         &mut self,
         number: u64,
@@ -454,7 +453,6 @@ impl Channels {
     }
 
     /// A receive that meets nobody.
-    #[tactic(auto, using(crate::proofs::Deeds::popped))]
     fn receive_alone(&mut self, chan: u32, clause: usize, outcome: &mut EventOutcome)
         ensures { IsAlone self.old chan clause outcome.new self.new }
     {
