@@ -1,8 +1,8 @@
 -- Tasks over which a break or a continue passes.
-use Rattle.std.proofs.Common.{◌≡◌, ℕ, List, [], ◌∷◌, ◌++◌, ◌⊎◌, inl, inr, refl, ap, ◌∙◌}
+use Rattle.std.proofs.Common.{◌≡◌, ℕ, List, [], ◌∷◌, ◌++◌, ◌⊎◌, inl, inr, refl, sym, ap, ◌∙◌}
 use Rattle.syntax.specs.Tree.{Branch, Conditional}
 use Rattle.syntax.specs.View.{branch_of}
-use Rattle.meaning.specs.Tasks.{Task as OneTask, broken, continued}
+use Rattle.meaning.specs.Tasks.{Task as OneTask, broken, continued, frame}
 use Rattle.meaning.specs.Variables.{Blocks, left}
 use Rattle.reference_base.specs.declared.task.Loop.{Loop}
 use Rattle.reference_base.specs.declared.task.Task.{Task}
@@ -65,9 +65,16 @@ module _ (types : List (List ℕ)) (blocks : Blocks) (all rest : List Task) (tas
   pub continues_over : (task ≡ tasks.EndBlock → ⊥) → ((loop : Loop) → task ≡ tasks.Again loop → ⊥) → (task ≡ tasks.EndSelect → ⊥) → continued blocks (tasks_of types all) ≡ continued blocks (tasks_of types rest)
   continues_over block again select = ap (continued blocks) shown ∙ over_continue types blocks (tasks_of types rest) task (record { block = block; again = again; select = select })
 
-  pub breaks_block : task ≡ tasks.EndBlock → broken blocks (tasks_of types all) ≡ broken (left blocks) (tasks_of types rest)
-  breaks_block end = ap (broken blocks) shown ∙ ap (λ (t : Task). broken blocks (task_of types t ∷ tasks_of types rest)) end
-
   pub continues_block : (task ≡ tasks.EndBlock) ⊎ (task ≡ tasks.EndSelect) → continued blocks (tasks_of types all) ≡ continued (left blocks) (tasks_of types rest)
   continues_block (inl end) = ap (continued blocks) shown ∙ ap (λ (t : Task). continued blocks (task_of types t ∷ tasks_of types rest)) end
   continues_block (inr end) = ap (continued blocks) shown ∙ ap (λ (t : Task). continued blocks (task_of types t ∷ tasks_of types rest)) end
+
+  pub breaks_here : ((loop : Loop) × (task ≡ tasks.Again loop)) ⊎ (task ≡ tasks.EndSelect) → broken blocks (tasks_of types all) ≡ frame (left blocks) (tasks_of types rest)
+  breaks_here (inl (loop, end)) = ap (broken blocks) shown ∙ ap (λ (t : Task). broken blocks (task_of types t ∷ tasks_of types rest)) end
+  breaks_here (inr end) = ap (broken blocks) shown ∙ ap (λ (t : Task). broken blocks (task_of types t ∷ tasks_of types rest)) end
+
+  pub continues_here : (loop : Loop) → task ≡ tasks.Again loop → continued blocks (tasks_of types all) ≡ frame blocks (task_of types task ∷ tasks_of types rest)
+  continues_here loop end =
+      ap (continued blocks) shown
+      ∙ ap (λ (t : Task). continued blocks (task_of types t ∷ tasks_of types rest)) end
+      ∙ ap (λ (t : Task). frame blocks (task_of types t ∷ tasks_of types rest)) (sym end)

@@ -23,35 +23,39 @@ use syntax::{ElseNode, IfNode, ReturnNode, StatementNode};
 use word::value::Word;
 
 /// Leaves a loop or a select.
-#[tactic(auto, using(reference_value::proofs::Lasts::shown_last))]
 pub fn leave(top: &mut Frame<'_>)
     ensures { (types : List (List ℕ)) → frame_of types top.new ≡ broken (blocks_of types top.old.scope) (tasks_of types top.old.tasks.items) }
 {
     while let Some(task) = top.tasks.pop() {
         match task {
-            Task::EndBlock => top.scope.leave(),
-            Task::Again(_) | Task::EndSelect => {
+            Task::EndBlock => {
+                drop(task);
                 top.scope.leave();
-                return;
             }
-            _ => {}
+            Task::Again(_) | Task::EndSelect => {
+                drop(task);
+                return top.scope.leave();
+            }
+            _ => drop(task),
         }
     }
 }
 
 /// Goes to the end of a loop's body.
-#[tactic(auto, using(reference_value::proofs::Lasts::shown_last))]
 pub fn go_on(top: &mut Frame<'_>) -> Result<(), AllocError>
     ensures { (types : List (List ℕ)) → OnOk result (frame_of types top.new ≡ continued (blocks_of types top.old.scope) (tasks_of types top.old.tasks.items)) }
 {
     while let Some(task) = top.tasks.pop() {
         match task {
-            Task::EndBlock | Task::EndSelect => top.scope.leave(),
+            Task::EndBlock | Task::EndSelect => {
+                drop(task);
+                top.scope.leave();
+            }
             Task::Again(_) => {
                 top.push(task)?;
                 return Ok(());
             }
-            _ => {}
+            _ => drop(task),
         }
     }
     Ok(())

@@ -1,14 +1,15 @@
-use Rattle.std.proofs.Common.{rules, ◌≡◌, ◌∷◌, ◌+◌, ◌∙◌, false, suc, length, map, nat_eq, drop, drop-cons, is_ok, ap, arith}
+use Rattle.std.proofs.Common.{rules, ◌≡◌, [], ◌∷◌, ◌+◌, ◌∙◌, true, false, suc, length, map, nat_eq, drop, drop-cons, is_ok, ap, arith}
 use Rattle.std.proofs.ResultArms.{chosen}
-use Rattle.std.proofs.lemmas.List.{length-map}
+use Rattle.std.proofs.lemmas.List.{length-map, drop_all}
+use Rattle.std.proofs.lemmas.Result.{err_from_is_err_and}
 use Rattle.syntax.specs.declared.node.ExpressionNode.TheFolds.{the_lemmas}
 use Rattle.syntax.specs.Tree.{Composite, expressions}
 use Rattle.syntax.specs.View.{name_of, expression_of}
 use Rattle.type_table.specs.Visible.{types_of, globals_in}
 use Rattle.type_table.specs.Zeros.{zero_words}
-use Rattle.meaning.specs.Expressions.{fields, type_of}
+use Rattle.meaning.specs.Expressions.{fields, type_of, value}
 use Rattle.reference_value.specs.Scopes.{blocks_of}
-use Rattle.reference_value.proofs.Literals.{filled, joined_next}
+use Rattle.reference_value.proofs.Literals.{filled, unfilled, joined_next, joined_last, fails_next}
 use Rattle.reference_value.proofs.value.+value.Goals as goal
 
 pub value-returns-else-is_empty-clause-ok : goal.value-returns-else-is_empty-clause-ok
@@ -21,6 +22,16 @@ value-returns-else-is_empty-clause-ok t c =
     let some : nat_eq (length values) 0 ≡ false = simp length-map (search rules) in
     let same = filled values (zero_words globals.structs (type_of globals blocks (Composite name (expressions values) c.in-Composite.field-2))) (fields globals blocks (expressions values)) some in
     rw (is, same) (rw c.as_slice-in-Composite.ensures.value at c.fields.ensures.ok)
+
+pub value-returns-then-is_empty-clause-ok : goal.value-returns-then-is_empty-clause-ok
+value-returns-then-is_empty-clause-ok t c =
+    let globals = globals_in c.args.table.now in
+    let blocks = blocks_of (types_of c.args.table.now) c.args.scope.now in
+    let values = map expression_of c.in-Composite.values.items in
+    let literal = Composite (name_of c.in-Composite.field-0) (expressions values) c.in-Composite.field-2 in
+    let is : expression_of c.args.expression.now ≡ literal = search (rules, the_lemmas) in
+    let none : nat_eq (length values) 0 ≡ true = simp length-map (search rules) in
+    rw c.in_ok-zeros-in-Composite.ensures (rw is (unfilled values (zero_words globals.structs (type_of globals blocks literal)) (fields globals blocks (expressions values)) none))
 
 pub fields-loop-expression-preserved : goal.fields-loop-expression-preserved
 fields-loop-expression-preserved t c =
@@ -36,3 +47,20 @@ fields-loop-expression-preserved t c =
     record {
       words = rw (more, pushed, c.as_slice.ensures.value) (rw c.in_ok-own.ensures.ok at (rw cut at c.loop-expression.invariant.words) ∙ joined_next before own rest);
     }
+
+pub fields-returns-in_err-own-clause-err : goal.fields-returns-in_err-own-clause-err
+fields-returns-in_err-own-clause-err t c =
+    let globals = globals_in c.args.table.now in
+    let blocks = blocks_of (types_of c.args.table.now) c.args.scope.now in
+    let all = fields globals blocks (expressions (map expression_of c.args.values.now)) in
+    let left = drop (suc c.loop-expression.expression-index) c.args.values.now in
+    let rest = fields globals blocks (expressions (map expression_of left)) in
+    let own = value globals blocks (expression_of c.expression-item.result) in
+    let cut : drop c.loop-expression.expression-index c.args.values.now ≡ c.expression-item.result ∷ left = rw c.expression-item.is (drop-cons c.args.values.now c.loop-expression.expression-index _ c.loop-expression-test.true) in
+    let p = err_from_is_err_and c.from_residual.result c.from_residual.ensures.1 in
+    rw (p.1, p.2) (fails_next c.loop-expression.words.items own rest all c.in_err-own.field-0.0 (rw cut at c.loop-expression.invariant.words) c.in_err-own.ensures.err)
+
+pub fields-returns-clause-ok : goal.fields-returns-clause-ok
+fields-returns-clause-ok t c =
+    let none : drop c.loop-expression.expression-index c.args.values.now ≡ [] = drop_all c.loop-expression.expression-index c.args.values.now c.loop-expression-test.false in
+    joined_last c.loop-expression.words.items _ (rw none at c.loop-expression.invariant.words)
