@@ -15,12 +15,12 @@ returns-clause-ok c =
 
 pub loop-byte-preserved : goal.loop-byte-preserved
 loop-byte-preserved c = elim c.if-escaped.branch [
-      | then-escaped+in_ok-push w ↦
-          let pushed = chosen _ _ _ _ w.push.ensures.items (ap is_ok w.in_ok-push.was) in
-          rw (w.bytes-is, w.escaped-is, pushed, w.escape.ensures) (escaped_next c.loop-byte.bytes.items c.in-Some.inside.now c.loop-byte.byte-index _ c.loop-byte-test.true (rw w.if-escaped.true at c.loop-byte.invariant))
-      | else-escaped+else-byte-eq34+then-byte-eq92 w ↦
-          rw (w.bytes-is, w.escaped-is) (escapes c.loop-byte.bytes.items c.in-Some.inside.now c.loop-byte.byte-index _ c.loop-byte-test.true w.if-byte-eq92.true (rw w.if-escaped.false at c.loop-byte.invariant))
-      | else-escaped+else-byte-eq34+else-byte-eq92+in_ok-push-2 w ↦
-          let pushed = chosen _ _ _ _ w.push-else-byte-eq92.ensures.items (ap is_ok w.in_ok-push-2.was) in
-          rw (w.bytes-is, w.escaped-is, w.if-escaped.false, pushed) (plain_next c.loop-byte.bytes.items c.in-Some.inside.now c.loop-byte.byte-index _ c.loop-byte-test.true w.if-byte-eq34.false w.if-byte-eq92.false (rw w.if-escaped.false at c.loop-byte.invariant))
-    ]
+  | then-escaped+in_ok-push w ↦
+      let pushed = chosen _ _ _ _ w.push.ensures.items (ap is_ok w.in_ok-push.was) in
+      rw (w.bytes-is, w.escaped-is, pushed, w.escape.ensures) (escaped_next c.loop-byte.bytes.items c.in-Some.inside.now c.loop-byte.byte-index _ c.loop-byte-test.true (rw w.if-escaped.true at c.loop-byte.invariant))
+  | else-escaped+else-byte-eq34+then-byte-eq92 w ↦
+      rw (w.bytes-is, w.escaped-is) (escapes c.loop-byte.bytes.items c.in-Some.inside.now c.loop-byte.byte-index _ c.loop-byte-test.true w.if-byte-eq92.true (rw w.if-escaped.false at c.loop-byte.invariant))
+  | else-escaped+else-byte-eq34+else-byte-eq92+in_ok-push-2 w ↦
+      let pushed = chosen _ _ _ _ w.push-else-byte-eq92.ensures.items (ap is_ok w.in_ok-push-2.was) in
+      rw (w.bytes-is, w.escaped-is, w.if-escaped.false, pushed) (plain_next c.loop-byte.bytes.items c.in-Some.inside.now c.loop-byte.byte-index _ c.loop-byte-test.true w.if-byte-eq34.false w.if-byte-eq92.false (rw w.if-escaped.false at c.loop-byte.invariant))
+]
