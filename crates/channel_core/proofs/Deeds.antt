@@ -261,8 +261,5 @@ select_served old new n i x cases default outcome within is first serves =
     let more : i + 1 ≡ suc i = omega arith in
     select_done old new n (suc i) x cases default outcome (chosen old i x cases within is first) (subst (λ (k : ℕ). Serves old n x k outcome new) more serves)
 
-pub select_sleeps : (old : ChannelsValue) (n : ℕ) (cases : List Case) → Chooses old cases None → Does old n (Select cases false) outcomes.Sleeps (with_sleeper old n (Select cases false))
-select_sleeps old n cases first o c = rw (first o n c (Select cases false)) refl
-
 pub select_nil : (old : ChannelsValue) (n i : ℕ) (x : Case) (cases : List Case) (default : Bool) → Chooses old cases (Some (i, x)) → x.chan ≡ None → Does old n (Select cases default) outcomes.Sleeps (with_sleeper old n (Select cases default))
 select_nil old n i x cases default first nil o c = rw (first o n c (Select cases default)) (rw nil refl)

@@ -14,11 +14,11 @@ use Rattle.checker_base.specs.declared.flaw.Flaw.TheVariants.{Broken, Exceeded}
 use Rattle.checker_base.specs.declared.refusal.Refusal.{Refusal}
 use Rattle.checker_base.specs.declared.refusal.Refusal.TheVariants.{Memory, Flawed}
 use Rattle.checker_base.specs.Views.{Refuses}
-use Rattle.checker_statement.specs.Statements.{Setting}
-use Rattle.checker_declaration.specs.Kinds.{type_names, function_names, structs_with, structs, yield_of, globals_of, parameters}
-use Rattle.checker_declaration.specs.Declarations.{is_type_taken, FieldsHave, StructHas, TopStructHas, StructsHave, ContentsHave, HeaderHas, TopHeaderHas, counting_function, HeadersHave, TypesHave, DeclarationsHave}
+use Rattle.typing.specs.Statements.{Setting}
+use Rattle.typing.specs.Kinds.{type_names, function_names, structs_with, structs, yield_of, globals_of, parameters}
+use Rattle.typing.specs.Declarations.{is_type_taken, FieldsHave, StructHas, TopStructHas, StructsHave, ContentsHave, HeaderHas, TopHeaderHas, counting_function, HeadersHave, TypesHave, DeclarationsHave}
 use Rattle.checker_declaration.specs.Heads.{HeadsHave}
-use Rattle.checker.specs.Files.{BodyIn, BodyHas, BodiesHave, has_main, FileHas, IsTyped}
+use Rattle.typing.specs.Files.{BodyIn, BodyHas, BodiesHave, has_main, FileHas, IsTyped}
 
 -- ---- bodies
 

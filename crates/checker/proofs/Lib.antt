@@ -1,5 +1,3 @@
-pub mod ExpressionNodes
-pub mod OperationNodes
 pub mod SimpleNodes
 pub mod StatementNodes
 pub mod Nodes

@@ -14,11 +14,11 @@ use Rattle.checker_base.specs.Flaws.{Nodes}
 use Rattle.checker_base.specs.Worths.{Worth, Typed, Constant, Nil, kind_of, binary_worth, worth}
 use Rattle.type_table.specs.Types.{IntType, BoolType, StructType, ChannelType}
 use Rattle.checker_base.specs.Expressions.{PrintedHas, nodes_of, element_of}
-use Rattle.checker_operation.specs.Operations.{Given, given, place_type}
-use Rattle.checker_simple.specs.Simples.{PartHas, PartsHave, UpdatedHas, StepHas, NamesFail, DefinedHave, VariablesHave, AllFail, IfRightHas, SimpleHas, comm_simple, TypedVariablesHave, UntypedVariablesHave}
-use Rattle.checker_declaration.specs.Nodes.{node_of}
-use Rattle.checker.proofs.ExpressionNodes.{broken, expression_positive, type_positive, value_within, fails_within, numbers_within, expression_within, channel_within, sent_within}
-use Rattle.checker.proofs.OperationNodes.{type_within, call_within, receive_within, measured_within, AreWithin, given_are, right_within, read_place_within, goes_within, places_fail_within, places_within}
+use Rattle.typing.specs.Operations.{Given, given, place_type}
+use Rattle.typing.specs.Simples.{PartHas, PartsHave, UpdatedHas, StepHas, NamesFail, DefinedHave, VariablesHave, AllFail, IfRightHas, SimpleHas, comm_simple, TypedVariablesHave, UntypedVariablesHave}
+use Rattle.typing.specs.Nodes.{node_of}
+use Rattle.typing.proofs.ExpressionNodes.{broken, expression_positive, type_positive, value_within, fails_within, numbers_within, expression_within, channel_within, sent_within}
+use Rattle.typing.proofs.OperationNodes.{type_within, call_within, receive_within, measured_within, AreWithin, given_are, right_within, read_place_within, goes_within, places_fail_within, places_within}
 
 printed_within : (w : Option Worth) (nodes : Nodes) (flaw : Flaw) → nodes.first < nodes.end → PrintedHas w nodes flaw → node_of flaw < nodes.end
 printed_within None nodes flaw le has = absurd has

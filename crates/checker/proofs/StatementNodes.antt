@@ -6,12 +6,12 @@ use Rattle.type_table.specs.Scopes.{Scope, Globals, Yield, NoResult, Yields, is_
 use Rattle.checker_base.specs.declared.flaw.Flaw.{Flaw}
 use Rattle.checker_base.specs.Worths.{worth}
 use Rattle.checker_base.specs.Expressions.{nodes_of}
-use Rattle.checker_operation.specs.Operations.{Given, operation_type, given_by, place_type}
-use Rattle.checker_simple.specs.Simples.{comm_simple}
-use Rattle.checker_statement.specs.Statements.{Setting, in_for, in_select, IfSimpleHas, after_any, head_simple, IfTestHas, GuardHas, item_given, TargetHas, TakenHas, RangedHas, ForHeadHas, after_for_head, after, after_all, ReturnHas, returned_given, ReturnedHas, StatementHas, StatementsHave, BranchHas, OtherwiseHas, ClausesHave}
-use Rattle.checker_declaration.specs.Nodes.{node_of}
-use Rattle.checker.proofs.ExpressionNodes.{broken, expression_positive, value_within, expression_within, test_within, channel_within, received_within}
-use Rattle.checker.proofs.OperationNodes.{call_within, operation_within, operation_positive, place_within, goes_within}
+use Rattle.typing.specs.Operations.{Given, operation_type, given_by, place_type}
+use Rattle.typing.specs.Simples.{comm_simple}
+use Rattle.typing.specs.Statements.{Setting, in_for, in_select, IfSimpleHas, after_any, head_simple, IfTestHas, GuardHas, item_given, TargetHas, TakenHas, RangedHas, ForHeadHas, after_for_head, after, after_all, ReturnHas, returned_given, ReturnedHas, StatementHas, StatementsHave, BranchHas, OtherwiseHas, ClausesHave}
+use Rattle.typing.specs.Nodes.{node_of}
+use Rattle.typing.proofs.ExpressionNodes.{broken, expression_positive, value_within, expression_within, test_within, channel_within, received_within}
+use Rattle.typing.proofs.OperationNodes.{call_within, operation_within, operation_positive, place_within, goes_within}
 use Rattle.checker.proofs.SimpleNodes.{defined_within, typed_within, untyped_within, simple_within, comm_sized}
 
 -- ---- headers

@@ -1,3 +1,2 @@
-pub mod Files
 pub mod Faults
 pub mod Trees

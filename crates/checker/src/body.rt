@@ -8,9 +8,9 @@ ghost use Rattle.type_table.specs.Visible.{types_of, globals_in, scope_of};
 ghost use Rattle.checker_base.specs.declared.flaw.Flaw.{Flaw as OneFlaw};
 ghost use Rattle.checker_base.specs.Views.{Refuses};
 ghost use Rattle.checker_statement.specs.Settings.{setting_in};
-ghost use Rattle.checker_declaration.specs.Kinds.{with_fields};
-ghost use Rattle.checker_declaration.specs.Declarations.{HeadHas};
-ghost use Rattle.checker.specs.Files.{is_ended, BodyIn, BodyHas, TopBodyHas, BodiesHave};
+ghost use Rattle.typing.specs.Kinds.{with_fields};
+ghost use Rattle.typing.specs.Declarations.{HeadHas};
+ghost use Rattle.typing.specs.Files.{is_ended, BodyIn, BodyHas, TopBodyHas, BodiesHave};
 ghost use Rattle.checker_declaration.specs.Heads.{TopHeadHas, HeadsHave};
 
 use checker_base::flaw::Flaw;

@@ -6,7 +6,7 @@ ghost use Rattle.syntax.specs.View.{file_of};
 ghost use Rattle.type_table.specs.Views.{signature_of};
 ghost use Rattle.checker_base.specs.declared.flaw.Flaw.{Flaw as OneFlaw};
 ghost use Rattle.checker_base.specs.Views.{Refuses};
-ghost use Rattle.checker.specs.Files.{is_plain, has_main, FileHas};
+ghost use Rattle.typing.specs.Files.{is_plain, has_main, FileHas};
 
 use crate::body::bodies;
 use checker_base::flaw::Flaw;

@@ -3,8 +3,8 @@
 ghost use Rattle.std.specs.Prelude.{◌≡◌, ◌<◌, ◌⊎◌, IfOk, IfErr};
 ghost use Rattle.syntax.specs.Measures.{size};
 ghost use Rattle.syntax.specs.Spans.{tree_of};
-ghost use Rattle.checker.specs.Files.{FileHas, IsTyped};
-ghost use Rattle.checker_declaration.specs.Nodes.{node_of};
+ghost use Rattle.typing.specs.Files.{FileHas, IsTyped};
+ghost use Rattle.typing.specs.Nodes.{node_of};
 ghost use Rattle.checker.specs.Faults.{Tells};
 ghost use Rattle.checker.specs.Trees.{tree_in};
 

@@ -10,8 +10,8 @@ use Rattle.checker_base.specs.declared.flaw.Flaw.{Flaw}
 use Rattle.checker_base.specs.declared.refusal.Refusal.{Refusal}
 use Rattle.checker_base.specs.declared.refusal.Refusal.TheVariants.{Memory, Flawed}
 use Rattle.checker_base.specs.Views.{Refuses}
-use Rattle.checker_declaration.specs.Kinds.{type_names, function_names, structs_with, structs}
-use Rattle.checker_declaration.specs.Declarations.{is_type_taken, FieldsHave, StructHas, TopStructHas, StructsHave, ContentsHave, HeaderHas, TopHeaderHas, HeadersHave, TypesHave, DeclarationsHave}
+use Rattle.typing.specs.Kinds.{type_names, function_names, structs_with, structs}
+use Rattle.typing.specs.Declarations.{is_type_taken, FieldsHave, StructHas, TopStructHas, StructsHave, ContentsHave, HeaderHas, TopHeaderHas, HeadersHave, TypesHave, DeclarationsHave}
 
 pub refuses_more : (P Q : Flaw → Type 0) (e : Refusal) → ((flaw : Flaw) → P flaw → Q flaw) → Refuses P e → Refuses Q e
 refuses_more P Q Memory more r = tt

@@ -9,8 +9,8 @@ use Rattle.type_table.specs.Marks.{IsWide, AreWide}
 use Rattle.type_table.proofs.Widths.{got-append, wide-more}
 use Rattle.checker_base.specs.declared.flaw.Flaw.TheVariants.{Exceeded}
 use Rattle.checker_declaration.specs.declared.parts.Parts.{Parts}
-use Rattle.checker_declaration.specs.Kinds.{structs}
-use Rattle.checker_declaration.specs.Declarations.{WidthHas, struct_node, TypesHave}
+use Rattle.typing.specs.Kinds.{structs}
+use Rattle.typing.specs.Declarations.{WidthHas, struct_node, TypesHave}
 use Rattle.checker_declaration.specs.Parts.{parts_in, structs_in, IsKindWide, AreKnown, IsTooWide}
 use Rattle.checker_declaration.proofs.Within.{fields_there}
 

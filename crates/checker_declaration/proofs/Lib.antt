@@ -1,4 +1,3 @@
-pub mod Contents
 pub mod Within
 pub mod KnownWidths
 pub mod Declared

@@ -3,9 +3,9 @@
 ghost use Rattle.std.specs.Prelude.{◌≡◌, ◌+◌, ◌^◌, ◌<◌, map, sum_by, IfSome, IfOk};
 ghost use Rattle.syntax.specs.Measures.{top_size};
 ghost use Rattle.syntax.specs.View.{top_of};
-ghost use Rattle.checker_declaration.specs.Kinds.{type_names};
-ghost use Rattle.checker_declaration.specs.Declarations.{TypesHave};
-ghost use Rattle.checker_declaration.specs.Nodes.{node_of};
+ghost use Rattle.typing.specs.Kinds.{type_names};
+ghost use Rattle.typing.specs.Declarations.{TypesHave};
+ghost use Rattle.typing.specs.Nodes.{node_of};
 
 use crate::held::first_held;
 use crate::parts::all_parts;

@@ -7,8 +7,8 @@ ghost use Rattle.type_table.specs.Scopes.{nothing_declared, type_in};
 ghost use Rattle.type_table.specs.Views.{kind_of, field_in};
 ghost use Rattle.checker_base.specs.declared.flaw.Flaw.{Flaw as OneFlaw};
 ghost use Rattle.checker_base.specs.Views.{Refuses};
-ghost use Rattle.checker_declaration.specs.Kinds.{all_fields, fields_declared};
-ghost use Rattle.checker_declaration.specs.Declarations.{broken_by, NamesHave, GroupHas, GroupsHave};
+ghost use Rattle.typing.specs.Kinds.{all_fields, fields_declared};
+ghost use Rattle.typing.specs.Declarations.{broken_by, NamesHave, GroupHas, GroupsHave};
 
 use crate::name::{is_among, is_unfit};
 use checker_base::flaw::Flaw;
@@ -21,13 +21,7 @@ use type_table::entry::FieldEntry;
 use type_table::name_list::NameList;
 use type_table::scope::{is_blank, is_reserved};
 use type_table::value_type::{ValueType, global_type_in};
-
-/// What names are declared as.
-#[derive(Clone, Copy)]
-pub enum Role {
-    Field,
-    Parameter,
-}
+use typing::role::Role;
 
 /// The rule that a name breaks behind others of the same struct or function ("Declarations and scope" of the Go
 /// specification).

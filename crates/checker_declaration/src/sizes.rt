@@ -7,8 +7,8 @@ ghost use Rattle.type_table.specs.Views.{names_of, structs_of};
 ghost use Rattle.type_table.specs.Marks.{IsWide};
 ghost use Rattle.checker_base.specs.declared.flaw.Flaw.{Flaw as OneFlaw};
 ghost use Rattle.checker_base.specs.Views.{Refuses};
-ghost use Rattle.checker_declaration.specs.Kinds.{structs_with};
-ghost use Rattle.checker_declaration.specs.Declarations.{struct_node, ContentsHave};
+ghost use Rattle.typing.specs.Kinds.{structs_with};
+ghost use Rattle.typing.specs.Declarations.{struct_node, ContentsHave};
 
 use crate::name::own_node;
 use checker_base::flaw::Flaw;

@@ -6,10 +6,10 @@ ghost use Rattle.syntax.specs.View.{name_of, struct_of, top_of};
 ghost use Rattle.type_table.specs.Views.{names_of, fields_of_entry, structs_of};
 ghost use Rattle.checker_base.specs.declared.flaw.Flaw.{Flaw as OneFlaw};
 ghost use Rattle.checker_base.specs.Views.{Refuses};
-ghost use Rattle.checker_declaration.specs.Kinds.{type_name, type_names, fields_declared, struct_in, structs_with};
-ghost use Rattle.checker_declaration.specs.Declarations.{FieldsHave, StructHas, TopStructHas, counting_struct, StructsHave};
+ghost use Rattle.typing.specs.Kinds.{type_name, type_names, fields_declared, struct_in, structs_with};
+ghost use Rattle.typing.specs.Declarations.{FieldsHave, StructHas, TopStructHas, counting_struct, StructsHave};
 
-use crate::group::{Role, all_groups};
+use crate::group::all_groups;
 use crate::name::{is_type_taken, own_node};
 use checker_base::flaw::Flaw;
 use checker_base::refusal::Refusal;
@@ -18,6 +18,7 @@ use std::alloc::Global;
 use syntax::{NodeId, StructNode, TopNode};
 use type_table::entry::StructEntry;
 use type_table::name_list::NameList;
+use typing::role::Role;
 
 /// How many struct types a file may have.
 const MOST_STRUCTS: usize = 4096;

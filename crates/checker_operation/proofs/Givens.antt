@@ -10,7 +10,7 @@ use Rattle.checker_base.specs.Views.{worth_of}
 use Rattle.checker_operation.specs.declared.operation.Made.{Made}
 use Rattle.type_table.specs.Scopes.{Globals, Scope}
 use Rattle.type_table.specs.Views.{kind_of}
-use Rattle.checker_operation.specs.Operations.{Given, is_receive, operation_type, given, given_values}
+use Rattle.typing.specs.Operations.{Given, is_receive, operation_type, given, given_values}
 use Rattle.checker_operation.specs.Givens.{given_of, given_made}
 
 pub given-made : (g : Globals) (s : Scope) (places first : ℕ) (op : Operation) (types : List (List ℕ)) (made : Made)

@@ -2,7 +2,7 @@
 use Rattle.std.proofs.Common.{◌≡◌, Bool, Option}
 use Rattle.checker_base.specs.declared.flaw.Flaw.{Flaw}
 use Rattle.type_table.specs.Types.{ValueType}
-use Rattle.checker_operation.specs.Operations.{Given, GoesHas}
+use Rattle.typing.specs.Operations.{Given, GoesHas}
 
 -- what is wrong where a value goes to a place depends on the place alone
 pub goes-same : (free same : Bool) → free ≡ same → (k l : Option ValueType) → k ≡ l → (g : Given) (f : Flaw) → GoesHas free g k f → GoesHas same g l f

@@ -11,7 +11,7 @@ use Rattle.checker_operation.specs.declared.given.Source.{Source}
 use Rattle.checker_operation.specs.declared.given.Source.TheVariants as sources
 use Rattle.checker_operation.specs.declared.callee.Callee.{Callee as OneCallee}
 use Rattle.checker_operation.specs.declared.callee.Callee.TheVariants as callees
-use Rattle.checker_operation.specs.Operations.{Given, and_also, Callee, NotDeclared, NoFunction, IsFunction}
+use Rattle.typing.specs.Operations.{Given, and_also, Callee, NotDeclared, NoFunction, IsFunction}
 use Rattle.type_table.specs.Types.{BoolType}
 use Rattle.type_table.specs.Views.{kind_of}
 use Rattle.checker_base.specs.Worths.{Typed}

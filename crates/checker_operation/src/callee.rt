@@ -5,7 +5,7 @@ ghost use Rattle.syntax.specs.Measures.{expression_size};
 ghost use Rattle.syntax.specs.View.{expression_of};
 ghost use Rattle.checker_base.specs.declared.flaw.Flaw.{Flaw as OneFlaw};
 ghost use Rattle.checker_base.specs.Expressions.{PassedHave};
-ghost use Rattle.checker_operation.specs.Operations.{callee, is_other, parameters_of, result_of};
+ghost use Rattle.typing.specs.Operations.{callee, is_other, parameters_of, result_of};
 ghost use Rattle.type_table.specs.Views.{yield_of};
 ghost use Rattle.type_table.specs.Visible.{types_of, globals_in, scope_of};
 ghost use Rattle.checker_operation.specs.Givens.{callee_of};

@@ -7,7 +7,7 @@ ghost use Rattle.syntax.specs.View.{expression_of, operation_of};
 ghost use Rattle.checker_base.specs.declared.flaw.Flaw.{Flaw as OneFlaw};
 ghost use Rattle.type_table.specs.Types.{ValueType as OneType};
 ghost use Rattle.checker_base.specs.Expressions.{ExpressionsHave, NumbersHave, default_type};
-ghost use Rattle.checker_operation.specs.Operations.{given, given_values, is_receive, GoesHas, RightHas};
+ghost use Rattle.typing.specs.Operations.{given, given_values, is_receive, GoesHas, RightHas};
 ghost use Rattle.type_table.specs.Views.{kind_of};
 ghost use Rattle.type_table.specs.Visible.{types_of, globals_in, scope_of};
 ghost use Rattle.checker_base.specs.Views.{Refuses, worth_of};

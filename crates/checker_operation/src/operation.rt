@@ -9,7 +9,7 @@ ghost use Rattle.checker_base.specs.declared.flaw.Flaw.{Flaw as OneFlaw};
 ghost use Rattle.checker_base.specs.Flaws.{Nodes};
 ghost use Rattle.checker_base.specs.Worths.{Worth as OneWorth, worth};
 ghost use Rattle.checker_base.specs.Expressions.{element_of};
-ghost use Rattle.checker_operation.specs.Operations.{callee, operation_type, IsFunction, CallHas, SizeHas, IfSizeHas, ReceiveHas, MeasuredHas, OperationHas};
+ghost use Rattle.typing.specs.Operations.{callee, operation_type, IsFunction, CallHas, SizeHas, IfSizeHas, ReceiveHas, MeasuredHas, OperationHas};
 ghost use Rattle.type_table.specs.Views.{kind_of};
 ghost use Rattle.type_table.specs.Visible.{types_of, globals_in, scope_of};
 ghost use Rattle.checker_base.specs.Views.{worth_of};

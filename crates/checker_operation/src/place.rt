@@ -5,7 +5,7 @@ ghost use Rattle.std.specs.Option.{is_none};
 ghost use Rattle.syntax.specs.View.{name_of, place_of};
 ghost use Rattle.checker_base.specs.declared.flaw.Flaw.{Flaw as OneFlaw};
 ghost use Rattle.type_table.specs.Scopes.{is_blank};
-ghost use Rattle.checker_operation.specs.Operations.{place_type, PathHas, PlaceHas, ReadPlaceHas, PlacesHave, PlacesFail, GoesHas};
+ghost use Rattle.typing.specs.Operations.{place_type, PathHas, PlaceHas, ReadPlaceHas, PlacesHave, PlacesFail, GoesHas};
 ghost use Rattle.type_table.specs.Views.{kind_of};
 ghost use Rattle.type_table.specs.Visible.{types_of, globals_in, scope_of};
 ghost use Rattle.checker_operation.specs.Givens.{given_of, places_at, places_in};

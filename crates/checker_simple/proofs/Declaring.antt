@@ -9,8 +9,8 @@ use Rattle.type_table.specs.Containment.{Structs}
 use Rattle.type_table.specs.Scopes.{Variable, Scope, Globals, is_blank, last_named, own_variable, declared}
 use Rattle.checker_base.specs.Views.{Refuses}
 use Rattle.checker_base.specs.Worths.{kind_of}
-use Rattle.checker_operation.specs.Operations.{Given, GoesHas}
-use Rattle.checker_simple.specs.Simples.{is_declarable, has_name, has_twice, NamesFail, after_name}
+use Rattle.typing.specs.Operations.{Given, GoesHas}
+use Rattle.typing.specs.Simples.{is_declarable, has_name, has_twice, NamesFail, after_name}
 
 -- a variable of another name at the end does not count
 pub last_named-other : (vs : List Variable) (v : Variable) (name : List ℕ) → bytes_eq v.name name ≡ false → last_named (vs ++ v ∷ []) name ≡ last_named vs name

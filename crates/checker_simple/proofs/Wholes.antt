@@ -12,8 +12,8 @@ use Rattle.checker_base.specs.declared.flaw.Flaw.{Flaw}
 use Rattle.checker_base.specs.declared.refusal.Refusal.{Refusal}
 use Rattle.checker_base.specs.declared.refusal.Refusal.TheVariants.{Memory, Flawed}
 use Rattle.checker_base.specs.Views.{Refuses}
-use Rattle.checker_operation.specs.Operations.{Given, given, RightHas, PlacesHave}
-use Rattle.checker_simple.specs.Simples.{AssignedHave, NamesHave, UntypedHave, TypedHave, VariablesHave, IfRightHas, with_defined, SimpleHas, TypedVariablesHave, UntypedVariablesHave}
+use Rattle.typing.specs.Operations.{Given, given, RightHas, PlacesHave}
+use Rattle.typing.specs.Simples.{AssignedHave, NamesHave, UntypedHave, TypedHave, VariablesHave, IfRightHas, with_defined, SimpleHas, TypedVariablesHave, UntypedVariablesHave}
 use Rattle.checker_operation.specs.Givens.{places_at}
 use Rattle.checker_simple.specs.Names.{names_at}
 use Rattle.checker_simple.proofs.Anywhere.{defined-anywhere}

@@ -5,10 +5,10 @@ ghost use Rattle.syntax.specs.Tree.{Place, Assign};
 ghost use Rattle.syntax.specs.Measures.{simple_size};
 ghost use Rattle.type_table.specs.Visible.{types_of, globals_in, scope_of};
 ghost use Rattle.checker_base.specs.declared.flaw.Flaw.{Flaw as OneFlaw};
-ghost use Rattle.checker_operation.specs.Operations.{Given as OneGiven};
+ghost use Rattle.typing.specs.Operations.{Given as OneGiven};
 ghost use Rattle.checker_base.specs.Views.{Refuses};
 ghost use Rattle.checker_operation.specs.Givens.{given_of, places_at, places_in, source_of};
-ghost use Rattle.checker_simple.specs.Simples.{AssignedHave, SimpleHas};
+ghost use Rattle.typing.specs.Simples.{AssignedHave, SimpleHas};
 
 use checker_base::flaw::Flaw;
 use checker_base::refusal::Refusal;

@@ -6,7 +6,7 @@ ghost use Rattle.syntax.specs.Measures.{simple_size};
 ghost use Rattle.syntax.specs.View.{expression_of};
 ghost use Rattle.checker_base.specs.declared.flaw.Flaw.{Flaw as OneFlaw};
 ghost use Rattle.checker_base.specs.Views.{Refuses};
-ghost use Rattle.checker_simple.specs.Simples.{SimpleHas};
+ghost use Rattle.typing.specs.Simples.{SimpleHas};
 ghost use Rattle.type_table.specs.Visible.{globals_in, scope_of};
 
 use checker_base::operand::checked;

@@ -4,7 +4,7 @@ ghost use Rattle.std.specs.Prelude.{◌≡◌, ℕ, ◌+◌, ◌^◌, ◌<◌, m
 ghost use Rattle.syntax.specs.Measures.{part_size};
 ghost use Rattle.syntax.specs.View.{part_of};
 ghost use Rattle.checker_base.specs.declared.flaw.Flaw.{Flaw as OneFlaw};
-ghost use Rattle.checker_simple.specs.Simples.{PartHas, PartsHave};
+ghost use Rattle.typing.specs.Simples.{PartHas, PartsHave};
 ghost use Rattle.type_table.specs.Visible.{globals_in, scope_of};
 
 use checker_base::flaw::Flaw;

@@ -11,7 +11,7 @@ ghost use Rattle.checker_base.specs.declared.flaw.Flaw.{Flaw as OneFlaw};
 ghost use Rattle.checker_base.specs.Flaws.{Nodes};
 ghost use Rattle.checker_base.specs.Worths.{Worth as OneWorth};
 ghost use Rattle.checker_base.specs.Views.{worth_of, IsSmall, Refuses};
-ghost use Rattle.checker_simple.specs.Simples.{UpdatedHas, StepHas, SimpleHas};
+ghost use Rattle.typing.specs.Simples.{UpdatedHas, StepHas, SimpleHas};
 
 use checker_base::flaw::{Flaw, Operator, misused};
 use checker_base::operand::{Operand, checked};

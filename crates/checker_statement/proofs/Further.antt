@@ -14,7 +14,7 @@ use Rattle.type_table.specs.declared.table.TypeTable.{TypeTable}
 use Rattle.type_table.specs.declared.visible.Visible.{Visible}
 use Rattle.type_table.specs.Scopes.{Scope, entered, left}
 use Rattle.type_table.specs.Visible.{scope_of, Keeps, Leaves}
-use Rattle.checker_statement.specs.Statements.{Setting, StatementHas, StatementsHave, ClauseHas, ClausesHave, after, after_clause}
+use Rattle.typing.specs.Statements.{Setting, StatementHas, StatementsHave, ClauseHas, ClausesHave, after, after_clause}
 
 few : {X : Type 0} (a b : List X) → take (length a) b ≡ a → length a ≤ length b
 few a b e = omega (arith, length-take (length a) b, ap length e)

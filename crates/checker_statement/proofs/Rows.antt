@@ -7,8 +7,8 @@ use Rattle.checker_base.specs.declared.flaw.Flaw.{Flaw}
 use Rattle.checker_base.specs.declared.flaw.Flaw.TheVariants.{Broken}
 use Rattle.type_table.specs.Types.{IntType, ChannelType}
 use Rattle.type_table.specs.Scopes.{nothing_declared, Globals, Scope, Variable, NoResult, Yields}
-use Rattle.checker_statement.specs.Statements.{Setting, in_for, in_select, after_all, StatementHas, StatementsHave}
-use Rattle.checker_statement.specs.Terminating.{terminates, last_terminates}
+use Rattle.typing.specs.Statements.{Setting, in_for, in_select, after_all, StatementHas, StatementsHave}
+use Rattle.typing.specs.Terminating.{terminates, last_terminates}
 
 abbrev none : Globals
 none = record { types = []; structs = []; functions = [] }

@@ -1,3 +1,1 @@
-pub mod Terminating
-pub mod Statements
 pub mod Settings

@@ -13,8 +13,8 @@ ghost use Rattle.checker_base.specs.Views.{Refuses};
 ghost use Rattle.checker_base.specs.Worths.{worth};
 ghost use Rattle.checker_base.specs.Expressions.{element_of, TestHas};
 ghost use Rattle.checker_operation.specs.Givens.{given_of};
-ghost use Rattle.checker_simple.specs.Simples.{DefinedHave};
-ghost use Rattle.checker_statement.specs.Statements.{GuardHas, IfSimpleHas, IfTestHas, head_simple, after_any, TargetHas, RangedHas, item_given, after_target, TakenHas, ForClausesHave, ForHeadHas, after_for_head};
+ghost use Rattle.typing.specs.Simples.{DefinedHave};
+ghost use Rattle.typing.specs.Statements.{GuardHas, IfSimpleHas, IfTestHas, head_simple, after_any, TargetHas, RangedHas, item_given, after_target, TakenHas, ForClausesHave, ForHeadHas, after_for_head};
 
 use checker_base::flaw::Flaw;
 use checker_base::operand::{Operand, checked};

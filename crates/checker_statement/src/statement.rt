@@ -10,9 +10,9 @@ ghost use Rattle.type_table.specs.Visible.{types_of, globals_in, scope_of, Keeps
 ghost use Rattle.checker_base.specs.declared.flaw.Flaw.{Flaw as OneFlaw};
 ghost use Rattle.checker_base.specs.Flaws.{IsBroken};
 ghost use Rattle.checker_base.specs.Views.{worth_of, Refuses};
-ghost use Rattle.checker_operation.specs.Operations.{Given};
-ghost use Rattle.checker_simple.specs.Simples.{comm_simple};
-ghost use Rattle.checker_statement.specs.Statements.{IfSimpleHas, after_any, ReturnHas, ReturnStatementHas, default_count, StatementHas, StatementsHave, OtherwiseHas, after, after_all, after_otherwise, after_clauses, PartsHave, after_parts, after_clause, ClauseHas};
+ghost use Rattle.typing.specs.Operations.{Given};
+ghost use Rattle.typing.specs.Simples.{comm_simple};
+ghost use Rattle.typing.specs.Statements.{IfSimpleHas, after_any, ReturnHas, ReturnStatementHas, default_count, StatementHas, StatementsHave, OtherwiseHas, after, after_all, after_otherwise, after_clauses, PartsHave, after_parts, after_clause, ClauseHas};
 ghost use Rattle.checker_statement.specs.Settings.{setting_in};
 
 use crate::header::{broken_at, for_header, guard};

@@ -20,7 +20,7 @@ use Rattle.checker_base.specs.declared.flaw.Misuse.TheVariants as misuses
 use Rattle.checker_base.specs.Flaws.{Nodes, IsBroken, IsExceeded, IsMisuse}
 use Rattle.checker_base.specs.Worths.{Worth, Typed, Constant, Nil, is_int, literal, unary_worth, binary_worth, named_worth, selected_worth, type_of_field, literal_struct, worth}
 use Rattle.checker_base.specs.Expressions.{nodes_of, FitHas, Fails, UnaryHas, BinaryHas, SelectionHas, LiteralHas, ExpressionHas}
-use Rattle.checker.proofs.ExpressionNodes.{expression_positive}
+use Rattle.typing.proofs.ExpressionNodes.{expression_positive}
 
 -- nothing of this kind is wrong
 abbrev pub Free : (Flaw → Type 0) → Type 0

@@ -7,8 +7,8 @@ use Rattle.type_table.specs.Containment.{Field}
 use Rattle.type_table.specs.Scopes.{Scope, Globals, nothing_declared, declared, entered, left}
 use Rattle.checker_base.specs.Worths.{worth}
 use Rattle.checker_base.specs.Expressions.{default_type, element_of}
-use Rattle.checker_operation.specs.Operations.{Given, given}
-use Rattle.checker_simple.specs.Simples.{is_declarable}
+use Rattle.typing.specs.Operations.{Given, given}
+use Rattle.typing.specs.Simples.{is_declarable}
 use Rattle.meaning.specs.Values.{known}
 use Rattle.meaning.specs.Variables.{blank}
 use Rattle.codegen_base.specs.declared.element.Element.{Element}

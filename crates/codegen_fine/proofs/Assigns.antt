@@ -16,8 +16,8 @@ use Rattle.type_table.specs.Scopes.{Globals, Scope, Variable, is_blank, last_nam
 use Rattle.checker_base.specs.declared.flaw.Flaw.{Flaw}
 use Rattle.checker_base.specs.Worths.{Worth, kind_of, type_of_field}
 use Rattle.checker_base.specs.Expressions.{ValueHas, NumbersHave, default_type}
-use Rattle.checker_operation.specs.Operations.{selected, place_type, Given, given, RightHas, PlaceHas, GoesHas, PlacesFail, PlacesHave}
-use Rattle.checker_simple.specs.Simples.{has_twice, is_declarable, NamesFail, after_name, with_defined, others, SimpleHas, after_simple}
+use Rattle.typing.specs.Operations.{selected, place_type, Given, given, RightHas, PlaceHas, GoesHas, PlacesFail, PlacesHave}
+use Rattle.typing.specs.Simples.{has_twice, is_declarable, NamesFail, after_name, with_defined, others, SimpleHas, after_simple}
 use Rattle.meaning.specs.Values.{known}
 use Rattle.codegen_base.specs.declared.element.Element.{Element}
 use Rattle.codegen_base.specs.Elements.{kinds_of}

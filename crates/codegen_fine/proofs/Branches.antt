@@ -10,7 +10,7 @@ use Rattle.type_table.specs.Types.{ValueType, BoolType}
 use Rattle.type_table.specs.Scopes.{Globals, Scope}
 use Rattle.checker_base.specs.Worths.{Worth, worth}
 use Rattle.checker_base.specs.Expressions.{ExpressionHas}
-use Rattle.checker_operation.specs.Operations.{parameters_of, CallHas}
+use Rattle.typing.specs.Operations.{parameters_of, CallHas}
 use Rattle.meaning.specs.Values.{known}
 use Rattle.meaning.specs.Destinations.{number_of}
 use Rattle.codegen_base.specs.declared.element.Element.{Element}

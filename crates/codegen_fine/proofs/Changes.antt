@@ -18,8 +18,8 @@ use Rattle.checker_base.specs.declared.flaw.Misuse.TheVariants as misuses
 use Rattle.checker_base.specs.Flaws.{Nodes}
 use Rattle.checker_base.specs.Worths.{Worth, Typed as TypedWorth, Constant, Nil, is_equality, is_order, is_logical, is_int, is_wrong_right, made_type, if_good, fit_operator, binary_worth, type_of_field, worth}
 use Rattle.checker_base.specs.Expressions.{nodes_of, ValueHas, default_type}
-use Rattle.checker_operation.specs.Operations.{ReadPlaceHas, selected, place_type}
-use Rattle.checker_simple.specs.Simples.{MadeHas, UpdatedHas, StepHas, SimpleHas}
+use Rattle.typing.specs.Operations.{ReadPlaceHas, selected, place_type}
+use Rattle.typing.specs.Simples.{MadeHas, UpdatedHas, StepHas, SimpleHas}
 use Rattle.meaning.specs.Values.{known}
 use Rattle.codegen_base.specs.declared.element.Element.{Element}
 use Rattle.codegen_base.specs.Elements.{kinds_of}

@@ -14,8 +14,8 @@ use Rattle.type_table.specs.Types.{ValueType, BoolType}
 use Rattle.type_table.specs.Scopes.{Globals, Scope, Yield, own_variable}
 use Rattle.checker_base.specs.Worths.{worth}
 use Rattle.checker_base.specs.Expressions.{nodes_of, ValueHas, element_of, ExpressionHas, ChannelHas}
-use Rattle.checker_operation.specs.Operations.{given, and_also, PlacesHave}
-use Rattle.checker_simple.specs.Simples.{is_declarable, has_twice, SimpleHas, after_simple, comm_simple}
+use Rattle.typing.specs.Operations.{given, and_also, PlacesHave}
+use Rattle.typing.specs.Simples.{is_declarable, has_twice, SimpleHas, after_simple, comm_simple}
 use Rattle.meaning.specs.Values.{known}
 use Rattle.codegen_base.specs.declared.element.Element.{Element}
 use Rattle.codegen_base.specs.Elements.{kinds_of, shape_of}

@@ -14,9 +14,9 @@ use Rattle.type_table.specs.Scopes.{number_of, nothing_declared, variable_named,
 use Rattle.type_table.proofs.Widths.{together-parts}
 use Rattle.type_table.proofs.Fields.{parts-count}
 use Rattle.checker_base.specs.Flaws.{IsBroken}
-use Rattle.checker.specs.Files.{FileHas}
-use Rattle.checker_declaration.specs.Declarations.{is_nothing, StructsHave, counting_struct}
-use Rattle.checker_declaration.specs.Kinds.{type_names, all_fields, fields_declared, structs_with, globals_of}
+use Rattle.typing.specs.Files.{FileHas}
+use Rattle.typing.specs.Declarations.{is_nothing, StructsHave, counting_struct}
+use Rattle.typing.specs.Kinds.{type_names, all_fields, fields_declared, structs_with, globals_of}
 use Rattle.meaning.specs.Values.{known}
 use Rattle.codegen_base.specs.declared.element.Element.{Element}
 use Rattle.codegen_base.specs.declared.element.Element.TheVariants as elements

@@ -18,7 +18,7 @@ use Rattle.checker_base.specs.declared.flaw.Flaw.{Flaw}
 use Rattle.checker_base.specs.Flaws.{Nodes}
 use Rattle.checker_base.specs.Worths.{Worth, Typed as TypedWorth, Constant, Nil, is_int, worth}
 use Rattle.checker_base.specs.Expressions.{nodes_of, ValueHas, DefaultHas, default_type, element_of, ExpressionsHave}
-use Rattle.checker_operation.specs.Operations.{TypeHas, Callee, NotDeclared, NoFunction, IsFunction, function_of, is_other, callee, result_of, result_type, yielded, CalleeHas, YieldHas, ResultHas, made_of, OperationHas, operation_type, is_receive, Given, given_values, given_by, given}
+use Rattle.typing.specs.Operations.{TypeHas, Callee, NotDeclared, NoFunction, IsFunction, function_of, is_other, callee, result_of, result_type, yielded, CalleeHas, YieldHas, ResultHas, made_of, OperationHas, operation_type, is_receive, Given, given_values, given_by, given}
 use Rattle.meaning.specs.Values.{known}
 use Rattle.meaning.specs.Destinations.{number_of}
 use Rattle.codegen_base.specs.declared.element.Element.{Element}

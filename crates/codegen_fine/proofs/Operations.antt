@@ -13,7 +13,7 @@ use Rattle.type_table.specs.Types.{ValueType, IntType, BoolType, StructType, Cha
 use Rattle.type_table.specs.Scopes.{Globals, Scope, Yields, function_number, type_in}
 use Rattle.checker_base.specs.Worths.{Worth, Typed as TypedWorth, Constant, Nil, is_int, worth}
 use Rattle.checker_base.specs.Expressions.{nodes_of, element_of, ChannelHas, default_type, ExpressionHas}
-use Rattle.checker_operation.specs.Operations.{parameters_of, result_of, CallHas, OperationHas, SizeHas, IfSizeHas, ReceiveHas}
+use Rattle.typing.specs.Operations.{parameters_of, result_of, CallHas, OperationHas, SizeHas, IfSizeHas, ReceiveHas}
 use Rattle.meaning.specs.Values.{known}
 use Rattle.meaning.specs.Destinations.{number_of}
 use Rattle.codegen_base.specs.declared.element.Element.{Element}

@@ -14,7 +14,7 @@ use Rattle.type_table.specs.Scopes.{Globals, Scope}
 use Rattle.checker_base.specs.Flaws.{Nodes}
 use Rattle.checker_base.specs.Worths.{Worth, Typed as TypedWorth, Constant, Nil, is_int, worth}
 use Rattle.checker_base.specs.Expressions.{nodes_of, PrintedHas, default_type}
-use Rattle.checker_simple.specs.Simples.{PartsHave, SimpleHas}
+use Rattle.typing.specs.Simples.{PartsHave, SimpleHas}
 use Rattle.meaning.specs.Values.{known}
 use Rattle.codegen_base.specs.declared.element.Element.{Element}
 use Rattle.codegen_base.specs.Elements.{kinds_of}

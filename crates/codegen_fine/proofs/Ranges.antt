@@ -15,9 +15,9 @@ use Rattle.type_table.specs.Containment.{Structs}
 use Rattle.type_table.specs.Scopes.{Globals, Scope, Variable, Yield, is_blank, later, last_named, own_variable, entered, declared}
 use Rattle.checker_base.specs.Worths.{Typed as TypedWorth, worth}
 use Rattle.checker_base.specs.Expressions.{default_type, element_of}
-use Rattle.checker_operation.specs.Operations.{Given, PlaceHas, PlacesHave, GoesHas, place_type}
-use Rattle.checker_simple.specs.Simples.{has_name, has_twice}
-use Rattle.checker_statement.specs.Statements.{TargetHas, TakenHas, item_given, after_target}
+use Rattle.typing.specs.Operations.{Given, PlaceHas, PlacesHave, GoesHas, place_type}
+use Rattle.typing.specs.Simples.{has_name, has_twice}
+use Rattle.typing.specs.Statements.{TargetHas, TakenHas, item_given, after_target}
 use Rattle.meaning.specs.Values.{known}
 use Rattle.meaning.specs.Variables.{blank}
 use Rattle.codegen_base.specs.declared.element.Element.{Element}

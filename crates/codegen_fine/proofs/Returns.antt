@@ -9,8 +9,8 @@ use Rattle.type_table.specs.Types.{ValueType}
 use Rattle.type_table.specs.Scopes.{Globals, Scope, Yield, NoResult, Yields}
 use Rattle.checker_base.specs.Worths.{Typed as TypedWorth, worth}
 use Rattle.checker_base.specs.Expressions.{nodes_of, ValueHas}
-use Rattle.checker_operation.specs.Operations.{operation_type, given_by}
-use Rattle.checker_statement.specs.Statements.{ReturnStatementHas}
+use Rattle.typing.specs.Operations.{operation_type, given_by}
+use Rattle.typing.specs.Statements.{ReturnStatementHas}
 use Rattle.meaning.specs.Values.{known}
 use Rattle.codegen_base.specs.declared.element.Element.{Element}
 use Rattle.codegen_base.specs.Generated.{return_plan, result_kinds}

@@ -10,8 +10,8 @@ use Rattle.bytecode.specs.Code.{Function as CodeFunction, Code}
 use Rattle.type_table.specs.Scopes.{Globals, Scope, Yield, NoResult, Yields}
 use Rattle.checker_base.specs.Worths.{worth}
 use Rattle.checker_base.specs.Expressions.{nodes_of, ValueHas, element_of}
-use Rattle.checker_operation.specs.Operations.{result_of}
-use Rattle.checker_simple.specs.Simples.{SimpleHas}
+use Rattle.typing.specs.Operations.{result_of}
+use Rattle.typing.specs.Simples.{SimpleHas}
 use Rattle.meaning.specs.Values.{known}
 use Rattle.meaning.specs.Destinations.{number_of}
 use Rattle.codegen_base.specs.declared.element.Element.{Element}

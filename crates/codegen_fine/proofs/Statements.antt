@@ -11,8 +11,8 @@ use Rattle.std.proofs.lemmas.Option.{same_Some}
 use Rattle.type_table.specs.Types.{ValueType}
 use Rattle.type_table.specs.Scopes.{Globals, Scope, Yield, entered, left, type_in}
 use Rattle.checker_base.specs.Expressions.{TestHas}
-use Rattle.checker_simple.specs.Simples.{IfRightHas, comm_simple}
-use Rattle.checker_statement.specs.Statements.{Setting, head_simple, after_any, ForHeadHas, after_for_head, after, after_all, after_branch, after_otherwise, ClausesHave, StatementHas, StatementsHave, BranchHas, OtherwiseHas}
+use Rattle.typing.specs.Simples.{IfRightHas, comm_simple}
+use Rattle.typing.specs.Statements.{Setting, head_simple, after_any, ForHeadHas, after_for_head, after, after_all, after_branch, after_otherwise, ClausesHave, StatementHas, StatementsHave, BranchHas, OtherwiseHas}
 use Rattle.meaning.specs.Values.{known}
 use Rattle.codegen_base.specs.declared.element.Element.{Element}
 use Rattle.codegen_base.specs.Layouts.{Layout}

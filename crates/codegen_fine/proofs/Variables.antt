@@ -15,8 +15,8 @@ use Rattle.type_table.specs.Scopes.{Globals, Scope, Variable, is_blank, is_reser
 use Rattle.checker_base.specs.declared.flaw.Flaw.{Flaw}
 use Rattle.checker_base.specs.Worths.{Typed as TypedWorth}
 use Rattle.checker_base.specs.Expressions.{ValueHas}
-use Rattle.checker_operation.specs.Operations.{Given, given}
-use Rattle.checker_simple.specs.Simples.{has_twice, with_defined, with_variables, AllFail, IfRightHas, TypedVariablesHave, UntypedVariablesHave}
+use Rattle.typing.specs.Operations.{Given, given}
+use Rattle.typing.specs.Simples.{has_twice, with_defined, with_variables, AllFail, IfRightHas, TypedVariablesHave, UntypedVariablesHave}
 use Rattle.codegen_base.specs.declared.element.Element.{Element}
 use Rattle.codegen_base.specs.Elements.{kinds_of}
 use Rattle.codegen_base.specs.Generated.{zero_values, same_types, variables_plan}

@@ -12,9 +12,9 @@ use Rattle.type_table.specs.Types.{ValueType, BoolType}
 use Rattle.type_table.specs.Scopes.{Scope, Yield, is_blank, own_variable, entered, last_named}
 use Rattle.checker_base.specs.Worths.{Typed, worth}
 use Rattle.checker_base.specs.Expressions.{element_of}
-use Rattle.checker_operation.specs.Operations.{Given, given, given_by, and_also, PlacesFail, PlacesHave}
-use Rattle.checker_simple.specs.Simples.{has_twice, NamesFail, SimpleHas, comm_simple}
-use Rattle.checker_statement.specs.Statements.{after_any}
+use Rattle.typing.specs.Operations.{Given, given, given_by, and_also, PlacesFail, PlacesHave}
+use Rattle.typing.specs.Simples.{has_twice, NamesFail, SimpleHas, comm_simple}
+use Rattle.typing.specs.Statements.{after_any}
 use Rattle.meaning.specs.Values.{known, whole, slot_along}
 use Rattle.meaning.specs.Variables.{Blocks, Destination, Nowhere, Into, kind_of}
 use Rattle.meaning.specs.Tasks.{Task, Frames}

@@ -11,8 +11,8 @@ use Rattle.word.specs.Related.{here}
 use Rattle.type_table.specs.Containment.{fields_of}
 use Rattle.type_table.specs.Scopes.{Scope, Yield, entered as scope_entered}
 use Rattle.checker_base.specs.Expressions.{TestHas}
-use Rattle.checker_simple.specs.Simples.{SimpleHas}
-use Rattle.checker_statement.specs.Statements.{IfSimpleHas, IfTestHas, StatementsHave}
+use Rattle.typing.specs.Simples.{SimpleHas}
+use Rattle.typing.specs.Statements.{IfSimpleHas, IfTestHas, StatementsHave}
 use Rattle.meaning.specs.Variables.{Blocks}
 use Rattle.meaning.specs.Tasks.{Repeating, Task, Do, EndBlock, Head, Frames, frame}
 use Rattle.meaning.specs.Source.{globals, statement_next}

@@ -18,9 +18,9 @@ use Rattle.type_table.specs.Containment.{fields_of}
 use Rattle.type_table.specs.Scopes.{Scope, Yield, entered}
 use Rattle.checker_base.specs.Worths.{worth}
 use Rattle.checker_base.specs.Expressions.{ExpressionHas, ChannelHas, ValueHas, nodes_of, element_of}
-use Rattle.checker_operation.specs.Operations.{and_also}
-use Rattle.checker_simple.specs.Simples.{SimpleHas, comm_simple}
-use Rattle.checker_statement.specs.Statements.{after_all, after_any, ClausesHave}
+use Rattle.typing.specs.Operations.{and_also}
+use Rattle.typing.specs.Simples.{SimpleHas, comm_simple}
+use Rattle.typing.specs.Statements.{after_all, after_any, ClausesHave}
 use Rattle.meaning.specs.Values.{Value, words_in}
 use Rattle.meaning.specs.Variables.{Blocks, as_kind}
 use Rattle.meaning.specs.Expressions.{and_then}

@@ -22,7 +22,7 @@ use Rattle.type_table.specs.Scopes.{Scope, Yield}
 use Rattle.checker_base.specs.Flaws.{Nodes}
 use Rattle.checker_base.specs.Worths.{Worth, Typed, Constant, Nil, is_int, worth}
 use Rattle.checker_base.specs.Expressions.{nodes_of, PrintedHas, default_type}
-use Rattle.checker_simple.specs.Simples.{PartsHave}
+use Rattle.typing.specs.Simples.{PartsHave}
 use Rattle.meaning.specs.Values.{Value, known}
 use Rattle.meaning.specs.Variables.{Blocks}
 use Rattle.meaning.specs.Expressions.{and_then, word_in}

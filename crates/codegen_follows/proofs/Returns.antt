@@ -17,9 +17,9 @@ use Rattle.type_table.specs.Scopes.{Scope, Yield, NoResult, Yields}
 use Rattle.type_table.specs.Zeros.{zero_words}
 use Rattle.checker_base.specs.Worths.{Worth, Typed, worth}
 use Rattle.checker_base.specs.Expressions.{nodes_of, ValueHas}
-use Rattle.checker_operation.specs.Operations.{Given, given_by, operation_type, result_of, is_receive, CallHas, ReceiveHas}
-use Rattle.checker_statement.specs.Statements.{ReturnHas, ReturnStatementHas}
-use Rattle.checker.proofs.OperationNodes.{operation_positive}
+use Rattle.typing.specs.Operations.{Given, given_by, operation_type, result_of, is_receive, CallHas, ReceiveHas}
+use Rattle.typing.specs.Statements.{ReturnHas, ReturnStatementHas}
+use Rattle.typing.proofs.OperationNodes.{operation_positive}
 use Rattle.meaning.specs.Values.{Value, known, words_like}
 use Rattle.meaning.specs.Variables.{Blocks}
 use Rattle.meaning.specs.Destinations.{zero_result, number_of}

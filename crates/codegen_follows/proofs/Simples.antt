@@ -8,8 +8,8 @@ use Rattle.type_table.specs.Types.{BoolType, ChannelType}
 use Rattle.type_table.specs.Scopes.{Variable, Scope, Globals, type_in}
 use Rattle.checker_base.specs.Worths.{worth}
 use Rattle.checker_base.specs.Expressions.{nodes_of, ValueHas, ChannelHas, ReceivedHas, SentHas, PrintedHas, element_of}
-use Rattle.checker_operation.specs.Operations.{Callee, NotDeclared, NoFunction, IsFunction, callee, CalleeHas, CallHas, TypeHas, MadeHas, SizeHas, IfSizeHas, ReceiveHas, MeasuredHas, OperationHas, made_of, operation_type, is_receive, Given, given_values, given_by, given, RightHas, place_type, PlacesFail, PlacesHave}
-use Rattle.checker_simple.specs.Simples.{PartsHave, UpdatedHas, AssignedHave, SimpleHas}
+use Rattle.typing.specs.Operations.{Callee, NotDeclared, NoFunction, IsFunction, callee, CalleeHas, CallHas, TypeHas, MadeHas, SizeHas, IfSizeHas, ReceiveHas, MeasuredHas, OperationHas, made_of, operation_type, is_receive, Given, given_values, given_by, given, RightHas, place_type, PlacesFail, PlacesHave}
+use Rattle.typing.specs.Simples.{PartsHave, UpdatedHas, AssignedHave, SimpleHas}
 use Rattle.codegen_follows.proofs.Stands.{DeclaresNone}
 use Rattle.codegen_follows.proofs.Outers.{one, other, worth_same, fail_same, has_same, have_same}
 

@@ -17,9 +17,9 @@ use Rattle.word.specs.declared.value.Word.{Word}
 use Rattle.type_table.specs.Types.{ValueType, BoolType, ChannelType}
 use Rattle.type_table.specs.Scopes.{Variable, Scope, Yield, entered, left, last_named}
 use Rattle.checker_base.specs.Expressions.{TestHas}
-use Rattle.checker_simple.specs.Simples.{SimpleHas}
-use Rattle.checker_statement.specs.Statements.{Setting, after, after_all, StatementHas, StatementsHave, OtherwiseHas}
-use Rattle.checker_operation.specs.Operations.{parameters_of}
+use Rattle.typing.specs.Simples.{SimpleHas}
+use Rattle.typing.specs.Statements.{Setting, after, after_all, StatementHas, StatementsHave, OtherwiseHas}
+use Rattle.typing.specs.Operations.{parameters_of}
 use Rattle.type_table.specs.Zeros.{zero_words}
 use Rattle.meaning.specs.Values.{Value, known, words_in, words_like}
 use Rattle.meaning.specs.Destinations.{zero_result}

@@ -17,9 +17,9 @@ use Rattle.type_table.specs.Zeros.{zero_words}
 use Rattle.type_table.specs.Scopes.{Scope, Yield, entered, declared, is_blank, own_variable, last_named}
 use Rattle.checker_base.specs.Worths.{Typed, worth}
 use Rattle.checker_base.specs.Expressions.{ExpressionHas, ChannelHas, nodes_of, element_of}
-use Rattle.checker_operation.specs.Operations.{PlacesHave, PlacesFail}
-use Rattle.checker_simple.specs.Simples.{has_twice, is_declarable, DefinedHave}
-use Rattle.checker_statement.specs.Statements.{item_given, after_for_head}
+use Rattle.typing.specs.Operations.{PlacesHave, PlacesFail}
+use Rattle.typing.specs.Simples.{has_twice, is_declarable, DefinedHave}
+use Rattle.typing.specs.Statements.{item_given, after_for_head}
 use Rattle.meaning.specs.Values.{words_in, whole, slot_along}
 use Rattle.meaning.specs.Variables.{Blocks, Destination, Nowhere, New, Into, kind_of}
 use Rattle.meaning.specs.Tasks.{Task, Frames}

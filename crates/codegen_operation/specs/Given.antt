@@ -5,7 +5,7 @@ use Rattle.type_table.specs.Types.{ValueType, BoolType}
 use Rattle.type_table.specs.Scopes.{Globals, Scope}
 use Rattle.checker_base.specs.Worths.{worth}
 use Rattle.checker_base.specs.Expressions.{default_type}
-use Rattle.checker_operation.specs.Operations.{is_receive, operation_type}
+use Rattle.typing.specs.Operations.{is_receive, operation_type}
 use Rattle.meaning.specs.Values.{known}
 
 -- the type that a variable takes from an expression

@@ -9,7 +9,7 @@ use Rattle.type_table.specs.Types.{ValueType, IntType}
 use Rattle.type_table.specs.Containment.{Selected}
 use Rattle.type_table.specs.Scopes.{Globals, Scope}
 use Rattle.checker_base.specs.Worths.{is_logical, type_of_field, worth}
-use Rattle.checker_operation.specs.Operations.{selected}
+use Rattle.typing.specs.Operations.{selected}
 use Rattle.meaning.specs.Values.{known}
 use Rattle.codegen_base.specs.declared.element.Element.{Element}
 use Rattle.codegen_base.specs.Layouts.{type_of}

@@ -22,6 +22,9 @@ use syntax::node::IfHeader;
 use syntax::{ElseNode, IfNode, ReturnNode, StatementNode};
 use word::value::Word;
 
+// The arms below drop a task by a call. One that goes out of scope behind a `match` is proved to be dropped in each arm for each of its
+// variants, which takes five times as long.
+
 /// Leaves a loop or a select.
 pub fn leave(top: &mut Frame<'_>)
     ensures { (types : List (List ℕ)) → frame_of types top.new ≡ broken (blocks_of types top.old.scope) (tasks_of types top.old.tasks.items) }

@@ -7,7 +7,7 @@ ghost use Rattle.type_table.specs.Views.{kind_of, yield_of};
 ghost use Rattle.type_table.specs.Visible.{types_of, globals_in};
 ghost use Rattle.checker_base.specs.Expressions.{default_type, element_of};
 ghost use Rattle.checker_base.specs.Views.{worth_of};
-ghost use Rattle.checker_operation.specs.Operations.{callee, is_other, is_receive, operation_type, result_of, result_type, yielded};
+ghost use Rattle.typing.specs.Operations.{callee, is_other, is_receive, operation_type, result_of, result_type, yielded};
 ghost use Rattle.meaning.specs.Destinations.{element_kind, given_kinds, written_kind};
 ghost use Rattle.meaning.specs.Expressions.{type_of as kind_meant};
 ghost use Rattle.meaning.specs.Values.{known};

@@ -2,7 +2,7 @@ use Rattle.std.proofs.Common.{subst}
 use Rattle.syntax.specs.Spans.{tree_of}
 use Rattle.syntax.specs.Tree.{File}
 use Rattle.checker_base.specs.declared.flaw.Flaw.{Flaw}
-use Rattle.checker.specs.Files.{FileHas}
+use Rattle.typing.specs.Files.{FileHas}
 use Rattle.checker.proofs.Bodies.{typed_of_none}
 use Rattle.checker.proofs.Nodes.{file_within}
 use Rattle.checker.proofs.tree.check.Goals as goal

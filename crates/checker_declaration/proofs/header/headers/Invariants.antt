@@ -3,8 +3,8 @@ use Rattle.syntax.specs.Measures.{top_size}
 use Rattle.syntax.specs.View.{top_of}
 use Rattle.type_table.specs.Views.{signature_of, function_names as names_in}
 use Rattle.checker_base.specs.declared.flaw.Flaw.{Flaw}
-use Rattle.checker_declaration.specs.Kinds.{function_names, signatures}
-use Rattle.checker_declaration.specs.Declarations.{HeadersHave}
+use Rattle.typing.specs.Kinds.{function_names, signatures}
+use Rattle.typing.specs.Declarations.{HeadersHave}
 use Rattle.checker_declaration.proofs.header.headers.Given as goal
 
 -- what is left shows what all show

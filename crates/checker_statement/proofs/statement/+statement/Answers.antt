@@ -10,7 +10,7 @@ use Rattle.type_table.specs.Visible.{globals_in, scope_of, Keeps, Leaves}
 use Rattle.checker_base.specs.declared.flaw.Flaw.{Flaw}
 use Rattle.checker_base.specs.Views.{Refuses}
 use Rattle.checker_statement.specs.Settings.{setting_in}
-use Rattle.checker_statement.specs.Statements.{StatementHas, StatementsHave, PartsHave, ClauseHas, ClausesHave, after_all, after_parts, after_clause, after_for_head}
+use Rattle.typing.specs.Statements.{StatementHas, StatementsHave, PartsHave, ClauseHas, ClausesHave, after_all, after_parts, after_clause, after_for_head}
 use Rattle.checker_statement.proofs.Defaults.{two_defaults}
 use Rattle.checker_statement.proofs.Further.{few_defaults, keeps_on, keeps_same, keeps_left, always, refuses_more, block_left, found_next, passed_next, found_clause, passed_clause}
 use Rattle.checker_statement.proofs.statement.+statement.Goals as goal

@@ -9,8 +9,8 @@ use Rattle.type_table.specs.Types.{ValueType}
 use Rattle.type_table.specs.Scopes.{Scope, Globals, Yield, NoResult, Yields, is_blank, entered, left, declared_unless_blank, type_in}
 use Rattle.checker_base.specs.Worths.{Typed, worth}
 use Rattle.checker_base.specs.Expressions.{nodes_of, ValueHas, ExpressionHas, TestHas, element_of, ChannelHas, ReceivedHas}
-use Rattle.checker_operation.specs.Operations.{CallHas, OperationHas, operation_type, Given, given, given_by, PlaceHas, place_type, GoesHas}
-use Rattle.checker_simple.specs.Simples.{SimpleHas, after_simple, comm_simple, DefinedHave, TypedVariablesHave, UntypedVariablesHave, with_defined, with_variables}
+use Rattle.typing.specs.Operations.{CallHas, OperationHas, operation_type, Given, given, given_by, PlaceHas, place_type, GoesHas}
+use Rattle.typing.specs.Simples.{SimpleHas, after_simple, comm_simple, DefinedHave, TypedVariablesHave, UntypedVariablesHave, with_defined, with_variables}
 
 -- what a statement stands in: the result of its function, and whether it is within a `for` or a `select`, and within a `for`
 pub record Setting : Type 0 where

@@ -10,11 +10,11 @@ use Rattle.type_table.specs.Types.{StructType}
 use Rattle.type_table.specs.Containment.{Structs, Holds, width}
 use Rattle.type_table.specs.Scopes.{nothing_declared, is_blank, is_reserved, number_of, type_in}
 use Rattle.checker_base.specs.declared.flaw.Flaw.{Flaw}
-use Rattle.checker_declaration.specs.declared.group.Role.{Role}
-use Rattle.checker_declaration.specs.declared.group.Role.TheVariants as roles
+use Rattle.typing.specs.declared.role.Role.{Role}
+use Rattle.typing.specs.declared.role.Role.TheVariants as roles
 use Rattle.checker_base.specs.Flaws.{IsBroken, IsExceeded}
-use Rattle.checker_operation.specs.Operations.{TypeHas}
-use Rattle.checker_declaration.specs.Kinds.{type_names, function_names, structs}
+use Rattle.typing.specs.Operations.{TypeHas}
+use Rattle.typing.specs.Kinds.{type_names, function_names, structs}
 
 -- ---- names
 

@@ -13,8 +13,8 @@ use Rattle.type_table.proofs.Widths.{beyond}
 use Rattle.type_table.proofs.Tables.{widths_are, narrow_at}
 use Rattle.checker_base.specs.declared.flaw.Flaw.{Flaw}
 use Rattle.checker_base.specs.declared.flaw.Flaw.TheVariants.{Broken, Exceeded}
-use Rattle.checker_declaration.specs.Kinds.{structs_with}
-use Rattle.checker_declaration.specs.Declarations.{struct_node, WidthHas, ContentsHave}
+use Rattle.typing.specs.Kinds.{structs_with}
+use Rattle.typing.specs.Declarations.{struct_node, WidthHas, ContentsHave}
 
 -- where no struct type has a number, there are no more
 pub past_structs : (types : List (List ℕ)) (tops : List Top) (first number : ℕ) → struct_node first tops number ≡ None → length (structs_with types tops) ≤ number

@@ -17,7 +17,7 @@ use Rattle.checker_base.specs.declared.flaw.Misuse.TheVariants as misuses
 use Rattle.checker_base.specs.Flaws.{Nodes, IsBroken, IsExceeded, IsMisuse}
 use Rattle.checker_base.specs.Worths.{Worth, Typed, Constant, Nil, unary_worth, binary_worth, literal_struct, worth}
 use Rattle.checker_base.specs.Expressions.{nodes_of, FitHas, ValueHas, DefaultHas, Fails, UnaryHas, BinaryHas, SelectionHas, NumbersHave, ValuesFail, PassedHave, field_kinds, FieldsHave, LiteralHas, ExpressionHas, ExpressionsHave, ConditionHas, TestHas, ChannelHas, ReceivedHas, SentHas}
-use Rattle.checker_declaration.specs.Nodes.{node_of}
+use Rattle.typing.specs.Nodes.{node_of}
 
 pub broken : (rule : Rule) (end : ℕ) (flaw : Flaw) → IsBroken rule end flaw → node_of flaw + 1 ≡ end
 broken rule end (Broken r n) has = has.1

@@ -16,7 +16,7 @@ use Rattle.type_table.specs.Containment.{Structs}
 use Rattle.type_table.specs.Scopes.{Scope, Globals, is_blank, is_reserved, own_variable, declared, declared_unless_blank, type_in}
 use Rattle.checker_base.specs.Worths.{Worth, Typed, Constant, Nil, is_int, binary_worth, kind_of, worth}
 use Rattle.checker_base.specs.Expressions.{nodes_of, ValueHas, Fails, NumbersHave, ExpressionHas, element_of, ChannelHas, SentHas, PrintedHas, default_type}
-use Rattle.checker_operation.specs.Operations.{and_also, TypeHas, CallHas, ReceiveHas, MeasuredHas, Given, given, RightHas, PlaceHas, ReadPlaceHas, place_type, GoesHas, PlacesFail, PlacesHave}
+use Rattle.typing.specs.Operations.{and_also, TypeHas, CallHas, ReceiveHas, MeasuredHas, Given, given, RightHas, PlaceHas, ReadPlaceHas, place_type, GoesHas, PlacesFail, PlacesHave}
 
 -- ---- what is printed
 

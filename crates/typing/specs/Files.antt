@@ -10,10 +10,10 @@ use Rattle.type_table.specs.Scopes.{Scope, Yield, NoResult, Yields, Signature, G
 use Rattle.checker_base.specs.declared.flaw.Flaw.{Flaw}
 use Rattle.checker_base.specs.declared.flaw.Flaw.TheVariants.{Broken, Exceeded}
 use Rattle.checker_base.specs.Flaws.{IsBroken, IsExceeded}
-use Rattle.checker_statement.specs.Statements.{Setting, StatementsHave, after_all}
-use Rattle.checker_statement.specs.Terminating.{last_terminates}
-use Rattle.checker_declaration.specs.Kinds.{yield_of, globals_of, parameters}
-use Rattle.checker_declaration.specs.Declarations.{is_nothing, DeclarationsHave}
+use Rattle.typing.specs.Statements.{Setting, StatementsHave, after_all}
+use Rattle.typing.specs.Terminating.{last_terminates}
+use Rattle.typing.specs.Kinds.{yield_of, globals_of, parameters}
+use Rattle.typing.specs.Declarations.{is_nothing, DeclarationsHave}
 
 -- ---- bodies of functions
 

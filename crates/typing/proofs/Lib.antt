@@ -1,0 +1,3 @@
+pub mod ExpressionNodes
+pub mod OperationNodes
+pub mod Contents
