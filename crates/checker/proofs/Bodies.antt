@@ -9,16 +9,16 @@ use Rattle.type_table.specs.declared.entry.StructEntry.{StructEntry}
 use Rattle.type_table.specs.Containment.{Structs}
 use Rattle.type_table.specs.Views.{names_of, structs_of}
 use Rattle.type_table.specs.Scopes.{Scope, Yield, Globals}
-use Rattle.checker_base.specs.declared.flaw.Flaw.{Flaw}
-use Rattle.checker_base.specs.declared.flaw.Flaw.TheVariants.{Broken, Exceeded}
+use Rattle.typing_rules.specs.declared.flaw.Flaw.{Flaw}
+use Rattle.typing_rules.specs.declared.flaw.Flaw.TheVariants.{Broken, Exceeded}
 use Rattle.checker_base.specs.declared.refusal.Refusal.{Refusal}
 use Rattle.checker_base.specs.declared.refusal.Refusal.TheVariants.{Memory, Flawed}
 use Rattle.checker_base.specs.Views.{Refuses}
-use Rattle.typing.specs.Statements.{Setting}
-use Rattle.typing.specs.Kinds.{type_names, function_names, structs_with, structs, yield_of, globals_of, parameters}
-use Rattle.typing.specs.Declarations.{is_type_taken, FieldsHave, StructHas, TopStructHas, StructsHave, ContentsHave, HeaderHas, TopHeaderHas, counting_function, HeadersHave, TypesHave, DeclarationsHave}
+use Rattle.typing_rules.specs.Statements.{Setting}
+use Rattle.typing_rules.specs.Kinds.{type_names, function_names, structs_with, structs, yield_of, globals_of, parameters}
+use Rattle.typing_rules.specs.Declarations.{is_type_taken, FieldsHave, StructHas, TopStructHas, StructsHave, ContentsHave, HeaderHas, TopHeaderHas, counting_function, HeadersHave, TypesHave, DeclarationsHave}
 use Rattle.checker_declaration.specs.Heads.{HeadsHave}
-use Rattle.typing.specs.Files.{BodyIn, BodyHas, BodiesHave, has_main, FileHas, IsTyped}
+use Rattle.typing_rules.specs.Files.{BodyIn, BodyHas, BodiesHave, has_main, FileHas, IsTyped}
 
 -- ---- bodies
 

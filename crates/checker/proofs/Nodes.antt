@@ -8,15 +8,15 @@ use Rattle.syntax.specs.Measures.{if_any, type_size, declared_size, function_siz
 use Rattle.type_table.specs.Types.{StructType}
 use Rattle.type_table.specs.Containment.{Structs, width}
 use Rattle.type_table.specs.Scopes.{Globals, nothing_declared, type_in}
-use Rattle.checker_base.specs.declared.flaw.Flaw.{Flaw}
-use Rattle.typing.specs.declared.role.Role.{Role}
-use Rattle.typing.specs.declared.role.Role.TheVariants as roles
-use Rattle.typing.specs.Kinds.{type_names, function_names, structs, globals_of, parameters}
-use Rattle.typing.specs.Declarations.{broken_by, NameHas, NamesHave, GroupHas, GroupsHave, StructHas, counting_struct, StructsHave, WidthHas, struct_node, ContentsHave, IfTypeHas, HeadHas, HeaderHas, counting_function, HeadersHave}
-use Rattle.typing.specs.Files.{setting_of, BodyHas, BodiesHave, FileHas}
-use Rattle.typing.specs.Nodes.{node_of}
-use Rattle.typing.proofs.ExpressionNodes.{broken, exceeded, type_positive}
-use Rattle.typing.proofs.OperationNodes.{type_within}
+use Rattle.typing_rules.specs.declared.flaw.Flaw.{Flaw}
+use Rattle.typing_rules.specs.declared.role.Role.{Role}
+use Rattle.typing_rules.specs.declared.role.Role.TheVariants as roles
+use Rattle.typing_rules.specs.Kinds.{type_names, function_names, structs, globals_of, parameters}
+use Rattle.typing_rules.specs.Declarations.{broken_by, NameHas, NamesHave, GroupHas, GroupsHave, StructHas, counting_struct, StructsHave, WidthHas, struct_node, ContentsHave, IfTypeHas, HeadHas, HeaderHas, counting_function, HeadersHave}
+use Rattle.typing_rules.specs.Files.{setting_of, BodyHas, BodiesHave, FileHas}
+use Rattle.typing_rules.specs.Nodes.{node_of}
+use Rattle.typing_rules.proofs.ExpressionNodes.{broken, exceeded, type_positive}
+use Rattle.typing_rules.proofs.OperationNodes.{type_within}
 use Rattle.checker.proofs.StatementNodes.{statements_within}
 
 -- ---- fields and parameters

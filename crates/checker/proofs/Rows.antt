@@ -6,10 +6,10 @@ use Rattle.syntax.specs.Tree.{TypeExpression, NamedType, Channel, Empty, For, Fo
 use Rattle.type_table.specs.Types.{IntType, StructType}
 use Rattle.type_table.specs.Containment.{width}
 use Rattle.type_table.specs.Scopes.{Yields}
-use Rattle.typing.specs.declared.role.Role.TheVariants as roles
-use Rattle.typing.specs.Kinds.{type_names, function_names, structs, globals_of, parameters}
-use Rattle.typing.specs.Declarations.{broken_by, is_function_taken, struct_node}
-use Rattle.typing.specs.Files.{is_ended, has_main}
+use Rattle.typing_rules.specs.declared.role.Role.TheVariants as roles
+use Rattle.typing_rules.specs.Kinds.{type_names, function_names, structs, globals_of, parameters}
+use Rattle.typing_rules.specs.Declarations.{broken_by, is_function_taken, struct_node}
+use Rattle.typing_rules.specs.Files.{is_ended, has_main}
 
 int : TypeExpression
 int = NamedType (codes "int")

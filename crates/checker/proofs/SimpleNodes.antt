@@ -9,16 +9,16 @@ use Rattle.syntax.specs.Tree.{TypeExpression, Part, Value, Text, Right, Place, S
 use Rattle.syntax.specs.Measures.{if_any, type_size, expression_size, right_size, part_size, simple_size, comm_size}
 use Rattle.type_table.specs.Types.{ValueType}
 use Rattle.type_table.specs.Scopes.{Scope, Globals, own_variable, type_in}
-use Rattle.checker_base.specs.declared.flaw.Flaw.{Flaw}
-use Rattle.checker_base.specs.Flaws.{Nodes}
-use Rattle.checker_base.specs.Worths.{Worth, Typed, Constant, Nil, kind_of, binary_worth, worth}
+use Rattle.typing_rules.specs.declared.flaw.Flaw.{Flaw}
+use Rattle.typing_rules.specs.Flaws.{Nodes}
+use Rattle.typing_rules.specs.Worths.{Worth, Typed, Constant, Nil, kind_of, binary_worth, worth}
 use Rattle.type_table.specs.Types.{IntType, BoolType, StructType, ChannelType}
-use Rattle.checker_base.specs.Expressions.{PrintedHas, nodes_of, element_of}
-use Rattle.typing.specs.Operations.{Given, given, place_type}
-use Rattle.typing.specs.Simples.{PartHas, PartsHave, UpdatedHas, StepHas, NamesFail, DefinedHave, VariablesHave, AllFail, IfRightHas, SimpleHas, comm_simple, TypedVariablesHave, UntypedVariablesHave}
-use Rattle.typing.specs.Nodes.{node_of}
-use Rattle.typing.proofs.ExpressionNodes.{broken, expression_positive, type_positive, value_within, fails_within, numbers_within, expression_within, channel_within, sent_within}
-use Rattle.typing.proofs.OperationNodes.{type_within, call_within, receive_within, measured_within, AreWithin, given_are, right_within, read_place_within, goes_within, places_fail_within, places_within}
+use Rattle.typing_rules.specs.Expressions.{PrintedHas, nodes_of, element_of}
+use Rattle.typing_rules.specs.Operations.{Given, given, place_type}
+use Rattle.typing_rules.specs.Simples.{PartHas, PartsHave, UpdatedHas, StepHas, NamesFail, DefinedHave, VariablesHave, AllFail, IfRightHas, SimpleHas, comm_simple, TypedVariablesHave, UntypedVariablesHave}
+use Rattle.typing_rules.specs.Nodes.{node_of}
+use Rattle.typing_rules.proofs.ExpressionNodes.{broken, expression_positive, type_positive, value_within, fails_within, numbers_within, expression_within, channel_within, sent_within}
+use Rattle.typing_rules.proofs.OperationNodes.{type_within, call_within, receive_within, measured_within, AreWithin, given_are, right_within, read_place_within, goes_within, places_fail_within, places_within}
 
 printed_within : (w : Option Worth) (nodes : Nodes) (flaw : Flaw) → nodes.first < nodes.end → PrintedHas w nodes flaw → node_of flaw < nodes.end
 printed_within None nodes flaw le has = absurd has

@@ -3,15 +3,15 @@ use Rattle.std.proofs.Common.{◌≡◌, ℕ, ◌+◌, ◌<◌, ◌≤◌, inl, 
 use Rattle.syntax.specs.Tree.{Expression, Simple, IfHead, Bare, Semicolon, First, Target, NoTarget, DefineTarget, AssignTarget, ForHead, Forever, While, ForClauses, Range, Comm, Returned, NoValue, ReturnedOperation, ReturnedValue, Statement, Empty, Alone, VarTyped, VarUntyped, Block, If, For, Select, Go, Return, Break, Continue, Statements, NoStatement, Then, Branch, Conditional, Otherwise, NoElse, ElseBlock, ElseIf, Clauses, NoClause, Clause}
 use Rattle.syntax.specs.Measures.{if_any, expression_size, simple_size, if_head_size, target_size, for_head_size, comm_size, returned_size, statement_size, statements_size, branch_size, otherwise_size, clauses_size}
 use Rattle.type_table.specs.Scopes.{Scope, Globals, Yield, NoResult, Yields, is_blank, entered, left}
-use Rattle.checker_base.specs.declared.flaw.Flaw.{Flaw}
-use Rattle.checker_base.specs.Worths.{worth}
-use Rattle.checker_base.specs.Expressions.{nodes_of}
-use Rattle.typing.specs.Operations.{Given, operation_type, given_by, place_type}
-use Rattle.typing.specs.Simples.{comm_simple}
-use Rattle.typing.specs.Statements.{Setting, in_for, in_select, IfSimpleHas, after_any, head_simple, IfTestHas, GuardHas, item_given, TargetHas, TakenHas, RangedHas, ForHeadHas, after_for_head, after, after_all, ReturnHas, returned_given, ReturnedHas, StatementHas, StatementsHave, BranchHas, OtherwiseHas, ClausesHave}
-use Rattle.typing.specs.Nodes.{node_of}
-use Rattle.typing.proofs.ExpressionNodes.{broken, expression_positive, value_within, expression_within, test_within, channel_within, received_within}
-use Rattle.typing.proofs.OperationNodes.{call_within, operation_within, operation_positive, place_within, goes_within}
+use Rattle.typing_rules.specs.declared.flaw.Flaw.{Flaw}
+use Rattle.typing_rules.specs.Worths.{worth}
+use Rattle.typing_rules.specs.Expressions.{nodes_of}
+use Rattle.typing_rules.specs.Operations.{Given, operation_type, given_by, place_type}
+use Rattle.typing_rules.specs.Simples.{comm_simple}
+use Rattle.typing_rules.specs.Statements.{Setting, in_for, in_select, IfSimpleHas, after_any, head_simple, IfTestHas, GuardHas, item_given, TargetHas, TakenHas, RangedHas, ForHeadHas, after_for_head, after, after_all, ReturnHas, returned_given, ReturnedHas, StatementHas, StatementsHave, BranchHas, OtherwiseHas, ClausesHave}
+use Rattle.typing_rules.specs.Nodes.{node_of}
+use Rattle.typing_rules.proofs.ExpressionNodes.{broken, expression_positive, value_within, expression_within, test_within, channel_within, received_within}
+use Rattle.typing_rules.proofs.OperationNodes.{call_within, operation_within, operation_positive, place_within, goes_within}
 use Rattle.checker.proofs.SimpleNodes.{defined_within, typed_within, untyped_within, simple_within, comm_sized}
 
 -- ---- headers

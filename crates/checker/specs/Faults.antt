@@ -5,7 +5,7 @@ use Rattle.go_text.specs.declared.fault.Fault.TheVariants as faults
 use Rattle.go_text.specs.declared.place.Place.{Place}
 use Rattle.syntax.specs.declared.tree.Tree.{Tree}
 use Rattle.syntax.specs.Spans.{tree_of, spans_of}
-use Rattle.typing.specs.Files.{Breaks, Exceeds}
+use Rattle.typing_rules.specs.Files.{Breaks, Exceeds}
 
 -- the place is that of the node, still without line and column
 pub record IsPlaceOf (tree : Tree) (node : ℕ) (place : Place) : Type 0 where

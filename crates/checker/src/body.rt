@@ -5,15 +5,14 @@ ghost use Rattle.syntax.specs.Measures.{function_size, statements_size, top_size
 ghost use Rattle.syntax.specs.View.{body_of, function_of, top_of};
 ghost use Rattle.type_table.specs.Views.{field_in, yield_of};
 ghost use Rattle.type_table.specs.Visible.{types_of, globals_in, scope_of};
-ghost use Rattle.checker_base.specs.declared.flaw.Flaw.{Flaw as OneFlaw};
+ghost use Rattle.typing_rules.specs.declared.flaw.Flaw.{Flaw as OneFlaw};
 ghost use Rattle.checker_base.specs.Views.{Refuses};
 ghost use Rattle.checker_statement.specs.Settings.{setting_in};
-ghost use Rattle.typing.specs.Kinds.{with_fields};
-ghost use Rattle.typing.specs.Declarations.{HeadHas};
-ghost use Rattle.typing.specs.Files.{is_ended, BodyIn, BodyHas, TopBodyHas, BodiesHave};
+ghost use Rattle.typing_rules.specs.Kinds.{with_fields};
+ghost use Rattle.typing_rules.specs.Declarations.{HeadHas};
+ghost use Rattle.typing_rules.specs.Files.{is_ended, BodyIn, BodyHas, TopBodyHas, BodiesHave};
 ghost use Rattle.checker_declaration.specs.Heads.{TopHeadHas, HeadsHave};
 
-use checker_base::flaw::Flaw;
 use checker_base::refusal::Refusal;
 use checker_declaration::header::function_head;
 use checker_statement::statement::{Inside, statements};
@@ -26,6 +25,7 @@ use type_table::entry::FieldEntry;
 use type_table::scope::{Visible, declare};
 use type_table::table::TypeTable;
 use type_table::value_type::ValueType;
+use typing_rules::flaw::Flaw;
 
 /// How many words the variables of a function may take.
 const MOST_WORDS: usize = 4096;

@@ -4,18 +4,18 @@ ghost use Rattle.std.specs.Prelude.{◌≡◌, ◌+◌, ◌^◌, ◌<◌, ◌&&�
 ghost use Rattle.syntax.specs.Measures.{size};
 ghost use Rattle.syntax.specs.View.{file_of};
 ghost use Rattle.type_table.specs.Views.{signature_of};
-ghost use Rattle.checker_base.specs.declared.flaw.Flaw.{Flaw as OneFlaw};
+ghost use Rattle.typing_rules.specs.declared.flaw.Flaw.{Flaw as OneFlaw};
 ghost use Rattle.checker_base.specs.Views.{Refuses};
-ghost use Rattle.typing.specs.Files.{is_plain, has_main, FileHas};
+ghost use Rattle.typing_rules.specs.Files.{is_plain, has_main, FileHas};
 
 use crate::body::bodies;
-use checker_base::flaw::Flaw;
 use checker_base::refusal::Refusal;
 use checker_declaration::table::table_of;
 use go_text::Rule;
 use std::alloc::Global;
 use syntax::{FileNode, NodeId};
 use type_table::entry::FunctionEntry;
+use typing_rules::flaw::Flaw;
 
 /// Whether a function has no parameters and no result.
 fn is_plain(function: &FunctionEntry<'_>) -> bool

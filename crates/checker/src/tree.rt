@@ -3,18 +3,18 @@
 ghost use Rattle.std.specs.Prelude.{◌≡◌, ◌<◌, ◌⊎◌, IfOk, IfErr};
 ghost use Rattle.syntax.specs.Measures.{size};
 ghost use Rattle.syntax.specs.Spans.{tree_of};
-ghost use Rattle.typing.specs.Files.{FileHas, IsTyped};
-ghost use Rattle.typing.specs.Nodes.{node_of};
+ghost use Rattle.typing_rules.specs.Files.{FileHas, IsTyped};
+ghost use Rattle.typing_rules.specs.Nodes.{node_of};
 ghost use Rattle.checker.specs.Faults.{Tells};
 ghost use Rattle.checker.specs.Trees.{tree_in};
 
 use crate::file::check_file;
 use crate::typed::Typed;
-use checker_base::flaw::Flaw;
 use checker_base::refusal::Refusal;
 use go_text::{Fault, Place};
 use std::alloc::Global;
 use syntax::Tree;
+use typing_rules::flaw::Flaw;
 
 /// The refusal of a tree with this flaw, with the place of the node.
 fn fault_of(tree: &Tree, flaw: Flaw) -> Fault

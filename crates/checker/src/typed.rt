@@ -3,7 +3,7 @@
 ghost use Rattle.std.specs.Prelude.{◌≡◌, ◌^◌, ◌<◌, IfOk};
 ghost use Rattle.syntax.specs.Measures.{size};
 ghost use Rattle.syntax.specs.Spans.{tree_of};
-ghost use Rattle.typing.specs.Files.{IsTyped};
+ghost use Rattle.typing_rules.specs.Files.{IsTyped};
 
 use checker_base::refusal::Refusal;
 use checker_declaration::table::table_of;
@@ -26,7 +26,7 @@ impl Drop for Typed {
 
 impl Typed {
     ghost use Rattle.type_table.specs.Visible.{globals_in};
-    ghost use Rattle.typing.specs.Kinds.{globals_of};
+    ghost use Rattle.typing_rules.specs.Kinds.{globals_of};
     ghost use Rattle.checker.specs.Trees.{tree_in};
 
     /// A tree that breaks no typing rule and exceeds no limit.

@@ -11,12 +11,12 @@ use Rattle.type_table.specs.Types.{ValueType}
 use Rattle.type_table.specs.Views.{field_in}
 use Rattle.type_table.specs.Containment.{Field, fields_of}
 use Rattle.type_table.specs.Scopes.{Globals, Scope}
-use Rattle.checker_base.specs.declared.flaw.Flaw.{Flaw}
+use Rattle.typing_rules.specs.declared.flaw.Flaw.{Flaw}
 use Rattle.go_text.specs.declared.rule.Rule.TheVariants as rules
-use Rattle.checker_base.specs.Flaws.{Nodes, IsBroken}
-use Rattle.checker_base.specs.Worths.{Worth, literal_struct, worth}
+use Rattle.typing_rules.specs.Flaws.{Nodes, IsBroken}
+use Rattle.typing_rules.specs.Worths.{Worth, literal_struct, worth}
 use Rattle.checker_base.specs.Views.{kind_in, Tells}
-use Rattle.checker_base.specs.Expressions.{ExpressionHas, ExpressionsHave, FieldsHave, ValuesFail, ValueHas, field_kinds, nodes_of}
+use Rattle.typing_rules.specs.Expressions.{ExpressionHas, ExpressionsHave, FieldsHave, ValuesFail, ValueHas, field_kinds, nodes_of}
 
 -- P of the flaw that is told; where none is, P says what Q says of the rest
 abbrev pub Narrows : Option Flaw → (Flaw → Type 0) → (Flaw → Type 0) → Type 0

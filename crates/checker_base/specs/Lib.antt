@@ -1,4 +1,1 @@
-pub mod Flaws
-pub mod Worths
-pub mod Expressions
 pub mod Views

@@ -1,7 +1,7 @@
 -- What expressions are worth, and what is refused, as the definitions see it.
 use Rattle.std.specs.Prelude.{◌≤◌, ◌^◌, ℕ, ◌+◌, List, nat_abs, Option, Some, None, Result, Ok, Err}
-use Rattle.checker_base.specs.declared.flaw.Flaw.{Flaw}
-use Rattle.checker_base.specs.declared.flaw.Misuse.{Misuse}
+use Rattle.typing_rules.specs.declared.flaw.Flaw.{Flaw}
+use Rattle.typing_rules.specs.declared.flaw.Misuse.{Misuse}
 use Rattle.checker_base.specs.declared.refusal.Refusal.{Refusal}
 use Rattle.checker_base.specs.declared.refusal.Refusal.TheVariants.{Memory, Flawed}
 use Rattle.checker_base.specs.declared.worth.Worth.{Worth as InMemory}
@@ -11,8 +11,8 @@ use Rattle.type_table.specs.declared.value_type.ValueType.{ValueType as Kind}
 use Rattle.type_table.specs.declared.entry.FieldEntry.{FieldEntry}
 use Rattle.type_table.specs.Types.{ValueType}
 use Rattle.type_table.specs.Views.{kind_of}
-use Rattle.checker_base.specs.Flaws.{Nodes}
-use Rattle.checker_base.specs.Worths.{Worth, Typed, Constant, Nil}
+use Rattle.typing_rules.specs.Flaws.{Nodes}
+use Rattle.typing_rules.specs.Worths.{Worth, Typed, Constant, Nil}
 
 abbrev pub worth_of : List (List ℕ) → InMemory → Worth
 worth_of types (worths.Typed kind) = Typed (kind_of types kind)

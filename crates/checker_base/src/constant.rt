@@ -1,7 +1,7 @@
 //! Exact constants.
 
 ghost use Rattle.std.specs.Prelude.{◌≡◌, ◌≢◌, ℕ, pos, ◌*ℤ◌, ◌≤ℤ◌, ◌^◌, ◌≤◌, nat_abs, IfSome, IfOk, Option, false};
-ghost use Rattle.checker_base.specs.Worths.{bounded, exact_binary, exact_unary, is_zero, is_negative, is_shift, is_division, is_far, is_wrong_right};
+ghost use Rattle.typing_rules.specs.Worths.{bounded, exact_binary, exact_unary, is_zero, is_negative, is_shift, is_division, is_far, is_wrong_right};
 
 use syntax::{BinaryOperator, UnaryOperator};
 

@@ -2,7 +2,7 @@
 #![tactic(auto)]
 
 pub mod constant;
-pub mod flaw;
+pub mod misuse;
 pub mod operand;
 pub(crate) mod operator;
 pub mod refusal;

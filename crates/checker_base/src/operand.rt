@@ -8,13 +8,13 @@ ghost use Rattle.syntax.specs.View.{name_of, expression_of};
 ghost use Rattle.type_table.specs.Containment.{fields_of};
 ghost use Rattle.type_table.specs.Views.{field_in, kind_of};
 ghost use Rattle.type_table.specs.Visible.{types_of, globals_in, scope_of};
-ghost use Rattle.checker_base.specs.declared.flaw.Flaw.{Flaw as OneFlaw};
-ghost use Rattle.checker_base.specs.Flaws.{Nodes, IsExceeded};
-ghost use Rattle.checker_base.specs.Worths.{Worth as OneWorth, Constant, literal, worth as spec_worth, selected_worth, unary_worth, binary_worth};
+ghost use Rattle.typing_rules.specs.declared.flaw.Flaw.{Flaw as OneFlaw};
+ghost use Rattle.typing_rules.specs.Flaws.{Nodes, IsExceeded};
+ghost use Rattle.typing_rules.specs.Worths.{Worth as OneWorth, Constant, literal, worth as spec_worth, selected_worth, unary_worth, binary_worth};
 ghost use Rattle.checker_base.specs.Views.{worth_of, IsSmall, known_kind, kind_in, Tells};
-ghost use Rattle.checker_base.specs.Expressions.{ExpressionHas, ExpressionsHave, UnaryHas, BinaryHas, SelectionHas, FieldsHave, ValuesFail, PassedHave, field_kinds, nodes_of, ValueHas};
+ghost use Rattle.typing_rules.specs.Expressions.{ExpressionHas, ExpressionsHave, UnaryHas, BinaryHas, SelectionHas, FieldsHave, ValuesFail, PassedHave, field_kinds, nodes_of, ValueHas};
 
-use crate::flaw::{Flaw, Operator, misused};
+use crate::misuse::{Operator, misused};
 use crate::value::value;
 use crate::worth::{
     Worth, binary_worth, literal, literal_struct, named_worth, selected_worth, unary_worth,
@@ -27,6 +27,7 @@ use type_table::layout::field_of;
 use type_table::scope::Visible;
 use type_table::table::TypeTable;
 use type_table::value_type::ValueType;
+use typing_rules::flaw::Flaw;
 
 /// An expression that is checked.
 #[derive(Clone, Copy)]

@@ -3,7 +3,7 @@
 ghost use Rattle.std.specs.Prelude.{◌≡◌, ℕ, ◌||◌, List};
 ghost use Rattle.type_table.specs.Types.{is_int_type, is_bool_type, is_channel_type};
 ghost use Rattle.type_table.specs.Views.{kind_of};
-ghost use Rattle.checker_base.specs.Worths.{is_shift, is_division, is_equality, is_order, is_logical, is_wrong_right, is_far, is_not, made_type};
+ghost use Rattle.typing_rules.specs.Worths.{is_shift, is_division, is_equality, is_order, is_logical, is_wrong_right, is_far, is_not, made_type};
 
 use syntax::{BinaryOperator, UnaryOperator};
 use type_table::value_type::ValueType;

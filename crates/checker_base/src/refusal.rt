@@ -1,7 +1,7 @@
 //! Why a check stops.
 
-use crate::flaw::Flaw;
 use std::alloc::{AllocError, AllocFailed};
+use typing_rules::flaw::Flaw;
 
 /// Why a check stops.
 #[derive(Drop)]

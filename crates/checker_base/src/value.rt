@@ -4,19 +4,19 @@ ghost use Rattle.std.specs.Prelude.{◌≡◌, ℕ, ◌+◌, List, Option, Some,
 ghost use Rattle.type_table.specs.Types.{ChannelType};
 ghost use Rattle.type_table.specs.Views.{kind_of};
 ghost use Rattle.type_table.specs.Visible.{types_of};
-ghost use Rattle.checker_base.specs.declared.flaw.Flaw.{Flaw as OneFlaw};
-ghost use Rattle.checker_base.specs.Flaws.{Nodes};
-ghost use Rattle.checker_base.specs.Worths.{Worth as OneWorth, Typed};
+ghost use Rattle.typing_rules.specs.declared.flaw.Flaw.{Flaw as OneFlaw};
+ghost use Rattle.typing_rules.specs.Flaws.{Nodes};
+ghost use Rattle.typing_rules.specs.Worths.{Worth as OneWorth, Typed};
 ghost use Rattle.checker_base.specs.Views.{worth_of};
-ghost use Rattle.checker_base.specs.Expressions.{ValueHas, DefaultHas, ConditionHas, ChannelHas, SentHas, ReceivedHas, PrintedHas, default_type};
+ghost use Rattle.typing_rules.specs.Expressions.{ValueHas, DefaultHas, ConditionHas, ChannelHas, SentHas, ReceivedHas, PrintedHas, default_type};
 
-use crate::flaw::Flaw;
 use crate::operand::Operand;
 use crate::worth::{Worth, is_int};
 use go_text::Rule;
 use syntax::{Direction, NodeId};
 use type_table::table::TypeTable;
 use type_table::value_type::{ValueType, assignable, element_in};
+use typing_rules::flaw::Flaw;
 
 /// Checks a value that is put into a place of this type.
 pub fn value(table: &TypeTable<'_>, operand: Operand<'_>, kind: ValueType<'_>) -> Result<(), Flaw>

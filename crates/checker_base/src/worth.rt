@@ -3,11 +3,10 @@
 ghost use Rattle.std.specs.Prelude.{◌≡◌, ℕ, ◌^◌, ◌≤◌, nat_abs, List, option_map, IfSome, IfOk};
 ghost use Rattle.type_table.specs.Views.{kind_of};
 ghost use Rattle.type_table.specs.Visible.{types_of, globals_in, scope_of};
-ghost use Rattle.checker_base.specs.Worths.{is_int, literal, sized, constant_worth, if_good, left_constant, right_constant, are_comparable, fit_operator, beside_nil, unary_worth, binary_worth, named_worth, selected_worth, literal_struct};
+ghost use Rattle.typing_rules.specs.Worths.{is_int, literal, sized, constant_worth, if_good, left_constant, right_constant, are_comparable, fit_operator, beside_nil, unary_worth, binary_worth, named_worth, selected_worth, literal_struct};
 ghost use Rattle.checker_base.specs.Views.{worth_of, made_of, IsSmall};
 
 use crate::constant::{binary, unary};
-use crate::flaw::Misuse;
 use crate::operator::{
     is_bool_type, is_channel_type, is_comparison, is_equality, is_far, is_int_type, is_logical,
     is_not, is_wrong_right, made_type,
@@ -17,6 +16,7 @@ use type_table::layout::{field_of, number_of};
 use type_table::scope::{Visible, is_nil, is_truth, variable_named};
 use type_table::table::TypeTable;
 use type_table::value_type::{ValueType, assignable};
+use typing_rules::flaw::Misuse;
 
 /// The greatest size of a constant, 2^100.
 const LARGEST: u128 = 1 << 100;

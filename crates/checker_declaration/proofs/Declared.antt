@@ -6,12 +6,12 @@ use Rattle.syntax.specs.Measures.{top_size}
 use Rattle.type_table.specs.declared.entry.StructEntry.{StructEntry}
 use Rattle.type_table.specs.Containment.{Structs}
 use Rattle.type_table.specs.Views.{names_of, structs_of}
-use Rattle.checker_base.specs.declared.flaw.Flaw.{Flaw}
+use Rattle.typing_rules.specs.declared.flaw.Flaw.{Flaw}
 use Rattle.checker_base.specs.declared.refusal.Refusal.{Refusal}
 use Rattle.checker_base.specs.declared.refusal.Refusal.TheVariants.{Memory, Flawed}
 use Rattle.checker_base.specs.Views.{Refuses}
-use Rattle.typing.specs.Kinds.{type_names, function_names, structs_with, structs}
-use Rattle.typing.specs.Declarations.{is_type_taken, FieldsHave, StructHas, TopStructHas, StructsHave, ContentsHave, HeaderHas, TopHeaderHas, HeadersHave, TypesHave, DeclarationsHave}
+use Rattle.typing_rules.specs.Kinds.{type_names, function_names, structs_with, structs}
+use Rattle.typing_rules.specs.Declarations.{is_type_taken, FieldsHave, StructHas, TopStructHas, StructsHave, ContentsHave, HeaderHas, TopHeaderHas, HeadersHave, TypesHave, DeclarationsHave}
 
 pub refuses_more : (P Q : Flaw → Type 0) (e : Refusal) → ((flaw : Flaw) → P flaw → Q flaw) → Refuses P e → Refuses Q e
 refuses_more P Q Memory more r = tt

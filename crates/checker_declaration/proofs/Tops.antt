@@ -2,8 +2,8 @@
 use Rattle.std.proofs.Common.{◌≡◌, ℕ, ◌+◌, ◌++◌, ◌∷◌, inl, inr, List, append_assoc}
 use Rattle.syntax.specs.Tree.{Top}
 use Rattle.syntax.specs.Measures.{top_size}
-use Rattle.checker_base.specs.declared.flaw.Flaw.{Flaw}
-use Rattle.typing.specs.Declarations.{HeadersHave, StructsHave, TopHeaderHas, TopStructHas, counting_function, counting_struct}
+use Rattle.typing_rules.specs.declared.flaw.Flaw.{Flaw}
+use Rattle.typing_rules.specs.Declarations.{HeadersHave, StructsHave, TopHeaderHas, TopStructHas, counting_function, counting_struct}
 
 pub one_more : {A : Type 0} (now before one rest all : List A) → now ≡ before ++ one → before ++ (one ++ rest) ≡ all → now ++ rest ≡ all
 one_more now before one rest all is whole = rw (is, append_assoc before one rest) whole

@@ -2,8 +2,8 @@
 use Rattle.std.specs.Prelude.{ℕ, ◌+◌, ◌⊎◌, List, [], ◌∷◌}
 use Rattle.syntax.specs.Tree.{Top, StructTop, FunctionTop}
 use Rattle.syntax.specs.Measures.{top_size}
-use Rattle.checker_base.specs.declared.flaw.Flaw.{Flaw}
-use Rattle.typing.specs.Declarations.{HeadHas}
+use Rattle.typing_rules.specs.declared.flaw.Flaw.{Flaw}
+use Rattle.typing_rules.specs.Declarations.{HeadHas}
 
 abbrev pub TopHeadHas : List (List ℕ) → ℕ → Top → Flaw → Type 0
 TopHeadHas types first (StructTop struct) flaw = ⊥

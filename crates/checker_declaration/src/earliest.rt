@@ -3,19 +3,19 @@
 ghost use Rattle.std.specs.Prelude.{◌≡◌, ◌+◌, ◌^◌, ◌<◌, map, sum_by, IfSome, IfOk};
 ghost use Rattle.syntax.specs.Measures.{top_size};
 ghost use Rattle.syntax.specs.View.{top_of};
-ghost use Rattle.typing.specs.Kinds.{type_names};
-ghost use Rattle.typing.specs.Declarations.{TypesHave};
-ghost use Rattle.typing.specs.Nodes.{node_of};
+ghost use Rattle.typing_rules.specs.Kinds.{type_names};
+ghost use Rattle.typing_rules.specs.Declarations.{TypesHave};
+ghost use Rattle.typing_rules.specs.Nodes.{node_of};
 
 use crate::held::first_held;
 use crate::parts::all_parts;
 use crate::sizes::struct_node;
 use crate::wide::first_too_wide;
-use checker_base::flaw::Flaw;
 use go_text::{LimitKind, Rule};
 use std::alloc::{AllocError, Global};
 use syntax::{NodeId, TopNode};
 use type_table::name_list::NameList;
+use typing_rules::flaw::Flaw;
 
 /// The node of a flaw.
 fn node_of(flaw: Flaw) -> NodeId

@@ -5,13 +5,12 @@ ghost use Rattle.syntax.specs.Measures.{declared_size};
 ghost use Rattle.syntax.specs.View.{name_of, declared_of};
 ghost use Rattle.type_table.specs.Scopes.{nothing_declared, type_in};
 ghost use Rattle.type_table.specs.Views.{kind_of, field_in};
-ghost use Rattle.checker_base.specs.declared.flaw.Flaw.{Flaw as OneFlaw};
+ghost use Rattle.typing_rules.specs.declared.flaw.Flaw.{Flaw as OneFlaw};
 ghost use Rattle.checker_base.specs.Views.{Refuses};
-ghost use Rattle.typing.specs.Kinds.{all_fields, fields_declared};
-ghost use Rattle.typing.specs.Declarations.{broken_by, NamesHave, GroupHas, GroupsHave};
+ghost use Rattle.typing_rules.specs.Kinds.{all_fields, fields_declared};
+ghost use Rattle.typing_rules.specs.Declarations.{broken_by, NamesHave, GroupHas, GroupsHave};
 
 use crate::name::{is_among, is_unfit};
-use checker_base::flaw::Flaw;
 use checker_base::refusal::Refusal;
 use go_text::Rule;
 use std::alloc::{AllocError, Global};
@@ -21,7 +20,8 @@ use type_table::entry::FieldEntry;
 use type_table::name_list::NameList;
 use type_table::scope::{is_blank, is_reserved};
 use type_table::value_type::{ValueType, global_type_in};
-use typing::role::Role;
+use typing_rules::flaw::Flaw;
+use typing_rules::role::Role;
 
 /// The rule that a name breaks behind others of the same struct or function ("Declarations and scope" of the Go
 /// specification).

@@ -5,14 +5,13 @@ ghost use Rattle.syntax.specs.Measures.{if_any, type_size, declared_size, top_si
 ghost use Rattle.syntax.specs.View.{type_of, function_of, top_of};
 ghost use Rattle.type_table.specs.declared.value_type.ValueType.{ValueType as OneType};
 ghost use Rattle.type_table.specs.Views.{kind_of, field_in, yield_of as yield_in, signature_of, function_names as names_in};
-ghost use Rattle.checker_base.specs.declared.flaw.Flaw.{Flaw as OneFlaw};
+ghost use Rattle.typing_rules.specs.declared.flaw.Flaw.{Flaw as OneFlaw};
 ghost use Rattle.checker_base.specs.Views.{Refuses};
-ghost use Rattle.typing.specs.Kinds.{function_name, function_names, fields_declared, yield_of, kinds_in, signature, signature_in, signatures};
-ghost use Rattle.typing.specs.Declarations.{IfTypeHas, HeadHas, HeaderHas, TopHeaderHas, counting_function, HeadersHave};
+ghost use Rattle.typing_rules.specs.Kinds.{function_name, function_names, fields_declared, yield_of, kinds_in, signature, signature_in, signatures};
+ghost use Rattle.typing_rules.specs.Declarations.{IfTypeHas, HeadHas, HeaderHas, TopHeaderHas, counting_function, HeadersHave};
 
 use crate::group::{Listed, all_groups};
 use crate::name::{is_function_taken, own_node};
-use checker_base::flaw::Flaw;
 use checker_base::refusal::Refusal;
 use go_text::{LimitKind, Rule};
 use std::alloc::{AllocError, Global};
@@ -21,7 +20,8 @@ use syntax::{FunctionNode, NodeId, TopNode, TypeNode};
 use type_table::entry::{FieldEntry, FunctionEntry};
 use type_table::name_list::NameList;
 use type_table::value_type::{ValueType, global_type_in};
-use typing::role::Role;
+use typing_rules::flaw::Flaw;
+use typing_rules::role::Role;
 
 /// How many functions a file may have.
 const MOST_FUNCTIONS: usize = 4096;

@@ -3,8 +3,8 @@
 ghost use Rattle.std.specs.Prelude.{◌≡◌, ◌+◌, ◌++◌, ◌^◌, ◌<◌, ◌||◌, map, OnOk, IfOk};
 ghost use Rattle.syntax.specs.Measures.{top_size};
 ghost use Rattle.syntax.specs.View.{top_of};
-ghost use Rattle.typing.specs.Kinds.{type_name, type_names, function_name, function_names};
-ghost use Rattle.typing.specs.Declarations.{is_unfit, is_among, is_repeated, is_type_taken, is_function_taken};
+ghost use Rattle.typing_rules.specs.Kinds.{type_name, type_names, function_name, function_names};
+ghost use Rattle.typing_rules.specs.Declarations.{is_unfit, is_among, is_repeated, is_type_taken, is_function_taken};
 
 use std::alloc::{AllocError, Global};
 use syntax::size::top_size;

@@ -3,7 +3,7 @@
 ghost use Rattle.std.specs.Prelude.{◌≡◌, ◌++◌, map, option_copied, slice_get, OnOk, IfOk};
 ghost use Rattle.syntax.specs.View.{declared_of, struct_of, top_of};
 ghost use Rattle.type_table.specs.Scopes.{nothing_declared, type_in};
-ghost use Rattle.typing.specs.Kinds.{all_fields, fields_declared, struct_in, structs_with};
+ghost use Rattle.typing_rules.specs.Kinds.{all_fields, fields_declared, struct_in, structs_with};
 ghost use Rattle.checker_declaration.specs.Parts.{part_in, fields_in, structs_in};
 
 use std::alloc::{AllocError, Global};

@@ -5,19 +5,19 @@ ghost use Rattle.syntax.specs.Measures.{top_size};
 ghost use Rattle.syntax.specs.View.{top_of};
 ghost use Rattle.type_table.specs.Views.{names_of, structs_of};
 ghost use Rattle.type_table.specs.Marks.{IsWide};
-ghost use Rattle.checker_base.specs.declared.flaw.Flaw.{Flaw as OneFlaw};
+ghost use Rattle.typing_rules.specs.declared.flaw.Flaw.{Flaw as OneFlaw};
 ghost use Rattle.checker_base.specs.Views.{Refuses};
-ghost use Rattle.typing.specs.Kinds.{structs_with};
-ghost use Rattle.typing.specs.Declarations.{struct_node, ContentsHave};
+ghost use Rattle.typing_rules.specs.Kinds.{structs_with};
+ghost use Rattle.typing_rules.specs.Declarations.{struct_node, ContentsHave};
 
 use crate::name::own_node;
-use checker_base::flaw::Flaw;
 use checker_base::refusal::Refusal;
 use go_text::{LimitKind, Rule};
 use std::alloc::Global;
 use syntax::{NodeId, TopNode};
 use type_table::entry::StructEntry;
 use type_table::width::{Endless, widths};
+use typing_rules::flaw::Flaw;
 
 /// How many words a value may take.
 const MOST_WORDS: usize = 16;

@@ -4,21 +4,21 @@ ghost use Rattle.std.specs.Prelude.{◌≡◌, ℕ, ◌+◌, ◌++◌, ◌^◌, 
 ghost use Rattle.syntax.specs.Measures.{declared_size, top_size};
 ghost use Rattle.syntax.specs.View.{name_of, struct_of, top_of};
 ghost use Rattle.type_table.specs.Views.{names_of, fields_of_entry, structs_of};
-ghost use Rattle.checker_base.specs.declared.flaw.Flaw.{Flaw as OneFlaw};
+ghost use Rattle.typing_rules.specs.declared.flaw.Flaw.{Flaw as OneFlaw};
 ghost use Rattle.checker_base.specs.Views.{Refuses};
-ghost use Rattle.typing.specs.Kinds.{type_name, type_names, fields_declared, struct_in, structs_with};
-ghost use Rattle.typing.specs.Declarations.{FieldsHave, StructHas, TopStructHas, counting_struct, StructsHave};
+ghost use Rattle.typing_rules.specs.Kinds.{type_name, type_names, fields_declared, struct_in, structs_with};
+ghost use Rattle.typing_rules.specs.Declarations.{FieldsHave, StructHas, TopStructHas, counting_struct, StructsHave};
 
 use crate::group::all_groups;
 use crate::name::{is_type_taken, own_node};
-use checker_base::flaw::Flaw;
 use checker_base::refusal::Refusal;
 use go_text::{LimitKind, Rule};
 use std::alloc::Global;
 use syntax::{NodeId, StructNode, TopNode};
 use type_table::entry::StructEntry;
 use type_table::name_list::NameList;
-use typing::role::Role;
+use typing_rules::flaw::Flaw;
+use typing_rules::role::Role;
 
 /// How many struct types a file may have.
 const MOST_STRUCTS: usize = 4096;

@@ -6,10 +6,10 @@ ghost use Rattle.syntax.specs.View.{top_of};
 ghost use Rattle.type_table.specs.Views.{names_of, structs_of};
 ghost use Rattle.type_table.specs.Marks.{IsWide};
 ghost use Rattle.type_table.specs.Visible.{globals_in};
-ghost use Rattle.checker_base.specs.declared.flaw.Flaw.{Flaw as OneFlaw};
+ghost use Rattle.typing_rules.specs.declared.flaw.Flaw.{Flaw as OneFlaw};
 ghost use Rattle.checker_base.specs.Views.{Refuses};
-ghost use Rattle.typing.specs.Kinds.{type_names, structs as spec_structs, globals_of};
-ghost use Rattle.typing.specs.Declarations.{TypesHave, DeclarationsHave};
+ghost use Rattle.typing_rules.specs.Kinds.{type_names, structs as spec_structs, globals_of};
+ghost use Rattle.typing_rules.specs.Declarations.{TypesHave, DeclarationsHave};
 
 use crate::earliest::earliest;
 use crate::header::headers;

@@ -4,7 +4,7 @@ use Rattle.std.proofs.lemmas.Option.{slice_get-map}
 use Rattle.std.specs.List.{slice_get}
 use Rattle.type_table.specs.declared.entry.FunctionEntry.{FunctionEntry}
 use Rattle.type_table.specs.Scopes.{Signature}
-use Rattle.typing.specs.Operations.{parameters_in}
+use Rattle.typing_rules.specs.Operations.{parameters_in}
 use Rattle.type_table.specs.Views.{signature_of}
 
 -- the parameters of the function that is found

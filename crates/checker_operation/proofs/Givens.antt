@@ -4,13 +4,13 @@ use Rattle.std.proofs.lemmas.List.{map-append}
 use Rattle.syntax.specs.Tree.{Expression, Operation, RightOperation}
 use Rattle.syntax.specs.Measures.{expression_size, operation_size}
 use Rattle.checker_base.specs.declared.operand.Operand.{Operand}
-use Rattle.checker_base.specs.Expressions.{nodes_of}
-use Rattle.checker_base.specs.Worths.{worth}
+use Rattle.typing_rules.specs.Expressions.{nodes_of}
+use Rattle.typing_rules.specs.Worths.{worth}
 use Rattle.checker_base.specs.Views.{worth_of}
 use Rattle.checker_operation.specs.declared.operation.Made.{Made}
 use Rattle.type_table.specs.Scopes.{Globals, Scope}
 use Rattle.type_table.specs.Views.{kind_of}
-use Rattle.typing.specs.Operations.{Given, is_receive, operation_type, given, given_values}
+use Rattle.typing_rules.specs.Operations.{Given, is_receive, operation_type, given, given_values}
 use Rattle.checker_operation.specs.Givens.{given_of, given_made}
 
 pub given-made : (g : Globals) (s : Scope) (places first : ℕ) (op : Operation) (types : List (List ℕ)) (made : Made)

@@ -1,8 +1,8 @@
 -- A value goes to a place of a type, or to one that takes its type.
 use Rattle.std.proofs.Common.{◌≡◌, Bool, Option}
-use Rattle.checker_base.specs.declared.flaw.Flaw.{Flaw}
+use Rattle.typing_rules.specs.declared.flaw.Flaw.{Flaw}
 use Rattle.type_table.specs.Types.{ValueType}
-use Rattle.typing.specs.Operations.{Given, GoesHas}
+use Rattle.typing_rules.specs.Operations.{Given, GoesHas}
 
 -- what is wrong where a value goes to a place depends on the place alone
 pub goes-same : (free same : Bool) → free ≡ same → (k l : Option ValueType) → k ≡ l → (g : Given) (f : Flaw) → GoesHas free g k f → GoesHas same g l f

@@ -2,8 +2,8 @@
 use Rattle.std.proofs.Common.{◌≡◌, ℕ, refl, ◌∙◌, ap, List, [], ◌∷◌, Option, Some, None, option_map}
 use Rattle.type_table.specs.Types.{ValueType}
 use Rattle.type_table.specs.Containment.{Structs, Selected, behind, field_of}
-use Rattle.checker_base.specs.Worths.{type_of_field}
-use Rattle.typing.specs.Operations.{followed}
+use Rattle.typing_rules.specs.Worths.{type_of_field}
+use Rattle.typing_rules.specs.Operations.{followed}
 use Rattle.checker_operation.specs.Paths.{path_type}
 
 -- a path leads nowhere from where there is nothing

@@ -11,10 +11,10 @@ use Rattle.checker_operation.specs.declared.given.Source.{Source}
 use Rattle.checker_operation.specs.declared.given.Source.TheVariants as sources
 use Rattle.checker_operation.specs.declared.callee.Callee.{Callee as OneCallee}
 use Rattle.checker_operation.specs.declared.callee.Callee.TheVariants as callees
-use Rattle.typing.specs.Operations.{Given, and_also, Callee, NotDeclared, NoFunction, IsFunction}
+use Rattle.typing_rules.specs.Operations.{Given, and_also, Callee, NotDeclared, NoFunction, IsFunction}
 use Rattle.type_table.specs.Types.{BoolType}
 use Rattle.type_table.specs.Views.{kind_of}
-use Rattle.checker_base.specs.Worths.{Typed}
+use Rattle.typing_rules.specs.Worths.{Typed}
 use Rattle.checker_base.specs.Views.{worth_of}
 use denote.Ref.{Bor}
 

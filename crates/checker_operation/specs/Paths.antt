@@ -2,7 +2,7 @@
 use Rattle.std.specs.Prelude.{ℕ, Option, Some, None, List, [], ◌∷◌}
 use Rattle.type_table.specs.Types.{ValueType}
 use Rattle.type_table.specs.Containment.{Structs, field_of}
-use Rattle.checker_base.specs.Worths.{type_of_field}
+use Rattle.typing_rules.specs.Worths.{type_of_field}
 
 -- the type of the field to which a path leads from a value of a type
 abbrev pub path_type : Structs → Option ValueType → List (List ℕ) → Option ValueType

@@ -3,14 +3,13 @@
 ghost use Rattle.std.specs.Prelude.{◌≡◌, ◌+◌, ◌^◌, ◌<◌, slice_get, option_copied, map, sum_by, IfOk, IfErr};
 ghost use Rattle.syntax.specs.Measures.{expression_size};
 ghost use Rattle.syntax.specs.View.{expression_of};
-ghost use Rattle.checker_base.specs.declared.flaw.Flaw.{Flaw as OneFlaw};
-ghost use Rattle.checker_base.specs.Expressions.{PassedHave};
-ghost use Rattle.typing.specs.Operations.{callee, is_other, parameters_of, result_of};
+ghost use Rattle.typing_rules.specs.declared.flaw.Flaw.{Flaw as OneFlaw};
+ghost use Rattle.typing_rules.specs.Expressions.{PassedHave};
+ghost use Rattle.typing_rules.specs.Operations.{callee, is_other, parameters_of, result_of};
 ghost use Rattle.type_table.specs.Views.{yield_of};
 ghost use Rattle.type_table.specs.Visible.{types_of, globals_in, scope_of};
 ghost use Rattle.checker_operation.specs.Givens.{callee_of};
 
-use checker_base::flaw::Flaw;
 use checker_base::operand::passed;
 use syntax::size::expression_size;
 use syntax::{ExpressionNode, NodeId};
@@ -19,6 +18,7 @@ use type_table::layout::{function_number, number_of};
 use type_table::scope::{Visible, is_reserved, variable_named};
 use type_table::table::TypeTable;
 use type_table::value_type::ValueType;
+use typing_rules::flaw::Flaw;
 
 /// What the name in a call stands for.
 #[derive(Clone, Copy)]

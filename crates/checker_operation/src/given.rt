@@ -4,17 +4,16 @@ ghost use Rattle.std.specs.Prelude.{◌≡◌, ℕ, ◌+◌, ◌^◌, ◌<◌, �
 ghost use Rattle.syntax.specs.Tree.{expressions, Receive, RightOperation};
 ghost use Rattle.syntax.specs.Measures.{expression_size, right_size};
 ghost use Rattle.syntax.specs.View.{expression_of, operation_of};
-ghost use Rattle.checker_base.specs.declared.flaw.Flaw.{Flaw as OneFlaw};
+ghost use Rattle.typing_rules.specs.declared.flaw.Flaw.{Flaw as OneFlaw};
 ghost use Rattle.type_table.specs.Types.{ValueType as OneType};
-ghost use Rattle.checker_base.specs.Expressions.{ExpressionsHave, NumbersHave, default_type};
-ghost use Rattle.typing.specs.Operations.{given, given_values, is_receive, GoesHas, RightHas};
+ghost use Rattle.typing_rules.specs.Expressions.{ExpressionsHave, NumbersHave, default_type};
+ghost use Rattle.typing_rules.specs.Operations.{given, given_values, is_receive, GoesHas, RightHas};
 ghost use Rattle.type_table.specs.Views.{kind_of};
 ghost use Rattle.type_table.specs.Visible.{types_of, globals_in, scope_of};
 ghost use Rattle.checker_base.specs.Views.{Refuses, worth_of};
 ghost use Rattle.checker_operation.specs.Givens.{given_of, given_made, source_of};
 
 use crate::operation::{Made, operation, receive};
-use checker_base::flaw::Flaw;
 use checker_base::operand::{Operand, checked};
 use checker_base::refusal::Refusal;
 use checker_base::value::{default_type, value};
@@ -25,6 +24,7 @@ use syntax::{ExpressionNode, NodeId, OperationNode, RightNode};
 use type_table::scope::Visible;
 use type_table::table::TypeTable;
 use type_table::value_type::ValueType;
+use typing_rules::flaw::Flaw;
 
 /// What gives places or names their values.
 #[derive(Clone, Copy)]

@@ -5,17 +5,16 @@ ghost use Rattle.std.specs.Prelude.{◌≡◌, ℕ, ◌+◌, ◌^◌, ◌<◌, L
 ghost use Rattle.syntax.specs.Tree.{Make};
 ghost use Rattle.syntax.specs.Measures.{expression_size, arguments_size, operation_size, if_any};
 ghost use Rattle.syntax.specs.View.{name_of, type_of, expression_of, arguments_of, operation_of};
-ghost use Rattle.checker_base.specs.declared.flaw.Flaw.{Flaw as OneFlaw};
-ghost use Rattle.checker_base.specs.Flaws.{Nodes};
-ghost use Rattle.checker_base.specs.Worths.{Worth as OneWorth, worth};
-ghost use Rattle.checker_base.specs.Expressions.{element_of};
-ghost use Rattle.typing.specs.Operations.{callee, operation_type, IsFunction, CallHas, SizeHas, IfSizeHas, ReceiveHas, MeasuredHas, OperationHas};
+ghost use Rattle.typing_rules.specs.declared.flaw.Flaw.{Flaw as OneFlaw};
+ghost use Rattle.typing_rules.specs.Flaws.{Nodes};
+ghost use Rattle.typing_rules.specs.Worths.{Worth as OneWorth, worth};
+ghost use Rattle.typing_rules.specs.Expressions.{element_of};
+ghost use Rattle.typing_rules.specs.Operations.{callee, operation_type, IsFunction, CallHas, SizeHas, IfSizeHas, ReceiveHas, MeasuredHas, OperationHas};
 ghost use Rattle.type_table.specs.Views.{kind_of};
 ghost use Rattle.type_table.specs.Visible.{types_of, globals_in, scope_of};
 ghost use Rattle.checker_base.specs.Views.{worth_of};
 
 use crate::callee::{Callee, arguments_agree, arguments_size, callee_named, result_of};
-use checker_base::flaw::Flaw;
 use checker_base::operand::{Operand, checked, values};
 use checker_base::value::{channel, received};
 use checker_base::worth::{Worth, is_int};
@@ -25,6 +24,7 @@ use syntax::{ArgumentsNode, ExpressionNode, Name, NodeId, OperationNode, TypeNod
 use type_table::scope::Visible;
 use type_table::table::TypeTable;
 use type_table::value_type::{ValueType, type_in};
+use typing_rules::flaw::Flaw;
 
 /// A call that was checked: its own node, and the number of the function.
 #[derive(Clone, Copy)]

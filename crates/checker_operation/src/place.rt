@@ -3,16 +3,15 @@
 ghost use Rattle.std.specs.Prelude.{◌≡◌, ℕ, ◌+◌, ◌^◌, ◌<◌, List, Some, None, length, map, option_map, IfOk, IfErr, OnErr};
 ghost use Rattle.std.specs.Option.{is_none};
 ghost use Rattle.syntax.specs.View.{name_of, place_of};
-ghost use Rattle.checker_base.specs.declared.flaw.Flaw.{Flaw as OneFlaw};
+ghost use Rattle.typing_rules.specs.declared.flaw.Flaw.{Flaw as OneFlaw};
 ghost use Rattle.type_table.specs.Scopes.{is_blank};
-ghost use Rattle.typing.specs.Operations.{place_type, PathHas, PlaceHas, ReadPlaceHas, PlacesHave, PlacesFail, GoesHas};
+ghost use Rattle.typing_rules.specs.Operations.{place_type, PathHas, PlaceHas, ReadPlaceHas, PlacesHave, PlacesFail, GoesHas};
 ghost use Rattle.type_table.specs.Views.{kind_of};
 ghost use Rattle.type_table.specs.Visible.{types_of, globals_in, scope_of};
 ghost use Rattle.checker_operation.specs.Givens.{given_of, places_at, places_in};
 ghost use Rattle.checker_operation.specs.Paths.{path_type};
 
 use crate::given::{fits, fits_any};
-use checker_base::flaw::Flaw;
 use checker_base::operand::Operand;
 use go_text::Rule;
 use std::alloc::{AllocError, Global};
@@ -21,6 +20,7 @@ use type_table::layout::field_of;
 use type_table::scope::{Visible, is_blank, variable_named};
 use type_table::table::TypeTable;
 use type_table::value_type::ValueType;
+use typing_rules::flaw::Flaw;
 
 /// The type of the field to which a path leads from a value of a type; the place's node is `node`.
 #[tactic(auto, using(crate::proofs::Paths::path_types))]

@@ -5,8 +5,8 @@ use Rattle.syntax.specs.Tree.{Expression, Operation, Right, RightOperation, Valu
 use Rattle.syntax.specs.Measures.{expression_size}
 use Rattle.type_table.specs.Types.{BoolType}
 use Rattle.type_table.specs.Scopes.{Globals, Scope}
-use Rattle.typing.specs.Operations.{Given, is_receive, operation_type, given_by, given_values, given}
-use Rattle.typing.specs.Simples.{first_type, others, after_name, with_defined}
+use Rattle.typing_rules.specs.Operations.{Given, is_receive, operation_type, given_by, given_values, given}
+use Rattle.typing_rules.specs.Simples.{first_type, others, after_name, with_defined}
 
 values-anywhere : (g : Globals) (s t : Scope) (names : List (List ℕ)) (m n : ℕ) (values : List Expression)
     → with_defined g t names (given_values g s m values) ≡ with_defined g t names (given_values g s n values)

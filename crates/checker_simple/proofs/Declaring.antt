@@ -1,16 +1,16 @@
 -- Names that are declared one after the other.
 use Rattle.std.proofs.Common.{◌≡◌, ℕ, zero, suc, Bool, true, false, not, ◌&&◌, ◌||◌, inl, inr, refl, List, [], ◌∷◌, ◌++◌, drop, bytes_eq, Option}
 use Rattle.std.specs.Option.{is_none}
-use Rattle.checker_base.specs.declared.flaw.Flaw.{Flaw}
+use Rattle.typing_rules.specs.declared.flaw.Flaw.{Flaw}
 use Rattle.checker_base.specs.declared.refusal.Refusal.{Refusal}
 use Rattle.checker_base.specs.declared.refusal.Refusal.TheVariants.{Memory, Flawed}
 use Rattle.type_table.specs.Types.{ValueType}
 use Rattle.type_table.specs.Containment.{Structs}
 use Rattle.type_table.specs.Scopes.{Variable, Scope, Globals, is_blank, last_named, own_variable, declared}
 use Rattle.checker_base.specs.Views.{Refuses}
-use Rattle.checker_base.specs.Worths.{kind_of}
-use Rattle.typing.specs.Operations.{Given, GoesHas}
-use Rattle.typing.specs.Simples.{is_declarable, has_name, has_twice, NamesFail, after_name}
+use Rattle.typing_rules.specs.Worths.{kind_of}
+use Rattle.typing_rules.specs.Operations.{Given, GoesHas}
+use Rattle.typing_rules.specs.Simples.{is_declarable, has_name, has_twice, NamesFail, after_name}
 
 -- a variable of another name at the end does not count
 pub last_named-other : (vs : List Variable) (v : Variable) (name : List ℕ) → bytes_eq v.name name ≡ false → last_named (vs ++ v ∷ []) name ≡ last_named vs name

@@ -1,12 +1,12 @@
 -- A value goes to a variable of a type, or to one that takes its type.
 use Rattle.std.proofs.Common.{◌≡◌, Bool, true, false, inl, inr, List, ◌∷◌, Option, Some, None}
 use Rattle.std.specs.Option.{is_none}
-use Rattle.checker_base.specs.declared.flaw.Flaw.{Flaw}
+use Rattle.typing_rules.specs.declared.flaw.Flaw.{Flaw}
 use Rattle.type_table.specs.Types.{ValueType}
 use Rattle.type_table.specs.Scopes.{Variable}
-use Rattle.checker_base.specs.Worths.{kind_of}
-use Rattle.typing.specs.Operations.{Given, GoesHas}
-use Rattle.typing.specs.Simples.{AllFail}
+use Rattle.typing_rules.specs.Worths.{kind_of}
+use Rattle.typing_rules.specs.Operations.{Given, GoesHas}
+use Rattle.typing_rules.specs.Simples.{AllFail}
 
 -- a value goes to a variable that there is, or to one that takes its type
 pub own-known : (o : Option Variable) (v : Variable) → o ≡ Some v → (k : Option ValueType) → v.kind ≡ k → (g : Given) (f : Flaw) → GoesHas false g k f → GoesHas (is_none o) g (kind_of o) f

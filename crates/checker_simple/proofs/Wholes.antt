@@ -8,12 +8,12 @@ use Rattle.syntax.specs.Tree.{TypeExpression, Right, Place, Assign, Define}
 use Rattle.syntax.specs.Measures.{if_any, type_size, right_size, simple_size}
 use Rattle.type_table.specs.Types.{ValueType}
 use Rattle.type_table.specs.Scopes.{Globals, Scope, type_in}
-use Rattle.checker_base.specs.declared.flaw.Flaw.{Flaw}
+use Rattle.typing_rules.specs.declared.flaw.Flaw.{Flaw}
 use Rattle.checker_base.specs.declared.refusal.Refusal.{Refusal}
 use Rattle.checker_base.specs.declared.refusal.Refusal.TheVariants.{Memory, Flawed}
 use Rattle.checker_base.specs.Views.{Refuses}
-use Rattle.typing.specs.Operations.{Given, given, RightHas, PlacesHave}
-use Rattle.typing.specs.Simples.{AssignedHave, NamesHave, UntypedHave, TypedHave, VariablesHave, IfRightHas, with_defined, SimpleHas, TypedVariablesHave, UntypedVariablesHave}
+use Rattle.typing_rules.specs.Operations.{Given, given, RightHas, PlacesHave}
+use Rattle.typing_rules.specs.Simples.{AssignedHave, NamesHave, UntypedHave, TypedHave, VariablesHave, IfRightHas, with_defined, SimpleHas, TypedVariablesHave, UntypedVariablesHave}
 use Rattle.checker_operation.specs.Givens.{places_at}
 use Rattle.checker_simple.specs.Names.{names_at}
 use Rattle.checker_simple.proofs.Anywhere.{defined-anywhere}

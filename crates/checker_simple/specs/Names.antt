@@ -4,7 +4,7 @@ use Rattle.syntax.specs.declared.node.Name.{Name}
 use Rattle.syntax.specs.View.{name_of}
 use Rattle.checker_simple.specs.declared.names.Names.{Names}
 use Rattle.checker_simple.specs.declared.names.Names.TheVariants as lists
-use Rattle.typing.specs.Operations.{and_also}
+use Rattle.typing_rules.specs.Operations.{and_also}
 use denote.Ref.{Bor}
 
 -- names that lie apart in the tree

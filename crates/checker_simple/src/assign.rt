@@ -4,13 +4,12 @@ ghost use Rattle.std.specs.Prelude.{◌≡◌, ℕ, ◌+◌, ◌^◌, ◌<◌, L
 ghost use Rattle.syntax.specs.Tree.{Place, Assign};
 ghost use Rattle.syntax.specs.Measures.{simple_size};
 ghost use Rattle.type_table.specs.Visible.{types_of, globals_in, scope_of};
-ghost use Rattle.checker_base.specs.declared.flaw.Flaw.{Flaw as OneFlaw};
-ghost use Rattle.typing.specs.Operations.{Given as OneGiven};
+ghost use Rattle.typing_rules.specs.declared.flaw.Flaw.{Flaw as OneFlaw};
+ghost use Rattle.typing_rules.specs.Operations.{Given as OneGiven};
 ghost use Rattle.checker_base.specs.Views.{Refuses};
 ghost use Rattle.checker_operation.specs.Givens.{given_of, places_at, places_in, source_of};
-ghost use Rattle.typing.specs.Simples.{AssignedHave, SimpleHas};
+ghost use Rattle.typing_rules.specs.Simples.{AssignedHave, SimpleHas};
 
-use checker_base::flaw::Flaw;
 use checker_base::refusal::Refusal;
 use checker_operation::given::{Given, Source, given_by, numbers_agree};
 use checker_operation::place::{Targets, places, places_take, references};
@@ -18,6 +17,7 @@ use std::alloc::Global;
 use syntax::{NodeId, PlaceNode};
 use type_table::scope::Visible;
 use type_table::table::TypeTable;
+use typing_rules::flaw::Flaw;
 
 /// Checks what places are given by a statement whose own node is the one behind that.
 fn assign_given<'a>(

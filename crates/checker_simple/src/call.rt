@@ -3,9 +3,9 @@
 ghost use Rattle.std.specs.Prelude.{◌≡◌, ◌+◌, ◌^◌, ◌<◌, IfOk, IfErr};
 ghost use Rattle.syntax.specs.Measures.{arguments_size};
 ghost use Rattle.syntax.specs.View.{arguments_of, name_of};
-ghost use Rattle.checker_base.specs.declared.flaw.Flaw.{Flaw as OneFlaw};
+ghost use Rattle.typing_rules.specs.declared.flaw.Flaw.{Flaw as OneFlaw};
 ghost use Rattle.checker_base.specs.Views.{Refuses};
-ghost use Rattle.typing.specs.Operations.{CallHas};
+ghost use Rattle.typing_rules.specs.Operations.{CallHas};
 ghost use Rattle.type_table.specs.Visible.{globals_in, scope_of};
 
 use checker_base::refusal::Refusal;

@@ -4,9 +4,9 @@ ghost use Rattle.std.specs.Prelude.{◌≡◌, ◌+◌, ◌^◌, ◌<◌, IfOk, 
 ghost use Rattle.syntax.specs.Tree.{Close, ReceiveAlone, Send};
 ghost use Rattle.syntax.specs.Measures.{simple_size};
 ghost use Rattle.syntax.specs.View.{expression_of};
-ghost use Rattle.checker_base.specs.declared.flaw.Flaw.{Flaw as OneFlaw};
+ghost use Rattle.typing_rules.specs.declared.flaw.Flaw.{Flaw as OneFlaw};
 ghost use Rattle.checker_base.specs.Views.{Refuses};
-ghost use Rattle.typing.specs.Simples.{SimpleHas};
+ghost use Rattle.typing_rules.specs.Simples.{SimpleHas};
 ghost use Rattle.type_table.specs.Visible.{globals_in, scope_of};
 
 use checker_base::operand::checked;

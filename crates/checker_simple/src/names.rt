@@ -4,18 +4,17 @@ ghost use Rattle.std.specs.Prelude.{◌≡◌, ℕ, ◌+◌, ◌||◌, Some, Non
 ghost use Rattle.std.specs.Option.{is_none, is_some};
 ghost use Rattle.std.specs.List.{list_any};
 ghost use Rattle.syntax.specs.View.{name_of};
-ghost use Rattle.checker_base.specs.declared.flaw.Flaw.{Flaw as OneFlaw};
+ghost use Rattle.typing_rules.specs.declared.flaw.Flaw.{Flaw as OneFlaw};
 ghost use Rattle.type_table.specs.Scopes.{Variable as OneVariable, is_reserved, own_variable, declared};
-ghost use Rattle.checker_base.specs.Worths.{kind_of as variable_kind};
-ghost use Rattle.typing.specs.Operations.{GoesHas};
-ghost use Rattle.typing.specs.Simples.{is_declarable, has_name, has_twice, DefinedHave, VariablesHave, NamesFail, after_name, with_defined};
-ghost use Rattle.checker_base.specs.Expressions.{default_type};
+ghost use Rattle.typing_rules.specs.Worths.{kind_of as variable_kind};
+ghost use Rattle.typing_rules.specs.Operations.{GoesHas};
+ghost use Rattle.typing_rules.specs.Simples.{is_declarable, has_name, has_twice, DefinedHave, VariablesHave, NamesFail, after_name, with_defined};
+ghost use Rattle.typing_rules.specs.Expressions.{default_type};
 ghost use Rattle.type_table.specs.Visible.{types_of, globals_in, variable_of, scope_of, Keeps};
 ghost use Rattle.checker_base.specs.Views.{Refuses, worth_of};
 ghost use Rattle.checker_operation.specs.Givens.{given_of};
 ghost use Rattle.checker_simple.specs.Names.{names_at, names_in};
 
-use checker_base::flaw::Flaw;
 use checker_base::operand::Operand;
 use checker_base::refusal::Refusal;
 use checker_operation::given::{fits, fits_any};
@@ -24,6 +23,7 @@ use std::alloc::{AllocError, Global};
 use syntax::{Name, NodeId};
 use type_table::scope::{Entry, Visible, declare, is_blank, is_reserved, own_variable};
 use type_table::table::TypeTable;
+use typing_rules::flaw::Flaw;
 
 /// The names that a statement declares.
 #[derive(Clone, Copy)]

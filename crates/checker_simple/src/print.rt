@@ -3,16 +3,16 @@
 ghost use Rattle.std.specs.Prelude.{◌≡◌, ℕ, ◌+◌, ◌^◌, ◌<◌, map, sum_by, IfOk, IfErr};
 ghost use Rattle.syntax.specs.Measures.{part_size};
 ghost use Rattle.syntax.specs.View.{part_of};
-ghost use Rattle.checker_base.specs.declared.flaw.Flaw.{Flaw as OneFlaw};
-ghost use Rattle.typing.specs.Simples.{PartHas, PartsHave};
+ghost use Rattle.typing_rules.specs.declared.flaw.Flaw.{Flaw as OneFlaw};
+ghost use Rattle.typing_rules.specs.Simples.{PartHas, PartsHave};
 ghost use Rattle.type_table.specs.Visible.{globals_in, scope_of};
 
-use checker_base::flaw::Flaw;
 use checker_base::operand::checked;
 use checker_base::value::printed;
 use syntax::{NodeId, PartNode};
 use type_table::scope::Visible;
 use type_table::table::TypeTable;
+use typing_rules::flaw::Flaw;
 
 /// Checks an argument of a print, whose nodes have numbers from `first` on, and answers the number behind them.
 fn part(

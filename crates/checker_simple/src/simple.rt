@@ -3,8 +3,8 @@
 ghost use Rattle.std.specs.Prelude.{◌≡◌, ◌+◌, ◌^◌, ◌<◌, IfOk, IfErr};
 ghost use Rattle.syntax.specs.Measures.{simple_size, comm_size};
 ghost use Rattle.syntax.specs.View.{simple_of, comm_of};
-ghost use Rattle.checker_base.specs.declared.flaw.Flaw.{Flaw as OneFlaw};
-ghost use Rattle.typing.specs.Simples.{SimpleHas, after_simple, comm_simple};
+ghost use Rattle.typing_rules.specs.declared.flaw.Flaw.{Flaw as OneFlaw};
+ghost use Rattle.typing_rules.specs.Simples.{SimpleHas, after_simple, comm_simple};
 ghost use Rattle.type_table.specs.Visible.{globals_in, scope_of, Keeps};
 ghost use Rattle.checker_base.specs.Views.{Refuses};
 

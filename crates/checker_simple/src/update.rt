@@ -7,13 +7,13 @@ ghost use Rattle.syntax.specs.View.{expression_of, place_of};
 ghost use Rattle.type_table.specs.Types.{ValueType as OneType};
 ghost use Rattle.type_table.specs.Views.{kind_of};
 ghost use Rattle.type_table.specs.Visible.{types_of, globals_in, scope_of};
-ghost use Rattle.checker_base.specs.declared.flaw.Flaw.{Flaw as OneFlaw};
-ghost use Rattle.checker_base.specs.Flaws.{Nodes};
-ghost use Rattle.checker_base.specs.Worths.{Worth as OneWorth};
+ghost use Rattle.typing_rules.specs.declared.flaw.Flaw.{Flaw as OneFlaw};
+ghost use Rattle.typing_rules.specs.Flaws.{Nodes};
+ghost use Rattle.typing_rules.specs.Worths.{Worth as OneWorth};
 ghost use Rattle.checker_base.specs.Views.{worth_of, IsSmall, Refuses};
-ghost use Rattle.typing.specs.Simples.{UpdatedHas, StepHas, SimpleHas};
+ghost use Rattle.typing_rules.specs.Simples.{UpdatedHas, StepHas, SimpleHas};
 
-use checker_base::flaw::{Flaw, Operator, misused};
+use checker_base::misuse::{Operator, misused};
 use checker_base::operand::{Operand, checked};
 use checker_base::refusal::Refusal;
 use checker_base::value::value;
@@ -24,6 +24,7 @@ use syntax::{BinaryOperator, ExpressionNode, NodeId, PlaceNode};
 use type_table::scope::Visible;
 use type_table::table::TypeTable;
 use type_table::value_type::ValueType;
+use typing_rules::flaw::Flaw;
 
 /// Checks `++` or `--`, whose nodes have numbers from `first` on, and answers the number behind them.
 pub(crate) fn step(

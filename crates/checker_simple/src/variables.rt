@@ -3,10 +3,10 @@
 ghost use Rattle.std.specs.Prelude.{◌≡◌, ℕ, ◌+◌, ◌^◌, ◌<◌, List, Some, length, map, option_map, IfOk, IfErr};
 ghost use Rattle.syntax.specs.Measures.{if_any, type_size, right_size};
 ghost use Rattle.syntax.specs.View.{name_of, type_of, right_of};
-ghost use Rattle.checker_base.specs.declared.flaw.Flaw.{Flaw as OneFlaw};
+ghost use Rattle.typing_rules.specs.declared.flaw.Flaw.{Flaw as OneFlaw};
 ghost use Rattle.type_table.specs.Scopes.{type_in, declared_unless_blank};
-ghost use Rattle.typing.specs.Operations.{Given as OneGiven, given};
-ghost use Rattle.typing.specs.Simples.{AllFail, TypedHave, UntypedHave, IfRightHas, with_variables, with_defined, TypedVariablesHave, UntypedVariablesHave};
+ghost use Rattle.typing_rules.specs.Operations.{Given as OneGiven, given};
+ghost use Rattle.typing_rules.specs.Simples.{AllFail, TypedHave, UntypedHave, IfRightHas, with_variables, with_defined, TypedVariablesHave, UntypedVariablesHave};
 ghost use Rattle.type_table.specs.Views.{kind_of};
 ghost use Rattle.type_table.specs.Visible.{types_of, globals_in, scope_of, Keeps};
 ghost use Rattle.checker_base.specs.Views.{Refuses};
@@ -14,7 +14,6 @@ ghost use Rattle.checker_operation.specs.Givens.{given_of};
 ghost use Rattle.checker_simple.specs.Names.{names_at};
 
 use crate::names::{Names, may_declare, references, take_names};
-use checker_base::flaw::Flaw;
 use checker_base::operand::Operand;
 use checker_base::refusal::Refusal;
 use checker_operation::given::{Given, Source, fits, given_by, numbers_agree};
@@ -25,6 +24,7 @@ use syntax::{Name, NodeId, RightNode, TypeNode};
 use type_table::scope::{Visible, declare, is_blank};
 use type_table::table::TypeTable;
 use type_table::value_type::{ValueType, type_in};
+use typing_rules::flaw::Flaw;
 
 /// Checks that values go to variables of a type.
 fn all_fit<'a>(

@@ -5,7 +5,7 @@ use Rattle.std.proofs.lemmas.List.{at_drop_more}
 use Rattle.syntax.specs.Tree.{Clauses, Clause}
 use Rattle.syntax.specs.View.{clause_of, clauses}
 use Rattle.syntax.specs.declared.node.ClauseNode.{ClauseNode}
-use Rattle.typing.specs.Statements.{default_count}
+use Rattle.typing_rules.specs.Statements.{default_count}
 
 -- where there are two defaults up to a clause, there are in all
 pub two_defaults : (all : List ClauseNode) (i before now : ℕ) (one : ClauseNode)

@@ -6,7 +6,7 @@ use Rattle.std.proofs.Math.Seq.{take-length}
 use Rattle.std.specs.Result.{IfOk}
 use Rattle.syntax.specs.Tree.{Comm, Statement, Statements, Then, Clauses, Clause}
 use Rattle.syntax.specs.Measures.{if_any, comm_size, statement_size, statements_size}
-use Rattle.checker_base.specs.declared.flaw.Flaw.{Flaw}
+use Rattle.typing_rules.specs.declared.flaw.Flaw.{Flaw}
 use Rattle.checker_base.specs.declared.refusal.Refusal.{Refusal}
 use Rattle.checker_base.specs.declared.refusal.Refusal.TheVariants.{Memory, Flawed}
 use Rattle.checker_base.specs.Views.{Refuses}
@@ -14,7 +14,7 @@ use Rattle.type_table.specs.declared.table.TypeTable.{TypeTable}
 use Rattle.type_table.specs.declared.visible.Visible.{Visible}
 use Rattle.type_table.specs.Scopes.{Scope, entered, left}
 use Rattle.type_table.specs.Visible.{scope_of, Keeps, Leaves}
-use Rattle.typing.specs.Statements.{Setting, StatementHas, StatementsHave, ClauseHas, ClausesHave, after, after_clause}
+use Rattle.typing_rules.specs.Statements.{Setting, StatementHas, StatementsHave, ClauseHas, ClausesHave, after, after_clause}
 
 few : {X : Type 0} (a b : List X) → take (length a) b ≡ a → length a ≤ length b
 few a b e = omega (arith, length-take (length a) b, ap length e)

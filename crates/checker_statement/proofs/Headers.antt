@@ -2,9 +2,9 @@
 use Rattle.std.proofs.Common.{◌≡◌, ℕ, ◌+◌, inl, inr, Option}
 use Rattle.syntax.specs.Tree.{Expression, Simple}
 use Rattle.syntax.specs.Measures.{if_any, expression_size, simple_size}
-use Rattle.checker_base.specs.declared.flaw.Flaw.{Flaw}
+use Rattle.typing_rules.specs.declared.flaw.Flaw.{Flaw}
 use Rattle.type_table.specs.Scopes.{Globals, Scope}
-use Rattle.typing.specs.Statements.{IfSimpleHas, IfTestHas, after_any, ForClausesHave}
+use Rattle.typing_rules.specs.Statements.{IfSimpleHas, IfTestHas, after_any, ForClausesHave}
 
 -- where nothing is wrong with the three parts, nothing is with all of them
 pub clauses_free : (g : Globals) (s inner : Scope) (first middle behind : ℕ) (simple : Option Simple) (condition : Option Expression) (post : Option Simple) (f : Flaw)

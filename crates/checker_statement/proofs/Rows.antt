@@ -3,12 +3,12 @@ use Rattle.std.proofs.Common.{◌≡◌, true, false, [], ◌∷◌, Some, None,
 use Rattle.go_text.specs.declared.rule.Rule.TheVariants as rules
 use Rattle.syntax.specs.declared.node.Direction.TheVariants as directions
 use Rattle.syntax.specs.Tree.{NamedType, Expression, Integer, Named, Values, Place, Simple, Define, Assign, Bare, First, NoTarget, DefineTarget, Forever, While, ForClauses, Range, CommReceive, CommDefine, Returned, NoValue, ReturnedValue, Statement, Empty, Alone, VarTyped, Block, If, For, Select, Return, Break, Continue, Statements, NoStatement, Then, Branch, Conditional, NoElse, ElseBlock, NoClause, Clause}
-use Rattle.checker_base.specs.declared.flaw.Flaw.{Flaw}
-use Rattle.checker_base.specs.declared.flaw.Flaw.TheVariants.{Broken}
+use Rattle.typing_rules.specs.declared.flaw.Flaw.{Flaw}
+use Rattle.typing_rules.specs.declared.flaw.Flaw.TheVariants.{Broken}
 use Rattle.type_table.specs.Types.{IntType, ChannelType}
 use Rattle.type_table.specs.Scopes.{nothing_declared, Globals, Scope, Variable, NoResult, Yields}
-use Rattle.typing.specs.Statements.{Setting, in_for, in_select, after_all, StatementHas, StatementsHave}
-use Rattle.typing.specs.Terminating.{terminates, last_terminates}
+use Rattle.typing_rules.specs.Statements.{Setting, in_for, in_select, after_all, StatementHas, StatementsHave}
+use Rattle.typing_rules.specs.Terminating.{terminates, last_terminates}
 
 abbrev none : Globals
 none = record { types = []; structs = []; functions = [] }

@@ -7,16 +7,15 @@ ghost use Rattle.syntax.specs.View.{name_of, expression_of, simple_of, if_head_o
 ghost use Rattle.type_table.specs.Scopes.{is_blank};
 ghost use Rattle.type_table.specs.Views.{kind_of};
 ghost use Rattle.type_table.specs.Visible.{types_of, globals_in, scope_of, Keeps, Leaves};
-ghost use Rattle.checker_base.specs.declared.flaw.Flaw.{Flaw as OneFlaw};
-ghost use Rattle.checker_base.specs.Flaws.{IsBroken};
+ghost use Rattle.typing_rules.specs.declared.flaw.Flaw.{Flaw as OneFlaw};
+ghost use Rattle.typing_rules.specs.Flaws.{IsBroken};
 ghost use Rattle.checker_base.specs.Views.{Refuses};
-ghost use Rattle.checker_base.specs.Worths.{worth};
-ghost use Rattle.checker_base.specs.Expressions.{element_of, TestHas};
+ghost use Rattle.typing_rules.specs.Worths.{worth};
+ghost use Rattle.typing_rules.specs.Expressions.{element_of, TestHas};
 ghost use Rattle.checker_operation.specs.Givens.{given_of};
-ghost use Rattle.typing.specs.Simples.{DefinedHave};
-ghost use Rattle.typing.specs.Statements.{GuardHas, IfSimpleHas, IfTestHas, head_simple, after_any, TargetHas, RangedHas, item_given, after_target, TakenHas, ForClausesHave, ForHeadHas, after_for_head};
+ghost use Rattle.typing_rules.specs.Simples.{DefinedHave};
+ghost use Rattle.typing_rules.specs.Statements.{GuardHas, IfSimpleHas, IfTestHas, head_simple, after_any, TargetHas, RangedHas, item_given, after_target, TakenHas, ForClausesHave, ForHeadHas, after_for_head};
 
-use checker_base::flaw::Flaw;
 use checker_base::operand::{Operand, checked};
 use checker_base::refusal::Refusal;
 use checker_base::value::{channel, is_condition};
@@ -33,6 +32,7 @@ use syntax::{
 use type_table::scope::{Visible, declare, is_blank, is_reserved, leave, own_variable};
 use type_table::table::TypeTable;
 use type_table::value_type::ValueType;
+use typing_rules::flaw::Flaw;
 
 /// The flaw of a statement that breaks a rule as a whole: at its own node, which is the last of those from `first` on. That
 /// takes a count of its nodes, so it is asked for only where the statement is refused.

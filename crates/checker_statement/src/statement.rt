@@ -7,16 +7,15 @@ ghost use Rattle.syntax.specs.View.{expression_of, comm_of, returned_of, if_head
 ghost use Rattle.type_table.specs.Scopes.{entered, left};
 ghost use Rattle.type_table.specs.Views.{yield_of};
 ghost use Rattle.type_table.specs.Visible.{types_of, globals_in, scope_of, Keeps, Leaves};
-ghost use Rattle.checker_base.specs.declared.flaw.Flaw.{Flaw as OneFlaw};
-ghost use Rattle.checker_base.specs.Flaws.{IsBroken};
+ghost use Rattle.typing_rules.specs.declared.flaw.Flaw.{Flaw as OneFlaw};
+ghost use Rattle.typing_rules.specs.Flaws.{IsBroken};
 ghost use Rattle.checker_base.specs.Views.{worth_of, Refuses};
-ghost use Rattle.typing.specs.Operations.{Given};
-ghost use Rattle.typing.specs.Simples.{comm_simple};
-ghost use Rattle.typing.specs.Statements.{IfSimpleHas, after_any, ReturnHas, ReturnStatementHas, default_count, StatementHas, StatementsHave, OtherwiseHas, after, after_all, after_otherwise, after_clauses, PartsHave, after_parts, after_clause, ClauseHas};
+ghost use Rattle.typing_rules.specs.Operations.{Given};
+ghost use Rattle.typing_rules.specs.Simples.{comm_simple};
+ghost use Rattle.typing_rules.specs.Statements.{IfSimpleHas, after_any, ReturnHas, ReturnStatementHas, default_count, StatementHas, StatementsHave, OtherwiseHas, after, after_all, after_otherwise, after_clauses, PartsHave, after_parts, after_clause, ClauseHas};
 ghost use Rattle.checker_statement.specs.Settings.{setting_in};
 
 use crate::header::{broken_at, for_header, guard};
-use checker_base::flaw::Flaw;
 use checker_base::operand::{Operand, checked};
 use checker_base::refusal::Refusal;
 use checker_base::value::value;
@@ -33,6 +32,7 @@ use syntax::{
 use type_table::scope::{Visible, enter, leave};
 use type_table::table::TypeTable;
 use type_table::value_type::ValueType;
+use typing_rules::flaw::Flaw;
 
 /// What a statement stands in.
 #[derive(Clone, Copy)]

@@ -2,7 +2,7 @@
 
 ghost use Rattle.std.specs.Prelude.{◌≡◌, false, not, ◌&&◌, map};
 ghost use Rattle.syntax.specs.View.{for_head_of, statement_of, body_of, branch_of, otherwise_of, clause_of, clauses};
-ghost use Rattle.typing.specs.Terminating.{breaks_out, some_breaks_out, branch_breaks_out, otherwise_breaks_out, is_endless, terminates, last_terminates, branch_terminates, otherwise_terminates, clauses_terminate};
+ghost use Rattle.typing_rules.specs.Terminating.{breaks_out, some_breaks_out, branch_breaks_out, otherwise_breaks_out, is_endless, terminates, last_terminates, branch_terminates, otherwise_terminates, clauses_terminate};
 
 use syntax::{ClauseNode, ElseNode, ForHeader, IfNode, StatementNode};
 

@@ -5,7 +5,7 @@ use Rattle.word.specs.Worlds.{Equal}
 use Rattle.bytecode.specs.Code.{Code}
 use Rattle.bytecode.specs.Machine.{code_kind}
 use Rattle.bytecode.specs.Rules.{IsVerified}
-use Rattle.typing.specs.Files.{IsTyped}
+use Rattle.typing_rules.specs.Files.{IsTyped}
 use Rattle.meaning.specs.Source.{source_kind}
 use Rattle.codegen_base.specs.Grammar.{IsGrammatical, IsLimited}
 use Rattle.codegen_base.specs.Program.{code_of}

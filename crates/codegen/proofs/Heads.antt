@@ -4,7 +4,7 @@ use Rattle.syntax.specs.Tree.{Declared}
 use Rattle.type_table.specs.Types.{ValueType}
 use Rattle.type_table.specs.Containment.{Field}
 use Rattle.type_table.specs.Scopes.{Globals, nothing_declared, type_in}
-use Rattle.typing.specs.Kinds.{all_fields, fields_declared}
+use Rattle.typing_rules.specs.Kinds.{all_fields, fields_declared}
 use Rattle.meaning.specs.Values.{known}
 use Rattle.codegen_base.specs.declared.element.Element.{Element}
 use Rattle.codegen_base.specs.Layouts.{Layout, declaring, with_parameters}

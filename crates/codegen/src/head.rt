@@ -5,7 +5,7 @@ ghost use Rattle.syntax.specs.View.{declared_of, name_of, type_of};
 ghost use Rattle.type_table.specs.Scopes.{nothing_declared, type_in};
 ghost use Rattle.type_table.specs.Views.{kind_of, yield_of};
 ghost use Rattle.type_table.specs.Visible.{globals_in, types_of};
-ghost use Rattle.typing.specs.Kinds.{all_fields, fields_declared, yield_of as written_yield};
+ghost use Rattle.typing_rules.specs.Kinds.{all_fields, fields_declared, yield_of as written_yield};
 ghost use Rattle.codegen_base.specs.Layouts.{with_parameters};
 ghost use Rattle.codegen_emission.specs.Layouts.{layout_of};
 

@@ -6,7 +6,7 @@ ghost use Rattle.syntax.specs.Spans.{tree_of};
 ghost use Rattle.syntax.specs.Tree.{Top};
 ghost use Rattle.syntax.specs.View.{top_of};
 ghost use Rattle.type_table.specs.Visible.{globals_in, types_of};
-ghost use Rattle.typing.specs.Files.{IsTyped};
+ghost use Rattle.typing_rules.specs.Files.{IsTyped};
 ghost use Rattle.checker.specs.Trees.{tree_in};
 ghost use Rattle.codegen_base.specs.Program.{all_prints, all_selects, code_of, functions_code, noting_tops};
 ghost use Rattle.codegen.specs.Codes.{code_with};

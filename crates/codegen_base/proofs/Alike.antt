@@ -7,7 +7,7 @@ use Rattle.syntax.specs.Tree.{TypeExpression, NamedType, ParenthesizedType, Chan
 use Rattle.type_table.specs.Types.{ValueType, BoolType, StructType, ChannelType}
 use Rattle.type_table.specs.Containment.{Structs}
 use Rattle.type_table.specs.Scopes.{Variable, Scope, Globals, is_blank, is_truth, is_nil, later, if_named, last_named, variable_named, own_variable, entered, left, declared, number_of, type_in}
-use Rattle.checker_base.specs.Worths.{Typed, Nil, kind_of, named_worth, selected_worth, unary_worth, binary_worth, worth}
+use Rattle.typing_rules.specs.Worths.{Typed, Nil, kind_of, named_worth, selected_worth, unary_worth, binary_worth, worth}
 
 -- the type of a variable, if there is one
 abbrev pub kind_if : Option Variable → Option (Option ValueType)

@@ -7,9 +7,9 @@ use Rattle.syntax.specs.Tree.{Expression, expressions, Arguments}
 use Rattle.syntax.specs.Measures.{expression_size, arguments_size}
 use Rattle.type_table.specs.Types.{ValueType}
 use Rattle.type_table.specs.Scopes.{Globals, Scope, function_number}
-use Rattle.checker_base.specs.Worths.{worth}
-use Rattle.checker_base.specs.Expressions.{nodes_of, ValueHas, NumbersHave, ValuesFail, PassedHave, ExpressionsHave}
-use Rattle.typing.specs.Operations.{Callee, NotDeclared, NoFunction, IsFunction, function_of, is_other, callee, parameters_of, CalleeHas, CallHas}
+use Rattle.typing_rules.specs.Worths.{worth}
+use Rattle.typing_rules.specs.Expressions.{nodes_of, ValueHas, NumbersHave, ValuesFail, PassedHave, ExpressionsHave}
+use Rattle.typing_rules.specs.Operations.{Callee, NotDeclared, NoFunction, IsFunction, function_of, is_other, callee, parameters_of, CalleeHas, CallHas}
 use Rattle.meaning.specs.Values.{known}
 use Rattle.meaning.specs.Destinations.{number_of}
 use Rattle.codegen_base.proofs.Typing.{Free, FieldsKnown, fits, broken, nodes_end, worth_there}

@@ -8,9 +8,9 @@ use Rattle.syntax.specs.declared.node.BinaryOperator.{BinaryOperator}
 use Rattle.syntax.specs.Tree.{Expression, Integer, Named, Parenthesized, Selection, Composite, Unary, Binary}
 use Rattle.type_table.specs.Types.{ValueType, IntType, BoolType, StructType, is_int_type, is_bool_type, is_channel_type}
 use Rattle.type_table.specs.Scopes.{Globals, Scope, is_truth, is_nil, variable_named}
-use Rattle.checker_base.specs.declared.flaw.Misuse.{Misuse}
-use Rattle.checker_base.specs.declared.flaw.Misuse.TheVariants as misuses
-use Rattle.checker_base.specs.Worths.{Worth, Typed, Constant, Nil, bounded, literal, is_int, is_equality, is_order, is_logical, is_not, is_far, is_wrong_right, made_type, exact_unary, exact_binary, sized, if_good, fit_operator, unary_worth, binary_worth, kind_of, named_worth, selected_worth, literal_struct, worth}
+use Rattle.typing_rules.specs.declared.flaw.Misuse.{Misuse}
+use Rattle.typing_rules.specs.declared.flaw.Misuse.TheVariants as misuses
+use Rattle.typing_rules.specs.Worths.{Worth, Typed, Constant, Nil, bounded, literal, is_int, is_equality, is_order, is_logical, is_not, is_far, is_wrong_right, made_type, exact_unary, exact_binary, sized, if_good, fit_operator, unary_worth, binary_worth, kind_of, named_worth, selected_worth, literal_struct, worth}
 use Rattle.word.specs.declared.value.Word.TheVariants.{Int, Bool as Truth, Chan}
 use Rattle.meaning.specs.Variables.{Blocks, scope_in, lookup, value_of}
 use Rattle.meaning.specs.Expressions.{and_then, word_in, before, binary, compared, exactly, named, value}

@@ -15,8 +15,8 @@ use Rattle.word.specs.Related.{here}
 use Rattle.type_table.specs.Types.{ValueType, BoolType}
 use Rattle.type_table.specs.Containment.{Structs, Selected, field_of}
 use Rattle.type_table.specs.Scopes.{Globals, Scope, Variable, is_blank, is_truth, is_nil, later, last_named, variable_named}
-use Rattle.checker_base.specs.Worths.{Worth, Typed, Constant, Nil, kind_of, named_worth, worth}
-use Rattle.checker_base.specs.Expressions.{default_type}
+use Rattle.typing_rules.specs.Worths.{Worth, Typed, Constant, Nil, kind_of, named_worth, worth}
+use Rattle.typing_rules.specs.Expressions.{default_type}
 use Rattle.meaning.specs.Values.{Value, Slot, known, whole, slot_behind, field_slot, words_in, words_at}
 use Rattle.meaning.specs.Variables.{Blocks, scope_in, lookup, value_of}
 use Rattle.meaning.specs.Expressions.{and_then, type_of as type_of_value, named as named_value, selected as selected_value, value}

@@ -9,8 +9,8 @@ use Rattle.syntax.specs.Tree.{Expression, Integer, Named, Parenthesized, Selecti
 use Rattle.type_table.specs.Types.{ValueType, IntType, BoolType, StructType}
 use Rattle.type_table.specs.Containment.{Selected, field_of}
 use Rattle.type_table.specs.Scopes.{Globals, Scope, Variable, is_truth, is_nil, variable_named}
-use Rattle.checker_base.specs.declared.flaw.Misuse.{Misuse}
-use Rattle.checker_base.specs.Worths.{Worth, Typed, Constant, Nil, is_equality, is_order, is_logical, is_not, made_type, kind_of, type_of_field, selected_worth, literal, literal_struct, unary_worth, binary_worth, worth}
+use Rattle.typing_rules.specs.declared.flaw.Misuse.{Misuse}
+use Rattle.typing_rules.specs.Worths.{Worth, Typed, Constant, Nil, is_equality, is_order, is_logical, is_not, made_type, kind_of, type_of_field, selected_worth, literal, literal_struct, unary_worth, binary_worth, worth}
 use Rattle.codegen_base.specs.declared.element.Element.{Element}
 use Rattle.codegen_base.proofs.Noted.{Noted}
 use Rattle.codegen_base.proofs.Splits.{Operands, Ints, Bools, Channels, Truths, unary_typed, typed_operands, left_operand, right_operand, nil_right, nil_left, two_constants}

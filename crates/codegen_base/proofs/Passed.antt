@@ -12,8 +12,8 @@ use Rattle.word.specs.Related.{Slips, here}
 use Rattle.type_table.specs.Types.{ValueType}
 use Rattle.type_table.specs.Containment.{fields_of}
 use Rattle.type_table.specs.Scopes.{Globals, Scope}
-use Rattle.checker_base.specs.Worths.{Worth, worth}
-use Rattle.checker_base.specs.Expressions.{ExpressionsHave}
+use Rattle.typing_rules.specs.Worths.{Worth, worth}
+use Rattle.typing_rules.specs.Expressions.{ExpressionsHave}
 use Rattle.meaning.specs.Values.{Value}
 use Rattle.meaning.specs.Expressions.{Worked, and_then, value, values}
 use Rattle.codegen_base.specs.declared.element.Element.{Element}

@@ -6,8 +6,8 @@ use Rattle.bytecode.specs.declared.instr.Instr.{Instr}
 use Rattle.bytecode.specs.declared.instr.Instr.TheVariants as instrs
 use Rattle.type_table.specs.Types.{ValueType, BoolType}
 use Rattle.type_table.specs.Scopes.{Globals, Scope, Yield, NoResult, Yields}
-use Rattle.checker_base.specs.Worths.{Typed as TypedWorth, worth}
-use Rattle.typing.specs.Operations.{parameters_of, result_of, selected, place_type, is_receive}
+use Rattle.typing_rules.specs.Worths.{Typed as TypedWorth, worth}
+use Rattle.typing_rules.specs.Operations.{parameters_of, result_of, selected, place_type, is_receive}
 use Rattle.meaning.specs.Values.{known}
 use Rattle.meaning.specs.Destinations.{number_of}
 use Rattle.codegen_base.specs.declared.element.Element.{Element}

@@ -25,9 +25,9 @@ use Rattle.type_table.specs.Types.{ValueType, IntType, BoolType, StructType}
 use Rattle.type_table.specs.Containment.{Field, fields_of}
 use Rattle.type_table.specs.Scopes.{Globals, Scope}
 use Rattle.type_table.specs.Zeros.{zero_words}
-use Rattle.checker_base.specs.declared.flaw.Misuse.TheVariants as misuses
-use Rattle.checker_base.specs.Worths.{Worth, Typed, Constant, Nil, bounded, literal, exact_unary, is_not, sized, unary_worth, binary_worth, selected_worth, type_of_field, worth}
-use Rattle.checker_base.specs.Expressions.{nodes_of, ValueHas, NumbersHave, ValuesFail, field_kinds, PassedHave, LiteralHas, default_type, ExpressionHas, ExpressionsHave}
+use Rattle.typing_rules.specs.declared.flaw.Misuse.TheVariants as misuses
+use Rattle.typing_rules.specs.Worths.{Worth, Typed, Constant, Nil, bounded, literal, exact_unary, is_not, sized, unary_worth, binary_worth, selected_worth, type_of_field, worth}
+use Rattle.typing_rules.specs.Expressions.{nodes_of, ValueHas, NumbersHave, ValuesFail, field_kinds, PassedHave, LiteralHas, default_type, ExpressionHas, ExpressionsHave}
 use Rattle.meaning.specs.Values.{Value, known}
 use Rattle.meaning.specs.Variables.{Blocks, scope_in}
 use Rattle.meaning.specs.Expressions.{Worked, and_then, word_in, one_word, before, binary, exactly, compared as compared_value, joined, type_of as type_of_value, selected as selected_value, value, fields as field_values}

@@ -14,8 +14,8 @@ use Rattle.word.specs.declared.value.Word.TheVariants.{Int, Bool as Truth, Chan}
 use Rattle.word.specs.Apply.{value as applied}
 use Rattle.type_table.specs.Types.{ValueType, IntType, BoolType, ChannelType, is_channel_type}
 use Rattle.type_table.specs.Scopes.{Globals, Scope}
-use Rattle.checker_base.specs.Worths.{Worth, Typed, Constant, Nil, is_equality, is_logical, made_type, binary_worth, worth}
-use Rattle.checker_base.specs.Expressions.{default_type}
+use Rattle.typing_rules.specs.Worths.{Worth, Typed, Constant, Nil, is_equality, is_logical, made_type, binary_worth, worth}
+use Rattle.typing_rules.specs.Expressions.{default_type}
 use Rattle.meaning.specs.Values.{Value, known}
 use Rattle.meaning.specs.Variables.{Blocks, scope_in}
 use Rattle.meaning.specs.Expressions.{Worked, word_in, one_word, operator_at, between, binary, compared as compared_value, value}

@@ -10,9 +10,9 @@ use Rattle.word.specs.declared.value.Word.{Word}
 use Rattle.word.specs.declared.value.Word.TheVariants.{Int, Bool as Truth}
 use Rattle.word.specs.Apply.{value as applied}
 use Rattle.type_table.specs.Types.{ValueType, IntType, BoolType, StructType, ChannelType, is_int_type, is_bool_type, is_channel_type}
-use Rattle.checker_base.specs.declared.flaw.Misuse.{Misuse}
-use Rattle.checker_base.specs.declared.flaw.Misuse.TheVariants as misuses
-use Rattle.checker_base.specs.Worths.{Worth, Typed, Constant, Nil, bounded, is_int, is_not, is_equality, is_order, is_logical, is_far, is_wrong_right, made_type, exact_binary, sized, if_good, are_comparable, fit_operator, beside_nil, unary_worth, binary_worth}
+use Rattle.typing_rules.specs.declared.flaw.Misuse.{Misuse}
+use Rattle.typing_rules.specs.declared.flaw.Misuse.TheVariants as misuses
+use Rattle.typing_rules.specs.Worths.{Worth, Typed, Constant, Nil, bounded, is_int, is_not, is_equality, is_order, is_logical, is_far, is_wrong_right, made_type, exact_binary, sized, if_good, are_comparable, fit_operator, beside_nil, unary_worth, binary_worth}
 use Rattle.meaning.specs.Values.{Value}
 use Rattle.meaning.specs.Expressions.{Worked, and_then, word_in, operator_at, between, beside}
 use Rattle.codegen_base.specs.Pushes.{operator_of, between as between_plan}

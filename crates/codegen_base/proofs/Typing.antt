@@ -13,14 +13,14 @@ use Rattle.syntax.specs.Measures.{expression_size}
 use Rattle.type_table.specs.Types.{ValueType, IntType, BoolType, StructType, ChannelType, is_int_type, is_channel_type, assignable}
 use Rattle.type_table.specs.Containment.{Selected, field_of}
 use Rattle.type_table.specs.Scopes.{Globals, Scope}
-use Rattle.checker_base.specs.declared.flaw.Flaw.{Flaw}
-use Rattle.checker_base.specs.declared.flaw.Flaw.TheVariants.{Broken, Exceeded}
-use Rattle.checker_base.specs.declared.flaw.Misuse.{Misuse}
-use Rattle.checker_base.specs.declared.flaw.Misuse.TheVariants as misuses
-use Rattle.checker_base.specs.Flaws.{Nodes, IsBroken, IsExceeded, IsMisuse}
-use Rattle.checker_base.specs.Worths.{Worth, Typed, Constant, Nil, is_int, literal, unary_worth, binary_worth, named_worth, selected_worth, type_of_field, literal_struct, worth}
-use Rattle.checker_base.specs.Expressions.{nodes_of, FitHas, Fails, UnaryHas, BinaryHas, SelectionHas, LiteralHas, ExpressionHas}
-use Rattle.typing.proofs.ExpressionNodes.{expression_positive}
+use Rattle.typing_rules.specs.declared.flaw.Flaw.{Flaw}
+use Rattle.typing_rules.specs.declared.flaw.Flaw.TheVariants.{Broken, Exceeded}
+use Rattle.typing_rules.specs.declared.flaw.Misuse.{Misuse}
+use Rattle.typing_rules.specs.declared.flaw.Misuse.TheVariants as misuses
+use Rattle.typing_rules.specs.Flaws.{Nodes, IsBroken, IsExceeded, IsMisuse}
+use Rattle.typing_rules.specs.Worths.{Worth, Typed, Constant, Nil, is_int, literal, unary_worth, binary_worth, named_worth, selected_worth, type_of_field, literal_struct, worth}
+use Rattle.typing_rules.specs.Expressions.{nodes_of, FitHas, Fails, UnaryHas, BinaryHas, SelectionHas, LiteralHas, ExpressionHas}
+use Rattle.typing_rules.proofs.ExpressionNodes.{expression_positive}
 
 -- nothing of this kind is wrong
 abbrev pub Free : (Flaw → Type 0) → Type 0

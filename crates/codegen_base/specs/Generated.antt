@@ -9,7 +9,7 @@ use Rattle.bytecode.specs.declared.table.Clause.TheVariants as clauses
 use Rattle.bytecode.specs.Code.{PrintTable, SelectTable}
 use Rattle.type_table.specs.Types.{ValueType, BoolType}
 use Rattle.type_table.specs.Scopes.{Globals, Yield, NoResult, Yields, type_in}
-use Rattle.typing.specs.Statements.{head_simple}
+use Rattle.typing_rules.specs.Statements.{head_simple}
 use Rattle.meaning.specs.Values.{known}
 use Rattle.meaning.specs.Destinations.{number_of}
 use Rattle.codegen_base.specs.declared.element.Element.{Element}

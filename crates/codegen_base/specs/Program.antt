@@ -4,8 +4,8 @@ use Rattle.std.specs.Prelude.{ℕ, ◌+◌, List, [], ◌∷◌, ◌++◌, lengt
 use Rattle.syntax.specs.Tree.{TypeExpression, Make, Right, RightOperation, Simple, Assign, Define, ForHead, ForClauses, Returned, ReturnedOperation, Statement, Alone, VarTyped, VarUntyped, Block, If, For, Select, Return, Statements, NoStatement, Then, Branch, Conditional, Otherwise, NoElse, ElseBlock, ElseIf, Clauses, NoClause, Clause, Declared, Function, Top, StructTop, FunctionTop, File}
 use Rattle.bytecode.specs.Code.{Function as CodeFunction, PrintTable, SelectTable, Code}
 use Rattle.type_table.specs.Scopes.{Globals, Yield, nothing_declared, type_in}
-use Rattle.typing.specs.Statements.{head_simple}
-use Rattle.typing.specs.Kinds.{fields_declared, yield_of, globals_of}
+use Rattle.typing_rules.specs.Statements.{head_simple}
+use Rattle.typing_rules.specs.Kinds.{fields_declared, yield_of, globals_of}
 use Rattle.meaning.specs.Values.{known}
 use Rattle.codegen_base.specs.declared.element.Element.{Element}
 use Rattle.codegen_base.specs.Elements.{with_type, shapes_of}

@@ -18,7 +18,7 @@ use Rattle.bytecode.specs.declared.instr.WordKind.TheVariants as kinds
 use Rattle.type_table.specs.Types.{ValueType, BoolType, StructType, ChannelType, element_type}
 use Rattle.type_table.specs.Containment.{Field, fields_of}
 use Rattle.type_table.specs.Scopes.{Scope, Globals, Variable, is_truth, variable_named}
-use Rattle.checker_base.specs.Worths.{Worth, Typed, Constant, Nil, worth}
+use Rattle.typing_rules.specs.Worths.{Worth, Typed, Constant, Nil, worth}
 use Rattle.meaning.specs.Values.{known, whole, field_slot}
 use Rattle.meaning.specs.Expressions.{operator_at}
 use Rattle.codegen_base.specs.declared.element.Element.{Element}

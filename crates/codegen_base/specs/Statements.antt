@@ -10,9 +10,9 @@ use Rattle.bytecode.specs.Code.{PrintTable}
 use Rattle.type_table.specs.Types.{ValueType, IntType, BoolType, element_type}
 use Rattle.type_table.specs.Containment.{Selected}
 use Rattle.type_table.specs.Scopes.{Variable, Scope, Globals, Yield, NoResult, Yields, is_blank, own_variable, type_in}
-use Rattle.checker_base.specs.Worths.{Worth, Typed, worth}
-use Rattle.typing.specs.Operations.{given, parameters_of, result_of, is_receive, selected, place_type}
-use Rattle.typing.specs.Simples.{is_declarable}
+use Rattle.typing_rules.specs.Worths.{Worth, Typed, worth}
+use Rattle.typing_rules.specs.Operations.{given, parameters_of, result_of, is_receive, selected, place_type}
+use Rattle.typing_rules.specs.Simples.{is_declarable}
 use Rattle.meaning.specs.Values.{known}
 use Rattle.meaning.specs.Destinations.{number_of}
 use Rattle.codegen_base.specs.declared.element.Element.{Element}

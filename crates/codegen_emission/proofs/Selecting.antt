@@ -14,8 +14,8 @@ use Rattle.plan.specs.Plan.{Choose, reaches_end, starts, tables}
 use Rattle.type_table.specs.declared.table.TypeTable.{TypeTable}
 use Rattle.type_table.specs.Scopes.{Globals, Scope, Variable, Yield}
 use Rattle.type_table.specs.Visible.{Keeps}
-use Rattle.checker_base.specs.Worths.{binary_worth, named_worth, selected_worth, unary_worth, worth}
-use Rattle.checker_base.specs.Expressions.{element_of}
+use Rattle.typing_rules.specs.Worths.{binary_worth, named_worth, selected_worth, unary_worth, worth}
+use Rattle.typing_rules.specs.Expressions.{element_of}
 use Rattle.meaning.specs.Values.{known}
 use Rattle.codegen_base.specs.declared.element.Element.{Element}
 use Rattle.codegen_base.specs.Elements.{shape_of}

@@ -3,7 +3,7 @@
 ghost use Rattle.std.specs.Prelude.{OnOk, option_map};
 ghost use Rattle.syntax.specs.View.{if_head_of, simple_of};
 ghost use Rattle.type_table.specs.Visible.{globals_in};
-ghost use Rattle.typing.specs.Statements.{head_simple};
+ghost use Rattle.typing_rules.specs.Statements.{head_simple};
 ghost use Rattle.codegen_base.specs.Generated.{ended, inside, made_any, made_post, made_simple};
 ghost use Rattle.codegen_header.specs.Layouts.{layout_of};
 ghost use Rattle.codegen_flow.specs.Controls.{through};

@@ -9,9 +9,9 @@ use Rattle.syntax.specs.Measures.{if_any, type_size, right_size}
 use Rattle.bytecode.specs.Code.{Function as CodeFunction, Code}
 use Rattle.type_table.specs.Types.{ValueType}
 use Rattle.type_table.specs.Scopes.{Globals, Scope, Yield, Yields, is_blank, is_reserved, last_named, own_variable, nothing_declared, type_in}
-use Rattle.typing.specs.Operations.{given, result_of}
-use Rattle.typing.specs.Simples.{SimpleHas, TypedVariablesHave, UntypedVariablesHave, has_twice, with_defined, with_variables}
-use Rattle.typing.specs.Statements.{after, after_clauses}
+use Rattle.typing_rules.specs.Operations.{given, result_of}
+use Rattle.typing_rules.specs.Simples.{SimpleHas, TypedVariablesHave, UntypedVariablesHave, has_twice, with_defined, with_variables}
+use Rattle.typing_rules.specs.Statements.{after, after_clauses}
 use Rattle.meaning.specs.Values.{known}
 use Rattle.meaning.specs.Source.{globals}
 use Rattle.codegen_base.specs.declared.element.Element.{Element}

@@ -8,7 +8,7 @@ use Rattle.bytecode.specs.Machine.{Frames as CodeFrames, zero_of, fitted, begun}
 use Rattle.type_table.specs.Types.{ValueType}
 use Rattle.type_table.specs.Containment.{Field, fields_of}
 use Rattle.type_table.specs.Scopes.{Scope, Signature, Yield, NoResult, Yields, nothing_declared}
-use Rattle.typing.specs.Kinds.{kinds_in, fields_declared, parameters}
+use Rattle.typing_rules.specs.Kinds.{kinds_in, fields_declared, parameters}
 use Rattle.meaning.specs.Values.{Value, known}
 use Rattle.meaning.specs.Variables.{Blocks, entered}
 use Rattle.meaning.specs.Tasks.{Task, Frames, frame, all_of}

@@ -11,10 +11,10 @@ use Rattle.word.specs.Values.{Go}
 use Rattle.word.specs.Worlds.{Equal}
 use Rattle.word.proofs.Equal.{equal}
 use Rattle.type_table.specs.Scopes.{Globals, Signature, nothing_declared, function_number}
-use Rattle.typing.specs.Files.{has_no_result, is_plain, has_main, FileHas, IsTyped}
-use Rattle.typing.specs.Declarations.{is_nothing}
-use Rattle.typing.specs.Kinds.{signatures}
-use Rattle.typing.specs.Operations.{parameters_in, parameters_of, result_of}
+use Rattle.typing_rules.specs.Files.{has_no_result, is_plain, has_main, FileHas, IsTyped}
+use Rattle.typing_rules.specs.Declarations.{is_nothing}
+use Rattle.typing_rules.specs.Kinds.{signatures}
+use Rattle.typing_rules.specs.Operations.{parameters_in, parameters_of, result_of}
 use Rattle.meaning.specs.Values.{known}
 use Rattle.meaning.specs.Destinations.{number_of}
 use Rattle.meaning.specs.Source.{globals, functions, begun, source_kind}

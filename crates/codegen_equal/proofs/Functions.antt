@@ -10,9 +10,9 @@ use Rattle.word.specs.Values.{Make, Go, Send, Receive, Close, Select, Len, Cap, 
 use Rattle.type_table.specs.Types.{ValueType, IntType, BoolType, StructType, ChannelType}
 use Rattle.type_table.specs.Containment.{fields_of}
 use Rattle.type_table.specs.Scopes.{Scope, Yield}
-use Rattle.typing.specs.Files.{FileHas}
-use Rattle.typing.specs.Kinds.{fields_declared}
-use Rattle.typing.specs.Operations.{parameters_in, parameters_of, result_in, result_of}
+use Rattle.typing_rules.specs.Files.{FileHas}
+use Rattle.typing_rules.specs.Kinds.{fields_declared}
+use Rattle.typing_rules.specs.Operations.{parameters_in, parameters_of, result_in, result_of}
 use Rattle.meaning.specs.Values.{Value, known, words_in}
 use Rattle.meaning.specs.Tasks.{Frames}
 use Rattle.meaning.specs.Source.{globals, functions, called, begun}

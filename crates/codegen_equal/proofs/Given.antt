@@ -7,10 +7,10 @@ use Rattle.syntax.specs.Tree.{Expression, expressions, Arguments, Operation, Cal
 use Rattle.syntax.specs.Measures.{expression_size, arguments_size, operation_size}
 use Rattle.type_table.specs.Types.{ValueType, BoolType, ChannelType, is_channel_type, element_type}
 use Rattle.type_table.specs.Scopes.{Globals, Scope, Yield, NoResult, Yields, Variable, own_variable, nothing_declared, type_in}
-use Rattle.checker_base.specs.Worths.{Worth, Typed, Constant, Nil, worth, kind_of}
-use Rattle.checker_base.specs.Expressions.{nodes_of, ChannelHas, DefaultHas, ExpressionHas, ExpressionsHave, NumbersHave, default_type, element_of}
-use Rattle.typing.specs.Operations.{NotDeclared, NoFunction, IsFunction, Callee, TypeHas, CalleeHas, ResultHas, YieldHas, MadeHas, made_of, result_of, yielded, result_type, callee, OperationHas, operation_type, is_receive, Given, given, given_values, given_by, RightHas, GoesHas}
-use Rattle.typing.specs.Simples.{is_declarable, NamesFail}
+use Rattle.typing_rules.specs.Worths.{Worth, Typed, Constant, Nil, worth, kind_of}
+use Rattle.typing_rules.specs.Expressions.{nodes_of, ChannelHas, DefaultHas, ExpressionHas, ExpressionsHave, NumbersHave, default_type, element_of}
+use Rattle.typing_rules.specs.Operations.{NotDeclared, NoFunction, IsFunction, Callee, TypeHas, CalleeHas, ResultHas, YieldHas, MadeHas, made_of, result_of, yielded, result_type, callee, OperationHas, operation_type, is_receive, Given, given, given_values, given_by, RightHas, GoesHas}
+use Rattle.typing_rules.specs.Simples.{is_declarable, NamesFail}
 use Rattle.meaning.specs.Values.{known}
 use Rattle.codegen_base.specs.declared.element.Element.{Element}
 use Rattle.codegen_base.proofs.Alike.{Alike, worth_alike}

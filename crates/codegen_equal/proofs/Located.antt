@@ -4,8 +4,8 @@ use Rattle.syntax.specs.Tree.{Function, Top, StructTop, FunctionTop, File}
 use Rattle.syntax.specs.Measures.{top_size}
 use Rattle.bytecode.specs.Code.{Function as CodeFunction, Code, SelectTable}
 use Rattle.type_table.specs.Scopes.{Globals, Signature}
-use Rattle.typing.specs.Files.{BodyHas, BodiesHave, FileHas}
-use Rattle.typing.specs.Kinds.{signature, signatures, function_names, globals_of}
+use Rattle.typing_rules.specs.Files.{BodyHas, BodiesHave, FileHas}
+use Rattle.typing_rules.specs.Kinds.{signature, signatures, function_names, globals_of}
 use Rattle.meaning.specs.Destinations.{functions_in}
 use Rattle.codegen_base.specs.declared.element.Element.{Element}
 use Rattle.codegen_base.specs.Program.{noting_any, noting_declared, noting_statements, noting_top, noting_tops, made_function, function_code, functions_code, all_prints, all_selects, elements_of, code_of}

@@ -9,7 +9,7 @@ use Rattle.type_table.specs.Types.{ValueType}
 use Rattle.type_table.specs.Containment.{Field, Structs}
 use Rattle.type_table.specs.Scopes.{Globals}
 use Rattle.type_table.specs.Zeros.{zero_words}
-use Rattle.typing.specs.Kinds.{kinds_in}
+use Rattle.typing_rules.specs.Kinds.{kinds_in}
 use Rattle.meaning.specs.Values.{Value, known, word_like, words_like, words_in}
 use Rattle.meaning.specs.Variables.{declare, holding, New}
 use Rattle.meaning.specs.Source.{globals, bound, split}

@@ -8,8 +8,8 @@ use Rattle.bytecode.specs.declared.instr.Instr.{Instr}
 use Rattle.bytecode.specs.declared.instr.Instr.TheVariants as instrs
 use Rattle.type_table.specs.Types.{BoolType}
 use Rattle.type_table.specs.Scopes.{Globals, Scope}
-use Rattle.checker_base.specs.Worths.{Worth, Typed, Constant, Nil, binary_worth, fit_operator, worth}
-use Rattle.checker_base.specs.Expressions.{default_type}
+use Rattle.typing_rules.specs.Worths.{Worth, Typed, Constant, Nil, binary_worth, fit_operator, worth}
+use Rattle.typing_rules.specs.Expressions.{default_type}
 use Rattle.meaning.specs.Values.{known}
 use Rattle.codegen_base.specs.declared.element.Element.{Element}
 use Rattle.codegen_base.specs.Pushes.{emits, operates}

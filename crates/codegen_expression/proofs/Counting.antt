@@ -9,7 +9,7 @@ use Rattle.type_table.specs.declared.value_type.ValueType.{ValueType as Kind}
 use Rattle.type_table.specs.Views.{kind_of}
 use Rattle.type_table.specs.Types.{ValueType, IntType, BoolType, StructType, ChannelType}
 use Rattle.type_table.specs.Scopes.{nothing_declared, number_of, type_in, variable_named}
-use Rattle.typing.specs.Statements.{head_simple}
+use Rattle.typing_rules.specs.Statements.{head_simple}
 use Rattle.meaning.specs.Values.{known}
 use Rattle.codegen_base.specs.declared.element.Element.{Element}
 use Rattle.codegen_base.specs.Elements.{element_of, found_at, with_element, with_type}

@@ -16,10 +16,10 @@ use Rattle.bytecode.specs.declared.instr.WordKind.{WordKind}
 use Rattle.type_table.specs.Types.{ValueType, IntType, BoolType, StructType, is_int_type, is_bool_type, is_channel_type}
 use Rattle.type_table.specs.Containment.{field_of, fields_of}
 use Rattle.type_table.specs.Scopes.{Globals, Scope, Variable, is_truth, nothing_declared, variable_named}
-use Rattle.checker_base.specs.declared.flaw.Misuse.{Misuse}
-use Rattle.checker_base.specs.declared.flaw.Misuse.TheVariants as misuses
-use Rattle.checker_base.specs.Worths.{Worth, Typed, Constant, Nil, is_int, is_not, is_equality, is_logical, is_wrong_right, fit_operator, if_good, made_type, bounded, sized, exact_unary, unary_worth, binary_worth, type_of_field, selected_worth, worth}
-use Rattle.checker_base.specs.Expressions.{default_type}
+use Rattle.typing_rules.specs.declared.flaw.Misuse.{Misuse}
+use Rattle.typing_rules.specs.declared.flaw.Misuse.TheVariants as misuses
+use Rattle.typing_rules.specs.Worths.{Worth, Typed, Constant, Nil, is_int, is_not, is_equality, is_logical, is_wrong_right, fit_operator, if_good, made_type, bounded, sized, exact_unary, unary_worth, binary_worth, type_of_field, selected_worth, worth}
+use Rattle.typing_rules.specs.Expressions.{default_type}
 use Rattle.meaning.specs.Values.{Slot, known, field_slot, slot, slot_behind, whole as slot_of}
 use Rattle.codegen_base.specs.declared.element.Element.{Element}
 use Rattle.codegen_base.specs.Elements.{kinds_of}

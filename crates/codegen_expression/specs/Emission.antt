@@ -10,8 +10,8 @@ use Rattle.bytecode.specs.declared.instr.Instr.{Instr}
 use Rattle.bytecode.specs.declared.instr.Instr.TheVariants as instrs
 use Rattle.type_table.specs.Types.{ValueType, StructType}
 use Rattle.type_table.specs.Containment.{fields_of}
-use Rattle.checker_base.specs.Worths.{Worth, Typed, Constant, Nil}
-use Rattle.checker_base.specs.Expressions.{default_type}
+use Rattle.typing_rules.specs.Worths.{Worth, Typed, Constant, Nil}
+use Rattle.typing_rules.specs.Expressions.{default_type}
 use Rattle.type_table.specs.Scopes.{Globals, Scope, nothing_declared}
 use Rattle.meaning.specs.Values.{known, field_slot, whole}
 use Rattle.codegen_base.specs.declared.element.Element.{Element}

@@ -6,7 +6,7 @@ ghost use Rattle.syntax.specs.View.{expression_of, name_of};
 ghost use Rattle.type_table.specs.Views.{field_in, kind_of};
 ghost use Rattle.type_table.specs.Visible.{globals_in, scope_of, types_of};
 ghost use Rattle.checker_base.specs.Views.{IsSmall, worth_of};
-ghost use Rattle.checker_base.specs.Worths.{binary_worth, is_logical, selected_worth, unary_worth, worth};
+ghost use Rattle.typing_rules.specs.Worths.{binary_worth, is_logical, selected_worth, unary_worth, worth};
 ghost use Rattle.codegen_base.specs.Pushes.{emits, emits_fields, kinds_in, operator_of};
 ghost use Rattle.codegen_expression.specs.Emission.{Emits, Puts, comparing, literal_part, operated, or_false, picks, settling, signed_with, true_or};
 

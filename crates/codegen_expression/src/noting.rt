@@ -6,7 +6,7 @@ ghost use Rattle.syntax.specs.Tree.{RightOperation};
 ghost use Rattle.syntax.specs.View.{type_of, operation_of, right_of, simple_of, if_head_of, for_head_of, returned_of, statement_of, body_of, branch_of, otherwise_of, clause_of, clauses, declared_of, top_of};
 ghost use Rattle.type_table.specs.Views.{kind_of};
 ghost use Rattle.type_table.specs.Visible.{types_of};
-ghost use Rattle.typing.specs.Statements.{head_simple};
+ghost use Rattle.typing_rules.specs.Statements.{head_simple};
 ghost use Rattle.codegen_base.specs.Program.{noting, noting_any, noting_right, noting_given, noting_simple, noting_first, noting_head, noting_returned, noting_statement, noting_statements, noting_branch, noting_otherwise, noting_clauses, noting_declared, noting_top, noting_tops};
 
 use crate::element_list::ElementList;

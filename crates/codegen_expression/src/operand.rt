@@ -5,7 +5,7 @@ ghost use Rattle.syntax.specs.View.{name_of};
 ghost use Rattle.type_table.specs.Views.{field_in, kind_of};
 ghost use Rattle.type_table.specs.Visible.{globals_in, scope_of, types_of};
 ghost use Rattle.checker_base.specs.Views.{IsSmall, worth_of};
-ghost use Rattle.checker_base.specs.Worths.{literal_struct, named_worth, selected_worth};
+ghost use Rattle.typing_rules.specs.Worths.{literal_struct, named_worth, selected_worth};
 ghost use Rattle.type_table.specs.Containment.{fields_of};
 ghost use Rattle.codegen_base.specs.Elements.{kinds_of};
 ghost use Rattle.codegen_base.specs.Pushes.{elements_shape, named, words_of, zero_instr};

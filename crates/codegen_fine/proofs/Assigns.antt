@@ -13,11 +13,11 @@ use Rattle.bytecode.specs.declared.instr.WordKind.{WordKind}
 use Rattle.bytecode.specs.Code.{Function as CodeFunction, Code}
 use Rattle.type_table.specs.Types.{ValueType}
 use Rattle.type_table.specs.Scopes.{Globals, Scope, Variable, is_blank, last_named, own_variable}
-use Rattle.checker_base.specs.declared.flaw.Flaw.{Flaw}
-use Rattle.checker_base.specs.Worths.{Worth, kind_of, type_of_field}
-use Rattle.checker_base.specs.Expressions.{ValueHas, NumbersHave, default_type}
-use Rattle.typing.specs.Operations.{selected, place_type, Given, given, RightHas, PlaceHas, GoesHas, PlacesFail, PlacesHave}
-use Rattle.typing.specs.Simples.{has_twice, is_declarable, NamesFail, after_name, with_defined, others, SimpleHas, after_simple}
+use Rattle.typing_rules.specs.declared.flaw.Flaw.{Flaw}
+use Rattle.typing_rules.specs.Worths.{Worth, kind_of, type_of_field}
+use Rattle.typing_rules.specs.Expressions.{ValueHas, NumbersHave, default_type}
+use Rattle.typing_rules.specs.Operations.{selected, place_type, Given, given, RightHas, PlaceHas, GoesHas, PlacesFail, PlacesHave}
+use Rattle.typing_rules.specs.Simples.{has_twice, is_declarable, NamesFail, after_name, with_defined, others, SimpleHas, after_simple}
 use Rattle.meaning.specs.Values.{known}
 use Rattle.codegen_base.specs.declared.element.Element.{Element}
 use Rattle.codegen_base.specs.Elements.{kinds_of}

@@ -6,8 +6,8 @@ use Rattle.bytecode.specs.declared.instr.WordKind.{WordKind}
 use Rattle.bytecode.specs.declared.instr.WordKind.TheVariants as kinds
 use Rattle.bytecode.specs.Code.{Function as CodeFunction, Code, PrintTable}
 use Rattle.type_table.specs.Scopes.{Globals, Scope, Yield}
-use Rattle.checker_base.specs.Expressions.{nodes_of, ConditionHas, TestHas}
-use Rattle.typing.specs.Statements.{IfSimpleHas, IfTestHas, after_any}
+use Rattle.typing_rules.specs.Expressions.{nodes_of, ConditionHas, TestHas}
+use Rattle.typing_rules.specs.Statements.{IfSimpleHas, IfTestHas, after_any}
 use Rattle.codegen_base.specs.declared.element.Element.{Element}
 use Rattle.codegen_base.specs.Layouts.{Layout, entering, leaving, behind_simple}
 use Rattle.codegen_base.specs.Program.{noting_first}

@@ -8,9 +8,9 @@ use Rattle.bytecode.specs.declared.instr.Instr.TheVariants as instrs
 use Rattle.bytecode.specs.Code.{Function as CodeFunction, Code}
 use Rattle.type_table.specs.Types.{ValueType, BoolType}
 use Rattle.type_table.specs.Scopes.{Globals, Scope}
-use Rattle.checker_base.specs.Worths.{Worth, worth}
-use Rattle.checker_base.specs.Expressions.{ExpressionHas}
-use Rattle.typing.specs.Operations.{parameters_of, CallHas}
+use Rattle.typing_rules.specs.Worths.{Worth, worth}
+use Rattle.typing_rules.specs.Expressions.{ExpressionHas}
+use Rattle.typing_rules.specs.Operations.{parameters_of, CallHas}
 use Rattle.meaning.specs.Values.{known}
 use Rattle.meaning.specs.Destinations.{number_of}
 use Rattle.codegen_base.specs.declared.element.Element.{Element}

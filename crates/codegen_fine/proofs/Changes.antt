@@ -13,13 +13,13 @@ use Rattle.bytecode.specs.Code.{Function as CodeFunction, Code}
 use Rattle.type_table.specs.Types.{ValueType, IntType, BoolType, is_int_type, is_channel_type, assignable}
 use Rattle.type_table.specs.Containment.{Selected}
 use Rattle.type_table.specs.Scopes.{Globals, Scope, is_blank}
-use Rattle.checker_base.specs.declared.flaw.Misuse.{Misuse}
-use Rattle.checker_base.specs.declared.flaw.Misuse.TheVariants as misuses
-use Rattle.checker_base.specs.Flaws.{Nodes}
-use Rattle.checker_base.specs.Worths.{Worth, Typed as TypedWorth, Constant, Nil, is_equality, is_order, is_logical, is_int, is_wrong_right, made_type, if_good, fit_operator, binary_worth, type_of_field, worth}
-use Rattle.checker_base.specs.Expressions.{nodes_of, ValueHas, default_type}
-use Rattle.typing.specs.Operations.{ReadPlaceHas, selected, place_type}
-use Rattle.typing.specs.Simples.{MadeHas, UpdatedHas, StepHas, SimpleHas}
+use Rattle.typing_rules.specs.declared.flaw.Misuse.{Misuse}
+use Rattle.typing_rules.specs.declared.flaw.Misuse.TheVariants as misuses
+use Rattle.typing_rules.specs.Flaws.{Nodes}
+use Rattle.typing_rules.specs.Worths.{Worth, Typed as TypedWorth, Constant, Nil, is_equality, is_order, is_logical, is_int, is_wrong_right, made_type, if_good, fit_operator, binary_worth, type_of_field, worth}
+use Rattle.typing_rules.specs.Expressions.{nodes_of, ValueHas, default_type}
+use Rattle.typing_rules.specs.Operations.{ReadPlaceHas, selected, place_type}
+use Rattle.typing_rules.specs.Simples.{MadeHas, UpdatedHas, StepHas, SimpleHas}
 use Rattle.meaning.specs.Values.{known}
 use Rattle.codegen_base.specs.declared.element.Element.{Element}
 use Rattle.codegen_base.specs.Elements.{kinds_of}

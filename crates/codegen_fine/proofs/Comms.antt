@@ -12,10 +12,10 @@ use Rattle.bytecode.specs.Code.{Function as CodeFunction, Code}
 use Rattle.bytecode.specs.Effects.{shape_kinds, clause_kinds, clause_gives, clause_shape}
 use Rattle.type_table.specs.Types.{ValueType, BoolType}
 use Rattle.type_table.specs.Scopes.{Globals, Scope, Yield, own_variable}
-use Rattle.checker_base.specs.Worths.{worth}
-use Rattle.checker_base.specs.Expressions.{nodes_of, ValueHas, element_of, ExpressionHas, ChannelHas}
-use Rattle.typing.specs.Operations.{given, and_also, PlacesHave}
-use Rattle.typing.specs.Simples.{is_declarable, has_twice, SimpleHas, after_simple, comm_simple}
+use Rattle.typing_rules.specs.Worths.{worth}
+use Rattle.typing_rules.specs.Expressions.{nodes_of, ValueHas, element_of, ExpressionHas, ChannelHas}
+use Rattle.typing_rules.specs.Operations.{given, and_also, PlacesHave}
+use Rattle.typing_rules.specs.Simples.{is_declarable, has_twice, SimpleHas, after_simple, comm_simple}
 use Rattle.meaning.specs.Values.{known}
 use Rattle.codegen_base.specs.declared.element.Element.{Element}
 use Rattle.codegen_base.specs.Elements.{kinds_of, shape_of}

@@ -16,8 +16,8 @@ use Rattle.bytecode.specs.Code.{Function as CodeFunction, Code}
 use Rattle.type_table.specs.Types.{ValueType, BoolType, StructType}
 use Rattle.type_table.specs.Containment.{Field, Structs, Selected, fields_of, field_of}
 use Rattle.type_table.specs.Scopes.{Globals, Scope, is_truth, is_nil, variable_named}
-use Rattle.checker_base.specs.Worths.{Worth, Typed as TypedWorth, Constant, Nil, kind_of, literal, unary_worth, binary_worth, selected_worth, type_of_field, worth}
-use Rattle.checker_base.specs.Expressions.{nodes_of, ValueHas, NumbersHave, ValuesFail, field_kinds, PassedHave, LiteralHas, default_type, ExpressionHas, ExpressionsHave}
+use Rattle.typing_rules.specs.Worths.{Worth, Typed as TypedWorth, Constant, Nil, kind_of, literal, unary_worth, binary_worth, selected_worth, type_of_field, worth}
+use Rattle.typing_rules.specs.Expressions.{nodes_of, ValueHas, NumbersHave, ValuesFail, field_kinds, PassedHave, LiteralHas, default_type, ExpressionHas, ExpressionsHave}
 use Rattle.meaning.specs.Values.{Slot, known, whole, slot_behind, field_slot}
 use Rattle.codegen_base.specs.declared.element.Element.{Element}
 use Rattle.codegen_base.specs.Elements.{kinds_of}

@@ -13,10 +13,10 @@ use Rattle.type_table.specs.Containment.{Field, Structs, fields_in, fields_of, k
 use Rattle.type_table.specs.Scopes.{number_of, nothing_declared, variable_named, type_in}
 use Rattle.type_table.proofs.Widths.{together-parts}
 use Rattle.type_table.proofs.Fields.{parts-count}
-use Rattle.checker_base.specs.Flaws.{IsBroken}
-use Rattle.typing.specs.Files.{FileHas}
-use Rattle.typing.specs.Declarations.{is_nothing, StructsHave, counting_struct}
-use Rattle.typing.specs.Kinds.{type_names, all_fields, fields_declared, structs_with, globals_of}
+use Rattle.typing_rules.specs.Flaws.{IsBroken}
+use Rattle.typing_rules.specs.Files.{FileHas}
+use Rattle.typing_rules.specs.Declarations.{is_nothing, StructsHave, counting_struct}
+use Rattle.typing_rules.specs.Kinds.{type_names, all_fields, fields_declared, structs_with, globals_of}
 use Rattle.meaning.specs.Values.{known}
 use Rattle.codegen_base.specs.declared.element.Element.{Element}
 use Rattle.codegen_base.specs.declared.element.Element.TheVariants as elements

@@ -5,7 +5,7 @@ use Rattle.syntax.specs.Tree.{Statements}
 use Rattle.bytecode.specs.Code.{Function as CodeFunction, Code}
 use Rattle.bytecode.specs.Rules.{AreThere}
 use Rattle.type_table.specs.Scopes.{Globals, Scope, Yield, NoResult, Yields}
-use Rattle.typing.specs.Statements.{Setting, StatementsHave}
+use Rattle.typing_rules.specs.Statements.{Setting, StatementsHave}
 use Rattle.meaning.specs.Values.{known}
 use Rattle.codegen_base.specs.declared.element.Element.{Element}
 use Rattle.codegen_base.specs.Program.{noting_statements}

@@ -14,11 +14,11 @@ use Rattle.bytecode.specs.declared.instr.Instr.TheVariants as instrs
 use Rattle.bytecode.specs.Code.{Function as CodeFunction, Code}
 use Rattle.type_table.specs.Types.{ValueType, IntType, BoolType, StructType, ChannelType, same_direction, identical, assignable, element_type}
 use Rattle.type_table.specs.Scopes.{Globals, Scope, Yield, NoResult, Yields, is_reserved, variable_named, number_of as number_of_type, function_number, type_in}
-use Rattle.checker_base.specs.declared.flaw.Flaw.{Flaw}
-use Rattle.checker_base.specs.Flaws.{Nodes}
-use Rattle.checker_base.specs.Worths.{Worth, Typed as TypedWorth, Constant, Nil, is_int, worth}
-use Rattle.checker_base.specs.Expressions.{nodes_of, ValueHas, DefaultHas, default_type, element_of, ExpressionsHave}
-use Rattle.typing.specs.Operations.{TypeHas, Callee, NotDeclared, NoFunction, IsFunction, function_of, is_other, callee, result_of, result_type, yielded, CalleeHas, YieldHas, ResultHas, made_of, OperationHas, operation_type, is_receive, Given, given_values, given_by, given}
+use Rattle.typing_rules.specs.declared.flaw.Flaw.{Flaw}
+use Rattle.typing_rules.specs.Flaws.{Nodes}
+use Rattle.typing_rules.specs.Worths.{Worth, Typed as TypedWorth, Constant, Nil, is_int, worth}
+use Rattle.typing_rules.specs.Expressions.{nodes_of, ValueHas, DefaultHas, default_type, element_of, ExpressionsHave}
+use Rattle.typing_rules.specs.Operations.{TypeHas, Callee, NotDeclared, NoFunction, IsFunction, function_of, is_other, callee, result_of, result_type, yielded, CalleeHas, YieldHas, ResultHas, made_of, OperationHas, operation_type, is_receive, Given, given_values, given_by, given}
 use Rattle.meaning.specs.Values.{known}
 use Rattle.meaning.specs.Destinations.{number_of}
 use Rattle.codegen_base.specs.declared.element.Element.{Element}

@@ -6,7 +6,7 @@ use Rattle.type_table.specs.Types.{ValueType, BoolType}
 use Rattle.type_table.specs.Scopes.{Globals, Yield}
 use Rattle.meaning.specs.Variables.{blank}
 use Rattle.bytecode.specs.declared.instr.WordKind.{WordKind}
-use Rattle.typing.specs.Statements.{head_simple}
+use Rattle.typing_rules.specs.Statements.{head_simple}
 use Rattle.codegen_base.specs.declared.element.Element.{Element}
 use Rattle.codegen_base.specs.Layouts.{Layout, entering, leaving, type_of, behind_simple, behind_target, keeping, with_item, carried}
 use Rattle.codegen_base.specs.Generated.{Site, Made, past, followed, ended, inside, with_way, made_any, made_post, made_comm, behind_comm, item_site, within_select, unless_ended, made, made_all, made_branch, made_otherwise, made_ways, made_default, made_select, one_or_two, comm_kinds}

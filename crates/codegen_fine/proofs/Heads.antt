@@ -7,12 +7,12 @@ use Rattle.bytecode.specs.Code.{Code}
 use Rattle.type_table.specs.Types.{ValueType}
 use Rattle.type_table.specs.Containment.{Field}
 use Rattle.type_table.specs.Scopes.{Globals, Yield, NoResult, Yields, nothing_declared, type_in}
-use Rattle.typing.specs.Files.{FileHas}
-use Rattle.typing.specs.declared.role.Role.{Role}
-use Rattle.typing.specs.declared.role.Role.TheVariants as roles
-use Rattle.typing.specs.Declarations.{GroupsHave, IfTypeHas, HeadersHave, counting_function}
-use Rattle.typing.specs.Kinds.{all_fields, fields_declared, yield_of, function_names, globals_of}
-use Rattle.typing.specs.Operations.{TypeHas}
+use Rattle.typing_rules.specs.Files.{FileHas}
+use Rattle.typing_rules.specs.declared.role.Role.{Role}
+use Rattle.typing_rules.specs.declared.role.Role.TheVariants as roles
+use Rattle.typing_rules.specs.Declarations.{GroupsHave, IfTypeHas, HeadersHave, counting_function}
+use Rattle.typing_rules.specs.Kinds.{all_fields, fields_declared, yield_of, function_names, globals_of}
+use Rattle.typing_rules.specs.Operations.{TypeHas}
 use Rattle.meaning.specs.Values.{known}
 use Rattle.codegen_base.specs.declared.element.Element.{Element}
 use Rattle.codegen_base.specs.Program.{noting, noting_any, noting_declared, noting_statements, noting_top, noting_tops, elements_of, code_of}

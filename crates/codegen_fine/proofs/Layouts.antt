@@ -12,9 +12,9 @@ use Rattle.bytecode.specs.Rules.{AreThere}
 use Rattle.type_table.specs.Types.{ValueType}
 use Rattle.type_table.specs.Containment.{Structs}
 use Rattle.type_table.specs.Scopes.{Globals, Scope, Variable, is_blank, later, last_named, own_variable, declared}
-use Rattle.checker_base.specs.Expressions.{default_type}
-use Rattle.typing.specs.Operations.{Given}
-use Rattle.typing.specs.Simples.{is_declarable, has_name, has_twice, after_name, with_defined}
+use Rattle.typing_rules.specs.Expressions.{default_type}
+use Rattle.typing_rules.specs.Operations.{Given}
+use Rattle.typing_rules.specs.Simples.{is_declarable, has_name, has_twice, after_name, with_defined}
 use Rattle.meaning.specs.Values.{known}
 use Rattle.codegen_base.specs.declared.element.Element.{Element}
 use Rattle.codegen_base.specs.Elements.{kinds_of}

@@ -10,7 +10,7 @@ use Rattle.bytecode.specs.declared.instr.WordKind.{WordKind}
 use Rattle.bytecode.specs.Effects.{targets}
 use Rattle.bytecode.specs.Rules.{IsFew, IsShort}
 use Rattle.type_table.specs.Scopes.{Globals, Yield, type_in}
-use Rattle.typing.specs.Statements.{head_simple}
+use Rattle.typing_rules.specs.Statements.{head_simple}
 use Rattle.meaning.specs.Values.{known}
 use Rattle.meaning.specs.Destinations.{number_of}
 use Rattle.codegen_base.specs.declared.element.Element.{Element}

@@ -16,10 +16,10 @@ use Rattle.bytecode.specs.Code.{Function as CodeFunction}
 use Rattle.bytecode.specs.Rules.{HasMain, HasShapes, IsFew, IsShort, IsVerified}
 use Rattle.type_table.specs.Containment.{Field}
 use Rattle.type_table.specs.Scopes.{Globals, Yield, NoResult, Yields}
-use Rattle.checker_base.specs.declared.flaw.Flaw.TheVariants.{Broken, Exceeded}
-use Rattle.typing.specs.Files.{has_no_result, is_plain, has_main, FileHas, IsTyped}
-use Rattle.typing.specs.Declarations.{is_nothing}
-use Rattle.typing.specs.Kinds.{fields_declared, kinds_in, signature, signatures, globals_of}
+use Rattle.typing_rules.specs.declared.flaw.Flaw.TheVariants.{Broken, Exceeded}
+use Rattle.typing_rules.specs.Files.{has_no_result, is_plain, has_main, FileHas, IsTyped}
+use Rattle.typing_rules.specs.Declarations.{is_nothing}
+use Rattle.typing_rules.specs.Kinds.{fields_declared, kinds_in, signature, signatures, globals_of}
 use Rattle.codegen_base.specs.declared.element.Element.{Element}
 use Rattle.codegen_base.specs.Layouts.{empty, with_parameters}
 use Rattle.codegen_base.specs.Program.{label, result_of, made_function, function_code, functions_code, elements_of, code_of}

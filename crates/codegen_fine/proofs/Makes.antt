@@ -12,7 +12,7 @@ use Rattle.bytecode.specs.Code.{Function as CodeFunction, Code}
 use Rattle.bytecode.specs.Rules.{IsThere, AreThere}
 use Rattle.type_table.specs.Types.{ValueType, IntType, BoolType, StructType, ChannelType, is_channel_type}
 use Rattle.type_table.specs.Scopes.{Globals, Scope, nothing_declared, is_blank, variable_named, last_named, number_of, type_in}
-use Rattle.typing.specs.Operations.{TypeHas, MadeHas, OperationHas, RightHas}
+use Rattle.typing_rules.specs.Operations.{TypeHas, MadeHas, OperationHas, RightHas}
 use Rattle.meaning.specs.Values.{known}
 use Rattle.codegen_base.specs.declared.element.Element.{Element}
 use Rattle.codegen_base.specs.Elements.{kinds_of, shape_of}

@@ -17,8 +17,8 @@ use Rattle.word.specs.declared.apply.Op.TheVariants as ops
 use Rattle.type_table.specs.Types.{ValueType, IntType, BoolType, StructType, ChannelType, assignable}
 use Rattle.type_table.specs.Containment.{Field, fields_of}
 use Rattle.type_table.specs.Scopes.{Globals, Scope, Variable, variable_named}
-use Rattle.checker_base.specs.Worths.{Worth, Typed as TypedWorth, Constant, Nil, is_equality, is_order, is_logical, is_not, made_type, if_good, are_comparable, unary_worth, binary_worth}
-use Rattle.checker_base.specs.Expressions.{default_type}
+use Rattle.typing_rules.specs.Worths.{Worth, Typed as TypedWorth, Constant, Nil, is_equality, is_order, is_logical, is_not, made_type, if_good, are_comparable, unary_worth, binary_worth}
+use Rattle.typing_rules.specs.Expressions.{default_type}
 use Rattle.meaning.specs.Values.{known}
 use Rattle.codegen_base.specs.declared.element.Element.{Element}
 use Rattle.codegen_base.specs.Elements.{kinds_of, shape_of, shapes_of}

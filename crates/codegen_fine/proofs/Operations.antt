@@ -11,9 +11,9 @@ use Rattle.bytecode.specs.Code.{Function as CodeFunction, Code}
 use Rattle.bytecode.specs.Effects.{params_in, results_in}
 use Rattle.type_table.specs.Types.{ValueType, IntType, BoolType, StructType, ChannelType, element_type, is_int_type, assignable}
 use Rattle.type_table.specs.Scopes.{Globals, Scope, Yields, function_number, type_in}
-use Rattle.checker_base.specs.Worths.{Worth, Typed as TypedWorth, Constant, Nil, is_int, worth}
-use Rattle.checker_base.specs.Expressions.{nodes_of, element_of, ChannelHas, default_type, ExpressionHas}
-use Rattle.typing.specs.Operations.{parameters_of, result_of, CallHas, OperationHas, SizeHas, IfSizeHas, ReceiveHas}
+use Rattle.typing_rules.specs.Worths.{Worth, Typed as TypedWorth, Constant, Nil, is_int, worth}
+use Rattle.typing_rules.specs.Expressions.{nodes_of, element_of, ChannelHas, default_type, ExpressionHas}
+use Rattle.typing_rules.specs.Operations.{parameters_of, result_of, CallHas, OperationHas, SizeHas, IfSizeHas, ReceiveHas}
 use Rattle.meaning.specs.Values.{known}
 use Rattle.meaning.specs.Destinations.{number_of}
 use Rattle.codegen_base.specs.declared.element.Element.{Element}

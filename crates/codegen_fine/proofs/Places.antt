@@ -10,8 +10,8 @@ use Rattle.bytecode.specs.Code.{Function as CodeFunction, Code}
 use Rattle.type_table.specs.Types.{ValueType}
 use Rattle.type_table.specs.Containment.{Structs, Selected, behind, field_of}
 use Rattle.type_table.specs.Scopes.{Globals, Scope, Variable, is_blank, later, last_named, variable_named}
-use Rattle.checker_base.specs.Worths.{kind_of, type_of_field}
-use Rattle.typing.specs.Operations.{PathHas, PlaceHas, followed, variable_at, selected, place_type}
+use Rattle.typing_rules.specs.Worths.{kind_of, type_of_field}
+use Rattle.typing_rules.specs.Operations.{PathHas, PlaceHas, followed, variable_at, selected, place_type}
 use Rattle.codegen_base.specs.declared.element.Element.{Element}
 use Rattle.codegen_base.specs.Elements.{kinds_of}
 use Rattle.codegen_base.proofs.Alike.{kind_if, kind_alike}

@@ -11,10 +11,10 @@ use Rattle.bytecode.specs.Code.{Function as CodeFunction, Code, PrintTable}
 use Rattle.bytecode.specs.Effects.{part_kinds, print_kinds}
 use Rattle.type_table.specs.Types.{IntType, BoolType, StructType, ChannelType}
 use Rattle.type_table.specs.Scopes.{Globals, Scope}
-use Rattle.checker_base.specs.Flaws.{Nodes}
-use Rattle.checker_base.specs.Worths.{Worth, Typed as TypedWorth, Constant, Nil, is_int, worth}
-use Rattle.checker_base.specs.Expressions.{nodes_of, PrintedHas, default_type}
-use Rattle.typing.specs.Simples.{PartsHave, SimpleHas}
+use Rattle.typing_rules.specs.Flaws.{Nodes}
+use Rattle.typing_rules.specs.Worths.{Worth, Typed as TypedWorth, Constant, Nil, is_int, worth}
+use Rattle.typing_rules.specs.Expressions.{nodes_of, PrintedHas, default_type}
+use Rattle.typing_rules.specs.Simples.{PartsHave, SimpleHas}
 use Rattle.meaning.specs.Values.{known}
 use Rattle.codegen_base.specs.declared.element.Element.{Element}
 use Rattle.codegen_base.specs.Elements.{kinds_of}

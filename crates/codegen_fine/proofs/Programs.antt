@@ -7,8 +7,8 @@ use Rattle.syntax.specs.Measures.{top_size}
 use Rattle.bytecode.specs.Code.{Function as CodeFunction, Code, SelectTable}
 use Rattle.bytecode.specs.Rules.{Holds, HasShapes}
 use Rattle.type_table.specs.Scopes.{Globals}
-use Rattle.typing.specs.Files.{BodiesHave, FileHas}
-use Rattle.typing.specs.Kinds.{globals_of}
+use Rattle.typing_rules.specs.Files.{BodiesHave, FileHas}
+use Rattle.typing_rules.specs.Kinds.{globals_of}
 use Rattle.codegen_base.specs.declared.element.Element.{Element}
 use Rattle.codegen_base.specs.Program.{noting_any, noting_declared, noting_top, noting_tops, made_function, function_code, functions_code, all_prints, all_selects, elements_of, code_of}
 use Rattle.codegen_base.proofs.Noted.{Grows, grows_no, grows_on}

@@ -15,7 +15,7 @@ use Rattle.bytecode.specs.Rules.{AreThere, IsThere}
 use Rattle.word.specs.declared.apply.Op.{Op}
 use Rattle.type_table.specs.Types.{ValueType, IntType, BoolType, ChannelType}
 use Rattle.type_table.specs.Containment.{Structs}
-use Rattle.checker_base.specs.Worths.{is_equality, is_logical, made_type}
+use Rattle.typing_rules.specs.Worths.{is_equality, is_logical, made_type}
 use Rattle.codegen_base.specs.declared.element.Element.{Element}
 use Rattle.codegen_base.specs.Elements.{kinds_of, shape_of}
 use Rattle.codegen_base.specs.Pushes.{operator_of, zero_instr, pushes_zeros, between, drops}

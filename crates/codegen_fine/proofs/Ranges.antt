@@ -13,11 +13,11 @@ use Rattle.bytecode.specs.Code.{Function as CodeFunction, Code}
 use Rattle.type_table.specs.Types.{ValueType, ChannelType}
 use Rattle.type_table.specs.Containment.{Structs}
 use Rattle.type_table.specs.Scopes.{Globals, Scope, Variable, Yield, is_blank, later, last_named, own_variable, entered, declared}
-use Rattle.checker_base.specs.Worths.{Typed as TypedWorth, worth}
-use Rattle.checker_base.specs.Expressions.{default_type, element_of}
-use Rattle.typing.specs.Operations.{Given, PlaceHas, PlacesHave, GoesHas, place_type}
-use Rattle.typing.specs.Simples.{has_name, has_twice}
-use Rattle.typing.specs.Statements.{TargetHas, TakenHas, item_given, after_target}
+use Rattle.typing_rules.specs.Worths.{Typed as TypedWorth, worth}
+use Rattle.typing_rules.specs.Expressions.{default_type, element_of}
+use Rattle.typing_rules.specs.Operations.{Given, PlaceHas, PlacesHave, GoesHas, place_type}
+use Rattle.typing_rules.specs.Simples.{has_name, has_twice}
+use Rattle.typing_rules.specs.Statements.{TargetHas, TakenHas, item_given, after_target}
 use Rattle.meaning.specs.Values.{known}
 use Rattle.meaning.specs.Variables.{blank}
 use Rattle.codegen_base.specs.declared.element.Element.{Element}

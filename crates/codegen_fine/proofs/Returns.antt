@@ -7,10 +7,10 @@ use Rattle.bytecode.specs.declared.instr.WordKind.{WordKind}
 use Rattle.bytecode.specs.Code.{Function as CodeFunction, Code}
 use Rattle.type_table.specs.Types.{ValueType}
 use Rattle.type_table.specs.Scopes.{Globals, Scope, Yield, NoResult, Yields}
-use Rattle.checker_base.specs.Worths.{Typed as TypedWorth, worth}
-use Rattle.checker_base.specs.Expressions.{nodes_of, ValueHas}
-use Rattle.typing.specs.Operations.{operation_type, given_by}
-use Rattle.typing.specs.Statements.{ReturnStatementHas}
+use Rattle.typing_rules.specs.Worths.{Typed as TypedWorth, worth}
+use Rattle.typing_rules.specs.Expressions.{nodes_of, ValueHas}
+use Rattle.typing_rules.specs.Operations.{operation_type, given_by}
+use Rattle.typing_rules.specs.Statements.{ReturnStatementHas}
 use Rattle.meaning.specs.Values.{known}
 use Rattle.codegen_base.specs.declared.element.Element.{Element}
 use Rattle.codegen_base.specs.Generated.{return_plan, result_kinds}

@@ -10,9 +10,9 @@ use Rattle.bytecode.specs.declared.instr.WordKind.TheVariants as kinds
 use Rattle.bytecode.specs.Code.{Function as CodeFunction, Code}
 use Rattle.type_table.specs.Types.{ValueType, BoolType}
 use Rattle.type_table.specs.Scopes.{Globals, Scope}
-use Rattle.checker_base.specs.Worths.{Typed as TypedWorth}
-use Rattle.checker_base.specs.Expressions.{NumbersHave, default_type, element_of}
-use Rattle.typing.specs.Operations.{OperationHas, operation_type, is_receive, Given, given_values, given_by, given, RightHas}
+use Rattle.typing_rules.specs.Worths.{Typed as TypedWorth}
+use Rattle.typing_rules.specs.Expressions.{NumbersHave, default_type, element_of}
+use Rattle.typing_rules.specs.Operations.{OperationHas, operation_type, is_receive, Given, given_values, given_by, given, RightHas}
 use Rattle.meaning.specs.Values.{known}
 use Rattle.codegen_base.specs.declared.element.Element.{Element}
 use Rattle.codegen_base.specs.Elements.{kinds_of}

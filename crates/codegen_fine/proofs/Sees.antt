@@ -6,7 +6,7 @@ use Rattle.std.specs.Result.{result_ok}
 use Rattle.syntax.specs.Tree.{TypeExpression, NamedType, ParenthesizedType, Channel, Expression, Integer, Named, Parenthesized, Selection, Composite, Unary, Binary}
 use Rattle.type_table.specs.Types.{BoolType, StructType, ChannelType}
 use Rattle.type_table.specs.Scopes.{Scope, Globals, is_blank, is_truth, is_nil, last_named, variable_named, number_of, type_in}
-use Rattle.checker_base.specs.Worths.{Typed, Nil, selected_worth, unary_worth, binary_worth, worth}
+use Rattle.typing_rules.specs.Worths.{Typed, Nil, selected_worth, unary_worth, binary_worth, worth}
 use Rattle.codegen_base.proofs.Alike.{kind_if, there_alike, kind_alike}
 
 abbrev pub Sees : Scope → Scope → Type 0

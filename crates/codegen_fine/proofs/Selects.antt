@@ -11,9 +11,9 @@ use Rattle.bytecode.specs.Code.{Function as CodeFunction, Code}
 use Rattle.bytecode.specs.Rules.{HasShapes}
 use Rattle.bytecode.specs.Effects.{all_clause_kinds, clause_gives, clauses_in, clause_target, clause_shape, default_targets}
 use Rattle.type_table.specs.Scopes.{Globals, Scope, Yield, entered, left}
-use Rattle.checker_base.specs.Expressions.{element_of}
-use Rattle.typing.specs.Simples.{comm_simple}
-use Rattle.typing.specs.Statements.{Setting, ClausesHave, after_all, after_any, after_clauses}
+use Rattle.typing_rules.specs.Expressions.{element_of}
+use Rattle.typing_rules.specs.Simples.{comm_simple}
+use Rattle.typing_rules.specs.Statements.{Setting, ClausesHave, after_all, after_any, after_clauses}
 use Rattle.meaning.specs.Values.{known}
 use Rattle.codegen_base.specs.declared.element.Element.{Element}
 use Rattle.codegen_base.specs.Elements.{kinds_of}

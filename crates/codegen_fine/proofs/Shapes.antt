@@ -16,9 +16,9 @@ use Rattle.type_table.specs.Containment.{Structs, fields_in, fields_width, width
 use Rattle.type_table.proofs.Fields.{parts-count}
 use Rattle.type_table.specs.Scopes.{nothing_declared, type_in}
 use Rattle.meaning.specs.Values.{known}
-use Rattle.typing.specs.Files.{FileHas}
-use Rattle.typing.specs.Declarations.{WidthHas, struct_node}
-use Rattle.typing.specs.Kinds.{structs_with, globals_of}
+use Rattle.typing_rules.specs.Files.{FileHas}
+use Rattle.typing_rules.specs.Declarations.{WidthHas, struct_node}
+use Rattle.typing_rules.specs.Kinds.{structs_with, globals_of}
 use Rattle.codegen_base.proofs.Fields.{AllWide}
 use Rattle.codegen_base.proofs.Typing.{Free, exceeded}
 use Rattle.codegen_base.specs.declared.element.Element.{Element}

@@ -11,11 +11,11 @@ use Rattle.bytecode.specs.Effects.{params_in, results_in}
 use Rattle.type_table.specs.Types.{ValueType}
 use Rattle.type_table.specs.Containment.{Field}
 use Rattle.type_table.specs.Scopes.{Globals, Signature, Yields, function_number}
-use Rattle.typing.specs.Files.{FileHas}
-use Rattle.typing.specs.declared.role.Role.TheVariants as roles
-use Rattle.typing.specs.Declarations.{HeadersHave, counting_function}
-use Rattle.typing.specs.Kinds.{fields_declared, kinds_in, signatures, function_names, globals_of}
-use Rattle.typing.specs.Operations.{parameters_in, result_in}
+use Rattle.typing_rules.specs.Files.{FileHas}
+use Rattle.typing_rules.specs.declared.role.Role.TheVariants as roles
+use Rattle.typing_rules.specs.Declarations.{HeadersHave, counting_function}
+use Rattle.typing_rules.specs.Kinds.{fields_declared, kinds_in, signatures, function_names, globals_of}
+use Rattle.typing_rules.specs.Operations.{parameters_in, result_in}
 use Rattle.meaning.specs.Values.{known}
 use Rattle.codegen_base.specs.declared.element.Element.{Element}
 use Rattle.codegen_base.specs.Elements.{kinds_of}

@@ -8,10 +8,10 @@ use Rattle.bytecode.specs.declared.instr.WordKind.TheVariants as kinds
 use Rattle.bytecode.specs.declared.instr.Instr.TheVariants as instrs
 use Rattle.bytecode.specs.Code.{Function as CodeFunction, Code}
 use Rattle.type_table.specs.Scopes.{Globals, Scope, Yield, NoResult, Yields}
-use Rattle.checker_base.specs.Worths.{worth}
-use Rattle.checker_base.specs.Expressions.{nodes_of, ValueHas, element_of}
-use Rattle.typing.specs.Operations.{result_of}
-use Rattle.typing.specs.Simples.{SimpleHas}
+use Rattle.typing_rules.specs.Worths.{worth}
+use Rattle.typing_rules.specs.Expressions.{nodes_of, ValueHas, element_of}
+use Rattle.typing_rules.specs.Operations.{result_of}
+use Rattle.typing_rules.specs.Simples.{SimpleHas}
 use Rattle.meaning.specs.Values.{known}
 use Rattle.meaning.specs.Destinations.{number_of}
 use Rattle.codegen_base.specs.declared.element.Element.{Element}

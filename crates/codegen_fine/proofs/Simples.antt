@@ -4,7 +4,7 @@ use Rattle.std.proofs.lemmas.Option.{slice_get_within}
 use Rattle.syntax.specs.Tree.{Simple, CallAlone, Close, Print, ReceiveAlone, Send, Increment, Decrement, Assign, Define, Update}
 use Rattle.bytecode.specs.Code.{Function as CodeFunction, Code, PrintTable}
 use Rattle.type_table.specs.Scopes.{Globals, Scope}
-use Rattle.typing.specs.Simples.{SimpleHas, after_simple}
+use Rattle.typing_rules.specs.Simples.{SimpleHas, after_simple}
 use Rattle.codegen_base.specs.declared.element.Element.{Element}
 use Rattle.codegen_base.specs.Layouts.{Layout, behind_simple}
 use Rattle.codegen_base.specs.Program.{noting_simple}

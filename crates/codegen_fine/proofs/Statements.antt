@@ -10,9 +10,9 @@ use Rattle.bytecode.specs.Code.{Function as CodeFunction, Code}
 use Rattle.std.proofs.lemmas.Option.{same_Some}
 use Rattle.type_table.specs.Types.{ValueType}
 use Rattle.type_table.specs.Scopes.{Globals, Scope, Yield, entered, left, type_in}
-use Rattle.checker_base.specs.Expressions.{TestHas}
-use Rattle.typing.specs.Simples.{IfRightHas, comm_simple}
-use Rattle.typing.specs.Statements.{Setting, head_simple, after_any, ForHeadHas, after_for_head, after, after_all, after_branch, after_otherwise, ClausesHave, StatementHas, StatementsHave, BranchHas, OtherwiseHas}
+use Rattle.typing_rules.specs.Expressions.{TestHas}
+use Rattle.typing_rules.specs.Simples.{IfRightHas, comm_simple}
+use Rattle.typing_rules.specs.Statements.{Setting, head_simple, after_any, ForHeadHas, after_for_head, after, after_all, after_branch, after_otherwise, ClausesHave, StatementHas, StatementsHave, BranchHas, OtherwiseHas}
 use Rattle.meaning.specs.Values.{known}
 use Rattle.codegen_base.specs.declared.element.Element.{Element}
 use Rattle.codegen_base.specs.Layouts.{Layout}

@@ -12,10 +12,10 @@ use Rattle.bytecode.specs.Rules.{IsThere, AreThere}
 use Rattle.type_table.specs.Types.{ValueType, IntType, BoolType, StructType, ChannelType}
 use Rattle.type_table.specs.Containment.{Field, Selected, fields_in, fields_of, behind, variable_words, field_among, kind_parts, fields_parts, parts_within}
 use Rattle.type_table.specs.Scopes.{Globals}
-use Rattle.typing.specs.Files.{FileHas}
-use Rattle.typing.specs.declared.role.Role.TheVariants as roles
-use Rattle.typing.specs.Declarations.{StructsHave, counting_struct}
-use Rattle.typing.specs.Kinds.{structs_with, globals_of}
+use Rattle.typing_rules.specs.Files.{FileHas}
+use Rattle.typing_rules.specs.declared.role.Role.TheVariants as roles
+use Rattle.typing_rules.specs.Declarations.{StructsHave, counting_struct}
+use Rattle.typing_rules.specs.Kinds.{structs_with, globals_of}
 use Rattle.meaning.specs.Values.{known}
 use Rattle.codegen_base.specs.declared.element.Element.{Element}
 use Rattle.codegen_base.specs.Elements.{word_kind, kinds_of, shape_of, shapes_of}

@@ -12,11 +12,11 @@ use Rattle.bytecode.specs.declared.instr.WordKind.{WordKind}
 use Rattle.bytecode.specs.Code.{Function as CodeFunction, Code}
 use Rattle.type_table.specs.Types.{ValueType}
 use Rattle.type_table.specs.Scopes.{Globals, Scope, Variable, is_blank, is_reserved, own_variable, declared, type_in}
-use Rattle.checker_base.specs.declared.flaw.Flaw.{Flaw}
-use Rattle.checker_base.specs.Worths.{Typed as TypedWorth}
-use Rattle.checker_base.specs.Expressions.{ValueHas}
-use Rattle.typing.specs.Operations.{Given, given}
-use Rattle.typing.specs.Simples.{has_twice, with_defined, with_variables, AllFail, IfRightHas, TypedVariablesHave, UntypedVariablesHave}
+use Rattle.typing_rules.specs.declared.flaw.Flaw.{Flaw}
+use Rattle.typing_rules.specs.Worths.{Typed as TypedWorth}
+use Rattle.typing_rules.specs.Expressions.{ValueHas}
+use Rattle.typing_rules.specs.Operations.{Given, given}
+use Rattle.typing_rules.specs.Simples.{has_twice, with_defined, with_variables, AllFail, IfRightHas, TypedVariablesHave, UntypedVariablesHave}
 use Rattle.codegen_base.specs.declared.element.Element.{Element}
 use Rattle.codegen_base.specs.Elements.{kinds_of}
 use Rattle.codegen_base.specs.Generated.{zero_values, same_types, variables_plan}

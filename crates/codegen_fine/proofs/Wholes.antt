@@ -7,8 +7,8 @@ use Rattle.bytecode.specs.Rules.{Holds, HasShapes}
 use Rattle.type_table.specs.Types.{ValueType}
 use Rattle.type_table.specs.Containment.{Field}
 use Rattle.type_table.specs.Scopes.{Globals, Scope, Yields, nothing_declared, declared}
-use Rattle.typing.specs.Files.{BodyHas}
-use Rattle.typing.specs.Kinds.{fields_declared, with_fields, parameters}
+use Rattle.typing_rules.specs.Files.{BodyHas}
+use Rattle.typing_rules.specs.Kinds.{fields_declared, with_fields, parameters}
 use Rattle.meaning.specs.Values.{known}
 use Rattle.codegen_base.specs.declared.element.Element.{Element}
 use Rattle.codegen_base.specs.Layouts.{Layout, empty, declaring, with_parameters}

@@ -12,10 +12,10 @@ use Rattle.go_text.specs.declared.rule.Rule.TheVariants as rules
 use Rattle.syntax.specs.Tree.{File}
 use Rattle.type_table.specs.Types.{ValueType, IntType, BoolType, StructType, ChannelType}
 use Rattle.type_table.specs.Containment.{Field, Structs, HasStruct, Holds, Directly, Through, fields_of, together, kind_width, fields_width, width_within}
-use Rattle.typing.specs.Files.{FileHas}
-use Rattle.typing.specs.Declarations.{struct_node}
-use Rattle.typing.specs.Kinds.{globals_of}
-use Rattle.typing.proofs.Contents.{past_structs, holds_there}
+use Rattle.typing_rules.specs.Files.{FileHas}
+use Rattle.typing_rules.specs.Declarations.{struct_node}
+use Rattle.typing_rules.specs.Kinds.{globals_of}
+use Rattle.typing_rules.proofs.Contents.{past_structs, holds_there}
 use Rattle.meaning.specs.Values.{known}
 use Rattle.codegen_base.proofs.Fields.{AllWide, AllTyped}
 use Rattle.codegen_base.proofs.Typing.{Free, broken}

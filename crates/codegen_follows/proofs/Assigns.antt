@@ -17,10 +17,10 @@ use Rattle.type_table.specs.Types.{ValueType, IntType, BoolType, StructType, Cha
 use Rattle.type_table.specs.Containment.{fields_of}
 use Rattle.type_table.specs.Zeros.{zero_words}
 use Rattle.type_table.specs.Scopes.{Scope, Yield}
-use Rattle.checker_base.specs.Flaws.{Nodes}
-use Rattle.checker_base.specs.Worths.{Worth, Typed, Constant, Nil, is_int}
-use Rattle.checker_base.specs.Expressions.{DefaultHas, ExpressionsHave, default_type}
-use Rattle.typing.specs.Operations.{operation_type, is_receive, OperationHas}
+use Rattle.typing_rules.specs.Flaws.{Nodes}
+use Rattle.typing_rules.specs.Worths.{Worth, Typed, Constant, Nil, is_int}
+use Rattle.typing_rules.specs.Expressions.{DefaultHas, ExpressionsHave, default_type}
+use Rattle.typing_rules.specs.Operations.{operation_type, is_receive, OperationHas}
 use Rattle.meaning.specs.Values.{Value, known}
 use Rattle.meaning.specs.Variables.{Blocks, Destination}
 use Rattle.meaning.specs.Tasks.{Task, Store, Assigned, Frames, frame}

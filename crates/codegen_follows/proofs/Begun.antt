@@ -6,7 +6,7 @@ use Rattle.syntax.specs.Measures.{statement_size}
 use Rattle.bytecode.specs.Code.{PrintTable, Function as CodeFunction, Code}
 use Rattle.word.specs.declared.value.Word.{Word}
 use Rattle.type_table.specs.Scopes.{Variable, Yield}
-use Rattle.typing.specs.Statements.{StatementHas}
+use Rattle.typing_rules.specs.Statements.{StatementHas}
 use Rattle.meaning.specs.Variables.{entered}
 use Rattle.meaning.specs.Tasks.{Task, Do, EndBlock, Decide, Head, Again, Turn, EndSelect, Ask, Await, Store, GiveBack, all_of}
 use Rattle.meaning.specs.Source.{globals}

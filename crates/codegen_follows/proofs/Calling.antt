@@ -16,8 +16,8 @@ use Rattle.word.specs.Related.{here}
 use Rattle.type_table.specs.Types.{ValueType}
 use Rattle.type_table.specs.Containment.{fields_of}
 use Rattle.type_table.specs.Scopes.{Scope, Yield, NoResult, Yields, function_number}
-use Rattle.checker_base.specs.Expressions.{ExpressionsHave}
-use Rattle.typing.specs.Operations.{parameters_of, result_of, CallHas}
+use Rattle.typing_rules.specs.Expressions.{ExpressionsHave}
+use Rattle.typing_rules.specs.Operations.{parameters_of, result_of, CallHas}
 use Rattle.meaning.specs.Values.{Value, known}
 use Rattle.meaning.specs.Variables.{Blocks}
 use Rattle.meaning.specs.Expressions.{Worked, values}

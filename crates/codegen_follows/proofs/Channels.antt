@@ -14,9 +14,9 @@ use Rattle.word.specs.Kinds.{Next}
 use Rattle.type_table.specs.Types.{ValueType, IntType, BoolType, StructType, ChannelType, element_type}
 use Rattle.type_table.specs.Containment.{fields_of}
 use Rattle.type_table.specs.Scopes.{Scope, Yield}
-use Rattle.checker_base.specs.Worths.{Worth, Typed, Constant, Nil, worth}
-use Rattle.checker_base.specs.Expressions.{nodes_of, ExpressionHas, ChannelHas, element_of, default_type}
-use Rattle.typing.specs.Operations.{parameters_of, result_of}
+use Rattle.typing_rules.specs.Worths.{Worth, Typed, Constant, Nil, worth}
+use Rattle.typing_rules.specs.Expressions.{nodes_of, ExpressionHas, ChannelHas, element_of, default_type}
+use Rattle.typing_rules.specs.Operations.{parameters_of, result_of}
 use Rattle.meaning.specs.Values.{Value, known, words_in}
 use Rattle.meaning.specs.Variables.{Blocks, scope_in}
 use Rattle.meaning.specs.Expressions.{and_then, word_in}

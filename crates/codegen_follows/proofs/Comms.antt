@@ -10,11 +10,11 @@ use Rattle.bytecode.specs.declared.instr.WordKind.{WordKind}
 use Rattle.bytecode.specs.Code.{Function as CodeFunction, Code}
 use Rattle.type_table.specs.Types.{ValueType, BoolType}
 use Rattle.type_table.specs.Scopes.{Scope, Yield, is_blank, own_variable, entered, last_named}
-use Rattle.checker_base.specs.Worths.{Typed, worth}
-use Rattle.checker_base.specs.Expressions.{element_of}
-use Rattle.typing.specs.Operations.{Given, given, given_by, and_also, PlacesFail, PlacesHave}
-use Rattle.typing.specs.Simples.{has_twice, NamesFail, SimpleHas, comm_simple}
-use Rattle.typing.specs.Statements.{after_any}
+use Rattle.typing_rules.specs.Worths.{Typed, worth}
+use Rattle.typing_rules.specs.Expressions.{element_of}
+use Rattle.typing_rules.specs.Operations.{Given, given, given_by, and_also, PlacesFail, PlacesHave}
+use Rattle.typing_rules.specs.Simples.{has_twice, NamesFail, SimpleHas, comm_simple}
+use Rattle.typing_rules.specs.Statements.{after_any}
 use Rattle.meaning.specs.Values.{known, whole, slot_along}
 use Rattle.meaning.specs.Variables.{Blocks, Destination, Nowhere, Into, kind_of}
 use Rattle.meaning.specs.Tasks.{Task, Frames}

@@ -14,10 +14,10 @@ use Rattle.word.specs.Kinds.{Next}
 use Rattle.type_table.specs.Types.{ValueType, BoolType}
 use Rattle.type_table.specs.Containment.{fields_of}
 use Rattle.type_table.specs.Scopes.{Variable, Globals, Scope, Yield, is_blank, is_reserved, number_of, function_number, variable_named, last_named, own_variable}
-use Rattle.checker_base.specs.Worths.{Worth, Typed, worth, kind_of}
-use Rattle.checker_base.specs.Expressions.{nodes_of, ValueHas, DefaultHas, ExpressionsHave, NumbersHave, default_type, element_of}
-use Rattle.typing.specs.Operations.{NoFunction, function_of, result_type, made_of, Given, given, given_by, given_values, operation_type, is_receive, RightHas, GoesHas}
-use Rattle.typing.specs.Simples.{has_twice, is_declarable, DefinedHave, NamesFail, SimpleHas}
+use Rattle.typing_rules.specs.Worths.{Worth, Typed, worth, kind_of}
+use Rattle.typing_rules.specs.Expressions.{nodes_of, ValueHas, DefaultHas, ExpressionsHave, NumbersHave, default_type, element_of}
+use Rattle.typing_rules.specs.Operations.{NoFunction, function_of, result_type, made_of, Given, given, given_by, given_values, operation_type, is_receive, RightHas, GoesHas}
+use Rattle.typing_rules.specs.Simples.{has_twice, is_declarable, DefinedHave, NamesFail, SimpleHas}
 use Rattle.meaning.specs.Values.{known}
 use Rattle.meaning.specs.Variables.{Blocks, scope_in}
 use Rattle.meaning.specs.Destinations.{given_kinds, all_defined}

@@ -13,7 +13,7 @@ use Rattle.word.specs.Kinds.{Next, Slides}
 use Rattle.word.specs.Related.{Slips, here}
 use Rattle.type_table.specs.Containment.{fields_of}
 use Rattle.type_table.specs.Scopes.{Scope, Yield, entered as scope_entered}
-use Rattle.typing.specs.Statements.{after_all}
+use Rattle.typing_rules.specs.Statements.{after_all}
 use Rattle.meaning.specs.Variables.{Blocks, entered, left}
 use Rattle.meaning.specs.Tasks.{Repeating, Task, Do, EndBlock, Decide, Head, Again, Turn, EndSelect, Ask, Await, Store, GiveBack, Frame, Frames, frame, all_of, broken, continued}
 use Rattle.meaning.specs.Source.{globals, truth_in, statement_next, task_next, decides, head_next, again_next, body_next}

@@ -5,8 +5,8 @@ use Rattle.std.proofs.lemmas.List.{append-nil}
 use Rattle.syntax.specs.Tree.{Expression, Simple, CallAlone, Close, Print, ReceiveAlone, Send, Increment, Decrement, Assign, Define, Update, Target, NoTarget, DefineTarget, AssignTarget, Forever, While, ForClauses, Range, Comm, CommSend, CommReceive, CommDefine, CommAssign, Statement, Empty, Alone, VarTyped, VarUntyped, Block, If, For, Select, Go, Return, Break, Continue, Statements, NoStatement, Then, Branch, Conditional, Otherwise, NoElse, ElseBlock, ElseIf, Clauses, NoClause, Clause}
 use Rattle.type_table.specs.Types.{ValueType, BoolType}
 use Rattle.type_table.specs.Scopes.{Variable, Globals, Yield}
-use Rattle.typing.specs.Simples.{is_declarable}
-use Rattle.typing.specs.Statements.{head_simple}
+use Rattle.typing_rules.specs.Simples.{is_declarable}
+use Rattle.typing_rules.specs.Statements.{head_simple}
 use Rattle.codegen_base.specs.declared.element.Element.{Element}
 use Rattle.codegen_base.specs.Layouts.{Layout, entering, declaring, declaring_new, declaring_all, declaring_each, behind_simple, behind_target, keeping, with_item, carried}
 use Rattle.codegen_base.specs.Generated.{Site, Made, past, followed, ended, inside, with_way, made_any, made_post, made_comm, behind_comm, item_site, within_select, unless_ended, made, made_all, made_branch, made_otherwise, made_ways, made_default, made_select, one_or_two, comm_kinds}

@@ -10,9 +10,9 @@ use Rattle.word.specs.Kinds.{Next}
 use Rattle.word.specs.Related.{here}
 use Rattle.type_table.specs.Containment.{fields_of}
 use Rattle.type_table.specs.Scopes.{Scope, Yield, entered as scope_entered}
-use Rattle.checker_base.specs.Expressions.{TestHas}
-use Rattle.typing.specs.Simples.{SimpleHas}
-use Rattle.typing.specs.Statements.{IfSimpleHas, IfTestHas, StatementsHave}
+use Rattle.typing_rules.specs.Expressions.{TestHas}
+use Rattle.typing_rules.specs.Simples.{SimpleHas}
+use Rattle.typing_rules.specs.Statements.{IfSimpleHas, IfTestHas, StatementsHave}
 use Rattle.meaning.specs.Variables.{Blocks}
 use Rattle.meaning.specs.Tasks.{Repeating, Task, Do, EndBlock, Head, Frames, frame}
 use Rattle.meaning.specs.Source.{globals, statement_next}

@@ -9,7 +9,7 @@ use Rattle.type_table.specs.Types.{ValueType}
 use Rattle.type_table.specs.Containment.{Structs}
 use Rattle.type_table.specs.Scopes.{Variable, Scope, Yield, is_blank, own_variable, later, if_named, last_named, declared}
 use Rattle.type_table.specs.Zeros.{zero_words}
-use Rattle.typing.specs.Simples.{has_name, has_twice}
+use Rattle.typing_rules.specs.Simples.{has_name, has_twice}
 use Rattle.meaning.specs.Values.{known, words_in, whole}
 use Rattle.meaning.specs.Variables.{Binding, Blocks, in_block, innermost, kind_of, Destination, Nowhere, New, Into}
 use Rattle.meaning.specs.Destinations.{new, defined, all_new, all_defined}

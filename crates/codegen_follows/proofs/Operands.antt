@@ -16,11 +16,11 @@ use Rattle.word.specs.Values.{Request, Panic}
 use Rattle.word.specs.Kinds.{Next}
 use Rattle.type_table.specs.Containment.{fields_of}
 use Rattle.type_table.specs.Scopes.{Scope, Yield, entered}
-use Rattle.checker_base.specs.Worths.{worth}
-use Rattle.checker_base.specs.Expressions.{ExpressionHas, ChannelHas, ValueHas, nodes_of, element_of}
-use Rattle.typing.specs.Operations.{and_also}
-use Rattle.typing.specs.Simples.{SimpleHas, comm_simple}
-use Rattle.typing.specs.Statements.{after_all, after_any, ClausesHave}
+use Rattle.typing_rules.specs.Worths.{worth}
+use Rattle.typing_rules.specs.Expressions.{ExpressionHas, ChannelHas, ValueHas, nodes_of, element_of}
+use Rattle.typing_rules.specs.Operations.{and_also}
+use Rattle.typing_rules.specs.Simples.{SimpleHas, comm_simple}
+use Rattle.typing_rules.specs.Statements.{after_all, after_any, ClausesHave}
 use Rattle.meaning.specs.Values.{Value, words_in}
 use Rattle.meaning.specs.Variables.{Blocks, as_kind}
 use Rattle.meaning.specs.Expressions.{and_then}

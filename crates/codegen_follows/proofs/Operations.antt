@@ -13,8 +13,8 @@ use Rattle.word.specs.Kinds.{Next}
 use Rattle.type_table.specs.Types.{ValueType, IntType, BoolType}
 use Rattle.type_table.specs.Containment.{fields_of}
 use Rattle.type_table.specs.Scopes.{Scope, Yield, NoResult, Yields, is_reserved, number_of, variable_named, function_number, type_in, nothing_declared}
-use Rattle.checker_base.specs.Expressions.{element_of}
-use Rattle.typing.specs.Operations.{Callee, NotDeclared, NoFunction, IsFunction, function_of, callee, CalleeHas, CallHas, OperationHas, ResultHas, YieldHas, result_type, yielded, result_of, made_of, operation_type, is_receive}
+use Rattle.typing_rules.specs.Expressions.{element_of}
+use Rattle.typing_rules.specs.Operations.{Callee, NotDeclared, NoFunction, IsFunction, function_of, callee, CalleeHas, CallHas, OperationHas, ResultHas, YieldHas, result_type, yielded, result_of, made_of, operation_type, is_receive}
 use Rattle.meaning.specs.Values.{known}
 use Rattle.meaning.specs.Variables.{Blocks}
 use Rattle.meaning.specs.Destinations.{number_of as function_named}

@@ -4,11 +4,11 @@ use Rattle.std.specs.Prelude.{option_and_then}
 use Rattle.std.specs.Result.{result_ok}
 use Rattle.syntax.specs.Tree.{Expression, Integer, Named, Parenthesized, Selection, Composite, Unary, Binary, Expressions, NoMore, Behind, expressions_in}
 use Rattle.syntax.specs.Measures.{expression_size}
-use Rattle.checker_base.specs.declared.flaw.Flaw.{Flaw}
+use Rattle.typing_rules.specs.declared.flaw.Flaw.{Flaw}
 use Rattle.type_table.specs.Types.{ValueType}
 use Rattle.type_table.specs.Scopes.{Variable, Scope, Globals}
-use Rattle.checker_base.specs.Worths.{selected_worth, unary_worth, binary_worth, literal_struct, worth}
-use Rattle.checker_base.specs.Expressions.{nodes_of, ValueHas, UnaryHas, BinaryHas, SelectionHas, ValuesFail, FieldsHave, LiteralHas, ConditionHas, ExpressionHas, ExpressionsHave, TestHas}
+use Rattle.typing_rules.specs.Worths.{selected_worth, unary_worth, binary_worth, literal_struct, worth}
+use Rattle.typing_rules.specs.Expressions.{nodes_of, ValueHas, UnaryHas, BinaryHas, SelectionHas, ValuesFail, FieldsHave, LiteralHas, ConditionHas, ExpressionHas, ExpressionsHave, TestHas}
 
 module _ (globals : Globals) (variables : List Variable) (a b n m : ℕ) where
   abbrev pub one : Scope

@@ -6,9 +6,9 @@ use Rattle.word.specs.declared.value.Word.{Word}
 use Rattle.type_table.specs.Types.{ValueType}
 use Rattle.type_table.specs.Containment.{Structs, Selected, behind, field_of}
 use Rattle.type_table.specs.Zeros.{zero_words}
-use Rattle.checker_base.specs.Flaws.{IsBroken}
-use Rattle.checker_base.specs.Worths.{type_of_field}
-use Rattle.typing.specs.Operations.{PathHas, followed}
+use Rattle.typing_rules.specs.Flaws.{IsBroken}
+use Rattle.typing_rules.specs.Worths.{type_of_field}
+use Rattle.typing_rules.specs.Operations.{PathHas, followed}
 use Rattle.meaning.specs.Values.{slot, known, slot_behind, slot_along}
 use Rattle.codegen_base.proofs.Typing.{Free, broken}
 use Rattle.codegen_base.proofs.Fields.{AllWide, Holds, field_held}

@@ -10,8 +10,8 @@ use Rattle.type_table.specs.Types.{ValueType}
 use Rattle.type_table.specs.Containment.{Structs}
 use Rattle.type_table.specs.Scopes.{Variable, Scope, Yield, is_blank, variable_named, later, last_named}
 use Rattle.type_table.specs.Zeros.{zero_words}
-use Rattle.checker_base.specs.Worths.{kind_of as kind_found, type_of_field}
-use Rattle.typing.specs.Operations.{variable_at, followed, selected, place_type, PlaceHas, PathHas, PlacesHave}
+use Rattle.typing_rules.specs.Worths.{kind_of as kind_found, type_of_field}
+use Rattle.typing_rules.specs.Operations.{variable_at, followed, selected, place_type, PlaceHas, PathHas, PlacesHave}
 use Rattle.meaning.specs.Values.{known, Slot, slot, slot_along, whole}
 use Rattle.meaning.specs.Variables.{Blocks, kind_of, Nowhere, Into}
 use Rattle.meaning.specs.Destinations.{place_slot, placed}

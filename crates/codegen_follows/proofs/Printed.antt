@@ -19,10 +19,10 @@ use Rattle.word.specs.Kinds.{Next, Asks}
 use Rattle.type_table.specs.Types.{IntType, BoolType, StructType, ChannelType}
 use Rattle.type_table.specs.Containment.{Structs, fields_of}
 use Rattle.type_table.specs.Scopes.{Scope, Yield}
-use Rattle.checker_base.specs.Flaws.{Nodes}
-use Rattle.checker_base.specs.Worths.{Worth, Typed, Constant, Nil, is_int, worth}
-use Rattle.checker_base.specs.Expressions.{nodes_of, PrintedHas, default_type}
-use Rattle.typing.specs.Simples.{PartsHave}
+use Rattle.typing_rules.specs.Flaws.{Nodes}
+use Rattle.typing_rules.specs.Worths.{Worth, Typed, Constant, Nil, is_int, worth}
+use Rattle.typing_rules.specs.Expressions.{nodes_of, PrintedHas, default_type}
+use Rattle.typing_rules.specs.Simples.{PartsHave}
 use Rattle.meaning.specs.Values.{Value, known}
 use Rattle.meaning.specs.Variables.{Blocks}
 use Rattle.meaning.specs.Expressions.{and_then, word_in}

@@ -46,7 +46,7 @@ use Rattle.codegen_follows.proofs.Begun.{FineBehind, take_front, inner_opened, f
 use Rattle.codegen_follows.proofs.Grown.{grown_statements}
 use Rattle.codegen_follows.proofs.Valued.{Goes}
 use Rattle.codegen_follows.proofs.Follows.{Held, Sitting, Back, Rest, map_reached, end_sits, inner_same, lands}
-use Rattle.checker_base.specs.Expressions.{ExpressionHas, ChannelHas, nodes_of, default_type}
+use Rattle.typing_rules.specs.Expressions.{ExpressionHas, ChannelHas, nodes_of, default_type}
 use Rattle.codegen_follows.proofs.Outers.{has_same, worth_same}
 use Rattle.codegen_follows.proofs.Channels.{Grounds, IsChannel, shape_is, runs, channel_there, channel_goes}
 

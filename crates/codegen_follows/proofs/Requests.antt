@@ -22,10 +22,10 @@ use Rattle.type_table.specs.Types.{ValueType, IntType, BoolType, StructType, Cha
 use Rattle.type_table.specs.Containment.{fields_of}
 use Rattle.type_table.specs.Scopes.{Variable, Scope, Yield, nothing_declared, is_blank, variable_named, type_in}
 use Rattle.type_table.specs.Zeros.{zero_words}
-use Rattle.checker_base.specs.Worths.{Worth, Typed, Constant, Nil, is_int, worth}
-use Rattle.checker_base.specs.Expressions.{nodes_of, ExpressionHas, ValueHas, element_of}
-use Rattle.typing.specs.Simples.{SimpleHas}
-use Rattle.typing.specs.Operations.{MeasuredHas, ReceiveHas, TypeHas, MadeHas, SizeHas, OperationHas, made_of}
+use Rattle.typing_rules.specs.Worths.{Worth, Typed, Constant, Nil, is_int, worth}
+use Rattle.typing_rules.specs.Expressions.{nodes_of, ExpressionHas, ValueHas, element_of}
+use Rattle.typing_rules.specs.Simples.{SimpleHas}
+use Rattle.typing_rules.specs.Operations.{MeasuredHas, ReceiveHas, TypeHas, MadeHas, SizeHas, OperationHas, made_of}
 use Rattle.meaning.specs.Values.{Value, known, words_in}
 use Rattle.meaning.specs.Variables.{Blocks, as_kind}
 use Rattle.meaning.specs.Expressions.{Worked, and_then, word_in}

@@ -15,11 +15,11 @@ use Rattle.type_table.specs.Types.{ValueType, BoolType}
 use Rattle.type_table.specs.Containment.{fields_of}
 use Rattle.type_table.specs.Scopes.{Scope, Yield, NoResult, Yields}
 use Rattle.type_table.specs.Zeros.{zero_words}
-use Rattle.checker_base.specs.Worths.{Worth, Typed, worth}
-use Rattle.checker_base.specs.Expressions.{nodes_of, ValueHas}
-use Rattle.typing.specs.Operations.{Given, given_by, operation_type, result_of, is_receive, CallHas, ReceiveHas}
-use Rattle.typing.specs.Statements.{ReturnHas, ReturnStatementHas}
-use Rattle.typing.proofs.OperationNodes.{operation_positive}
+use Rattle.typing_rules.specs.Worths.{Worth, Typed, worth}
+use Rattle.typing_rules.specs.Expressions.{nodes_of, ValueHas}
+use Rattle.typing_rules.specs.Operations.{Given, given_by, operation_type, result_of, is_receive, CallHas, ReceiveHas}
+use Rattle.typing_rules.specs.Statements.{ReturnHas, ReturnStatementHas}
+use Rattle.typing_rules.proofs.OperationNodes.{operation_positive}
 use Rattle.meaning.specs.Values.{Value, known, words_like}
 use Rattle.meaning.specs.Variables.{Blocks}
 use Rattle.meaning.specs.Destinations.{zero_result, number_of}

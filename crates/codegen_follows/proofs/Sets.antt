@@ -12,11 +12,11 @@ use Rattle.type_table.specs.Types.{ValueType, BoolType}
 use Rattle.type_table.specs.Containment.{fields_of}
 use Rattle.type_table.specs.Scopes.{Globals, Scope, Yield, is_blank}
 use Rattle.type_table.specs.Zeros.{zero_words}
-use Rattle.checker_base.specs.Worths.{Worth, Typed, worth, type_of_field}
-use Rattle.checker_base.specs.Expressions.{nodes_of, ValueHas, DefaultHas, ExpressionsHave, default_type}
-use Rattle.typing.specs.Operations.{Given, given, given_by, given_values, operation_type, is_receive, OperationHas, GoesHas, PlaceHas, PlacesFail, PlacesHave, place_type}
-use Rattle.typing.specs.Simples.{SimpleHas}
-use Rattle.typing.proofs.OperationNodes.{operation_positive}
+use Rattle.typing_rules.specs.Worths.{Worth, Typed, worth, type_of_field}
+use Rattle.typing_rules.specs.Expressions.{nodes_of, ValueHas, DefaultHas, ExpressionsHave, default_type}
+use Rattle.typing_rules.specs.Operations.{Given, given, given_by, given_values, operation_type, is_receive, OperationHas, GoesHas, PlaceHas, PlacesFail, PlacesHave, place_type}
+use Rattle.typing_rules.specs.Simples.{SimpleHas}
+use Rattle.typing_rules.proofs.OperationNodes.{operation_positive}
 use Rattle.meaning.specs.Values.{known}
 use Rattle.meaning.specs.Variables.{Blocks}
 use Rattle.meaning.specs.Destinations.{placed}

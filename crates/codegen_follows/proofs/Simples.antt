@@ -3,13 +3,13 @@ use Rattle.std.proofs.Common.{◌≡◌, ℕ, ◌+◌, ◌==◌, ◌&&◌, List,
 use Rattle.std.specs.Prelude.{if◌then◌else◌}
 use Rattle.syntax.specs.Tree.{TypeExpression, NamedType, ParenthesizedType, Channel, Expression, expressions, Arguments, Operation, Call, Receive, Make, Length, Capacity, Right, RightOperation, Values, Place, Part, Value, Text, Simple, CallAlone, Close, Print, ReceiveAlone, Send, Increment, Decrement, Assign, Define, Update}
 use Rattle.syntax.specs.Measures.{type_size, expression_size, arguments_size, operation_size, part_size, simple_size}
-use Rattle.checker_base.specs.declared.flaw.Flaw.{Flaw}
+use Rattle.typing_rules.specs.declared.flaw.Flaw.{Flaw}
 use Rattle.type_table.specs.Types.{BoolType, ChannelType}
 use Rattle.type_table.specs.Scopes.{Variable, Scope, Globals, type_in}
-use Rattle.checker_base.specs.Worths.{worth}
-use Rattle.checker_base.specs.Expressions.{nodes_of, ValueHas, ChannelHas, ReceivedHas, SentHas, PrintedHas, element_of}
-use Rattle.typing.specs.Operations.{Callee, NotDeclared, NoFunction, IsFunction, callee, CalleeHas, CallHas, TypeHas, MadeHas, SizeHas, IfSizeHas, ReceiveHas, MeasuredHas, OperationHas, made_of, operation_type, is_receive, Given, given_values, given_by, given, RightHas, place_type, PlacesFail, PlacesHave}
-use Rattle.typing.specs.Simples.{PartsHave, UpdatedHas, AssignedHave, SimpleHas}
+use Rattle.typing_rules.specs.Worths.{worth}
+use Rattle.typing_rules.specs.Expressions.{nodes_of, ValueHas, ChannelHas, ReceivedHas, SentHas, PrintedHas, element_of}
+use Rattle.typing_rules.specs.Operations.{Callee, NotDeclared, NoFunction, IsFunction, callee, CalleeHas, CallHas, TypeHas, MadeHas, SizeHas, IfSizeHas, ReceiveHas, MeasuredHas, OperationHas, made_of, operation_type, is_receive, Given, given_values, given_by, given, RightHas, place_type, PlacesFail, PlacesHave}
+use Rattle.typing_rules.specs.Simples.{PartsHave, UpdatedHas, AssignedHave, SimpleHas}
 use Rattle.codegen_follows.proofs.Stands.{DeclaresNone}
 use Rattle.codegen_follows.proofs.Outers.{one, other, worth_same, fail_same, has_same, have_same}
 

@@ -16,10 +16,10 @@ use Rattle.word.specs.Kinds.{Asks}
 use Rattle.word.specs.declared.value.Word.{Word}
 use Rattle.type_table.specs.Types.{ValueType, BoolType, ChannelType}
 use Rattle.type_table.specs.Scopes.{Variable, Scope, Yield, entered, left, last_named}
-use Rattle.checker_base.specs.Expressions.{TestHas}
-use Rattle.typing.specs.Simples.{SimpleHas}
-use Rattle.typing.specs.Statements.{Setting, after, after_all, StatementHas, StatementsHave, OtherwiseHas}
-use Rattle.typing.specs.Operations.{parameters_of}
+use Rattle.typing_rules.specs.Expressions.{TestHas}
+use Rattle.typing_rules.specs.Simples.{SimpleHas}
+use Rattle.typing_rules.specs.Statements.{Setting, after, after_all, StatementHas, StatementsHave, OtherwiseHas}
+use Rattle.typing_rules.specs.Operations.{parameters_of}
 use Rattle.type_table.specs.Zeros.{zero_words}
 use Rattle.meaning.specs.Values.{Value, known, words_in, words_like}
 use Rattle.meaning.specs.Destinations.{zero_result}

@@ -15,11 +15,11 @@ use Rattle.type_table.specs.Types.{ValueType}
 use Rattle.type_table.specs.Containment.{Structs, fields_of}
 use Rattle.type_table.specs.Zeros.{zero_words}
 use Rattle.type_table.specs.Scopes.{Scope, Yield, entered, declared, is_blank, own_variable, last_named}
-use Rattle.checker_base.specs.Worths.{Typed, worth}
-use Rattle.checker_base.specs.Expressions.{ExpressionHas, ChannelHas, nodes_of, element_of}
-use Rattle.typing.specs.Operations.{PlacesHave, PlacesFail}
-use Rattle.typing.specs.Simples.{has_twice, is_declarable, DefinedHave}
-use Rattle.typing.specs.Statements.{item_given, after_for_head}
+use Rattle.typing_rules.specs.Worths.{Typed, worth}
+use Rattle.typing_rules.specs.Expressions.{ExpressionHas, ChannelHas, nodes_of, element_of}
+use Rattle.typing_rules.specs.Operations.{PlacesHave, PlacesFail}
+use Rattle.typing_rules.specs.Simples.{has_twice, is_declarable, DefinedHave}
+use Rattle.typing_rules.specs.Statements.{item_given, after_for_head}
 use Rattle.meaning.specs.Values.{words_in, whole, slot_along}
 use Rattle.meaning.specs.Variables.{Blocks, Destination, Nowhere, New, Into, kind_of}
 use Rattle.meaning.specs.Tasks.{Task, Frames}

@@ -15,10 +15,10 @@ use Rattle.word.specs.Related.{Slips, here as slips_here}
 use Rattle.type_table.specs.Types.{ValueType}
 use Rattle.type_table.specs.Containment.{fields_of}
 use Rattle.type_table.specs.Scopes.{Variable, Scope, Yield, own_variable, type_in}
-use Rattle.checker_base.specs.Expressions.{nodes_of, ValueHas, ExpressionsHave}
-use Rattle.checker_base.specs.Worths.{Typed}
-use Rattle.typing.specs.Operations.{Given, given, given_values, TypeHas, OperationHas}
-use Rattle.typing.specs.Simples.{AllFail, TypedVariablesHave}
+use Rattle.typing_rules.specs.Expressions.{nodes_of, ValueHas, ExpressionsHave}
+use Rattle.typing_rules.specs.Worths.{Typed}
+use Rattle.typing_rules.specs.Operations.{Given, given, given_values, TypeHas, OperationHas}
+use Rattle.typing_rules.specs.Simples.{AllFail, TypedVariablesHave}
 use Rattle.type_table.specs.Zeros.{zero_words}
 use Rattle.meaning.specs.Values.{Value, known}
 use Rattle.meaning.specs.Variables.{Blocks, Destination}

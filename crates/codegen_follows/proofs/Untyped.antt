@@ -13,7 +13,7 @@ use Rattle.word.specs.Values.{Request, Panic}
 use Rattle.word.specs.Kinds.{Next}
 use Rattle.type_table.specs.Containment.{fields_of}
 use Rattle.type_table.specs.Scopes.{Scope, Yield, is_reserved, own_variable}
-use Rattle.typing.specs.Simples.{has_twice, VariablesHave, UntypedVariablesHave}
+use Rattle.typing_rules.specs.Simples.{has_twice, VariablesHave, UntypedVariablesHave}
 use Rattle.meaning.specs.Variables.{Blocks, Destination}
 use Rattle.meaning.specs.Destinations.{given_kinds}
 use Rattle.meaning.specs.Tasks.{Task, Frames}

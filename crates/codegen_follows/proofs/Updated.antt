@@ -20,13 +20,13 @@ use Rattle.type_table.specs.Types.{ValueType, IntType, BoolType, is_int_type, is
 use Rattle.type_table.specs.Containment.{fields_of}
 use Rattle.type_table.specs.Scopes.{Scope, Yield, is_blank}
 use Rattle.type_table.specs.Zeros.{zero_words}
-use Rattle.checker_base.specs.declared.flaw.Misuse.{Misuse}
-use Rattle.checker_base.specs.declared.flaw.Misuse.TheVariants as misuses
-use Rattle.checker_base.specs.Flaws.{Nodes}
-use Rattle.checker_base.specs.Worths.{Worth, Typed, Constant, Nil, is_int, is_equality, is_logical, made_type, is_wrong_right, fit_operator, binary_worth, worth, type_of_field}
-use Rattle.checker_base.specs.Expressions.{nodes_of, ValueHas, ExpressionHas, default_type}
-use Rattle.typing.specs.Operations.{selected, place_type, ReadPlaceHas, PlaceHas, PlacesHave}
-use Rattle.typing.specs.Simples.{MadeHas, UpdatedHas, SimpleHas}
+use Rattle.typing_rules.specs.declared.flaw.Misuse.{Misuse}
+use Rattle.typing_rules.specs.declared.flaw.Misuse.TheVariants as misuses
+use Rattle.typing_rules.specs.Flaws.{Nodes}
+use Rattle.typing_rules.specs.Worths.{Worth, Typed, Constant, Nil, is_int, is_equality, is_logical, made_type, is_wrong_right, fit_operator, binary_worth, worth, type_of_field}
+use Rattle.typing_rules.specs.Expressions.{nodes_of, ValueHas, ExpressionHas, default_type}
+use Rattle.typing_rules.specs.Operations.{selected, place_type, ReadPlaceHas, PlaceHas, PlacesHave}
+use Rattle.typing_rules.specs.Simples.{MadeHas, UpdatedHas, SimpleHas}
 use Rattle.meaning.specs.Values.{Value, Slot, slot, known, words_in, words_at, words_like}
 use Rattle.meaning.specs.Variables.{Blocks, value_of, lookup, scope_in}
 use Rattle.meaning.specs.Expressions.{Worked, binary}

@@ -13,8 +13,8 @@ use Rattle.word.specs.Related.{Slips}
 use Rattle.type_table.specs.Types.{ValueType, BoolType, StructType, ChannelType, IntType, is_bool_type}
 use Rattle.type_table.specs.Containment.{fields_of}
 use Rattle.type_table.specs.Scopes.{Scope, Yield}
-use Rattle.checker_base.specs.Worths.{Worth, Typed, Constant, Nil, worth}
-use Rattle.checker_base.specs.Expressions.{nodes_of, ExpressionHas, ConditionHas, TestHas}
+use Rattle.typing_rules.specs.Worths.{Worth, Typed, Constant, Nil, worth}
+use Rattle.typing_rules.specs.Expressions.{nodes_of, ExpressionHas, ConditionHas, TestHas}
 use Rattle.meaning.specs.Values.{Value}
 use Rattle.meaning.specs.Expressions.{Worked, and_then, word_in, value}
 use Rattle.meaning.specs.Tasks.{Frames}

@@ -18,8 +18,8 @@ use Rattle.type_table.specs.Types.{ValueType}
 use Rattle.type_table.specs.Containment.{fields_of}
 use Rattle.type_table.specs.Scopes.{Scope, Yield, entered}
 use Rattle.type_table.specs.Zeros.{zero_words}
-use Rattle.typing.specs.Simples.{SimpleHas, comm_simple}
-use Rattle.typing.specs.Statements.{after_all, after_any, StatementsHave, ClausesHave}
+use Rattle.typing_rules.specs.Simples.{SimpleHas, comm_simple}
+use Rattle.typing_rules.specs.Statements.{after_all, after_any, StatementsHave, ClausesHave}
 use Rattle.meaning.specs.Variables.{Blocks, Destination}
 use Rattle.meaning.specs.Tasks.{Task, Frames}
 use Rattle.meaning.specs.Source.{globals, ways_of, default_of, comm_zeros, comm_destinations}

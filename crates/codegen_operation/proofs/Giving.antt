@@ -5,9 +5,9 @@ use Rattle.syntax.specs.Tree.{Expression, Operation, Values, RightOperation}
 use Rattle.syntax.specs.Measures.{expression_size}
 use Rattle.type_table.specs.Types.{ValueType, BoolType}
 use Rattle.type_table.specs.Scopes.{Globals, Scope}
-use Rattle.checker_base.specs.Worths.{Typed}
-use Rattle.checker_base.specs.Expressions.{default_type}
-use Rattle.typing.specs.Operations.{Given, given_by, given_values, is_receive, operation_type}
+use Rattle.typing_rules.specs.Worths.{Typed}
+use Rattle.typing_rules.specs.Expressions.{default_type}
+use Rattle.typing_rules.specs.Operations.{Given, given_by, given_values, is_receive, operation_type}
 use Rattle.meaning.specs.Values.{known}
 use Rattle.codegen_base.specs.declared.element.Element.{Element}
 use Rattle.codegen_base.specs.Layouts.{given_types}

@@ -11,9 +11,9 @@ use Rattle.type_table.specs.declared.value_type.ValueType.{ValueType as Kind}
 use Rattle.type_table.specs.Types.{ValueType, element_type}
 use Rattle.type_table.specs.Scopes.{Globals, Scope}
 use Rattle.type_table.specs.Views.{kind_of, signature_of}
-use Rattle.checker_base.specs.Worths.{Worth, Typed, Constant, Nil, worth}
-use Rattle.checker_base.specs.Expressions.{default_type, element_of}
-use Rattle.typing.specs.Operations.{is_receive, parameters_in}
+use Rattle.typing_rules.specs.Worths.{Worth, Typed, Constant, Nil, worth}
+use Rattle.typing_rules.specs.Expressions.{default_type, element_of}
+use Rattle.typing_rules.specs.Operations.{is_receive, parameters_in}
 use Rattle.meaning.specs.Values.{known}
 use Rattle.codegen_base.specs.declared.element.Element.{Element}
 use Rattle.codegen_base.specs.Elements.{shape_of}

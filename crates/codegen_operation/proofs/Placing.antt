@@ -5,7 +5,7 @@ use Rattle.syntax.specs.Tree.{Place}
 use Rattle.type_table.specs.Types.{ValueType}
 use Rattle.type_table.specs.Containment.{Selected}
 use Rattle.type_table.specs.Scopes.{Globals, Scope, is_blank}
-use Rattle.typing.specs.Operations.{selected}
+use Rattle.typing_rules.specs.Operations.{selected}
 use Rattle.codegen_base.specs.declared.element.Element.{Element}
 use Rattle.codegen_base.specs.Statements.{Spot, Dropped, place_spot, spot_of, width}
 

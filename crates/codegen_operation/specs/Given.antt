@@ -3,9 +3,9 @@ use Rattle.std.specs.Prelude.{ℕ, ◌==◌, ◌&&◌, List, [], ◌∷◌, if�
 use Rattle.syntax.specs.Tree.{Expression, Operation}
 use Rattle.type_table.specs.Types.{ValueType, BoolType}
 use Rattle.type_table.specs.Scopes.{Globals, Scope}
-use Rattle.checker_base.specs.Worths.{worth}
-use Rattle.checker_base.specs.Expressions.{default_type}
-use Rattle.typing.specs.Operations.{is_receive, operation_type}
+use Rattle.typing_rules.specs.Worths.{worth}
+use Rattle.typing_rules.specs.Expressions.{default_type}
+use Rattle.typing_rules.specs.Operations.{is_receive, operation_type}
 use Rattle.meaning.specs.Values.{known}
 
 -- the type that a variable takes from an expression

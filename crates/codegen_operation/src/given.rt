@@ -5,9 +5,9 @@ ghost use Rattle.syntax.specs.View.{expression_of, name_of, operation_of, right_
 ghost use Rattle.type_table.specs.Views.{kind_of, yield_of};
 ghost use Rattle.type_table.specs.Visible.{globals_in, scope_of, types_of};
 ghost use Rattle.type_table.specs.Scopes.{type_in};
-ghost use Rattle.checker_base.specs.Expressions.{element_of};
-ghost use Rattle.checker_base.specs.Worths.{worth};
-ghost use Rattle.typing.specs.Operations.{IsFunction, callee, is_other, made_of, operation_type, result_of, result_type};
+ghost use Rattle.typing_rules.specs.Expressions.{element_of};
+ghost use Rattle.typing_rules.specs.Worths.{worth};
+ghost use Rattle.typing_rules.specs.Operations.{IsFunction, callee, is_other, made_of, operation_type, result_of, result_type};
 ghost use Rattle.codegen_base.specs.declared.element.Element.{Element};
 ghost use Rattle.codegen_base.specs.Statements.{right_types};
 ghost use Rattle.codegen_operation.specs.Given.{operation_types, own_type};

@@ -8,7 +8,7 @@ ghost use Rattle.type_table.specs.Visible.{globals_in, scope_of, types_of};
 ghost use Rattle.type_table.specs.Scopes.{type_in};
 ghost use Rattle.meaning.specs.Destinations.{number_of};
 ghost use Rattle.meaning.specs.Values.{known};
-ghost use Rattle.typing.specs.Operations.{is_receive, parameters_of};
+ghost use Rattle.typing_rules.specs.Operations.{is_receive, parameters_of};
 ghost use Rattle.codegen_base.specs.Layouts.{carried};
 ghost use Rattle.codegen_base.specs.Pushes.{pushes_own};
 ghost use Rattle.codegen_base.specs.Statements.{pushes_arguments, pushes_one, pushes_operation, pushes_received, pushes_right, pushes_size};

@@ -4,7 +4,7 @@ ghost use Rattle.std.specs.Prelude.{◌≡◌, ◌∷◌, [], IfOk, List, Some, 
 ghost use Rattle.syntax.specs.View.{name_of, place_of};
 ghost use Rattle.type_table.specs.Views.{kind_of};
 ghost use Rattle.type_table.specs.Visible.{globals_in, scope_of, selected_of, types_of};
-ghost use Rattle.typing.specs.Operations.{followed, selected};
+ghost use Rattle.typing_rules.specs.Operations.{followed, selected};
 ghost use Rattle.type_table.specs.Scopes.{Scope};
 ghost use Rattle.codegen_base.specs.declared.element.Element.{Element};
 ghost use Rattle.codegen_base.specs.Statements.{place_spot, place_spots, spot_of, taken_type, taken_types};

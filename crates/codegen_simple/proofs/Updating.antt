@@ -8,14 +8,14 @@ use Rattle.bytecode.specs.declared.instr.Instr.TheVariants as instrs
 use Rattle.type_table.specs.Types.{ValueType, IntType}
 use Rattle.type_table.specs.Containment.{Selected}
 use Rattle.type_table.specs.Scopes.{Globals, Scope}
-use Rattle.checker_base.specs.Worths.{is_logical, type_of_field, worth}
-use Rattle.typing.specs.Operations.{selected}
+use Rattle.typing_rules.specs.Worths.{is_logical, type_of_field, worth}
+use Rattle.typing_rules.specs.Operations.{selected}
 use Rattle.meaning.specs.Values.{known}
 use Rattle.codegen_base.specs.declared.element.Element.{Element}
 use Rattle.codegen_base.specs.Layouts.{type_of}
 use Rattle.codegen_base.specs.Pushes.{emits, operates, operator_of, pushes}
 use Rattle.codegen_base.specs.Statements.{Spot, loads_spot, spot_of, steps, stores, updates}
-use Rattle.checker_base.specs.Worths.{Typed}
+use Rattle.typing_rules.specs.Worths.{Typed}
 use Rattle.plan.specs.Plan.{Do, Skip}
 use Rattle.codegen_expression.specs.Emission.{Puts}
 use Rattle.codegen_expression.proofs.Emitting.{puts_do}

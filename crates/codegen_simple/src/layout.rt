@@ -5,7 +5,7 @@ ghost use Rattle.syntax.specs.View.{name_of};
 ghost use Rattle.type_table.specs.declared.table.TypeTable.{TypeTable as OneTable};
 ghost use Rattle.type_table.specs.Views.{kind_of};
 ghost use Rattle.type_table.specs.Visible.{Keeps, globals_in, scope_of, types_of};
-ghost use Rattle.typing.specs.Simples.{is_declarable};
+ghost use Rattle.typing_rules.specs.Simples.{is_declarable};
 ghost use Rattle.codegen_base.specs.Layouts.{declaring, declaring_new, empty, entering};
 ghost use Rattle.codegen_simple.specs.Layouts.{layout_of};
 

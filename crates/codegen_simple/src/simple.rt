@@ -7,7 +7,7 @@ ghost use Rattle.type_table.specs.Scopes.{Scope};
 ghost use Rattle.type_table.specs.Views.{kind_of};
 ghost use Rattle.type_table.specs.Visible.{Keeps, globals_in, scope_of, types_of};
 ghost use Rattle.meaning.specs.Destinations.{number_of};
-ghost use Rattle.typing.specs.Operations.{result_of};
+ghost use Rattle.typing_rules.specs.Operations.{result_of};
 ghost use Rattle.codegen_base.specs.Elements.{shape_of};
 ghost use Rattle.codegen_base.specs.Layouts.{behind_simple, carried, declaring_all};
 ghost use Rattle.codegen_base.specs.Pushes.{drops, pushes, pushes_own};

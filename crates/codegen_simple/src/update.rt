@@ -2,7 +2,7 @@
 
 ghost use Rattle.std.specs.Prelude.{◌≡◌, List, OnOk};
 ghost use Rattle.syntax.specs.View.{expression_of, place_of};
-ghost use Rattle.checker_base.specs.Worths.{is_logical, worth};
+ghost use Rattle.typing_rules.specs.Worths.{is_logical, worth};
 ghost use Rattle.type_table.specs.Scopes.{Globals, Scope};
 ghost use Rattle.type_table.specs.Visible.{globals_in, scope_of};
 ghost use Rattle.codegen_base.specs.declared.element.Element.{Element};

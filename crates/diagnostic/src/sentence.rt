@@ -3,11 +3,11 @@
 use crate::declaration::push_within;
 use crate::expected::push_expected;
 use crate::phrase::{Phrase, phrase_of_limit, phrase_of_rule};
-use checker_base::flaw::Flaw;
 use diagnostic_typing::push_flaw;
 use diagnostic_words::words::Words;
 use go_text::{Fault, LimitKind, Place, Rule};
 use std::alloc::Global;
+use typing_rules::flaw::Flaw;
 
 /// How many bytes of a piece of the text a sentence shows at most.
 const MOST_SHOWN: usize = 60;

@@ -4,13 +4,13 @@ use crate::limit::push_exceeded;
 use crate::naming::{last_name, push_refused};
 use crate::statement::push_select;
 use crate::text::Text;
-use checker_base::flaw::Flaw;
 use diagnostic_scope::unit::{Found, Unit, Walk, declared_at};
 use diagnostic_words::words::Words;
 use go_text::Rule;
 use std::alloc::Global;
 use syntax::{DeclaredNode, FunctionNode, Name, NodeId, StatementNode, StructNode, TopNode};
 use type_table::scope::{is_blank, is_reserved};
+use typing_rules::flaw::Flaw;
 
 /// Whether this is the name of a function of a file.
 fn is_function(tops: &[TopNode], name: &[u8]) -> bool {

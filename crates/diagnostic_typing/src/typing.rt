@@ -9,7 +9,6 @@ use crate::fresh::push_no_new;
 use crate::limit::push_size;
 use crate::naming::{push_invisible, push_redeclared, push_unassigned};
 use crate::text::Text;
-use checker_base::flaw::Flaw;
 use checker_base::refusal::Refusal;
 use checker_declaration::table::table_of;
 use diagnostic_scope::given::{Role, parts_of};
@@ -27,6 +26,7 @@ use scanner::{Token, scan};
 use std::alloc::Global;
 use syntax::{FileNode, NodeId};
 use type_table::table::TypeTable;
+use typing_rules::flaw::Flaw;
 
 /// Tells of a condition that is no bool.
 fn push_condition(said: &mut Words, at: &Setting<'_, '_>) {

@@ -3,7 +3,7 @@ use Rattle.std.proofs.Common.{◌≡◌, ℕ, ◌≤◌, ◌⊎◌, inl, inr, Li
 use Rattle.std.specs.Prelude.{IsUtf8}
 use Rattle.parser.proofs.FileLaws.{one_file}
 use Rattle.checker.specs.Faults.{Tells}
-use Rattle.typing.specs.Files.{IsTyped}
+use Rattle.typing_rules.specs.Files.{IsTyped}
 use Rattle.go_text.specs.declared.fault.Fault.{Fault}
 use Rattle.go_text.specs.declared.fault.Fault.TheVariants as faults
 use Rattle.go_text.specs.declared.source.TheConstants.{MAX_LENGTH}

@@ -1,7 +1,7 @@
 -- The program that a text is.
 use Rattle.std.specs.Prelude.{◌≡◌, ℕ, ◌<◌, ◌≤◌, ◌⊎◌, List, Some, Ok, Err, length, take, IsUtf8}
 use Rattle.checker.specs.Faults.{Tells}
-use Rattle.typing.specs.Files.{IsTyped}
+use Rattle.typing_rules.specs.Files.{IsTyped}
 use Rattle.go_text.specs.declared.fault.Fault.{Fault}
 use Rattle.go_text.specs.declared.fault.Fault.TheVariants as faults
 use Rattle.go_text.specs.declared.place.Place.{Place}

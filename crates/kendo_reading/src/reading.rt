@@ -2,7 +2,7 @@
 
 ghost use Rattle.std.specs.Prelude.{◌≡◌, ◌<◌, ◌≤◌, ◌^◌, ◌⊎◌, Ok, Err, IfErr, IfOk, IsUtf8, length};
 ghost use Rattle.checker.specs.Faults.{Tells};
-ghost use Rattle.typing.specs.Files.{IsTyped};
+ghost use Rattle.typing_rules.specs.Files.{IsTyped};
 ghost use Rattle.checker.specs.Trees.{tree_in};
 ghost use Rattle.go_text.specs.Source.{bytes_of};
 ghost use Rattle.go_text.specs.declared.fault.Fault.{Fault as OneFault};

@@ -5,8 +5,8 @@ use Rattle.syntax.specs.Tree.{TypeExpression, Expression, Right, Place, Function
 use Rattle.type_table.specs.Types.{ValueType}
 use Rattle.type_table.specs.Scopes.{Globals, Yield, NoResult, Yields, is_blank, function_number, nothing_declared, type_in}
 use Rattle.type_table.specs.Zeros.{zero_words}
-use Rattle.checker_base.specs.Expressions.{default_type, element_of}
-use Rattle.typing.specs.Operations.{Given, given}
+use Rattle.typing_rules.specs.Expressions.{default_type, element_of}
+use Rattle.typing_rules.specs.Operations.{Given, given}
 use Rattle.meaning.specs.Values.{Value, Slot, known, whole, slot_along}
 use Rattle.meaning.specs.Variables.{Blocks, scope_in, lookup, innermost, in_block, kind_of, Destination, Nowhere, New, Into}
 use Rattle.meaning.specs.Expressions.{worth_of}

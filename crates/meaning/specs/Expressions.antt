@@ -15,8 +15,8 @@ use Rattle.word.specs.Apply.{Valued, value as applied}
 use Rattle.type_table.specs.Types.{ValueType}
 use Rattle.type_table.specs.Scopes.{Globals, is_truth, is_nil}
 use Rattle.type_table.specs.Zeros.{zero_words}
-use Rattle.checker_base.specs.Worths.{Worth, Typed, Constant, Nil, is_equality, is_order, worth}
-use Rattle.checker_base.specs.Expressions.{default_type}
+use Rattle.typing_rules.specs.Worths.{Worth, Typed, Constant, Nil, is_equality, is_order, worth}
+use Rattle.typing_rules.specs.Expressions.{default_type}
 use Rattle.meaning.specs.Values.{Value, known, whole, field_slot, words_at}
 use Rattle.meaning.specs.Variables.{Blocks, scope_in, lookup, value_of}
 

@@ -22,8 +22,8 @@ use Rattle.type_table.specs.Types.{ValueType, BoolType, element_type}
 use Rattle.type_table.specs.Containment.{Field}
 use Rattle.type_table.specs.Scopes.{Globals}
 use Rattle.type_table.specs.Zeros.{zero_words}
-use Rattle.typing.specs.Operations.{result_of}
-use Rattle.typing.specs.Kinds.{fields_declared, globals_of}
+use Rattle.typing_rules.specs.Operations.{result_of}
+use Rattle.typing_rules.specs.Kinds.{fields_declared, globals_of}
 use Rattle.meaning.specs.Values.{Value, known, words_at}
 use Rattle.meaning.specs.Variables.{Blocks, entered, declare, left, lookup, innermost, in_block, value_of, blank, as_kind, holding, Destination, all_stored}
 use Rattle.meaning.specs.Expressions.{Worked, and_then, word_in, binary, type_of, value, values}

@@ -9,7 +9,7 @@ use Rattle.type_table.specs.Scopes.{Globals}
 use Rattle.type_table.specs.Views.{signature_of}
 use Rattle.type_table.specs.Visible.{globals_in, types_of}
 use Rattle.type_table.specs.declared.table.TypeTable.{TypeTable}
-use Rattle.typing.specs.Kinds.{globals_of, signatures, type_names}
+use Rattle.typing_rules.specs.Kinds.{globals_of, signatures, type_names}
 use Rattle.meaning.specs.Source.{globals, split, zero_of}
 use Rattle.meaning.specs.Values.{known}
 use Rattle.word.specs.declared.value.Word.{Word}

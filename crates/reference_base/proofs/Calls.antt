@@ -7,8 +7,8 @@ use Rattle.syntax.specs.Tree.{File, Function}
 use Rattle.type_table.specs.Types.{ValueType}
 use Rattle.type_table.specs.Containment.{Field}
 use Rattle.type_table.specs.Scopes.{Globals}
-use Rattle.typing.specs.Kinds.{all_fields}
-use Rattle.typing.specs.Operations.{result_of}
+use Rattle.typing_rules.specs.Kinds.{all_fields}
+use Rattle.typing_rules.specs.Operations.{result_of}
 use Rattle.meaning.specs.Destinations.{zero_result}
 use Rattle.meaning.specs.Source.{bound, called, calls, functions, globals as globals_in}
 use Rattle.meaning.specs.Tasks.{Task, Await, Purpose, Frame, Frames, frame}

@@ -4,7 +4,7 @@ ghost use Rattle.std.specs.Prelude.{◌≡◌, ◌^◌, ◌<◌, Some, IfSome, l
 ghost use Rattle.syntax.specs.View.{file_of};
 ghost use Rattle.type_table.specs.Scopes.{function_number};
 ghost use Rattle.type_table.specs.Visible.{globals_in};
-ghost use Rattle.typing.specs.Kinds.{globals_of};
+ghost use Rattle.typing_rules.specs.Kinds.{globals_of};
 ghost use Rattle.meaning.specs.Destinations.{number_of};
 ghost use Rattle.meaning.specs.Source.{globals};
 ghost use Rattle.reference_base.specs.Codes.{one_globals};

@@ -4,8 +4,8 @@ use Rattle.std.proofs.lemmas.Grind.{common_steps}
 use Rattle.syntax.specs.Tree.{Expression}
 use Rattle.syntax.specs.Measures.{expression_size}
 use Rattle.type_table.specs.Scopes.{Globals, Scope, nothing_declared, type_named, variable_named}
-use Rattle.checker_base.specs.Expressions.{default_type}
-use Rattle.typing.specs.Operations.{Given, given_values}
+use Rattle.typing_rules.specs.Expressions.{default_type}
+use Rattle.typing_rules.specs.Operations.{Given, given_values}
 use Rattle.meaning.specs.Expressions.{type_of}
 use Rattle.meaning.specs.Values.{known}
 use Rattle.meaning.specs.Variables.{Blocks, scope_in}

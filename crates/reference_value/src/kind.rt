@@ -5,9 +5,9 @@ ghost use Rattle.syntax.specs.View.{expression_of, name_of, operation_of, right_
 ghost use Rattle.type_table.specs.Scopes.{type_in};
 ghost use Rattle.type_table.specs.Views.{kind_of, yield_of};
 ghost use Rattle.type_table.specs.Visible.{types_of, globals_in};
-ghost use Rattle.checker_base.specs.Expressions.{default_type, element_of};
+ghost use Rattle.typing_rules.specs.Expressions.{default_type, element_of};
 ghost use Rattle.checker_base.specs.Views.{worth_of};
-ghost use Rattle.typing.specs.Operations.{callee, is_other, is_receive, operation_type, result_of, result_type, yielded};
+ghost use Rattle.typing_rules.specs.Operations.{callee, is_other, is_receive, operation_type, result_of, result_type, yielded};
 ghost use Rattle.meaning.specs.Destinations.{element_kind, given_kinds, written_kind};
 ghost use Rattle.meaning.specs.Expressions.{type_of as kind_meant};
 ghost use Rattle.meaning.specs.Values.{known};

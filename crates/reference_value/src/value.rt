@@ -4,7 +4,7 @@ ghost use Rattle.std.specs.Prelude.{◌≡◌, ◌||◌, ◌∷◌, [], ℕ, Lis
 ghost use Rattle.syntax.specs.Tree.{expressions};
 ghost use Rattle.syntax.specs.View.{expression_of};
 ghost use Rattle.type_table.specs.Visible.{types_of, globals_in};
-ghost use Rattle.checker_base.specs.Worths.{is_equality, is_order};
+ghost use Rattle.typing_rules.specs.Worths.{is_equality, is_order};
 ghost use Rattle.word.specs.Apply.{value as applied};
 ghost use Rattle.type_table.specs.Zeros.{zero_words};
 ghost use Rattle.meaning.specs.Expressions.{before, between, fields, one_word, operator_at, selected, type_of, value, values, word_in};

@@ -6,7 +6,7 @@ ghost use Rattle.std.specs.Result.{result_ok};
 ghost use Rattle.syntax.specs.View.{expression_of};
 ghost use Rattle.type_table.specs.Scopes.{variable_named};
 ghost use Rattle.type_table.specs.Visible.{types_of, globals_in};
-ghost use Rattle.checker_base.specs.Worths.{named_worth, selected_worth, literal_struct, unary_worth, binary_worth, worth};
+ghost use Rattle.typing_rules.specs.Worths.{named_worth, selected_worth, literal_struct, unary_worth, binary_worth, worth};
 ghost use Rattle.checker_base.specs.Views.{worth_of, IsSmall};
 ghost use Rattle.meaning.specs.Variables.{scope_in};
 ghost use Rattle.reference_value.specs.Scopes.{blocks_of, variable_in};

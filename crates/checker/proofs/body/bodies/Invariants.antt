@@ -2,9 +2,9 @@ use Rattle.std.proofs.Common.{◌≡◌, ◌+◌, drop, map, sum_by}
 use Rattle.syntax.specs.Measures.{top_size}
 use Rattle.syntax.specs.View.{top_of}
 use Rattle.type_table.specs.Visible.{types_of, globals_in}
-use Rattle.checker_base.specs.declared.flaw.Flaw.{Flaw}
+use Rattle.typing_rules.specs.declared.flaw.Flaw.{Flaw}
 use Rattle.checker_declaration.specs.Heads.{HeadsHave}
-use Rattle.typing.specs.Files.{BodiesHave}
+use Rattle.typing_rules.specs.Files.{BodiesHave}
 use Rattle.checker.proofs.body.bodies.Given as goal
 
 -- what is left shows what all show

@@ -4,9 +4,9 @@ use Rattle.syntax.specs.Measures.{statements_size}
 use Rattle.syntax.specs.View.{body_of, function_of}
 use Rattle.type_table.specs.Views.{field_in, yield_of as yield_in}
 use Rattle.type_table.specs.Visible.{types_of, globals_in, scope_of}
-use Rattle.typing.specs.Kinds.{yield_of, fields_declared, parameters}
-use Rattle.typing.specs.Declarations.{HeadHas}
-use Rattle.typing.specs.Files.{BodyIn, BodyHas}
+use Rattle.typing_rules.specs.Kinds.{yield_of, fields_declared, parameters}
+use Rattle.typing_rules.specs.Declarations.{HeadHas}
+use Rattle.typing_rules.specs.Files.{BodyIn, BodyHas}
 use Rattle.checker_declaration.proofs.Declared.{refuses_more}
 use Rattle.checker.proofs.Bodies.{inside, body_has, body_in}
 use Rattle.checker.proofs.body.body.Goals as goal

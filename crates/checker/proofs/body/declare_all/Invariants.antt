@@ -1,7 +1,7 @@
 use Rattle.std.proofs.Common.{◌≡◌, map, drop}
 use Rattle.type_table.specs.Views.{field_in}
 use Rattle.type_table.specs.Visible.{types_of, globals_in, scope_of}
-use Rattle.typing.specs.Kinds.{with_fields}
+use Rattle.typing_rules.specs.Kinds.{with_fields}
 use Rattle.checker.proofs.body.declare_all.Given as goal
 
 abbrev pub invariant-loop-parameter : goal.invariant-loop-parameter

@@ -2,9 +2,9 @@ use Rattle.std.proofs.Common.{rules, ◌≡◌, ◌⊎◌, true, map, ap}
 use Rattle.std.proofs.lemmas.Result.{IfOk-weaker, IfErr-weaker}
 use Rattle.syntax.specs.View.{top_of, file_of}
 use Rattle.type_table.specs.Visible.{globals_in}
-use Rattle.typing.specs.Files.{BodiesHave, has_main, FileHas}
+use Rattle.typing_rules.specs.Files.{BodiesHave, has_main, FileHas}
 use Rattle.checker_declaration.specs.Heads.{HeadsHave}
-use Rattle.typing.specs.Kinds.{globals_of}
+use Rattle.typing_rules.specs.Kinds.{globals_of}
 use Rattle.checker_declaration.proofs.Declared.{refuses_more}
 use Rattle.checker.proofs.Bodies.{bodies_have, file_fine}
 use Rattle.checker.proofs.file.check_file.Goals as goal

@@ -1,8 +1,8 @@
 use Rattle.std.proofs.Common.{subst}
 use Rattle.syntax.specs.Spans.{tree_of}
 use Rattle.syntax.specs.Tree.{File}
-use Rattle.checker_base.specs.declared.flaw.Flaw.{Flaw}
-use Rattle.typing.specs.Files.{FileHas}
+use Rattle.typing_rules.specs.declared.flaw.Flaw.{Flaw}
+use Rattle.typing_rules.specs.Files.{FileHas}
 use Rattle.checker.proofs.Bodies.{typed_of_none}
 use Rattle.checker.proofs.Nodes.{file_within}
 use Rattle.checker.proofs.tree.check.Goals as goal

@@ -7,9 +7,9 @@ use Rattle.syntax.specs.Tree.{Composite, expressions}
 use Rattle.syntax.specs.View.{name_of, expression_of}
 use Rattle.type_table.specs.Views.{field_in}
 use Rattle.type_table.specs.Visible.{types_of, globals_in, scope_of}
-use Rattle.checker_base.specs.Worths.{literal_struct, worth}
+use Rattle.typing_rules.specs.Worths.{literal_struct, worth}
 use Rattle.checker_base.specs.Views.{kind_in}
-use Rattle.checker_base.specs.Expressions.{ExpressionsHave, ValuesFail, field_kinds, nodes_of}
+use Rattle.typing_rules.specs.Expressions.{ExpressionsHave, ValuesFail, field_kinds, nodes_of}
 use Rattle.checker_base.proofs.Literals.{is_none, is_some, no_fields, number_has, value_has, narrows-end, next_field, found_next, passed_next, fits_next, fields_agree, composite_has, composite_in, literal_free, literal_flawed}
 use Rattle.checker_base.proofs.operand.+checked.Goals as goal
 

@@ -4,8 +4,8 @@ use Rattle.syntax.specs.Measures.{expressions_size}
 use Rattle.syntax.specs.View.{expression_of}
 use Rattle.type_table.specs.Views.{field_in}
 use Rattle.type_table.specs.Visible.{types_of, globals_in, scope_of}
-use Rattle.checker_base.specs.declared.flaw.Flaw.{Flaw}
-use Rattle.checker_base.specs.Expressions.{ExpressionsHave, ValuesFail, field_kinds}
+use Rattle.typing_rules.specs.declared.flaw.Flaw.{Flaw}
+use Rattle.typing_rules.specs.Expressions.{ExpressionsHave, ValuesFail, field_kinds}
 use Rattle.checker_base.proofs.Literals.{Narrows}
 use Rattle.checker_base.proofs.operand.+checked.Given as goal
 

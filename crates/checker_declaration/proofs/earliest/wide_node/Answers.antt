@@ -1,6 +1,6 @@
 use Rattle.std.proofs.Common.{◌≡◌, ℕ, List, map, subst}
 use Rattle.syntax.specs.View.{top_of}
-use Rattle.typing.specs.Kinds.{structs_with, structs}
+use Rattle.typing_rules.specs.Kinds.{structs_with, structs}
 use Rattle.checker_declaration.specs.Parts.{structs_in}
 use Rattle.checker_declaration.proofs.KnownWidths.{if_too_wide}
 use Rattle.checker_declaration.proofs.earliest.wide_node.Goals as goal

@@ -1,7 +1,7 @@
 use Rattle.std.proofs.Common.{◌≡◌, ℕ, ◌++◌, Some, List, map, take}
 use Rattle.syntax.specs.View.{name_of}
 use Rattle.type_table.specs.Views.{kind_of, field_in}
-use Rattle.typing.specs.Kinds.{all_fields}
+use Rattle.typing_rules.specs.Kinds.{all_fields}
 use Rattle.checker_declaration.proofs.group.declare.Given as goal
 
 abbrev pub invariant-loop-name : goal.invariant-loop-name

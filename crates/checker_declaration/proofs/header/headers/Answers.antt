@@ -5,9 +5,9 @@ use Rattle.std.proofs.lemmas.Result.{err_from_is_err_and}
 use Rattle.syntax.specs.Measures.{top_size}
 use Rattle.syntax.specs.View.{top_of}
 use Rattle.type_table.specs.Views.{signature_of, function_names as names_in}
-use Rattle.typing.specs.Kinds.{function_name, function_names, signature_in, signatures}
-use Rattle.checker_base.specs.declared.flaw.Flaw.{Flaw}
-use Rattle.typing.specs.Declarations.{TopHeaderHas, HeadersHave}
+use Rattle.typing_rules.specs.Kinds.{function_name, function_names, signature_in, signatures}
+use Rattle.typing_rules.specs.declared.flaw.Flaw.{Flaw}
+use Rattle.typing_rules.specs.Declarations.{TopHeaderHas, HeadersHave}
 use Rattle.checker_declaration.proofs.Declared.{refuses_more}
 use Rattle.checker_declaration.proofs.Tops.{header_found, header_passed, one_more}
 use Rattle.checker_declaration.proofs.header.headers.Goals as goal

@@ -2,9 +2,9 @@ use Rattle.std.proofs.Common.{◌≡◌, ◌+◌, ◌++◌, length, drop, map, s
 use Rattle.syntax.specs.Measures.{top_size}
 use Rattle.syntax.specs.View.{top_of}
 use Rattle.type_table.specs.Views.{signature_of, function_names as names_in}
-use Rattle.checker_base.specs.declared.flaw.Flaw.{Flaw}
-use Rattle.typing.specs.Kinds.{function_names, signatures}
-use Rattle.typing.specs.Declarations.{HeadersHave}
+use Rattle.typing_rules.specs.declared.flaw.Flaw.{Flaw}
+use Rattle.typing_rules.specs.Kinds.{function_names, signatures}
+use Rattle.typing_rules.specs.Declarations.{HeadersHave}
 use Rattle.checker_declaration.proofs.header.headers.Given as goal
 
 -- what is left shows what all show

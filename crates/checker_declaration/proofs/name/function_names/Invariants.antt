@@ -1,6 +1,6 @@
 use Rattle.std.proofs.Common.{◌≡◌, ◌++◌, drop, map}
 use Rattle.syntax.specs.View.{top_of}
-use Rattle.typing.specs.Kinds.{function_names}
+use Rattle.typing_rules.specs.Kinds.{function_names}
 use Rattle.checker_declaration.proofs.name.function_names.Given as goal
 
 abbrev pub invariant-loop-top : goal.invariant-loop-top

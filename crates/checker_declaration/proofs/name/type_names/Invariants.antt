@@ -1,6 +1,6 @@
 use Rattle.std.proofs.Common.{◌≡◌, ◌++◌, drop, map}
 use Rattle.syntax.specs.View.{top_of}
-use Rattle.typing.specs.Kinds.{type_names}
+use Rattle.typing_rules.specs.Kinds.{type_names}
 use Rattle.checker_declaration.proofs.name.type_names.Given as goal
 
 abbrev pub invariant-loop-top : goal.invariant-loop-top

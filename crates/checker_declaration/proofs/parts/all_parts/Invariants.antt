@@ -1,6 +1,6 @@
 use Rattle.std.proofs.Common.{◌≡◌, ◌++◌, map, drop}
 use Rattle.syntax.specs.View.{top_of}
-use Rattle.typing.specs.Kinds.{structs_with}
+use Rattle.typing_rules.specs.Kinds.{structs_with}
 use Rattle.checker_declaration.specs.Parts.{structs_in}
 use Rattle.checker_declaration.proofs.parts.all_parts.Given as goal
 

@@ -1,6 +1,6 @@
 use Rattle.std.proofs.Common.{◌≡◌, ◌++◌, map, drop}
 use Rattle.syntax.specs.View.{declared_of}
-use Rattle.typing.specs.Kinds.{fields_declared}
+use Rattle.typing_rules.specs.Kinds.{fields_declared}
 use Rattle.checker_declaration.specs.Parts.{fields_in}
 use Rattle.checker_declaration.proofs.parts.part_list.Given as goal
 

@@ -1,7 +1,7 @@
 use Rattle.std.proofs.Common.{◌≡◌, ◌++◌, option_map, map, take}
 use Rattle.syntax.specs.View.{name_of}
 use Rattle.type_table.specs.Views.{kind_of}
-use Rattle.typing.specs.Kinds.{all_fields}
+use Rattle.typing_rules.specs.Kinds.{all_fields}
 use Rattle.checker_declaration.specs.Parts.{fields_in}
 use Rattle.checker_declaration.proofs.parts.push_group.Given as goal
 

@@ -3,8 +3,8 @@ use Rattle.std.proofs.lemmas.List.{length-map}
 use Rattle.syntax.specs.View.{top_of}
 use Rattle.type_table.specs.Containment.{Structs, Holds}
 use Rattle.type_table.specs.Views.{names_of, fields_of_entry, structs_of}
-use Rattle.typing.specs.Declarations.{struct_node}
-use Rattle.typing.proofs.Contents.{past_structs, holds_there, got_there, narrow_contents}
+use Rattle.typing_rules.specs.Declarations.{struct_node}
+use Rattle.typing_rules.proofs.Contents.{past_structs, holds_there, got_there, narrow_contents}
 use Rattle.checker_declaration.proofs.sizes.narrow_widths.Goals as goal
 
 pub unreachable-requires : goal.unreachable-requires

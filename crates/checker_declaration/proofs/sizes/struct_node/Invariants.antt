@@ -1,7 +1,7 @@
 use Rattle.std.proofs.Common.{◌≡◌, ◌+◌, drop, map, sum_by}
 use Rattle.syntax.specs.Measures.{top_size}
 use Rattle.syntax.specs.View.{top_of}
-use Rattle.typing.specs.Declarations.{struct_node}
+use Rattle.typing_rules.specs.Declarations.{struct_node}
 use Rattle.checker_declaration.proofs.sizes.struct_node.Given as goal
 
 abbrev pub invariant-loop-top : goal.invariant-loop-top

@@ -1,7 +1,7 @@
 use Rattle.std.proofs.Common.{rules, ◌≡◌, false, arith}
 use Rattle.std.proofs.lemmas.Result.{IfOk-weaker}
 use Rattle.syntax.specs.View.{struct_of}
-use Rattle.typing.specs.Declarations.{is_type_taken}
+use Rattle.typing_rules.specs.Declarations.{is_type_taken}
 use Rattle.checker_declaration.proofs.Declared.{struct_fine}
 use Rattle.checker_declaration.proofs.structs.struct_entry.Goals as goal
 

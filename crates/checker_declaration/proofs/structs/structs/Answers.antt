@@ -5,9 +5,9 @@ use Rattle.std.proofs.lemmas.Result.{err_from_is_err_and}
 use Rattle.syntax.specs.Measures.{top_size}
 use Rattle.syntax.specs.View.{top_of}
 use Rattle.type_table.specs.Views.{names_of, structs_of}
-use Rattle.typing.specs.Kinds.{struct_in, structs_with, type_name, type_names}
-use Rattle.checker_base.specs.declared.flaw.Flaw.{Flaw}
-use Rattle.typing.specs.Declarations.{TopStructHas, StructsHave}
+use Rattle.typing_rules.specs.Kinds.{struct_in, structs_with, type_name, type_names}
+use Rattle.typing_rules.specs.declared.flaw.Flaw.{Flaw}
+use Rattle.typing_rules.specs.Declarations.{TopStructHas, StructsHave}
 use Rattle.checker_declaration.proofs.Declared.{refuses_more}
 use Rattle.checker_declaration.proofs.Tops.{one_more, struct_found, struct_passed}
 use Rattle.checker_declaration.proofs.structs.structs.Goals as goal

@@ -2,9 +2,9 @@ use Rattle.std.proofs.Common.{◌≡◌, ◌+◌, ◌++◌, length, drop, map, s
 use Rattle.syntax.specs.Measures.{top_size}
 use Rattle.syntax.specs.View.{top_of}
 use Rattle.type_table.specs.Views.{names_of, structs_of}
-use Rattle.checker_base.specs.declared.flaw.Flaw.{Flaw}
-use Rattle.typing.specs.Kinds.{type_names, structs_with}
-use Rattle.typing.specs.Declarations.{StructsHave}
+use Rattle.typing_rules.specs.declared.flaw.Flaw.{Flaw}
+use Rattle.typing_rules.specs.Kinds.{type_names, structs_with}
+use Rattle.typing_rules.specs.Declarations.{StructsHave}
 use Rattle.checker_declaration.proofs.structs.structs.Given as goal
 
 -- what is left shows what all show

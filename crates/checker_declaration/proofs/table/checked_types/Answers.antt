@@ -2,8 +2,8 @@ use Rattle.std.proofs.Common.{◌≡◌, map}
 use Rattle.std.proofs.lemmas.Result.{err_from_is_err_and}
 use Rattle.syntax.specs.View.{top_of}
 use Rattle.type_table.specs.Views.{names_of, structs_of}
-use Rattle.typing.specs.Kinds.{structs}
-use Rattle.typing.specs.Declarations.{StructsHave, ContentsHave, TypesHave}
+use Rattle.typing_rules.specs.Kinds.{structs}
+use Rattle.typing_rules.specs.Declarations.{StructsHave, ContentsHave, TypesHave}
 use Rattle.checker_declaration.proofs.Declared.{refuses_more, contents_have, singles_have, types_fine, same_structs}
 use Rattle.checker_declaration.proofs.table.checked_types.Goals as goal
 

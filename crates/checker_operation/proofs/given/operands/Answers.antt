@@ -7,8 +7,8 @@ use Rattle.syntax.specs.Measures.{expression_size}
 use Rattle.syntax.specs.Tree.{expressions}
 use Rattle.syntax.specs.View.{expression_of}
 use Rattle.type_table.specs.Visible.{types_of, globals_in, scope_of}
-use Rattle.checker_base.specs.declared.flaw.Flaw.{Flaw}
-use Rattle.checker_base.specs.Expressions.{ExpressionsHave}
+use Rattle.typing_rules.specs.declared.flaw.Flaw.{Flaw}
+use Rattle.typing_rules.specs.Expressions.{ExpressionsHave}
 use Rattle.checker_base.proofs.Literals.{found_next, passed_next}
 use Rattle.checker_operation.specs.Givens.{given_of}
 use Rattle.checker_operation.proofs.Givens.{given_next}

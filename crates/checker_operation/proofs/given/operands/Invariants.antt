@@ -2,9 +2,9 @@ use Rattle.std.proofs.Common.{◌≡◌, ◌+◌, ◌++◌, drop, map, sum_by}
 use Rattle.syntax.specs.Tree.{expressions}
 use Rattle.syntax.specs.Measures.{expression_size}
 use Rattle.syntax.specs.View.{expression_of}
-use Rattle.checker_base.specs.declared.flaw.Flaw.{Flaw}
-use Rattle.checker_base.specs.Expressions.{ExpressionsHave}
-use Rattle.typing.specs.Operations.{given_values}
+use Rattle.typing_rules.specs.declared.flaw.Flaw.{Flaw}
+use Rattle.typing_rules.specs.Expressions.{ExpressionsHave}
+use Rattle.typing_rules.specs.Operations.{given_values}
 use Rattle.type_table.specs.Visible.{types_of, globals_in, scope_of}
 use Rattle.checker_operation.specs.Givens.{given_of}
 use Rattle.checker_operation.proofs.given.operands.Given as goal

@@ -3,7 +3,7 @@ use Rattle.std.proofs.lemmas.Result.{IfOk-weaker, IfErr-weaker}
 use Rattle.syntax.specs.View.{name_of, place_of}
 use Rattle.type_table.specs.Scopes.{is_blank}
 use Rattle.type_table.specs.Visible.{types_of, globals_in, scope_of}
-use Rattle.typing.specs.Operations.{place_type}
+use Rattle.typing_rules.specs.Operations.{place_type}
 use Rattle.checker_operation.specs.Givens.{given_of}
 use Rattle.checker_operation.proofs.Goes.{goes-same}
 use Rattle.checker_operation.proofs.place.place_takes.Goals as goal

@@ -2,7 +2,7 @@ use Rattle.std.proofs.Common.{rules}
 use Rattle.syntax.specs.View.{name_of}
 use Rattle.type_table.specs.Scopes.{own_variable}
 use Rattle.type_table.specs.Visible.{types_of, scope_of}
-use Rattle.checker_base.specs.Worths.{kind_of}
+use Rattle.typing_rules.specs.Worths.{kind_of}
 use Rattle.checker_simple.proofs.names.define.Goals as goal
 
 pub returns-in_err-kind-clause-one : goal.returns-in_err-kind-clause-one

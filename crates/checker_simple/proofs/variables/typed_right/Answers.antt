@@ -3,7 +3,7 @@ use Rattle.syntax.specs.Measures.{right_size}
 use Rattle.syntax.specs.View.{right_of}
 use Rattle.type_table.specs.Views.{kind_of}
 use Rattle.type_table.specs.Visible.{types_of, globals_in, scope_of}
-use Rattle.typing.specs.Operations.{given}
+use Rattle.typing_rules.specs.Operations.{given}
 use Rattle.checker_simple.proofs.Wholes.{right-none}
 use Rattle.checker_simple.proofs.variables.typed_right.Goals as goal
 

@@ -7,10 +7,10 @@ use Rattle.syntax.specs.Measures.{statement_size}
 use Rattle.syntax.specs.View.{expression_of, body_of, statement_of, if_head_of, for_head_of, otherwise_of, clause_of, clauses}
 use Rattle.type_table.specs.Scopes.{Scope, entered, left}
 use Rattle.type_table.specs.Visible.{globals_in, scope_of, Keeps, Leaves}
-use Rattle.checker_base.specs.declared.flaw.Flaw.{Flaw}
+use Rattle.typing_rules.specs.declared.flaw.Flaw.{Flaw}
 use Rattle.checker_base.specs.Views.{Refuses}
 use Rattle.checker_statement.specs.Settings.{setting_in}
-use Rattle.typing.specs.Statements.{StatementHas, StatementsHave, PartsHave, ClauseHas, ClausesHave, after_all, after_parts, after_clause, after_for_head}
+use Rattle.typing_rules.specs.Statements.{StatementHas, StatementsHave, PartsHave, ClauseHas, ClausesHave, after_all, after_parts, after_clause, after_for_head}
 use Rattle.checker_statement.proofs.Defaults.{two_defaults}
 use Rattle.checker_statement.proofs.Further.{few_defaults, keeps_on, keeps_same, keeps_left, always, refuses_more, block_left, found_next, passed_next, found_clause, passed_clause}
 use Rattle.checker_statement.proofs.statement.+statement.Goals as goal

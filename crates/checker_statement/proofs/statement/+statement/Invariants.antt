@@ -2,8 +2,8 @@ use Rattle.std.proofs.Common.{◌≡◌, ◌+◌, ◌<◌, drop, map}
 use Rattle.syntax.specs.Measures.{statements_size, clauses_size}
 use Rattle.syntax.specs.View.{body_of, clause_of, clauses}
 use Rattle.type_table.specs.Visible.{globals_in, scope_of, Keeps, Leaves}
-use Rattle.checker_base.specs.declared.flaw.Flaw.{Flaw}
-use Rattle.typing.specs.Statements.{StatementsHave, ClausesHave, after_all, after_clauses, default_count}
+use Rattle.typing_rules.specs.declared.flaw.Flaw.{Flaw}
+use Rattle.typing_rules.specs.Statements.{StatementsHave, ClausesHave, after_all, after_clauses, default_count}
 use Rattle.checker_statement.specs.Settings.{setting_in}
 use Rattle.checker_statement.proofs.statement.+statement.Given as goal
 

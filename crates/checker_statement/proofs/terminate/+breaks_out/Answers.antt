@@ -1,6 +1,6 @@
 use Rattle.std.proofs.Common.{◌≡◌, ◌∷◌, ◌+◌, suc, false, drop, drop-cons, sym, ◌∙◌, arith}
 use Rattle.syntax.specs.View.{statement_of}
-use Rattle.typing.specs.Terminating.{breaks_out}
+use Rattle.typing_rules.specs.Terminating.{breaks_out}
 use Rattle.checker_statement.proofs.terminate.+breaks_out.Goals as goal
 
 pub some_breaks_out-loop-statement-preserved : goal.some_breaks_out-loop-statement-preserved

@@ -1,6 +1,6 @@
 use Rattle.std.proofs.Common.{◌≡◌, drop}
 use Rattle.syntax.specs.View.{body_of}
-use Rattle.typing.specs.Terminating.{some_breaks_out}
+use Rattle.typing_rules.specs.Terminating.{some_breaks_out}
 use Rattle.checker_statement.proofs.terminate.+breaks_out.Given as goal
 
 abbrev pub invariant-some_breaks_out-loop-statement : goal.invariant-some_breaks_out-loop-statement

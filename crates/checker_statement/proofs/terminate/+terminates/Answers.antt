@@ -1,7 +1,7 @@
 use Rattle.std.proofs.Common.{◌≡◌, [], ◌∷◌, ◌+◌, suc, true, false, not, ◌&&◌, map, drop, drop-cons, sym, ◌∙◌, arith}
 use Rattle.std.proofs.lemmas.List.{drop_all}
 use Rattle.syntax.specs.View.{clause_of, clauses}
-use Rattle.typing.specs.Terminating.{some_breaks_out, last_terminates, clauses_terminate}
+use Rattle.typing_rules.specs.Terminating.{some_breaks_out, last_terminates, clauses_terminate}
 use Rattle.checker_statement.proofs.Further.{both_hold}
 use Rattle.checker_statement.proofs.terminate.+terminates.Goals as goal
 

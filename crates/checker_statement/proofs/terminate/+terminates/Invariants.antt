@@ -1,6 +1,6 @@
 use Rattle.std.proofs.Common.{◌≡◌, drop, false, map}
 use Rattle.syntax.specs.View.{body_of, clause_of, clauses}
-use Rattle.typing.specs.Terminating.{last_terminates, clauses_terminate}
+use Rattle.typing_rules.specs.Terminating.{last_terminates, clauses_terminate}
 use Rattle.checker_statement.proofs.terminate.+terminates.Given as goal
 
 abbrev pub invariant-last_terminates-loop-statement : goal.invariant-last_terminates-loop-statement

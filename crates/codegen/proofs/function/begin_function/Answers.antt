@@ -1,7 +1,7 @@
 use Rattle.std.proofs.Common.{rules, ◌≡◌, ◌∙◌, ap, length, map}
 use Rattle.syntax.specs.View.{declared_of, function_of}
 use Rattle.type_table.specs.Visible.{globals_in, types_of}
-use Rattle.typing.specs.Kinds.{fields_declared}
+use Rattle.typing_rules.specs.Kinds.{fields_declared}
 use Rattle.codegen_base.specs.Layouts.{Layout, with_parameters}
 use Rattle.codegen_base.specs.Program.{first_layout}
 use Rattle.codegen_emission.specs.Layouts.{layout_of}

@@ -2,7 +2,7 @@ use Rattle.std.proofs.Common.{rules, ◌≡◌, ◌∷◌, map, ap, sym, subst}
 use Rattle.syntax.specs.View.{declared_of, name_of}
 use Rattle.type_table.specs.Views.{kind_of}
 use Rattle.type_table.specs.Visible.{globals_in, types_of}
-use Rattle.typing.specs.Kinds.{fields_declared}
+use Rattle.typing_rules.specs.Kinds.{fields_declared}
 use Rattle.codegen_base.specs.Layouts.{with_parameters}
 use Rattle.codegen_emission.specs.Layouts.{layout_of}
 use Rattle.codegen.proofs.Heads.{parameters_grouped}

@@ -4,7 +4,7 @@ use Rattle.syntax.specs.Tree.{Top, File}
 use Rattle.syntax.specs.View.{top_of}
 use Rattle.type_table.specs.Scopes.{Globals}
 use Rattle.checker.specs.Trees.{tree_in}
-use Rattle.typing.specs.Kinds.{globals_of}
+use Rattle.typing_rules.specs.Kinds.{globals_of}
 use Rattle.codegen_base.specs.Program.{noting_tops}
 use Rattle.codegen.specs.Codes.{code_with}
 use Rattle.codegen.proofs.program.file_code.Goals as goal

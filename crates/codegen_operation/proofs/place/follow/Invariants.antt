@@ -1,7 +1,7 @@
 use Rattle.std.proofs.Common.{◌≡◌, Some, drop, map}
 use Rattle.syntax.specs.View.{name_of}
 use Rattle.type_table.specs.Visible.{globals_in, selected_of, types_of}
-use Rattle.typing.specs.Operations.{followed}
+use Rattle.typing_rules.specs.Operations.{followed}
 use Rattle.codegen_operation.proofs.place.follow.Given as goal
 
 -- what is left leads where all lead

@@ -2,7 +2,7 @@ use Rattle.std.proofs.Common.{rules, ◌≡◌, true}
 use Rattle.syntax.specs.View.{name_of}
 use Rattle.type_table.specs.Views.{kind_of}
 use Rattle.type_table.specs.Visible.{globals_in, types_of}
-use Rattle.typing.specs.Simples.{is_declarable}
+use Rattle.typing_rules.specs.Simples.{is_declarable}
 use Rattle.codegen_simple.specs.Layouts.{layout_of}
 use Rattle.codegen_simple.proofs.Naming.{new_spot}
 use Rattle.codegen_simple.proofs.define.name_spot.Goals as goal

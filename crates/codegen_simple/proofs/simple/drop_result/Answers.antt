@@ -2,7 +2,7 @@ use Rattle.std.proofs.Common.{rules, ◌≡◌, ◌∙◌, Some, ap, subst}
 use Rattle.type_table.specs.Scopes.{Yields}
 use Rattle.type_table.specs.Views.{kind_of}
 use Rattle.type_table.specs.Visible.{globals_in, types_of}
-use Rattle.typing.specs.Operations.{result_of}
+use Rattle.typing_rules.specs.Operations.{result_of}
 use Rattle.codegen_base.specs.Pushes.{drops}
 use Rattle.codegen_base.specs.Statements.{result_words, width}
 use Rattle.codegen_expression.specs.Emission.{Puts}

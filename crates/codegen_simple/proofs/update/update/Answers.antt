@@ -2,7 +2,7 @@ use Rattle.std.proofs.Common.{rules, ◌≡◌, false, refl}
 use Rattle.syntax.specs.View.{expression_of, place_of}
 use Rattle.type_table.specs.Views.{kind_of}
 use Rattle.type_table.specs.Visible.{globals_in, scope_of, selected_of, types_of}
-use Rattle.checker_base.specs.Worths.{is_logical}
+use Rattle.typing_rules.specs.Worths.{is_logical}
 use Rattle.codegen_operation.specs.Spots.{spot_in}
 use Rattle.codegen_simple.proofs.Updating.{appends_update}
 use Rattle.codegen_simple.proofs.update.update.Goals as goal

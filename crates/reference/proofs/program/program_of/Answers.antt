@@ -4,7 +4,7 @@ use Rattle.syntax.specs.Spans.{tree_of}
 use Rattle.syntax.specs.Tree.{File}
 use Rattle.syntax.specs.View.{file_of}
 use Rattle.type_table.specs.Visible.{globals_in}
-use Rattle.typing.specs.Kinds.{globals_of}
+use Rattle.typing_rules.specs.Kinds.{globals_of}
 use Rattle.reference.proofs.Functions.{few_functions}
 use Rattle.reference.proofs.program.program_of.Goals as goal
 

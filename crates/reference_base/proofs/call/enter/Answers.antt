@@ -3,7 +3,7 @@ use Rattle.std.proofs.lemmas.List.{length-map, length-reverse}
 use Rattle.syntax.specs.View.{file_of, function_of}
 use Rattle.type_table.specs.Visible.{types_of}
 use Rattle.word.specs.declared.limits.TheConstants.{MAX_DEPTH}
-use Rattle.typing.specs.Operations.{result_of}
+use Rattle.typing_rules.specs.Operations.{result_of}
 use Rattle.meaning.specs.Destinations.{zero_result}
 use Rattle.meaning.specs.Source.{globals}
 use Rattle.meaning.specs.Tasks.{Await, frame}

@@ -3,14 +3,14 @@ use Rattle.std.specs.Prelude.{◌≡◌, ℕ, suc, ◌+◌, ◌⊎◌, nat_le, B
 use Rattle.go_text.specs.declared.rule.Rule.TheVariants as rules
 use Rattle.syntax.specs.Tree.{Expression, Simple, IfHead, First, Target, NoTarget, DefineTarget, AssignTarget, ForHead, Forever, While, ForClauses, Range, Comm, Returned, NoValue, ReturnedOperation, ReturnedValue, Statement, Empty, Alone, VarTyped, VarUntyped, Block, If, For, Select, Go, Return, Break, Continue, Statements, NoStatement, Then, Branch, Conditional, Otherwise, NoElse, ElseBlock, ElseIf, Clauses, NoClause, Clause}
 use Rattle.syntax.specs.Measures.{if_any, expression_size, simple_size, if_head_size, target_size, for_head_size, comm_size, returned_size, statement_size, statements_size}
-use Rattle.checker_base.specs.declared.flaw.Flaw.{Flaw}
-use Rattle.checker_base.specs.Flaws.{IsBroken}
+use Rattle.typing_rules.specs.declared.flaw.Flaw.{Flaw}
+use Rattle.typing_rules.specs.Flaws.{IsBroken}
 use Rattle.type_table.specs.Types.{ValueType}
 use Rattle.type_table.specs.Scopes.{Scope, Globals, Yield, NoResult, Yields, is_blank, entered, left, declared_unless_blank, type_in}
-use Rattle.checker_base.specs.Worths.{Typed, worth}
-use Rattle.checker_base.specs.Expressions.{nodes_of, ValueHas, ExpressionHas, TestHas, element_of, ChannelHas, ReceivedHas}
-use Rattle.typing.specs.Operations.{CallHas, OperationHas, operation_type, Given, given, given_by, PlaceHas, place_type, GoesHas}
-use Rattle.typing.specs.Simples.{SimpleHas, after_simple, comm_simple, DefinedHave, TypedVariablesHave, UntypedVariablesHave, with_defined, with_variables}
+use Rattle.typing_rules.specs.Worths.{Typed, worth}
+use Rattle.typing_rules.specs.Expressions.{nodes_of, ValueHas, ExpressionHas, TestHas, element_of, ChannelHas, ReceivedHas}
+use Rattle.typing_rules.specs.Operations.{CallHas, OperationHas, operation_type, Given, given, given_by, PlaceHas, place_type, GoesHas}
+use Rattle.typing_rules.specs.Simples.{SimpleHas, after_simple, comm_simple, DefinedHave, TypedVariablesHave, UntypedVariablesHave, with_defined, with_variables}
 
 -- what a statement stands in: the result of its function, and whether it is within a `for` or a `select`, and within a `for`
 pub record Setting : Type 0 where

@@ -9,12 +9,12 @@ use Rattle.syntax.specs.Measures.{declared_size, top_size}
 use Rattle.type_table.specs.Types.{StructType}
 use Rattle.type_table.specs.Containment.{Structs, Holds, width}
 use Rattle.type_table.specs.Scopes.{nothing_declared, is_blank, is_reserved, number_of, type_in}
-use Rattle.checker_base.specs.declared.flaw.Flaw.{Flaw}
-use Rattle.typing.specs.declared.role.Role.{Role}
-use Rattle.typing.specs.declared.role.Role.TheVariants as roles
-use Rattle.checker_base.specs.Flaws.{IsBroken, IsExceeded}
-use Rattle.typing.specs.Operations.{TypeHas}
-use Rattle.typing.specs.Kinds.{type_names, function_names, structs}
+use Rattle.typing_rules.specs.declared.flaw.Flaw.{Flaw}
+use Rattle.typing_rules.specs.declared.role.Role.{Role}
+use Rattle.typing_rules.specs.declared.role.Role.TheVariants as roles
+use Rattle.typing_rules.specs.Flaws.{IsBroken, IsExceeded}
+use Rattle.typing_rules.specs.Operations.{TypeHas}
+use Rattle.typing_rules.specs.Kinds.{type_names, function_names, structs}
 
 -- ---- names
 

@@ -6,13 +6,13 @@ use Rattle.syntax.specs.declared.node.UnaryOperator.{UnaryOperator}
 use Rattle.syntax.specs.declared.node.BinaryOperator.{BinaryOperator}
 use Rattle.syntax.specs.Tree.{Expression, Integer, Named, Parenthesized, Selection, Composite, Unary, Binary, Expressions, NoMore, Behind, expressions_in}
 use Rattle.syntax.specs.Measures.{expression_size}
-use Rattle.checker_base.specs.declared.flaw.Flaw.{Flaw}
-use Rattle.checker_base.specs.declared.flaw.Misuse.{Misuse}
-use Rattle.checker_base.specs.Flaws.{Nodes, IsBroken, IsExceeded, IsNilAt, IsMisuse}
+use Rattle.typing_rules.specs.declared.flaw.Flaw.{Flaw}
+use Rattle.typing_rules.specs.declared.flaw.Misuse.{Misuse}
+use Rattle.typing_rules.specs.Flaws.{Nodes, IsBroken, IsExceeded, IsNilAt, IsMisuse}
 use Rattle.type_table.specs.Types.{ValueType, IntType, BoolType, StructType, ChannelType, is_int_type, is_bool_type, is_channel_type, assignable, element_type, only_receives, only_sends}
 use Rattle.type_table.specs.Containment.{Field, fields_of, field_of}
 use Rattle.type_table.specs.Scopes.{Globals, Scope}
-use Rattle.checker_base.specs.Worths.{Worth, Typed, Constant, Nil, is_int, literal, unary_worth, binary_worth, named_worth, literal_struct, worth}
+use Rattle.typing_rules.specs.Worths.{Worth, Typed, Constant, Nil, is_int, literal, unary_worth, binary_worth, named_worth, literal_struct, worth}
 
 -- the nodes of an expression, by how many there are before it
 abbrev pub nodes_of : ℕ → Expression → Nodes

@@ -10,14 +10,14 @@ use Rattle.syntax.specs.Measures.{type_size, expression_size, expressions_size}
 use Rattle.type_table.specs.Types.{ValueType}
 use Rattle.type_table.specs.Containment.{fields_of}
 use Rattle.type_table.specs.Scopes.{Globals, Scope}
-use Rattle.checker_base.specs.declared.flaw.Flaw.{Flaw}
-use Rattle.checker_base.specs.declared.flaw.Flaw.TheVariants.{Broken, Exceeded}
-use Rattle.checker_base.specs.declared.flaw.Misuse.{Misuse}
-use Rattle.checker_base.specs.declared.flaw.Misuse.TheVariants as misuses
-use Rattle.checker_base.specs.Flaws.{Nodes, IsBroken, IsExceeded, IsMisuse}
-use Rattle.checker_base.specs.Worths.{Worth, Typed, Constant, Nil, unary_worth, binary_worth, literal_struct, worth}
-use Rattle.checker_base.specs.Expressions.{nodes_of, FitHas, ValueHas, DefaultHas, Fails, UnaryHas, BinaryHas, SelectionHas, NumbersHave, ValuesFail, PassedHave, field_kinds, FieldsHave, LiteralHas, ExpressionHas, ExpressionsHave, ConditionHas, TestHas, ChannelHas, ReceivedHas, SentHas}
-use Rattle.typing.specs.Nodes.{node_of}
+use Rattle.typing_rules.specs.declared.flaw.Flaw.{Flaw}
+use Rattle.typing_rules.specs.declared.flaw.Flaw.TheVariants.{Broken, Exceeded}
+use Rattle.typing_rules.specs.declared.flaw.Misuse.{Misuse}
+use Rattle.typing_rules.specs.declared.flaw.Misuse.TheVariants as misuses
+use Rattle.typing_rules.specs.Flaws.{Nodes, IsBroken, IsExceeded, IsMisuse}
+use Rattle.typing_rules.specs.Worths.{Worth, Typed, Constant, Nil, unary_worth, binary_worth, literal_struct, worth}
+use Rattle.typing_rules.specs.Expressions.{nodes_of, FitHas, ValueHas, DefaultHas, Fails, UnaryHas, BinaryHas, SelectionHas, NumbersHave, ValuesFail, PassedHave, field_kinds, FieldsHave, LiteralHas, ExpressionHas, ExpressionsHave, ConditionHas, TestHas, ChannelHas, ReceivedHas, SentHas}
+use Rattle.typing_rules.specs.Nodes.{node_of}
 
 pub broken : (rule : Rule) (end : ℕ) (flaw : Flaw) → IsBroken rule end flaw → node_of flaw + 1 ≡ end
 broken rule end (Broken r n) has = has.1

@@ -7,13 +7,13 @@ use Rattle.syntax.proofs.Lists.{expressions_size-of}
 use Rattle.type_table.specs.Types.{ValueType, BoolType}
 use Rattle.type_table.specs.Containment.{Structs, field_of}
 use Rattle.type_table.specs.Scopes.{Scope, Globals, Yield, NoResult, Yields, is_blank, variable_named, type_in}
-use Rattle.checker_base.specs.declared.flaw.Flaw.{Flaw}
-use Rattle.checker_base.specs.Flaws.{Nodes}
-use Rattle.checker_base.specs.Worths.{Worth, Typed, Constant, Nil, kind_of, type_of_field, worth}
-use Rattle.checker_base.specs.Expressions.{nodes_of}
-use Rattle.typing.specs.Operations.{TypeHas, Callee, NotDeclared, NoFunction, IsFunction, callee, parameters_of, result_of, CalleeHas, CallHas, YieldHas, ResultHas, MadeHas, SizeHas, IfSizeHas, ReceiveHas, MeasuredHas, OperationHas, operation_type, is_receive, Given, given_values, given_by, given, RightHas, PathHas, PlaceHas, ReadPlaceHas, place_type, GoesHas, PlacesFail, PlacesHave}
-use Rattle.typing.specs.Nodes.{node_of}
-use Rattle.typing.proofs.ExpressionNodes.{broken, expression_positive, type_positive, value_within, default_within, passed_within, expression_within, expressions_within, channel_within, received_within}
+use Rattle.typing_rules.specs.declared.flaw.Flaw.{Flaw}
+use Rattle.typing_rules.specs.Flaws.{Nodes}
+use Rattle.typing_rules.specs.Worths.{Worth, Typed, Constant, Nil, kind_of, type_of_field, worth}
+use Rattle.typing_rules.specs.Expressions.{nodes_of}
+use Rattle.typing_rules.specs.Operations.{TypeHas, Callee, NotDeclared, NoFunction, IsFunction, callee, parameters_of, result_of, CalleeHas, CallHas, YieldHas, ResultHas, MadeHas, SizeHas, IfSizeHas, ReceiveHas, MeasuredHas, OperationHas, operation_type, is_receive, Given, given_values, given_by, given, RightHas, PathHas, PlaceHas, ReadPlaceHas, place_type, GoesHas, PlacesFail, PlacesHave}
+use Rattle.typing_rules.specs.Nodes.{node_of}
+use Rattle.typing_rules.proofs.ExpressionNodes.{broken, expression_positive, type_positive, value_within, default_within, passed_within, expression_within, expressions_within, channel_within, received_within}
 
 pub type_within : (t : Option ValueType) (first : ℕ) (flaw : Flaw) → TypeHas t first flaw → node_of flaw < first + 1
 type_within None first flaw has = omega (arith, broken _ (first + 1) flaw has)

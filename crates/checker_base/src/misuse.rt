@@ -1,38 +1,11 @@
-//! What is wrong with a tree.
+//! What is wrong where an operator does not go with its operands.
 
 ghost use Rattle.std.specs.Prelude.{◌≡◌, ℕ, ◌+◌};
-ghost use Rattle.checker_base.specs.Flaws.{Nodes, IsMisuse};
+ghost use Rattle.typing_rules.specs.Flaws.{Nodes, IsMisuse};
 
 use go_text::{LimitKind, Rule};
 use syntax::NodeId;
-
-/// What is wrong with a tree, and the node where it is.
-#[derive(Clone, Copy)]
-pub enum Flaw {
-    /// A typing rule is broken.
-    Broken(Rule, NodeId),
-    /// A limit is exceeded.
-    Exceeded(LimitKind, NodeId),
-}
-
-/// Why an operator does not go with its operands.
-#[derive(Clone, Copy)]
-pub enum Misuse {
-    /// Their types do not fit it.
-    Operands,
-    /// The constant that it makes is larger than 2^100, or it is a constant shift by over 100.
-    Size,
-    /// A divisor is the constant zero, or a shift's count a negative constant.
-    Right,
-    /// The left one is a constant that no int can be.
-    LeftConstant,
-    /// The right one is.
-    RightConstant,
-    /// The left one is `nil`, and the right one no channel.
-    LeftNil,
-    /// The right one is `nil`, and the left one no channel.
-    RightNil,
-}
+use typing_rules::flaw::{Flaw, Misuse};
 
 /// Where an operator and its operands lie: the first node and the own node of each operand, and the operator's own node.
 #[derive(Clone, Copy)]

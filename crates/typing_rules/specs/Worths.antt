@@ -9,8 +9,8 @@ use Rattle.syntax.specs.declared.node.UnaryOperator.TheVariants as signs
 use Rattle.syntax.specs.declared.node.BinaryOperator.{BinaryOperator}
 use Rattle.syntax.specs.declared.node.BinaryOperator.TheVariants as ops
 use Rattle.syntax.specs.Tree.{Expression, Integer, Named, Parenthesized, Selection, Composite, Unary, Binary}
-use Rattle.checker_base.specs.declared.flaw.Misuse.{Misuse}
-use Rattle.checker_base.specs.declared.flaw.Misuse.TheVariants as misuses
+use Rattle.typing_rules.specs.declared.flaw.Misuse.{Misuse}
+use Rattle.typing_rules.specs.declared.flaw.Misuse.TheVariants as misuses
 use Rattle.type_table.specs.Types.{ValueType, IntType, BoolType, StructType, is_int_type, is_bool_type, is_channel_type, assignable}
 use Rattle.type_table.specs.Containment.{Selected, field_of}
 use Rattle.type_table.specs.Scopes.{Globals, Scope, Variable, is_truth, is_nil, variable_named, number_of}

@@ -4,13 +4,13 @@ use Rattle.std.specs.Option.{is_some, is_none}
 use Rattle.go_text.specs.declared.rule.Rule.TheVariants as rules
 use Rattle.syntax.specs.Tree.{TypeExpression, Expression, expressions, Arguments, Operation, Call, Receive, Make, Length, Capacity, Right, RightOperation, Values, Place}
 use Rattle.syntax.specs.Measures.{type_size, expression_size, arguments_size, operation_size}
-use Rattle.checker_base.specs.declared.flaw.Flaw.{Flaw}
-use Rattle.checker_base.specs.Flaws.{Nodes, IsBroken, IsNilAt}
+use Rattle.typing_rules.specs.declared.flaw.Flaw.{Flaw}
+use Rattle.typing_rules.specs.Flaws.{Nodes, IsBroken, IsNilAt}
 use Rattle.type_table.specs.Types.{ValueType, IntType, BoolType, is_int_type, is_channel_type}
 use Rattle.type_table.specs.Containment.{Structs, Selected, behind, field_of}
 use Rattle.type_table.specs.Scopes.{Variable, Scope, Globals, Signature, Yield, NoResult, Yields, is_blank, is_reserved, variable_named, number_of, function_number, type_in}
-use Rattle.checker_base.specs.Worths.{Worth, Typed, Constant, Nil, is_int, is_negative, kind_of, type_of_field, worth}
-use Rattle.checker_base.specs.Expressions.{nodes_of, ValueHas, DefaultHas, PassedHave, ExpressionHas, ExpressionsHave, element_of, ChannelHas, ReceivedHas}
+use Rattle.typing_rules.specs.Worths.{Worth, Typed, Constant, Nil, is_int, is_negative, kind_of, type_of_field, worth}
+use Rattle.typing_rules.specs.Expressions.{nodes_of, ValueHas, DefaultHas, PassedHave, ExpressionHas, ExpressionsHave, element_of, ChannelHas, ReceivedHas}
 
 -- a name in a type, which is its first node, is no type's
 abbrev pub TypeHas : Option ValueType → ℕ → Flaw → Type 0

@@ -8,15 +8,15 @@ use Rattle.syntax.specs.declared.node.BinaryOperator.{BinaryOperator}
 use Rattle.syntax.specs.declared.node.BinaryOperator.TheVariants as ops
 use Rattle.syntax.specs.Tree.{TypeExpression, Expression, Arguments, Operation, Receive, Right, RightOperation, Place, Part, Value, Text, Simple, CallAlone, Close, Print, ReceiveAlone, Send, Increment, Decrement, Assign, Define, Update, Comm, CommSend, CommReceive, CommDefine, CommAssign}
 use Rattle.syntax.specs.Measures.{if_any, type_size, expression_size, right_size, part_size, simple_size}
-use Rattle.checker_base.specs.declared.flaw.Flaw.{Flaw}
-use Rattle.checker_base.specs.declared.flaw.Misuse.{Misuse}
-use Rattle.checker_base.specs.Flaws.{Nodes, IsBroken, IsNilAt}
+use Rattle.typing_rules.specs.declared.flaw.Flaw.{Flaw}
+use Rattle.typing_rules.specs.declared.flaw.Misuse.{Misuse}
+use Rattle.typing_rules.specs.Flaws.{Nodes, IsBroken, IsNilAt}
 use Rattle.type_table.specs.Types.{ValueType, IntType, BoolType, ChannelType, StructType}
 use Rattle.type_table.specs.Containment.{Structs}
 use Rattle.type_table.specs.Scopes.{Scope, Globals, is_blank, is_reserved, own_variable, declared, declared_unless_blank, type_in}
-use Rattle.checker_base.specs.Worths.{Worth, Typed, Constant, Nil, is_int, binary_worth, kind_of, worth}
-use Rattle.checker_base.specs.Expressions.{nodes_of, ValueHas, Fails, NumbersHave, ExpressionHas, element_of, ChannelHas, SentHas, PrintedHas, default_type}
-use Rattle.typing.specs.Operations.{and_also, TypeHas, CallHas, ReceiveHas, MeasuredHas, Given, given, RightHas, PlaceHas, ReadPlaceHas, place_type, GoesHas, PlacesFail, PlacesHave}
+use Rattle.typing_rules.specs.Worths.{Worth, Typed, Constant, Nil, is_int, binary_worth, kind_of, worth}
+use Rattle.typing_rules.specs.Expressions.{nodes_of, ValueHas, Fails, NumbersHave, ExpressionHas, element_of, ChannelHas, SentHas, PrintedHas, default_type}
+use Rattle.typing_rules.specs.Operations.{and_also, TypeHas, CallHas, ReceiveHas, MeasuredHas, Given, given, RightHas, PlaceHas, ReadPlaceHas, place_type, GoesHas, PlacesFail, PlacesHave}
 
 -- ---- what is printed
 

@@ -1,3 +1,6 @@
+pub mod Flaws
+pub mod Worths
+pub mod Expressions
 pub mod Nodes
 pub mod Operations
 pub mod Simples
