@@ -13,7 +13,7 @@ use Rattle.command_line.specs.declared.arguments.Subcommand.TheVariants as subco
 use Rattle.command_line.specs.declared.arguments.Invocation.{Invocation}
 use Rattle.kendo_front.specs.Outcome.{report_status}
 use Rattle.kendo_reading.specs.Reading.{HasNoReading, IsWhy, Reads}
-use Rattle.worker_pool.specs.Runs.{IsWorkers}
+use Rattle.worker_pool_base.specs.Runs.{IsWorkers}
 use Rattle.one_thread.specs.Worlds.{IsLimit}
 use Rattle.go_text.specs.declared.fault.Fault.{Fault}
 use Rattle.go_text.specs.declared.fault.Fault.TheVariants as faults

@@ -5,7 +5,7 @@ ghost use Rattle.std.specs.Prelude.{◌≡◌, ◌⊎◌, ◌↔◌, ◌≤◌, 
 ghost use Rattle.clap.specs.Values.{kind_of};
 ghost use Rattle.kendo.specs.Answers.{EndsAs, Finds, HasReading, IsStatus, Obeys, ShowsAs, Tells};
 ghost use Rattle.kendo_reading.specs.Reading.{HasNoReading, IsOfText, IsRefusal, IsWhy};
-ghost use Rattle.worker_pool.specs.Runs.{IsWorkers};
+ghost use Rattle.worker_pool_base.specs.Runs.{IsWorkers};
 ghost use Rattle.one_thread.specs.Worlds.{IsLimit};
 
 mod pictures;

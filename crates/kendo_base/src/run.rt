@@ -6,7 +6,7 @@ ghost use Rattle.kendo_reading.specs.Reading.{HasNoReading, IsRefusal, IsWhy, Re
 ghost use Rattle.one_thread.specs.Worlds.{BeginsOutput, IsLimit, IsWhole};
 ghost use Rattle.syntax.specs.Tree.{File};
 ghost use Rattle.tracer.specs.Trace.{BeginsTrace, IsWholeTrace};
-ghost use Rattle.worker_pool.specs.Runs.{IsWorkers};
+ghost use Rattle.worker_pool_base.specs.Runs.{IsWorkers};
 
 use crate::running::run_typed;
 use go_text::Fault;

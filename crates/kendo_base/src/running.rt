@@ -8,7 +8,7 @@ ghost use Rattle.meaning.specs.Source.{source_kind};
 ghost use Rattle.one_thread.specs.Worlds.{BeginsOutput, IsLimit, IsWhole};
 ghost use Rattle.syntax.specs.Spans.{tree_of};
 ghost use Rattle.tracer.specs.Trace.{BeginsTrace, IsWholeTrace};
-ghost use Rattle.worker_pool.specs.Runs.{IsWorkers};
+ghost use Rattle.worker_pool_base.specs.Runs.{IsWorkers};
 
 use checker::Typed;
 use codegen::compile;

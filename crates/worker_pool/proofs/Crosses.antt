@@ -58,14 +58,14 @@ use Rattle.awake_rows.specs.contracts.slot.Away as Away
 use Rattle.awake_rows.specs.contracts.slot.Away.TheInside as away
 use Rattle.book.specs.declared.name.BookName.{Ghosts as BookGhosts}
 use Rattle.worker_pool.specs.contracts.locked.Locked as Locked
-use Rattle.worker_pool.specs.contracts.run_book.RunBook as RunBook
-use Rattle.worker_pool.specs.contracts.run_name.OfRun as OfRun
-use Rattle.worker_pool.specs.contracts.run_name.OfRunBookName.TheImpl.{ghosts, no_dict}
+use Rattle.worker_pool_base.specs.contracts.run_book.RunBook as RunBook
+use Rattle.worker_pool_base.specs.contracts.run_name.OfRun as OfRun
+use Rattle.worker_pool_base.specs.contracts.run_name.OfRunBookName.TheImpl.{ghosts, no_dict}
 use Rattle.worker_pool.specs.contracts.shared.Shared as Shared
 use Rattle.worker_pool.specs.contracts.work_queues.Owner as Owner
 use Rattle.worker_pool.specs.contracts.work_queues.Stealer as Stealer
 use Rattle.worker_pool.specs.contracts.work_queues.WorkQueues as WorkQueues
-use Rattle.worker_pool.specs.declared.run_name.RunName.{Ghosts}
+use Rattle.worker_pool_base.specs.declared.run_name.RunName.{Ghosts}
 
 away_inside : IsSend away.the_row
 away_inside = recorded_send away.the_field.row _ _ away.the_type.to_one (struct_send (shape away.the_type) (search (sendable, crosses), (search (sendable), tt)))

@@ -1,3 +1,1 @@
-pub mod Pieces
 pub mod Crosses
-pub mod Settling

@@ -2,11 +2,8 @@
 #![tactic(auto)]
 
 mod gate;
-mod handed;
 mod locked;
 mod pool;
-mod run_book;
-mod run_name;
 mod shared;
 mod trace_writer;
 mod turn;

@@ -1,12 +1,9 @@
 //! What is under the lock of a run.
 
 ghost use Rattle.std.specs.Prelude.{◌≡◌, ◌+◌, [], IfOk, IfSome, OnOk, length};
-ghost use Rattle.worker_pool.specs.Handing.{HasEnded};
-ghost use Rattle.worker_pool.specs.Runs.{IsHanded, output_run, trace_run};
+ghost use Rattle.worker_pool_base.specs.Handing.{HasEnded};
+ghost use Rattle.worker_pool_base.specs.Runs.{IsHanded, output_run, trace_run};
 
-use crate::handed::Handed;
-use crate::run_book::RunBook;
-use crate::run_name::{Printed, RunLease, RunName, Traced};
 use crate::turn::{Back, Turn};
 use crate::work_queues::{CAPACITY, WorkQueues};
 use go_text::Memory;
@@ -15,6 +12,9 @@ use std::sync::Wait;
 use std::sync::atomic::{AtomicU64, Ordering};
 use std::sync::ledger::{Book, Share};
 use word::end::End;
+use worker_pool_base::handed::Handed;
+use worker_pool_base::run_book::RunBook;
+use worker_pool_base::run_name::{Printed, RunLease, RunName, Traced};
 
 /// How many local steps a goroutine that talks makes at most between two requests.
 const FEW_STEPS: u32 = 512;

@@ -8,11 +8,9 @@ ghost use Rattle.clock_table.specs.Seats.{table_of};
 ghost use Rattle.one_thread.specs.Worlds.{BeginsOutput, IsLimit, IsWhole};
 ghost use Rattle.output.specs.Progress.{progress_place, run_of};
 ghost use Rattle.tracer.specs.Trace.{BeginsTrace, IsWholeTrace};
-ghost use Rattle.worker_pool.specs.Runs.{ComesOf, IsStart, IsWorkers, output_run, trace_run};
+ghost use Rattle.worker_pool_base.specs.Runs.{ComesOf, IsStart, IsWorkers, output_run, trace_run};
 
 use crate::gate::Gate;
-use crate::run_book::RunBook;
-use crate::run_name::{Printed, RunName, Traced};
 use crate::shared::Shared;
 use crate::trace_writer::TraceWriter;
 use crate::work_queues::WorkQueues;
@@ -29,6 +27,8 @@ use std::thread::Threads;
 use verifier::Verified;
 use word::Write;
 use word::end::End;
+use worker_pool_base::run_book::RunBook;
+use worker_pool_base::run_name::{Printed, RunName, Traced};
 
 /// Runs a program up to the clock limit (1 to 2^62) on 1 to 64 workers, and answers how it ended. What is written begins the
 /// output of the one-thread run, and its trace; at an end it is all of them. Of a trace that nobody reads nothing is made.
@@ -179,7 +179,7 @@ impl<'a, 'o, 't, B: RunName, R: Wait, O: Write, T: Write> Task for Writing<'a, '
     ghost use Rattle.std.specs.Prelude.{◌≡◌, ◌⊎◌, IfErr, IsErrOf, true};
     ghost use Rattle.go_text.specs.declared.fault.Fault.TheVariants as faults;
     ghost use Rattle.output.specs.Progress.{progress_place};
-    ghost use Rattle.worker_pool.specs.Runs.{ComesOf, IsReached, output_run, trace_run};
+    ghost use Rattle.worker_pool_base.specs.Runs.{ComesOf, IsReached, output_run, trace_run};
 
     ghost can_run = { λ t. IsReached (output_run B.code B.limit) t.printed.progress t.printed.share.parts t.printed.share.amount
         × IsReached (trace_run B.code B.limit) t.traced.progress t.traced.share.parts t.traced.share.amount

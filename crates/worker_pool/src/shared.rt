@@ -2,10 +2,7 @@
 
 ghost use Rattle.std.specs.Prelude.{◌≡◌, ◌+◌, IfOk, length};
 
-use crate::handed::Handed;
 use crate::locked::Locked;
-use crate::run_book::RunBook;
-use crate::run_name::{Printed, RunLease, RunName, Traced};
 use crate::turn::{Back, Turn};
 use crate::work_queues::WorkQueues;
 use crate::worker::Pace;
@@ -14,6 +11,9 @@ use std::sync::atomic::{AtomicU64, Ordering};
 use std::sync::ledger::{Book, Share};
 use std::sync::{Condvar, Mutex, MutexGuard, Wait};
 use std::time::Duration;
+use worker_pool_base::handed::Handed;
+use worker_pool_base::run_book::RunBook;
+use worker_pool_base::run_name::{Printed, RunLease, RunName, Traced};
 
 /// How long the thread that writes sleeps, if nothing wakes it, in milliseconds.
 const WRITING_NAP: u64 = 5;

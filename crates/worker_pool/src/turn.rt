@@ -1,6 +1,6 @@
 //! What a worker does next, and with what it comes back.
 
-use crate::run_name::{RunLease, RunName};
+use worker_pool_base::run_name::{RunLease, RunName};
 
 /// With what a worker comes back.
 #[derive(Drop)]

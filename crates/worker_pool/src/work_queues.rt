@@ -5,11 +5,11 @@ ghost use Rattle.std.specs.Arc.{arc_value};
 ghost use Rattle.run_queue.specs.Passes.{IsPutOf, IsTakeOf, put_view, take_view};
 ghost use Rattle.run_queue.specs.Turns.{PutsOne, TakesOne};
 
-use crate::run_name::{RunLease, RunName};
 use go_text::Memory;
 use run_queue::{PutPass, RunQueue, TakePass};
 use std::alloc::Global;
 use std::sync::{Arc, Wait};
+use worker_pool_base::run_name::{RunLease, RunName};
 
 /// How many leases a queue holds.
 pub(crate) const CAPACITY: usize = 16;

@@ -2,13 +2,13 @@
 
 use crate::gate::Gate;
 use crate::locked::Locked;
-use crate::run_name::{RunLease, RunName};
 use crate::shared::Shared;
 use crate::turn::Back;
 use crate::work_queues::WorkQueues;
 use logical_clock::Clock;
 use std::sync::Wait;
 use std::time::Duration;
+use worker_pool_base::run_name::{RunLease, RunName};
 
 /// How many local steps a lease makes before its clock is published again.
 const QUANTUM: u32 = 4096;

@@ -7,7 +7,7 @@ use std::sync::ledger::Ledger;
 /// Which run it is: the table of clocks of its book, its code, its clock limit, whether lines of its trace are made, and the ledgers of
 /// its output and of its trace.
 /// Each call of `run` names its own.
-pub(crate) trait RunName {
+pub trait RunName {
     ghost use Rattle.std.specs.Prelude.{ℕ, Bool};
     ghost use Rattle.atomic_table.specs.Seated.{TableId};
     ghost use Rattle.bytecode.specs.Code.{Code};
@@ -44,7 +44,7 @@ impl RunName for Brand {
 
 /// The book of the run of this name.
 #[derive(Drop)]
-pub(crate) struct OfRun<B: RunName> {
+pub struct OfRun<B: RunName> {
     of: PhantomData<B>,
 }
 
@@ -57,11 +57,11 @@ impl<B: RunName> BookName for OfRun<B> {
 }
 
 /// A lease of the run of this name.
-pub(crate) type RunLease<B> = Lease<OfRun<B>>;
+pub type RunLease<B> = Lease<OfRun<B>>;
 
 /// The ledger of the bytes of output that were handed out: the lock has the book, the thread that writes the one share.
 #[derive(Drop)]
-pub(crate) struct Printed<B: RunName> {
+pub struct Printed<B: RunName> {
     of: PhantomData<B>,
 }
 
@@ -73,7 +73,7 @@ impl<B: RunName> Ledger for Printed<B> {
 
 /// The ledger of the bytes of the trace that were handed out.
 #[derive(Drop)]
-pub(crate) struct Traced<B: RunName> {
+pub struct Traced<B: RunName> {
     of: PhantomData<B>,
 }
 

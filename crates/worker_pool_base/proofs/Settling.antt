@@ -6,8 +6,8 @@ use Rattle.book.specs.declared.settled.Settled.{Settled}
 use Rattle.book.specs.declared.settled.Settled.TheVariants.{Committed, Waiting, Ended}
 use Rattle.book.proofs.Whole.{looks_run, looks_taken}
 use Rattle.bytecode.specs.Code.{Code}
-use Rattle.worker_pool.specs.Handing.{KeepsTaken}
-use Rattle.worker_pool.specs.Runs.{IsOfRun}
+use Rattle.worker_pool_base.specs.Handing.{KeepsTaken}
+use Rattle.worker_pool_base.specs.Runs.{IsOfRun}
 use Rattle.std.specs.Prelude.{ℕ, Bool, IfOk, OnErr, Result, Ok, Err}
 use Rattle.go_text.specs.declared.fault.Memory.{Memory}
 use Rattle.word.specs.declared.request.Event.{Event as Recorded}

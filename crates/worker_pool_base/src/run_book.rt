@@ -6,8 +6,8 @@ ghost use Rattle.std.specs.Option.{is_some};
 ghost use Rattle.book.specs.Desks.{opened_desk};
 ghost use Rattle.clock_table.specs.Seats.{table_of};
 ghost use Rattle.one_thread.specs.Worlds.{IsLimit};
-ghost use Rattle.worker_pool.specs.Handing.{HasEnded, KeepsTaken};
-ghost use Rattle.worker_pool.specs.Runs.{IsHanded, IsOfRun, output_run, trace_run};
+ghost use Rattle.worker_pool_base.specs.Handing.{HasEnded, KeepsTaken};
+ghost use Rattle.worker_pool_base.specs.Runs.{IsHanded, IsOfRun, output_run, trace_run};
 ghost use Rattle.world_core_base.specs.Cores.{to_lend};
 
 use crate::run_name::{OfRun, RunLease, RunName};
@@ -21,7 +21,7 @@ use word::request::Event;
 
 /// The book of this run.
 #[derive(Drop)]
-pub(crate) struct RunBook<B: RunName> {
+pub struct RunBook<B: RunName> {
     pub book: Book<OfRun<B>>,
     /// Where each event is written in its turn.
     pub event: Event,

@@ -1,7 +1,7 @@
 //! What the workers hand to the thread that writes.
 
 ghost use Rattle.std.specs.Prelude.{◌≡◌, ◌+◌, IfSome, length};
-ghost use Rattle.worker_pool.specs.Handing.{Handing, IsHanding};
+ghost use Rattle.worker_pool_base.specs.Handing.{Handing, IsHanding};
 
 use crate::run_name::RunName;
 use output::Piece;
@@ -10,7 +10,7 @@ use word::end::End;
 
 /// Bytes of the run's output and of its trace and, where they are the last ones, how the run ended.
 #[derive(Drop)]
-pub(crate) struct Handed<B: RunName> {
+pub struct Handed<B: RunName> {
     output: Piece,
     trace: Piece,
     end: Option<End>,
@@ -18,7 +18,7 @@ pub(crate) struct Handed<B: RunName> {
 }
 
 impl<B: RunName> Model for Handed<B> {
-    ghost use Rattle.worker_pool.specs.Handing.{Handing, IsHanding};
+    ghost use Rattle.worker_pool_base.specs.Handing.{Handing, IsHanding};
 
     ghost Value = { Handing };
 

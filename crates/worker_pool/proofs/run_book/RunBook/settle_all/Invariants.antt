@@ -1,5 +1,0 @@
-use Rattle.worker_pool.specs.Handing.{KeepsTaken}
-use Rattle.worker_pool.proofs.run_book.RunBook.settle_all.Given as goal
-
-abbrev pub invariant-events : goal.invariant-events
-invariant-events g l = KeepsTaken l.initial.self.book l.self.book
