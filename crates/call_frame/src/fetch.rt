@@ -1,10 +1,10 @@
 //! The instruction at a frame.
 
-ghost use Rattle.std.specs.Prelude.{◌≡◌, ◌+◌, ◌<◌, ◌^◌, ◌∷◌, IfSome, IsTrue, slice_get};
+ghost use Rattle.std.specs.Prelude.{◌≡◌, ◌+◌, ◌<◌, ◌^◌, ◌↔◌, ◌∷◌, IfNone, IfSome, IsTrue, None, slice_get};
 ghost use Rattle.bytecode.specs.Code.{Function as FunctionValue};
-ghost use Rattle.bytecode.specs.Machine.{Frames, code_next, is_told, pops};
+ghost use Rattle.bytecode.specs.Machine.{Frames, code_next, fetch, is_told, pops};
 ghost use Rattle.bytecode.specs.Rules.{IsVerified};
-ghost use Rattle.call_frame.specs.Steps.{AsksOrFails, Fetched, StandsAt};
+ghost use Rattle.call_frame.specs.Steps.{AsksOrFails, Fetched, StandsAt, StandsAtRequest};
 
 use crate::frame::Frame;
 use bytecode::{Code, Instr};
@@ -14,6 +14,7 @@ use operands::width::pops_of;
 #[inline(always)]
 pub fn instr_of<'a>(code: &'a Code, frame: &Frame) -> Option<&'a Instr>
     ensures stands { IfSome result (λ i. StandsAt code.now frame.now i.now) }
+    ensures none { IfNone result (fetch code.now frame.now.function frame.now.place ≡ None) }
     ensures within { IfSome result (λ _. frame.now.place + 1 < 2 ^ 64) }
 {
     let f = match code.functions().get(frame.function) {
@@ -27,6 +28,7 @@ pub fn instr_of<'a>(code: &'a Code, frame: &Frame) -> Option<&'a Instr>
 #[inline(always)]
 pub fn instr_at<'a>(frame: &Frame, instrs: &'a [Instr]) -> Option<&'a Instr>
     ensures instr { IfSome result (λ i. slice_get instrs.now frame.now.place ≡ Some i.now) }
+    ensures none { IfNone result (slice_get instrs.now frame.now.place ≡ None) }
     ensures within { IfSome result (λ _. frame.now.place + 1 < 2 ^ 64) }
 {
     instrs.get(frame.place)
@@ -74,7 +76,8 @@ fn is_request(i: &Instr) -> bool
 
 /// Whether a frame stands at such an instruction, which in verified code asks whatever its operands are.
 pub fn stands_at_request(code: &Code, frame: &Frame) -> bool
-    ensures { IsTrue result → (callers : Frames) → AsksOrFails (code_next code.now (frame.now ∷ callers)) }
+    ensures stands { IsTrue result ↔ StandsAtRequest code.now frame.now }
+    ensures asks { IsTrue result → (callers : Frames) → AsksOrFails (code_next code.now (frame.now ∷ callers)) }
 {
     frame.quiet();
     let f = match code.functions().get(frame.function) {

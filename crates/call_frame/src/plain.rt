@@ -1,6 +1,6 @@
 //! One instruction of the function that runs, which neither calls a function nor returns from one.
 
-ghost use Rattle.std.specs.Prelude.{◌≡◌, ◌+◌, ◌<◌, ◌≤◌, ◌^◌, ◌∷◌, IfOk, OnErr, drop, length, take};
+ghost use Rattle.std.specs.Prelude.{◌≡◌, ◌+◌, ◌<◌, ◌≤◌, ◌^◌, ◌∷◌, Bool, IfOk, OnErr, drop, length, take};
 ghost use Rattle.bytecode.specs.Code.{Code as CodeValue};
 ghost use Rattle.bytecode.specs.Machine.{Frames, instr_next};
 ghost use Rattle.call_frame.specs.Steps.{Does, FitsAt, Remains};
@@ -42,29 +42,9 @@ pub fn plain(
             push(frame, Word::Chan(None))?;
             Ok(Stepped::Slid)
         }
-        Instr::Load(a, n) => {
-            let to = a as usize + n as usize;
-            if to > frame.locals.len() {
-                return Ok(Stepped::Stuck);
-            }
-            load(frame, a as usize, to)?;
-            Ok(Stepped::Slid)
-        }
-        Instr::Store(a, n) => {
-            if a as usize + n as usize > frame.locals.len() {
-                return Ok(Stepped::Stuck);
-            }
-            store(frame, a as usize, at);
-            Ok(Stepped::Slid)
-        }
-        Instr::Pick(t, a, n) => {
-            let to = a as usize + n as usize;
-            if to > t as usize {
-                return Ok(Stepped::Stuck);
-            }
-            pick(alloc, frame, at, a as usize, to)?;
-            Ok(Stepped::Slid)
-        }
+        Instr::Load(a, n) => load_range(frame, a, n, at),
+        Instr::Store(a, n) => Ok(store_range(frame, a, n, at)),
+        Instr::Pick(t, a, n) => pick_range(alloc, frame, t, a, n, at),
         Instr::Discard(_) => {
             let next = frame.place + 1;
             go_to(frame, next, at);
@@ -83,4 +63,58 @@ pub fn plain(
         Instr::Loop(to) => Ok(tick_to(may, frame, to as usize, at)),
         _ => Ok(Stepped::Asking),
     }
+}
+
+/// Pushes locals, so many from one on, where there are so many; the operands begin at a place of the stack.
+#[inline(always)]
+fn load_range(frame: &mut Frame, from: u32, count: u32, at: usize) -> Result<Stepped, AllocError>
+    requires place { frame.old.place + 1 < 2 ^ 64 }
+    requires at { FitsAt (Instr.Load from count) at (length frame.old.stack) }
+    ensures ok { IfOk result (λ step. (may : Bool) → (code : CodeValue) → (callers : Frames) → (instr_next code frame.old callers (take at frame.old.stack) (drop at frame.old.stack) (Instr.Load from count) ≡ Stuck → ⊥) → Does may (frame.old ∷ callers) (instr_next code frame.old callers (take at frame.old.stack) (drop at frame.old.stack) (Instr.Load from count)) step (frame.new ∷ callers)) }
+    ensures err { OnErr result (frame.new ≡ frame.old) }
+{
+    let to = from as usize + count as usize;
+    if to > frame.locals.len() {
+        return Ok(Stepped::Stuck);
+    }
+    load(frame, from as usize, to)?;
+    Ok(Stepped::Slid)
+}
+
+/// Pops words into locals, so many from one on, where there are so many.
+#[inline(always)]
+fn store_range(frame: &mut Frame, from: u32, count: u32, at: usize) -> Stepped
+    requires place { frame.old.place + 1 < 2 ^ 64 }
+    requires at { FitsAt (Instr.Store from count) at (length frame.old.stack) }
+    requires below { at ≤ length frame.old.stack }
+    ensures { (may : Bool) → (code : CodeValue) → (callers : Frames) → (instr_next code frame.old callers (take at frame.old.stack) (drop at frame.old.stack) (Instr.Store from count) ≡ Stuck → ⊥) → Does may (frame.old ∷ callers) (instr_next code frame.old callers (take at frame.old.stack) (drop at frame.old.stack) (Instr.Store from count)) result (frame.new ∷ callers) }
+{
+    if from as usize + count as usize > frame.locals.len() {
+        return Stepped::Stuck;
+    }
+    store(frame, from as usize, at);
+    Stepped::Slid
+}
+
+/// Keeps of the words on the top, `of` in number, so many from one on, where there are so many.
+#[inline(always)]
+fn pick_range(
+    alloc: Global,
+    frame: &mut Frame,
+    of: u32,
+    from: u32,
+    count: u32,
+    at: usize,
+) -> Result<Stepped, AllocError>
+    requires place { frame.old.place + 1 < 2 ^ 64 }
+    requires at { FitsAt (Instr.Pick of from count) at (length frame.old.stack) }
+    ensures ok { IfOk result (λ step. (may : Bool) → (code : CodeValue) → (callers : Frames) → (instr_next code frame.old callers (take at frame.old.stack) (drop at frame.old.stack) (Instr.Pick of from count) ≡ Stuck → ⊥) → Does may (frame.old ∷ callers) (instr_next code frame.old callers (take at frame.old.stack) (drop at frame.old.stack) (Instr.Pick of from count)) step (frame.new ∷ callers)) }
+    ensures err { OnErr result (frame.new ≡ frame.old) }
+{
+    let to = from as usize + count as usize;
+    if to > of as usize {
+        return Ok(Stepped::Stuck);
+    }
+    pick(alloc, frame, at, from as usize, to)?;
+    Ok(Stepped::Slid)
 }

@@ -234,23 +234,13 @@ fn apply<P: Interpreter>(
             tell_at(program, alloc, places.as_mut_slice(), place, later, reply)?;
             wake_all(program, alloc, places.as_mut_slice(), later, woken)
         }
-        Deed::Prints(_) => tell_at(
-            program,
-            alloc,
-            places.as_mut_slice(),
-            place,
-            later,
-            Reply::Nothing,
-        ),
+        Deed::Prints(_) => {
+            let all = places.as_mut_slice();
+            tell_at(program, alloc, all, place, later, Reply::Nothing)
+        }
         Deed::Starts(function, arguments) => {
-            tell_at(
-                program,
-                alloc,
-                places.as_mut_slice(),
-                place,
-                later,
-                Reply::Nothing,
-            )?;
+            let all = places.as_mut_slice();
+            tell_at(program, alloc, all, place, later, Reply::Nothing)?;
             let state = program.begin(alloc, function, arguments.as_slice())?;
             places.push(Some(Goroutine {
                 clock: later,

@@ -1,12 +1,13 @@
 //! What simple statements do.
 
-ghost use Rattle.std.specs.Prelude.{◌≡◌, ◌∷◌, [], IfErr, IfOk, Ok, OnOk, Some, map};
+ghost use Rattle.std.specs.Prelude.{◌≡◌, ◌∷◌, [], IfErr, IfOk, Ok, OnOk, Some, map, pos};
 ghost use Rattle.syntax.specs.Tree.{Assign, Capacity, Close, Define, Length, Make, Print, Receive, Send, Update};
 ghost use Rattle.syntax.specs.View.{expression_of, file_of, name_of, operation_of, part_of, place_of, right_of, simple_of, type_of};
 ghost use Rattle.type_table.specs.Views.{kind_of};
 ghost use Rattle.type_table.specs.Visible.{types_of};
 ghost use Rattle.meaning.specs.Destinations.{placed};
 ghost use Rattle.meaning.specs.Source.{globals, gives, made_kind, makes, operates, simple_next, updates, value_at};
+ghost use Rattle.word.specs.declared.value.Word.TheVariants.{Int};
 ghost use Rattle.meaning.specs.Expressions.{beside, value, word_in};
 ghost use Rattle.meaning.specs.Tasks.{Store, frame};
 ghost use Rattle.reference_value.specs.Destinations.{destinations_of};
@@ -292,7 +293,7 @@ fn stores<'t>(
     Ok(())
 }
 
-/// A place gets the value of an operator between its own and this word.
+/// A place gets the value of an operator between its own and 1.
 fn counts<'t>(
     alloc: Global,
     program: &Program<'t>,
@@ -300,10 +301,9 @@ fn counts<'t>(
     callers: &[Frame<'t>],
     place: &'t PlaceNode,
     operator: BinaryOperator,
-    by: Word,
 ) -> Result<Move<'t>, Stop>
-    ensures ok { IfOk result (λ move. Went (updates (file_of program.now.file.now) (blocks_of (types_of program.now.table) top.old.scope) (tasks_of (types_of program.now.table) top.old.tasks.items) (frames_of (types_of program.now.table) callers.now) (place_of place.now) operator (Ok (by ∷ []))) (types_of program.now.table) move top.new callers.now) }
-    ensures err { IfErr result (Panics (updates (file_of program.now.file.now) (blocks_of (types_of program.now.table) top.old.scope) (tasks_of (types_of program.now.table) top.old.tasks.items) (frames_of (types_of program.now.table) callers.now) (place_of place.now) operator (Ok (by ∷ []))) (types_of program.now.table) top.new top.old) }
+    ensures ok { IfOk result (λ move. Went (updates (file_of program.now.file.now) (blocks_of (types_of program.now.table) top.old.scope) (tasks_of (types_of program.now.table) top.old.tasks.items) (frames_of (types_of program.now.table) callers.now) (place_of place.now) operator (Ok (Int (pos 1) ∷ []))) (types_of program.now.table) move top.new callers.now) }
+    ensures err { IfErr result (Panics (updates (file_of program.now.file.now) (blocks_of (types_of program.now.table) top.old.scope) (tasks_of (types_of program.now.table) top.old.tasks.items) (frames_of (types_of program.now.table) callers.now) (place_of place.now) operator (Ok (Int (pos 1) ∷ []))) (types_of program.now.table) top.new top.old) }
 {
     let _callers = callers;
     let a = held(alloc, program, top, place)?;
@@ -311,7 +311,7 @@ fn counts<'t>(
         stores(alloc, program, top, place, word)?;
         return Ok(Move::Slides);
     }
-    let word = between(operator, a, by)?;
+    let word = between(operator, a, Word::Int(1))?;
     stores(alloc, program, top, place, word)?;
     Ok(Move::Slides)
 }
@@ -404,53 +404,24 @@ pub fn simple<'t>(
 {
     match simple {
         SimpleNode::Call(name, arguments) => {
-            call(
-                alloc,
-                program,
-                top,
-                callers,
-                name,
-                arguments,
-                Purpose::Unused,
-            )
+            let unused = Purpose::Unused;
+            call(alloc, program, top, callers, name, arguments, unused)
         }
         SimpleNode::Close(from) => close(alloc, program, top, callers, from),
         SimpleNode::Print(line, parts, trailing) => {
-            print(
-                alloc,
-                program,
-                top,
-                callers,
-                *line,
-                parts.as_slice(),
-                *trailing,
-            )
+            let parts = parts.as_slice();
+            print(alloc, program, top, callers, *line, parts, *trailing)
         }
         SimpleNode::Receive(from) => {
             receives(alloc, program, top, callers, from, Purpose::Unused)
         }
         SimpleNode::Send(to, item) => send(alloc, program, top, callers, to, item),
         SimpleNode::Increment(place) => {
-            counts(
-                alloc,
-                program,
-                top,
-                callers,
-                place,
-                BinaryOperator::Add,
-                Word::Int(1),
-            )
+            counts(alloc, program, top, callers, place, BinaryOperator::Add)
         }
         SimpleNode::Decrement(place) => {
-            counts(
-                alloc,
-                program,
-                top,
-                callers,
-                place,
-                BinaryOperator::Subtract,
-                Word::Int(1),
-            )
+            let operator = BinaryOperator::Subtract;
+            counts(alloc, program, top, callers, place, operator)
         }
         SimpleNode::Update(place, operator, operand) => {
             updates(alloc, program, top, callers, place, *operator, operand)

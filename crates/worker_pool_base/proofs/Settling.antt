@@ -1,6 +1,7 @@
 -- What calls of a book leave as it was.
-use Rattle.std.proofs.Common.{ap, ◌∙◌}
-use Rattle.book.specs.Desks.{Desk, OnlyLooks, Settles, settled_by}
+use Rattle.std.proofs.Common.{ap, subst, ◌∙◌}
+use Rattle.book.specs.Desks.{Desk, KeepsLeases, OnlyLooks, Settles, settled_by}
+use Rattle.book.specs.declared.settled.Reached.TheVariants as reached
 use Rattle.book.specs.declared.settled.Reached.{Reached}
 use Rattle.book.specs.declared.settled.Settled.{Settled}
 use Rattle.book.specs.declared.settled.Settled.TheVariants.{Committed, Waiting, Ended}
@@ -8,7 +9,9 @@ use Rattle.book.proofs.Whole.{looks_run, looks_taken}
 use Rattle.bytecode.specs.Code.{Code}
 use Rattle.worker_pool_base.specs.Handing.{KeepsTaken}
 use Rattle.worker_pool_base.specs.Runs.{IsOfRun}
-use Rattle.std.specs.Prelude.{ℕ, Bool, IfOk, OnErr, Result, Ok, Err}
+use Rattle.worker_pool_base.specs.Turns.{Commits, SettlesAll, SettlesOne, is_committed}
+use Rattle.std.specs.Prelude.{◌≡◌, ℕ, Bool, List, ◌∷◌, None, Some, IfOk, OnErr, Result, Ok, Err}
+use Rattle.word.specs.declared.end.End.{End as Ending}
 use Rattle.go_text.specs.declared.fault.Memory.{Memory}
 use Rattle.word.specs.declared.request.Event.{Event as Recorded}
 
@@ -40,6 +43,25 @@ settles_keep_run code limit traces old new (Ended end) h is = record { code = ap
 pub settled_keeps_run : (code : Code) (limit : ℕ) (traces : Bool) (old new : Desk) (event : Recorded) (r : Result Reached Memory) → IfOk r (λ s. Settles old (settled_by s event) new) → OnErr r (OnlyLooks old new) → IsOfRun code limit traces old → IsOfRun code limit traces new
 settled_keeps_run code limit traces old new event (Ok s) h e is = settles_keep_run code limit traces old new (settled_by s event) h is
 settled_keeps_run code limit traces old new event (Err x) h e is = looks_keep_run code limit traces old new e is
+
+pub leases_stay : (a b c : Desk) → KeepsLeases a b → KeepsLeases b c → KeepsLeases a c
+leases_stay a b c h k = λ l out. k l (h l out)
+
+-- whether an event is committed, by what is answered of its place
+pub settled_one : (old new : Desk) (event : Recorded) (r : Reached) (committed : Bool) → Settles old (settled_by r event) new → is_committed (settled_by r event) ≡ committed → SettlesOne old committed new
+settled_one old new event r committed h is = (settled_by r event, h, is)
+
+-- one event more is committed
+pub one_more : (old mid new : Desk) (events : List Recorded) (event : Recorded) (r : Reached) → r ≡ reached.Committed → Commits old events mid → Settles mid (settled_by r event) new → Commits old (event ∷ events) new
+one_more old mid new events event r is h s = (mid, h, subst (λ (r : Reached). Settles mid (settled_by r event) new) is s)
+
+-- somebody stands before the next event
+pub all_waiting : (old mid new : Desk) (events : List Recorded) (event : Recorded) (r : Reached) (n : ℕ) → r ≡ reached.Waiting n → Commits old events mid → Settles mid (settled_by r event) new → SettlesAll old None new
+all_waiting old mid new events event r n is h s = (events, mid, h, n, subst (λ (r : Reached). Settles mid (settled_by r event) new) is s)
+
+-- the run has ended
+pub all_ended : (old mid new : Desk) (events : List Recorded) (event : Recorded) (r : Reached) (ending : Ending) → r ≡ reached.Ended ending → Commits old events mid → Settles mid (settled_by r event) new → SettlesAll old (Some ending) new
+all_ended old mid new events event r ending is h s = (events, mid, h, subst (λ (r : Reached). Settles mid (settled_by r event) new) is s)
 
 pub kept_taken : (a b c : Desk) → KeepsTaken a b → KeepsTaken b c → KeepsTaken a c
 kept_taken a b c h k = record { taken = k.taken ∙ h.taken; traced = k.traced ∙ h.traced }

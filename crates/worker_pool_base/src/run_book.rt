@@ -1,14 +1,16 @@
 //! The book of the run of a name.
 
-ghost use Rattle.std.specs.Prelude.{◌≡◌, ◌+◌, [], IfErr, IfOk, IfSome, OnErr, OnOk, length};
+ghost use Rattle.std.specs.Prelude.{◌≡◌, ◌+◌, [], IfErr, IfNone, IfOk, IfSome, None, OnErr, OnOk, Some, length};
 ghost use Rattle.std.specs.Arc.{arc_value};
 ghost use Rattle.std.specs.Option.{is_some};
-ghost use Rattle.book.specs.Desks.{opened_desk};
+ghost use Rattle.book.specs.Desks.{IsLent, KeepsLeases, OnlyLooks, brought, opened_desk};
+ghost use Rattle.clock_table.specs.Clocks.{WasLent, loan_for, row as word_at};
 ghost use Rattle.clock_table.specs.Seats.{table_of};
 ghost use Rattle.one_thread.specs.Worlds.{IsLimit};
 ghost use Rattle.worker_pool_base.specs.Handing.{HasEnded, KeepsTaken};
 ghost use Rattle.worker_pool_base.specs.Runs.{IsHanded, IsOfRun, output_run, trace_run};
-ghost use Rattle.world_core_base.specs.Cores.{to_lend};
+ghost use Rattle.worker_pool_base.specs.Turns.{Lends, SettlesAll, SettlesOne, SettlesSome};
+ghost use Rattle.world_core_base.specs.Cores.{Works, to_lend};
 
 use crate::run_name::{OfRun, RunLease, RunName};
 use book::{Blank, Book, Reached};
@@ -46,10 +48,14 @@ impl<B: RunName> RunBook<B> {
         Ok(RunBook { book, event })
     }
 
-    /// Lends a goroutine, if there is one to be lent.
+    /// Lends the goroutine of least key of those that are awake and neither lent nor parked; none where there is none, or the run
+    /// has ended.
     #[inline(always)]
     pub fn lend(&mut self) -> Result<Option<RunLease<B>>, Memory>
-        ensures { KeepsTaken self.old.book self.new.book }
+        ensures none { IfOk result (λ found. IfNone found ((to_lend self.old.book.core ≡ None) × (self.new.book ≡ self.old.book))) }
+        ensures lent { IfOk result (λ found. IfSome found (λ l. Lends self.old.book l self.new.book)) }
+        ensures memory { OnErr result (self.new.book ≡ self.old.book) }
+        ensures taken { KeepsTaken self.old.book self.new.book }
     {
         self.book.lend()
     }
@@ -58,7 +64,12 @@ impl<B: RunName> RunBook<B> {
     /// none where there is nobody to lend.
     #[inline(always)]
     pub fn work(&mut self, quantum: u32) -> Result<Option<bool>, Memory>
-        ensures { KeepsTaken self.old.book self.new.book }
+        ensures none { IfOk result (λ found. IfNone found ((to_lend self.old.book.core ≡ None) × (self.new.book.core ≡ self.old.book.core))) }
+        ensures works { IfOk result (λ found. IfSome found (λ asking. Works self.old.book.code self.old.book.limit quantum self.old.book.core (Some asking) self.new.book.core)) }
+        ensures memory { OnErr result (Works self.old.book.code self.old.book.limit quantum self.old.book.core None self.new.book.core) }
+        ensures rest { self.new.book ≡ record self.old.book { core = self.new.book.core } }
+        ensures leases { KeepsLeases self.old.book self.new.book }
+        ensures taken { KeepsTaken self.old.book self.new.book }
     {
         self.book.work(quantum)
     }
@@ -70,10 +81,13 @@ impl<B: RunName> RunBook<B> {
         self.book.may_lend()
     }
 
-    /// Puts a lease back.
+    /// Puts the present state of a lease back; after an end that changes nothing but its slot, which is free again.
     #[inline(always)]
     pub fn bring(&mut self, lease: RunLease<B>)
-        ensures { KeepsTaken self.old.book self.new.book }
+        ensures out { IsLent self.old.book lease }
+        ensures looks { WasLent (loan_for self.old.book.code self.old.book.limit lease.number lease.base) lease.published (word_at self.old.book.words lease.slot) }
+        ensures brought { self.new.book ≡ brought self.old.book lease }
+        ensures taken { KeepsTaken self.old.book self.new.book }
     {
         self.book.bring(lease);
     }
@@ -81,16 +95,22 @@ impl<B: RunName> RunBook<B> {
     /// Commits the next event, and answers whether there was one to commit.
     #[inline(always)]
     pub fn settle_one(&mut self) -> Result<bool, Memory>
-        ensures { KeepsTaken self.old.book self.new.book }
+        ensures settles { IfOk result (λ committed. SettlesOne self.old.book committed self.new.book) }
+        ensures memory { OnErr result (OnlyLooks self.old.book self.new.book) }
+        ensures leases { KeepsLeases self.old.book self.new.book }
+        ensures taken { KeepsTaken self.old.book self.new.book }
     {
         let reached = self.book.settle_into(&mut self.event)?;
         Ok(matches!(reached, Reached::Committed))
     }
 
-    /// Commits all that can be committed, and answers the end, where the run has ended.
+    /// Commits all that can be committed, and answers the end, where the run has ended. A run has at most 2^62 events.
     pub fn settle_all(&mut self) -> Result<Option<End>, Memory>
-        ensures taken { KeepsTaken self.old.book self.new.book }
+        ensures settles { IfOk result (λ found. SettlesAll self.old.book found self.new.book) }
+        ensures memory { OnErr result (SettlesSome self.old.book self.new.book) }
+        ensures leases { KeepsLeases self.old.book self.new.book }
         ensures end { IfOk result (λ found. IfSome found (HasEnded self.new.book)) }
+        ensures taken { KeepsTaken self.old.book self.new.book }
     {
         'events: for _ in 0..u64::MAX {
             match self.book.settle_into(&mut self.event)? {
@@ -99,7 +119,7 @@ impl<B: RunName> RunBook<B> {
                 Reached::Ended(end) => return Ok(Some(end)),
             }
         }
-        Ok(None)
+        Err(Memory)
     }
 
     /// The bytes of the output that were committed and not yet taken out.

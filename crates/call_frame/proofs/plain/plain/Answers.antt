@@ -1,5 +1,6 @@
 use Rattle.std.proofs.Common.{◌≡◌, ◌++◌, ◌∷◌, [], ℤ, length, rules, subst}
 use Rattle.std.proofs.Math.Facts.{to_z-of_z}
+use Rattle.std.proofs.lemmas.Result.{IfOk-weaker}
 use mir.Syntax.{w64}
 use mir.Val.{to_z, of_z}
 use Rattle.bytecode.specs.declared.instr.Instr.{Instr}
@@ -31,3 +32,12 @@ returns-in-Apply-clause-ok c = λ code callers sound. rw c.in-Apply.is (c.operat
 
 pub returns-in-Unless-clause-ok : goal.returns-in-Unless-clause-ok
 returns-in-Unless-clause-ok c = λ code callers sound. rw c.in-Unless.is (c.choose.ensures.step c.args.may code callers)
+
+pub returns-in-Load-clause-ok : goal.returns-in-Load-clause-ok
+returns-in-Load-clause-ok c = rw c.in-Load.is (IfOk-weaker c.load_range.result _ _ (λ step went code callers. went c.args.may code callers) c.load_range.ensures.ok)
+
+pub returns-in-Store-clause-ok : goal.returns-in-Store-clause-ok
+returns-in-Store-clause-ok c = rw c.in-Store.is (λ code callers. c.store_range.ensures c.args.may code callers)
+
+pub returns-in-Pick-clause-ok : goal.returns-in-Pick-clause-ok
+returns-in-Pick-clause-ok c = rw c.in-Pick.is (IfOk-weaker c.pick_range.result _ _ (λ step went code callers. went c.args.may code callers) c.pick_range.ensures.ok)
