@@ -24,7 +24,7 @@ returns-in-Leaves-clause-applies g c = λ s up.
 
 pub returns-in-Starts-clause-applies : goal.returns-in-Starts-clause-applies
 returns-in-Starts-clause-applies g c = λ s up.
-    let value = c.as_mut_slice-in-Starts.ensures.value in
+    let value = c.as_mut_slice-all-in-Starts.ensures.value in
     let back = written_back c.args.places.now.len c.args.places.now.items c.tell_at-in-Starts.new.places c.args.places.now.ok.0 (let kept = c.tell_at-in-Starts.auto.places in let same = ap length value in omega (arith, kept, same)) in
     let set = rw value at c.in_ok-tell_at-in-Starts.ensures.told in
     let begun = c.in_ok-state-in-Starts.ensures in
@@ -48,14 +48,14 @@ returns-in-Leaves-clause-within g c = λ limit soon. within_back limit c.args.pl
 pub returns-in-Prints-clause-within : goal.returns-in-Prints-clause-within
 returns-in-Prints-clause-within g c =
     ok_more c.tell_at-in-Prints.result c.tell_at-in-Prints.ensures.within (λ x kept limit soon.
-    within_back limit c.args.places.now.len c.args.places.now.items c.as_mut_slice-in-Prints.result.now c.tell_at-in-Prints.new.places c.as_mut_slice-in-Prints.ensures.value c.args.places.now.ok.0 c.tell_at-in-Prints.auto.places (kept limit soon))
+    within_back limit c.args.places.now.len c.args.places.now.items c.as_mut_slice-all.result.now c.tell_at-in-Prints.new.places c.as_mut_slice-all.ensures.value c.args.places.now.ok.0 c.tell_at-in-Prints.auto.places (kept limit soon))
 
 pub returns-in-Starts-clause-within : goal.returns-in-Starts-clause-within
 returns-in-Starts-clause-within g c = λ limit soon all.
     let new : (Goroutine g.row.P-State.Denot) = record { clock = c.args.later; doomed = false; asleep = false; state = c.in_ok-state-in-Starts.state } in
     subst (AreWithin limit) (sym c.in_ok-push-in-Starts.ensures.items)
     (within_also limit _ new
-    (within_back limit c.args.places.now.len c.args.places.now.items c.as_mut_slice-in-Starts.result.now c.tell_at-in-Starts.new.places c.as_mut_slice-in-Starts.ensures.value c.args.places.now.ok.0 c.tell_at-in-Starts.auto.places (c.in_ok-tell_at-in-Starts.ensures.within limit soon) all)
+    (within_back limit c.args.places.now.len c.args.places.now.items c.as_mut_slice-all-in-Starts.result.now c.tell_at-in-Starts.new.places c.as_mut_slice-all-in-Starts.ensures.value c.args.places.now.ok.0 c.tell_at-in-Starts.auto.places (c.in_ok-tell_at-in-Starts.ensures.within limit soon) all)
     soon)
 
 pub returns-in-Done-clause-within : goal.returns-in-Done-clause-within
@@ -69,7 +69,7 @@ returns-in-Done-clause-within g c =
 
 pub returns-in-Prints-clause-applies : goal.returns-in-Prints-clause-applies
 returns-in-Prints-clause-applies g c =
-    let value = c.as_mut_slice-in-Prints.ensures.value in
+    let value = c.as_mut_slice-all.ensures.value in
     let back = written_back c.args.places.now.len c.args.places.now.items c.tell_at-in-Prints.new.places c.args.places.now.ok.0 (c.tell_at-in-Prints.auto.places ∙ ap length value) in
     ok_more c.tell_at-in-Prints.result c.tell_at-in-Prints.ensures.told (λ x told s up. rw (c.in-Prints.is, back) ((rw value at told) s up))
 
