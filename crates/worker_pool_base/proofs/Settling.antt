@@ -9,7 +9,7 @@ use Rattle.book.proofs.Whole.{looks_run, looks_taken}
 use Rattle.bytecode.specs.Code.{Code}
 use Rattle.worker_pool_base.specs.Handing.{KeepsTaken}
 use Rattle.worker_pool_base.specs.Runs.{IsOfRun}
-use Rattle.worker_pool_base.specs.Turns.{Commits, SettlesAll, SettlesOne, is_committed}
+use Rattle.worker_pool_base.specs.Turns.{Commits, SettlesAll, SettlesOne, SettlesSome, is_committed}
 use Rattle.std.specs.Prelude.{◌≡◌, ℕ, Bool, List, ◌∷◌, None, Some, IfOk, OnErr, Result, Ok, Err}
 use Rattle.word.specs.declared.end.End.{End as Ending}
 use Rattle.go_text.specs.declared.fault.Memory.{Memory}
@@ -52,12 +52,16 @@ pub settled_one : (old new : Desk) (event : Recorded) (r : Reached) (committed :
 settled_one old new event r committed h is = (settled_by r event, h, is)
 
 -- one event more is committed
-pub one_more : (old mid new : Desk) (events : List Recorded) (event : Recorded) (r : Reached) → r ≡ reached.Committed → Commits old events mid → Settles mid (settled_by r event) new → Commits old (event ∷ events) new
-one_more old mid new events event r is h s = (mid, h, subst (λ (r : Reached). Settles mid (settled_by r event) new) is s)
+pub one_more : (old mid new : Desk) (events : List Recorded) (event : Recorded) (r : Reached) → r ≡ reached.Committed → Commits old events mid → Settles mid (settled_by r event) new → (all : List Recorded) × Commits old all new
+one_more old mid new events event r is h s = (event ∷ events, (mid, h, subst (λ (r : Reached). Settles mid (settled_by r event) new) is s))
+
+-- want of memory
+pub some_settled : (old mid new : Desk) (events : List Recorded) → Commits old events mid → OnlyLooks mid new → SettlesSome old new
+some_settled old mid new events h looks = (events, mid, h, looks)
 
 -- somebody stands before the next event
 pub all_waiting : (old mid new : Desk) (events : List Recorded) (event : Recorded) (r : Reached) (n : ℕ) → r ≡ reached.Waiting n → Commits old events mid → Settles mid (settled_by r event) new → SettlesAll old None new
-all_waiting old mid new events event r n is h s = (events, mid, h, n, subst (λ (r : Reached). Settles mid (settled_by r event) new) is s)
+all_waiting old mid new events event r n is h s = (events, mid, h, (n, subst (λ (r : Reached). Settles mid (settled_by r event) new) is s))
 
 -- the run has ended
 pub all_ended : (old mid new : Desk) (events : List Recorded) (event : Recorded) (r : Reached) (ending : Ending) → r ≡ reached.Ended ending → Commits old events mid → Settles mid (settled_by r event) new → SettlesAll old (Some ending) new
