@@ -1,7 +1,6 @@
 //! Where the nodes of a file stand.
 
-ghost use Rattle.std.specs.Prelude.{◌≡◌, ◌++◌, IfOk, IfErr, map, option_map, sum_by, vec_len};
-ghost use Rattle.go_text.specs.declared.fault.Fault.TheVariants as faults;
+ghost use Rattle.std.specs.Prelude.{◌≡◌, ◌++◌, IfOk, map, option_map, sum_by, vec_len};
 ghost use Rattle.syntax.specs.Measures.{if_any, size};
 ghost use Rattle.syntax.specs.View.{type_of, declared_of, struct_of, function_of, top_of, file_of};
 ghost use Rattle.syntax.specs.Tree.{StructTop, FunctionTop};
@@ -12,7 +11,7 @@ use crate::expression::trailing_count;
 use crate::over::add_node;
 use crate::statement::block_spans;
 use crate::types::type_spans;
-use go_text::{Fault, Span};
+use go_text::{Memory, Span};
 use scanner::Token;
 use std::alloc::Global;
 use syntax::{DeclaredNode, FileNode, FunctionNode, StructNode, TopNode, TypeNode};
@@ -23,11 +22,10 @@ fn group_spans(
     tokens: &[Token],
     at: usize,
     spans: &mut Vec<Span>,
-) -> Result<usize, Fault>
+) -> Result<usize, Memory>
     requires { EndsInReach at (group_count (declared_of group.now)) }
     ensures count { IfOk result (λ count. count ≡ group_count (declared_of group.now)) }
     ensures spans { IfOk result (λ _. spans.new.items ≡ spans.old.items ++ group_spans tokens.now at (declared_of group.now)) }
-    ensures err { IfErr result (λ e. e ≡ faults.Memory) }
 {
     let names = (group.names.len() * 2).saturating_sub(1);
     let count = names + type_spans(&group.type_node, tokens, at + names, spans)?;
@@ -41,11 +39,10 @@ fn groups_spans(
     tokens: &[Token],
     at: usize,
     spans: &mut Vec<Span>,
-) -> Result<usize, Fault>
+) -> Result<usize, Memory>
     requires { EndsInReach at (groups_count (map declared_of groups.now) trailing) }
     ensures count { IfOk result (λ count. count ≡ groups_count (map declared_of groups.now) trailing) }
     ensures spans { IfOk result (λ _. spans.new.items ≡ spans.old.items ++ groups_spans tokens.now at (map declared_of groups.now)) }
-    ensures err { IfErr result (λ e. e ≡ faults.Memory) }
 {
     let mut count = 0;
     for group in groups {
@@ -60,11 +57,10 @@ fn optional_type_spans(
     tokens: &[Token],
     at: usize,
     spans: &mut Vec<Span>,
-) -> Result<usize, Fault>
+) -> Result<usize, Memory>
     requires { EndsInReach at (if_any type_count (option_map type_of kind.now)) }
     ensures count { IfOk result (λ count. count ≡ if_any type_count (option_map type_of kind.now)) }
     ensures spans { IfOk result (λ _. spans.new.items ≡ spans.old.items ++ optional_spans type_spans tokens.now at (option_map type_of kind.now)) }
-    ensures err { IfErr result (λ e. e ≡ faults.Memory) }
 {
     match kind {
         None => Ok(0),
@@ -78,11 +74,10 @@ fn struct_spans(
     tokens: &[Token],
     at: usize,
     spans: &mut Vec<Span>,
-) -> Result<usize, Fault>
+) -> Result<usize, Memory>
     requires { EndsInReach at (top_count (StructTop (struct_of node.now))) }
     ensures count { IfOk result (λ count. count ≡ top_count (StructTop (struct_of node.now))) }
     ensures spans { IfOk result (λ _. spans.new.items ≡ spans.old.items ++ top_spans tokens.now at (StructTop (struct_of node.now))) }
-    ensures err { IfErr result (λ e. e ≡ faults.Memory) }
 {
     let count = 5 + groups_spans(node.fields.as_slice(), node.trailing, tokens, at + 4, spans)?;
     add_node(tokens, at, count, spans)
@@ -94,11 +89,10 @@ fn function_spans(
     tokens: &[Token],
     at: usize,
     spans: &mut Vec<Span>,
-) -> Result<usize, Fault>
+) -> Result<usize, Memory>
     requires { EndsInReach at (top_count (FunctionTop (function_of node.now))) }
     ensures count { IfOk result (λ count. count ≡ top_count (FunctionTop (function_of node.now))) }
     ensures spans { IfOk result (λ _. spans.new.items ≡ spans.old.items ++ top_spans tokens.now at (FunctionTop (function_of node.now))) }
-    ensures err { IfErr result (λ e. e ≡ faults.Memory) }
 {
     let parameters = groups_spans(
         node.parameters.as_slice(),
@@ -120,11 +114,10 @@ fn top_spans(
     tokens: &[Token],
     at: usize,
     spans: &mut Vec<Span>,
-) -> Result<usize, Fault>
+) -> Result<usize, Memory>
     requires { EndsInReach at (top_count (top_of top.now)) }
     ensures count { IfOk result (λ count. count ≡ top_count (top_of top.now)) }
     ensures spans { IfOk result (λ _. spans.new.items ≡ spans.old.items ++ top_spans tokens.now at (top_of top.now)) }
-    ensures err { IfErr result (λ e. e ≡ faults.Memory) }
 {
     match top {
         TopNode::Struct(node) => struct_spans(node, tokens, at, spans),
@@ -138,11 +131,10 @@ fn tops_spans(
     tokens: &[Token],
     at: usize,
     spans: &mut Vec<Span>,
-) -> Result<usize, Fault>
+) -> Result<usize, Memory>
     requires { EndsInReach at (sum_by top_step (map top_of tops.now)) }
     ensures count { IfOk result (λ count. count ≡ sum_by top_step (map top_of tops.now)) }
     ensures spans { IfOk result (λ _. spans.new.items ≡ spans.old.items ++ tops_spans tokens.now at (map top_of tops.now)) }
-    ensures err { IfErr result (λ e. e ≡ faults.Memory) }
 {
     let mut count = 0;
     for top in tops {
@@ -153,12 +145,11 @@ fn tops_spans(
 
 /// Where the nodes of a file stand, in the order of their numbers, if these tokens spell it. It fails only where memory
 /// is refused.
-pub fn file_spans(alloc: Global, file: &FileNode, tokens: &[Token]) -> Result<Vec<Span>, Fault>
+pub fn file_spans(alloc: Global, file: &FileNode, tokens: &[Token]) -> Result<Vec<Span>, Memory>
     requires { EndsInReach 0 (file_count (file_of file.now)) }
     ensures spans { IfOk result (λ spans. spans.items ≡ file_spans tokens.now (file_of file.now)) }
     // Each node has one.
     ensures numbered { IfOk result (λ spans. vec_len spans ≡ size (file_of file.now)) }
-    ensures err { IfErr result (λ e. e ≡ faults.Memory) }
 {
     let mut spans = Vec::new(alloc);
     let count = 3 + tops_spans(file.tops.as_slice(), tokens, 3, &mut spans)?;

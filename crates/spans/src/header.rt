@@ -1,7 +1,6 @@
 //! Where the nodes of headers stand, and those of what a clause of a select waits for.
 
-ghost use Rattle.std.specs.Prelude.{◌≡◌, ◌+◌, ◌++◌, IfOk, IfErr, option_map};
-ghost use Rattle.go_text.specs.declared.fault.Fault.TheVariants as faults;
+ghost use Rattle.std.specs.Prelude.{◌≡◌, ◌+◌, ◌++◌, IfOk, option_map};
 ghost use Rattle.syntax.specs.Measures.{if_any};
 ghost use Rattle.syntax.specs.Tree.{CommAssign, ForClauses, Range};
 ghost use Rattle.syntax.specs.View.{name_of, expression_of, place_of, right_of, simple_of, if_head_of, target_of, for_head_of, comm_of, returned_of};
@@ -11,7 +10,7 @@ ghost use Rattle.spans.specs.Places.{optional_spans, expression_spans, simple_sp
 use crate::expression::expression_spans;
 use crate::over::add_node;
 use crate::simple::{operation_spans, place_span, right_spans, send_spans, simple_spans};
-use go_text::{Fault, Span};
+use go_text::{Memory, Span};
 use scanner::Token;
 use syntax::{
     CommNode, ExpressionNode, ForHeader, IfHeader, Name, PlaceNode, RangeTarget, ReturnNode,
@@ -24,11 +23,10 @@ pub(crate) fn if_head_spans(
     tokens: &[Token],
     at: usize,
     spans: &mut Vec<Span>,
-) -> Result<usize, Fault>
+) -> Result<usize, Memory>
     requires { EndsInReach at (if_head_count (if_head_of header.now)) }
     ensures count { IfOk result (λ count. count ≡ if_head_count (if_head_of header.now)) }
     ensures spans { IfOk result (λ _. spans.new.items ≡ spans.old.items ++ if_head_spans tokens.now at (if_head_of header.now)) }
-    ensures err { IfErr result (λ e. e ≡ faults.Memory) }
 {
     match header {
         IfHeader::Bare => Ok(0),
@@ -43,11 +41,10 @@ fn target_spans(
     tokens: &[Token],
     at: usize,
     spans: &mut Vec<Span>,
-) -> Result<usize, Fault>
+) -> Result<usize, Memory>
     requires { EndsInReach at (target_count (target_of target.now)) }
     ensures count { IfOk result (λ count. count ≡ target_count (target_of target.now)) }
     ensures spans { IfOk result (λ _. spans.new.items ≡ spans.old.items ++ target_spans tokens.now at (target_of target.now)) }
-    ensures err { IfErr result (λ e. e ≡ faults.Memory) }
 {
     match target {
         RangeTarget::Nothing => Ok(0),
@@ -62,11 +59,10 @@ fn optional_simple_spans(
     tokens: &[Token],
     at: usize,
     spans: &mut Vec<Span>,
-) -> Result<usize, Fault>
+) -> Result<usize, Memory>
     requires { EndsInReach at (if_any simple_count (option_map simple_of simple.now)) }
     ensures count { IfOk result (λ count. count ≡ if_any simple_count (option_map simple_of simple.now)) }
     ensures spans { IfOk result (λ _. spans.new.items ≡ spans.old.items ++ optional_spans simple_spans tokens.now at (option_map simple_of simple.now)) }
-    ensures err { IfErr result (λ e. e ≡ faults.Memory) }
 {
     match simple {
         None => Ok(0),
@@ -80,11 +76,10 @@ fn optional_expression_spans(
     tokens: &[Token],
     at: usize,
     spans: &mut Vec<Span>,
-) -> Result<usize, Fault>
+) -> Result<usize, Memory>
     requires { EndsInReach at (if_any expression_count (option_map expression_of expression.now)) }
     ensures count { IfOk result (λ count. count ≡ if_any expression_count (option_map expression_of expression.now)) }
     ensures spans { IfOk result (λ _. spans.new.items ≡ spans.old.items ++ optional_spans expression_spans tokens.now at (option_map expression_of expression.now)) }
-    ensures err { IfErr result (λ e. e ≡ faults.Memory) }
 {
     match expression {
         None => Ok(0),
@@ -100,11 +95,10 @@ fn for_clauses_spans(
     tokens: &[Token],
     at: usize,
     spans: &mut Vec<Span>,
-) -> Result<usize, Fault>
+) -> Result<usize, Memory>
     requires { EndsInReach at (for_head_count (ForClauses (option_map simple_of first.now) (option_map expression_of condition.now) (option_map simple_of post.now))) }
     ensures count { IfOk result (λ count. count ≡ for_head_count (ForClauses (option_map simple_of first.now) (option_map expression_of condition.now) (option_map simple_of post.now))) }
     ensures spans { IfOk result (λ _. spans.new.items ≡ spans.old.items ++ for_head_spans tokens.now at (ForClauses (option_map simple_of first.now) (option_map expression_of condition.now) (option_map simple_of post.now))) }
-    ensures err { IfErr result (λ e. e ≡ faults.Memory) }
 {
     let first = optional_simple_spans(first, tokens, at, spans)?;
     let second = optional_expression_spans(condition, tokens, at + first + 1, spans)?;
@@ -119,11 +113,10 @@ fn range_spans(
     tokens: &[Token],
     at: usize,
     spans: &mut Vec<Span>,
-) -> Result<usize, Fault>
+) -> Result<usize, Memory>
     requires { EndsInReach at (for_head_count (Range (target_of target.now) (expression_of channel.now))) }
     ensures count { IfOk result (λ count. count ≡ for_head_count (Range (target_of target.now) (expression_of channel.now))) }
     ensures spans { IfOk result (λ _. spans.new.items ≡ spans.old.items ++ for_head_spans tokens.now at (Range (target_of target.now) (expression_of channel.now))) }
-    ensures err { IfErr result (λ e. e ≡ faults.Memory) }
 {
     let count = target_spans(target, tokens, at, spans)?;
     Ok(count + expression_spans(channel, tokens, at + count + 1, spans)? + 1)
@@ -135,11 +128,10 @@ pub(crate) fn for_head_spans(
     tokens: &[Token],
     at: usize,
     spans: &mut Vec<Span>,
-) -> Result<usize, Fault>
+) -> Result<usize, Memory>
     requires { EndsInReach at (for_head_count (for_head_of header.now)) }
     ensures count { IfOk result (λ count. count ≡ for_head_count (for_head_of header.now)) }
     ensures spans { IfOk result (λ _. spans.new.items ≡ spans.old.items ++ for_head_spans tokens.now at (for_head_of header.now)) }
-    ensures err { IfErr result (λ e. e ≡ faults.Memory) }
 {
     match header {
         ForHeader::Forever => Ok(0),
@@ -157,11 +149,10 @@ fn second_spans(
     tokens: &[Token],
     at: usize,
     spans: &mut Vec<Span>,
-) -> Result<usize, Fault>
+) -> Result<usize, Memory>
     requires { EndsInReach at (second_count (option_map place_of place.now)) }
     ensures count { IfOk result (λ count. count ≡ second_count (option_map place_of place.now)) }
     ensures spans { IfOk result (λ _. spans.new.items ≡ spans.old.items ++ second_spans tokens.now at (option_map place_of place.now)) }
-    ensures err { IfErr result (λ e. e ≡ faults.Memory) }
 {
     match place {
         None => Ok(0),
@@ -175,11 +166,10 @@ fn receive_spans(
     tokens: &[Token],
     at: usize,
     spans: &mut Vec<Span>,
-) -> Result<usize, Fault>
+) -> Result<usize, Memory>
     requires { EndsInReach at (expression_count (expression_of channel.now) + 1) }
     ensures count { IfOk result (λ count. count ≡ expression_count (expression_of channel.now) + 1) }
     ensures spans { IfOk result (λ _. spans.new.items ≡ spans.old.items ++ receive_spans tokens.now at (expression_of channel.now)) }
-    ensures err { IfErr result (λ e. e ≡ faults.Memory) }
 {
     let count = expression_spans(channel, tokens, at + 1, spans)? + 1;
     add_node(tokens, at, count, spans)
@@ -203,11 +193,10 @@ fn assign_spans(
     tokens: &[Token],
     at: usize,
     spans: &mut Vec<Span>,
-) -> Result<usize, Fault>
+) -> Result<usize, Memory>
     requires { EndsInReach at (comm_count (CommAssign (place_of item.now) (option_map place_of ok.now) (expression_of channel.now))) }
     ensures count { IfOk result (λ count. count ≡ comm_count (CommAssign (place_of item.now) (option_map place_of ok.now) (expression_of channel.now))) }
     ensures spans { IfOk result (λ _. spans.new.items ≡ spans.old.items ++ below_comm tokens.now at (CommAssign (place_of item.now) (option_map place_of ok.now) (expression_of channel.now))) }
-    ensures err { IfErr result (λ e. e ≡ faults.Memory) }
 {
     let first = place_span(item, tokens, at, spans)?;
     let second = second_spans(ok, tokens, at + first, spans)?;
@@ -220,11 +209,10 @@ fn comm_spans(
     tokens: &[Token],
     at: usize,
     spans: &mut Vec<Span>,
-) -> Result<usize, Fault>
+) -> Result<usize, Memory>
     requires { EndsInReach at (comm_count (comm_of comm.now)) }
     ensures count { IfOk result (λ count. count ≡ comm_count (comm_of comm.now)) }
     ensures spans { IfOk result (λ _. spans.new.items ≡ spans.old.items ++ comm_spans tokens.now at (comm_of comm.now)) }
-    ensures err { IfErr result (λ e. e ≡ faults.Memory) }
 {
     let count = match comm {
         CommNode::Send(channel, value) => send_spans(channel, value, tokens, at, spans)?,
@@ -244,11 +232,10 @@ pub(crate) fn start_spans(
     tokens: &[Token],
     at: usize,
     spans: &mut Vec<Span>,
-) -> Result<usize, Fault>
+) -> Result<usize, Memory>
     requires { EndsInReach at (start_count (option_map comm_of comm.now)) }
     ensures count { IfOk result (λ count. count ≡ start_count (option_map comm_of comm.now)) }
     ensures spans { IfOk result (λ _. spans.new.items ≡ spans.old.items ++ start_spans tokens.now at (option_map comm_of comm.now)) }
-    ensures err { IfErr result (λ e. e ≡ faults.Memory) }
 {
     match comm {
         None => Ok(2),
@@ -262,11 +249,10 @@ pub(crate) fn initial_spans(
     tokens: &[Token],
     at: usize,
     spans: &mut Vec<Span>,
-) -> Result<usize, Fault>
+) -> Result<usize, Memory>
     requires { EndsInReach at (initial_count (option_map right_of right.now)) }
     ensures count { IfOk result (λ count. count ≡ initial_count (option_map right_of right.now)) }
     ensures spans { IfOk result (λ _. spans.new.items ≡ spans.old.items ++ initial_spans tokens.now at (option_map right_of right.now)) }
-    ensures err { IfErr result (λ e. e ≡ faults.Memory) }
 {
     match right {
         None => Ok(0),
@@ -280,11 +266,10 @@ pub(crate) fn returned_spans(
     tokens: &[Token],
     at: usize,
     spans: &mut Vec<Span>,
-) -> Result<usize, Fault>
+) -> Result<usize, Memory>
     requires { EndsInReach at (returned_count (returned_of returned.now)) }
     ensures count { IfOk result (λ count. count ≡ returned_count (returned_of returned.now)) }
     ensures spans { IfOk result (λ _. spans.new.items ≡ spans.old.items ++ returned_spans tokens.now at (returned_of returned.now)) }
-    ensures err { IfErr result (λ e. e ≡ faults.Memory) }
 {
     match returned {
         ReturnNode::Nothing => Ok(0),

@@ -1,11 +1,10 @@
 //! The bytes of a run of tokens.
 
-ghost use Rattle.std.specs.Prelude.{◌≡◌, IfOk, IfErr, slice_get};
-ghost use Rattle.go_text.specs.declared.fault.Fault.TheVariants as faults;
+ghost use Rattle.std.specs.Prelude.{◌≡◌, IfOk, slice_get};
 ghost use Rattle.spans.specs.Words.{EndsInReach};
 ghost use Rattle.spans.specs.Places.{from_of, over, under};
 
-use go_text::{Fault, Span};
+use go_text::{Memory, Span};
 use scanner::Token;
 
 /// The first byte of a token, or 0 where there is none.
@@ -41,11 +40,10 @@ pub(crate) fn add_node(
     at: usize,
     count: usize,
     spans: &mut Vec<Span>,
-) -> Result<usize, Fault>
+) -> Result<usize, Memory>
     requires { EndsInReach at count }
     ensures count { IfOk result (λ n. n ≡ count) }
     ensures spans { IfOk result (λ _. spans.new.items ≡ under spans.old.items (over tokens.now at count)) }
-    ensures err { IfErr result (λ e. e ≡ faults.Memory) }
 {
     spans.push(over(tokens, at, count))?;
     Ok(count)

@@ -1,7 +1,6 @@
 //! Where the nodes of simple statements stand.
 
-ghost use Rattle.std.specs.Prelude.{◌≡◌, ◌+◌, ◌++◌, ◌∷◌, [], IfOk, IfErr, map, option_map, sum_by};
-ghost use Rattle.go_text.specs.declared.fault.Fault.TheVariants as faults;
+ghost use Rattle.std.specs.Prelude.{◌≡◌, ◌+◌, ◌++◌, ◌∷◌, [], IfOk, map, option_map, sum_by};
 ghost use Rattle.syntax.specs.View.{arguments_of, expression_of, operation_of, right_of, part_of, place_of, simple_of};
 ghost use Rattle.spans.specs.Words.{EndsInReach, joined, arguments_count, size_count, operation_count, right_count, place_count, place_step, part_count, part_step, simple_count, expression_count, trailing_count as trailing_of};
 ghost use Rattle.spans.specs.Places.{under, expression_spans, arguments_spans, size_spans, operation_spans, right_spans, place_span, places_spans, part_spans, parts_spans, below_simple, simple_spans};
@@ -9,7 +8,7 @@ ghost use Rattle.spans.specs.Places.{under, expression_spans, arguments_spans, s
 use crate::expression::{expression_spans, trailing_count, values_spans};
 use crate::over::add_node;
 use crate::types::type_spans;
-use go_text::{Fault, Span};
+use go_text::{Memory, Span};
 use scanner::Token;
 use syntax::{
     ArgumentsNode, ExpressionNode, OperationNode, PartNode, PlaceNode, RightNode, SimpleNode,
@@ -21,11 +20,10 @@ pub(crate) fn arguments_spans(
     tokens: &[Token],
     at: usize,
     spans: &mut Vec<Span>,
-) -> Result<usize, Fault>
+) -> Result<usize, Memory>
     requires { EndsInReach at (arguments_count (arguments_of arguments.now)) }
     ensures count { IfOk result (λ count. count ≡ arguments_count (arguments_of arguments.now)) }
     ensures spans { IfOk result (λ _. spans.new.items ≡ spans.old.items ++ arguments_spans tokens.now at (arguments_of arguments.now)) }
-    ensures err { IfErr result (λ e. e ≡ faults.Memory) }
 {
     let count = values_spans(arguments.values.as_slice(), tokens, at + 1, spans)?;
     Ok(count.saturating_sub(1) + trailing_count(arguments.trailing) + 2)
@@ -37,11 +35,10 @@ fn size_spans(
     tokens: &[Token],
     at: usize,
     spans: &mut Vec<Span>,
-) -> Result<usize, Fault>
+) -> Result<usize, Memory>
     requires { EndsInReach at (size_count (option_map expression_of size.now)) }
     ensures count { IfOk result (λ count. count ≡ size_count (option_map expression_of size.now)) }
     ensures spans { IfOk result (λ _. spans.new.items ≡ spans.old.items ++ size_spans tokens.now at (option_map expression_of size.now)) }
-    ensures err { IfErr result (λ e. e ≡ faults.Memory) }
 {
     match size {
         None => Ok(0),
@@ -55,11 +52,10 @@ pub(crate) fn operation_spans(
     tokens: &[Token],
     at: usize,
     spans: &mut Vec<Span>,
-) -> Result<usize, Fault>
+) -> Result<usize, Memory>
     requires { EndsInReach at (operation_count (operation_of operation.now)) }
     ensures count { IfOk result (λ count. count ≡ operation_count (operation_of operation.now)) }
     ensures spans { IfOk result (λ _. spans.new.items ≡ spans.old.items ++ operation_spans tokens.now at (operation_of operation.now)) }
-    ensures err { IfErr result (λ e. e ≡ faults.Memory) }
 {
     let count = match operation {
         OperationNode::Call(_, arguments) => arguments_spans(arguments, tokens, at + 1, spans)? + 1,
@@ -81,11 +77,10 @@ pub(crate) fn right_spans(
     tokens: &[Token],
     at: usize,
     spans: &mut Vec<Span>,
-) -> Result<usize, Fault>
+) -> Result<usize, Memory>
     requires { EndsInReach at (right_count (right_of right.now)) }
     ensures count { IfOk result (λ count. count ≡ right_count (right_of right.now)) }
     ensures spans { IfOk result (λ _. spans.new.items ≡ spans.old.items ++ right_spans tokens.now at (right_of right.now)) }
-    ensures err { IfErr result (λ e. e ≡ faults.Memory) }
 {
     match right {
         RightNode::Operation(operation) => operation_spans(operation, tokens, at, spans),
@@ -102,11 +97,10 @@ fn part_spans(
     tokens: &[Token],
     at: usize,
     spans: &mut Vec<Span>,
-) -> Result<usize, Fault>
+) -> Result<usize, Memory>
     requires { EndsInReach at (part_count (part_of part.now)) }
     ensures count { IfOk result (λ count. count ≡ part_count (part_of part.now)) }
     ensures spans { IfOk result (λ _. spans.new.items ≡ spans.old.items ++ part_spans tokens.now at (part_of part.now)) }
-    ensures err { IfErr result (λ e. e ≡ faults.Memory) }
 {
     match part {
         PartNode::Value(value) => expression_spans(value, tokens, at, spans),
@@ -120,11 +114,10 @@ fn parts_spans(
     tokens: &[Token],
     at: usize,
     spans: &mut Vec<Span>,
-) -> Result<usize, Fault>
+) -> Result<usize, Memory>
     requires { EndsInReach at (joined (sum_by part_step (map part_of parts.now))) }
     ensures count { IfOk result (λ count. count ≡ sum_by part_step (map part_of parts.now)) }
     ensures spans { IfOk result (λ _. spans.new.items ≡ spans.old.items ++ parts_spans tokens.now at (map part_of parts.now)) }
-    ensures err { IfErr result (λ e. e ≡ faults.Memory) }
 {
     let mut count = 0;
     for part in parts {
@@ -139,11 +132,10 @@ pub(crate) fn place_span(
     tokens: &[Token],
     at: usize,
     spans: &mut Vec<Span>,
-) -> Result<usize, Fault>
+) -> Result<usize, Memory>
     requires { EndsInReach at (place_count (place_of place.now)) }
     ensures count { IfOk result (λ count. count ≡ place_count (place_of place.now)) }
     ensures spans { IfOk result (λ _. spans.new.items ≡ under spans.old.items (place_span tokens.now at (place_of place.now))) }
-    ensures err { IfErr result (λ e. e ≡ faults.Memory) }
 {
     add_node(tokens, at, place.fields.len() * 2 + 1, spans)
 }
@@ -154,11 +146,10 @@ fn places_spans(
     tokens: &[Token],
     at: usize,
     spans: &mut Vec<Span>,
-) -> Result<usize, Fault>
+) -> Result<usize, Memory>
     requires { EndsInReach at (sum_by place_step (map place_of places.now)) }
     ensures count { IfOk result (λ count. count ≡ sum_by place_step (map place_of places.now)) }
     ensures spans { IfOk result (λ _. spans.new.items ≡ spans.old.items ++ places_spans tokens.now at (map place_of places.now)) }
-    ensures err { IfErr result (λ e. e ≡ faults.Memory) }
 {
     let mut count = 0;
     for place in places {
@@ -174,11 +165,10 @@ fn print_spans(
     tokens: &[Token],
     at: usize,
     spans: &mut Vec<Span>,
-) -> Result<usize, Fault>
+) -> Result<usize, Memory>
     requires { EndsInReach at (joined (sum_by part_step (map part_of parts.now)) + trailing_of trailing + 3) }
     ensures count { IfOk result (λ count. count ≡ joined (sum_by part_step (map part_of parts.now)) + trailing_of trailing + 3) }
     ensures spans { IfOk result (λ _. spans.new.items ≡ spans.old.items ++ parts_spans tokens.now (at + 2) (map part_of parts.now)) }
-    ensures err { IfErr result (λ e. e ≡ faults.Memory) }
 {
     let count = parts_spans(parts, tokens, at + 2, spans)?;
     Ok(count.saturating_sub(1) + trailing_count(trailing) + 3)
@@ -191,11 +181,10 @@ pub(crate) fn send_spans(
     tokens: &[Token],
     at: usize,
     spans: &mut Vec<Span>,
-) -> Result<usize, Fault>
+) -> Result<usize, Memory>
     requires { EndsInReach at (expression_count (expression_of channel.now) + expression_count (expression_of value.now) + 1) }
     ensures count { IfOk result (λ count. count ≡ expression_count (expression_of channel.now) + expression_count (expression_of value.now) + 1) }
     ensures spans { IfOk result (λ _. spans.new.items ≡ spans.old.items ++ (expression_spans tokens.now at (expression_of channel.now) ++ expression_spans tokens.now (at + expression_count (expression_of channel.now) + 1) (expression_of value.now))) }
-    ensures err { IfErr result (λ e. e ≡ faults.Memory) }
 {
     let count = expression_spans(channel, tokens, at, spans)?;
     Ok(count + expression_spans(value, tokens, at + count + 1, spans)? + 1)
@@ -208,11 +197,10 @@ fn assignment_spans(
     tokens: &[Token],
     at: usize,
     spans: &mut Vec<Span>,
-) -> Result<usize, Fault>
+) -> Result<usize, Memory>
     requires { EndsInReach at (sum_by place_step (map place_of places.now) + right_count (right_of right.now)) }
     ensures count { IfOk result (λ count. count ≡ sum_by place_step (map place_of places.now) + right_count (right_of right.now)) }
     ensures spans { IfOk result (λ _. spans.new.items ≡ spans.old.items ++ (places_spans tokens.now at (map place_of places.now) ++ right_spans tokens.now (at + sum_by place_step (map place_of places.now)) (right_of right.now))) }
-    ensures err { IfErr result (λ e. e ≡ faults.Memory) }
 {
     let count = places_spans(places, tokens, at, spans)?;
     Ok(count + right_spans(right, tokens, at + count, spans)?)
@@ -224,11 +212,10 @@ fn step_spans(
     tokens: &[Token],
     at: usize,
     spans: &mut Vec<Span>,
-) -> Result<usize, Fault>
+) -> Result<usize, Memory>
     requires { EndsInReach at (place_count (place_of place.now) + 1) }
     ensures count { IfOk result (λ count. count ≡ place_count (place_of place.now) + 1) }
     ensures spans { IfOk result (λ _. spans.new.items ≡ spans.old.items ++ place_span tokens.now at (place_of place.now) ∷ []) }
-    ensures err { IfErr result (λ e. e ≡ faults.Memory) }
 {
     Ok(place_span(place, tokens, at, spans)? + 1)
 }
@@ -240,11 +227,10 @@ fn update_spans(
     tokens: &[Token],
     at: usize,
     spans: &mut Vec<Span>,
-) -> Result<usize, Fault>
+) -> Result<usize, Memory>
     requires { EndsInReach at (place_count (place_of place.now) + expression_count (expression_of value.now) + 1) }
     ensures count { IfOk result (λ count. count ≡ place_count (place_of place.now) + expression_count (expression_of value.now) + 1) }
     ensures spans { IfOk result (λ _. spans.new.items ≡ spans.old.items ++ place_span tokens.now at (place_of place.now) ∷ expression_spans tokens.now (at + place_count (place_of place.now) + 1) (expression_of value.now)) }
-    ensures err { IfErr result (λ e. e ≡ faults.Memory) }
 {
     let count = place_span(place, tokens, at, spans)?;
     Ok(count + expression_spans(value, tokens, at + count + 1, spans)? + 1)
@@ -256,11 +242,10 @@ fn below_simple(
     tokens: &[Token],
     at: usize,
     spans: &mut Vec<Span>,
-) -> Result<usize, Fault>
+) -> Result<usize, Memory>
     requires { EndsInReach at (simple_count (simple_of simple.now)) }
     ensures count { IfOk result (λ count. count ≡ simple_count (simple_of simple.now)) }
     ensures spans { IfOk result (λ _. spans.new.items ≡ spans.old.items ++ below_simple tokens.now at (simple_of simple.now)) }
-    ensures err { IfErr result (λ e. e ≡ faults.Memory) }
 {
     match simple {
         SimpleNode::Call(_, arguments) => Ok(
@@ -292,11 +277,10 @@ pub(crate) fn simple_spans(
     tokens: &[Token],
     at: usize,
     spans: &mut Vec<Span>,
-) -> Result<usize, Fault>
+) -> Result<usize, Memory>
     requires { EndsInReach at (simple_count (simple_of simple.now)) }
     ensures count { IfOk result (λ count. count ≡ simple_count (simple_of simple.now)) }
     ensures spans { IfOk result (λ _. spans.new.items ≡ spans.old.items ++ simple_spans tokens.now at (simple_of simple.now)) }
-    ensures err { IfErr result (λ e. e ≡ faults.Memory) }
 {
     let count = below_simple(simple, tokens, at, spans)?;
     add_node(tokens, at, count, spans)

@@ -1,7 +1,6 @@
 //! Where the nodes of statements stand.
 
-ghost use Rattle.std.specs.Prelude.{◌≡◌, ◌++◌, IfOk, IfErr, map};
-ghost use Rattle.go_text.specs.declared.fault.Fault.TheVariants as faults;
+ghost use Rattle.std.specs.Prelude.{◌≡◌, ◌++◌, IfOk, map};
 ghost use Rattle.syntax.specs.View.{statement_of, body_of, branch_of, otherwise_of, clause_of, clauses};
 ghost use Rattle.spans.specs.Words.{EndsInReach, joined, statement_count, body_count, block_count, branch_count, otherwise_count, clauses_count, clause_count};
 ghost use Rattle.spans.specs.Places.{statement_spans, body_spans, block_spans, branch_spans, otherwise_spans, clauses_spans, clause_spans};
@@ -11,7 +10,7 @@ use crate::header::{for_head_spans, if_head_spans, initial_spans, returned_spans
 use crate::over::add_node;
 use crate::simple::{arguments_spans, right_spans, simple_spans};
 use crate::types::type_spans;
-use go_text::{Fault, Span};
+use go_text::{Memory, Span};
 use scanner::Token;
 use syntax::{ClauseNode, ElseNode, IfNode, StatementNode};
 
@@ -22,11 +21,10 @@ fn statement_spans(
     tokens: &[Token],
     at: usize,
     spans: &mut Vec<Span>,
-) -> Result<usize, Fault>
+) -> Result<usize, Memory>
     requires { EndsInReach at (statement_count (statement_of statement.now)) }
     ensures count { IfOk result (λ count. count ≡ statement_count (statement_of statement.now)) }
     ensures spans { IfOk result (λ _. spans.new.items ≡ spans.old.items ++ statement_spans tokens.now at (statement_of statement.now)) }
-    ensures err { IfErr result (λ e. e ≡ faults.Memory) }
 {
     match statement {
         StatementNode::Empty => add_node(tokens, at, 0, spans),
@@ -75,11 +73,10 @@ fn body_spans(
     tokens: &[Token],
     at: usize,
     spans: &mut Vec<Span>,
-) -> Result<usize, Fault>
+) -> Result<usize, Memory>
     requires { EndsInReach at (joined (body_count (body_of body.now))) }
     ensures count { IfOk result (λ count. count ≡ body_count (body_of body.now)) }
     ensures spans { IfOk result (λ _. spans.new.items ≡ spans.old.items ++ body_spans tokens.now at (body_of body.now)) }
-    ensures err { IfErr result (λ e. e ≡ faults.Memory) }
 {
     let mut count = 0;
     for statement in body {
@@ -95,11 +92,10 @@ pub(crate) fn block_spans(
     tokens: &[Token],
     at: usize,
     spans: &mut Vec<Span>,
-) -> Result<usize, Fault>
+) -> Result<usize, Memory>
     requires { EndsInReach at (block_count (body_of body.now)) }
     ensures count { IfOk result (λ count. count ≡ block_count (body_of body.now)) }
     ensures spans { IfOk result (λ _. spans.new.items ≡ spans.old.items ++ block_spans tokens.now at (body_of body.now)) }
-    ensures err { IfErr result (λ e. e ≡ faults.Memory) }
 {
     let count = body_spans(body, tokens, at + 1, spans)?.saturating_sub(1) + 2;
     add_node(tokens, at, count, spans)
@@ -112,11 +108,10 @@ fn branch_spans(
     tokens: &[Token],
     at: usize,
     spans: &mut Vec<Span>,
-) -> Result<usize, Fault>
+) -> Result<usize, Memory>
     requires { EndsInReach at (branch_count (branch_of branch.now)) }
     ensures count { IfOk result (λ count. count ≡ branch_count (branch_of branch.now)) }
     ensures spans { IfOk result (λ _. spans.new.items ≡ spans.old.items ++ branch_spans tokens.now at (branch_of branch.now)) }
-    ensures err { IfErr result (λ e. e ≡ faults.Memory) }
 {
     let head = if_head_spans(&branch.header, tokens, at + 1, spans)?;
     let condition = expression_spans(&branch.condition, tokens, at + 1 + head, spans)?;
@@ -143,11 +138,10 @@ fn otherwise_spans(
     tokens: &[Token],
     at: usize,
     spans: &mut Vec<Span>,
-) -> Result<usize, Fault>
+) -> Result<usize, Memory>
     requires { EndsInReach at (otherwise_count (otherwise_of otherwise.now)) }
     ensures count { IfOk result (λ count. count ≡ otherwise_count (otherwise_of otherwise.now)) }
     ensures spans { IfOk result (λ _. spans.new.items ≡ spans.old.items ++ otherwise_spans tokens.now at (otherwise_of otherwise.now)) }
-    ensures err { IfErr result (λ e. e ≡ faults.Memory) }
 {
     match otherwise {
         ElseNode::Nothing => Ok(0),
@@ -163,11 +157,10 @@ fn clauses_spans(
     tokens: &[Token],
     at: usize,
     spans: &mut Vec<Span>,
-) -> Result<usize, Fault>
+) -> Result<usize, Memory>
     requires { EndsInReach at (clauses_count (clauses (map clause_of all.now))) }
     ensures count { IfOk result (λ count. count ≡ clauses_count (clauses (map clause_of all.now))) }
     ensures spans { IfOk result (λ _. spans.new.items ≡ spans.old.items ++ clauses_spans tokens.now at (clauses (map clause_of all.now))) }
-    ensures err { IfErr result (λ e. e ≡ faults.Memory) }
 {
     let mut count = 0;
     for clause in all {
@@ -183,11 +176,10 @@ fn clause_spans(
     tokens: &[Token],
     at: usize,
     spans: &mut Vec<Span>,
-) -> Result<usize, Fault>
+) -> Result<usize, Memory>
     requires { EndsInReach at (clause_count (clause_of clause.now).comm (clause_of clause.now).body) }
     ensures count { IfOk result (λ count. count ≡ clause_count (clause_of clause.now).comm (clause_of clause.now).body) }
     ensures spans { IfOk result (λ _. spans.new.items ≡ spans.old.items ++ clause_spans tokens.now at (clause_of clause.now).comm (clause_of clause.now).body) }
-    ensures err { IfErr result (λ e. e ≡ faults.Memory) }
 {
     let start = start_spans(&clause.comm, tokens, at, spans)?;
     let body = body_spans(clause.body.as_slice(), tokens, at + start, spans)?;

@@ -1,13 +1,12 @@
 //! Where the nodes of types stand.
 
-ghost use Rattle.std.specs.Prelude.{◌≡◌, ◌++◌, IfOk, IfErr};
-ghost use Rattle.go_text.specs.declared.fault.Fault.TheVariants as faults;
+ghost use Rattle.std.specs.Prelude.{◌≡◌, ◌++◌, IfOk};
 ghost use Rattle.syntax.specs.View.{type_of};
 ghost use Rattle.spans.specs.Words.{EndsInReach, direction_count, type_count};
 ghost use Rattle.spans.specs.Places.{type_spans};
 
 use crate::over::add_node;
-use go_text::{Fault, Span};
+use go_text::{Memory, Span};
 use scanner::Token;
 use syntax::{Direction, TypeNode};
 
@@ -27,11 +26,10 @@ pub(crate) fn type_spans(
     tokens: &[Token],
     at: usize,
     spans: &mut Vec<Span>,
-) -> Result<usize, Fault>
+) -> Result<usize, Memory>
     requires { EndsInReach at (type_count (type_of kind.now)) }
     ensures count { IfOk result (λ count. count ≡ type_count (type_of kind.now)) }
     ensures spans { IfOk result (λ _. spans.new.items ≡ spans.old.items ++ type_spans tokens.now at (type_of kind.now)) }
-    ensures err { IfErr result (λ e. e ≡ faults.Memory) }
 {
     let count = match kind {
         TypeNode::Named(_) => 1,
