@@ -2,6 +2,7 @@
 use Rattle.std.specs.Prelude.{◌≡◌, Bool, [], ◌∷◌, ◌++◌, length}
 use Rattle.bytecode.specs.declared.instr.Instr.TheVariants as instrs
 use Rattle.plan.specs.Plan.{flat, tables}
+use Rattle.syntax.specs.Tree.{Statement, Block, If, For, Select}
 use Rattle.type_table.specs.declared.table.TypeTable.{TypeTable}
 use Rattle.type_table.specs.Visible.{Keeps}
 use Rattle.codegen_base.specs.Generated.{Made, Site}
@@ -37,3 +38,11 @@ pub record Finishes (table : TypeTable) (old new : Emitter) (made : Made) : Type
   pub prints : new.prints.items ≡ old.prints.items ++ made.prints
   pub selects : new.selects.items ≡ old.selects.items ++ tables (length old.code.items) made.plan
   pub layout : layout_of table new.layout ≡ made.layout
+
+-- the statement holds no other one
+abbrev pub IsSingle : Statement → Type 0
+IsSingle (Block body) = ⊥
+IsSingle (If branch) = ⊥
+IsSingle (For head body) = ⊥
+IsSingle (Select clauses) = ⊥
+IsSingle statement = Unit {0}

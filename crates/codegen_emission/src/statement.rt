@@ -16,9 +16,9 @@ ghost use Rattle.codegen_emission.specs.Ways.{Reaches, Ways, default_start, made
 ghost use Rattle.codegen_emission.specs.declared.emitter.Emitter.{Emitter as OneEmitter};
 ghost use Rattle.codegen_emission.specs.Branches.{made_condition, made_one_way, made_other, made_two_ways};
 
-use crate::alone::{emit_alone, emit_any, emit_head};
+use crate::alone::{emit_any, emit_head};
 use crate::emitter::Emitter;
-use crate::single::{declare_typed, declare_untyped, emit_jump, give_back, start};
+use crate::single::emit_single;
 use crate::turn::{come_round, emit_round, push_test};
 use bytecode::Instr;
 use codegen_expression::element_list::ElementList;
@@ -719,7 +719,6 @@ fn emit_select<'t, 'l, 'm, 's, 'a>(
 
 /// A statement.
 #[cycle(statement)]
-#[tactic(auto, using(crate::proofs::Emitting::emits_nothing))]
 fn emit_statement<'t, 'l, 'm, 's, 'a>(
     alloc: Global,
     table: &'t TypeTable<'a>,
@@ -732,14 +731,9 @@ fn emit_statement<'t, 'l, 'm, 's, 'a>(
     ensures { IfOk result (λ flow. Emits table.now emitter.old emitter.new (control flow) (made (globals_in table.now) elements.now (yield_of (types_of table.now) result_type.entry) (site_of table.now emitter.old) (statement_of statement.now))) }
 {
     match statement {
-        StatementNode::Empty => Ok(Flow::through(alloc)),
         StatementNode::Block(body) => {
             let body = body.as_slice();
             emit_block(alloc, table, elements, blank, result_type, emitter, body)
-        }
-        StatementNode::Simple(simple) => {
-            emit_alone(alloc, table, elements, emitter, simple)?;
-            Ok(Flow::through(alloc))
         }
         StatementNode::If(branch) => {
             emit_branch(alloc, table, elements, blank, result_type, emitter, branch)
@@ -756,34 +750,10 @@ fn emit_statement<'t, 'l, 'm, 's, 'a>(
                 body.as_slice(),
             )
         }
-        StatementNode::Break => {
-            let flow = emit_jump(alloc, true, emitter)?;
-            Ok(flow)
-        }
-        StatementNode::Continue => {
-            let flow = emit_jump(alloc, false, emitter)?;
-            Ok(flow)
-        }
-        StatementNode::Typed(names, kind, right) => {
-            let names = names.as_slice();
-            declare_typed(alloc, table, elements, emitter, names, kind, right)?;
-            Ok(Flow::through(alloc))
-        }
-        StatementNode::Untyped(names, right) => {
-            let names = names.as_slice();
-            declare_untyped(alloc, table, elements, emitter, names, right)?;
-            Ok(Flow::through(alloc))
-        }
-        StatementNode::Go(name, arguments) => {
-            start(alloc, table, elements, emitter, name, arguments)?;
-            Ok(Flow::through(alloc))
-        }
-        StatementNode::Return(returned) => {
-            give_back(alloc, table, elements, result_type, emitter, returned)
-        }
         StatementNode::Select(all) => {
             let all = all.as_slice();
             emit_select(alloc, table, elements, blank, result_type, emitter, all)
         }
+        _ => emit_single(alloc, table, elements, result_type, emitter, statement),
     }
 }

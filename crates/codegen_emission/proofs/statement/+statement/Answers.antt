@@ -9,12 +9,12 @@ use Rattle.syntax.specs.declared.node.ClauseNode.{ClauseNode}
 use Rattle.syntax.specs.declared.node.StatementNode.{StatementNode}
 use Rattle.syntax.specs.View.{OneClause, body_of, branch_of, clause_of, clauses, comm_of, expression_of, if_head_of, otherwise_of, simple_of, statement_of, target_of}
 use Rattle.syntax.specs.declared.node.ElseNode.TheFolds.{the_lemmas}
-use Rattle.syntax.specs.Tree.{Break, Clause, Conditional, Continue, NoClause}
+use Rattle.syntax.specs.Tree.{Clause, Conditional, NoClause}
 use Rattle.type_table.specs.Views.{kind_of, yield_of}
 use Rattle.type_table.specs.Visible.{globals_in, types_of}
 use Rattle.meaning.specs.Variables.{blank}
 use Rattle.plan.specs.Plan.{Skip}
-use Rattle.codegen_base.specs.Generated.{made, made_branch, made_default, select_table}
+use Rattle.codegen_base.specs.Generated.{made_branch, made_default, select_table}
 use Rattle.codegen_base.specs.Layouts.{declaring, keeping, type_of}
 use Rattle.codegen_base.specs.Pushes.{drops}
 use Rattle.codegen_base.specs.Statements.{width}
@@ -34,7 +34,6 @@ use Rattle.codegen_emission.proofs.Defaults.{all_ways, default_here, default_lat
 use Rattle.codegen_emission.proofs.Selecting.{emits_as_is, emits_comm, emits_select}
 use Rattle.codegen_flow.specs.Controls.{Control, control}
 use Rattle.codegen_emission.specs.Emitted.{Emits, site_of}
-use Rattle.codegen_emission.proofs.Emitting.{emits_break, emits_continue}
 use Rattle.codegen_emission.proofs.Listing.{begins_all, begins_cut, begins_more, emits_block, next_statement}
 use Rattle.codegen_emission.specs.Branches.{made_condition, made_other, made_within}
 use Rattle.codegen_emission.specs.Turns.{made_turns}
@@ -71,20 +70,6 @@ emit_statements-returns t c =
     let all = c.args.body.now in
     let i = c.loop-statement.statement-index in
     begins_all table (globals_in table) c.args.elements.now (yield_of (types_of table) c.args.result_type) c.args.emitter.now c.loop-statement.emitter (control c.loop-statement.flow) (body_of (drop i all)) (body_of all) (ap body_of (drop_all i all c.loop-statement-test.false)) c.loop-statement.invariant
-
-pub emit_statement-returns-in_ok-flow-in-Break : goal.emit_statement-returns-in_ok-flow-in-Break
-emit_statement-returns-in_ok-flow-in-Break t c =
-    let table = c.args.table.now in
-    let is : statement_of c.args.statement.now ≡ Break = search (rules, the_lemmas) in
-    subst (λ s. Emits table c.args.emitter.now c.emit_jump.new.emitter (control c.in_ok-flow-in-Break.flow) (made (globals_in table) c.args.elements.now (yield_of (types_of table) c.args.result_type) (site_of table c.args.emitter.now) s)) (sym is)
-    (emits_break table c.args.emitter.now c.emit_jump.new.emitter (control c.in_ok-flow-in-Break.flow) c.in_ok-flow-in-Break.ensures)
-
-pub emit_statement-returns-in_ok-flow-in-Continue : goal.emit_statement-returns-in_ok-flow-in-Continue
-emit_statement-returns-in_ok-flow-in-Continue t c =
-    let table = c.args.table.now in
-    let is : statement_of c.args.statement.now ≡ Continue = search (rules, the_lemmas) in
-    subst (λ s. Emits table c.args.emitter.now c.emit_jump-in-Continue.new.emitter (control c.in_ok-flow-in-Continue.flow) (made (globals_in table) c.args.elements.now (yield_of (types_of table) c.args.result_type) (site_of table c.args.emitter.now) s)) (sym is)
-    (emits_continue table c.args.emitter.now c.emit_jump-in-Continue.new.emitter (control c.in_ok-flow-in-Continue.flow) c.in_ok-flow-in-Continue.ensures)
 
 pub emit_endless-returns : goal.emit_endless-returns
 emit_endless-returns t c =
@@ -287,21 +272,6 @@ emit_range-returns t c =
     c.in_ok-declare_kept.ensures.after ∙ ap (λ k. declaring globals elements k blank (layout_of table e2.layout)) (sym kept.channel) ∙ ap (declaring globals elements (type_of globals elements around.scope channel) blank) (c.enter-mark.ensures.layout table) in
     emits_range globals elements result table channel (target_of c.args.target.now) (body_of c.args.body.now) e0 e1 e2 e3 e4 e5 mark.count mark.outer (control c.in_ok-flow.flow) (kept.emitted result) (record { prints = refl; selects = refl; layout = refl }) entered refl refl refl declared c.in_ok-declare_kept.ensures.kept
     (c.in_ok-flow.ensures around channel kept.place kept.item) left
-
-pub emit_statement-returns-in_ok-declare_typed-in-Typed : goal.emit_statement-returns-in_ok-declare_typed-in-Typed
-emit_statement-returns-in_ok-declare_typed-in-Typed t c =
-    let emitted = c.in_ok-declare_typed-in-Typed.ensures (yield_of (types_of c.args.table.now) c.args.result_type) in
-    search (rules, the_lemmas, emitted)
-
-pub emit_statement-returns-in_ok-declare_untyped-in-Untyped : goal.emit_statement-returns-in_ok-declare_untyped-in-Untyped
-emit_statement-returns-in_ok-declare_untyped-in-Untyped t c =
-    let emitted = c.in_ok-declare_untyped-in-Untyped.ensures (yield_of (types_of c.args.table.now) c.args.result_type) in
-    search (rules, the_lemmas, emitted)
-
-pub emit_statement-returns-in_ok-start-in-Go : goal.emit_statement-returns-in_ok-start-in-Go
-emit_statement-returns-in_ok-start-in-Go t c =
-    let emitted = c.in_ok-start-in-Go.ensures (yield_of (types_of c.args.table.now) c.args.result_type) in
-    search (rules, the_lemmas, emitted)
 
 pub emit_way-returns : goal.emit_way-returns
 emit_way-returns t c =
