@@ -16,6 +16,7 @@ use Rattle.parser.proofs.FileLaws.{one_file}
 use Rattle.parser_base.specs.Lexemes.{lexemes}
 use Rattle.syntax.specs.Tree.{File}
 use Rattle.one_thread.specs.Worlds.{IsWhole}
+use Rattle.kendo_front.specs.Agreement.{Agree}
 use Rattle.kendo_reading.specs.Reading.{Reads}
 use Rattle.kendo_reading.proofs.Refusals.{spelt_by}
 
@@ -56,10 +57,6 @@ module _ (K : GoroutineKind) (limit : ℕ) where
     | inl lt ↦ later n m e (omega (arith, lt)) ends
     | inr ge ↦ sym (later m n d (omega (arith, ge)) too)
   ]
-
--- both wrote the same bytes behind what was there, and ended alike
-abbrev pub Agree : (old new other others : Option (List ℕ)) (e d : Ending) → Type 0
-Agree old new other others e d = (bytes : List ℕ) × Appends old new bytes × Appends other others bytes × (e ≡ d)
 
 agree : (K : GoroutineKind) (limit : ℕ) (old new other others : Option (List ℕ)) (e d : Ending) → IsWhole K limit old new e → IsWhole K limit other others d → Agree old new other others e d
 agree K limit old new other others e d (n, written, ends) (m, too, also) =

@@ -1,0 +1,5 @@
+use Rattle.kendo_front.proofs.Agreement.{runs_agree}
+use Rattle.kendo_front.proofs.agreement.runs_agree.Goals as goal
+
+pub returns : goal.returns
+returns c = runs_agree

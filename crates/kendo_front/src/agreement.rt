@@ -1,0 +1,15 @@
+//! That the compiler and the interpreter say the same.
+
+ghost use Rattle.std.specs.Prelude.{ℕ, List, Option};
+ghost use Rattle.kendo_front.specs.Agreement.{Agree};
+ghost use Rattle.kendo_reading.specs.Reading.{Reads};
+ghost use Rattle.meaning.specs.Source.{source_kind};
+ghost use Rattle.one_thread.specs.Worlds.{IsWhole};
+ghost use Rattle.syntax.specs.Tree.{File};
+ghost use Rattle.word.specs.declared.end.End.{End as Ending};
+
+/// Two runs of a text at one limit that both end, be they by the compiler or by the interpreter, wrote the same bytes and ended
+/// alike.
+pub fn runs_agree()
+    ensures { (text : List ℕ) (limit : ℕ) (file again : File) (old new other others : Option (List ℕ)) (e d : Ending) → Reads text file → Reads text again → IsWhole (source_kind file) limit old new e → IsWhole (source_kind again) limit other others d → Agree old new other others e d }
+{}
