@@ -1,4 +1,5 @@
-pub mod Functions
-pub mod Labels
-pub mod Heads
 pub mod Compiled
+pub mod Functions
+pub mod Heads
+pub mod Labels
+pub mod Naming

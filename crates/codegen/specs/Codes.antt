@@ -1,11 +1,12 @@
 -- The code of a file by what it declares, and by what its channels carry.
-use Rattle.std.specs.Prelude.{List}
-use Rattle.syntax.specs.Tree.{Top}
-use Rattle.bytecode.specs.Code.{Code}
+use Rattle.std.specs.Prelude.{◌≡◌, List, map}
+use Rattle.syntax.specs.Tree.{File, Top}
+use Rattle.bytecode.specs.Code.{Code, Function as CodeFunction}
 use Rattle.type_table.specs.Scopes.{Globals}
 use Rattle.codegen_base.specs.declared.element.Element.{Element}
 use Rattle.codegen_base.specs.Elements.{shapes_of}
-use Rattle.codegen_base.specs.Program.{all_prints, all_selects, functions_code}
+use Rattle.codegen_base.specs.Program.{all_prints, all_selects, functions_code, label}
+use Rattle.typing_rules.specs.Kinds.{function_names}
 
 abbrev pub code_with : Globals → List Element → List Top → Code
 code_with globals elements tops = record {
@@ -14,3 +15,7 @@ code_with globals elements tops = record {
   prints = all_prints globals elements 0 0 tops;
   selects = all_selects globals elements 0 0 tops;
 }
+
+-- the code's functions are the file's, in the order in which they are declared, by their names
+abbrev pub AreNamed : File → Code → Type 0
+AreNamed file code = map (λ (f : CodeFunction). f.name) code.functions ≡ map label (function_names file.tops)

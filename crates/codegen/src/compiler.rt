@@ -4,6 +4,7 @@ ghost use Rattle.std.specs.Prelude.{◌≡◌, IfErr, IfOk};
 ghost use Rattle.bytecode.specs.Machine.{code_kind};
 ghost use Rattle.bytecode.specs.Rules.{IsVerified};
 ghost use Rattle.checker.specs.Trees.{tree_in};
+ghost use Rattle.codegen.specs.Codes.{AreNamed};
 ghost use Rattle.codegen_base.specs.Grammar.{IsGrammatical, IsLimited};
 ghost use Rattle.meaning.specs.Source.{source_kind};
 ghost use Rattle.syntax.specs.Spans.{tree_of};
@@ -15,7 +16,8 @@ use checker::Typed;
 use go_text::Fault;
 use std::alloc::Global;
 
-/// The code of a checked program, which does what the source does and keeps all rules of the verifier.
+/// The code of a checked program, which does what the source does and keeps all rules of the verifier. Its functions are the source's, in
+/// order.
 ///
 /// Errors: only `Memory`.
 pub fn compile(alloc: Global, typed: &Typed) -> Result<Code, Fault>
@@ -23,6 +25,7 @@ pub fn compile(alloc: Global, typed: &Typed) -> Result<Code, Fault>
     requires limited { IsLimited (tree_of (tree_in typed.now)) }
     ensures equal { IfOk result (λ code. Equal (source_kind (tree_of (tree_in typed.now))) (code_kind code)) }
     ensures verified { IfOk result IsVerified }
+    ensures named { IfOk result (λ code. AreNamed (tree_of (tree_in typed.now)) code) }
     ensures memory { IfErr result (λ fault. fault ≡ Fault.Memory) }
 {
     match code_of(alloc, typed) {

@@ -67,7 +67,8 @@ pub fn spawn_state(
     clock: Clock,
 ) -> Result<GoState, Memory>
     requires { function < length code.now.functions }
-    ensures { IfOk result (λ s. s ≡ at clock (code_begin code.now function args.now)) }
+    ensures begins { IfOk result (λ s. s ≡ at clock (code_begin code.now function args.now)) }
+    ensures frame { IfOk result (λ s. IsFrameOf code.now s.state) }
 {
     Ok(GoState {
         clock,

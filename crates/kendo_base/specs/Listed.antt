@@ -5,13 +5,15 @@ use Rattle.bytecode.specs.Code.{Code}
 use Rattle.bytecode.specs.Listing.{listing}
 use Rattle.bytecode.specs.Machine.{code_kind}
 use Rattle.bytecode.specs.Rules.{IsVerified}
+use Rattle.codegen.specs.Codes.{AreNamed}
 use Rattle.meaning.specs.Source.{source_kind}
 use Rattle.syntax.specs.Tree.{File}
 use Rattle.word.specs.Worlds.{Equal}
 
--- code that keeps the verifier's rules, and whose runs are the file's
+-- code that keeps the verifier's rules, whose runs are the file's, and whose functions are the file's by their names, in order
 pub record IsCodeOf (file : File) (code : Code) : Type 0 where
   pub verified : IsVerified code
+  pub named : AreNamed file code
   pub equal : Equal (source_kind file) (code_kind code)
 
 -- what was written after the old contents is the listing of such code

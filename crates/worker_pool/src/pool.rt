@@ -50,6 +50,8 @@ pub fn run<R: Threads + Wait + Sync, G: Gate + Sync, O: Write, T: TraceWriter>(
     ensures traces { BeginsTrace (code_kind (arc_value program)) limit (T.contents trace.old) (T.contents trace.new) }
     ensures whole { IfOk result (λ end. IsWhole (code_kind (arc_value program)) limit (O.contents out.old) (O.contents out.new) end) }
     ensures traced { IfOk result (λ end. IsWholeTrace (code_kind (arc_value program)) limit (T.contents trace.old) (T.contents trace.new) end) }
+    ensures nothing { IfErr result (λ fault. (fault ≡ Fault.Memory → ⊥) → (fault ≡ Fault.Write → ⊥) → O.contents out.new ≡ O.contents out.old) }
+    ensures untraced { IfErr result (λ fault. (fault ≡ Fault.Memory → ⊥) → (fault ≡ Fault.Write → ⊥) → T.contents trace.new ≡ T.contents trace.old) }
     ensures write { IsErrOf result Fault.Write → (O.has_failed out.new ≡ true) ⊎ (T.has_failed trace.new ≡ true) }
     ensures only { IfErr result (λ fault. (fault ≡ Fault.Memory) ⊎ ((fault ≡ Fault.Write) ⊎ ((fault ≡ Fault.BadWorkers) ⊎ (fault ≡ Fault.BadLimit)))) }
 {

@@ -42,6 +42,7 @@ impl Core {
     pub fn open(alloc: Global, code: &Verified) -> Result<Core, Memory>
         ensures core { IfOk result (λ core. core ≡ opened_core code.now) }
         ensures verified { IfOk result (λ _. IsVerified code.now) }
+        ensures fits { IfOk result (λ core. (limit : ℕ) → limit ≤ 2 ^ 62 → FitsCore code.now limit core) }
     {
         Ok(Core {
             situation: Situation::open(alloc, code)?,
