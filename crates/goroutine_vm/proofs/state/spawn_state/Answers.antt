@@ -1,8 +1,11 @@
-use Rattle.std.proofs.Common.{subst, sym}
-use Rattle.bytecode.specs.Machine.{code_begin}
+use Rattle.std.proofs.Common.{rules, subst, sym}
+use Rattle.bytecode.specs.Machine.{Frames}
 use Rattle.bytecode.specs.Rules.{IsFrameOf, IsVerified}
 use Rattle.bytecode.proofs.Unstuck.{begin_keeps}
 use Rattle.goroutine_vm.proofs.state.spawn_state.Goals as goal
 
 pub returns-clause-frame : goal.returns-clause-frame
-returns-clause-frame c = ?
+returns-clause-frame c =
+    let code = c.args.code.now in
+    let begun = begin_keeps code (subst IsVerified c.code.ensures.code c.code.ensures.verified) c.args.function c.args.args.now c.requires in
+    subst (IsFrameOf code) (sym (search rules)) begun
