@@ -50,12 +50,10 @@ pub fn push_test(
 fn come_back(comes_round: bool, behind: usize, head: u32, code: &mut Vec<Instr>) -> Result<(), Halt>
     ensures { OnOk result (code.new.items ≡ cond comes_round (code.old.items ++ instrs.Loop head ∷ []) (take behind code.old.items)) }
 {
-    if comes_round {
-        code.push(Instr::Loop(head))?;
-    } else {
+    if !comes_round {
         code.truncate(behind);
     }
-    Ok(())
+    come_round(comes_round, head, code)
 }
 
 /// Leads back to the head of a loop, where its body comes round again.
