@@ -52,7 +52,7 @@ returns-clause-performs c =
     let later = c.next_time-later.result in
     let new = c.go_on.new.self in
     let room : core.live ≢ 1024 = λ e. c.if-self-eq-MAX_GOROUTINES.false (ap (λ (x : CoreValue). x.live) c.self.view_is ∙ e) in
-    let state : c.in_ok-state.state ≡ at later (code_begin code f args) = c.in_ok-state.ensures ∙ ap (λ ws. at later (code_begin code f ws)) c.as_slice.ensures.value in
+    let state : c.in_ok-state.state ≡ at later (code_begin code f args) = c.in_ok-state.ensures.begins ∙ ap (λ ws. at later (code_begin code f ws)) c.as_slice.ensures.value in
     let is = added_core code ev.number later c.in_ok-state.state (at later (code_begin code f args)) core c.add.new.self new state c.in_ok-add.ensures.ok c.go_on.ensures in
     let count : c.len.result ≡ length core.rows = c.len.ensures ∙ ap (λ (x : CoreValue). length x.rows) c.self.view_is in
     let event : Recorded = record ev { outcome = came.Done replies.Nothing; partners = c.push.new.self } in
@@ -72,7 +72,7 @@ returns-clause-fits c =
     let later = c.next_time-later.result in
     let new = c.go_on.new.self in
     let room : core.live ≢ 1024 = λ e. c.if-self-eq-MAX_GOROUTINES.false (ap (λ (x : CoreValue). x.live) c.self.view_is ∙ e) in
-    let state : c.in_ok-state.state ≡ at later (code_begin code f args) = c.in_ok-state.ensures ∙ ap (λ ws. at later (code_begin code f ws)) c.as_slice.ensures.value in
+    let state : c.in_ok-state.state ≡ at later (code_begin code f args) = c.in_ok-state.ensures.begins ∙ ap (λ ws. at later (code_begin code f ws)) c.as_slice.ensures.value in
     let is = added_core code ev.number later c.in_ok-state.state (at later (code_begin code f args)) core c.add.new.self new state c.in_ok-add.ensures.ok c.go_on.ensures in
     let count : c.len.result ≡ length core.rows = c.len.ensures ∙ ap (λ (x : CoreValue). length x.rows) c.self.view_is in
     let event : Recorded = record ev { outcome = came.Done replies.Nothing; partners = c.push.new.self } in
