@@ -4,15 +4,15 @@ ghost use Rattle.std.specs.Prelude.{◌≡◌, IfOk, OnOk, Some, map, option_map
 ghost use Rattle.syntax.specs.View.{declared_of, name_of, type_of};
 ghost use Rattle.type_table.specs.Scopes.{nothing_declared, type_in};
 ghost use Rattle.type_table.specs.Views.{kind_of, yield_of};
-ghost use Rattle.type_table.specs.Visible.{globals_in, types_of};
+ghost use Rattle.type_table.specs.Visible.{types_of};
 ghost use Rattle.typing_rules.specs.Kinds.{all_fields, fields_declared, yield_of as written_yield};
 ghost use Rattle.codegen_base.specs.Layouts.{with_parameters};
-ghost use Rattle.codegen_emission.specs.Layouts.{layout_of};
+ghost use Rattle.codegen_emission.specs.Layouts.{layout_in};
+ghost use Rattle.codegen_expression.specs.Contexts.{elements_of, globals_of, types_in};
 
 use codegen_emission::layout::{Layout, declare};
-use codegen_expression::element_list::ElementList;
+use codegen_expression::context::Context;
 use codegen_expression::halt::Halt;
-use std::alloc::Global;
 use syntax::{DeclaredNode, Name, TypeNode};
 use type_table::table::TypeTable;
 use type_table::value_type::{ValueType, global_type_in};
@@ -46,41 +46,37 @@ pub(crate) fn result_type<'a>(
 }
 
 /// Declares parameters of one type.
-fn declare_names<'t, 'l, 'm, 'a>(
-    alloc: Global,
-    table: &'t TypeTable<'a>,
-    elements: &'l ElementList,
+fn declare_names<'t, 'm, 'a>(
+    context: &'t Context<'t, 'a>,
     layout: &'m mut Layout<'a>,
     kind: ValueType<'a>,
     names: &'a [Name],
 ) -> Result<(), Halt>
-    ensures { OnOk result (layout_of table.now layout.new ≡ with_parameters (globals_in table.now) elements.now (all_fields (Some (kind_of (types_of table.now) kind.entry)) (map name_of names.now)) (layout_of table.now layout.old)) }
+    ensures { OnOk result (layout_in context.now layout.new ≡ with_parameters (globals_of context.now) (elements_of context.now) (all_fields (Some (kind_of (types_in context.now) kind.entry)) (map name_of names.now)) (layout_in context.now layout.old)) }
 {
     let Some((name, names)) = names.split_first() else {
         return Ok(());
     };
-    declare(alloc, table, elements, layout, kind, name)?;
-    declare_names(alloc, table, elements, layout, kind, names)?;
+    declare(context, layout, kind, name)?;
+    declare_names(context, layout, kind, names)?;
     Ok(())
 }
 
 /// Declares parameters.
 ///
 /// Errors: something is wrong with a type; want of memory.
-pub(crate) fn declare_parameters<'t, 'l, 'm, 'a>(
-    alloc: Global,
-    table: &'t TypeTable<'a>,
-    elements: &'l ElementList,
+pub(crate) fn declare_parameters<'t, 'm, 'a>(
+    context: &'t Context<'t, 'a>,
     layout: &'m mut Layout<'a>,
     groups: &'a [DeclaredNode],
 ) -> Result<(), Halt>
-    ensures { OnOk result (layout_of table.now layout.new ≡ with_parameters (globals_in table.now) elements.now (fields_declared (types_of table.now) (map declared_of groups.now)) (layout_of table.now layout.old)) }
+    ensures { OnOk result (layout_in context.now layout.new ≡ with_parameters (globals_of context.now) (elements_of context.now) (fields_declared (types_in context.now) (map declared_of groups.now)) (layout_in context.now layout.old)) }
 {
     let Some((group, groups)) = groups.split_first() else {
         return Ok(());
     };
-    let kind = written(table, &group.type_node)?;
-    declare_names(alloc, table, elements, layout, kind, group.names.as_slice())?;
-    declare_parameters(alloc, table, elements, layout, groups)?;
+    let kind = written(context.table, &group.type_node)?;
+    declare_names(context, layout, kind, group.names.as_slice())?;
+    declare_parameters(context, layout, groups)?;
     Ok(())
 }

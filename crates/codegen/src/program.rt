@@ -9,6 +9,7 @@ ghost use Rattle.type_table.specs.Visible.{globals_in, types_of};
 ghost use Rattle.typing_rules.specs.Files.{IsTyped};
 ghost use Rattle.checker.specs.Trees.{tree_in};
 ghost use Rattle.codegen_base.specs.Program.{all_prints, all_selects, code_of, functions_code, noting_tops};
+ghost use Rattle.codegen_expression.specs.Contexts.{elements_of, globals_of};
 ghost use Rattle.codegen.specs.Codes.{code_with};
 
 use crate::function::function_code;
@@ -18,7 +19,7 @@ use checker::Typed;
 use codegen_emission::blank::Blank;
 use codegen_emission::emitter::Emitter;
 use codegen_emission::layout::Layout;
-use codegen_expression::element_list::ElementList;
+use codegen_expression::context::Context;
 use codegen_expression::halt::Halt;
 use codegen_expression::noting::elements_in;
 use std::alloc::Global;
@@ -28,20 +29,18 @@ use type_table::table::TypeTable;
 /// Appends the code of a function, and its tables.
 #[tactic(auto, using(crate::proofs::Functions::functions_put, crate::proofs::Functions::prints_put, crate::proofs::Functions::selects_put))]
 fn put_top<'a>(
-    alloc: Global,
-    table: &TypeTable<'a>,
-    elements: &ElementList,
+    context: &Context<'_, 'a>,
     blank: &'a Blank,
     emitter: &mut Emitter<'a>,
     functions: &mut Vec<Function>,
     top: &'a TopNode,
 ) -> Result<(), Halt>
-    ensures functions { OnOk result ((rest : List Top) → functions.new.items ++ functions_code (globals_in table.now) elements.now (length emitter.new.prints.items) (length emitter.new.selects.items) rest ≡ functions.old.items ++ functions_code (globals_in table.now) elements.now (length emitter.old.prints.items) (length emitter.old.selects.items) (top_of top.now ∷ rest)) }
-    ensures prints { OnOk result ((rest : List Top) → emitter.new.prints.items ++ all_prints (globals_in table.now) elements.now (length emitter.new.prints.items) (length emitter.new.selects.items) rest ≡ emitter.old.prints.items ++ all_prints (globals_in table.now) elements.now (length emitter.old.prints.items) (length emitter.old.selects.items) (top_of top.now ∷ rest)) }
-    ensures selects { OnOk result ((rest : List Top) → emitter.new.selects.items ++ all_selects (globals_in table.now) elements.now (length emitter.new.prints.items) (length emitter.new.selects.items) rest ≡ emitter.old.selects.items ++ all_selects (globals_in table.now) elements.now (length emitter.old.prints.items) (length emitter.old.selects.items) (top_of top.now ∷ rest)) }
+    ensures functions { OnOk result ((rest : List Top) → functions.new.items ++ functions_code (globals_of context.now) (elements_of context.now) (length emitter.new.prints.items) (length emitter.new.selects.items) rest ≡ functions.old.items ++ functions_code (globals_of context.now) (elements_of context.now) (length emitter.old.prints.items) (length emitter.old.selects.items) (top_of top.now ∷ rest)) }
+    ensures prints { OnOk result ((rest : List Top) → emitter.new.prints.items ++ all_prints (globals_of context.now) (elements_of context.now) (length emitter.new.prints.items) (length emitter.new.selects.items) rest ≡ emitter.old.prints.items ++ all_prints (globals_of context.now) (elements_of context.now) (length emitter.old.prints.items) (length emitter.old.selects.items) (top_of top.now ∷ rest)) }
+    ensures selects { OnOk result ((rest : List Top) → emitter.new.selects.items ++ all_selects (globals_of context.now) (elements_of context.now) (length emitter.new.prints.items) (length emitter.new.selects.items) rest ≡ emitter.old.selects.items ++ all_selects (globals_of context.now) (elements_of context.now) (length emitter.old.prints.items) (length emitter.old.selects.items) (top_of top.now ∷ rest)) }
 {
     if let TopNode::Function(function) = top {
-        let code = function_code(alloc, table, elements, blank, emitter, function)?;
+        let code = function_code(context, blank, emitter, function)?;
         functions.push(code)?;
     }
     Ok(())
@@ -49,20 +48,18 @@ fn put_top<'a>(
 
 /// Appends the code of functions, and their tables.
 fn put_tops<'a>(
-    alloc: Global,
-    table: &TypeTable<'a>,
-    elements: &ElementList,
+    context: &Context<'_, 'a>,
     blank: &'a Blank,
     emitter: &mut Emitter<'a>,
     functions: &mut Vec<Function>,
     tops: &'a [TopNode],
 ) -> Result<(), Halt>
-    ensures functions { OnOk result (functions.new.items ≡ functions.old.items ++ functions_code (globals_in table.now) elements.now (length emitter.old.prints.items) (length emitter.old.selects.items) (map top_of tops.now)) }
-    ensures prints { OnOk result (emitter.new.prints.items ≡ emitter.old.prints.items ++ all_prints (globals_in table.now) elements.now (length emitter.old.prints.items) (length emitter.old.selects.items) (map top_of tops.now)) }
-    ensures selects { OnOk result (emitter.new.selects.items ≡ emitter.old.selects.items ++ all_selects (globals_in table.now) elements.now (length emitter.old.prints.items) (length emitter.old.selects.items) (map top_of tops.now)) }
+    ensures functions { OnOk result (functions.new.items ≡ functions.old.items ++ functions_code (globals_of context.now) (elements_of context.now) (length emitter.old.prints.items) (length emitter.old.selects.items) (map top_of tops.now)) }
+    ensures prints { OnOk result (emitter.new.prints.items ≡ emitter.old.prints.items ++ all_prints (globals_of context.now) (elements_of context.now) (length emitter.old.prints.items) (length emitter.old.selects.items) (map top_of tops.now)) }
+    ensures selects { OnOk result (emitter.new.selects.items ≡ emitter.old.selects.items ++ all_selects (globals_of context.now) (elements_of context.now) (length emitter.old.prints.items) (length emitter.old.selects.items) (map top_of tops.now)) }
 {
     for top in tops {
-        put_top(alloc, table, elements, blank, emitter, functions, top)?;
+        put_top(context, blank, emitter, functions, top)?;
     }
     Ok(())
 }
@@ -78,7 +75,12 @@ fn generate<'a>(
     ensures { IfOk result (λ code. code ≡ code_with (globals_in table.now) (noting_tops (types_of table.now) (map top_of tops.now) []) (map top_of tops.now)) }
 {
     let elements = elements_in(alloc, table, tops)?;
-    let shapes = shapes_of(alloc, table, &elements)?;
+    let context = Context {
+        table,
+        elements: &elements,
+        alloc,
+    };
+    let shapes = shapes_of(&context)?;
     let mut functions = Vec::new(alloc);
     let mut emitter = Emitter {
         code: Vec::new(alloc),
@@ -86,8 +88,7 @@ fn generate<'a>(
         selects: Vec::new(alloc),
         layout: Layout::new(alloc),
     };
-    let put = &mut functions;
-    put_tops(alloc, table, &elements, blank, &mut emitter, put, tops)?;
+    put_tops(&context, blank, &mut emitter, &mut functions, tops)?;
     Ok(Code::new(functions, shapes, emitter.prints).with_selects(emitter.selects))
 }
 

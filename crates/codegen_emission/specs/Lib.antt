@@ -1,4 +1,5 @@
 pub mod Emitted
+pub mod Contexts
 pub mod Turns
 pub mod Branches
 pub mod Ways

@@ -2,57 +2,51 @@
 
 ghost use Rattle.std.specs.Prelude.{OnOk, option_map};
 ghost use Rattle.syntax.specs.View.{if_head_of, simple_of};
-ghost use Rattle.type_table.specs.Visible.{globals_in};
 ghost use Rattle.typing_rules.specs.Statements.{head_simple};
 ghost use Rattle.codegen_base.specs.Generated.{ended, inside, made_any, made_post, made_simple};
-ghost use Rattle.codegen_header.specs.Layouts.{layout_of};
 ghost use Rattle.codegen_flow.specs.Controls.{through};
+ghost use Rattle.codegen_header.specs.Layouts.{layout_of};
 ghost use Rattle.codegen_emission.specs.Emitted.{Emits, site_of};
+ghost use Rattle.codegen_emission.specs.Contexts.{of_program, table_of};
 
+use crate::context::FunctionContext;
 use crate::emitter::Emitter;
-use codegen_expression::element_list::ElementList;
 use codegen_expression::halt::Halt;
 use codegen_expression::operand::number;
 use codegen_header::layout::{enter, leave};
 use codegen_header::print::put_prints;
 use codegen_header::simple::emit_simple;
-use std::alloc::Global;
 use syntax::{IfHeader, SimpleNode};
-use type_table::table::TypeTable;
 
 /// A simple statement.
 ///
 /// Errors: something is wrong with the statement; want of memory.
 pub fn emit_alone<'a>(
-    alloc: Global,
-    table: &TypeTable<'a>,
-    elements: &ElementList,
+    context: &FunctionContext<'_, 'a>,
     emitter: &mut Emitter<'a>,
     simple: &'a SimpleNode,
 ) -> Result<(), Halt>
-    ensures { OnOk result (Emits table.now emitter.old emitter.new through (made_simple (globals_in table.now) elements.now (site_of table.now emitter.old) (simple_of simple.now))) }
+    ensures { OnOk result (Emits (table_of context.now) emitter.old emitter.new through (of_program context.now made_simple (site_of (table_of context.now) emitter.old) (simple_of simple.now))) }
 {
     let first = number(emitter.prints.len())?;
     let visible = &emitter.layout.visible;
-    put_prints(alloc, table, visible, simple, &mut emitter.prints)?;
+    put_prints(context.program, visible, simple, &mut emitter.prints)?;
     let layout = &mut emitter.layout;
     let code = &mut emitter.code;
-    emit_simple(alloc, table, elements, layout, first, simple, code)?;
+    emit_simple(context.program, layout, first, simple, code)?;
     Ok(())
 }
 
 /// A simple statement in a block of its own.
 fn emit_inside<'a>(
-    alloc: Global,
-    table: &TypeTable<'a>,
-    elements: &ElementList,
+    context: &FunctionContext<'_, 'a>,
     emitter: &mut Emitter<'a>,
     simple: &'a SimpleNode,
 ) -> Result<(), Halt>
-    ensures { OnOk result (Emits table.now emitter.old emitter.new through (ended (layout_of table.now emitter.old.layout) (made_simple (globals_in table.now) elements.now (inside (site_of table.now emitter.old)) (simple_of simple.now)))) }
+    ensures { OnOk result (Emits (table_of context.now) emitter.old emitter.new through (ended (layout_of (table_of context.now) emitter.old.layout) (of_program context.now made_simple (inside (site_of (table_of context.now) emitter.old)) (simple_of simple.now)))) }
 {
     let mark = enter(&mut emitter.layout);
-    emit_alone(alloc, table, elements, emitter, simple)?;
+    emit_alone(context, emitter, simple)?;
     leave(&mut emitter.layout, mark);
     Ok(())
 }
@@ -62,16 +56,14 @@ fn emit_inside<'a>(
 /// Errors: something is wrong with the statement; want of memory.
 #[tactic(auto, using(crate::proofs::Emitting::emits_none))]
 pub fn emit_any<'a>(
-    alloc: Global,
-    table: &TypeTable<'a>,
-    elements: &ElementList,
+    context: &FunctionContext<'_, 'a>,
     emitter: &mut Emitter<'a>,
     simple: Option<&'a SimpleNode>,
 ) -> Result<(), Halt>
-    ensures { OnOk result (Emits table.now emitter.old emitter.new through (made_any (globals_in table.now) elements.now (site_of table.now emitter.old) (option_map (λ (s : _). simple_of s.now) simple.entry))) }
+    ensures { OnOk result (Emits (table_of context.now) emitter.old emitter.new through (of_program context.now made_any (site_of (table_of context.now) emitter.old) (option_map (λ (s : _). simple_of s.now) simple.entry))) }
 {
     match simple {
-        Some(simple) => emit_alone(alloc, table, elements, emitter, simple),
+        Some(simple) => emit_alone(context, emitter, simple),
         None => Ok(()),
     }
 }
@@ -81,16 +73,14 @@ pub fn emit_any<'a>(
 /// Errors: something is wrong with a statement; want of memory.
 #[tactic(auto, using(crate::proofs::Emitting::emits_none))]
 pub fn emit_head<'a>(
-    alloc: Global,
-    table: &TypeTable<'a>,
-    elements: &ElementList,
+    context: &FunctionContext<'_, 'a>,
     emitter: &mut Emitter<'a>,
     header: &'a IfHeader,
 ) -> Result<(), Halt>
-    ensures { OnOk result (Emits table.now emitter.old emitter.new through (made_any (globals_in table.now) elements.now (site_of table.now emitter.old) (head_simple (if_head_of header.now)))) }
+    ensures { OnOk result (Emits (table_of context.now) emitter.old emitter.new through (of_program context.now made_any (site_of (table_of context.now) emitter.old) (head_simple (if_head_of header.now)))) }
 {
     match header {
-        IfHeader::Simple(simple) => emit_alone(alloc, table, elements, emitter, simple),
+        IfHeader::Simple(simple) => emit_alone(context, emitter, simple),
         IfHeader::Bare | IfHeader::Semicolon => Ok(()),
     }
 }
@@ -100,16 +90,14 @@ pub fn emit_head<'a>(
 /// Errors: something is wrong with the statement; want of memory.
 #[tactic(auto, using(crate::proofs::Emitting::emits_none))]
 pub fn emit_post<'a>(
-    alloc: Global,
-    table: &TypeTable<'a>,
-    elements: &ElementList,
+    context: &FunctionContext<'_, 'a>,
     emitter: &mut Emitter<'a>,
     post: Option<&'a SimpleNode>,
 ) -> Result<(), Halt>
-    ensures { OnOk result (Emits table.now emitter.old emitter.new through (made_post (globals_in table.now) elements.now (layout_of table.now emitter.old.layout) (site_of table.now emitter.old) (option_map (λ (s : _). simple_of s.now) post.entry))) }
+    ensures { OnOk result (Emits (table_of context.now) emitter.old emitter.new through (of_program context.now made_post (layout_of (table_of context.now) emitter.old.layout) (site_of (table_of context.now) emitter.old) (option_map (λ (s : _). simple_of s.now) post.entry))) }
 {
     match post {
-        Some(post) => emit_inside(alloc, table, elements, emitter, post),
+        Some(post) => emit_inside(context, emitter, post),
         None => Ok(()),
     }
 }

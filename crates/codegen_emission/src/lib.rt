@@ -3,6 +3,7 @@
 
 pub mod alone;
 pub mod body;
+pub mod context;
 pub mod emitter;
 pub mod single;
 pub mod statement;

@@ -2,49 +2,19 @@
 
 ghost use Rattle.std.specs.Prelude.{◌≡◌, ◌∷◌, ◌++◌, [], OnOk, cond, option_map, take};
 ghost use Rattle.bytecode.specs.declared.instr.Instr.TheVariants as instrs;
-ghost use Rattle.syntax.specs.View.{expression_of, simple_of};
-ghost use Rattle.type_table.specs.Visible.{globals_in, scope_of};
-ghost use Rattle.codegen_base.specs.Generated.{made_post, tests};
-ghost use Rattle.codegen_expression.specs.Emission.{Puts};
+ghost use Rattle.syntax.specs.View.{simple_of};
+ghost use Rattle.codegen_base.specs.Generated.{made_post};
+ghost use Rattle.codegen_emission.specs.Turns.{Rounds};
 ghost use Rattle.codegen_header.specs.Layouts.{layout_of};
 ghost use Rattle.codegen_emission.specs.Emitted.{site_of};
-ghost use Rattle.codegen_emission.specs.Turns.{Rounds};
+ghost use Rattle.codegen_emission.specs.Contexts.{of_program, table_of};
 
 use crate::alone::emit_post;
+use crate::context::FunctionContext;
 use crate::emitter::Emitter;
 use bytecode::Instr;
-use codegen_expression::element_list::ElementList;
 use codegen_expression::halt::Halt;
-use codegen_header::values::push;
-use std::alloc::Global;
-use syntax::{ExpressionNode, SimpleNode};
-use type_table::scope::Visible;
-use type_table::table::TypeTable;
-use type_table::value_type::ValueType;
-
-/// Pushes the truth value of a condition.
-///
-/// Errors: something is wrong with the condition; want of memory.
-pub fn push_test(
-    alloc: Global,
-    table: &TypeTable<'_>,
-    elements: &ElementList,
-    visible: &Visible<'_>,
-    condition: &ExpressionNode,
-    code: &mut Vec<Instr>,
-) -> Result<(), Halt>
-    ensures { (locals : _) → OnOk result (Puts code.old.items code.new.items (tests (globals_in table.now) elements.now (record { scope = scope_of table.now visible.now; locals = locals }) (expression_of condition.now))) }
-{
-    push(
-        alloc,
-        table,
-        elements,
-        visible,
-        ValueType::Bool,
-        condition,
-        code,
-    )
-}
+use syntax::SimpleNode;
 
 /// Leads back to the head of a loop. Where its body never comes round again, nothing stays that stands behind it.
 fn come_back(comes_round: bool, behind: usize, head: u32, code: &mut Vec<Instr>) -> Result<(), Halt>
@@ -73,18 +43,16 @@ pub fn come_round(comes_round: bool, head: u32, code: &mut Vec<Instr>) -> Result
 ///
 /// Errors: something is wrong with the statement; want of memory.
 pub fn emit_round<'a>(
-    alloc: Global,
-    table: &TypeTable<'a>,
-    elements: &ElementList,
+    context: &FunctionContext<'_, 'a>,
     emitter: &mut Emitter<'a>,
     comes_round: bool,
     head: u32,
     post: Option<&'a SimpleNode>,
 ) -> Result<(), Halt>
-    ensures { OnOk result (Rounds table.now comes_round head emitter.old emitter.new (made_post (globals_in table.now) elements.now (layout_of table.now emitter.old.layout) (site_of table.now emitter.old) (option_map (λ (s : _). simple_of s.now) post.entry))) }
+    ensures { OnOk result (Rounds (table_of context.now) comes_round head emitter.old emitter.new (of_program context.now made_post (layout_of (table_of context.now) emitter.old.layout) (site_of (table_of context.now) emitter.old) (option_map (λ (s : _). simple_of s.now) post.entry))) }
 {
     let behind = emitter.code.len();
-    emit_post(alloc, table, elements, emitter, post)?;
+    emit_post(context, emitter, post)?;
     come_back(comes_round, behind, head, &mut emitter.code)?;
     Ok(())
 }

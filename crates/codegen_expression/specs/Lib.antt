@@ -1,3 +1,4 @@
 pub mod Indexes
+pub mod Contexts
 pub mod Emission
 pub mod Depths

@@ -4,13 +4,14 @@ ghost use Rattle.std.specs.Prelude.{◌≡◌, ◌+◌, ◌++◌, ◌∷◌, [],
 ghost use Rattle.syntax.specs.Tree.{Binary, Composite, Named, expressions};
 ghost use Rattle.syntax.specs.View.{expression_of, name_of};
 ghost use Rattle.type_table.specs.Views.{field_in, kind_of};
-ghost use Rattle.type_table.specs.Visible.{globals_in, scope_of, types_of};
+ghost use Rattle.type_table.specs.Visible.{types_of};
 ghost use Rattle.checker_base.specs.Views.{IsSmall, worth_of};
 ghost use Rattle.typing_rules.specs.Worths.{binary_worth, is_logical, selected_worth, unary_worth, worth};
 ghost use Rattle.codegen_base.specs.Pushes.{emits, emits_fields, kinds_in, operator_of};
 ghost use Rattle.codegen_expression.specs.Emission.{Emits, Puts, comparing, literal_part, operated, or_false, picks, settling, signed_with, true_or};
+ghost use Rattle.codegen_expression.specs.Contexts.{elements_of, globals_of, scope_in, types_in};
 
-use crate::element_list::ElementList;
+use crate::context::Context;
 use crate::halt::Halt;
 use crate::operand::{
     carried_shape, fields_at, literal_struct, named, number, push_constant, push_zeros, settle,
@@ -19,7 +20,6 @@ use crate::operand::{
 use crate::operator::{compared, operator_of, sign_of};
 use bytecode::Instr;
 use checker_base::worth::{Worth, binary_worth, literal, named_worth, unary_worth};
-use std::alloc::{AllocError, Global};
 use syntax::{BinaryOperator, ExpressionNode, Name, UnaryOperator};
 use type_table::entry::FieldEntry;
 use type_table::layout::field_of;
@@ -29,8 +29,7 @@ use type_table::value_type::ValueType;
 
 /// What an operator does whose operands are pushed; where both are constants, so many instructions stay.
 fn operate(
-    table: &TypeTable<'_>,
-    elements: &ElementList,
+    context: &Context<'_, '_>,
     operator: BinaryOperator,
     left: Worth<'_>,
     right: Worth<'_>,
@@ -38,7 +37,7 @@ fn operate(
     first: usize,
     code: &mut Vec<Instr>,
 ) -> Result<(), Halt>
-    ensures { OnOk result (code.new.items ≡ operated elements.now operator (worth_of (types_of table.now) left.entry) (worth_of (types_of table.now) right.entry) (worth_of (types_of table.now) made.entry) first code.old.items) }
+    ensures { OnOk result (code.new.items ≡ operated (elements_of context.now) operator (worth_of (types_in context.now) left.entry) (worth_of (types_in context.now) right.entry) (worth_of (types_in context.now) made.entry) first code.old.items) }
 {
     match left {
         Worth::Constant(a) => match right {
@@ -46,12 +45,12 @@ fn operate(
                 compare(operator, a, b, made, first, code)?;
                 Ok(())
             }
-            Worth::Typed(_) => apply(table, elements, operator, ValueType::Int, right, code),
+            Worth::Typed(_) => apply(context, operator, ValueType::Int, right, code),
             Worth::Nil => Err(Halt::Flawed),
         },
-        Worth::Typed(kind) => apply(table, elements, operator, kind, right, code),
+        Worth::Typed(kind) => apply(context, operator, kind, right, code),
         Worth::Nil => match right {
-            Worth::Typed(kind) => apply(table, elements, operator, kind, left, code),
+            Worth::Typed(kind) => apply(context, operator, kind, left, code),
             _ => Err(Halt::Flawed),
         },
     }
@@ -59,16 +58,15 @@ fn operate(
 
 /// Pushes what is a constant or `nil` beside a value of this type, and then comes the operator.
 fn apply(
-    table: &TypeTable<'_>,
-    elements: &ElementList,
+    context: &Context<'_, '_>,
     operator: BinaryOperator,
     kind: ValueType<'_>,
     other: Worth<'_>,
     code: &mut Vec<Instr>,
 ) -> Result<(), Halt>
-    ensures { OnOk result (code.new.items ≡ code.old.items ++ (settling elements.now (worth_of (types_of table.now) other.entry) (kind_of (types_of table.now) kind.entry) ++ Instr.Apply (operator_of operator (kind_of (types_of table.now) kind.entry)) ∷ [])) }
+    ensures { OnOk result (code.new.items ≡ code.old.items ++ (settling (elements_of context.now) (worth_of (types_in context.now) other.entry) (kind_of (types_in context.now) kind.entry) ++ Instr.Apply (operator_of operator (kind_of (types_in context.now) kind.entry)) ∷ [])) }
 {
-    settle(table, elements, other, kind, code)?;
+    settle(context, other, kind, code)?;
     code.push(Instr::Apply(operator_of(operator, kind)))?;
     Ok(())
 }
@@ -101,57 +99,47 @@ fn compare(
 ///
 /// Errors: something is wrong with the expression; want of memory.
 #[cycle(emit)]
-pub fn emit<'t, 'l, 'v, 'e, 'm, 'k>(
-    alloc: Global,
-    table: &'t TypeTable<'k>,
-    elements: &'l ElementList,
+pub fn emit<'t, 'v, 'e, 'm, 'k>(
+    context: &'t Context<'t, 'k>,
     visible: &'v Visible<'k>,
     expression: &'e ExpressionNode,
     code: &'m mut Vec<Instr>,
 ) -> Result<Worth<'k>, Halt>
-    ensures worth { IfOk result (λ w. worth (globals_in table.now) (scope_of table.now visible.now) (expression_of expression.now) ≡ Some (worth_of (types_of table.now) w)) }
+    ensures worth { IfOk result (λ w. worth (globals_of context.now) (scope_in context.now visible.now) (expression_of expression.now) ≡ Some (worth_of (types_in context.now) w)) }
     ensures small { IfOk result IsSmall }
-    ensures emitted { IfOk result (λ w. Emits (Some (worth_of (types_of table.now) w)) code.old.items code.new.items (emits (globals_in table.now) elements.now (scope_of table.now visible.now) (expression_of expression.now))) }
+    ensures emitted { IfOk result (λ w. Emits (Some (worth_of (types_in context.now) w)) code.old.items code.new.items (emits (globals_of context.now) (elements_of context.now) (scope_in context.now visible.now) (expression_of expression.now))) }
 {
     match expression {
         ExpressionNode::Integer(value) => match literal(*value) {
             Some(value) => Ok(Worth::Constant(value)),
             None => Err(Halt::Flawed),
         },
-        ExpressionNode::Named(name) => emit_name(table, elements, visible, name, code),
-        ExpressionNode::Parenthesized(inner) => emit(alloc, table, elements, visible, inner, code),
+        ExpressionNode::Named(name) => emit_name(context, visible, name, code),
+        ExpressionNode::Parenthesized(inner) => emit(context, visible, inner, code),
         ExpressionNode::Selection(whole, field) => {
-            let whole = emit(alloc, table, elements, visible, whole, code)?;
-            emit_field(table, elements, whole, field.bytes.as_slice(), code)
+            let whole = emit(context, visible, whole, code)?;
+            emit_field(context, whole, field.bytes.as_slice(), code)
         }
         ExpressionNode::Composite(name, values, _) => {
             let values = values.as_slice();
-            emit_composite(alloc, table, elements, visible, name, values, code)
+            emit_composite(context, visible, name, values, code)
         }
         ExpressionNode::Unary(operator, operand) => {
-            let operand = emit(alloc, table, elements, visible, operand, code)?;
+            let operand = emit(context, visible, operand, code)?;
             emit_sign(*operator, operand, code)
         }
         ExpressionNode::Binary(operator, left, right) => match operator {
-            BinaryOperator::LogicalAnd => emit_and(
-                alloc, table, elements, visible, left, right, code,
-            ),
-            BinaryOperator::LogicalOr => emit_or(
-                alloc, table, elements, visible, left, right, code,
-            ),
-            _ => emit_binary(
-                alloc, table, elements, visible, *operator, left, right, code,
-            ),
+            BinaryOperator::LogicalAnd => emit_and(context, visible, left, right, code),
+            BinaryOperator::LogicalOr => emit_or(context, visible, left, right, code),
+            _ => emit_binary(context, visible, *operator, left, right, code),
         },
     }
 }
 
 /// Emits an operator between two operands, which is neither `&&` nor `||`.
 #[cycle(emit)]
-fn emit_binary<'t, 'l, 'v, 'e, 'f, 'm, 'k>(
-    alloc: Global,
-    table: &'t TypeTable<'k>,
-    elements: &'l ElementList,
+fn emit_binary<'t, 'v, 'e, 'f, 'm, 'k>(
+    context: &'t Context<'t, 'k>,
     visible: &'v Visible<'k>,
     operator: BinaryOperator,
     left: &'e ExpressionNode,
@@ -159,21 +147,20 @@ fn emit_binary<'t, 'l, 'v, 'e, 'f, 'm, 'k>(
     code: &'m mut Vec<Instr>,
 ) -> Result<Worth<'k>, Halt>
     requires { is_logical operator ≡ false }
-    ensures worth { IfOk result (λ w. worth (globals_in table.now) (scope_of table.now visible.now) (Binary operator (expression_of left.now) (expression_of right.now)) ≡ Some (worth_of (types_of table.now) w)) }
+    ensures worth { IfOk result (λ w. worth (globals_of context.now) (scope_in context.now visible.now) (Binary operator (expression_of left.now) (expression_of right.now)) ≡ Some (worth_of (types_in context.now) w)) }
     ensures small { IfOk result IsSmall }
-    ensures emitted { IfOk result (λ w. Emits (Some (worth_of (types_of table.now) w)) code.old.items code.new.items (emits (globals_in table.now) elements.now (scope_of table.now visible.now) (Binary operator (expression_of left.now) (expression_of right.now)))) }
+    ensures emitted { IfOk result (λ w. Emits (Some (worth_of (types_in context.now) w)) code.old.items code.new.items (emits (globals_of context.now) (elements_of context.now) (scope_in context.now visible.now) (Binary operator (expression_of left.now) (expression_of right.now)))) }
 {
-    let a = emit(alloc, table, elements, visible, left, code)?;
+    let a = emit(context, visible, left, code)?;
     let first = code.len();
     push_constant(a, code)?;
-    let b = emit(alloc, table, elements, visible, right, code)?;
-    end_binary(table, elements, operator, a, b, first, code)
+    let b = emit(context, visible, right, code)?;
+    end_binary(context, operator, a, b, first, code)
 }
 
 /// What an operator does whose operands are pushed, and what is made of them; of two constants so many instructions stay.
 fn end_binary<'t>(
-    table: &TypeTable<'_>,
-    elements: &ElementList,
+    context: &Context<'_, '_>,
     operator: BinaryOperator,
     left: Worth<'_>,
     right: Worth<'_>,
@@ -183,72 +170,66 @@ fn end_binary<'t>(
     requires left { IsSmall left }
     requires right { IsSmall right }
     ensures small { IfOk result IsSmall }
-    ensures made { IfOk result (λ w. (binary_worth operator (worth_of (types_of table.now) left.entry) (worth_of (types_of table.now) right.entry) ≡ Ok (worth_of (types_of table.now) w)) × (code.new.items ≡ operated elements.now operator (worth_of (types_of table.now) left.entry) (worth_of (types_of table.now) right.entry) (worth_of (types_of table.now) w) first code.old.items)) }
+    ensures made { IfOk result (λ w. (binary_worth operator (worth_of (types_in context.now) left.entry) (worth_of (types_in context.now) right.entry) ≡ Ok (worth_of (types_in context.now) w)) × (code.new.items ≡ operated (elements_of context.now) operator (worth_of (types_in context.now) left.entry) (worth_of (types_in context.now) right.entry) (worth_of (types_in context.now) w) first code.old.items)) }
 {
-    let made = made_between(table, operator, left, right)?;
-    operate(table, elements, operator, left, right, made, first, code)?;
+    let made = made_between(context.table, operator, left, right)?;
+    operate(context, operator, left, right, made, first, code)?;
     Ok(made)
 }
 
 /// Emits a composite literal of this name and these values ("Composite literals").
 #[cycle(emit)]
-fn emit_composite<'t, 'l, 'v, 'e, 'f, 'm, 'k>(
-    alloc: Global,
-    table: &'t TypeTable<'k>,
-    elements: &'l ElementList,
+fn emit_composite<'t, 'v, 'e, 'f, 'm, 'k>(
+    context: &'t Context<'t, 'k>,
     visible: &'v Visible<'k>,
     name: &'f Name,
     values: &'e [ExpressionNode],
     code: &'m mut Vec<Instr>,
 ) -> Result<Worth<'k>, Halt>
-    ensures worth { IfOk result (λ w. (trailing : Bool) → worth (globals_in table.now) (scope_of table.now visible.now) (Composite (name_of name.now) (expressions (map expression_of values.now)) trailing) ≡ Some (worth_of (types_of table.now) w)) }
+    ensures worth { IfOk result (λ w. (trailing : Bool) → worth (globals_of context.now) (scope_in context.now visible.now) (Composite (name_of name.now) (expressions (map expression_of values.now)) trailing) ≡ Some (worth_of (types_in context.now) w)) }
     ensures small { IfOk result IsSmall }
-    ensures emitted { IfOk result (λ w. (trailing : Bool) → Emits (Some (worth_of (types_of table.now) w)) code.old.items code.new.items (emits (globals_in table.now) elements.now (scope_of table.now visible.now) (Composite (name_of name.now) (expressions (map expression_of values.now)) trailing))) }
+    ensures emitted { IfOk result (λ w. (trailing : Bool) → Emits (Some (worth_of (types_in context.now) w)) code.old.items code.new.items (emits (globals_of context.now) (elements_of context.now) (scope_in context.now visible.now) (Composite (name_of name.now) (expressions (map expression_of values.now)) trailing))) }
 {
-    let Some(number) = literal_struct(table, visible, name.bytes.as_slice()) else {
+    let Some(number) = literal_struct(context.table, visible, name.bytes.as_slice()) else {
         return Err(Halt::Flawed);
     };
-    emit_literal(alloc, table, elements, visible, number, values, code)?;
+    emit_literal(context, visible, number, values, code)?;
     Ok(Worth::Typed(ValueType::Struct(number)))
 }
 
 /// Emits the fields of a literal of the struct with this number, or zeros where there are no values.
 #[cycle(emit)]
-fn emit_literal<'t, 'l, 'v, 'e, 'm, 'k>(
-    alloc: Global,
-    table: &'t TypeTable<'k>,
-    elements: &'l ElementList,
+fn emit_literal<'t, 'v, 'e, 'm, 'k>(
+    context: &'t Context<'t, 'k>,
     visible: &'v Visible<'k>,
     number: usize,
     values: &'e [ExpressionNode],
     code: &'m mut Vec<Instr>,
 ) -> Result<(), Halt>
-    ensures { OnOk result (Puts code.old.items code.new.items (literal_part (globals_in table.now) elements.now (scope_of table.now visible.now) number (expressions (map expression_of values.now)))) }
+    ensures { OnOk result (Puts code.old.items code.new.items (literal_part (globals_of context.now) (elements_of context.now) (scope_in context.now visible.now) number (expressions (map expression_of values.now)))) }
 {
     match values {
         [] => {
-            push_zeros(alloc, table, elements, ValueType::Struct(number), code)?;
+            push_zeros(context, ValueType::Struct(number), code)?;
             Ok(())
         }
         [_, ..] => {
-            let fields = fields_at(table, number);
-            emit_fields(alloc, table, elements, visible, fields, values, code)
+            let fields = fields_at(context.table, number);
+            emit_fields(context, visible, fields, values, code)
         }
     }
 }
 
 /// Emits the fields of a literal, in order.
 #[cycle(emit)]
-fn emit_fields<'t, 'l, 'v, 'e, 'f, 'm, 'k>(
-    alloc: Global,
-    table: &'t TypeTable<'k>,
-    elements: &'l ElementList,
+fn emit_fields<'t, 'v, 'e, 'f, 'm, 'k>(
+    context: &'t Context<'t, 'k>,
     visible: &'v Visible<'k>,
     fields: &'f [FieldEntry<'k>],
     values: &'e [ExpressionNode],
     code: &'m mut Vec<Instr>,
 ) -> Result<(), Halt>
-    ensures { OnOk result (Puts code.old.items code.new.items (emits_fields (globals_in table.now) elements.now (scope_of table.now visible.now) (kinds_in (map (field_in (types_of table.now)) fields.now)) (expressions (map expression_of values.now)))) }
+    ensures { OnOk result (Puts code.old.items code.new.items (emits_fields (globals_of context.now) (elements_of context.now) (scope_in context.now visible.now) (kinds_in (map (field_in (types_in context.now)) fields.now)) (expressions (map expression_of values.now)))) }
 {
     let Some((value, values)) = values.split_first() else {
         return Ok(());
@@ -256,9 +237,9 @@ fn emit_fields<'t, 'l, 'v, 'e, 'f, 'm, 'k>(
     let Some((field, fields)) = fields.split_first() else {
         return Ok(());
     };
-    let worth = emit(alloc, table, elements, visible, value, code)?;
-    settle(table, elements, worth, field.kind, code)?;
-    emit_fields(alloc, table, elements, visible, fields, values, code)
+    let worth = emit(context, visible, value, code)?;
+    settle(context, worth, field.kind, code)?;
+    emit_fields(context, visible, fields, values, code)
 }
 
 /// What an operator makes of two operands.
@@ -281,46 +262,44 @@ fn made_between<'t>(
 
 /// Emits a name ("Operands").
 fn emit_name<'t>(
-    table: &TypeTable<'t>,
-    elements: &ElementList,
+    context: &Context<'_, 't>,
     visible: &Visible<'t>,
     name: &Name,
     code: &mut Vec<Instr>,
 ) -> Result<Worth<'t>, Halt>
-    ensures worth { IfOk result (λ w. worth (globals_in table.now) (scope_of table.now visible.now) (Named (name_of name.now)) ≡ Some (worth_of (types_of table.now) w)) }
+    ensures worth { IfOk result (λ w. worth (globals_of context.now) (scope_in context.now visible.now) (Named (name_of name.now)) ≡ Some (worth_of (types_in context.now) w)) }
     ensures small { IfOk result IsSmall }
-    ensures emitted { IfOk result (λ w. Emits (Some (worth_of (types_of table.now) w)) code.old.items code.new.items (emits (globals_in table.now) elements.now (scope_of table.now visible.now) (Named (name_of name.now)))) }
+    ensures emitted { IfOk result (λ w. Emits (Some (worth_of (types_in context.now) w)) code.old.items code.new.items (emits (globals_of context.now) (elements_of context.now) (scope_in context.now visible.now) (Named (name_of name.now)))) }
 {
     let name = name.bytes.as_slice();
-    let Some(worth) = named_worth(table, visible, name) else {
+    let Some(worth) = named_worth(context.table, visible, name) else {
         return Err(Halt::Flawed);
     };
     if let Worth::Typed(_) = worth {
-        code.push(named(table, elements, visible, name)?)?;
+        code.push(named(context, visible, name)?)?;
     }
     Ok(worth)
 }
 
 /// Emits the selection of a field of an operand, which is pushed ("Selectors").
 fn emit_field<'t>(
-    table: &TypeTable<'t>,
-    elements: &ElementList,
+    context: &Context<'_, 't>,
     whole: Worth<'_>,
     field: &[u8],
     code: &mut Vec<Instr>,
 ) -> Result<Worth<'t>, Halt>
-    ensures worth { IfOk result (λ w. selected_worth (globals_in table.now) field.now (worth_of (types_of table.now) whole.entry) ≡ Some (worth_of (types_of table.now) w)) }
+    ensures worth { IfOk result (λ w. selected_worth (globals_of context.now) field.now (worth_of (types_in context.now) whole.entry) ≡ Some (worth_of (types_in context.now) w)) }
     ensures small { IfOk result IsSmall }
-    ensures emitted { OnOk result (code.new.items ≡ code.old.items ++ picks (globals_in table.now) elements.now (worth_of (types_of table.now) whole.entry) field.now) }
+    ensures emitted { OnOk result (code.new.items ≡ code.old.items ++ picks (globals_of context.now) (elements_of context.now) (worth_of (types_in context.now) whole.entry) field.now) }
 {
     let Worth::Typed(kind) = whole else {
         return Err(Halt::Flawed);
     };
-    let Some(part) = field_of(table, kind, field) else {
+    let Some(part) = field_of(context.table, kind, field) else {
         return Err(Halt::Flawed);
     };
-    let words = words_of(table, elements, kind);
-    let kept = words_of(table, elements, part.kind);
+    let words = words_of(context, kind);
+    let kept = words_of(context, part.kind);
     code.push(Instr::Pick(words, part.place as u32, kept))?;
     Ok(Worth::Typed(part.kind))
 }
@@ -357,24 +336,22 @@ fn aim(code: &mut Vec<Instr>, at: usize, instr: Instr)
 
 /// Emits `&&`: the right operand is valued where the left one is true ("Logical operators").
 #[cycle(emit)]
-fn emit_and<'t, 'l, 'v, 'e, 'f, 'm, 'k>(
-    alloc: Global,
-    table: &'t TypeTable<'k>,
-    elements: &'l ElementList,
+fn emit_and<'t, 'v, 'e, 'f, 'm, 'k>(
+    context: &'t Context<'t, 'k>,
     visible: &'v Visible<'k>,
     left: &'e ExpressionNode,
     right: &'f ExpressionNode,
     code: &'m mut Vec<Instr>,
 ) -> Result<Worth<'k>, Halt>
-    ensures worth { IfOk result (λ w. worth (globals_in table.now) (scope_of table.now visible.now) (Binary BinaryOperator.LogicalAnd (expression_of left.now) (expression_of right.now)) ≡ Some (worth_of (types_of table.now) w)) }
+    ensures worth { IfOk result (λ w. worth (globals_of context.now) (scope_in context.now visible.now) (Binary BinaryOperator.LogicalAnd (expression_of left.now) (expression_of right.now)) ≡ Some (worth_of (types_in context.now) w)) }
     ensures small { IfOk result IsSmall }
-    ensures emitted { IfOk result (λ w. Emits (Some (worth_of (types_of table.now) w)) code.old.items code.new.items (emits (globals_in table.now) elements.now (scope_of table.now visible.now) (Binary BinaryOperator.LogicalAnd (expression_of left.now) (expression_of right.now)))) }
+    ensures emitted { IfOk result (λ w. Emits (Some (worth_of (types_in context.now) w)) code.old.items code.new.items (emits (globals_of context.now) (elements_of context.now) (scope_in context.now visible.now) (Binary BinaryOperator.LogicalAnd (expression_of left.now) (expression_of right.now)))) }
 {
-    let a = emit(alloc, table, elements, visible, left, code)?;
+    let a = emit(context, visible, left, code)?;
     let test = code.len();
     code.push(Instr::Unless(0))?;
-    let b = emit(alloc, table, elements, visible, right, code)?;
-    end_and(table, a, b, test, code)
+    let b = emit(context, visible, right, code)?;
+    end_and(context.table, a, b, test, code)
 }
 
 /// Behind the right operand of `&&` comes `false`, to which the test of the left one leads.
@@ -400,23 +377,21 @@ fn end_and<'t>(
 
 /// Emits `||`: the right operand is valued where the left one is false.
 #[cycle(emit)]
-fn emit_or<'t, 'l, 'v, 'e, 'f, 'm, 'k>(
-    alloc: Global,
-    table: &'t TypeTable<'k>,
-    elements: &'l ElementList,
+fn emit_or<'t, 'v, 'e, 'f, 'm, 'k>(
+    context: &'t Context<'t, 'k>,
     visible: &'v Visible<'k>,
     left: &'e ExpressionNode,
     right: &'f ExpressionNode,
     code: &'m mut Vec<Instr>,
 ) -> Result<Worth<'k>, Halt>
-    ensures worth { IfOk result (λ w. worth (globals_in table.now) (scope_of table.now visible.now) (Binary BinaryOperator.LogicalOr (expression_of left.now) (expression_of right.now)) ≡ Some (worth_of (types_of table.now) w)) }
+    ensures worth { IfOk result (λ w. worth (globals_of context.now) (scope_in context.now visible.now) (Binary BinaryOperator.LogicalOr (expression_of left.now) (expression_of right.now)) ≡ Some (worth_of (types_in context.now) w)) }
     ensures small { IfOk result IsSmall }
-    ensures emitted { IfOk result (λ w. Emits (Some (worth_of (types_of table.now) w)) code.old.items code.new.items (emits (globals_in table.now) elements.now (scope_of table.now visible.now) (Binary BinaryOperator.LogicalOr (expression_of left.now) (expression_of right.now)))) }
+    ensures emitted { IfOk result (λ w. Emits (Some (worth_of (types_in context.now) w)) code.old.items code.new.items (emits (globals_of context.now) (elements_of context.now) (scope_in context.now visible.now) (Binary BinaryOperator.LogicalOr (expression_of left.now) (expression_of right.now)))) }
 {
-    let a = emit(alloc, table, elements, visible, left, code)?;
+    let a = emit(context, visible, left, code)?;
     let over = start_or(code)?;
-    let b = emit(alloc, table, elements, visible, right, code)?;
-    end_or(table, a, b, over, code)
+    let b = emit(context, visible, right, code)?;
+    end_or(context.table, a, b, over, code)
 }
 
 /// Behind the left operand of `||` comes `true` where it is, and a jump over the right one, at the place that is answered.

@@ -10,14 +10,15 @@ ghost use Rattle.type_table.specs.Containment.{fields_of};
 ghost use Rattle.codegen_base.specs.Elements.{kinds_of};
 ghost use Rattle.codegen_base.specs.Pushes.{elements_shape, named, words_of, zero_instr};
 ghost use Rattle.codegen_expression.specs.Emission.{Emits, at_once, settling};
+ghost use Rattle.codegen_expression.specs.Contexts.{elements_of, globals_of, scope_in, types_in};
 
-use crate::element_list::ElementList;
+use crate::context::Context;
 use crate::halt::Halt;
 use crate::operator::wrapped;
 use crate::shape::{put_kinds, shape_of};
 use bytecode::{Instr, WordKind};
 use checker_base::worth::Worth;
-use std::alloc::{AllocError, Global};
+use std::alloc::AllocError;
 use type_table::entry::FieldEntry;
 use type_table::layout::number_of;
 use type_table::scope::{Entry, Visible, is_truth, variable_named};
@@ -35,23 +36,19 @@ pub fn number(wide: usize) -> Result<u32, Halt>
 }
 
 /// How many words a value takes.
-pub fn words_of(table: &TypeTable<'_>, elements: &ElementList, kind: ValueType<'_>) -> u32
-    ensures { (scope : _) → result ≡ words_of (globals_in table.now) elements.now scope (kind_of (types_of table.now) kind.entry) }
+pub fn words_of(context: &Context<'_, '_>, kind: ValueType<'_>) -> u32
+    ensures { (scope : _) → result ≡ words_of (globals_of context.now) (elements_of context.now) scope (kind_of (types_in context.now) kind.entry) }
 {
-    type_table::layout::words_of(table, kind) as u32
+    type_table::layout::words_of(context.table, kind) as u32
 }
 
 /// The number of the shape of what a channel of this type carries.
-pub(crate) fn carried_shape(
-    table: &TypeTable<'_>,
-    elements: &ElementList,
-    kind: ValueType<'_>,
-) -> u32
-    ensures { result ≡ elements_shape elements.now (kind_of (types_of table.now) kind.entry) }
+pub(crate) fn carried_shape(context: &Context<'_, '_>, kind: ValueType<'_>) -> u32
+    ensures { result ≡ elements_shape (elements_of context.now) (kind_of (types_in context.now) kind.entry) }
 {
     match kind {
-        ValueType::Channel(_, carried) => shape_of(table, elements, element_in(table, carried)),
-        _ => shape_of(table, elements, ValueType::Int),
+        ValueType::Channel(_, carried) => shape_of(context, element_in(context.table, carried)),
+        _ => shape_of(context, ValueType::Int),
     }
 }
 
@@ -68,16 +65,14 @@ fn zero_instr(kind: WordKind) -> Instr
 
 /// Pushes the zero value of a type.
 pub fn push_zeros<'t>(
-    alloc: Global,
-    table: &TypeTable<'t>,
-    elements: &ElementList,
+    context: &Context<'_, 't>,
     kind: ValueType<'t>,
     code: &mut Vec<Instr>,
 ) -> Result<(), AllocError>
-    ensures { OnOk result (code.new.items ≡ code.old.items ++ map zero_instr (kinds_of (globals_in table.now).structs elements.now (kind_of (types_of table.now) kind.entry))) }
+    ensures { OnOk result (code.new.items ≡ code.old.items ++ map zero_instr (kinds_of (globals_of context.now).structs (elements_of context.now) (kind_of (types_in context.now) kind.entry))) }
 {
-    let mut kinds = Vec::new(alloc);
-    put_kinds(alloc, table, elements, kind, &mut kinds)?;
+    let mut kinds = Vec::new(context.alloc);
+    put_kinds(context, kind, &mut kinds)?;
     for kind in kinds.iter() {
         code.push(zero_instr(*kind))?;
     }
@@ -86,20 +81,19 @@ pub fn push_zeros<'t>(
 
 /// The instruction that pushes the value of a name.
 pub(crate) fn named(
-    table: &TypeTable<'_>,
-    elements: &ElementList,
+    context: &Context<'_, '_>,
     visible: &Visible<'_>,
     name: &[u8],
 ) -> Result<Instr, Halt>
-    ensures { IfOk result (λ i. i ≡ named (globals_in table.now) elements.now (scope_of table.now visible.now) name.now) }
+    ensures { IfOk result (λ i. i ≡ named (globals_of context.now) (elements_of context.now) (scope_in context.now visible.now) name.now) }
 {
     if is_truth(name) {
         return Ok(Instr::Bool(name == b"true".as_slice()));
     }
-    match variable_named(table, visible, name) {
+    match variable_named(context.table, visible, name) {
         Some(entry) => {
             let place = number(entry.place)?;
-            Ok(Instr::Load(place, words_of(table, elements, entry.kind)))
+            Ok(Instr::Load(place, words_of(context, entry.kind)))
         }
         None => Err(Halt::Flawed),
     }
@@ -145,13 +139,12 @@ pub(crate) fn push_constant(worth: Worth<'_>, code: &mut Vec<Instr>) -> Result<(
 
 /// Pushes a constant, or `nil`, that is used as a value of this type.
 pub fn settle(
-    table: &TypeTable<'_>,
-    elements: &ElementList,
+    context: &Context<'_, '_>,
     worth: Worth<'_>,
     kind: ValueType<'_>,
     code: &mut Vec<Instr>,
 ) -> Result<(), AllocError>
-    ensures { OnOk result (code.new.items ≡ code.old.items ++ settling elements.now (worth_of (types_of table.now) worth.entry) (kind_of (types_of table.now) kind.entry)) }
+    ensures { OnOk result (code.new.items ≡ code.old.items ++ settling (elements_of context.now) (worth_of (types_in context.now) worth.entry) (kind_of (types_in context.now) kind.entry)) }
 {
     match worth {
         Worth::Constant(value) => {
@@ -159,7 +152,7 @@ pub fn settle(
             Ok(())
         }
         Worth::Nil => {
-            code.push(Instr::Nil(carried_shape(table, elements, kind)))?;
+            code.push(Instr::Nil(carried_shape(context, kind)))?;
             Ok(())
         }
         Worth::Typed(_) => Ok(()),

@@ -5,15 +5,17 @@ ghost use Rattle.bytecode.specs.declared.instr.WordKind.{WordKind as OneKind};
 ghost use Rattle.syntax.specs.View.{type_of};
 ghost use Rattle.type_table.specs.Scopes.{nothing_declared, type_in};
 ghost use Rattle.type_table.specs.Views.{kind_of, kind_size};
-ghost use Rattle.type_table.specs.Visible.{globals_in, types_of};
+ghost use Rattle.type_table.specs.Visible.{types_of};
 ghost use Rattle.meaning.specs.Values.{known};
 ghost use Rattle.codegen_base.specs.Elements.{element_of, shape_of, with_type, word_kind, kinds_of};
 ghost use Rattle.codegen_expression.specs.Depths.{depth};
+ghost use Rattle.codegen_expression.specs.Contexts.{elements_of, globals_of, types_in};
 
+use crate::context::Context;
 use crate::element_list::ElementList;
 use bytecode::WordKind;
 use codegen_base::element::Element;
-use std::alloc::{AllocError, Global};
+use std::alloc::AllocError;
 use type_table::table::TypeTable;
 use type_table::value_type::{ValueType, element_in};
 use type_table::zero::parts;
@@ -34,10 +36,11 @@ pub fn element_of(table: &TypeTable<'_>, elements: &ElementList, kind: ValueType
 }
 
 /// The number of the shape of values of a type.
-pub fn shape_of(table: &TypeTable<'_>, elements: &ElementList, kind: ValueType<'_>) -> u32
-    ensures { result ≡ shape_of elements.now (kind_of (types_of table.now) kind.entry) }
+pub fn shape_of(context: &Context<'_, '_>, kind: ValueType<'_>) -> u32
+    ensures { result ≡ shape_of (elements_of context.now) (kind_of (types_in context.now) kind.entry) }
 {
-    elements.place_of(element_of(table, elements, kind))
+    let element = element_of(context.table, context.elements, kind);
+    context.elements.place_of(element)
 }
 
 /// Notes the elements of the channels in a type, those within others first.
@@ -62,30 +65,28 @@ pub fn note_kind<'t, 'e>(
 }
 
 /// The kind of the word of a value; a struct has many.
-pub fn word_kind(table: &TypeTable<'_>, elements: &ElementList, kind: ValueType<'_>) -> WordKind
-    ensures { result ≡ word_kind elements.now (kind_of (types_of table.now) kind.entry) }
+pub fn word_kind(context: &Context<'_, '_>, kind: ValueType<'_>) -> WordKind
+    ensures { result ≡ word_kind (elements_of context.now) (kind_of (types_in context.now) kind.entry) }
 {
     match kind {
         ValueType::Int | ValueType::Struct(_) => WordKind::Int,
         ValueType::Bool => WordKind::Bool,
         ValueType::Channel(_, carried) => {
-            WordKind::Chan(shape_of(table, elements, element_in(table, carried)))
+            WordKind::Chan(shape_of(context, element_in(context.table, carried)))
         }
     }
 }
 
 /// Puts the kinds of the words of a value behind others.
 pub fn put_kinds<'a>(
-    alloc: Global,
-    table: &TypeTable<'a>,
-    elements: &ElementList,
+    context: &Context<'_, 'a>,
     kind: ValueType<'a>,
     kinds: &mut Vec<WordKind>,
 ) -> Result<(), AllocError>
-    ensures { OnOk result (kinds.new.items ≡ kinds.old.items ++ kinds_of (globals_in table.now).structs elements.now (kind_of (types_of table.now) kind.entry)) }
+    ensures { OnOk result (kinds.new.items ≡ kinds.old.items ++ kinds_of (globals_of context.now).structs (elements_of context.now) (kind_of (types_in context.now) kind.entry)) }
 {
-    for part in parts(alloc, table, kind)?.iter() {
-        kinds.push(word_kind(table, elements, *part))?;
+    for part in parts(context.alloc, context.table, kind)?.iter() {
+        kinds.push(word_kind(context, *part))?;
     }
     Ok(())
 }

@@ -6,19 +6,20 @@ ghost use Rattle.syntax.specs.View.{comm_of, expression_of, name_of, place_of};
 ghost use Rattle.type_table.specs.Types.{BoolType};
 ghost use Rattle.type_table.specs.Scopes.{Yield};
 ghost use Rattle.type_table.specs.Views.{kind_of};
-ghost use Rattle.type_table.specs.Visible.{Keeps, globals_in, scope_of, types_of};
+ghost use Rattle.type_table.specs.Visible.{Keeps};
 ghost use Rattle.codegen_base.specs.Generated.{behind_comm, comm_plan, one_or_two, unless_two};
 ghost use Rattle.codegen_base.specs.Layouts.{declaring_all};
 ghost use Rattle.codegen_base.specs.Statements.{assigns, name_spots, place_spots};
 ghost use Rattle.plan.specs.Plan.{Skip};
 ghost use Rattle.codegen_simple.specs.Spots.{spot_in};
-ghost use Rattle.codegen_simple.specs.Layouts.{layout_of};
+ghost use Rattle.codegen_simple.specs.Layouts.{layout_in};
 ghost use Rattle.codegen_simple.specs.Simples.{Appends};
+ghost use Rattle.codegen_expression.specs.Contexts.{elements_of, globals_of, scope_in, types_in};
 ghost use Rattle.codegen_header.specs.Received.{unwanted};
 
 use crate::carried::carried;
 use bytecode::Instr;
-use codegen_expression::element_list::ElementList;
+use codegen_expression::context::Context;
 use codegen_expression::halt::Halt;
 use codegen_expression::operand::words_of;
 use codegen_simple::assignment::assign;
@@ -26,33 +27,29 @@ use codegen_simple::define::name_spot;
 use codegen_simple::layout::{Layout, declare_new};
 use codegen_simple::place::place_spot;
 use codegen_simple::spot::Spot;
-use std::alloc::Global;
 use syntax::{CommNode, ExpressionNode, Name, PlaceNode};
-use type_table::table::TypeTable;
 use type_table::value_type::ValueType;
 
 /// Declares a name for an item of this type, where it is new, and one for whether the item was sent, and answers where they go.
 fn define_received<'a>(
-    alloc: Global,
-    table: &TypeTable<'a>,
-    elements: &ElementList,
+    context: &Context<'_, 'a>,
     layout: &mut Layout<'a>,
     kind: ValueType<'a>,
     item: &'a Name,
     sent: Option<&'a Name>,
 ) -> Result<Vec<Spot>, Halt>
-    ensures spots { IfOk result (λ spots. (yields : Yield) → map spot_in spots.items ≡ name_spots (globals_in table.now) elements.now (layout_of table.now layout.old) (one_or_two (globals_in table.now) elements.now yields (name_of item.now) (option_map (λ (n : _). name_of n.now) sent.entry)) (kind_of (types_of table.now) kind.entry ∷ (BoolType ∷ []))) }
-    ensures after { (yields : Yield) → OnOk result (layout_of table.now layout.new ≡ declaring_all (globals_in table.now) elements.now (one_or_two (globals_in table.now) elements.now yields (name_of item.now) (option_map (λ (n : _). name_of n.now) sent.entry)) (kind_of (types_of table.now) kind.entry ∷ (BoolType ∷ [])) (layout_of table.now layout.old)) }
+    ensures spots { IfOk result (λ spots. (yields : Yield) → map spot_in spots.items ≡ name_spots (globals_of context.now) (elements_of context.now) (layout_in context.now layout.old) (one_or_two (globals_of context.now) (elements_of context.now) yields (name_of item.now) (option_map (λ (n : _). name_of n.now) sent.entry)) (kind_of (types_in context.now) kind.entry ∷ (BoolType ∷ []))) }
+    ensures after { (yields : Yield) → OnOk result (layout_in context.now layout.new ≡ declaring_all (globals_of context.now) (elements_of context.now) (one_or_two (globals_of context.now) (elements_of context.now) yields (name_of item.now) (option_map (λ (n : _). name_of n.now) sent.entry)) (kind_of (types_in context.now) kind.entry ∷ (BoolType ∷ [])) (layout_in context.now layout.old)) }
     ensures kept { OnOk result (Keeps layout.old.visible layout.new.visible) }
 {
-    let mut spots = Vec::new(alloc);
-    spots.push(name_spot(table, elements, layout, item, kind)?)?;
-    declare_new(alloc, table, elements, layout, kind, item)?;
+    let mut spots = Vec::new(context.alloc);
+    spots.push(name_spot(context, layout, item, kind)?)?;
+    declare_new(context, layout, kind, item)?;
     let Some(sent) = sent else {
         return Ok(spots);
     };
-    spots.push(name_spot(table, elements, layout, sent, ValueType::Bool)?)?;
-    declare_new(alloc, table, elements, layout, ValueType::Bool, sent)?;
+    spots.push(name_spot(context, layout, sent, ValueType::Bool)?)?;
+    declare_new(context, layout, ValueType::Bool, sent)?;
     Ok(spots)
 }
 
@@ -68,78 +65,71 @@ fn drop_sent(wanted: bool, code: &mut Vec<Instr>) -> Result<(), Halt>
 
 /// What was received goes to names, which are declared where they are new.
 fn emit_define<'a>(
-    alloc: Global,
-    table: &TypeTable<'a>,
-    elements: &ElementList,
+    context: &Context<'_, 'a>,
     layout: &mut Layout<'a>,
     channel: &ExpressionNode,
     item: &'a Name,
     sent: Option<&'a Name>,
     code: &mut Vec<Instr>,
 ) -> Result<(), Halt>
-    ensures emitted { (yields : Yield) → OnOk result (Appends code.old.items code.new.items (comm_plan (globals_in table.now) elements.now yields (layout_of table.now layout.old) (CommDefine (name_of item.now) (option_map (λ (n : _). name_of n.now) sent.entry) (expression_of channel.now)))) }
-    ensures after { (yields : Yield) → OnOk result (layout_of table.now layout.new ≡ behind_comm (globals_in table.now) elements.now yields (CommDefine (name_of item.now) (option_map (λ (n : _). name_of n.now) sent.entry) (expression_of channel.now)) (layout_of table.now layout.old)) }
+    ensures emitted { (yields : Yield) → OnOk result (Appends code.old.items code.new.items (comm_plan (globals_of context.now) (elements_of context.now) yields (layout_in context.now layout.old) (CommDefine (name_of item.now) (option_map (λ (n : _). name_of n.now) sent.entry) (expression_of channel.now)))) }
+    ensures after { (yields : Yield) → OnOk result (layout_in context.now layout.new ≡ behind_comm (globals_of context.now) (elements_of context.now) yields (CommDefine (name_of item.now) (option_map (λ (n : _). name_of n.now) sent.entry) (expression_of channel.now)) (layout_in context.now layout.old)) }
     ensures kept { OnOk result (Keeps layout.old.visible layout.new.visible) }
 {
-    let kind = carried(table, &layout.visible, channel)?;
+    let kind = carried(context.table, &layout.visible, channel)?;
     drop_sent(sent.is_some(), code)?;
-    let spots = define_received(alloc, table, elements, layout, kind, item, sent)?;
-    assign(alloc, spots.as_slice(), code)
+    let spots = define_received(context, layout, kind, item, sent)?;
+    assign(context.alloc, spots.as_slice(), code)
 }
 
 /// Where an item of this type goes, and whether it was sent.
 fn received_spots<'a>(
-    alloc: Global,
-    table: &TypeTable<'a>,
-    elements: &ElementList,
+    context: &Context<'_, 'a>,
     layout: &Layout<'a>,
     kind: ValueType<'a>,
     item: &PlaceNode,
     sent: Option<&PlaceNode>,
 ) -> Result<Vec<Spot>, Halt>
-    ensures { IfOk result (λ spots. (yields : Yield) → map spot_in spots.items ≡ place_spots (globals_in table.now) elements.now (scope_of table.now layout.now.visible) (one_or_two (globals_in table.now) elements.now yields (place_of item.now) (option_map (λ (p : _). place_of p.now) sent.entry)) (kind_of (types_of table.now) kind.entry ∷ (BoolType ∷ []))) }
+    ensures { IfOk result (λ spots. (yields : Yield) → map spot_in spots.items ≡ place_spots (globals_of context.now) (elements_of context.now) (scope_in context.now layout.now.visible) (one_or_two (globals_of context.now) (elements_of context.now) yields (place_of item.now) (option_map (λ (p : _). place_of p.now) sent.entry)) (kind_of (types_in context.now) kind.entry ∷ (BoolType ∷ []))) }
 {
     let visible = &layout.visible;
-    let mut spots = Vec::new(alloc);
-    spots.push(place_spot(table, elements, visible, item, kind)?)?;
+    let mut spots = Vec::new(context.alloc);
+    spots.push(place_spot(context, visible, item, kind)?)?;
     let Some(sent) = sent else {
         return Ok(spots);
     };
-    spots.push(place_spot(table, elements, visible, sent, ValueType::Bool)?)?;
+    spots.push(place_spot(context, visible, sent, ValueType::Bool)?)?;
     Ok(spots)
 }
 
 /// What was received goes to places.
 fn emit_assign<'a>(
-    alloc: Global,
-    table: &TypeTable<'a>,
-    elements: &ElementList,
+    context: &Context<'_, 'a>,
     layout: &Layout<'a>,
     channel: &ExpressionNode,
     item: &PlaceNode,
     sent: Option<&PlaceNode>,
     code: &mut Vec<Instr>,
 ) -> Result<(), Halt>
-    ensures { (yields : Yield) → OnOk result (Appends code.old.items code.new.items (comm_plan (globals_in table.now) elements.now yields (layout_of table.now layout.now) (CommAssign (place_of item.now) (option_map (λ (p : _). place_of p.now) sent.entry) (expression_of channel.now)))) }
+    ensures { (yields : Yield) → OnOk result (Appends code.old.items code.new.items (comm_plan (globals_of context.now) (elements_of context.now) yields (layout_in context.now layout.now) (CommAssign (place_of item.now) (option_map (λ (p : _). place_of p.now) sent.entry) (expression_of channel.now)))) }
 {
-    let kind = carried(table, &layout.visible, channel)?;
+    let kind = carried(context.table, &layout.visible, channel)?;
     drop_sent(sent.is_some(), code)?;
-    let spots = received_spots(alloc, table, elements, layout, kind, item, sent)?;
-    assign(alloc, spots.as_slice(), code)
+    let spots = received_spots(context, layout, kind, item, sent)?;
+    assign(context.alloc, spots.as_slice(), code)
 }
 
 /// What was received is dropped.
 fn emit_dropped<'a>(
-    table: &TypeTable<'a>,
-    elements: &ElementList,
+    context: &Context<'_, 'a>,
     layout: &Layout<'a>,
     channel: &ExpressionNode,
     code: &mut Vec<Instr>,
 ) -> Result<(), Halt>
-    ensures { (yields : Yield) → OnOk result (Appends code.old.items code.new.items (comm_plan (globals_in table.now) elements.now yields (layout_of table.now layout.now) (CommReceive (expression_of channel.now)))) }
+    ensures { (yields : Yield) → OnOk result (Appends code.old.items code.new.items (comm_plan (globals_of context.now) (elements_of context.now) yields (layout_in context.now layout.now) (CommReceive (expression_of channel.now)))) }
 {
-    let kind = carried(table, &layout.visible, channel)?;
-    let Some(count) = words_of(table, elements, kind).checked_add(1) else {
+    let kind = carried(context.table, &layout.visible, channel)?;
+    let Some(count) = words_of(context, kind).checked_add(1) else {
         return Err(Halt::Memory);
     };
     code.push(Instr::Discard(count))?;
@@ -150,29 +140,27 @@ fn emit_dropped<'a>(
 ///
 /// Errors: something is wrong with the clause; want of memory.
 pub fn take_comm<'a>(
-    alloc: Global,
-    table: &TypeTable<'a>,
-    elements: &ElementList,
+    context: &Context<'_, 'a>,
     layout: &mut Layout<'a>,
     comm: &'a CommNode,
     code: &mut Vec<Instr>,
 ) -> Result<(), Halt>
-    ensures emitted { (yields : Yield) → OnOk result (Appends code.old.items code.new.items (comm_plan (globals_in table.now) elements.now yields (layout_of table.now layout.old) (comm_of comm.now))) }
-    ensures after { (yields : Yield) → OnOk result (layout_of table.now layout.new ≡ behind_comm (globals_in table.now) elements.now yields (comm_of comm.now) (layout_of table.now layout.old)) }
+    ensures emitted { (yields : Yield) → OnOk result (Appends code.old.items code.new.items (comm_plan (globals_of context.now) (elements_of context.now) yields (layout_in context.now layout.old) (comm_of comm.now))) }
+    ensures after { (yields : Yield) → OnOk result (layout_in context.now layout.new ≡ behind_comm (globals_of context.now) (elements_of context.now) yields (comm_of comm.now) (layout_in context.now layout.old)) }
     ensures kept { OnOk result (Keeps layout.old.visible layout.new.visible) }
 {
     match comm {
         CommNode::Send(_, _) => {}
         CommNode::Receive(channel) => {
-            emit_dropped(table, elements, layout, channel, code)?;
+            emit_dropped(context, layout, channel, code)?;
         }
         CommNode::Define(item, sent, channel) => {
             let sent = sent.as_ref();
-            emit_define(alloc, table, elements, layout, channel, item, sent, code)?;
+            emit_define(context, layout, channel, item, sent, code)?;
         }
         CommNode::Assign(item, sent, channel) => {
             let sent = sent.as_ref();
-            emit_assign(alloc, table, elements, layout, channel, item, sent, code)?;
+            emit_assign(context, layout, channel, item, sent, code)?;
         }
     }
     Ok(())

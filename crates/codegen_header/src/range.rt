@@ -6,7 +6,7 @@ ghost use Rattle.syntax.specs.Tree.{AssignTarget, DefineTarget, Expression};
 ghost use Rattle.syntax.specs.View.{expression_of, name_of, place_of, target_of};
 ghost use Rattle.type_table.specs.Scopes.{Scope, Yield};
 ghost use Rattle.type_table.specs.Views.{kind_of};
-ghost use Rattle.type_table.specs.Visible.{Keeps, globals_in, scope_of, types_of};
+ghost use Rattle.type_table.specs.Visible.{Keeps};
 ghost use Rattle.meaning.specs.Variables.{blank};
 ghost use Rattle.codegen_base.specs.Generated.{keeps, receives, takes};
 ghost use Rattle.codegen_base.specs.Layouts.{Layout as OneLayout, behind_target, carried, declaring, declaring_new, type_of};
@@ -14,13 +14,14 @@ ghost use Rattle.codegen_base.specs.Pushes.{drops};
 ghost use Rattle.codegen_base.specs.Statements.{stores, width};
 ghost use Rattle.plan.specs.Plan.{Do, Skip};
 ghost use Rattle.codegen_simple.specs.Spots.{spot_in};
-ghost use Rattle.codegen_simple.specs.Layouts.{layout_of};
+ghost use Rattle.codegen_simple.specs.Layouts.{layout_in};
 ghost use Rattle.codegen_simple.specs.Simples.{Appends};
+ghost use Rattle.codegen_expression.specs.Contexts.{elements_of, globals_of, scope_in, types_in};
 
 use crate::blank::Blank;
 use crate::carried::carried;
 use bytecode::Instr;
-use codegen_expression::element_list::ElementList;
+use codegen_expression::context::Context;
 use codegen_expression::halt::Halt;
 use codegen_expression::operand::{number, words_of};
 use codegen_expression::shape::shape_of;
@@ -29,9 +30,7 @@ use codegen_simple::layout::{Layout, declare, declare_new};
 use codegen_simple::place::place_spot;
 use codegen_simple::spot::{Spot, drop_words, store};
 use codegen_simple::values::push_own;
-use std::alloc::Global;
 use syntax::{ExpressionNode, Name, PlaceNode, RangeTarget};
-use type_table::table::TypeTable;
 use type_table::value_type::ValueType;
 
 /// What a range receives from: the type of its channel, the type of the items, and the local in which the channel is kept.
@@ -47,21 +46,19 @@ pub struct Ranged<'a> {
 /// Errors: something is wrong with the channel; want of memory.
 #[tactic(auto, using(crate::proofs::Ranging::appends_keeps))]
 pub fn emit_kept<'a>(
-    alloc: Global,
-    table: &TypeTable<'a>,
-    elements: &ElementList,
+    context: &Context<'_, 'a>,
     layout: &Layout<'a>,
     channel: &ExpressionNode,
     code: &mut Vec<Instr>,
 ) -> Result<Ranged<'a>, Halt>
-    ensures emitted { (yields : Yield) → OnOk result (Appends code.old.items code.new.items (keeps (globals_in table.now) elements.now yields (layout_of table.now layout.now) (expression_of channel.now))) }
-    ensures channel { IfOk result (λ ranged. type_of (globals_in table.now) elements.now (scope_of table.now layout.now.visible) (expression_of channel.now) ≡ kind_of (types_of table.now) ranged.channel) }
-    ensures item { IfOk result (λ ranged. carried (globals_in table.now) elements.now (scope_of table.now layout.now.visible) (expression_of channel.now) ≡ kind_of (types_of table.now) ranged.item) }
+    ensures emitted { (yields : Yield) → OnOk result (Appends code.old.items code.new.items (keeps (globals_of context.now) (elements_of context.now) yields (layout_in context.now layout.now) (expression_of channel.now))) }
+    ensures channel { IfOk result (λ ranged. type_of (globals_of context.now) (elements_of context.now) (scope_in context.now layout.now.visible) (expression_of channel.now) ≡ kind_of (types_in context.now) ranged.channel) }
+    ensures item { IfOk result (λ ranged. carried (globals_of context.now) (elements_of context.now) (scope_in context.now layout.now.visible) (expression_of channel.now) ≡ kind_of (types_in context.now) ranged.item) }
     ensures place { IfOk result (λ ranged. ranged.place ≡ layout.now.visible.words) }
 {
-    let item = carried(table, &layout.visible, channel)?;
+    let item = carried(context.table, &layout.visible, channel)?;
     let place = number(layout.visible.words)?;
-    let channel = push_own(alloc, table, elements, &layout.visible, channel, code)?;
+    let channel = push_own(context, &layout.visible, channel, code)?;
     code.push(Instr::Store(place, 1))?;
     Ok(Ranged {
         channel,
@@ -74,17 +71,15 @@ pub fn emit_kept<'a>(
 ///
 /// Errors: want of memory.
 pub fn declare_kept<'a>(
-    alloc: Global,
-    table: &TypeTable<'a>,
-    elements: &ElementList,
+    context: &Context<'_, 'a>,
     hidden: &'a Blank,
     layout: &mut Layout<'a>,
     kind: ValueType<'a>,
 ) -> Result<(), Halt>
-    ensures after { OnOk result (layout_of table.now layout.new ≡ declaring (globals_in table.now) elements.now (kind_of (types_of table.now) kind.entry) blank (layout_of table.now layout.old)) }
+    ensures after { OnOk result (layout_in context.now layout.new ≡ declaring (globals_of context.now) (elements_of context.now) (kind_of (types_in context.now) kind.entry) blank (layout_in context.now layout.old)) }
     ensures kept { OnOk result (Keeps layout.old.visible layout.new.visible) }
 {
-    declare(alloc, table, elements, layout, kind, hidden.name())
+    declare(context, layout, kind, hidden.name())
 }
 
 /// Receives the next item.
@@ -92,15 +87,14 @@ pub fn declare_kept<'a>(
 /// Errors: want of memory.
 #[tactic(auto, using(crate::proofs::Ranging::appends_receives))]
 pub fn emit_next(
-    table: &TypeTable<'_>,
-    elements: &ElementList,
+    context: &Context<'_, '_>,
     ranged: Ranged<'_>,
     code: &mut Vec<Instr>,
 ) -> Result<(), Halt>
-    ensures { (yields : Yield) (layout : OneLayout) (channel : Expression) → ranged.entry.place ≡ layout.scope.words → carried (globals_in table.now) elements.now layout.scope channel ≡ kind_of (types_of table.now) ranged.entry.item → OnOk result (Appends code.old.items code.new.items (receives (globals_in table.now) elements.now yields layout channel)) }
+    ensures { (yields : Yield) (layout : OneLayout) (channel : Expression) → ranged.entry.place ≡ layout.scope.words → carried (globals_of context.now) (elements_of context.now) layout.scope channel ≡ kind_of (types_in context.now) ranged.entry.item → OnOk result (Appends code.old.items code.new.items (receives (globals_of context.now) (elements_of context.now) yields layout channel)) }
 {
     code.push(Instr::Load(ranged.place, 1))?;
-    code.push(Instr::Receive(shape_of(table, elements, ranged.item)))?;
+    code.push(Instr::Receive(shape_of(context, ranged.item)))?;
     Ok(())
 }
 
@@ -108,14 +102,13 @@ pub fn emit_next(
 ///
 /// Errors: want of memory.
 pub fn emit_unused(
-    table: &TypeTable<'_>,
-    elements: &ElementList,
+    context: &Context<'_, '_>,
     kind: ValueType<'_>,
     code: &mut Vec<Instr>,
 ) -> Result<(), Halt>
-    ensures { (scope : Scope) → OnOk result (Appends code.old.items code.new.items (drops (width (globals_in table.now) elements.now scope (kind_of (types_of table.now) kind.entry)) Skip)) }
+    ensures { (scope : Scope) → OnOk result (Appends code.old.items code.new.items (drops (width (globals_of context.now) (elements_of context.now) scope (kind_of (types_in context.now) kind.entry)) Skip)) }
 {
-    drop_words(words_of(table, elements, kind), code)
+    drop_words(words_of(context, kind), code)
 }
 
 /// A value goes to its spot, and the clock ticks.
@@ -131,20 +124,18 @@ fn emit_stored(spot: Spot, code: &mut Vec<Instr>) -> Result<(), Halt>
 /// An item of this type goes to a name, which is declared.
 #[tactic(auto, using(crate::proofs::Ranging::appends_at))]
 fn take_name<'a>(
-    alloc: Global,
-    table: &TypeTable<'a>,
-    elements: &ElementList,
+    context: &Context<'_, 'a>,
     layout: &mut Layout<'a>,
     kind: ValueType<'a>,
     name: &'a Name,
     code: &mut Vec<Instr>,
 ) -> Result<(), Halt>
-    ensures emitted { (yields : Yield) → OnOk result (Appends code.old.items code.new.items (takes (globals_in table.now) elements.now yields (layout_of table.now layout.old) (kind_of (types_of table.now) kind.entry) (DefineTarget (name_of name.now)))) }
-    ensures after { OnOk result (layout_of table.now layout.new ≡ declaring_new (globals_in table.now) elements.now (kind_of (types_of table.now) kind.entry) (name_of name.now) (layout_of table.now layout.old)) }
+    ensures emitted { (yields : Yield) → OnOk result (Appends code.old.items code.new.items (takes (globals_of context.now) (elements_of context.now) yields (layout_in context.now layout.old) (kind_of (types_in context.now) kind.entry) (DefineTarget (name_of name.now)))) }
+    ensures after { OnOk result (layout_in context.now layout.new ≡ declaring_new (globals_of context.now) (elements_of context.now) (kind_of (types_in context.now) kind.entry) (name_of name.now) (layout_in context.now layout.old)) }
     ensures kept { OnOk result (Keeps layout.old.visible layout.new.visible) }
 {
-    let spot = name_spot(table, elements, layout, name, kind)?;
-    declare_new(alloc, table, elements, layout, kind, name)?;
+    let spot = name_spot(context, layout, name, kind)?;
+    declare_new(context, layout, kind, name)?;
     emit_stored(spot, code)?;
     Ok(())
 }
@@ -152,16 +143,15 @@ fn take_name<'a>(
 /// An item of this type goes to a place.
 #[tactic(auto, using(crate::proofs::Ranging::appends_at))]
 fn take_place<'a>(
-    table: &TypeTable<'a>,
-    elements: &ElementList,
+    context: &Context<'_, 'a>,
     layout: &Layout<'a>,
     kind: ValueType<'a>,
     place: &PlaceNode,
     code: &mut Vec<Instr>,
 ) -> Result<(), Halt>
-    ensures { (yields : Yield) → OnOk result (Appends code.old.items code.new.items (takes (globals_in table.now) elements.now yields (layout_of table.now layout.now) (kind_of (types_of table.now) kind.entry) (AssignTarget (place_of place.now)))) }
+    ensures { (yields : Yield) → OnOk result (Appends code.old.items code.new.items (takes (globals_of context.now) (elements_of context.now) yields (layout_in context.now layout.now) (kind_of (types_in context.now) kind.entry) (AssignTarget (place_of place.now)))) }
 {
-    let spot = place_spot(table, elements, &layout.visible, place, kind)?;
+    let spot = place_spot(context, &layout.visible, place, kind)?;
     emit_stored(spot, code)?;
     Ok(())
 }
@@ -170,27 +160,25 @@ fn take_place<'a>(
 ///
 /// Errors: something is wrong with the place; want of memory.
 pub fn take_item<'a>(
-    alloc: Global,
-    table: &TypeTable<'a>,
-    elements: &ElementList,
+    context: &Context<'_, 'a>,
     layout: &mut Layout<'a>,
     kind: ValueType<'a>,
     target: &'a RangeTarget,
     code: &mut Vec<Instr>,
 ) -> Result<(), Halt>
-    ensures emitted { (yields : Yield) → OnOk result (Appends code.old.items code.new.items (takes (globals_in table.now) elements.now yields (layout_of table.now layout.old) (kind_of (types_of table.now) kind.entry) (target_of target.now))) }
-    ensures after { OnOk result (layout_of table.now layout.new ≡ behind_target (globals_in table.now) elements.now (kind_of (types_of table.now) kind.entry) (target_of target.now) (layout_of table.now layout.old)) }
+    ensures emitted { (yields : Yield) → OnOk result (Appends code.old.items code.new.items (takes (globals_of context.now) (elements_of context.now) yields (layout_in context.now layout.old) (kind_of (types_in context.now) kind.entry) (target_of target.now))) }
+    ensures after { OnOk result (layout_in context.now layout.new ≡ behind_target (globals_of context.now) (elements_of context.now) (kind_of (types_in context.now) kind.entry) (target_of target.now) (layout_in context.now layout.old)) }
     ensures kept { OnOk result (Keeps layout.old.visible layout.new.visible) }
 {
     match target {
         RangeTarget::Nothing => {
-            emit_unused(table, elements, kind, code)?;
+            emit_unused(context, kind, code)?;
         }
         RangeTarget::Define(name) => {
-            take_name(alloc, table, elements, layout, kind, name, code)?;
+            take_name(context, layout, kind, name, code)?;
         }
         RangeTarget::Assign(place) => {
-            take_place(table, elements, layout, kind, place, code)?;
+            take_place(context, layout, kind, place, code)?;
         }
     }
     Ok(())

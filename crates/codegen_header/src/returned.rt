@@ -3,23 +3,21 @@
 ghost use Rattle.std.specs.Prelude.{◌≡◌, OnOk};
 ghost use Rattle.syntax.specs.View.{returned_of};
 ghost use Rattle.type_table.specs.Views.{kind_of, yield_of};
-ghost use Rattle.type_table.specs.Visible.{globals_in, scope_of, types_of};
 ghost use Rattle.codegen_base.specs.Generated.{result_type, return_plan};
 ghost use Rattle.codegen_expression.specs.Emission.{Puts};
-ghost use Rattle.codegen_simple.specs.Layouts.{layout_of};
+ghost use Rattle.codegen_simple.specs.Layouts.{layout_in};
 ghost use Rattle.codegen_simple.specs.Simples.{Appends};
+ghost use Rattle.codegen_expression.specs.Contexts.{elements_of, globals_of, scope_in, types_in};
 ghost use Rattle.codegen_header.specs.Returned.{pushes_returned};
 
 use bytecode::Instr;
-use codegen_expression::element_list::ElementList;
+use codegen_expression::context::Context;
 use codegen_expression::halt::Halt;
 use codegen_simple::layout::Layout;
 use codegen_simple::operation::push_one;
 use codegen_simple::values::push;
-use std::alloc::Global;
 use syntax::ReturnNode;
 use type_table::scope::Visible;
-use type_table::table::TypeTable;
 use type_table::value_type::ValueType;
 
 /// The type of what a function returns that has this result.
@@ -34,24 +32,20 @@ fn result_type<'a>(kind: Option<ValueType<'a>>) -> ValueType<'a>
 
 /// Pushes what is returned from a function that has a result of this type, or none.
 fn push_returned(
-    alloc: Global,
-    table: &TypeTable<'_>,
-    elements: &ElementList,
+    context: &Context<'_, '_>,
     visible: &Visible<'_>,
     kind: Option<ValueType<'_>>,
     returned: &ReturnNode,
     code: &mut Vec<Instr>,
 ) -> Result<(), Halt>
-    ensures { OnOk result (Puts code.old.items code.new.items (pushes_returned (globals_in table.now) elements.now (yield_of (types_of table.now) kind.entry) (scope_of table.now visible.now) (returned_of returned.now))) }
+    ensures { OnOk result (Puts code.old.items code.new.items (pushes_returned (globals_of context.now) (elements_of context.now) (yield_of (types_in context.now) kind.entry) (scope_in context.now visible.now) (returned_of returned.now))) }
 {
     match returned {
         ReturnNode::Nothing => Ok(()),
-        ReturnNode::Operation(operation) => {
-            push_one(alloc, table, elements, visible, operation, code)
-        }
+        ReturnNode::Operation(operation) => push_one(context, visible, operation, code),
         ReturnNode::Value(value) => {
             let kind = result_type(kind);
-            push(alloc, table, elements, visible, kind, value, code)
+            push(context, visible, kind, value, code)
         }
     }
 }
@@ -60,18 +54,16 @@ fn push_returned(
 ///
 /// Errors: something is wrong with what is returned; want of memory.
 pub fn emit_return(
-    alloc: Global,
-    table: &TypeTable<'_>,
-    elements: &ElementList,
+    context: &Context<'_, '_>,
     layout: &Layout<'_>,
     kind: Option<ValueType<'_>>,
     returned: &ReturnNode,
     code: &mut Vec<Instr>,
 ) -> Result<(), Halt>
-    ensures { OnOk result (Appends code.old.items code.new.items (return_plan (globals_in table.now) elements.now (yield_of (types_of table.now) kind.entry) (layout_of table.now layout.now) (returned_of returned.now))) }
+    ensures { OnOk result (Appends code.old.items code.new.items (return_plan (globals_of context.now) (elements_of context.now) (yield_of (types_in context.now) kind.entry) (layout_in context.now layout.now) (returned_of returned.now))) }
 {
     let visible = &layout.visible;
-    push_returned(alloc, table, elements, visible, kind, returned, code)?;
+    push_returned(context, visible, kind, returned, code)?;
     code.push(Instr::Return)?;
     Ok(())
 }

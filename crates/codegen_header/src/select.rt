@@ -3,44 +3,40 @@
 ghost use Rattle.std.specs.Prelude.{◌≡◌, ◌∷◌, [], IfOk, OnOk, map};
 ghost use Rattle.syntax.specs.View.{clause_of, clauses, comm_of};
 ghost use Rattle.type_table.specs.Scopes.{Yield};
-ghost use Rattle.type_table.specs.Visible.{globals_in};
 ghost use Rattle.codegen_base.specs.Generated.{default_at, default_places, pushes_clauses, pushes_comm, select_table, table_clause, table_clauses};
 ghost use Rattle.codegen_expression.specs.Emission.{Puts};
-ghost use Rattle.codegen_simple.specs.Layouts.{layout_of};
+ghost use Rattle.codegen_simple.specs.Layouts.{layout_in};
+ghost use Rattle.codegen_expression.specs.Contexts.{elements_of, globals_of};
 
 use crate::carried::carried;
 use bytecode::{Clause, Instr, SelectTable};
-use codegen_expression::element_list::ElementList;
+use codegen_expression::context::Context;
 use codegen_expression::halt::Halt;
 use codegen_expression::shape::shape_of;
 use codegen_simple::layout::Layout;
 use codegen_simple::operation::push_channel;
 use codegen_simple::values::{push, push_own};
-use std::alloc::Global;
 use syntax::{ClauseNode, CommNode};
-use type_table::table::TypeTable;
 
 /// Pushes the channel of a clause, and what is sent on it.
 fn push_comm(
-    alloc: Global,
-    table: &TypeTable<'_>,
-    elements: &ElementList,
+    context: &Context<'_, '_>,
     layout: &Layout<'_>,
     comm: &CommNode,
     code: &mut Vec<Instr>,
 ) -> Result<(), Halt>
-    ensures { (yields : Yield) → OnOk result (Puts code.old.items code.new.items (pushes_comm (globals_in table.now) elements.now yields (layout_of table.now layout.now) (comm_of comm.now))) }
+    ensures { (yields : Yield) → OnOk result (Puts code.old.items code.new.items (pushes_comm (globals_of context.now) (elements_of context.now) yields (layout_in context.now layout.now) (comm_of comm.now))) }
 {
     let visible = &layout.visible;
     match comm {
         CommNode::Send(channel, value) => {
-            let kind = push_channel(alloc, table, elements, visible, channel, code)?;
-            push(alloc, table, elements, visible, kind, value, code)?;
+            let kind = push_channel(context, visible, channel, code)?;
+            push(context, visible, kind, value, code)?;
         }
         CommNode::Receive(channel)
         | CommNode::Define(_, _, channel)
         | CommNode::Assign(_, _, channel) => {
-            push_own(alloc, table, elements, visible, channel, code)?;
+            push_own(context, visible, channel, code)?;
         }
     }
     Ok(())
@@ -48,17 +44,15 @@ fn push_comm(
 
 /// The same for a clause; a default has none.
 fn push_clause(
-    alloc: Global,
-    table: &TypeTable<'_>,
-    elements: &ElementList,
+    context: &Context<'_, '_>,
     layout: &Layout<'_>,
     clause: &ClauseNode,
     code: &mut Vec<Instr>,
 ) -> Result<(), Halt>
-    ensures { (yields : Yield) → OnOk result (Puts code.old.items code.new.items (pushes_clauses (globals_in table.now) elements.now yields (layout_of table.now layout.now) (clauses (clause_of clause.now ∷ [])))) }
+    ensures { (yields : Yield) → OnOk result (Puts code.old.items code.new.items (pushes_clauses (globals_of context.now) (elements_of context.now) yields (layout_in context.now layout.now) (clauses (clause_of clause.now ∷ [])))) }
 {
     if let Some(comm) = &clause.comm {
-        push_comm(alloc, table, elements, layout, comm, code)?;
+        push_comm(context, layout, comm, code)?;
     }
     Ok(())
 }
@@ -66,71 +60,66 @@ fn push_clause(
 /// Pushes the channels of all clauses, and what is sent on them, in order.
 ///
 /// Errors: something is wrong with a channel or a value; want of memory.
-pub fn push_clauses<'t, 'l, 'y, 'c, 'm, 'a>(
-    alloc: Global,
-    table: &'t TypeTable<'a>,
-    elements: &'l ElementList,
+pub fn push_clauses<'t, 'y, 'c, 'm, 'a>(
+    context: &'t Context<'t, 'a>,
     layout: &'y Layout<'a>,
     all: &'c [ClauseNode],
     code: &'m mut Vec<Instr>,
 ) -> Result<(), Halt>
-    ensures { (yields : Yield) → OnOk result (Puts code.old.items code.new.items (pushes_clauses (globals_in table.now) elements.now yields (layout_of table.now layout.now) (clauses (map clause_of all.now)))) }
+    ensures { (yields : Yield) → OnOk result (Puts code.old.items code.new.items (pushes_clauses (globals_of context.now) (elements_of context.now) yields (layout_in context.now layout.now) (clauses (map clause_of all.now)))) }
 {
     let Some((clause, all)) = all.split_first() else {
         return Ok(());
     };
-    push_clause(alloc, table, elements, layout, clause, code)?;
-    push_clauses(alloc, table, elements, layout, all, code)
+    push_clause(context, layout, clause, code)?;
+    push_clauses(context, layout, all, code)
 }
 
 /// The entry of a clause whose way begins at this place.
 fn table_clause(
-    table: &TypeTable<'_>,
-    elements: &ElementList,
+    context: &Context<'_, '_>,
     layout: &Layout<'_>,
     comm: &CommNode,
     to: u32,
 ) -> Result<Clause, Halt>
-    ensures { IfOk result (λ made. (yields : Yield) → made ≡ table_clause (globals_in table.now) elements.now yields (layout_of table.now layout.now) (comm_of comm.now) to) }
+    ensures { IfOk result (λ made. (yields : Yield) → made ≡ table_clause (globals_of context.now) (elements_of context.now) yields (layout_in context.now layout.now) (comm_of comm.now) to) }
 {
     let visible = &layout.visible;
     match comm {
         CommNode::Send(channel, _) => {
-            let shape = shape_of(table, elements, carried(table, visible, channel)?);
+            let shape = shape_of(context, carried(context.table, visible, channel)?);
             Ok(Clause::Send(shape, to))
         }
         CommNode::Receive(channel)
         | CommNode::Define(_, _, channel)
         | CommNode::Assign(_, _, channel) => {
-            let shape = shape_of(table, elements, carried(table, visible, channel)?);
+            let shape = shape_of(context, carried(context.table, visible, channel)?);
             Ok(Clause::Receive(shape, to))
         }
     }
 }
 
 /// The entries of clauses whose ways begin at these places.
-fn table_clauses<'t, 'l, 'y, 'c, 'p, 'a>(
-    alloc: Global,
-    table: &'t TypeTable<'a>,
-    elements: &'l ElementList,
+fn table_clauses<'t, 'y, 'c, 'p, 'a>(
+    context: &'t Context<'t, 'a>,
     layout: &'y Layout<'a>,
     all: &'c [ClauseNode],
     places: &'p [u32],
 ) -> Result<Vec<Clause>, Halt>
-    ensures { IfOk result (λ made. (yields : Yield) → made.items ≡ table_clauses (globals_in table.now) elements.now yields (layout_of table.now layout.now) (clauses (map clause_of all.now)) places.now) }
+    ensures { IfOk result (λ made. (yields : Yield) → made.items ≡ table_clauses (globals_of context.now) (elements_of context.now) yields (layout_in context.now layout.now) (clauses (map clause_of all.now)) places.now) }
 {
     let Some((clause, all)) = all.split_first() else {
-        return Ok(Vec::new(alloc));
+        return Ok(Vec::new(context.alloc));
     };
     let Some(comm) = &clause.comm else {
-        let others = table_clauses(alloc, table, elements, layout, all, places)?;
+        let others = table_clauses(context, layout, all, places)?;
         return Ok(others);
     };
     let Some((to, places)) = places.split_first() else {
-        return Ok(Vec::new(alloc));
+        return Ok(Vec::new(context.alloc));
     };
-    let first = table_clause(table, elements, layout, comm, *to)?;
-    let mut made = table_clauses(alloc, table, elements, layout, all, places)?;
+    let first = table_clause(context, layout, comm, *to)?;
+    let mut made = table_clauses(context, layout, all, places)?;
     made.insert(0, first)?;
     Ok(made)
 }
@@ -155,15 +144,13 @@ fn default_place<'c, 'p>(all: &'c [ClauseNode], places: &'p [u32]) -> Option<u32
 ///
 /// Errors: something is wrong with a channel; want of memory.
 pub fn select_table<'a>(
-    alloc: Global,
-    table: &TypeTable<'a>,
-    elements: &ElementList,
+    context: &Context<'_, 'a>,
     layout: &Layout<'a>,
     all: &[ClauseNode],
     places: &[u32],
 ) -> Result<SelectTable, Halt>
-    ensures { IfOk result (λ made. (yields : Yield) → made ≡ select_table (globals_in table.now) elements.now yields (layout_of table.now layout.now) (clauses (map clause_of all.now)) places.now) }
+    ensures { IfOk result (λ made. (yields : Yield) → made ≡ select_table (globals_of context.now) (elements_of context.now) yields (layout_in context.now layout.now) (clauses (map clause_of all.now)) places.now) }
 {
-    let made = table_clauses(alloc, table, elements, layout, all, places)?;
+    let made = table_clauses(context, layout, all, places)?;
     Ok(SelectTable::new(made, default_place(all, places)))
 }

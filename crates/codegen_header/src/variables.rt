@@ -4,17 +4,18 @@ ghost use Rattle.std.specs.Prelude.{◌≡◌, IfOk, None, OnOk, length, map, op
 ghost use Rattle.syntax.specs.View.{name_of, right_of, type_of};
 ghost use Rattle.type_table.specs.Scopes.{type_in};
 ghost use Rattle.type_table.specs.Views.{kind_of};
-ghost use Rattle.type_table.specs.Visible.{Keeps, globals_in, scope_of, types_of};
+ghost use Rattle.type_table.specs.Visible.{Keeps};
 ghost use Rattle.meaning.specs.Values.{known};
 ghost use Rattle.codegen_base.specs.Generated.{same_types, variables_plan, zero_values};
 ghost use Rattle.codegen_base.specs.Layouts.{declaring_all, declaring_each};
 ghost use Rattle.codegen_base.specs.Statements.{defines, right_types};
 ghost use Rattle.codegen_expression.specs.Emission.{Puts};
-ghost use Rattle.codegen_simple.specs.Layouts.{layout_of};
+ghost use Rattle.codegen_simple.specs.Layouts.{layout_in};
 ghost use Rattle.codegen_simple.specs.Simples.{Appends};
+ghost use Rattle.codegen_expression.specs.Contexts.{elements_of, globals_of, scope_in, types_in};
 
 use bytecode::Instr;
-use codegen_expression::element_list::ElementList;
+use codegen_expression::context::Context;
 use codegen_expression::halt::Halt;
 use codegen_expression::operand::push_zeros;
 use codegen_simple::assignment::assign;
@@ -24,7 +25,6 @@ use codegen_simple::layout::Layout;
 use codegen_simple::simple::define_as;
 use std::alloc::{AllocError, Global};
 use syntax::{Name, RightNode, TypeNode};
-use type_table::table::TypeTable;
 use type_table::value_type::{ValueType, type_in};
 
 /// A type, once for each name.
@@ -43,65 +43,59 @@ fn same_types<'a>(
 }
 
 /// Pushes the zero value of a type for each name.
-fn push_zero_values<'t, 'l, 'n, 'm, 'a>(
-    alloc: Global,
-    table: &'t TypeTable<'a>,
-    elements: &'l ElementList,
+fn push_zero_values<'t, 'n, 'm, 'a>(
+    context: &'t Context<'t, 'a>,
     names: &'n [Name],
     kind: ValueType<'a>,
     code: &'m mut Vec<Instr>,
 ) -> Result<(), Halt>
-    ensures { OnOk result (Puts code.old.items code.new.items (zero_values (globals_in table.now) elements.now 0 (map name_of names.now) (kind_of (types_of table.now) kind.entry))) }
+    ensures { OnOk result (Puts code.old.items code.new.items (zero_values (globals_of context.now) (elements_of context.now) 0 (map name_of names.now) (kind_of (types_in context.now) kind.entry))) }
 {
     let Some((_name, names)) = names.split_first() else {
         return Ok(());
     };
-    push_zeros(alloc, table, elements, kind, code)?;
-    push_zero_values(alloc, table, elements, names, kind, code)
+    push_zeros(context, kind, code)?;
+    push_zero_values(context, names, kind, code)
 }
 
 /// Variables with these types are declared, and are zero.
 #[tactic(auto, using(crate::proofs::Zeros::appends_zeros, crate::proofs::Zeros::declared_each))]
 fn zero_as<'a>(
-    alloc: Global,
-    table: &TypeTable<'a>,
-    elements: &ElementList,
+    context: &Context<'_, 'a>,
     layout: &mut Layout<'a>,
     names: &'a [Name],
     kind: ValueType<'a>,
     kinds: &[ValueType<'a>],
     code: &mut Vec<Instr>,
 ) -> Result<(), Halt>
-    requires { map (kind_of (types_of table.now)) kinds.now ≡ same_types (globals_in table.now) elements.now (map name_of names.now) (kind_of (types_of table.now) kind) }
-    ensures emitted { OnOk result (Appends code.old.items code.new.items (variables_plan (globals_in table.now) elements.now (layout_of table.now layout.old) (map name_of names.now) (kind_of (types_of table.now) kind.entry) None)) }
-    ensures after { OnOk result (layout_of table.now layout.new ≡ declaring_each (globals_in table.now) elements.now (kind_of (types_of table.now) kind.entry) (map name_of names.now) (layout_of table.now layout.old)) }
+    requires { map (kind_of (types_in context.now)) kinds.now ≡ same_types (globals_of context.now) (elements_of context.now) (map name_of names.now) (kind_of (types_in context.now) kind) }
+    ensures emitted { OnOk result (Appends code.old.items code.new.items (variables_plan (globals_of context.now) (elements_of context.now) (layout_in context.now layout.old) (map name_of names.now) (kind_of (types_in context.now) kind.entry) None)) }
+    ensures after { OnOk result (layout_in context.now layout.new ≡ declaring_each (globals_of context.now) (elements_of context.now) (kind_of (types_in context.now) kind.entry) (map name_of names.now) (layout_in context.now layout.old)) }
     ensures kept { OnOk result (Keeps layout.old.visible layout.new.visible) }
 {
-    push_zero_values(alloc, table, elements, names, kind, code)?;
-    let spots = define_names(alloc, table, elements, layout, names, kinds)?;
-    assign(alloc, spots.as_slice(), code)
+    push_zero_values(context, names, kind, code)?;
+    let spots = define_names(context, layout, names, kinds)?;
+    assign(context.alloc, spots.as_slice(), code)
 }
 
 /// Variables of a type are declared, and take what a right side gives; where there is none they are zero.
 fn emit_known<'a>(
-    alloc: Global,
-    table: &TypeTable<'a>,
-    elements: &ElementList,
+    context: &Context<'_, 'a>,
     layout: &mut Layout<'a>,
     names: &'a [Name],
     kind: ValueType<'a>,
     right: Option<&'a RightNode>,
     code: &mut Vec<Instr>,
 ) -> Result<(), Halt>
-    ensures emitted { OnOk result (Appends code.old.items code.new.items (variables_plan (globals_in table.now) elements.now (layout_of table.now layout.old) (map name_of names.now) (kind_of (types_of table.now) kind.entry) (option_map (λ (r : _). right_of r.now) right.entry))) }
-    ensures after { OnOk result (layout_of table.now layout.new ≡ declaring_each (globals_in table.now) elements.now (kind_of (types_of table.now) kind.entry) (map name_of names.now) (layout_of table.now layout.old)) }
+    ensures emitted { OnOk result (Appends code.old.items code.new.items (variables_plan (globals_of context.now) (elements_of context.now) (layout_in context.now layout.old) (map name_of names.now) (kind_of (types_in context.now) kind.entry) (option_map (λ (r : _). right_of r.now) right.entry))) }
+    ensures after { OnOk result (layout_in context.now layout.new ≡ declaring_each (globals_of context.now) (elements_of context.now) (kind_of (types_in context.now) kind.entry) (map name_of names.now) (layout_in context.now layout.old)) }
     ensures kept { OnOk result (Keeps layout.old.visible layout.new.visible) }
 {
-    let same = same_types(alloc, names, kind)?;
+    let same = same_types(context.alloc, names, kind)?;
     let kinds = same.as_slice();
     match right {
-        Some(right) => define_as(alloc, table, elements, layout, names, kinds, right, code),
-        None => zero_as(alloc, table, elements, layout, names, kind, kinds, code),
+        Some(right) => define_as(context, layout, names, kinds, right, code),
+        None => zero_as(context, layout, names, kind, kinds, code),
     }
 }
 
@@ -109,43 +103,39 @@ fn emit_known<'a>(
 ///
 /// Errors: something is wrong with the type or the right side; want of memory.
 pub fn emit_typed<'a>(
-    alloc: Global,
-    table: &TypeTable<'a>,
-    elements: &ElementList,
+    context: &Context<'_, 'a>,
     layout: &mut Layout<'a>,
     names: &'a [Name],
     kind: &'a TypeNode,
     right: &'a Option<RightNode>,
     code: &mut Vec<Instr>,
 ) -> Result<(), Halt>
-    ensures emitted { OnOk result (Appends code.old.items code.new.items (variables_plan (globals_in table.now) elements.now (layout_of table.now layout.old) (map name_of names.now) (known (type_in (types_of table.now) (scope_of table.now layout.old.visible) (type_of kind.now))) (option_map right_of right.now))) }
-    ensures after { OnOk result (layout_of table.now layout.new ≡ declaring_each (globals_in table.now) elements.now (known (type_in (types_of table.now) (scope_of table.now layout.old.visible) (type_of kind.now))) (map name_of names.now) (layout_of table.now layout.old)) }
+    ensures emitted { OnOk result (Appends code.old.items code.new.items (variables_plan (globals_of context.now) (elements_of context.now) (layout_in context.now layout.old) (map name_of names.now) (known (type_in (types_in context.now) (scope_in context.now layout.old.visible) (type_of kind.now))) (option_map right_of right.now))) }
+    ensures after { OnOk result (layout_in context.now layout.new ≡ declaring_each (globals_of context.now) (elements_of context.now) (known (type_in (types_in context.now) (scope_in context.now layout.old.visible) (type_of kind.now))) (map name_of names.now) (layout_in context.now layout.old)) }
     ensures kept { OnOk result (Keeps layout.old.visible layout.new.visible) }
 {
-    let Some(kind) = type_in(table, &layout.visible, kind) else {
+    let Some(kind) = type_in(context.table, &layout.visible, kind) else {
         return Err(Halt::Flawed);
     };
     let right = right.as_ref();
-    emit_known(alloc, table, elements, layout, names, kind, right, code)
+    emit_known(context, layout, names, kind, right, code)
 }
 
 /// Variables are declared, and take what a right side gives, with its types.
 ///
 /// Errors: something is wrong with the right side; want of memory.
 pub fn emit_untyped<'a>(
-    alloc: Global,
-    table: &TypeTable<'a>,
-    elements: &ElementList,
+    context: &Context<'_, 'a>,
     layout: &mut Layout<'a>,
     names: &'a [Name],
     right: &'a RightNode,
     code: &mut Vec<Instr>,
 ) -> Result<(), Halt>
-    ensures emitted { OnOk result (Appends code.old.items code.new.items (defines (globals_in table.now) elements.now (layout_of table.now layout.old) (map name_of names.now) (right_types (globals_in table.now) elements.now (scope_of table.now layout.old.visible) (length (map name_of names.now)) (right_of right.now)) (right_of right.now))) }
-    ensures after { OnOk result (layout_of table.now layout.new ≡ declaring_all (globals_in table.now) elements.now (map name_of names.now) (right_types (globals_in table.now) elements.now (scope_of table.now layout.old.visible) (length (map name_of names.now)) (right_of right.now)) (layout_of table.now layout.old)) }
+    ensures emitted { OnOk result (Appends code.old.items code.new.items (defines (globals_of context.now) (elements_of context.now) (layout_in context.now layout.old) (map name_of names.now) (right_types (globals_of context.now) (elements_of context.now) (scope_in context.now layout.old.visible) (length (map name_of names.now)) (right_of right.now)) (right_of right.now))) }
+    ensures after { OnOk result (layout_in context.now layout.new ≡ declaring_all (globals_of context.now) (elements_of context.now) (map name_of names.now) (right_types (globals_of context.now) (elements_of context.now) (scope_in context.now layout.old.visible) (length (map name_of names.now)) (right_of right.now)) (layout_in context.now layout.old)) }
     ensures kept { OnOk result (Keeps layout.old.visible layout.new.visible) }
 {
-    let given = right_kinds(alloc, table, &layout.visible, names.len(), right)?;
+    let given = right_kinds(context, &layout.visible, names.len(), right)?;
     let kinds = given.as_slice();
-    define_as(alloc, table, elements, layout, names, kinds, right, code)
+    define_as(context, layout, names, kinds, right, code)
 }

@@ -74,7 +74,7 @@ fn store_each(alloc: Global, spots: &[Spot], code: &mut Vec<Instr>) -> Result<()
 {
     match spots {
         [] => Ok(()),
-        [spot] => { store(*spot, code) }
+        [spot] => store(*spot, code),
         [_, _, ..] => {
             let mut places = HashSet::new(alloc);
             store_spots(spots, &mut places, code)

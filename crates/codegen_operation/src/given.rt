@@ -10,14 +10,15 @@ ghost use Rattle.typing_rules.specs.Worths.{worth};
 ghost use Rattle.typing_rules.specs.Operations.{IsFunction, callee, is_other, made_of, operation_type, result_of, result_type};
 ghost use Rattle.codegen_base.specs.declared.element.Element.{Element};
 ghost use Rattle.codegen_base.specs.Statements.{right_types};
+ghost use Rattle.codegen_expression.specs.Contexts.{globals_of, scope_in, types_in};
 ghost use Rattle.codegen_operation.specs.Given.{operation_types, own_type};
 
 use crate::operation::is_receive;
 use crate::values::kind_in;
 use checker_base::operand::worth;
 use checker_base::worth::Worth;
+use codegen_expression::context::Context;
 use codegen_expression::halt::Halt;
-use std::alloc::Global;
 use syntax::{ExpressionNode, Name, OperationNode, RightNode, TypeNode};
 use type_table::layout::{function_number, number_of};
 use type_table::scope::{Visible, is_reserved, variable_named};
@@ -119,16 +120,15 @@ fn operation_kind<'a>(
 
 /// The types of what an operation gives so many places.
 fn operation_kinds<'a>(
-    alloc: Global,
-    table: &TypeTable<'a>,
+    context: &Context<'_, 'a>,
     visible: &Visible<'a>,
     count: usize,
     operation: &'a OperationNode,
 ) -> Result<Vec<ValueType<'a>>, Halt>
-    ensures { IfOk result (λ kinds. map (kind_of (types_of table.now)) kinds.items ≡ operation_types (globals_in table.now) (scope_of table.now visible.now) count (operation_of operation.now)) }
+    ensures { IfOk result (λ kinds. map (kind_of (types_in context.now)) kinds.items ≡ operation_types (globals_of context.now) (scope_in context.now visible.now) count (operation_of operation.now)) }
 {
-    let kind = operation_kind(table, visible, operation)?;
-    let mut kinds = Vec::new(alloc);
+    let kind = operation_kind(context.table, visible, operation)?;
+    let mut kinds = Vec::new(context.alloc);
     kinds.push(kind)?;
     if count == 2 && is_receive(operation) {
         kinds.push(ValueType::Bool)?;
@@ -152,18 +152,17 @@ fn own_kind<'a>(
 
 /// The types that variables take from expressions.
 fn own_kinds<'t, 'v, 'e, 'a>(
-    alloc: Global,
-    table: &'t TypeTable<'a>,
+    context: &'t Context<'t, 'a>,
     visible: &'v Visible<'a>,
     expressions: &'e [ExpressionNode],
 ) -> Result<Vec<ValueType<'a>>, Halt>
-    ensures { IfOk result (λ kinds. map (kind_of (types_of table.now)) kinds.items ≡ map (own_type (globals_in table.now) (scope_of table.now visible.now)) (map expression_of expressions.now)) }
+    ensures { IfOk result (λ kinds. map (kind_of (types_in context.now)) kinds.items ≡ map (own_type (globals_of context.now) (scope_in context.now visible.now)) (map expression_of expressions.now)) }
 {
     let Some((expression, expressions)) = expressions.split_first() else {
-        return Ok(Vec::new(alloc));
+        return Ok(Vec::new(context.alloc));
     };
-    let kind = own_kind(table, visible, expression)?;
-    let mut kinds = own_kinds(alloc, table, visible, expressions)?;
+    let kind = own_kind(context.table, visible, expression)?;
+    let mut kinds = own_kinds(context, visible, expressions)?;
     kinds.insert(0, kind)?;
     Ok(kinds)
 }
@@ -173,16 +172,15 @@ fn own_kinds<'t, 'v, 'e, 'a>(
 /// Errors: something is wrong with it; want of memory.
 #[tactic(auto, using(crate::proofs::Giving::values_types, crate::proofs::Giving::operation_given))]
 pub fn right_kinds<'a>(
-    alloc: Global,
-    table: &TypeTable<'a>,
+    context: &Context<'_, 'a>,
     visible: &Visible<'a>,
     count: usize,
     right: &'a RightNode,
 ) -> Result<Vec<ValueType<'a>>, Halt>
-    ensures { IfOk result (λ kinds. (elements : List Element) → map (kind_of (types_of table.now)) kinds.items ≡ right_types (globals_in table.now) elements (scope_of table.now visible.now) count (right_of right.now)) }
+    ensures { IfOk result (λ kinds. (elements : List Element) → map (kind_of (types_in context.now)) kinds.items ≡ right_types (globals_of context.now) elements (scope_in context.now visible.now) count (right_of right.now)) }
 {
     match right {
-        RightNode::Operation(operation) => operation_kinds(alloc, table, visible, count, operation),
-        RightNode::Values(values) => own_kinds(alloc, table, visible, values.as_slice()),
+        RightNode::Operation(operation) => operation_kinds(context, visible, count, operation),
+        RightNode::Values(values) => own_kinds(context, visible, values.as_slice()),
     }
 }

@@ -4,7 +4,7 @@ ghost use Rattle.std.specs.Prelude.{◌≡◌, ◌++◌, IfOk, OnOk, map, option
 ghost use Rattle.syntax.specs.View.{expression_of, name_of, operation_of, right_of, type_of as written_of};
 ghost use Rattle.type_table.specs.Types.{element_type};
 ghost use Rattle.type_table.specs.Views.{kind_of};
-ghost use Rattle.type_table.specs.Visible.{globals_in, scope_of, types_of};
+ghost use Rattle.type_table.specs.Visible.{globals_in, types_of};
 ghost use Rattle.type_table.specs.Scopes.{type_in};
 ghost use Rattle.meaning.specs.Destinations.{number_of};
 ghost use Rattle.meaning.specs.Values.{known};
@@ -14,15 +14,15 @@ ghost use Rattle.codegen_base.specs.Pushes.{pushes_own};
 ghost use Rattle.codegen_base.specs.Statements.{pushes_arguments, pushes_one, pushes_operation, pushes_received, pushes_right, pushes_size};
 ghost use Rattle.codegen_base.specs.Elements.{shape_of};
 ghost use Rattle.codegen_expression.specs.Emission.{Puts};
+ghost use Rattle.codegen_expression.specs.Contexts.{elements_of, globals_of, scope_in, types_in};
 ghost use Rattle.codegen_operation.specs.Operations.{sent_drop};
 
 use crate::values::{push, push_all, push_own};
 use bytecode::Instr;
-use codegen_expression::element_list::ElementList;
+use codegen_expression::context::Context;
 use codegen_expression::halt::Halt;
 use codegen_expression::operand::number;
 use codegen_expression::shape::shape_of;
-use std::alloc::Global;
 use syntax::{ArgumentsNode, ExpressionNode, Name, OperationNode, RightNode, TypeNode};
 use type_table::entry::FunctionEntry;
 use type_table::layout::function_number;
@@ -43,35 +43,31 @@ fn carried_by<'t>(table: &TypeTable<'t>, kind: ValueType<'t>) -> ValueType<'t>
 /// Pushes a channel, and answers what it carries.
 #[tactic(auto, using(crate::proofs::Operating::carried_is))]
 pub fn push_channel<'t>(
-    alloc: Global,
-    table: &TypeTable<'t>,
-    elements: &ElementList,
+    context: &Context<'_, 't>,
     visible: &Visible<'t>,
     channel: &ExpressionNode,
     code: &mut Vec<Instr>,
 ) -> Result<ValueType<'t>, Halt>
-    ensures kind { IfOk result (λ kind. carried (globals_in table.now) elements.now (scope_of table.now visible.now) (expression_of channel.now) ≡ kind_of (types_of table.now) kind) }
-    ensures pushed { OnOk result (Puts code.old.items code.new.items (pushes_own (globals_in table.now) elements.now (scope_of table.now visible.now) (expression_of channel.now))) }
+    ensures kind { IfOk result (λ kind. carried (globals_of context.now) (elements_of context.now) (scope_in context.now visible.now) (expression_of channel.now) ≡ kind_of (types_in context.now) kind) }
+    ensures pushed { OnOk result (Puts code.old.items code.new.items (pushes_own (globals_of context.now) (elements_of context.now) (scope_in context.now visible.now) (expression_of channel.now))) }
 {
-    let kind = push_own(alloc, table, elements, visible, channel, code)?;
-    Ok(carried_by(table, kind))
+    let kind = push_own(context, visible, channel, code)?;
+    Ok(carried_by(context.table, kind))
 }
 
 /// Receives from a channel: the item is pushed, and whether it was sent. Answers the item's type.
 #[tactic(auto, using(crate::proofs::Operating::puts_received))]
 pub fn push_received<'t>(
-    alloc: Global,
-    table: &TypeTable<'t>,
-    elements: &ElementList,
+    context: &Context<'_, 't>,
     visible: &Visible<'t>,
     channel: &ExpressionNode,
     code: &mut Vec<Instr>,
 ) -> Result<ValueType<'t>, Halt>
-    ensures kind { IfOk result (λ kind. carried (globals_in table.now) elements.now (scope_of table.now visible.now) (expression_of channel.now) ≡ kind_of (types_of table.now) kind) }
-    ensures pushed { OnOk result (Puts code.old.items code.new.items (pushes_received (globals_in table.now) elements.now (scope_of table.now visible.now) (expression_of channel.now))) }
+    ensures kind { IfOk result (λ kind. carried (globals_of context.now) (elements_of context.now) (scope_in context.now visible.now) (expression_of channel.now) ≡ kind_of (types_in context.now) kind) }
+    ensures pushed { OnOk result (Puts code.old.items code.new.items (pushes_received (globals_of context.now) (elements_of context.now) (scope_in context.now visible.now) (expression_of channel.now))) }
 {
-    let kind = push_channel(alloc, table, elements, visible, channel, code)?;
-    code.push(Instr::Receive(shape_of(table, elements, kind)))?;
+    let kind = push_channel(context, visible, channel, code)?;
+    code.push(Instr::Receive(shape_of(context, kind)))?;
     Ok(kind)
 }
 
@@ -109,37 +105,33 @@ fn parameters_at<'a, 't>(
 ///
 /// Errors: something is wrong with the call; want of memory.
 pub fn push_arguments(
-    alloc: Global,
-    table: &TypeTable<'_>,
-    elements: &ElementList,
+    context: &Context<'_, '_>,
     visible: &Visible<'_>,
     name: &Name,
     arguments: &ArgumentsNode,
     code: &mut Vec<Instr>,
 ) -> Result<u32, Halt>
-    ensures number { IfOk result (λ n. n ≡ number_of (globals_in table.now) (name_of name.now)) }
-    ensures pushed { OnOk result (Puts code.old.items code.new.items (pushes_arguments (globals_in table.now) elements.now (scope_of table.now visible.now) (number_of (globals_in table.now) (name_of name.now)) (map expression_of arguments.now.values.items))) }
+    ensures number { IfOk result (λ n. n ≡ number_of (globals_of context.now) (name_of name.now)) }
+    ensures pushed { OnOk result (Puts code.old.items code.new.items (pushes_arguments (globals_of context.now) (elements_of context.now) (scope_in context.now visible.now) (number_of (globals_of context.now) (name_of name.now)) (map expression_of arguments.now.values.items))) }
 {
-    let function = callee(table, name)?;
-    let kinds = parameters_at(table, function)?;
+    let function = callee(context.table, name)?;
+    let kinds = parameters_at(context.table, function)?;
     let values = arguments.values.as_slice();
-    push_all(alloc, table, elements, visible, kinds, values, code)?;
+    push_all(context, visible, kinds, values, code)?;
     number(function)
 }
 
 /// Pushes the size of a channel's buffer; where none is written it is 0.
 fn push_size(
-    alloc: Global,
-    table: &TypeTable<'_>,
-    elements: &ElementList,
+    context: &Context<'_, '_>,
     visible: &Visible<'_>,
     size: Option<&ExpressionNode>,
     code: &mut Vec<Instr>,
 ) -> Result<(), Halt>
-    ensures { OnOk result (Puts code.old.items code.new.items (pushes_size (globals_in table.now) elements.now (scope_of table.now visible.now) (option_map (λ (e : _). expression_of e.now) size.entry))) }
+    ensures { OnOk result (Puts code.old.items code.new.items (pushes_size (globals_of context.now) (elements_of context.now) (scope_in context.now visible.now) (option_map (λ (e : _). expression_of e.now) size.entry))) }
 {
     match size {
-        Some(size) => push(alloc, table, elements, visible, ValueType::Int, size, code),
+        Some(size) => push(context, visible, ValueType::Int, size, code),
         None => {
             code.push(Instr::Int(0))?;
             Ok(())
@@ -149,15 +141,14 @@ fn push_size(
 
 /// The number of the shape of what a channel carries that is made by this type.
 fn made_shape(
-    table: &TypeTable<'_>,
-    elements: &ElementList,
+    context: &Context<'_, '_>,
     visible: &Visible<'_>,
     kind: &TypeNode,
 ) -> Result<u32, Halt>
-    ensures { IfOk result (λ shape. shape ≡ shape_of elements.now (known (element_type (known (type_in (types_of table.now) (scope_of table.now visible.now) (written_of kind.now)))))) }
+    ensures { IfOk result (λ shape. shape ≡ shape_of (elements_of context.now) (known (element_type (known (type_in (types_in context.now) (scope_in context.now visible.now) (written_of kind.now)))))) }
 {
-    match type_in(table, visible, kind) {
-        Some(kind) => Ok(shape_of(table, elements, carried_by(table, kind))),
+    match type_in(context.table, visible, kind) {
+        Some(kind) => Ok(shape_of(context, carried_by(context.table, kind))),
         None => Err(Halt::Flawed),
     }
 }
@@ -167,33 +158,31 @@ fn made_shape(
 /// Errors: something is wrong with the operation; want of memory.
 #[tactic(auto, using(crate::proofs::Operating::puts_then))]
 pub fn push_operation(
-    alloc: Global,
-    table: &TypeTable<'_>,
-    elements: &ElementList,
+    context: &Context<'_, '_>,
     visible: &Visible<'_>,
     operation: &OperationNode,
     code: &mut Vec<Instr>,
 ) -> Result<(), Halt>
-    ensures { OnOk result (Puts code.old.items code.new.items (pushes_operation (globals_in table.now) elements.now (scope_of table.now visible.now) (operation_of operation.now))) }
+    ensures { OnOk result (Puts code.old.items code.new.items (pushes_operation (globals_of context.now) (elements_of context.now) (scope_in context.now visible.now) (operation_of operation.now))) }
 {
     match operation {
         OperationNode::Call(name, arguments) => {
-            let function = push_arguments(alloc, table, elements, visible, name, arguments, code)?;
+            let function = push_arguments(context, visible, name, arguments, code)?;
             code.push(Instr::Call(function))?;
         }
         OperationNode::Receive(channel) => {
-            push_received(alloc, table, elements, visible, channel, code)?;
+            push_received(context, visible, channel, code)?;
         }
         OperationNode::Make(kind, size) => {
-            push_size(alloc, table, elements, visible, size.as_ref(), code)?;
-            code.push(Instr::Make(made_shape(table, elements, visible, kind)?))?;
+            push_size(context, visible, size.as_ref(), code)?;
+            code.push(Instr::Make(made_shape(context, visible, kind)?))?;
         }
         OperationNode::Length(channel) => {
-            push_own(alloc, table, elements, visible, channel, code)?;
+            push_own(context, visible, channel, code)?;
             code.push(Instr::Len)?;
         }
         OperationNode::Capacity(channel) => {
-            push_own(alloc, table, elements, visible, channel, code)?;
+            push_own(context, visible, channel, code)?;
             code.push(Instr::Cap)?;
         }
     }
@@ -212,16 +201,14 @@ pub(crate) fn is_receive(operation: &OperationNode) -> bool
 /// Errors: something is wrong with the operation; want of memory.
 #[tactic(auto, using(crate::proofs::Operating::puts_one))]
 pub fn push_one(
-    alloc: Global,
-    table: &TypeTable<'_>,
-    elements: &ElementList,
+    context: &Context<'_, '_>,
     visible: &Visible<'_>,
     operation: &OperationNode,
     code: &mut Vec<Instr>,
 ) -> Result<(), Halt>
-    ensures { OnOk result (Puts code.old.items code.new.items (pushes_one (globals_in table.now) elements.now (scope_of table.now visible.now) (operation_of operation.now))) }
+    ensures { OnOk result (Puts code.old.items code.new.items (pushes_one (globals_of context.now) (elements_of context.now) (scope_in context.now visible.now) (operation_of operation.now))) }
 {
-    push_operation(alloc, table, elements, visible, operation, code)?;
+    push_operation(context, visible, operation, code)?;
     drop_sent(operation, code)
 }
 
@@ -240,36 +227,24 @@ fn drop_sent(operation: &OperationNode, code: &mut Vec<Instr>) -> Result<(), Hal
 /// Errors: something is wrong with it; want of memory.
 #[tactic(auto, using(crate::proofs::Operating::right_two, crate::proofs::Operating::right_one))]
 pub fn push_right<'t>(
-    alloc: Global,
-    table: &TypeTable<'t>,
-    elements: &ElementList,
+    context: &Context<'_, 't>,
     visible: &Visible<'t>,
     kinds: &[ValueType<'t>],
     count: usize,
     right: &RightNode,
     code: &mut Vec<Instr>,
 ) -> Result<(), Halt>
-    ensures { OnOk result (Puts code.old.items code.new.items (pushes_right (globals_in table.now) elements.now (scope_of table.now visible.now) count (map (kind_of (types_of table.now)) kinds.now) (right_of right.now))) }
+    ensures { OnOk result (Puts code.old.items code.new.items (pushes_right (globals_of context.now) (elements_of context.now) (scope_in context.now visible.now) count (map (kind_of (types_in context.now)) kinds.now) (right_of right.now))) }
 {
     match right {
         RightNode::Operation(one) => {
-            push_operation(alloc, table, elements, visible, one, code)?;
+            push_operation(context, visible, one, code)?;
             if count == 2 {
                 return Ok(());
             }
             drop_sent(one, code)?;
             Ok(())
         }
-        RightNode::Values(values) => {
-            push_all(
-                alloc,
-                table,
-                elements,
-                visible,
-                kinds,
-                values.as_slice(),
-                code,
-            )
-        }
+        RightNode::Values(values) => push_all(context, visible, kinds, values.as_slice(), code),
     }
 }

@@ -8,13 +8,13 @@ ghost use Rattle.typing_rules.specs.Operations.{followed, selected};
 ghost use Rattle.type_table.specs.Scopes.{Scope};
 ghost use Rattle.codegen_base.specs.declared.element.Element.{Element};
 ghost use Rattle.codegen_base.specs.Statements.{place_spot, place_spots, spot_of, taken_type, taken_types};
+ghost use Rattle.codegen_expression.specs.Contexts.{elements_of, globals_of, scope_in, types_in};
 ghost use Rattle.codegen_operation.specs.Spots.{spot_in};
 
 use crate::spot::Spot;
-use codegen_expression::element_list::ElementList;
+use codegen_expression::context::Context;
 use codegen_expression::halt::Halt;
 use codegen_expression::operand::{number, words_of};
-use std::alloc::Global;
 use syntax::{Name, PlaceNode};
 use type_table::layout::{Selected, field_of};
 use type_table::scope::{Visible, is_blank, variable_named};
@@ -71,53 +71,46 @@ pub fn selected<'a>(
 }
 
 /// The locals of a part of the frame.
-pub fn spot_of(
-    table: &TypeTable<'_>,
-    elements: &ElementList,
-    part: Selected<'_>,
-) -> Result<Spot, Halt>
-    ensures { IfOk result (λ spot. (scope : Scope) → spot_in spot ≡ spot_of (globals_in table.now) elements.now scope (Some (selected_of (types_of table.now) part.entry))) }
+pub fn spot_of(context: &Context<'_, '_>, part: Selected<'_>) -> Result<Spot, Halt>
+    ensures { IfOk result (λ spot. (scope : Scope) → spot_in spot ≡ spot_of (globals_of context.now) (elements_of context.now) scope (Some (selected_of (types_in context.now) part.entry))) }
 {
     let place = number(part.place)?;
-    Ok(Spot::Local(place, words_of(table, elements, part.kind)))
+    Ok(Spot::Local(place, words_of(context, part.kind)))
 }
 
 /// Where a value of this type goes that a place takes.
 pub fn place_spot<'a>(
-    table: &TypeTable<'a>,
-    elements: &ElementList,
+    context: &Context<'_, 'a>,
     visible: &Visible<'a>,
     place: &PlaceNode,
     kind: ValueType<'a>,
 ) -> Result<Spot, Halt>
-    ensures { IfOk result (λ spot. spot_in spot ≡ place_spot (globals_in table.now) elements.now (scope_of table.now visible.now) (place_of place.now) (kind_of (types_of table.now) kind.entry)) }
+    ensures { IfOk result (λ spot. spot_in spot ≡ place_spot (globals_of context.now) (elements_of context.now) (scope_in context.now visible.now) (place_of place.now) (kind_of (types_in context.now) kind.entry)) }
 {
     if is_blank(place.name.bytes.as_slice()) {
-        return Ok(Spot::Dropped(words_of(table, elements, kind)));
+        return Ok(Spot::Dropped(words_of(context, kind)));
     }
-    let part = selected(table, visible, place)?;
-    spot_of(table, elements, part)
+    let part = selected(context.table, visible, place)?;
+    spot_of(context, part)
 }
 
 /// Where values of these types go that places take.
-pub fn place_spots<'t, 'l, 'v, 'p, 'k, 'a>(
-    alloc: Global,
-    table: &'t TypeTable<'a>,
-    elements: &'l ElementList,
+pub fn place_spots<'t, 'v, 'p, 'k, 'a>(
+    context: &'t Context<'t, 'a>,
     visible: &'v Visible<'a>,
     places: &'p [PlaceNode],
     kinds: &'k [ValueType<'a>],
 ) -> Result<Vec<Spot>, Halt>
-    ensures { IfOk result (λ spots. map spot_in spots.items ≡ place_spots (globals_in table.now) elements.now (scope_of table.now visible.now) (map place_of places.now) (map (kind_of (types_of table.now)) kinds.now)) }
+    ensures { IfOk result (λ spots. map spot_in spots.items ≡ place_spots (globals_of context.now) (elements_of context.now) (scope_in context.now visible.now) (map place_of places.now) (map (kind_of (types_in context.now)) kinds.now)) }
 {
     let Some((place, places)) = places.split_first() else {
-        return Ok(Vec::new(alloc));
+        return Ok(Vec::new(context.alloc));
     };
     let Some((kind, kinds)) = kinds.split_first() else {
-        return Ok(Vec::new(alloc));
+        return Ok(Vec::new(context.alloc));
     };
-    let spot = place_spot(table, elements, visible, place, *kind)?;
-    let mut spots = place_spots(alloc, table, elements, visible, places, kinds)?;
+    let spot = place_spot(context, visible, place, *kind)?;
+    let mut spots = place_spots(context, visible, places, kinds)?;
     spots.insert(0, spot)?;
     Ok(spots)
 }
@@ -140,22 +133,21 @@ fn taken_type<'a>(
 
 /// The types as which places take values of these types.
 pub fn taken_types<'t, 'v, 'p, 'k, 'a>(
-    alloc: Global,
-    table: &'t TypeTable<'a>,
+    context: &'t Context<'t, 'a>,
     visible: &'v Visible<'a>,
     places: &'p [PlaceNode],
     kinds: &'k [ValueType<'a>],
 ) -> Result<Vec<ValueType<'a>>, Halt>
-    ensures { IfOk result (λ taken. (elements : List Element) → map (kind_of (types_of table.now)) taken.items ≡ taken_types (globals_in table.now) elements (scope_of table.now visible.now) (map place_of places.now) (map (kind_of (types_of table.now)) kinds.now)) }
+    ensures { IfOk result (λ taken. (elements : List Element) → map (kind_of (types_in context.now)) taken.items ≡ taken_types (globals_of context.now) elements (scope_in context.now visible.now) (map place_of places.now) (map (kind_of (types_in context.now)) kinds.now)) }
 {
     let Some((place, places)) = places.split_first() else {
-        return Ok(Vec::new(alloc));
+        return Ok(Vec::new(context.alloc));
     };
     let Some((kind, kinds)) = kinds.split_first() else {
-        return Ok(Vec::new(alloc));
+        return Ok(Vec::new(context.alloc));
     };
-    let first = taken_type(table, visible, place, *kind)?;
-    let mut taken = taken_types(alloc, table, visible, places, kinds)?;
+    let first = taken_type(context.table, visible, place, *kind)?;
+    let mut taken = taken_types(context, visible, places, kinds)?;
     taken.insert(0, first)?;
     Ok(taken)
 }

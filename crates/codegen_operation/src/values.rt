@@ -3,22 +3,20 @@
 ghost use Rattle.std.specs.Prelude.{◌≡◌, IfOk, OnOk, map};
 ghost use Rattle.syntax.specs.View.{expression_of};
 ghost use Rattle.type_table.specs.Views.{kind_of};
-ghost use Rattle.type_table.specs.Visible.{globals_in, scope_of, types_of};
 ghost use Rattle.checker_base.specs.Views.{worth_of};
 ghost use Rattle.codegen_base.specs.Layouts.{type_of};
 ghost use Rattle.codegen_base.specs.Pushes.{pushes, pushes_all, pushes_own};
 ghost use Rattle.codegen_expression.specs.Emission.{Puts, kind_in};
+ghost use Rattle.codegen_expression.specs.Contexts.{elements_of, globals_of, scope_in, types_in};
 
 use bytecode::Instr;
 use checker_base::worth::Worth;
-use codegen_expression::element_list::ElementList;
+use codegen_expression::context::Context;
 use codegen_expression::emission::emit;
 use codegen_expression::halt::Halt;
 use codegen_expression::operand::settle;
-use std::alloc::Global;
 use syntax::ExpressionNode;
 use type_table::scope::Visible;
-use type_table::table::TypeTable;
 use type_table::value_type::ValueType;
 
 /// Pushes a value as one of a type.
@@ -26,18 +24,16 @@ use type_table::value_type::ValueType;
 /// Errors: something is wrong with the expression; want of memory.
 #[tactic(auto, using(crate::proofs::Pushed::puts_pushes))]
 pub fn push(
-    alloc: Global,
-    table: &TypeTable<'_>,
-    elements: &ElementList,
+    context: &Context<'_, '_>,
     visible: &Visible<'_>,
     kind: ValueType<'_>,
     expression: &ExpressionNode,
     code: &mut Vec<Instr>,
 ) -> Result<(), Halt>
-    ensures { OnOk result (Puts code.old.items code.new.items (pushes (globals_in table.now) elements.now (scope_of table.now visible.now) (kind_of (types_of table.now) kind.entry) (expression_of expression.now))) }
+    ensures { OnOk result (Puts code.old.items code.new.items (pushes (globals_of context.now) (elements_of context.now) (scope_in context.now visible.now) (kind_of (types_in context.now) kind.entry) (expression_of expression.now))) }
 {
-    let worth = emit(alloc, table, elements, visible, expression, code)?;
-    settle(table, elements, worth, kind, code)?;
+    let worth = emit(context, visible, expression, code)?;
+    settle(context, worth, kind, code)?;
     Ok(())
 }
 
@@ -56,19 +52,17 @@ pub(crate) fn kind_in<'t>(worth: Worth<'t>) -> ValueType<'t>
 /// Errors: something is wrong with the expression; want of memory.
 #[tactic(auto, using(crate::proofs::Pushed::puts_own))]
 pub fn push_own<'t>(
-    alloc: Global,
-    table: &TypeTable<'t>,
-    elements: &ElementList,
+    context: &Context<'_, 't>,
     visible: &Visible<'t>,
     expression: &ExpressionNode,
     code: &mut Vec<Instr>,
 ) -> Result<ValueType<'t>, Halt>
-    ensures kind { IfOk result (λ kind. type_of (globals_in table.now) elements.now (scope_of table.now visible.now) (expression_of expression.now) ≡ kind_of (types_of table.now) kind) }
-    ensures pushed { OnOk result (Puts code.old.items code.new.items (pushes_own (globals_in table.now) elements.now (scope_of table.now visible.now) (expression_of expression.now))) }
+    ensures kind { IfOk result (λ kind. type_of (globals_of context.now) (elements_of context.now) (scope_in context.now visible.now) (expression_of expression.now) ≡ kind_of (types_in context.now) kind) }
+    ensures pushed { OnOk result (Puts code.old.items code.new.items (pushes_own (globals_of context.now) (elements_of context.now) (scope_in context.now visible.now) (expression_of expression.now))) }
 {
-    let operand = emit(alloc, table, elements, visible, expression, code)?;
+    let operand = emit(context, visible, expression, code)?;
     let kind = kind_in(operand);
-    settle(table, elements, operand, kind, code)?;
+    settle(context, operand, kind, code)?;
     Ok(kind)
 }
 
@@ -76,16 +70,14 @@ pub fn push_own<'t>(
 ///
 /// Errors: something is wrong with an expression; want of memory.
 #[tactic(auto, using(crate::proofs::Pushed::puts_first))]
-pub fn push_all<'t, 'l, 'v, 'k, 'e, 'm, 'a>(
-    alloc: Global,
-    table: &'t TypeTable<'a>,
-    elements: &'l ElementList,
+pub fn push_all<'t, 'v, 'k, 'e, 'm, 'a>(
+    context: &'t Context<'t, 'a>,
     visible: &'v Visible<'a>,
     kinds: &'k [ValueType<'a>],
     expressions: &'e [ExpressionNode],
     code: &'m mut Vec<Instr>,
 ) -> Result<(), Halt>
-    ensures { OnOk result (Puts code.old.items code.new.items (pushes_all (globals_in table.now) elements.now (scope_of table.now visible.now) (map (kind_of (types_of table.now)) kinds.now) (map expression_of expressions.now))) }
+    ensures { OnOk result (Puts code.old.items code.new.items (pushes_all (globals_of context.now) (elements_of context.now) (scope_in context.now visible.now) (map (kind_of (types_in context.now)) kinds.now) (map expression_of expressions.now))) }
 {
     let Some((expression, expressions)) = expressions.split_first() else {
         return Ok(());
@@ -93,6 +85,6 @@ pub fn push_all<'t, 'l, 'v, 'k, 'e, 'm, 'a>(
     let Some((kind, kinds)) = kinds.split_first() else {
         return Ok(());
     };
-    push(alloc, table, elements, visible, *kind, expression, code)?;
-    push_all(alloc, table, elements, visible, kinds, expressions, code)
+    push(context, visible, *kind, expression, code)?;
+    push_all(context, visible, kinds, expressions, code)
 }

@@ -8,15 +8,15 @@ ghost use Rattle.type_table.specs.Visible.{Keeps, globals_in, scope_of, types_of
 ghost use Rattle.codegen_base.specs.declared.element.Element.{Element};
 ghost use Rattle.codegen_base.specs.Layouts.{declaring_all};
 ghost use Rattle.codegen_base.specs.Statements.{name_spot, name_spots, name_type, name_types, own_spot};
-ghost use Rattle.codegen_simple.specs.Layouts.{layout_of};
+ghost use Rattle.codegen_expression.specs.Contexts.{elements_of, globals_of, scope_in, types_in};
+ghost use Rattle.codegen_simple.specs.Layouts.{layout_in};
 ghost use Rattle.codegen_operation.specs.Spots.{spot_in};
 
 use crate::layout::{Layout, declare_new, is_declarable};
-use codegen_expression::element_list::ElementList;
+use codegen_expression::context::Context;
 use codegen_expression::halt::Halt;
 use codegen_expression::operand::{number, words_of};
 use codegen_operation::spot::Spot;
-use std::alloc::Global;
 use syntax::Name;
 use type_table::scope::{Visible, own_variable};
 use type_table::table::TypeTable;
@@ -24,66 +24,62 @@ use type_table::value_type::ValueType;
 
 /// Where a value of this type goes that a name takes which is not declared anew.
 fn own_spot<'a>(
-    table: &TypeTable<'a>,
-    elements: &ElementList,
+    context: &Context<'_, 'a>,
     visible: &Visible<'a>,
     name: &[u8],
     kind: ValueType<'a>,
 ) -> Result<Spot, Halt>
-    ensures { IfOk result (λ spot. spot_in spot ≡ own_spot (globals_in table.now) elements.now (scope_of table.now visible.now) (kind_of (types_of table.now) kind.entry) (own_variable (scope_of table.now visible.now) name.now)) }
+    ensures { IfOk result (λ spot. spot_in spot ≡ own_spot (globals_of context.now) (elements_of context.now) (scope_in context.now visible.now) (kind_of (types_in context.now) kind.entry) (own_variable (scope_in context.now visible.now) name.now)) }
 {
-    match own_variable(table, visible, name) {
+    match own_variable(context.table, visible, name) {
         Some(entry) => {
             let place = number(entry.place)?;
-            Ok(Spot::Local(place, words_of(table, elements, entry.kind)))
+            Ok(Spot::Local(place, words_of(context, entry.kind)))
         }
-        None => Ok(Spot::Dropped(words_of(table, elements, kind))),
+        None => Ok(Spot::Dropped(words_of(context, kind))),
     }
 }
 
 /// Where a value of this type goes that a name takes.
 pub fn name_spot<'a>(
-    table: &TypeTable<'a>,
-    elements: &ElementList,
+    context: &Context<'_, 'a>,
     layout: &Layout<'a>,
     name: &Name,
     kind: ValueType<'a>,
 ) -> Result<Spot, Halt>
-    ensures { IfOk result (λ spot. spot_in spot ≡ name_spot (globals_in table.now) elements.now (layout_of table.now layout.now) (name_of name.now) (kind_of (types_of table.now) kind.entry)) }
+    ensures { IfOk result (λ spot. spot_in spot ≡ name_spot (globals_of context.now) (elements_of context.now) (layout_in context.now layout.now) (name_of name.now) (kind_of (types_in context.now) kind.entry)) }
 {
     let name = name.bytes.as_slice();
-    if is_declarable(table, &layout.visible, name) {
+    if is_declarable(context.table, &layout.visible, name) {
         let place = number(layout.visible.words)?;
-        return Ok(Spot::Local(place, words_of(table, elements, kind)));
+        return Ok(Spot::Local(place, words_of(context, kind)));
     }
-    own_spot(table, elements, &layout.visible, name, kind)
+    own_spot(context, &layout.visible, name, kind)
 }
 
 /// Declares the names that are new in their block, and not `_`, and answers where values of these types go that the names
 /// take.
 ///
 /// Errors: want of memory.
-pub fn define_names<'t, 'l, 'm, 'k, 'a>(
-    alloc: Global,
-    table: &'t TypeTable<'a>,
-    elements: &'l ElementList,
+pub fn define_names<'t, 'm, 'k, 'a>(
+    context: &'t Context<'t, 'a>,
     layout: &'m mut Layout<'a>,
     names: &'a [Name],
     kinds: &'k [ValueType<'a>],
 ) -> Result<Vec<Spot>, Halt>
-    ensures spots { IfOk result (λ spots. map spot_in spots.items ≡ name_spots (globals_in table.now) elements.now (layout_of table.now layout.old) (map name_of names.now) (map (kind_of (types_of table.now)) kinds.now)) }
-    ensures after { OnOk result (layout_of table.now layout.new ≡ declaring_all (globals_in table.now) elements.now (map name_of names.now) (map (kind_of (types_of table.now)) kinds.now) (layout_of table.now layout.old)) }
+    ensures spots { IfOk result (λ spots. map spot_in spots.items ≡ name_spots (globals_of context.now) (elements_of context.now) (layout_in context.now layout.old) (map name_of names.now) (map (kind_of (types_in context.now)) kinds.now)) }
+    ensures after { OnOk result (layout_in context.now layout.new ≡ declaring_all (globals_of context.now) (elements_of context.now) (map name_of names.now) (map (kind_of (types_in context.now)) kinds.now) (layout_in context.now layout.old)) }
     ensures kept { OnOk result (Keeps layout.old.visible layout.new.visible) }
 {
     let Some((name, names)) = names.split_first() else {
-        return Ok(Vec::new(alloc));
+        return Ok(Vec::new(context.alloc));
     };
     let Some((kind, kinds)) = kinds.split_first() else {
-        return Ok(Vec::new(alloc));
+        return Ok(Vec::new(context.alloc));
     };
-    let spot = name_spot(table, elements, layout, name, *kind)?;
-    declare_new(alloc, table, elements, layout, *kind, name)?;
-    let mut spots = define_names(alloc, table, elements, layout, names, kinds)?;
+    let spot = name_spot(context, layout, name, *kind)?;
+    declare_new(context, layout, *kind, name)?;
+    let mut spots = define_names(context, layout, names, kinds)?;
     spots.insert(0, spot)?;
     Ok(spots)
 }
@@ -107,22 +103,21 @@ fn name_type<'a>(
 ///
 /// Errors: want of memory.
 pub fn name_types<'t, 'l, 'n, 'k, 'a>(
-    alloc: Global,
-    table: &'t TypeTable<'a>,
+    context: &'t Context<'t, 'a>,
     layout: &'l Layout<'a>,
     names: &'n [Name],
     kinds: &'k [ValueType<'a>],
 ) -> Result<Vec<ValueType<'a>>, Halt>
-    ensures { IfOk result (λ taken. (elements : List Element) → map (kind_of (types_of table.now)) taken.items ≡ name_types (globals_in table.now) elements (layout_of table.now layout.now) (map name_of names.now) (map (kind_of (types_of table.now)) kinds.now)) }
+    ensures { IfOk result (λ taken. (elements : List Element) → map (kind_of (types_in context.now)) taken.items ≡ name_types (globals_of context.now) elements (layout_in context.now layout.now) (map name_of names.now) (map (kind_of (types_in context.now)) kinds.now)) }
 {
     let Some((name, names)) = names.split_first() else {
-        return Ok(Vec::new(alloc));
+        return Ok(Vec::new(context.alloc));
     };
     let Some((kind, kinds)) = kinds.split_first() else {
-        return Ok(Vec::new(alloc));
+        return Ok(Vec::new(context.alloc));
     };
-    let first = name_type(table, &layout.visible, name, *kind);
-    let mut taken = name_types(alloc, table, layout, names, kinds)?;
+    let first = name_type(context.table, &layout.visible, name, *kind);
+    let mut taken = name_types(context, layout, names, kinds)?;
     taken.insert(0, first)?;
     Ok(taken)
 }

@@ -4,13 +4,14 @@ ghost use Rattle.std.specs.Prelude.{◌≡◌, length, take, OnOk};
 ghost use Rattle.syntax.specs.View.{name_of};
 ghost use Rattle.type_table.specs.declared.table.TypeTable.{TypeTable as OneTable};
 ghost use Rattle.type_table.specs.Views.{kind_of};
-ghost use Rattle.type_table.specs.Visible.{Keeps, globals_in, scope_of, types_of};
+ghost use Rattle.type_table.specs.Visible.{Keeps, scope_of};
 ghost use Rattle.typing_rules.specs.Simples.{is_declarable};
 ghost use Rattle.codegen_base.specs.Layouts.{declaring, declaring_new, empty, entering};
-ghost use Rattle.codegen_simple.specs.Layouts.{layout_of};
+ghost use Rattle.codegen_expression.specs.Contexts.{elements_of, globals_of, types_in};
+ghost use Rattle.codegen_simple.specs.Layouts.{layout_in, layout_of};
 
 use bytecode::WordKind;
-use codegen_expression::element_list::ElementList;
+use codegen_expression::context::Context;
 use codegen_expression::halt::Halt;
 use codegen_expression::shape::put_kinds;
 use std::alloc::Global;
@@ -49,18 +50,16 @@ impl<'a> Layout<'a> {
 ///
 /// Errors: want of memory.
 pub fn declare<'a>(
-    alloc: Global,
-    table: &TypeTable<'a>,
-    elements: &ElementList,
+    context: &Context<'_, 'a>,
     layout: &mut Layout<'a>,
     kind: ValueType<'a>,
     name: &'a Name,
 ) -> Result<(), Halt>
-    ensures after { OnOk result (layout_of table.now layout.new ≡ declaring (globals_in table.now) elements.now (kind_of (types_of table.now) kind.entry) (name_of name.now) (layout_of table.now layout.old)) }
+    ensures after { OnOk result (layout_in context.now layout.new ≡ declaring (globals_of context.now) (elements_of context.now) (kind_of (types_in context.now) kind.entry) (name_of name.now) (layout_in context.now layout.old)) }
     ensures kept { OnOk result (Keeps layout.old.visible layout.new.visible) }
 {
-    scope::declare(table, &mut layout.visible, kind, name)?;
-    put_kinds(alloc, table, elements, kind, &mut layout.locals)?;
+    scope::declare(context.table, &mut layout.visible, kind, name)?;
+    put_kinds(context, kind, &mut layout.locals)?;
     Ok(())
 }
 
@@ -75,18 +74,16 @@ pub fn is_declarable(table: &TypeTable<'_>, visible: &Visible<'_>, name: &[u8]) 
 ///
 /// Errors: want of memory.
 pub fn declare_new<'a>(
-    alloc: Global,
-    table: &TypeTable<'a>,
-    elements: &ElementList,
+    context: &Context<'_, 'a>,
     layout: &mut Layout<'a>,
     kind: ValueType<'a>,
     name: &'a Name,
 ) -> Result<(), Halt>
-    ensures after { OnOk result (layout_of table.now layout.new ≡ declaring_new (globals_in table.now) elements.now (kind_of (types_of table.now) kind.entry) (name_of name.now) (layout_of table.now layout.old)) }
+    ensures after { OnOk result (layout_in context.now layout.new ≡ declaring_new (globals_of context.now) (elements_of context.now) (kind_of (types_in context.now) kind.entry) (name_of name.now) (layout_in context.now layout.old)) }
     ensures kept { OnOk result (Keeps layout.old.visible layout.new.visible) }
 {
-    if is_declarable(table, &layout.visible, name.bytes.as_slice()) {
-        declare(alloc, table, elements, layout, kind, name)?;
+    if is_declarable(context.table, &layout.visible, name.bytes.as_slice()) {
+        declare(context, layout, kind, name)?;
     }
     Ok(())
 }

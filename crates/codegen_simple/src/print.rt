@@ -2,22 +2,20 @@
 
 ghost use Rattle.std.specs.Prelude.{◌≡◌, ◌++◌, ◌∷◌, [], IfOk, List, OnOk, Some, map};
 ghost use Rattle.syntax.specs.View.{part_of, simple_of};
-ghost use Rattle.type_table.specs.Visible.{globals_in, scope_of};
 ghost use Rattle.checker_base.specs.Views.{worth_of};
 ghost use Rattle.codegen_base.specs.declared.element.Element.{Element};
 ghost use Rattle.codegen_base.specs.Statements.{printed_as, printed_part, pushes_parts, simple_prints};
 ghost use Rattle.codegen_expression.specs.Emission.{Puts};
+ghost use Rattle.codegen_expression.specs.Contexts.{elements_of, globals_of, scope_in};
 
 use bytecode::{Instr, Part, PrintTable, Text};
 use checker_base::operand::worth;
 use checker_base::worth::Worth;
-use codegen_expression::element_list::ElementList;
+use codegen_expression::context::Context;
 use codegen_expression::halt::Halt;
 use codegen_operation::values::push_own;
-use std::alloc::Global;
 use syntax::{PartNode, SimpleNode};
 use type_table::scope::Visible;
-use type_table::table::TypeTable;
 use type_table::value_type::ValueType;
 
 /// How a value of this worth is printed.
@@ -32,20 +30,19 @@ fn printed_as(worth: Worth<'_>) -> Part
 
 /// How a part is printed.
 fn printed_part(
-    alloc: Global,
-    table: &TypeTable<'_>,
+    context: &Context<'_, '_>,
     visible: &Visible<'_>,
     part: &PartNode,
 ) -> Result<Part, Halt>
-    ensures { IfOk result (λ made. (elements : List Element) → made ≡ printed_part (globals_in table.now) elements (scope_of table.now visible.now) (part_of part.now)) }
+    ensures { IfOk result (λ made. (elements : List Element) → made ≡ printed_part (globals_of context.now) elements (scope_in context.now visible.now) (part_of part.now)) }
 {
     match part {
-        PartNode::Value(value) => match worth(table, visible, value) {
+        PartNode::Value(value) => match worth(context.table, visible, value) {
             Some(worth) => Ok(printed_as(worth)),
             None => Err(Halt::Flawed),
         },
         PartNode::Text(bytes) => {
-            let bytes = Vec::from_slice(alloc, bytes.as_slice())?;
+            let bytes = Vec::from_slice(context.alloc, bytes.as_slice())?;
             Ok(Part::Text(Text::new(bytes)))
         }
     }
@@ -53,18 +50,17 @@ fn printed_part(
 
 /// How parts are printed, in order.
 fn printed_parts<'t, 'v, 'p, 'k>(
-    alloc: Global,
-    table: &'t TypeTable<'k>,
+    context: &'t Context<'t, 'k>,
     visible: &'v Visible<'k>,
     parts: &'p [PartNode],
 ) -> Result<Vec<Part>, Halt>
-    ensures { IfOk result (λ made. (elements : List Element) → made.items ≡ map (printed_part (globals_in table.now) elements (scope_of table.now visible.now)) (map part_of parts.now)) }
+    ensures { IfOk result (λ made. (elements : List Element) → made.items ≡ map (printed_part (globals_of context.now) elements (scope_in context.now visible.now)) (map part_of parts.now)) }
 {
     let Some((part, parts)) = parts.split_first() else {
-        return Ok(Vec::new(alloc));
+        return Ok(Vec::new(context.alloc));
     };
-    let first = printed_part(alloc, table, visible, part)?;
-    let mut made = printed_parts(alloc, table, visible, parts)?;
+    let first = printed_part(context, visible, part)?;
+    let mut made = printed_parts(context, visible, parts)?;
     made.insert(0, first)?;
     Ok(made)
 }
@@ -73,17 +69,16 @@ fn printed_parts<'t, 'v, 'p, 'k>(
 ///
 /// Errors: something is wrong with a value; want of memory.
 pub fn put_prints(
-    alloc: Global,
-    table: &TypeTable<'_>,
+    context: &Context<'_, '_>,
     visible: &Visible<'_>,
     simple: &SimpleNode,
     prints: &mut Vec<PrintTable>,
 ) -> Result<(), Halt>
-    ensures { (elements : List Element) → OnOk result (prints.new.items ≡ prints.old.items ++ simple_prints (globals_in table.now) elements (scope_of table.now visible.now) (simple_of simple.now)) }
+    ensures { (elements : List Element) → OnOk result (prints.new.items ≡ prints.old.items ++ simple_prints (globals_of context.now) elements (scope_in context.now visible.now) (simple_of simple.now)) }
 {
     match simple {
         SimpleNode::Print(line, parts, _) => {
-            let parts = printed_parts(alloc, table, visible, parts.as_slice())?;
+            let parts = printed_parts(context, visible, parts.as_slice())?;
             prints.push(PrintTable::new(parts, *line))?;
             Ok(())
         }
@@ -93,18 +88,16 @@ pub fn put_prints(
 
 /// Pushes what is printed of a part.
 fn push_part(
-    alloc: Global,
-    table: &TypeTable<'_>,
-    elements: &ElementList,
+    context: &Context<'_, '_>,
     visible: &Visible<'_>,
     part: &PartNode,
     code: &mut Vec<Instr>,
 ) -> Result<(), Halt>
-    ensures { OnOk result (Puts code.old.items code.new.items (pushes_parts (globals_in table.now) elements.now (scope_of table.now visible.now) (part_of part.now ∷ []))) }
+    ensures { OnOk result (Puts code.old.items code.new.items (pushes_parts (globals_of context.now) (elements_of context.now) (scope_in context.now visible.now) (part_of part.now ∷ []))) }
 {
     match part {
         PartNode::Value(value) => {
-            push_own(alloc, table, elements, visible, value, code)?;
+            push_own(context, visible, value, code)?;
             Ok(())
         }
         PartNode::Text(_) => Ok(()),
@@ -115,19 +108,17 @@ fn push_part(
 ///
 /// Errors: something is wrong with a value; want of memory.
 #[tactic(auto, using(crate::proofs::Printing::puts_part))]
-pub fn push_parts<'t, 'l, 'v, 'p, 'm, 'k>(
-    alloc: Global,
-    table: &'t TypeTable<'k>,
-    elements: &'l ElementList,
+pub fn push_parts<'t, 'v, 'p, 'm, 'k>(
+    context: &'t Context<'t, 'k>,
     visible: &'v Visible<'k>,
     parts: &'p [PartNode],
     code: &'m mut Vec<Instr>,
 ) -> Result<(), Halt>
-    ensures { OnOk result (Puts code.old.items code.new.items (pushes_parts (globals_in table.now) elements.now (scope_of table.now visible.now) (map part_of parts.now))) }
+    ensures { OnOk result (Puts code.old.items code.new.items (pushes_parts (globals_of context.now) (elements_of context.now) (scope_in context.now visible.now) (map part_of parts.now))) }
 {
     let Some((part, parts)) = parts.split_first() else {
         return Ok(());
     };
-    push_part(alloc, table, elements, visible, part, code)?;
-    push_parts(alloc, table, elements, visible, parts, code)
+    push_part(context, visible, part, code)?;
+    push_parts(context, visible, parts, code)
 }

@@ -4,26 +4,24 @@ ghost use Rattle.std.specs.Prelude.{◌≡◌, List, OnOk};
 ghost use Rattle.syntax.specs.View.{expression_of, place_of};
 ghost use Rattle.typing_rules.specs.Worths.{is_logical, worth};
 ghost use Rattle.type_table.specs.Scopes.{Globals, Scope};
-ghost use Rattle.type_table.specs.Visible.{globals_in, scope_of};
 ghost use Rattle.codegen_base.specs.declared.element.Element.{Element};
 ghost use Rattle.codegen_base.specs.Layouts.{type_of};
 ghost use Rattle.codegen_base.specs.Pushes.{emits};
 ghost use Rattle.codegen_base.specs.Statements.{loads_spot, steps, updates};
 ghost use Rattle.codegen_expression.specs.Emission.{Puts};
+ghost use Rattle.codegen_expression.specs.Contexts.{elements_of, globals_of, scope_in};
 ghost use Rattle.codegen_simple.specs.Simples.{Appends};
 ghost use Rattle.codegen_operation.specs.Spots.{spot_in};
 
 use bytecode::Instr;
-use codegen_expression::element_list::ElementList;
+use codegen_expression::context::Context;
 use codegen_expression::halt::Halt;
 use codegen_expression::operator::operator_of;
 use codegen_operation::place::{selected, spot_of};
 use codegen_operation::spot::{Spot, store};
 use codegen_operation::values::push;
-use std::alloc::Global;
 use syntax::{BinaryOperator, ExpressionNode, PlaceNode};
 use type_table::scope::Visible;
-use type_table::table::TypeTable;
 use type_table::value_type::ValueType;
 
 /// Pushes the value that lies at a spot.
@@ -40,17 +38,16 @@ fn load(spot: Spot, code: &mut Vec<Instr>) -> Result<(), Halt>
 ///
 /// Errors: something is wrong with the place; want of memory.
 pub fn step(
-    table: &TypeTable<'_>,
-    elements: &ElementList,
+    context: &Context<'_, '_>,
     visible: &Visible<'_>,
     operator: BinaryOperator,
     place: &PlaceNode,
     code: &mut Vec<Instr>,
 ) -> Result<(), Halt>
-    ensures { OnOk result (Appends code.old.items code.new.items (steps (globals_in table.now) elements.now (scope_of table.now visible.now) operator (place_of place.now))) }
+    ensures { OnOk result (Appends code.old.items code.new.items (steps (globals_of context.now) (elements_of context.now) (scope_in context.now visible.now) operator (place_of place.now))) }
 {
-    let part = selected(table, visible, place)?;
-    let spot = spot_of(table, elements, part)?;
+    let part = selected(context.table, visible, place)?;
+    let spot = spot_of(context, part)?;
     load(spot, code)?;
     code.push(Instr::Int(1))?;
     code.push(Instr::Apply(operator_of(operator, ValueType::Int)))?;
@@ -73,24 +70,22 @@ fn is_logical(operator: BinaryOperator) -> bool
 ///
 /// Errors: something is wrong with the place or the value, or the operator is `&&` or `||`; want of memory.
 pub fn update(
-    alloc: Global,
-    table: &TypeTable<'_>,
-    elements: &ElementList,
+    context: &Context<'_, '_>,
     visible: &Visible<'_>,
     place: &PlaceNode,
     operator: BinaryOperator,
     value: &ExpressionNode,
     code: &mut Vec<Instr>,
 ) -> Result<(), Halt>
-    ensures { OnOk result (Appends code.old.items code.new.items (updates (globals_in table.now) elements.now (scope_of table.now visible.now) (place_of place.now) operator (worth (globals_in table.now) (scope_of table.now visible.now) (expression_of value.now)) (type_of (globals_in table.now) elements.now (scope_of table.now visible.now) (expression_of value.now)) (emits (globals_in table.now) elements.now (scope_of table.now visible.now) (expression_of value.now)))) }
+    ensures { OnOk result (Appends code.old.items code.new.items (updates (globals_of context.now) (elements_of context.now) (scope_in context.now visible.now) (place_of place.now) operator (worth (globals_of context.now) (scope_in context.now visible.now) (expression_of value.now)) (type_of (globals_of context.now) (elements_of context.now) (scope_in context.now visible.now) (expression_of value.now)) (emits (globals_of context.now) (elements_of context.now) (scope_in context.now visible.now) (expression_of value.now)))) }
 {
     if is_logical(operator) {
         return Err(Halt::Flawed);
     }
-    let part = selected(table, visible, place)?;
-    let spot = spot_of(table, elements, part)?;
+    let part = selected(context.table, visible, place)?;
+    let spot = spot_of(context, part)?;
     load(spot, code)?;
-    push(alloc, table, elements, visible, part.kind, value, code)?;
+    push(context, visible, part.kind, value, code)?;
     code.push(Instr::Apply(operator_of(operator, part.kind)))?;
     store(spot, code)?;
     code.push(Instr::Tick)?;

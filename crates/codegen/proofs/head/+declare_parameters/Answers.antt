@@ -10,9 +10,9 @@ use Rattle.codegen.proofs.head.+declare_parameters.Goals as goal
 
 pub returns : goal.returns
 returns t c =
-    let table = c.args.table.now in
+    let table = c.args.context.now.table.now in
     let globals = globals_in table in
-    let elements = c.args.elements.now in
+    let elements = c.args.context.now.elements.now in
     let types = types_of table in
     let is : c.args.groups.now ≡ c.in-Some.group.now ∷ c.in-Some.groups.now = search rules in
     subst (λ l. layout_of table c.declare_parameters.new.layout ≡ with_parameters globals elements (fields_declared types (map declared_of l)) (layout_of table c.args.layout.now)) (sym is)

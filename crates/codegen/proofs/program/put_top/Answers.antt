@@ -8,8 +8,8 @@ use Rattle.codegen.proofs.program.put_top.Goals as goal
 
 pub returns-in_ok-push-clause-functions : goal.returns-in_ok-push-clause-functions
 returns-in_ok-push-clause-functions c = λ rest.
-    let globals = globals_in c.args.table.now in
-    let elements = c.args.elements.now in
+    let globals = globals_in c.args.context.now.table.now in
+    let elements = c.args.context.now.elements.now in
     let function = function_of c.in-Function.function in
     let p0 = c.args.emitter.now.prints.items in
     let p1 = c.function_code.new.emitter.prints.items in
@@ -21,8 +21,8 @@ returns-in_ok-push-clause-functions c = λ rest.
 
 pub returns-in_ok-push-clause-prints : goal.returns-in_ok-push-clause-prints
 returns-in_ok-push-clause-prints c = λ rest.
-    let globals = globals_in c.args.table.now in
-    let elements = c.args.elements.now in
+    let globals = globals_in c.args.context.now.table.now in
+    let elements = c.args.context.now.elements.now in
     let function = function_of c.in-Function.function in
     let p0 = c.args.emitter.now.prints.items in
     let p1 = c.function_code.new.emitter.prints.items in
@@ -34,8 +34,8 @@ returns-in_ok-push-clause-prints c = λ rest.
 
 pub returns-in_ok-push-clause-selects : goal.returns-in_ok-push-clause-selects
 returns-in_ok-push-clause-selects c = λ rest.
-    let globals = globals_in c.args.table.now in
-    let elements = c.args.elements.now in
+    let globals = globals_in c.args.context.now.table.now in
+    let elements = c.args.context.now.elements.now in
     let function = function_of c.in-Function.function in
     let p0 = c.args.emitter.now.prints.items in
     let p1 = c.function_code.new.emitter.prints.items in

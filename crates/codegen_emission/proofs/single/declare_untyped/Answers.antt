@@ -9,9 +9,9 @@ use Rattle.codegen_emission.proofs.single.declare_untyped.Goals as goal
 
 pub returns : goal.returns
 returns c = λ yields.
-    let table = c.args.table.now in
+    let table = c.args.context.now.program.now.table.now in
     let globals = globals_in table in
-    let elements = c.args.elements.now in
+    let elements = c.args.context.now.program.now.elements.now in
     let e0 = c.args.emitter.now in
     let e1 : Emitter = record { code = c.emit_untyped.new.code; prints = e0.prints; selects = e0.selects; layout = c.emit_untyped.new.layout } in
     let names = map name_of c.args.names.now in

@@ -9,8 +9,8 @@ use Rattle.codegen_emission.proofs.single.start.Goals as goal
 
 pub returns : goal.returns
 returns c = λ yields.
-    let table = c.args.table.now in
+    let table = c.args.context.now.program.now.table.now in
     let globals = globals_in table in
     let e0 = c.args.emitter.now in
     let e1 : Emitter = record { code = c.emit_go.new.code; prints = e0.prints; selects = e0.selects; layout = e0.layout } in
-    emits_go table globals c.args.elements.now yields (number_of globals (name_of c.args.name.now)) (map expression_of c.args.arguments.now.values.items) e0 e1 through refl c.in_ok-emit_go.ensures (record { prints = refl; selects = refl; layout = refl })
+    emits_go table globals c.args.context.now.program.now.elements.now yields (number_of globals (name_of c.args.name.now)) (map expression_of c.args.arguments.now.values.items) e0 e1 through refl c.in_ok-emit_go.ensures (record { prints = refl; selects = refl; layout = refl })

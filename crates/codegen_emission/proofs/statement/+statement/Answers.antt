@@ -46,34 +46,34 @@ pub emit_block-returns : goal.emit_block-returns
 emit_block-returns t c =
     let e0 = c.args.emitter.now in
     let e2 = c.emit_statements.new.emitter in
-    emits_block c.args.table.now (globals_in c.args.table.now) c.args.elements.now (yield_of (types_of c.args.table.now) c.args.result_type) (body_of c.args.body.now) e0 (record { code = e0.code; prints = e0.prints; selects = e0.selects; layout = c.enter-mark.new.layout }) e2
-    (record { code = e2.code; prints = e2.prints; selects = e2.selects; layout = c.leave.new.layout }) c.enter-mark.result.count c.enter-mark.result.outer (control c.in_ok-flow.flow) refl refl refl (c.enter-mark.ensures.layout c.args.table.now) c.enter-mark.ensures.kept
+    emits_block c.args.context.now.program.now.table.now (globals_in c.args.context.now.program.now.table.now) c.args.context.now.program.now.elements.now (yield_of (types_of c.args.context.now.program.now.table.now) c.args.context.now.result_type) (body_of c.args.body.now) e0 (record { code = e0.code; prints = e0.prints; selects = e0.selects; layout = c.enter-mark.new.layout }) e2
+    (record { code = e2.code; prints = e2.prints; selects = e2.selects; layout = c.leave.new.layout }) c.enter-mark.result.count c.enter-mark.result.outer (control c.in_ok-flow.flow) refl refl refl (c.enter-mark.ensures.layout c.args.context.now.program.now.table.now) c.enter-mark.ensures.kept
     c.enter-mark.ensures.count c.enter-mark.ensures.outer c.in_ok-flow.ensures refl refl refl c.leave.ensures.entries c.leave.ensures.outer c.leave.ensures.words c.leave.ensures.locals
 
 pub emit_statements-returns-then-not-goes_on : goal.emit_statements-returns-then-not-goes_on
 emit_statements-returns-then-not-goes_on t c =
-    let table = c.args.table.now in
-    begins_cut table (globals_in table) c.args.elements.now (yield_of (types_of table) c.args.result_type) c.args.emitter.now c.loop-statement.emitter c.emit_statement.new.emitter (control c.loop-statement.flow) (control c.in_ok-one.one) (control c.join.new.flow) (statement_of c.statement-item.result)
+    let table = c.args.context.now.program.now.table.now in
+    begins_cut table (globals_in table) c.args.context.now.program.now.elements.now (yield_of (types_of table) c.args.context.now.result_type) c.args.emitter.now c.loop-statement.emitter c.emit_statement.new.emitter (control c.loop-statement.flow) (control c.in_ok-one.one) (control c.join.new.flow) (statement_of c.statement-item.result)
     (body_of (drop (c.loop-statement.statement-index + 1) c.args.body.now)) (body_of (drop c.loop-statement.statement-index c.args.body.now)) (body_of c.args.body.now) (next_statement c.loop-statement.statement-index c.statement-item.result c.args.body.now c.loop-statement-test.true c.statement-item.is) c.loop-statement.invariant c.if-not-goes_on.true c.in_ok-one.ensures c.in_ok-join.ensures
 
 pub emit_statements-loop-statement-preserved : goal.emit_statements-loop-statement-preserved
 emit_statements-loop-statement-preserved t c =
-    let table = c.args.table.now in
+    let table = c.args.context.now.program.now.table.now in
     let all = c.args.body.now in
     let i = c.loop-statement.statement-index in
-    begins_more table (globals_in table) c.args.elements.now (yield_of (types_of table) c.args.result_type) c.args.emitter.now c.loop-statement.emitter c.emit_statement.new.emitter (control c.loop-statement.flow) (control c.in_ok-one.one) (control c.join.new.flow) (statement_of c.statement-item.result)
+    begins_more table (globals_in table) c.args.context.now.program.now.elements.now (yield_of (types_of table) c.args.context.now.result_type) c.args.emitter.now c.loop-statement.emitter c.emit_statement.new.emitter (control c.loop-statement.flow) (control c.in_ok-one.one) (control c.join.new.flow) (statement_of c.statement-item.result)
     (body_of (drop (i + 1) all)) (body_of (drop i all)) (body_of all) (next_statement i c.statement-item.result all c.loop-statement-test.true c.statement-item.is) c.loop-statement.invariant c.if-not-goes_on.false c.in_ok-one.ensures c.in_ok-join.ensures
 
 pub emit_statements-returns : goal.emit_statements-returns
 emit_statements-returns t c =
-    let table = c.args.table.now in
+    let table = c.args.context.now.program.now.table.now in
     let all = c.args.body.now in
     let i = c.loop-statement.statement-index in
-    begins_all table (globals_in table) c.args.elements.now (yield_of (types_of table) c.args.result_type) c.args.emitter.now c.loop-statement.emitter (control c.loop-statement.flow) (body_of (drop i all)) (body_of all) (ap body_of (drop_all i all c.loop-statement-test.false)) c.loop-statement.invariant
+    begins_all table (globals_in table) c.args.context.now.program.now.elements.now (yield_of (types_of table) c.args.context.now.result_type) c.args.emitter.now c.loop-statement.emitter (control c.loop-statement.flow) (body_of (drop i all)) (body_of all) (ap body_of (drop_all i all c.loop-statement-test.false)) c.loop-statement.invariant
 
 pub emit_endless-returns : goal.emit_endless-returns
 emit_endless-returns t c =
-    let table = c.args.table.now in
+    let table = c.args.context.now.program.now.table.now in
     let e0 = c.args.emitter.now in
     let e1 = c.emit_block.new.emitter in
     let e2 = c.emit_round.new.emitter in
@@ -86,12 +86,12 @@ emit_endless-returns t c =
     let again_is : again ≡ length e1.code.items = omega (arith, c.in_ok-again.ensures, c.len-2.ensures) in
     let stop_is : stop ≡ length e2.code.items = omega (arith, c.in_ok-stop.ensures, c.len-3.ensures) in
     let done : e3.code.items ≡ filled flow.waits stop again e2.code.items = c.fill.ensures ∙ ap (λ (ws : List Wait). filled ws stop again e2.code.items) c.as_slice.ensures.value in
-    emits_untested table (globals_in table) c.args.elements.now (yield_of (types_of table) c.args.result_type) (body_of c.args.body.now) post c.comes_round-turns.result e0 e1 e2 e3 flow (control c.behind_loop.result) c.in_ok-head.head again stop
+    emits_untested table (globals_in table) c.args.context.now.program.now.elements.now (yield_of (types_of table) c.args.context.now.result_type) (body_of c.args.body.now) post c.comes_round-turns.result e0 e1 e2 e3 flow (control c.behind_loop.result) c.in_ok-head.head again stop
     c.in_ok-within.ensures c.comes_round-turns.ensures head_is again_is c.in_ok-emit_round.ensures stop_is done (record { prints = refl; selects = refl; layout = refl }) c.behind_loop.ensures
 
 pub emit_tested-returns : goal.emit_tested-returns
 emit_tested-returns t c =
-    let table = c.args.table.now in
+    let table = c.args.context.now.program.now.table.now in
     let e0 = c.args.emitter.now in
     let e1 : Emitter = record { code = c.push_test.new.code; prints = e0.prints; selects = e0.selects; layout = e0.layout } in
     let e2 : Emitter = record { code = c.push.new.self; prints = e0.prints; selects = e0.selects; layout = e0.layout } in
@@ -109,16 +109,16 @@ emit_tested-returns t c =
     let done : e5.code.items ≡ filled flow.waits stop again (slice_set e4.code.items (length e1.code.items) (instrs.Unless stop)) =
     c.fill.ensures ∙ ap (λ (ws : List Wait). filled ws stop again c.aim.new.code.items) c.as_slice.ensures.value ∙ ap (λ (l : List Instr). filled flow.waits stop again l) (c.aim.ensures ∙ ap (λ n. slice_set e4.code.items n (instrs.Unless stop)) test_is) in
     let same : Beside e0 e0 = record { prints = refl; selects = refl; layout = refl } in
-    emits_tested table (globals_in table) c.args.elements.now (yield_of (types_of table) c.args.result_type) (expression_of c.args.condition.now) (body_of c.args.body.now) post c.comes_round-turns.result e0 e1 e2 e3 e4 e5 flow (control c.through.result) c.in_ok-head.head again stop
-    (c.in_ok-push_test.ensures e0.layout.locals.items) (record { prints = refl; selects = refl; layout = refl }) c.in_ok-push.ensures.items (record { prints = refl; selects = refl; layout = refl }) c.in_ok-within.ensures c.comes_round-turns.ensures head_is again_is c.in_ok-emit_round.ensures stop_is done
+    emits_tested table (globals_in table) c.args.context.now.program.now.elements.now (yield_of (types_of table) c.args.context.now.result_type) (expression_of c.args.condition.now) (body_of c.args.body.now) post c.comes_round-turns.result e0 e1 e2 e3 e4 e5 flow (control c.through.result) c.in_ok-head.head again stop
+    c.in_ok-push_test.ensures (record { prints = refl; selects = refl; layout = refl }) c.in_ok-push.ensures.items (record { prints = refl; selects = refl; layout = refl }) c.in_ok-within.ensures c.comes_round-turns.ensures head_is again_is c.in_ok-emit_round.ensures stop_is done
     (record { prints = refl; selects = refl; layout = refl }) c.through.ensures
 
 pub emit_clauses-returns : goal.emit_clauses-returns
 emit_clauses-returns t c =
-    let table = c.args.table.now in
+    let table = c.args.context.now.program.now.table.now in
     let globals = globals_in table in
-    let elements = c.args.elements.now in
-    let result = yield_of (types_of table) c.args.result_type in
+    let elements = c.args.context.now.program.now.elements.now in
+    let result = yield_of (types_of table) c.args.context.now.result_type in
     let e0 = c.args.emitter.now in
     let e1 : Emitter = record { code = e0.code; prints = e0.prints; selects = e0.selects; layout = c.enter-mark.new.layout } in
     let e2 = c.emit_any.new.emitter in
@@ -136,10 +136,10 @@ emit_clauses-returns t c =
 
 pub emit_branch-returns : goal.emit_branch-returns
 emit_branch-returns t c =
-    let table = c.args.table.now in
+    let table = c.args.context.now.program.now.table.now in
     let globals = globals_in table in
-    let elements = c.args.elements.now in
-    let result = yield_of (types_of table) c.args.result_type in
+    let elements = c.args.context.now.program.now.elements.now in
+    let result = yield_of (types_of table) c.args.context.now.result_type in
     let branch = c.args.branch.now in
     let e0 = c.args.emitter.now in
     let e1 : Emitter = record { code = e0.code; prints = e0.prints; selects = e0.selects; layout = c.enter-mark.new.layout } in
@@ -158,10 +158,10 @@ emit_branch-returns t c =
 
 pub emit_one_way-returns : goal.emit_one_way-returns
 emit_one_way-returns t c =
-    let table = c.args.table.now in
+    let table = c.args.context.now.program.now.table.now in
     let globals = globals_in table in
-    let elements = c.args.elements.now in
-    let result = yield_of (types_of table) c.args.result_type in
+    let elements = c.args.context.now.program.now.elements.now in
+    let result = yield_of (types_of table) c.args.context.now.result_type in
     let e0 = c.args.emitter.now in
     let e1 : Emitter = record { code = c.push_test.new.code; prints = e0.prints; selects = e0.selects; layout = e0.layout } in
     let e2 : Emitter = record { code = c.push.new.self; prints = e0.prints; selects = e0.selects; layout = e0.layout } in
@@ -172,15 +172,15 @@ emit_one_way-returns t c =
     let test_is : c.len-test.result ≡ length e1.code.items = search rules in
     let next = length e3.code.items in
     let set : e4.code.items ≡ slice_set e3.code.items (length e1.code.items) (instrs.Unless next) = c.in_ok-end_test.ensures ∙ ap (λ n. slice_set e3.code.items n (instrs.Unless next)) test_is in
-    emits_one_way table globals elements result (expression_of c.args.branch.now.condition) so e0 e1 e2 e3 e4 (control c.in_ok-flow.flow) (control c.may_end.new.flow) next (c.in_ok-push_test.ensures e0.layout.locals.items) (record { prints = refl; selects = refl; layout = refl })
+    emits_one_way table globals elements result (expression_of c.args.branch.now.condition) so e0 e1 e2 e3 e4 (control c.in_ok-flow.flow) (control c.may_end.new.flow) next c.in_ok-push_test.ensures (record { prints = refl; selects = refl; layout = refl })
     c.in_ok-push.ensures.items (record { prints = refl; selects = refl; layout = refl }) within refl set (record { prints = refl; selects = refl; layout = refl }) c.may_end.ensures
 
 pub emit_two_ways-returns : goal.emit_two_ways-returns
 emit_two_ways-returns t c =
-    let table = c.args.table.now in
+    let table = c.args.context.now.program.now.table.now in
     let globals = globals_in table in
-    let elements = c.args.elements.now in
-    let result = yield_of (types_of table) c.args.result_type in
+    let elements = c.args.context.now.program.now.elements.now in
+    let result = yield_of (types_of table) c.args.context.now.result_type in
     let e0 = c.args.emitter.now in
     let e1 : Emitter = record { code = c.push_test.new.code; prints = e0.prints; selects = e0.selects; layout = e0.layout } in
     let e2 : Emitter = record { code = c.push.new.self; prints = e0.prints; selects = e0.selects; layout = e0.layout } in
@@ -196,16 +196,16 @@ emit_two_ways-returns t c =
     let begun : e4.code.items ≡ slice_set (e3.code.items ++ over) (length e1.code.items) (instrs.Unless (length e4.code.items)) = c.in_ok-over.ensures.begun ∙ ap (λ n. slice_set (e3.code.items ++ over) n (instrs.Unless (length e4.code.items))) test_is in
     let ended_at : e6.code.items ≡ cond f.ends (slice_set e5.code.items (length e3.code.items) (instrs.Jump (length e5.code.items))) e5.code.items =
     c.in_ok-end_other.ensures ∙ ap (λ n. cond f.ends (slice_set e5.code.items n (instrs.Jump (length e5.code.items))) e5.code.items) c.in_ok-over.ensures.over in
-    emits_two_ways table globals elements result (expression_of c.args.branch.now.condition) so (λ site. made_other globals elements result site (otherwise_of c.args.branch.now.otherwise)) e0 e1 e2 e3 e4 e5 e6 f (control c.in_ok-other.other) (control c.join_way.new.flow) (c.in_ok-push_test.ensures e0.layout.locals.items)
+    emits_two_ways table globals elements result (expression_of c.args.branch.now.condition) so (λ site. made_other globals elements result site (otherwise_of c.args.branch.now.otherwise)) e0 e1 e2 e3 e4 e5 e6 f (control c.in_ok-other.other) (control c.join_way.new.flow) c.in_ok-push_test.ensures
     (record { prints = refl; selects = refl; layout = refl }) c.in_ok-push.ensures.items (record { prints = refl; selects = refl; layout = refl }) within begun (record { prints = refl; selects = refl; layout = refl }) c.in_ok-other.ensures ended_at (record { prints = refl; selects = refl; layout = refl })
     c.in_ok-join_way.ensures
 
 pub emit_item-returns : goal.emit_item-returns
 emit_item-returns t c =
-    let table = c.args.table.now in
+    let table = c.args.context.now.program.now.table.now in
     let globals = globals_in table in
-    let elements = c.args.elements.now in
-    let result = yield_of (types_of table) c.args.result_type in
+    let elements = c.args.context.now.program.now.elements.now in
+    let result = yield_of (types_of table) c.args.context.now.result_type in
     let e0 = c.args.emitter.now in
     let e1 : Emitter = record { code = e0.code; prints = e0.prints; selects = e0.selects; layout = c.enter-mark.new.layout } in
     let e2 : Emitter = record { code = c.take_item.new.code; prints = e0.prints; selects = e0.selects; layout = c.take_item.new.layout } in
@@ -220,10 +220,10 @@ emit_item-returns t c =
 
 pub emit_items-returns : goal.emit_items-returns
 emit_items-returns t c = λ around channel place_is kind_is.
-    let table = c.args.table.now in
+    let table = c.args.context.now.program.now.table.now in
     let globals = globals_in table in
-    let elements = c.args.elements.now in
-    let result = yield_of (types_of table) c.args.result_type in
+    let elements = c.args.context.now.program.now.elements.now in
+    let result = yield_of (types_of table) c.args.context.now.result_type in
     let e0 = c.args.emitter.now in
     let e1 : Emitter = record { code = c.emit_next.new.code; prints = e0.prints; selects = e0.selects; layout = e0.layout } in
     let e2 : Emitter = record { code = c.push.new.self; prints = e0.prints; selects = e0.selects; layout = e0.layout } in
@@ -251,10 +251,10 @@ emit_items-returns t c = λ around channel place_is kind_is.
 
 pub emit_range-returns : goal.emit_range-returns
 emit_range-returns t c =
-    let table = c.args.table.now in
+    let table = c.args.context.now.program.now.table.now in
     let globals = globals_in table in
-    let elements = c.args.elements.now in
-    let result = yield_of (types_of table) c.args.result_type in
+    let elements = c.args.context.now.program.now.elements.now in
+    let result = yield_of (types_of table) c.args.context.now.result_type in
     let e0 = c.args.emitter.now in
     let e1 : Emitter = record { code = c.emit_kept.new.code; prints = e0.prints; selects = e0.selects; layout = e0.layout } in
     let e2 : Emitter = record { code = c.emit_kept.new.code; prints = e0.prints; selects = e0.selects; layout = c.enter-mark.new.layout } in
@@ -275,10 +275,10 @@ emit_range-returns t c =
 
 pub emit_way-returns : goal.emit_way-returns
 emit_way-returns t c =
-    let table = c.args.table.now in
+    let table = c.args.context.now.program.now.table.now in
     let globals = globals_in table in
-    let elements = c.args.elements.now in
-    let result = yield_of (types_of table) c.args.result_type in
+    let elements = c.args.context.now.program.now.elements.now in
+    let result = yield_of (types_of table) c.args.context.now.result_type in
     let e0 = c.args.emitter.now in
     let e1 : Emitter = record { code = e0.code; prints = e0.prints; selects = e0.selects; layout = c.enter-mark.new.layout } in
     let e2 : Emitter = record { code = c.take_comm.new.code; prints = e0.prints; selects = e0.selects; layout = c.take_comm.new.layout } in
@@ -293,10 +293,10 @@ emit_way-returns t c =
 
 pub emit_clause-returns : goal.emit_clause-returns
 emit_clause-returns t c = λ whole left all first reaches.
-    let table = c.args.table.now in
+    let table = c.args.context.now.program.now.table.now in
     let globals = globals_in table in
-    let elements = c.args.elements.now in
-    let result = yield_of (types_of table) c.args.result_type in
+    let elements = c.args.context.now.program.now.elements.now in
+    let result = yield_of (types_of table) c.args.context.now.result_type in
     let clause = c.args.clause.now in
     let e0 = c.args.emitter.now in
     let e1 = c.emit_way.new.emitter in
@@ -316,10 +316,10 @@ emit_clause-returns t c = λ whole left all first reaches.
 
 pub emit_clause-returns-in_default : goal.emit_clause-returns-in_default
 emit_clause-returns-in_default t c = λ whole left all first reaches.
-    let table = c.args.table.now in
+    let table = c.args.context.now.program.now.table.now in
     let globals = globals_in table in
-    let elements = c.args.elements.now in
-    let result = yield_of (types_of table) c.args.result_type in
+    let elements = c.args.context.now.program.now.elements.now in
+    let result = yield_of (types_of table) c.args.context.now.result_type in
     let clause = c.args.clause.now in
     let e0 = c.args.emitter.now in
     let is : clause_of clause ≡ record { comm = option_map comm_of clause.comm; body = body_of clause.body.items } = search (rules, the_lemmas) in
@@ -329,16 +329,16 @@ emit_clause-returns-in_default t c = λ whole left all first reaches.
 
 pub emit_each_way-loop-clause-init : goal.emit_each_way-loop-clause-init
 emit_each_way-loop-clause-init t c = λ whole.
-    let table = c.args.table.now in
+    let table = c.args.context.now.program.now.table.now in
     let list = c.new-list.result in
-    reaches (globals_in table) c.args.elements.now (yield_of (types_of table) c.args.result_type) table whole c.args.emitter.now list (clauses (map clause_of c.args.all.now)) c.new-list.ensures.flow c.new-list.ensures.places c.new-list.ensures.held
+    reaches (globals_in table) c.args.context.now.program.now.elements.now (yield_of (types_of table) c.args.context.now.result_type) table whole c.args.emitter.now list (clauses (map clause_of c.args.all.now)) c.new-list.ensures.flow c.new-list.ensures.places c.new-list.ensures.held
 
 pub emit_each_way-loop-clause-preserved : goal.emit_each_way-loop-clause-preserved
 emit_each_way-loop-clause-preserved t c = λ whole.
-    let table = c.args.table.now in
+    let table = c.args.context.now.program.now.table.now in
     let globals = globals_in table in
-    let elements = c.args.elements.now in
-    let result = yield_of (types_of table) c.args.result_type in
+    let elements = c.args.context.now.program.now.elements.now in
+    let result = yield_of (types_of table) c.args.context.now.result_type in
     let all = c.args.all.now in
     let i = c.loop-clause.clause-index in
     let one = c.clause-item.result in
@@ -350,18 +350,18 @@ emit_each_way-loop-clause-preserved t c = λ whole.
 
 pub emit_each_way-returns : goal.emit_each_way-returns
 emit_each_way-returns t c = λ whole.
-    let table = c.args.table.now in
+    let table = c.args.context.now.program.now.table.now in
     let all = c.args.all.now in
     let i = c.loop-clause.clause-index in
     let none : clauses (map clause_of (drop i all)) ≡ NoClause = ap (λ (l : List ClauseNode). clauses (map clause_of l)) (drop_all i all c.loop-clause-test.false) in
-    subst (λ l. Reaches (globals_in table) c.args.elements.now (yield_of (types_of table) c.args.result_type) table whole c.args.emitter.now c.loop-clause.emitter c.loop-clause.list l (clauses (map clause_of all))) none (c.loop-clause.invariant whole)
+    subst (λ l. Reaches (globals_in table) c.args.context.now.program.now.elements.now (yield_of (types_of table) c.args.context.now.result_type) table whole c.args.emitter.now c.loop-clause.emitter c.loop-clause.list l (clauses (map clause_of all))) none (c.loop-clause.invariant whole)
 
 pub emit_default-loop-clause-preserved : goal.emit_default-loop-clause-preserved
 emit_default-loop-clause-preserved t c =
-    let table = c.args.table.now in
+    let table = c.args.context.now.program.now.table.now in
     let globals = globals_in table in
-    let elements = c.args.elements.now in
-    let result = yield_of (types_of table) c.args.result_type in
+    let elements = c.args.context.now.program.now.elements.now in
+    let result = yield_of (types_of table) c.args.context.now.result_type in
     let site = site_of table c.loop-clause.emitter in
     let all = c.args.all.now in
     let i = c.loop-clause.clause-index in
@@ -372,10 +372,10 @@ emit_default-loop-clause-preserved t c =
 
 pub emit_default-returns-then-is_none : goal.emit_default-returns-then-is_none
 emit_default-returns-then-is_none t c =
-    let table = c.args.table.now in
+    let table = c.args.context.now.program.now.table.now in
     let globals = globals_in table in
-    let elements = c.args.elements.now in
-    let result = yield_of (types_of table) c.args.result_type in
+    let elements = c.args.context.now.program.now.elements.now in
+    let result = yield_of (types_of table) c.args.context.now.result_type in
     let e0 = c.loop-clause.emitter in
     let site = site_of table e0 in
     let all = c.args.all.now in
@@ -392,10 +392,10 @@ emit_default-returns-then-is_none t c =
 
 pub emit_default-returns : goal.emit_default-returns
 emit_default-returns t c =
-    let table = c.args.table.now in
+    let table = c.args.context.now.program.now.table.now in
     let globals = globals_in table in
-    let elements = c.args.elements.now in
-    let result = yield_of (types_of table) c.args.result_type in
+    let elements = c.args.context.now.program.now.elements.now in
+    let result = yield_of (types_of table) c.args.context.now.result_type in
     let e0 = c.loop-clause.emitter in
     let all = c.args.all.now in
     let i = c.loop-clause.clause-index in
@@ -404,10 +404,10 @@ emit_default-returns t c =
 
 pub emit_all_ways-returns : goal.emit_all_ways-returns
 emit_all_ways-returns t c =
-    let table = c.args.table.now in
+    let table = c.args.context.now.program.now.table.now in
     let globals = globals_in table in
-    let elements = c.args.elements.now in
-    let result = yield_of (types_of table) c.args.result_type in
+    let elements = c.args.context.now.program.now.elements.now in
+    let result = yield_of (types_of table) c.args.context.now.result_type in
     let all = clauses (map clause_of c.args.all.now) in
     let e0 = c.args.emitter.now in
     let e1 = c.emit_each_way.new.emitter in
@@ -426,10 +426,10 @@ emit_all_ways-returns t c =
 
 pub emit_select-returns : goal.emit_select-returns
 emit_select-returns t c =
-    let table = c.args.table.now in
+    let table = c.args.context.now.program.now.table.now in
     let globals = globals_in table in
-    let elements = c.args.elements.now in
-    let result = yield_of (types_of table) c.args.result_type in
+    let elements = c.args.context.now.program.now.elements.now in
+    let result = yield_of (types_of table) c.args.context.now.result_type in
     let all = clauses (map clause_of c.args.all.now) in
     let e0 = c.args.emitter.now in
     let e1 : Emitter = record { code = c.push_clauses.new.code; prints = e0.prints; selects = e0.selects; layout = e0.layout } in

@@ -13,9 +13,9 @@ use Rattle.codegen_emission.proofs.turn.emit_round.Goals as goal
 
 pub returns : goal.returns
 returns c =
-    let table = c.args.table.now in
+    let table = c.args.context.now.program.now.table.now in
     let globals = globals_in table in
-    let elements = c.args.elements.now in
+    let elements = c.args.context.now.program.now.elements.now in
     let e0 = c.args.emitter.now in
     let e1 = c.emit_post.new.emitter in
     let e2 : Emitter = record { code = c.come_back.new.code; prints = e1.prints; selects = e1.selects; layout = e1.layout } in

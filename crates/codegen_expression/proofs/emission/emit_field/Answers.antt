@@ -11,11 +11,11 @@ use Rattle.codegen_expression.proofs.emission.emit_field.Goals as goal
 
 pub returns-clause-emitted : goal.returns-clause-emitted
 returns-clause-emitted c =
-    let globals = globals_in c.args.table.now in
-    let types = types_of c.args.table.now in
+    let globals = globals_in c.args.context.now.table.now in
+    let types = types_of c.args.context.now.table.now in
     let kind = kind_of types c.in-Typed.kind in
     let part = c.in-Some.part in
     let is : field_of globals.structs kind c.args.field.now ≡ Some (record { place = part.place; kind = Some (kind_of types part.kind) }) = search rules in
-    let pick = picked globals c.args.elements.now kind c.args.field.now part.place (kind_of types part.kind) c.words_of-words.result c.words_of-kept.result is (c.words_of-words.ensures nothing_declared) (c.words_of-kept.ensures nothing_declared) in
-    let whole : picks globals c.args.elements.now (worth_of types c.args.whole) c.args.field.now ≡ instrs.Pick c.words_of-words.result part.place c.words_of-kept.result ∷ [] = search (rules, pick) in
+    let pick = picked globals c.args.context.now.elements.now kind c.args.field.now part.place (kind_of types part.kind) c.words_of-words.result c.words_of-kept.result is (c.words_of-words.ensures nothing_declared) (c.words_of-kept.ensures nothing_declared) in
+    let whole : picks globals c.args.context.now.elements.now (worth_of types c.args.whole) c.args.field.now ≡ instrs.Pick c.words_of-words.result part.place c.words_of-kept.result ∷ [] = search (rules, pick) in
     c.in_ok-push.ensures.items ∙ ap (λ l. c.args.code.now.items ++ l) (sym whole)

@@ -6,8 +6,8 @@ use Rattle.codegen_expression.proofs.operand.named.Goals as goal
 
 pub returns-in_ok-place-in-Some : goal.returns-in_ok-place-in-Some
 returns-in_ok-place-in-Some c =
-    let scope = scope_of c.args.table.now c.args.visible.now in
-    let v = variable_of (types_of c.args.table.now) c.in-Some.entry in
+    let scope = scope_of c.args.context.now.table.now c.args.visible.now in
+    let v = variable_of (types_of c.args.context.now.table.now) c.in-Some.entry in
     let plainly : is_truth c.args.name.now ≡ false = search rules in
     let is : variable_named scope c.args.name.now ≡ Some v = search rules in
-    loaded (globals_in c.args.table.now) c.args.elements.now scope c.args.name.now v c.in_ok-place-in-Some.place c.words_of.result plainly is c.in_ok-place-in-Some.ensures (c.words_of.ensures scope)
+    loaded (globals_in c.args.context.now.table.now) c.args.context.now.elements.now scope c.args.name.now v c.in_ok-place-in-Some.place c.words_of.result plainly is c.in_ok-place-in-Some.ensures (c.words_of.ensures scope)

@@ -5,4 +5,4 @@ use Rattle.codegen_expression.proofs.Widths.{words_counted}
 use Rattle.codegen_expression.proofs.operand.words_of.Goals as goal
 
 pub returns : goal.returns
-returns c = λ scope. c.words_of.ensures.words ∙ words_counted (globals_in c.args.table.now).structs c.args.table.now.widths.items c.args.elements.now c.args.table.now.sized (kind_of (types_of c.args.table.now) c.args.kind)
+returns c = λ scope. c.words_of.ensures.words ∙ words_counted (globals_in c.args.context.now.table.now).structs c.args.context.now.table.now.widths.items c.args.context.now.elements.now c.args.context.now.table.now.sized (kind_of (types_of c.args.context.now.table.now) c.args.kind)

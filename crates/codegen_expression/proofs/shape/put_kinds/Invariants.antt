@@ -7,5 +7,5 @@ use Rattle.codegen_expression.proofs.shape.put_kinds.Given as goal
 -- the kinds so far
 abbrev pub invariant-loop-part : goal.invariant-loop-part
 invariant-loop-part l = record {
-  kinds : l.kinds.items ≡ l.initial.kinds.items ++ map (word_kind l.fn.elements) (map (kind_of (types_of l.fn.table)) (take l.part-index l.part-items));
+  kinds : l.kinds.items ≡ l.initial.kinds.items ++ map (word_kind l.fn.context.elements.now) (map (kind_of (types_of l.fn.context.table.now)) (take l.part-index l.part-items));
 }

@@ -8,7 +8,7 @@ use Rattle.codegen_header.proofs.comm.take_comm.Goals as goal
 
 pub returns-in_ok-emit_dropped-in-Receive-clause-emitted : goal.returns-in_ok-emit_dropped-in-Receive-clause-emitted
 returns-in_ok-emit_dropped-in-Receive-clause-emitted c = λ yields.
-    subst (λ o. Appends c.args.code.now.items c.emit_dropped.new.code.items (comm_plan (globals_in c.args.table.now) c.args.elements.now yields (layout_of c.args.table.now c.args.layout.now) (comm_of o))) (sym c.in-Receive.is)
+    subst (λ o. Appends c.args.code.now.items c.emit_dropped.new.code.items (comm_plan (globals_in c.args.context.now.table.now) c.args.context.now.elements.now yields (layout_of c.args.context.now.table.now c.args.layout.now) (comm_of o))) (sym c.in-Receive.is)
     (c.in_ok-emit_dropped-in-Receive.ensures yields)
 
 pub returns-in_ok-emit_define-in-Define-clause-emitted : goal.returns-in_ok-emit_define-in-Define-clause-emitted

@@ -6,4 +6,4 @@ use Rattle.codegen_header.proofs.range.emit_unused.Goals as goal
 
 pub returns : goal.returns
 returns c = λ scope.
-    on_ok_weaker c.drop_words.result (λ dropped. appends_drops (globals_in c.args.table.now) c.args.elements.now scope (kind_of (types_of c.args.table.now) c.args.kind) c.words_of.result c.args.code.now.items c.drop_words.new.code.items (c.words_of.ensures scope) dropped) c.drop_words.ensures
+    on_ok_weaker c.drop_words.result (λ dropped. appends_drops (globals_in c.args.context.now.table.now) c.args.context.now.elements.now scope (kind_of (types_of c.args.context.now.table.now) c.args.kind) c.words_of.result c.args.code.now.items c.drop_words.new.code.items (c.words_of.ensures scope) dropped) c.drop_words.ensures

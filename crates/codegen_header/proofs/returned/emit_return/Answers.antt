@@ -7,5 +7,5 @@ use Rattle.codegen_header.proofs.returned.emit_return.Goals as goal
 
 pub returns : goal.returns
 returns c =
-    appends_return (globals_in c.args.table.now) c.args.elements.now (yield_of (types_of c.args.table.now) c.args.kind) (layout_of c.args.table.now c.args.layout.now) (returned_of c.args.returned.now)
+    appends_return (globals_in c.args.context.now.table.now) c.args.context.now.elements.now (yield_of (types_of c.args.context.now.table.now) c.args.kind) (layout_of c.args.context.now.table.now c.args.layout.now) (returned_of c.args.returned.now)
     c.args.code.now.items c.push_returned.new.code.items c.push.new.self.items c.in_ok-push_returned.ensures c.in_ok-push.ensures.items

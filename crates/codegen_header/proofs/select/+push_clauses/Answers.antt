@@ -10,9 +10,9 @@ use Rattle.codegen_header.proofs.select.+push_clauses.Goals as goal
 
 pub returns : goal.returns
 returns t c = λ yields.
-    let globals = globals_in c.args.table.now in
-    let elements = c.args.elements.now in
-    let layout = layout_of c.args.table.now c.args.layout.now in
+    let globals = globals_in c.args.context.now.table.now in
+    let elements = c.args.context.now.elements.now in
+    let layout = layout_of c.args.context.now.table.now c.args.layout.now in
     let one = clause_of c.in-Some.clause.now in
     let is : c.args.all.now ≡ c.in-Some.clause.now ∷ c.in-Some.all.now = search rules in
     on_ok_weaker c.push_clauses.result (λ put. subst (λ l. Puts c.args.code.now.items c.push_clauses.new.code.items (pushes_clauses globals elements yields layout (clauses (map clause_of l)))) (sym is)

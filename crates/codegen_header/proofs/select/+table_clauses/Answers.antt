@@ -9,9 +9,9 @@ use Rattle.codegen_header.proofs.select.+table_clauses.Goals as goal
 
 pub returns-in_default-comm : goal.returns-in_default-comm
 returns-in_default-comm t c = λ yields.
-    let globals = globals_in c.args.table.now in
-    let elements = c.args.elements.now in
-    let layout = layout_of c.args.table.now c.args.layout.now in
+    let globals = globals_in c.args.context.now.table.now in
+    let elements = c.args.context.now.elements.now in
+    let layout = layout_of c.args.context.now.table.now c.args.layout.now in
     let one = clause_of c.in-Some.clause.now in
     let is : c.args.all.now ≡ c.in-Some.clause.now ∷ c.in-Some.all.now = search rules in
     let none : one.comm ≡ None = search (rules, the_lemmas) in
@@ -21,9 +21,9 @@ returns-in_default-comm t c = λ yields.
 
 pub returns : goal.returns
 returns t c = λ yields.
-    let globals = globals_in c.args.table.now in
-    let elements = c.args.elements.now in
-    let layout = layout_of c.args.table.now c.args.layout.now in
+    let globals = globals_in c.args.context.now.table.now in
+    let elements = c.args.context.now.elements.now in
+    let layout = layout_of c.args.context.now.table.now c.args.layout.now in
     let one = clause_of c.in-Some.clause.now in
     let comm = comm_of c.in-Some-comm.comm in
     let more = clauses (map clause_of c.in-Some.all.now) in

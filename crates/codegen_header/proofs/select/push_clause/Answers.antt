@@ -12,5 +12,5 @@ pub returns-in_ok-push_comm : goal.returns-in_ok-push_comm
 returns-in_ok-push_comm c = λ yields.
     let one = clause_of c.args.clause.now in
     let some : one.comm ≡ Some (comm_of c.in-Some.comm) = search (rules, the_lemmas) in
-    subst (λ o. Puts c.args.code.now.items c.push_comm.new.code.items (pushes_clauses (globals_in c.args.table.now) c.args.elements.now yields (layout_of c.args.table.now c.args.layout.now) (Clause o one.body NoClause))) (sym some)
+    subst (λ o. Puts c.args.code.now.items c.push_comm.new.code.items (pushes_clauses (globals_in c.args.context.now.table.now) c.args.context.now.elements.now yields (layout_of c.args.context.now.table.now c.args.layout.now) (Clause o one.body NoClause))) (sym some)
     (c.in_ok-push_comm.ensures yields)

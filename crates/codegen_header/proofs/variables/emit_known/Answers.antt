@@ -10,24 +10,24 @@ use Rattle.codegen_header.proofs.variables.emit_known.Goals as goal
 
 pub zero_as-requires : goal.zero_as-requires
 zero_as-requires c =
-    let kinds = map (kind_of (types_of c.args.table.now)) in
-    ap kinds c.as_slice-kinds.ensures.value ∙ ap kinds c.in_ok-same.ensures ∙ same_kinds (globals_in c.args.table.now) c.args.elements.now (types_of c.args.table.now) c.args.kind c.args.names.now
+    let kinds = map (kind_of (types_of c.args.context.now.table.now)) in
+    ap kinds c.as_slice-kinds.ensures.value ∙ ap kinds c.in_ok-same.ensures ∙ same_kinds (globals_in c.args.context.now.table.now) c.args.context.now.elements.now (types_of c.args.context.now.table.now) c.args.kind c.args.names.now
 
 pub returns-in-Some-clause-emitted : goal.returns-in-Some-clause-emitted
 returns-in-Some-clause-emitted c =
-    let types = types_of c.args.table.now in
+    let types = types_of c.args.context.now.table.now in
     let kinds = map (kind_of types) in
-    let same : kinds c.as_slice-kinds.result.now ≡ same_types (globals_in c.args.table.now) c.args.elements.now (map name_of c.args.names.now) (kind_of types c.args.kind) =
-    ap kinds c.as_slice-kinds.ensures.value ∙ ap kinds c.in_ok-same.ensures ∙ same_kinds (globals_in c.args.table.now) c.args.elements.now types c.args.kind c.args.names.now in
-    on_ok_weaker c.define_as.result (λ put. let h = appends_valued (globals_in c.args.table.now) c.args.elements.now (map name_of c.args.names.now) (kind_of types c.args.kind) (kinds c.as_slice-kinds.result.now) same (layout_of c.args.table.now c.args.layout.now) (right_of c.in-Some.right.now)
+    let same : kinds c.as_slice-kinds.result.now ≡ same_types (globals_in c.args.context.now.table.now) c.args.context.now.elements.now (map name_of c.args.names.now) (kind_of types c.args.kind) =
+    ap kinds c.as_slice-kinds.ensures.value ∙ ap kinds c.in_ok-same.ensures ∙ same_kinds (globals_in c.args.context.now.table.now) c.args.context.now.elements.now types c.args.kind c.args.names.now in
+    on_ok_weaker c.define_as.result (λ put. let h = appends_valued (globals_in c.args.context.now.table.now) c.args.context.now.elements.now (map name_of c.args.names.now) (kind_of types c.args.kind) (kinds c.as_slice-kinds.result.now) same (layout_of c.args.context.now.table.now c.args.layout.now) (right_of c.in-Some.right.now)
     c.args.code.now.items c.define_as.new.code.items put in
     search (rules, h)) c.define_as.ensures.emitted
 
 pub returns-in-Some-clause-after : goal.returns-in-Some-clause-after
 returns-in-Some-clause-after c =
-    let types = types_of c.args.table.now in
+    let types = types_of c.args.context.now.table.now in
     let kinds = map (kind_of types) in
-    let same : kinds c.as_slice-kinds.result.now ≡ same_types (globals_in c.args.table.now) c.args.elements.now (map name_of c.args.names.now) (kind_of types c.args.kind) =
-    ap kinds c.as_slice-kinds.ensures.value ∙ ap kinds c.in_ok-same.ensures ∙ same_kinds (globals_in c.args.table.now) c.args.elements.now types c.args.kind c.args.names.now in
-    on_ok_weaker c.define_as.result (λ after. declared_each (globals_in c.args.table.now) c.args.elements.now (map name_of c.args.names.now) (kind_of types c.args.kind) (kinds c.as_slice-kinds.result.now) same (layout_of c.args.table.now c.args.layout.now) (layout_of c.args.table.now c.define_as.new.layout)
+    let same : kinds c.as_slice-kinds.result.now ≡ same_types (globals_in c.args.context.now.table.now) c.args.context.now.elements.now (map name_of c.args.names.now) (kind_of types c.args.kind) =
+    ap kinds c.as_slice-kinds.ensures.value ∙ ap kinds c.in_ok-same.ensures ∙ same_kinds (globals_in c.args.context.now.table.now) c.args.context.now.elements.now types c.args.kind c.args.names.now in
+    on_ok_weaker c.define_as.result (λ after. declared_each (globals_in c.args.context.now.table.now) c.args.context.now.elements.now (map name_of c.args.names.now) (kind_of types c.args.kind) (kinds c.as_slice-kinds.result.now) same (layout_of c.args.context.now.table.now c.args.layout.now) (layout_of c.args.context.now.table.now c.define_as.new.layout)
     after) c.define_as.ensures.after

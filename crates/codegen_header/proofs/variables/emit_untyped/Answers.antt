@@ -12,10 +12,10 @@ use Rattle.codegen_header.proofs.variables.emit_untyped.Goals as goal
 
 pub returns-clause-emitted : goal.returns-clause-emitted
 returns-clause-emitted c =
-    let globals = globals_in c.args.table.now in
-    let elements = c.args.elements.now in
-    let layout = layout_of c.args.table.now c.args.layout.now in
-    let kinds = map (kind_of (types_of c.args.table.now)) in
+    let globals = globals_in c.args.context.now.table.now in
+    let elements = c.args.context.now.elements.now in
+    let layout = layout_of c.args.context.now.table.now c.args.layout.now in
+    let kinds = map (kind_of (types_of c.args.context.now.table.now)) in
     let names = map name_of c.args.names.now in
     let right = right_of c.args.right.now in
     let count : length c.args.names.now ≡ length names = sym (length-map c.args.names.now name_of) in
@@ -24,10 +24,10 @@ returns-clause-emitted c =
 
 pub returns-clause-after : goal.returns-clause-after
 returns-clause-after c =
-    let globals = globals_in c.args.table.now in
-    let elements = c.args.elements.now in
-    let layout = layout_of c.args.table.now c.args.layout.now in
-    let kinds = map (kind_of (types_of c.args.table.now)) in
+    let globals = globals_in c.args.context.now.table.now in
+    let elements = c.args.context.now.elements.now in
+    let layout = layout_of c.args.context.now.table.now c.args.layout.now in
+    let kinds = map (kind_of (types_of c.args.context.now.table.now)) in
     let names = map name_of c.args.names.now in
     let right = right_of c.args.right.now in
     let count : length c.args.names.now ≡ length names = sym (length-map c.args.names.now name_of) in

@@ -10,8 +10,8 @@ use Rattle.codegen_operation.proofs.given.right_kinds.Goals as goal
 
 pub returns-in-Values : goal.returns-in-Values
 returns-in-Values c =
-    let globals = globals_in c.args.table.now in
-    let scope = scope_of c.args.table.now c.args.visible.now in
+    let globals = globals_in c.args.context.now.table.now in
+    let scope = scope_of c.args.context.now.table.now c.args.visible.now in
     let values = map expression_of c.in-Values.values.items in
     let is : Values values ≡ right_of c.args.right.now = search rules in
     IfOk-weaker c.own_kinds.result _ _ (λ kinds own elements. own ∙ ap (λ l. map (own_type globals scope) (map expression_of l)) c.as_slice.ensures.value

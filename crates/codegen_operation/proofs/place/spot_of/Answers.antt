@@ -6,5 +6,5 @@ use Rattle.codegen_operation.proofs.place.spot_of.Goals as goal
 
 pub returns : goal.returns
 returns c = λ scope.
-    let w : c.words_of.result ≡ width (globals_in c.args.table.now) c.args.elements.now scope (kind_of (types_of c.args.table.now) c.args.part.kind) = c.words_of.ensures scope in
+    let w : c.words_of.result ≡ width (globals_in c.args.context.now.table.now) c.args.context.now.elements.now scope (kind_of (types_of c.args.context.now.table.now) c.args.part.kind) = c.words_of.ensures scope in
     ap (λ p. Local p c.words_of.result) c.in_ok-place.ensures ∙ ap (Local c.args.part.place) w

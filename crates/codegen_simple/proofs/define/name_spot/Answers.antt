@@ -9,8 +9,8 @@ use Rattle.codegen_simple.proofs.define.name_spot.Goals as goal
 
 pub returns-then-is_declarable : goal.returns-then-is_declarable
 returns-then-is_declarable c =
-    let globals = globals_in c.args.table.now in
-    let layout = layout_of c.args.table.now c.args.layout.now in
-    let kind = kind_of (types_of c.args.table.now) c.args.kind in
+    let globals = globals_in c.args.context.now.table.now in
+    let layout = layout_of c.args.context.now.table.now c.args.layout.now in
+    let kind = kind_of (types_of c.args.context.now.table.now) c.args.kind in
     let is : is_declarable layout.scope (name_of c.args.name.now) ≡ true = search rules in
-    new_spot globals c.args.elements.now layout (name_of c.args.name.now) kind c.in_ok-place.place c.words_of.result is c.in_ok-place.ensures (c.words_of.ensures layout.scope)
+    new_spot globals c.args.context.now.elements.now layout (name_of c.args.name.now) kind c.in_ok-place.place c.words_of.result is c.in_ok-place.ensures (c.words_of.ensures layout.scope)

@@ -7,18 +7,18 @@ use Rattle.codegen_simple.proofs.define.own_spot.Goals as goal
 
 pub returns-in_ok-place-in-Some : goal.returns-in_ok-place-in-Some
 returns-in_ok-place-in-Some c =
-    let globals = globals_in c.args.table.now in
-    let scope = scope_of c.args.table.now c.args.visible.now in
-    let types = types_of c.args.table.now in
+    let globals = globals_in c.args.context.now.table.now in
+    let scope = scope_of c.args.context.now.table.now c.args.visible.now in
+    let types = types_of c.args.context.now.table.now in
     let is : Some (variable_of types c.in-Some.entry) ≡ own_variable scope c.args.name.now = search rules in
-    let words : c.words_of.result ≡ width globals c.args.elements.now scope (kind_of types c.in-Some.entry.kind) = c.words_of.ensures scope in
-    ap (λ p. Local p c.words_of.result) c.in_ok-place-in-Some.ensures ∙ ap (Local c.in-Some.entry.place) words ∙ ap (own_spot globals c.args.elements.now scope (kind_of types c.args.kind)) is
+    let words : c.words_of.result ≡ width globals c.args.context.now.elements.now scope (kind_of types c.in-Some.entry.kind) = c.words_of.ensures scope in
+    ap (λ p. Local p c.words_of.result) c.in_ok-place-in-Some.ensures ∙ ap (Local c.in-Some.entry.place) words ∙ ap (own_spot globals c.args.context.now.elements.now scope (kind_of types c.args.kind)) is
 
 pub returns-in-None : goal.returns-in-None
 returns-in-None c =
-    let globals = globals_in c.args.table.now in
-    let scope = scope_of c.args.table.now c.args.visible.now in
-    let types = types_of c.args.table.now in
+    let globals = globals_in c.args.context.now.table.now in
+    let scope = scope_of c.args.context.now.table.now c.args.visible.now in
+    let types = types_of c.args.context.now.table.now in
     let is : None ≡ own_variable scope c.args.name.now = search rules in
-    let words : c.words_of-in-None.result ≡ width globals c.args.elements.now scope (kind_of types c.args.kind) = c.words_of-in-None.ensures scope in
-    ap Dropped words ∙ ap (own_spot globals c.args.elements.now scope (kind_of types c.args.kind)) is
+    let words : c.words_of-in-None.result ≡ width globals c.args.context.now.elements.now scope (kind_of types c.args.kind) = c.words_of-in-None.ensures scope in
+    ap Dropped words ∙ ap (own_spot globals c.args.context.now.elements.now scope (kind_of types c.args.kind)) is

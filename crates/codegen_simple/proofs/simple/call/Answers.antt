@@ -14,9 +14,9 @@ use Rattle.codegen_simple.proofs.simple.call.Goals as goal
 
 pub returns : goal.returns
 returns c =
-    let globals = globals_in c.args.table.now in
-    let elements = c.args.elements.now in
-    let scope = scope_of c.args.table.now c.args.visible.now in
+    let globals = globals_in c.args.context.now.table.now in
+    let elements = c.args.context.now.elements.now in
+    let scope = scope_of c.args.context.now.table.now c.args.visible.now in
     let pushed = pushes_arguments globals elements scope (number_of globals (name_of c.args.name.now)) (map expression_of c.args.arguments.now.values.items) in
     let function = c.in_ok-function.function in
     on_ok_weaker c.drop_result.result (λ dropped. let h = ends_call c.args.code.now.items c.push_arguments.new.code.items c.push.new.self.items c.drop_result.new.code.items pushed (drops (result_words globals elements scope (result_of globals function))) (instrs.Call function)

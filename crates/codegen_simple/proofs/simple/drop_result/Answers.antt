@@ -10,8 +10,8 @@ use Rattle.codegen_simple.proofs.simple.drop_result.Goals as goal
 
 pub returns-in_ok-drop_words : goal.returns-in_ok-drop_words
 returns-in_ok-drop_words c = λ scope.
-    let globals = globals_in c.args.table.now in
-    let kind = kind_of (types_of c.args.table.now) c.in-Some.kind in
+    let globals = globals_in c.args.context.now.table.now in
+    let kind = kind_of (types_of c.args.context.now.table.now) c.in-Some.kind in
     let is : Yields (Some kind) ≡ result_of globals c.args.number = search rules in
-    let words : c.words_of.result ≡ width globals c.args.elements.now scope kind = c.words_of.ensures scope in
-    subst (λ n. Puts c.args.code.now.items c.drop_words.new.code.items (drops n)) (words ∙ ap (result_words globals c.args.elements.now scope) is) c.in_ok-drop_words.ensures
+    let words : c.words_of.result ≡ width globals c.args.context.now.elements.now scope kind = c.words_of.ensures scope in
+    subst (λ n. Puts c.args.code.now.items c.drop_words.new.code.items (drops n)) (words ∙ ap (result_words globals c.args.context.now.elements.now scope) is) c.in_ok-drop_words.ensures

@@ -8,5 +8,5 @@ use Rattle.codegen_simple.proofs.simple.print.Goals as goal
 
 pub returns : goal.returns
 returns c =
-    ends c.args.code.now.items c.push_parts.new.code.items c.push.new.self.items (pushes_parts (globals_in c.args.table.now) c.args.elements.now (scope_of c.args.table.now c.args.visible.now) (map part_of c.args.parts.now)) (instrs.Print c.args.number)
+    ends c.args.code.now.items c.push_parts.new.code.items c.push.new.self.items (pushes_parts (globals_in c.args.context.now.table.now) c.args.context.now.elements.now (scope_of c.args.context.now.table.now c.args.visible.now) (map part_of c.args.parts.now)) (instrs.Print c.args.number)
     c.in_ok-push_parts.ensures c.in_ok-push.ensures.items

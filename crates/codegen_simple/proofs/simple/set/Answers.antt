@@ -11,10 +11,10 @@ use Rattle.codegen_simple.proofs.simple.set.Goals as goal
 
 pub returns : goal.returns
 returns c =
-    let globals = globals_in c.args.table.now in
-    let elements = c.args.elements.now in
-    let scope = scope_of c.args.table.now c.args.visible.now in
-    let kinds = map (kind_of (types_of c.args.table.now)) in
+    let globals = globals_in c.args.context.now.table.now in
+    let elements = c.args.context.now.elements.now in
+    let scope = scope_of c.args.context.now.table.now c.args.visible.now in
+    let kinds = map (kind_of (types_of c.args.context.now.table.now)) in
     let places = map place_of c.args.places.now in
     let count : length c.args.places.now ≡ length places = sym (length-map c.args.places.now place_of) in
     on_ok_weaker c.assign.result (λ assigned. appends_set globals elements (right_of c.args.right.now) (length c.args.places.now) (kinds c.in_ok-given.given.items) (kinds c.as_slice-kinds.result.now) (map spot_in c.as_slice.result.now)
