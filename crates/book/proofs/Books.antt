@@ -26,7 +26,7 @@ use Rattle.word.specs.Kinds.{asks}
 use Rattle.word.specs.Views.{event_of}
 use Rattle.word.specs.Worlds.{Rest, rules, opening, moment, is_deserted, end_of}
 use Rattle.word.specs.Values.{Event, Sleeper}
-use Rattle.tracer.specs.Trace.{trace, traceline}
+use Rattle.tracer.specs.Trace.{trace}
 use Rattle.tracer.proofs.Traces.{trace-push}
 use Rattle.word.proofs.Apart.{apart}
 use Rattle.word.proofs.Found.{In}

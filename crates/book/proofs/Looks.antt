@@ -12,19 +12,18 @@ use Rattle.clock_table.specs.declared.view.Row.{Row as Word}
 use Rattle.clock_table.specs.declared.view.Row.TheVariants.{Home, Lent, Back}
 use Rattle.clock_table.specs.Clocks.{IsLentOn, Reaches, RowFits, looked, row as word_at}
 use Rattle.goroutine_vm.specs.Advance.{IsStateOf, steps}
-use Rattle.logical_clock.specs.declared.key.Key.{Key}
 use Rattle.logical_clock.specs.Order.{keys, least, with_key}
 use Rattle.turn_rule.specs.declared.Row.{Row}
 use Rattle.turn_rule.specs.Turns.{moved, stepped, World, Rules}
-use Rattle.turn_rule.specs.Schedule.{Machine, RowOk, RowStands, Stands, Laws}
+use Rattle.turn_rule.specs.Schedule.{Machine, RowStands, Stands, Laws}
 use Rattle.turn_rule.proofs.Stable.{set_both}
-use Rattle.word.specs.Kinds.{Clocked, Next, Slides, Ticks, Asks, Stuck, at, does, local_of}
+use Rattle.word.specs.Kinds.{Next, Slides, Ticks, Asks, Stuck, at, does, local_of}
 use Rattle.word.specs.Worlds.{moment, rules}
 use Rattle.word.proofs.Laws.{laws}
-use Rattle.world_core.specs.Cores.{HasLease, IsLentRow}
+use Rattle.world_core.specs.Cores.{IsLentRow}
 use Rattle.world_core.specs.Slots.{State, Rows, FitsRow, raised_row, waiting_clock}
 use Rattle.world_core.proofs.Leases.{core_fits_set, core_set}
-use Rattle.book.specs.Desks.{Desk, Held, IsDesk, IsLent, IsSight, KeepsLeases, Looks, Sighting, seen_desk}
+use Rattle.book.specs.Desks.{Desk, IsDesk, IsSight, KeepsLeases, Looks, Sighting, seen_desk}
 
 -- ---- clocks stay within the limit
 

@@ -1,6 +1,6 @@
 -- What settling comes to, after its looks.
-use Rattle.std.proofs.Common.{◌≡◌, ◌≢◌, ℕ, ◌+◌, ◌<◌, ◌≤◌, true, false, List, [], ◌∷◌, length, Option, Some, None, refl, sym, ap, ◌∙◌, subst, inl, inr, arith, get_or-set_same, get_or-set_other}
-use Rattle.std.specs.Prelude.{IfNone, IfSome, slice_index_or, slice_set, option_map}
+use Rattle.std.proofs.Common.{◌≡◌, ◌≢◌, ℕ, ◌+◌, ◌<◌, true, false, List, [], ◌∷◌, length, Option, Some, None, refl, sym, ap, ◌∙◌, subst, inl, inr, arith, get_or-set_same, get_or-set_other}
+use Rattle.std.specs.Prelude.{IfNone, IfSome, slice_index_or, option_map}
 use Rattle.std.specs.Option.{MatchOption, is_some}
 use Rattle.std.proofs.lemmas.Bool.{true≢false, cases_eq, cases_lt}
 use Rattle.std.proofs.lemmas.List.{get_or_past}
@@ -10,8 +10,8 @@ use Rattle.turn_rule.specs.declared.Row.{Row}
 use Rattle.turn_rule.specs.Schedule.{has_turn}
 use Rattle.world_core.specs.Cores.{HasLease, HasTurn}
 use Rattle.world_core.specs.Slots.{State, Rows, IsAwake, IsBefore, raised_row, waiting_clock}
-use Rattle.book.specs.Desks.{Desk, IsDesk, IsNobodyLent, IsSeen, IsSight, Looks, OnlyLooks, Sighting, StandsBefore, Waits, seen_desk}
-use Rattle.book.proofs.Books.{waits_free, waits_key}
+use Rattle.book.specs.Desks.{Desk, IsDesk, IsNobodyLent, IsSeen, IsSight, Looks, OnlyLooks, Sighting, Waits, seen_desk}
+use Rattle.book.proofs.Books.{waits_free}
 use Rattle.book.proofs.Looks.{looks_keep, raised_rows, seen_is_desk, still_there, was_there}
 use Rattle.book.proofs.Whole.{looks_ending, looks_least, looks_more, looks_none, turn_by, waits_by}
 

@@ -1,6 +1,6 @@
 -- Each call of a book keeps its words tied to its rows.
-use Rattle.std.proofs.Common.{◌≡◌, ◌≢◌, ℕ, zero, suc, ◌<◌, ◌≤◌, Bool, true, false, cond, List, [], ◌∷◌, length, Option, Some, None, refl, sym, ap, ◌∙◌, subst, inl, inr, arith, get_or-set_same, get_or-set_other}
-use Rattle.std.specs.Prelude.{slice_index_or, slice_set, replicate}
+use Rattle.std.proofs.Common.{◌≡◌, ◌≢◌, ℕ, zero, suc, ◌<◌, Bool, true, false, List, [], ◌∷◌, length, Option, Some, None, refl, sym, ap, ◌∙◌, subst, inl, inr, get_or-set_same, get_or-set_other}
+use Rattle.std.specs.Prelude.{slice_index_or, slice_set}
 use Rattle.std.specs.Option.{is_some}
 use Rattle.std.proofs.lemmas.Bool.{true≢false, cases_eq, cases_lt}
 use Rattle.std.proofs.lemmas.List.{get_or_past, set_past}
@@ -9,15 +9,14 @@ use Rattle.bytecode.specs.Machine.{code_begin, code_kind}
 use Rattle.clock_table.specs.declared.view.Loan.{Loan}
 use Rattle.clock_table.specs.declared.view.Row.{Row as Word}
 use Rattle.clock_table.specs.declared.view.Row.TheVariants.{Home, Lent, Back}
-use Rattle.clock_table.specs.Clocks.{IsFree, IsLentOn, WasLent, loan_for, looked, opening_rows, row as word_at}
-use Rattle.tracer.specs.Trace.{traceline}
+use Rattle.clock_table.specs.Clocks.{IsFree, IsLentOn, WasLent, loan_for, opening_rows, row as word_at}
 use Rattle.turn_rule.specs.declared.Row.{Row}
 use Rattle.word.specs.declared.request.Event.{Event as Recorded}
 use Rattle.word.specs.Kinds.{at}
 use Rattle.word.specs.Worlds.{rules}
-use Rattle.world_core.specs.Cores.{CoreValue, IsFreeIn, IsLentRow, opened_core}
+use Rattle.world_core.specs.Cores.{CoreValue, IsFreeIn, IsLentRow}
 use Rattle.world_core.specs.Slots.{State, Rows, free_row, lent_row}
-use Rattle.book.specs.Desks.{CommitsNext, Desk, Held, IsDesk, IsLent, IsSight, KeepsLeases, Sighting, brought, lent_desk, opened_desk, seen_desk}
+use Rattle.book.specs.Desks.{CommitsNext, Desk, Held, IsDesk, IsLent, KeepsLeases, Sighting, brought, lent_desk, opened_desk, seen_desk}
 use Rattle.book.specs.Slots.{IsOut, IsPlaced, IsTied, SamePlaces, place_of}
 use Rattle.book.proofs.Books.{commits_keeps}
 use Rattle.book.proofs.Lent.{performed_lent}

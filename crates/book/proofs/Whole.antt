@@ -1,6 +1,6 @@
 -- Each call of a book leaves it a book.
 use Rattle.std.proofs.Common.{◌≡◌, ℕ, ◌+◌, ◌<◌, ◌≤◌, ◌^◌, ◌⊎◌, Bool, true, false, cond, List, [], ◌∷◌, length, Option, Some, None, Result, Ok, Err, refl, sym, ap, ◌∙◌, subst, inl, inr}
-use Rattle.std.specs.Prelude.{IfNone, IfOk, IfSome, OnErr, slice_index_or, slice_set}
+use Rattle.std.specs.Prelude.{IfNone, IfOk, IfSome, OnErr, slice_set}
 use Rattle.std.specs.Option.{is_some}
 use Rattle.std.proofs.lemmas.List.{set-get_or, set-set}
 use Rattle.bytecode.specs.Code.{Code}
@@ -20,10 +20,10 @@ use Rattle.word.specs.Kinds.{asks}
 use Rattle.word.specs.Worlds.{rules}
 use Rattle.world_core.specs.Cores.{CoreValue, HasLease, HasTurn, IsFreeIn, Works}
 use Rattle.world_core.specs.Slots.{State, Rows, FitsRow, IsBefore, back_row, free_row, lent_row, waiting_clock}
-use Rattle.book.specs.Desks.{CommitsNext, Desk, Held, IsDesk, IsLent, IsNobodyLent, IsSeen, IsSight, KeepsLeases, Looks, OnlyLooks, Sighting, StandsBefore, Waits, back_core, brought, lent_desk, opened_desk, seen_desk}
-use Rattle.book.specs.Slots.{IsBook, IsPlaced, IsTied, SamePlaces, place_of}
-use Rattle.book.proofs.Books.{brought_by, brought_is_desk, lent_is_desk, opened_is_desk, output_taken, trace_taken, waits_free, waits_key}
-use Rattle.book.proofs.Looks.{IsKept, held_below, looks_keep, seen_is_desk, still_there}
+use Rattle.book.specs.Desks.{CommitsNext, Desk, Held, IsDesk, IsLent, IsSeen, IsSight, KeepsLeases, OnlyLooks, Sighting, Waits, back_core, brought, lent_desk, opened_desk, seen_desk}
+use Rattle.book.specs.Slots.{IsBook, IsPlaced, SamePlaces, place_of}
+use Rattle.book.proofs.Books.{brought_by, brought_is_desk, lent_is_desk, opened_is_desk, output_taken, trace_taken, waits_key}
+use Rattle.book.proofs.Looks.{looks_keep, seen_is_desk}
 use Rattle.book.proofs.Ties.{brought_tied, committed_tied, here_leases, here_tied, is_out, lent_tied, opened_tied, same_tied, seen_tied, taken_tied, was_on}
 
 -- ---- work without a lease

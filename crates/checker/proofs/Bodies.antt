@@ -1,22 +1,16 @@
 -- Where nothing is wrong with the parts of a file, nothing is wrong with it.
-use Rattle.std.proofs.Common.{◌≡◌, ℕ, ◌+◌, ◌≤◌, ◌⊎◌, true, false, inl, inr, List, [], ◌∷◌, sum_by, subst, sym, ap, ◌∙◌, arith}
+use Rattle.std.proofs.Common.{◌≡◌, ℕ, ◌+◌, ◌⊎◌, true, false, inl, inr, List, [], ◌∷◌, sum_by, subst, sym, ap, ◌∙◌, arith}
 use Rattle.std.proofs.lemmas.Bool.{false≢true}
 use Rattle.go_text.specs.declared.rule.Rule.{Rule}
 use Rattle.go_text.specs.declared.rule.LimitKind.{LimitKind}
-use Rattle.syntax.specs.Tree.{Statements, Struct, Function, Top, StructTop, FunctionTop, File}
+use Rattle.syntax.specs.Tree.{Statements, Function, Top, StructTop, FunctionTop, File}
 use Rattle.syntax.specs.Measures.{if_any, type_size, declared_size, statements_size, function_size, top_size}
-use Rattle.type_table.specs.declared.entry.StructEntry.{StructEntry}
-use Rattle.type_table.specs.Containment.{Structs}
-use Rattle.type_table.specs.Views.{names_of, structs_of}
 use Rattle.type_table.specs.Scopes.{Scope, Yield, Globals}
 use Rattle.typing_rules.specs.declared.flaw.Flaw.{Flaw}
 use Rattle.typing_rules.specs.declared.flaw.Flaw.TheVariants.{Broken, Exceeded}
-use Rattle.checker_base.specs.declared.refusal.Refusal.{Refusal}
-use Rattle.checker_base.specs.declared.refusal.Refusal.TheVariants.{Memory, Flawed}
-use Rattle.checker_base.specs.Views.{Refuses}
 use Rattle.typing_rules.specs.Statements.{Setting}
-use Rattle.typing_rules.specs.Kinds.{type_names, function_names, structs_with, structs, yield_of, globals_of, parameters}
-use Rattle.typing_rules.specs.Declarations.{is_type_taken, FieldsHave, StructHas, TopStructHas, StructsHave, ContentsHave, HeaderHas, TopHeaderHas, counting_function, HeadersHave, TypesHave, DeclarationsHave}
+use Rattle.typing_rules.specs.Kinds.{type_names, function_names, yield_of, globals_of, parameters}
+use Rattle.typing_rules.specs.Declarations.{counting_function, HeadersHave, DeclarationsHave}
 use Rattle.checker_declaration.specs.Heads.{HeadsHave}
 use Rattle.typing_rules.specs.Files.{BodyIn, BodyHas, BodiesHave, has_main, FileHas, IsTyped}
 

@@ -1,9 +1,8 @@
 -- The declared functions, by their numbers.
-use Rattle.std.proofs.Common.{◌≡◌, ℕ, refl, ap, List, map, Option, Some, None, option_map, ◌∙◌}
+use Rattle.std.proofs.Common.{◌≡◌, ℕ, ap, List, map, Option, option_map, ◌∙◌}
 use Rattle.std.proofs.lemmas.Option.{slice_get-map}
 use Rattle.std.specs.List.{slice_get}
 use Rattle.type_table.specs.declared.entry.FunctionEntry.{FunctionEntry}
-use Rattle.type_table.specs.Scopes.{Signature}
 use Rattle.typing_rules.specs.Operations.{parameters_in}
 use Rattle.type_table.specs.Views.{signature_of}
 

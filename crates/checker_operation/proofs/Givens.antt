@@ -1,5 +1,5 @@
 -- What an operation gives is what was made, and what values give, one behind the other.
-use Rattle.std.proofs.Common.{◌≡◌, ℕ, ◌+◌, ◌==◌, ◌&&◌, ◌++◌, ◌∷◌, [], refl, subst, map, List, Option, Some, append_assoc}
+use Rattle.std.proofs.Common.{◌≡◌, ℕ, ◌+◌, ◌==◌, ◌&&◌, ◌++◌, ◌∷◌, [], refl, subst, map, List, Some, append_assoc}
 use Rattle.std.proofs.lemmas.List.{map-append}
 use Rattle.syntax.specs.Tree.{Expression, Operation, RightOperation}
 use Rattle.syntax.specs.Measures.{expression_size, operation_size}

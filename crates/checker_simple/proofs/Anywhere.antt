@@ -1,12 +1,12 @@
 -- The types of what is given don't depend on where it stands.
-use Rattle.std.proofs.Common.{◌≡◌, ℕ, ◌+◌, ◌==◌, Bool, true, false, ◌&&◌, refl, ap, List, [], ◌∷◌, Option, Some}
+use Rattle.std.proofs.Common.{◌≡◌, ℕ, ◌+◌, ◌==◌, Bool, true, false, ◌&&◌, refl, List, [], ◌∷◌, Some}
 use Rattle.std.specs.Prelude.{if◌then◌else◌}
 use Rattle.syntax.specs.Tree.{Expression, Operation, Right, RightOperation, Values}
 use Rattle.syntax.specs.Measures.{expression_size}
 use Rattle.type_table.specs.Types.{BoolType}
 use Rattle.type_table.specs.Scopes.{Globals, Scope}
 use Rattle.typing_rules.specs.Operations.{Given, is_receive, operation_type, given_by, given_values, given}
-use Rattle.typing_rules.specs.Simples.{first_type, others, after_name, with_defined}
+use Rattle.typing_rules.specs.Simples.{first_type, after_name, with_defined}
 
 values-anywhere : (g : Globals) (s t : Scope) (names : List (List ℕ)) (m n : ℕ) (values : List Expression)
     → with_defined g t names (given_values g s m values) ≡ with_defined g t names (given_values g s n values)

@@ -1,5 +1,5 @@
 -- A value goes to a variable of a type, or to one that takes its type.
-use Rattle.std.proofs.Common.{◌≡◌, Bool, true, false, inl, inr, List, ◌∷◌, Option, Some, None}
+use Rattle.std.proofs.Common.{◌≡◌, true, false, inl, inr, List, ◌∷◌, Option, Some, None}
 use Rattle.std.specs.Option.{is_none}
 use Rattle.typing_rules.specs.declared.flaw.Flaw.{Flaw}
 use Rattle.type_table.specs.Types.{ValueType}

@@ -2,7 +2,7 @@
 use Rattle.std.proofs.Common.{◌≡◌, true, false, [], ◌∷◌, Some, None, codes, refl, inl, inr}
 use Rattle.go_text.specs.declared.rule.Rule.TheVariants as rules
 use Rattle.syntax.specs.declared.node.Direction.TheVariants as directions
-use Rattle.syntax.specs.Tree.{NamedType, Expression, Integer, Named, Values, Place, Simple, Define, Assign, Bare, First, NoTarget, DefineTarget, Forever, While, ForClauses, Range, CommReceive, CommDefine, Returned, NoValue, ReturnedValue, Statement, Empty, Alone, VarTyped, Block, If, For, Select, Return, Break, Continue, Statements, NoStatement, Then, Branch, Conditional, NoElse, ElseBlock, NoClause, Clause}
+use Rattle.syntax.specs.Tree.{NamedType, Expression, Integer, Named, Values, Place, Simple, Define, Assign, Bare, First, NoTarget, DefineTarget, Forever, While, ForClauses, Range, CommReceive, CommDefine, NoValue, ReturnedValue, Statement, Empty, Alone, VarTyped, Block, If, For, Select, Return, Break, Continue, Statements, NoStatement, Then, Conditional, NoElse, ElseBlock, NoClause, Clause}
 use Rattle.typing_rules.specs.declared.flaw.Flaw.{Flaw}
 use Rattle.typing_rules.specs.declared.flaw.Flaw.TheVariants.{Broken}
 use Rattle.type_table.specs.Types.{IntType, ChannelType}

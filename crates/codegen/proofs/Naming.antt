@@ -1,5 +1,5 @@
 -- The functions of the code are those of the file.
-use Rattle.std.proofs.Common.{◌≡◌, ℕ, ◌+◌, List, [], ◌∷◌, length, map, refl, ap, ◌∙◌, subst, sym}
+use Rattle.std.proofs.Common.{◌≡◌, ℕ, ◌+◌, List, [], ◌∷◌, length, map, refl, ap, subst, sym}
 use Rattle.syntax.specs.Tree.{File, Top, StructTop, FunctionTop}
 use Rattle.bytecode.specs.Code.{Code, Function as CodeFunction}
 use Rattle.plan.specs.Plan.{table_count}

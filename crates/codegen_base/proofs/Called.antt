@@ -12,7 +12,7 @@ use Rattle.typing_rules.specs.Expressions.{nodes_of, ValueHas, NumbersHave, Valu
 use Rattle.typing_rules.specs.Operations.{Callee, NotDeclared, NoFunction, IsFunction, function_of, is_other, callee, parameters_of, CalleeHas, CallHas}
 use Rattle.meaning.specs.Values.{known}
 use Rattle.meaning.specs.Destinations.{number_of}
-use Rattle.codegen_base.proofs.Typing.{Free, FieldsKnown, fits, broken, nodes_end, worth_there}
+use Rattle.codegen_base.proofs.Typing.{Free, FieldsKnown, VariablesKnown, fits, broken, nodes_end, worth_there}
 use Rattle.codegen_base.proofs.Passed.{AllFit}
 
 -- the types of places are known
@@ -26,14 +26,14 @@ same_count a b end le free = go (a == b) refl where
   go true e = grind (arith, nat_tests, e)
   go false e = let x = broken rules.Numbers end le in absurd (free x.0 (e, x.1))
 
-module _ (globals : Globals) (s : Scope) (known-fields : FieldsKnown globals s) where
+module _ (globals : Globals) (s : Scope) (known-fields : FieldsKnown globals s) (known-variables : VariablesKnown s) where
   -- values that fit places of types which are known
   pub all_fit : (es : List Expression) (kinds : List (Option ValueType)) (first : ℕ) → KindsKnown kinds → length es ≡ length kinds → Free (ExpressionsHave globals s first (expressions es)) → Free (ValuesFail globals s first es kinds) → AllFit globals s es (map known kinds)
   all_fit [] [] first k many free fail = tt
   all_fit [] (kind ∷ kinds) first k many free fail = absurd cc
   all_fit (e ∷ es) [] first k many free fail = absurd cc
   all_fit (e ∷ es) (kind ∷ kinds) first k many free fail =
-      let w = worth_there globals s known-fields e first (λ flaw h. free flaw (inl h)) in
+      let w = worth_there globals s known-fields known-variables e first (λ flaw h. free flaw (inl h)) in
       let fit = fits w.0 (known kind) (nodes_of first e) (nodes_end first e)
       (λ flaw h. fail flaw (inl (subst (λ o. ValueHas (worth globals s e) o (nodes_of first e) flaw) (sym k.0) (subst (λ o. ValueHas o (Some (known kind)) (nodes_of first e) flaw) (sym w.1) h)))) in
       let rest : suc (length es) ≡ suc (length kinds) = many in

@@ -39,7 +39,7 @@ use Rattle.plan.specs.Plan.{Plan, Do}
 use Rattle.plan.proofs.Words.{Words}
 use Rattle.codegen_base.proofs.Alike.{Alike, worth_alike}
 use Rattle.codegen_base.proofs.Seen.{Like}
-use Rattle.codegen_base.proofs.Static.{IsPlaced}
+use Rattle.codegen_base.proofs.Static.{IsPlaced, variables_known}
 use Rattle.codegen_base.proofs.Likeness.{is_int, is_bool, like_append, zeros_like, kinds_zeros}
 use Rattle.codegen_base.proofs.Fields.{AllWide, AllTyped, fields_zeros, struct_zeros}
 use Rattle.codegen_base.proofs.Typing.{Free, FieldsKnown, Fits, fits, broken, nodes_end, worth_there, selects, unary_made, binary_made, literal_there}
@@ -138,7 +138,7 @@ module _ (globals : Globals) (elements : List Element) (all : AllWide globals.st
         Whole first e = Free (ExpressionHas globals s first e)
 
         worth_here : (e : Expression) (first : ℕ) → Whole first e → (w : Worth) × (worth globals s e ≡ Some w) × (worth globals scope e ≡ Some w)
-        worth_here e first free = let w = worth_there globals s known-fields e first free in (w.0, w.1, sym (checked e) ∙ w.1)
+        worth_here e first free = let w = worth_there globals s known-fields (variables_known s scope alike placed.known) e first free in (w.0, w.1, sym (checked e) ∙ w.1)
 
         value_fits : (v : Expression) (first : ℕ) (w : Worth) (kind : ValueType) (rest : List Expression) (o : Option ValueType) (kinds : List (Option ValueType)) → worth globals s v ≡ Some w → o ≡ Some kind → Free (ValuesFail globals s first (v ∷ rest) (o ∷ kinds)) → Fits w kind
         value_fits v first w kind rest o kinds is has free =

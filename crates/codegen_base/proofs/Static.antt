@@ -1,13 +1,16 @@
 -- What the typing rules see of the variables of a run is what they see of the layout's.
-use Rattle.std.proofs.Common.{◌≡◌, ℕ, zero, suc, ◌≤◌, List, [], ◌∷◌, ◌++◌, length, take, drop, map, Option, Some, None, refl, sym, ap, ◌∙◌, arith, append_assoc, length-take, bytes_eq, Bool, true, false}
+use Rattle.std.proofs.Common.{◌≡◌, ℕ, zero, suc, ◌≤◌, List, [], ◌∷◌, ◌++◌, length, take, drop, map, Option, Some, None, refl, sym, ap, ◌∙◌, arith, append_assoc, length-take, bytes_eq, Bool, true, false, subst}
 use Rattle.std.specs.Prelude.{if◌then◌else◌}
 use Rattle.std.proofs.lemmas.List.{append-nil, length-map}
+use Rattle.std.proofs.lemmas.Option.{same_Some}
+use Rattle.type_table.specs.Types.{ValueType}
 use Rattle.type_table.specs.Containment.{Structs}
-use Rattle.type_table.specs.Scopes.{Variable, Scope, later, last_named}
+use Rattle.type_table.specs.Scopes.{Variable, Scope, is_blank, later, last_named, variable_named}
 use Rattle.meaning.specs.Values.{known}
 use Rattle.meaning.specs.Variables.{Block, variable_of, block_variables, variables_in, scope_in}
 use Rattle.plan.proofs.Words.{Words}
-use Rattle.codegen_base.proofs.Alike.{kind_if, Alike}
+use Rattle.codegen_base.proofs.Alike.{kind_if, Alike, variable_alike}
+use Rattle.codegen_base.proofs.Typing.{VariablesKnown}
 use Rattle.codegen_base.proofs.Seen.{seen_one, seen_block, seen, Rising}
 
 -- the type of each variable is known
@@ -23,6 +26,27 @@ pub known_take : (n : ℕ) (vs : List Variable) → AllKnown vs → AllKnown (ta
 known_take zero vs k = tt
 known_take (suc n) [] k = tt
 known_take (suc n) (v ∷ vs) k = (k.0, known_take n vs k.1)
+
+known_found : (vs : List Variable) (name : List ℕ) (v : Variable) → AllKnown vs → last_named vs name ≡ Some v → v.kind ≡ Some (known v.kind)
+known_found [] name v k e = absurd cc
+known_found (w ∷ vs) name v k e = go (last_named vs name) (bytes_eq w.name name) refl e (λ x. known_found vs name v k.1 x) where
+  go : (o : Option Variable) (t : Bool) → last_named vs name ≡ o → later (if t then Some w else None) o ≡ Some v → (last_named vs name ≡ Some v → v.kind ≡ Some (known v.kind)) → v.kind ≡ Some (known v.kind)
+  go (Some x) t is e more = more (is ∙ e)
+  go None true is e more = subst (λ (x : Variable). x.kind ≡ Some (known x.kind)) (same_Some w v e) k.0
+  go None false is e more = absurd cc
+
+-- so it is too in a scope that only `_` tells apart from one whose variables have types
+pub variables_known : (s scope : Scope) → Alike s scope → AllKnown scope.variables → VariablesKnown s
+variables_known s scope alike all name v found = go (variable_named scope name) refl (ap kind_if (sym found) ∙ variable_alike s scope alike name) where
+  unblanked : (w : Variable) → variable_named scope name ≡ Some w → last_named scope.variables name ≡ Some w
+  unblanked w e = blank (is_blank name) e where
+    blank : (b : Bool) → (if b then None else last_named scope.variables name) ≡ Some w → last_named scope.variables name ≡ Some w
+    blank true e = absurd cc
+    blank false e = e
+
+  go : (o : Option Variable) → variable_named scope name ≡ o → Some v.kind ≡ kind_if (variable_named scope name) → (t : ValueType) × (v.kind ≡ Some t)
+  go None is e = let f : Some v.kind ≡ None = e ∙ ap kind_if is in absurd cc
+  go (Some w) is e = (known w.kind, same_Some v.kind w.kind (e ∙ ap kind_if is) ∙ known_found scope.variables name w all (unblanked w is))
 
 -- where the innermost block begins, and the blocks round it
 abbrev pub innermost_begins : List ℕ → ℕ

@@ -1,6 +1,7 @@
 -- What is so of expressions in which nothing is wrong.
 use Rattle.std.proofs.Common.{◌≡◌, ℕ, ℤ, ◌+◌, ◌-◌, ◌≤◌, inl, inr, Bool, true, false, not, ◌&&◌, List, Option, Some, None, option_map, Result, Ok, Err, refl, sym, ap, ◌∙◌, subst, arith}
-use Rattle.std.specs.Prelude.{option_and_then}
+use Rattle.std.specs.Option.{is_some}
+use Rattle.std.specs.Prelude.{◌||◌, if◌then◌else◌, option_and_then}
 use Rattle.std.specs.Result.{result_ok}
 use Rattle.go_text.specs.declared.rule.Rule.{Rule}
 use Rattle.go_text.specs.declared.rule.Rule.TheVariants as rules
@@ -12,13 +13,13 @@ use Rattle.syntax.specs.Tree.{Expression, Integer, Named, Parenthesized, Selecti
 use Rattle.syntax.specs.Measures.{expression_size}
 use Rattle.type_table.specs.Types.{ValueType, IntType, BoolType, StructType, ChannelType, is_int_type, is_channel_type, assignable}
 use Rattle.type_table.specs.Containment.{Selected, field_of}
-use Rattle.type_table.specs.Scopes.{Globals, Scope}
+use Rattle.type_table.specs.Scopes.{Globals, Scope, Variable, is_truth, is_nil, variable_named}
 use Rattle.typing_rules.specs.declared.flaw.Flaw.{Flaw}
 use Rattle.typing_rules.specs.declared.flaw.Flaw.TheVariants.{Broken, Exceeded}
 use Rattle.typing_rules.specs.declared.flaw.Misuse.{Misuse}
 use Rattle.typing_rules.specs.declared.flaw.Misuse.TheVariants as misuses
 use Rattle.typing_rules.specs.Flaws.{Nodes, IsBroken, IsExceeded, IsMisuse}
-use Rattle.typing_rules.specs.Worths.{Worth, Typed, Constant, Nil, is_int, literal, unary_worth, binary_worth, named_worth, selected_worth, type_of_field, literal_struct, worth}
+use Rattle.typing_rules.specs.Worths.{Worth, Typed, Constant, Nil, kind_of, is_operand, is_int, literal, unary_worth, binary_worth, named_worth, selected_worth, type_of_field, literal_struct, worth}
 use Rattle.typing_rules.specs.Expressions.{nodes_of, FitHas, Fails, UnaryHas, BinaryHas, SelectionHas, LiteralHas, ExpressionHas}
 use Rattle.typing_rules.proofs.ExpressionNodes.{expression_positive}
 
@@ -82,14 +83,28 @@ fits (Constant z) t nodes le free =
     (int_type t i, not_false (is_int z) (λ e. free c.0 (inr (ap (λ x. x && not (is_int z)) i ∙ ap not e, c.1))))
 fits Nil t nodes le free = let b = broken rules.Nil (nodes.first + 1) (omega arith) in not_false (is_channel_type t) (λ e. free b.0 (e, b.1))
 
+-- the variables that are visible have types
+abbrev pub VariablesKnown : Scope → Type 0
+VariablesKnown s = (name : List ℕ) (v : Variable) → variable_named s name ≡ Some v → (t : ValueType) × (v.kind ≡ Some t)
+
+-- a name that may be an operand is worth something where its variable has a type
+worth_named : (t n : Bool) (o : Option Variable) → ((v : Variable) → o ≡ Some v → (k : ValueType) × (v.kind ≡ Some k)) → (t || n || is_some o) ≡ true
+    → (w : Worth) × ((if t then Some (Typed BoolType) else (if n then Some Nil else option_map Typed (kind_of o))) ≡ Some w)
+worth_named true n o known e = (Typed BoolType, refl)
+worth_named false true o known e = (Nil, refl)
+worth_named false false None known e = absurd cc
+worth_named false false (Some v) known e = let k = known v refl in (Typed k.0, ap (option_map Typed) k.1)
+
 module _ (globals : Globals) (s : Scope) where
   -- ---- one level of each form
 
   pub integer_there : (first : ℕ) (v : Option ℕ) → Free (ExpressionHas globals s first (Integer v)) → (z : ℤ) × (literal v ≡ Some z)
   integer_there first v free = let b = exceeded limits.ConstantSize (first + 1) (omega arith) in is_there (literal v) (λ e. free b.0 (e, b.1))
 
-  pub named_there : (first : ℕ) (name : List ℕ) → Free (ExpressionHas globals s first (Named name)) → (w : Worth) × (named_worth s name ≡ Some w)
-  named_there first name free = let b = broken rules.Visible (first + 1) (omega arith) in is_there (named_worth s name) (λ e. free b.0 (e, b.1))
+  pub named_there : VariablesKnown s → (first : ℕ) (name : List ℕ) → Free (ExpressionHas globals s first (Named name)) → (w : Worth) × (named_worth s name ≡ Some w)
+  named_there known first name free =
+      let b = broken rules.Visible (first + 1) (omega arith) in
+      worth_named (is_truth name) (is_nil name) (variable_named s name) (known name) (not_false (is_operand s name) (λ e. free b.0 (e, b.1)))
 
   -- a selection is of a value with such a field
   pub record Selects (whole : Expression) (field : List ℕ) : Type 0 where
@@ -136,24 +151,24 @@ module _ (globals : Globals) (s : Scope) where
   abbrev pub FieldsKnown : Type 0
   FieldsKnown = (kind : ValueType) (name : List ℕ) (at : Selected) → field_of globals.structs kind name ≡ Some at → (t : ValueType) × (at.kind ≡ Some t)
 
-  pub worth_there : FieldsKnown → (e : Expression) (first : ℕ) → Free (ExpressionHas globals s first e) → (w : Worth) × (worth globals s e ≡ Some w)
-  worth_there known (Integer v) first free = let z = integer_there first v free in (Constant z.0, ap (option_map Constant) z.1)
-  worth_there known (Named name) first free = named_there first name free
-  worth_there known (Parenthesized inner) first free = worth_there known inner first free
-  worth_there known (Selection whole field) first free =
-      let w = worth_there known whole first (λ flaw h. free flaw (inl h)) in
+  pub worth_there : FieldsKnown → VariablesKnown s → (e : Expression) (first : ℕ) → Free (ExpressionHas globals s first e) → (w : Worth) × (worth globals s e ≡ Some w)
+  worth_there known variables (Integer v) first free = let z = integer_there first v free in (Constant z.0, ap (option_map Constant) z.1)
+  worth_there known variables (Named name) first free = named_there variables first name free
+  worth_there known variables (Parenthesized inner) first free = worth_there known variables inner first free
+  worth_there known variables (Selection whole field) first free =
+      let w = worth_there known variables whole first (λ flaw h. free flaw (inl h)) in
       let x = selects first whole field w.0 w.1 free in
       let t = known x.kind field x.at x.found in
       (Typed t.0, ap (option_and_then (selected_worth globals field)) x.of ∙ ap (λ o. option_map Typed (type_of_field o)) x.found ∙ ap (option_map Typed) t.1)
-  worth_there known (Composite name values trailing) first free =
+  worth_there known variables (Composite name values trailing) first free =
       let n = literal_there first name values trailing free in (Typed (StructType n.0), ap (option_map (λ n. Typed (StructType n))) n.1)
-  worth_there known (Unary operator e) first free =
-      let a = worth_there known e first (λ flaw h. free flaw (inl h)) in
+  worth_there known variables (Unary operator e) first free =
+      let a = worth_there known variables e first (λ flaw h. free flaw (inl h)) in
       let w = unary_made first operator e a.0 a.1 free in
       (w.0, ap (option_and_then (λ x. result_ok (unary_worth operator x))) a.1 ∙ ap result_ok w.1)
-  worth_there known (Binary operator l r) first free =
-      let a = worth_there known l first (λ flaw h. free flaw (inl h)) in
-      let b = worth_there known r (first + expression_size l) (λ flaw h. free flaw (inr (inl h))) in
+  worth_there known variables (Binary operator l r) first free =
+      let a = worth_there known variables l first (λ flaw h. free flaw (inl h)) in
+      let b = worth_there known variables r (first + expression_size l) (λ flaw h. free flaw (inr (inl h))) in
       let w = binary_made first operator l r a.0 b.0 a.1 b.1 free in (
         w.0,
         ap (option_and_then (λ x. option_and_then (λ y. result_ok (binary_worth operator x y)) (worth globals s r))) a.1

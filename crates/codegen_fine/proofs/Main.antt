@@ -11,7 +11,7 @@ use Rattle.std.proofs.lemmas.Bool.Decides.{nat_tests}
 use Rattle.std.proofs.lemmas.Slice.Eq.{bytes_eq-Decides}
 use Rattle.go_text.specs.declared.rule.Rule.TheVariants as rules
 use Rattle.syntax.specs.Tree.{Top, StructTop, FunctionTop, File}
-use Rattle.syntax.specs.Measures.{Entries, SelectClauses, longest, most_entries, most_clauses, size as file_size}
+use Rattle.syntax.specs.Measures.{Entries, SelectClauses, longest, size as file_size}
 use Rattle.bytecode.specs.Code.{Function as CodeFunction}
 use Rattle.bytecode.specs.Rules.{HasMain, HasShapes, IsFew, IsShort, IsVerified}
 use Rattle.type_table.specs.Containment.{Field}

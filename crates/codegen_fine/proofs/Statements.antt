@@ -18,7 +18,7 @@ use Rattle.codegen_base.specs.declared.element.Element.{Element}
 use Rattle.codegen_base.specs.Layouts.{Layout}
 use Rattle.codegen_base.specs.Program.{noting, noting_given, noting_first, noting_statement, noting_statements, noting_branch, noting_otherwise, noting_clauses}
 use Rattle.codegen_base.specs.Generated.{Site, Made, at, past, made_of, followed, ended, inside, loop, test_plan, made_any, made_post, made_else, item_site, with_way, comm_kinds, made_comm, made_select, made_ways, made_default, within_select, unless_ended, made, made_all, made_branch, made_otherwise}
-use Rattle.codegen_base.specs.Grammar.{PostsStill, PostsAll, PostsBranch, PostsOtherwise, PostsClauses, StillAny}
+use Rattle.codegen_base.specs.Grammar.{PostsStill, PostsAll, PostsBranch, PostsOtherwise, PostsClauses}
 use Rattle.codegen_base.proofs.Alike.{Alike, alike_entered, alike_left, type_alike}
 use Rattle.codegen_base.proofs.Noted.{Noted, Grows, grows_on}
 use Rattle.codegen_base.proofs.Typing.{Free, broken, not_false}

@@ -15,7 +15,7 @@ use Rattle.codegen_expression.specs.Emission.{Puts}
 use Rattle.codegen_expression.proofs.Emitting.{puts_alone, puts_both, puts_do}
 use Rattle.codegen_simple.specs.Simples.{Appends}
 use Rattle.codegen_header.specs.Received.{unwanted}
-use Rattle.plan.specs.Plan.{Plan, Do, Skip}
+use Rattle.plan.specs.Plan.{Do, Skip}
 
 pub some_mapped : {A B : Type 0} (f : A → B) (o : Option A) → is_some o ≡ is_some (option_map f o)
 some_mapped f None = refl

@@ -1,5 +1,5 @@
 -- The recording of code is that of the source which it is compiled from.
-use Rattle.std.proofs.Common.{◌≡◌, ℕ, List, Option, Some, None, IfSome, Result, Ok, Err, IfOk, length, map, take, sym, ap, ◌∙◌, subst}
+use Rattle.std.proofs.Common.{◌≡◌, ℕ, List, Option, Some, None, IfSome, Result, Ok, Err, IfOk, length, map, take, sym, ◌∙◌, subst}
 use Rattle.bytecode.specs.Code.{Code}
 use Rattle.bytecode.specs.Machine.{code_kind}
 use Rattle.recorder.specs.Recorded.{AreAll, AreFirst}

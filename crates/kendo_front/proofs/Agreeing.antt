@@ -9,7 +9,7 @@ use Rattle.turn_rule.proofs.Stable.{run_add}
 use Rattle.word.specs.Kinds.{Clocked, GoroutineKind}
 use Rattle.word.specs.declared.end.End.{End as Ending}
 use Rattle.word.specs.declared.end.End.TheVariants.{Deadlock}
-use Rattle.word.specs.Worlds.{Rest, rules, opening, moment, is_deserted, end_by, end_of}
+use Rattle.word.specs.Worlds.{Rest, rules, opening, moment, is_deserted, end_of}
 use Rattle.word.proofs.Laws.{laws}
 use Rattle.meaning.specs.Source.{source_kind}
 use Rattle.parser.proofs.FileLaws.{one_file}

@@ -1,6 +1,6 @@
 -- Heights, numbers of nodes, and lengths of lists.
-use Rattle.std.specs.Prelude.{ℕ, suc, ◌+◌, Bool, Option, Some, None, List, [], ◌∷◌, length, max, sum_by}
-use Rattle.syntax.specs.Tree.{TypeExpression, NamedType, ParenthesizedType, Channel, Expression, Integer, Named, Parenthesized, Selection, Composite, Unary, Binary, Expressions, NoMore, Behind, Arguments, Operation, Call, Receive, Make, Length, Capacity, Right, RightOperation, Values, Place, Part, Value, Text, Simple, CallAlone, Close, Print, ReceiveAlone, Send, Increment, Decrement, Assign, Define, Update, IfHead, Bare, Semicolon, First, Target, NoTarget, DefineTarget, AssignTarget, ForHead, Forever, While, ForClauses, Range, Comm, CommSend, CommReceive, CommDefine, CommAssign, Returned, NoValue, ReturnedOperation, ReturnedValue, Statement, Empty, Alone, VarTyped, VarUntyped, Block, If, For, Select, Go, Return, Break, Continue, Statements, NoStatement, Then, Otherwise, Branch, Conditional, NoElse, ElseBlock, ElseIf, Clauses, NoClause, Clause, Declared, Struct, Function, Top, StructTop, FunctionTop, File}
+use Rattle.std.specs.Prelude.{ℕ, suc, ◌+◌, Option, Some, None, List, [], ◌∷◌, length, max, sum_by}
+use Rattle.syntax.specs.Tree.{TypeExpression, NamedType, ParenthesizedType, Channel, Expression, Integer, Named, Parenthesized, Selection, Composite, Unary, Binary, Expressions, NoMore, Behind, Arguments, Operation, Call, Receive, Make, Length, Capacity, Right, RightOperation, Values, Part, Value, Text, Simple, CallAlone, Close, Print, ReceiveAlone, Send, Increment, Decrement, Assign, Define, Update, IfHead, Bare, Semicolon, First, Target, NoTarget, DefineTarget, AssignTarget, ForHead, Forever, While, ForClauses, Range, Comm, CommSend, CommReceive, CommDefine, CommAssign, Returned, NoValue, ReturnedOperation, ReturnedValue, Statement, Empty, Alone, VarTyped, VarUntyped, Block, If, For, Select, Go, Return, Break, Continue, Statements, NoStatement, Then, Otherwise, Branch, Conditional, NoElse, ElseBlock, ElseIf, Clauses, NoClause, Clause, Declared, Function, Top, StructTop, FunctionTop, File}
 
 -- the highest of these
 abbrev pub highest : {A : Type 0} → (A → ℕ) → List A → ℕ

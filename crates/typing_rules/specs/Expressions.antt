@@ -12,7 +12,7 @@ use Rattle.typing_rules.specs.Flaws.{Nodes, IsBroken, IsExceeded, IsNilAt, IsMis
 use Rattle.type_table.specs.Types.{ValueType, IntType, BoolType, StructType, ChannelType, is_int_type, is_bool_type, is_channel_type, assignable, element_type, only_receives, only_sends}
 use Rattle.type_table.specs.Containment.{Field, fields_of, field_of}
 use Rattle.type_table.specs.Scopes.{Globals, Scope}
-use Rattle.typing_rules.specs.Worths.{Worth, Typed, Constant, Nil, is_int, literal, unary_worth, binary_worth, named_worth, literal_struct, worth}
+use Rattle.typing_rules.specs.Worths.{Worth, Typed, Constant, Nil, is_int, literal, unary_worth, binary_worth, is_operand, literal_struct, worth}
 
 -- the nodes of an expression, by how many there are before it
 abbrev pub nodes_of : ℕ → Expression → Nodes
@@ -99,7 +99,7 @@ LiteralHas globals scope (Some number) first values end flaw =
 abbrev mutual
   pub ExpressionHas : Globals → Scope → ℕ → Expression → Flaw → Type 0
   ExpressionHas globals scope first (Integer value) flaw = (literal value ≡ None) × IsExceeded limits.ConstantSize (first + 1) flaw
-  ExpressionHas globals scope first (Named name) flaw = (named_worth scope name ≡ None) × IsBroken rules.Visible (first + 1) flaw
+  ExpressionHas globals scope first (Named name) flaw = (is_operand scope name ≡ false) × IsBroken rules.Visible (first + 1) flaw
   ExpressionHas globals scope first (Parenthesized inner) flaw = ExpressionHas globals scope first inner flaw
   ExpressionHas globals scope first (Selection whole field) flaw =
       ExpressionHas globals scope first whole flaw

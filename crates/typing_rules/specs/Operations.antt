@@ -1,8 +1,8 @@
 -- What is wrong with the right side of an assignment, and with the places on its left.
-use Rattle.std.specs.Prelude.{◌≡◌, ℕ, ◌+◌, ◌==◌, ◌⊎◌, Bool, true, false, not, ◌&&◌, ◌||◌, if◌then◌else◌, List, [], ◌∷◌, Option, Some, None, option_map, option_and_then, slice_get, bytes_eq, codes, ℤ}
+use Rattle.std.specs.Prelude.{◌≡◌, ℕ, ◌+◌, ◌==◌, ◌⊎◌, Bool, true, false, not, ◌&&◌, ◌||◌, if◌then◌else◌, List, [], ◌∷◌, Option, Some, None, option_map, option_and_then, slice_get, bytes_eq, codes}
 use Rattle.std.specs.Option.{is_some, is_none}
 use Rattle.go_text.specs.declared.rule.Rule.TheVariants as rules
-use Rattle.syntax.specs.Tree.{TypeExpression, Expression, expressions, Arguments, Operation, Call, Receive, Make, Length, Capacity, Right, RightOperation, Values, Place}
+use Rattle.syntax.specs.Tree.{Expression, expressions, Arguments, Operation, Call, Receive, Make, Length, Capacity, Right, RightOperation, Values, Place}
 use Rattle.syntax.specs.Measures.{type_size, expression_size, arguments_size, operation_size}
 use Rattle.typing_rules.specs.declared.flaw.Flaw.{Flaw}
 use Rattle.typing_rules.specs.Flaws.{Nodes, IsBroken, IsNilAt}

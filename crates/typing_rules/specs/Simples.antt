@@ -1,22 +1,21 @@
 -- What is wrong with a simple statement or a declaration, and which variables are visible behind it.
-use Rattle.std.specs.Prelude.{◌≡◌, ℕ, ◌+◌, ◌⊎◌, Bool, true, false, not, ◌&&◌, ◌||◌, if◌then◌else◌, List, [], ◌∷◌, Option, Some, None, Result, option_map, bytes_eq, pos, ℤ, length}
+use Rattle.std.specs.Prelude.{◌≡◌, ℕ, ◌+◌, ◌⊎◌, Bool, true, false, not, ◌&&◌, ◌||◌, if◌then◌else◌, List, [], ◌∷◌, Option, Some, None, Result, bytes_eq, pos, length}
 use Rattle.std.specs.Result.{result_ok}
 use Rattle.std.specs.Option.{is_some, is_none}
 use Rattle.std.specs.List.{list_any}
 use Rattle.go_text.specs.declared.rule.Rule.TheVariants as rules
 use Rattle.syntax.specs.declared.node.BinaryOperator.{BinaryOperator}
 use Rattle.syntax.specs.declared.node.BinaryOperator.TheVariants as ops
-use Rattle.syntax.specs.Tree.{TypeExpression, Expression, Arguments, Operation, Receive, Right, RightOperation, Place, Part, Value, Text, Simple, CallAlone, Close, Print, ReceiveAlone, Send, Increment, Decrement, Assign, Define, Update, Comm, CommSend, CommReceive, CommDefine, CommAssign}
+use Rattle.syntax.specs.Tree.{TypeExpression, Receive, Right, RightOperation, Place, Part, Value, Text, Simple, CallAlone, Close, Print, ReceiveAlone, Send, Increment, Decrement, Assign, Define, Update, Comm, CommSend, CommReceive, CommDefine, CommAssign}
 use Rattle.syntax.specs.Measures.{if_any, type_size, expression_size, right_size, part_size, simple_size}
 use Rattle.typing_rules.specs.declared.flaw.Flaw.{Flaw}
 use Rattle.typing_rules.specs.declared.flaw.Misuse.{Misuse}
-use Rattle.typing_rules.specs.Flaws.{Nodes, IsBroken, IsNilAt}
-use Rattle.type_table.specs.Types.{ValueType, IntType, BoolType, ChannelType, StructType}
-use Rattle.type_table.specs.Containment.{Structs}
+use Rattle.typing_rules.specs.Flaws.{Nodes, IsBroken}
+use Rattle.type_table.specs.Types.{ValueType}
 use Rattle.type_table.specs.Scopes.{Scope, Globals, is_blank, is_reserved, own_variable, declared, declared_unless_blank, type_in}
-use Rattle.typing_rules.specs.Worths.{Worth, Typed, Constant, Nil, is_int, binary_worth, kind_of, worth}
+use Rattle.typing_rules.specs.Worths.{Worth, Typed, Constant, binary_worth, kind_of, worth}
 use Rattle.typing_rules.specs.Expressions.{nodes_of, ValueHas, Fails, NumbersHave, ExpressionHas, element_of, ChannelHas, SentHas, PrintedHas, default_type}
-use Rattle.typing_rules.specs.Operations.{and_also, TypeHas, CallHas, ReceiveHas, MeasuredHas, Given, given, RightHas, PlaceHas, ReadPlaceHas, place_type, GoesHas, PlacesFail, PlacesHave}
+use Rattle.typing_rules.specs.Operations.{and_also, TypeHas, CallHas, ReceiveHas, MeasuredHas, Given, given, RightHas, ReadPlaceHas, place_type, GoesHas, PlacesFail, PlacesHave}
 
 -- ---- what is printed
 

@@ -177,6 +177,10 @@ kind_of None = None
 kind_of (Some variable) = variable.kind
 
 -- a name as an operand is a truth value, `nil`, or a variable
+abbrev pub is_operand : Scope → List ℕ → Bool
+is_operand scope name = is_truth name || is_nil name || is_some (variable_named scope name)
+
+-- none where its variable has no type
 abbrev pub named_worth : Scope → List ℕ → Option Worth
 named_worth scope name =
     if is_truth name then Some (Typed BoolType)
@@ -194,7 +198,7 @@ selected_worth globals field worth = None
 abbrev pub literal_struct : Globals → Scope → List ℕ → Option ℕ
 literal_struct globals scope name = if is_some (variable_named scope name) then None else number_of globals.types name
 
--- none where it, or an operand of it, has a flaw
+-- none where it, or an operand of it, has a flaw, or a variable of it has no type
 abbrev pub worth : Globals → Scope → Expression → Option Worth
 worth globals scope (Integer value) = option_map Constant (literal value)
 worth globals scope (Named name) = named_worth scope name

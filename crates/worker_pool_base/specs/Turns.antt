@@ -1,5 +1,5 @@
 -- What a turn at the book comes to.
-use Rattle.std.specs.Prelude.{◌≡◌, ℕ, Bool, false, true, [], List, ◌∷◌, Option, None, Some}
+use Rattle.std.specs.Prelude.{◌≡◌, ℕ, Bool, false, true, [], List, ◌∷◌, Option, Some}
 use Rattle.std.specs.Option.{MatchOption}
 use Rattle.book.specs.Desks.{Desk, Held, IsLent, OnlyLooks, Settles, lent_desk}
 use Rattle.book.specs.declared.settled.Settled.{Settled}

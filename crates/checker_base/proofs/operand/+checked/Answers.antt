@@ -1,4 +1,4 @@
-use Rattle.std.proofs.Common.{rules, arith, ◌≡◌, ◌∙◌, [], true, false, refl, sym, ◌∷◌, ◌+◌, suc, inl, inr, Some, drop, map, slice_get, length, option_copied, drop-cons}
+use Rattle.std.proofs.Common.{rules, arith, ◌≡◌, ◌∙◌, [], refl, sym, ◌∷◌, ◌+◌, suc, inl, inr, Some, drop, map, slice_get, length, option_copied, drop-cons}
 use Rattle.std.proofs.lemmas.List.{drop_all, length-map}
 use Rattle.std.proofs.lemmas.Result.{err_from_is_err_and, IfOk-weaker}
 use Rattle.syntax.specs.declared.node.ExpressionNode.TheFolds.{the_lemmas}

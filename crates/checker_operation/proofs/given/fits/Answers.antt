@@ -1,5 +1,4 @@
-use Rattle.std.proofs.Common.{rules, ◌≡◌, refl, ap, sym, ◌∙◌, false, Option, Some, option_map}
-use Rattle.type_table.specs.Types.{ValueType}
+use Rattle.std.proofs.Common.{refl, ap, sym, ◌∙◌, false, Some, option_map}
 use Rattle.type_table.specs.Views.{kind_of}
 use Rattle.type_table.specs.Visible.{types_of}
 use Rattle.checker_operation.specs.Givens.{given_of}

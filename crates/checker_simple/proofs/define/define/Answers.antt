@@ -1,8 +1,8 @@
 use Rattle.std.proofs.Common.{rules, ◌≡◌, ◌+◌, sym, refl, arith, length}
 use Rattle.syntax.specs.Measures.{right_size}
-use Rattle.type_table.specs.Visible.{types_of, globals_in, scope_of}
+use Rattle.type_table.specs.Visible.{globals_in, scope_of}
 use Rattle.typing_rules.specs.Operations.{given}
-use Rattle.checker_operation.specs.Givens.{given_of, source_of}
+use Rattle.checker_operation.specs.Givens.{source_of}
 use Rattle.checker_simple.specs.Names.{names_at, names_in}
 use Rattle.checker_simple.proofs.Wholes.{define-none, define-one, defined-after, names-count}
 use Rattle.checker_simple.proofs.define.define.Goals as goal

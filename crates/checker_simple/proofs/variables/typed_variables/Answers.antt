@@ -1,4 +1,4 @@
-use Rattle.std.proofs.Common.{◌≡◌, ◌+◌, sym, refl, ap, arith, length, map, Some, option_map}
+use Rattle.std.proofs.Common.{◌≡◌, ◌+◌, sym, refl, arith, length, map, Some, option_map}
 use Rattle.std.proofs.lemmas.List.{length-map}
 use Rattle.syntax.specs.Measures.{if_any, type_size, right_size}
 use Rattle.syntax.specs.View.{name_of, type_of, right_of}

@@ -1,9 +1,8 @@
 use Rattle.std.proofs.Common.{rules, ◌≡◌, ◌+◌, sym, refl, arith, length, map}
 use Rattle.syntax.specs.Measures.{right_size}
 use Rattle.syntax.specs.View.{name_of, right_of}
-use Rattle.type_table.specs.Visible.{types_of, globals_in, scope_of}
+use Rattle.type_table.specs.Visible.{globals_in, scope_of}
 use Rattle.typing_rules.specs.Operations.{given}
-use Rattle.checker_operation.specs.Givens.{given_of}
 use Rattle.checker_simple.specs.Names.{names_at}
 use Rattle.checker_simple.proofs.Wholes.{untyped-none, untyped-one, defined-after, names-count}
 use Rattle.checker_simple.proofs.variables.untyped_variables.Goals as goal

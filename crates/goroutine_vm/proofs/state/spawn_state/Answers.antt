@@ -1,5 +1,4 @@
 use Rattle.std.proofs.Common.{rules, subst, sym}
-use Rattle.bytecode.specs.Machine.{Frames}
 use Rattle.bytecode.specs.Rules.{IsFrameOf, IsVerified}
 use Rattle.bytecode.proofs.Unstuck.{begin_keeps}
 use Rattle.goroutine_vm.proofs.state.spawn_state.Goals as goal

@@ -1,7 +1,4 @@
 use Rattle.std.proofs.lemmas.Result.{err_from_is_err_and}
-use Rattle.checker.specs.Trees.{tree_in}
-use Rattle.syntax.specs.Spans.{tree_of}
-use Rattle.kendo_reading.proofs.Spelled.{grammatical}
 use Rattle.kendo_base.proofs.pictures.timeline_bytes.Goals as goal
 
 pub returns-in_err-_source-clause-refused : goal.returns-in_err-_source-clause-refused

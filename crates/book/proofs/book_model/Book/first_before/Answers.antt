@@ -1,4 +1,4 @@
-use Rattle.std.proofs.Common.{◌≡◌, ℕ, true, sym}
+use Rattle.std.proofs.Common.{◌≡◌, true, sym}
 use Rattle.std.proofs.lemmas.Bool.{true≢false}
 use Rattle.turn_rule.specs.Schedule.{has_turn}
 use Rattle.world_core.specs.Cores.{HasTurn}

@@ -1,4 +1,4 @@
-use Rattle.std.proofs.Common.{◌≡◌, ℕ, ◌<◌, None, length}
+use Rattle.std.proofs.Common.{◌≡◌, ℕ, ◌<◌, None}
 use Rattle.book.specs.Desks.{OnlyLooks}
 use Rattle.world_core.specs.Cores.{HasLease}
 use Rattle.world_core.specs.Slots.{IsBefore}

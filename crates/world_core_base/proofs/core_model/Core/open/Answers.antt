@@ -1,5 +1,5 @@
 use Rattle.std.proofs.Common.{subst, sym}
-use Rattle.world_core_base.specs.Cores.{CoreValue, FitsCore}
+use Rattle.world_core_base.specs.Cores.{FitsCore}
 use Rattle.world_core_base.proofs.Leases.{opened_fits}
 use Rattle.world_core_base.proofs.core_model.Core.open.Goals as goal
 
