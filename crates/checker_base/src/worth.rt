@@ -1,9 +1,10 @@
 //! What an expression is worth to the typing rules.
 
 ghost use Rattle.std.specs.Prelude.{◌≡◌, ℕ, ◌^◌, ◌≤◌, nat_abs, List, option_map, IfSome, IfOk};
+ghost use Rattle.std.specs.Option.{is_some};
 ghost use Rattle.type_table.specs.Views.{kind_of};
 ghost use Rattle.type_table.specs.Visible.{types_of, globals_in, scope_of};
-ghost use Rattle.typing_rules.specs.Worths.{is_int, literal, sized, constant_worth, if_good, left_constant, right_constant, are_comparable, fit_operator, beside_nil, unary_worth, binary_worth, named_worth, selected_worth, literal_struct};
+ghost use Rattle.typing_rules.specs.Worths.{is_int, literal, sized, constant_worth, if_good, left_constant, right_constant, are_comparable, fit_operator, beside_nil, unary_worth, binary_worth, is_operand, named_worth, selected_worth, literal_struct};
 ghost use Rattle.checker_base.specs.Views.{worth_of, made_of, IsSmall};
 
 use crate::constant::{binary, unary};
@@ -54,6 +55,7 @@ pub fn named_worth<'a>(
     visible: &Visible<'a>,
     name: &[u8],
 ) -> Option<Worth<'a>>
+    ensures operand { is_some result ≡ is_operand (scope_of table.now visible.now) name.now }
     ensures worth { option_map (worth_of (types_of table.now)) result ≡ named_worth (scope_of table.now visible.now) name.now }
     ensures small { IfSome result IsSmall }
 {

@@ -22,7 +22,7 @@ use Rattle.codegen_base.proofs.Fields.{AllWide}
 use Rattle.codegen_base.proofs.Known.{FieldsNoted, VariablesNoted}
 use Rattle.codegen_base.proofs.Noted.{Noted}
 use Rattle.codegen_base.proofs.Seen.{Rising, rising_up}
-use Rattle.codegen_base.proofs.Static.{AllKnown, Nested, IsPlaced}
+use Rattle.codegen_base.proofs.Static.{AllKnown, Nested, IsPlaced, variables_known}
 use Rattle.codegen_base.proofs.Typing.{Free, FieldsKnown, broken}
 use Rattle.codegen_follows.proofs.Stands.{View, scope_of, variables, Fine, SimpleMakes, RightMakes}
 use Rattle.codegen_follows.proofs.Grown.{grown}
@@ -130,13 +130,13 @@ module _ (file : File) (elements : List Element) (all : AllWide (globals file).s
   define_fine : (view : View) (names : List (List ℕ)) (right : Right) (first : ℕ) → IsFine view → Free (SimpleHas G view.checked first (Define names right)) → RightMakes file elements all code result f right → IsFine (past_one view (Alone (Define names right)))
   define_fine view names right first fine free makes =
       let g = named_good view names right fine
-      (right_well elements G fields_noted results view.checked (scope_of view) (known_fields view.checked) fine.alike fine.noted names right first (first + right_size right + 1) (omega arith) (made_right right makes) (λ flaw h. free flaw (inl h)) (λ flaw h. free flaw (inr (inl h))) (λ flaw h. free flaw (inr (inr (inr h))))) in
+      (right_well elements G fields_noted results view.checked (scope_of view) (known_fields view.checked) (variables_known view.checked (scope_of view) fine.alike fine.placed.known) fine.alike fine.noted names right first (first + right_size right + 1) (omega arith) (made_right right makes) (λ flaw h. free flaw (inl h)) (λ flaw h. free flaw (inr (inl h))) (λ flaw h. free flaw (inr (inr (inr h))))) in
       record { placed = g.placed; alike = g.alike; noted = g.noted }
 
   untyped_fine : (view : View) (names : List (List ℕ)) (right : Right) (first : ℕ) → IsFine view → Free (UntypedVariablesHave G view.checked first names right) → RightMakes file elements all code result f right → IsFine (past_one view (VarUntyped names right))
   untyped_fine view names right first fine free makes =
       let g = named_good view names right fine
-      (right_well elements G fields_noted results view.checked (scope_of view) (known_fields view.checked) fine.alike fine.noted names right first (first + right_size right + 1) (omega arith) (made_right right makes) (λ flaw h. free flaw (inl h)) (λ flaw h. free flaw (inr (inl h))) (λ flaw h. free flaw (inr (inr (inr h))))) in
+      (right_well elements G fields_noted results view.checked (scope_of view) (known_fields view.checked) (variables_known view.checked (scope_of view) fine.alike fine.placed.known) fine.alike fine.noted names right first (first + right_size right + 1) (omega arith) (made_right right makes) (λ flaw h. free flaw (inl h)) (λ flaw h. free flaw (inr (inl h))) (λ flaw h. free flaw (inr (inr (inr h))))) in
       record { placed = g.placed; alike = g.alike; noted = g.noted }
 
   alike_well : (s : Scope) (names : List (List ℕ)) (kind : ValueType) → Noted elements kind → AllWell elements s names (alike_values names kind)
@@ -146,7 +146,7 @@ module _ (file : File) (elements : List Element) (all : AllWide (globals file).s
   typed_fine : (view : View) (names : List (List ℕ)) (written : TypeExpression) (right : Option Right) (first : ℕ) → IsFine view → Free (TypedVariablesHave G view.checked first names written right) → Noted elements (known (type_in G.types nothing_declared written)) → IsFine (past_one view (VarTyped names written right))
   typed_fine view names written right first fine free noted =
       let s = view.checked in
-      let (kind, is, own) = written_well elements G fields_noted results s (scope_of view) (known_fields s) fine.alike fine.noted written first (λ flaw h. free flaw (inl h)) noted in
+      let (kind, is, own) = written_well elements G fields_noted results s (scope_of view) (known_fields s) (variables_known s (scope_of view) fine.alike fine.placed.known) fine.alike fine.noted written first (λ flaw h. free flaw (inl h)) noted in
       let end = first + type_size written + if_any right_size right + 1 in
       let b = broken rules.Declared end (omega arith) in
       let parts =

@@ -16,7 +16,7 @@ use Rattle.codegen_base.specs.declared.element.Element.{Element}
 use Rattle.codegen_base.proofs.Alike.{Alike, worth_alike}
 use Rattle.codegen_base.proofs.Known.{FieldsNoted, VariablesNoted, worth_noted}
 use Rattle.codegen_base.proofs.Noted.{Noted}
-use Rattle.codegen_base.proofs.Typing.{Free, FieldsKnown, broken, nodes_end, worth_there, not_false}
+use Rattle.codegen_base.proofs.Typing.{Free, FieldsKnown, VariablesKnown, broken, nodes_end, worth_there, not_false}
 use Rattle.codegen_base.proofs.Called.{same_count}
 use Rattle.codegen_follows.proofs.Channels.{channel_of}
 use Rattle.codegen_follows.proofs.Sets.{given_long}
@@ -48,13 +48,13 @@ module _ (elements : List Element) where
   AreMade types (RightOperation operation) = IsMade types operation
   AreMade types (Values values) = Unit {0}
 
-  module _ (globals : Globals) (fields_noted : FieldsNoted elements globals) (results_known : (n : ℕ) (kind : Option ValueType) → result_of globals n ≡ Yields kind → Well kind) (s scope : Scope) (fields_known : FieldsKnown globals s) (alike : Alike s scope) (noted : VariablesNoted elements globals scope) where
+  module _ (globals : Globals) (fields_noted : FieldsNoted elements globals) (results_known : (n : ℕ) (kind : Option ValueType) → result_of globals n ≡ Yields kind → Well kind) (s scope : Scope) (fields_known : FieldsKnown globals s) (variables : VariablesKnown s) (alike : Alike s scope) (noted : VariablesNoted elements globals scope) where
     typed_noted : (e : Expression) (t : ValueType) → worth globals s e ≡ Some (Typed t) → Noted elements t
     typed_noted e t is = worth_noted elements globals fields_noted scope noted e t (sym (worth_alike s scope alike globals e) ∙ is)
 
     -- what a channel carries
     element_noted : (e : Expression) (first : ℕ) → Free (ExpressionHas globals s first e) → Free (ChannelHas (worth globals s e) (nodes_of first e)) → (c : ValueType) × (element_of (worth globals s e) ≡ Some c) × Noted elements c
-    element_noted e first free channel = let w = worth_there globals s fields_known e first free in go w.0 w.1 where
+    element_noted e first free channel = let w = worth_there globals s fields_known variables e first free in go w.0 w.1 where
       never : (w : Worth) → worth globals s e ≡ Some w → element_of (Some w) ≡ None → ⊥
       never w is none = let b = broken rules.Channel (nodes_of first e).end (nodes_end first e) in channel b.0 (subst (λ o. ChannelHas o (nodes_of first e) b.0) (sym is) (none, b.1))
 
@@ -107,7 +107,7 @@ module _ (elements : List Element) where
     -- ---- values
 
     value_well : (e : Expression) (second : ℕ) → Free (ExpressionHas globals s second e) → Free (DefaultHas (worth globals s e) (nodes_of second e)) → Well (default_type (worth globals s e))
-    value_well e second free goes = let w = worth_there globals s fields_known e second free in subst (λ o. Well (default_type o)) (sym w.1) (go w.0 w.1 (λ flaw h. goes flaw (subst (λ o. DefaultHas o (nodes_of second e) flaw) (sym w.1) h))) where
+    value_well e second free goes = let w = worth_there globals s fields_known variables e second free in subst (λ o. Well (default_type o)) (sym w.1) (go w.0 w.1 (λ flaw h. goes flaw (subst (λ o. DefaultHas o (nodes_of second e) flaw) (sym w.1) h))) where
       go : (w : Worth) → worth globals s e ≡ Some w → Free (DefaultHas (Some w) (nodes_of second e)) → Well (default_type (Some w))
       go (Typed t) is goes = (refl, typed_noted e t is)
       go (Constant z) is goes = (refl, tt)

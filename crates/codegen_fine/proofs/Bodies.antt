@@ -19,7 +19,7 @@ use Rattle.codegen_base.proofs.Typing.{Free, nodes_end, worth_there}
 use Rattle.plan.specs.Plan.{Plan, Skip, Seq, IfElse, IfThen, reaches_end, turns}
 use Rattle.plan.proofs.Tables.{Tabled}
 use Rattle.plan.proofs.Typed.{Allowed, in_loop, Typed}
-use Rattle.codegen_fine.proofs.Sees.{Sees, worth_sees}
+use Rattle.codegen_fine.proofs.Sees.{Sees, worth_sees, known_sees}
 use Rattle.codegen_fine.proofs.Operands.{Grounds}
 use Rattle.codegen_fine.proofs.Operations.{Functions}
 use Rattle.codegen_fine.proofs.Branches.{typed_test}
@@ -91,7 +91,7 @@ module _ (globals : Globals) (elements : List Element) (code : Code) (f : CodeFu
   module _ (layout : Layout) (room : Room globals elements code f layout) (s : Scope) (sees : Sees s layout.scope) where
     pub typed_tests : (condition : Expression) (first : ℕ) → Free (TestHas globals s first condition) → (a : Allowed) (ks out : List WordKind) (rest : Plan) → Typed code f a (ks ++ kinds.Bool ∷ []) rest out → Typed code f a ks (tests globals elements layout condition rest) out
     typed_tests condition first free a ks out rest t =
-        let w = worth_there globals s (grounds.fields_known s) condition first (λ flaw h. free flaw (inl h)) in
+        let w = worth_there globals s (grounds.fields_known s) (known_sees s layout.scope sees (housed_of globals elements f layout.scope room.housed).known) condition first (λ flaw h. free flaw (inl h)) in
         let fit = condition_fits w.0 (nodes_of first condition) (nodes_end first condition) (λ flaw h. free flaw (inr (subst (λ o. ConditionHas o (nodes_of first condition) flaw) (sym w.1) h))) in
         typed_test globals elements code f grounds layout.scope (housed_of globals elements f layout.scope room.housed) s sees condition first (λ flaw h. free flaw (inl h)) w.0 (sym (worth_sees s layout.scope sees globals condition) ∙ w.1) fit a ks out rest t
 

@@ -28,7 +28,7 @@ use Rattle.codegen_base.proofs.Noted.{Noted}
 use Rattle.codegen_base.proofs.Typing.{Free, broken, fits, nodes_end, worth_there}
 use Rattle.plan.specs.Plan.{Skip}
 use Rattle.plan.proofs.Typed.{Allowed, Typed}
-use Rattle.codegen_fine.proofs.Sees.{Sees, worth_sees}
+use Rattle.codegen_fine.proofs.Sees.{Sees, worth_sees, known_sees}
 use Rattle.codegen_fine.proofs.Pushing.{Puts, puts_both}
 use Rattle.codegen_fine.proofs.Operands.{Grounds, shape_within}
 use Rattle.codegen_fine.proofs.Emitted.{all_kinds, typed_pushes}
@@ -91,7 +91,7 @@ module _ (globals : Globals) (elements : List Element) (code : Code) (f : CodeFu
         let housed = housed_of globals elements f layout.scope room.housed in
         let c = channel_is channel first (λ flaw h. free flaw (inl h)) (λ flaw h. free flaw (inr (inr (inl h)))) in
         let behind = first + expression_size channel in
-        let w = worth_there globals s (grounds.fields_known s) value behind (λ flaw h. free flaw (inr (inl h))) in
+        let w = worth_there globals s (grounds.fields_known s) (known_sees s layout.scope sees housed.known) value behind (λ flaw h. free flaw (inr (inl h))) in
         let kind = carried globals elements layout.scope channel in
         let is-element : element_of (worth globals s channel) ≡ Some kind = ap element_of (worth_sees s layout.scope sees globals channel ∙ c.is) ∙ ap Some (sym c.carries) in
         let fit = fits w.0 kind (nodes_of behind value) (nodes_end behind value)

@@ -23,7 +23,7 @@ use Rattle.codegen_base.specs.declared.element.Element.{Element}
 use Rattle.codegen_base.specs.Elements.{kinds_of}
 use Rattle.codegen_base.specs.Layouts.{type_of}
 use Rattle.codegen_base.specs.Pushes.{words_of, loads, signed, settled, kinds_in, literal_types, emits, emits_fields, pushes, pushes_all, pushes_zeros, operates, selects as selects_plan}
-use Rattle.codegen_fine.proofs.Sees.{Sees, worth_sees}
+use Rattle.codegen_fine.proofs.Sees.{Sees, worth_sees, known_sees}
 use Rattle.codegen_base.proofs.Fields.{AllTyped}
 use Rattle.codegen_base.proofs.Expressions.{typed_same, typed_variable}
 use Rattle.codegen_base.proofs.Known.{worth_noted}
@@ -63,7 +63,7 @@ module _ (globals : Globals) (elements : List Element) (code : Code) (f : CodeFu
     Whole first e = Free (ExpressionHas globals s first e)
 
     worth_here : (e : Expression) (first : ℕ) → Whole first e → (w : Worth) × (worth globals s e ≡ Some w) × (worth globals scope e ≡ Some w)
-    worth_here e first free = let w = worth_there globals s (grounds.fields_known s) e first free in (w.0, w.1, sym (checked e) ∙ w.1)
+    worth_here e first free = let w = worth_there globals s (grounds.fields_known s) (known_sees s scope alike housed.known) e first free in (w.0, w.1, sym (checked e) ∙ w.1)
 
     value_fits : (v : Expression) (first : ℕ) (w : Worth) (kind : ValueType) (rest : List Expression) (o : Option ValueType) (kinds : List (Option ValueType)) → worth globals s v ≡ Some w → o ≡ Some kind → Free (ValuesFail globals s first (v ∷ rest) (o ∷ kinds)) → Fits w kind
     value_fits v first w kind rest o kinds is has free =

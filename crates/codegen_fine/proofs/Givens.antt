@@ -27,7 +27,7 @@ use Rattle.codegen_base.specs.Generated.{result_kinds}
 use Rattle.codegen_base.specs.Layouts.{carried, given_types}
 use Rattle.codegen_base.specs.Statements.{pushes_operation, pushes_one}
 use Rattle.codegen_base.proofs.Alike.{there_alike}
-use Rattle.codegen_fine.proofs.Sees.{Sees, variable_sees, worth_sees, type_sees}
+use Rattle.codegen_fine.proofs.Sees.{Sees, variable_sees, worth_sees, type_sees, known_sees}
 use Rattle.codegen_base.proofs.Known.{worth_noted}
 use Rattle.codegen_base.proofs.Noted.{Noted}
 use Rattle.codegen_base.proofs.Passed.{AllFit}
@@ -180,7 +180,7 @@ module _ (globals : Globals) (elements : List Element) where
       values_fit [] (want ∷ wants) first m many noted free fail = absurd cc
       values_fit (value ∷ rest) [] first m many noted free fail = absurd cc
       values_fit (value ∷ rest) (want ∷ wants) first m many noted free fail =
-          let (w, is) = worth_there globals s (grounds.fields_known s) value first (λ flaw h. free flaw (inl h)) in
+          let (w, is) = worth_there globals s (grounds.fields_known s) (known_sees s scope alike housed.known) value first (λ flaw h. free flaw (inl h)) in
           let here-is : worth globals scope value ≡ Some w = sym (worth_sees s scope alike globals value) ∙ is in
           let n = first_noted want wants noted in
           let one = value_taken want w (nodes_of first value) value here-is (nodes_end first value) n.0 (λ flaw h. fail flaw (inl (subst (λ o. WantHas want (record { worth = o; nodes = nodes_of first value }) flaw) (sym is) h))) in

@@ -26,7 +26,7 @@ use Rattle.codegen_base.specs.Pushes.{operator_of, elements_shape, valued, compa
 use Rattle.codegen_base.proofs.Fields.{AllWide, AllTyped}
 use Rattle.codegen_base.proofs.Noted.{Noted, shape_there}
 use Rattle.codegen_base.proofs.Known.{FieldsNoted}
-use Rattle.codegen_base.proofs.Typing.{FieldsKnown, Fits}
+use Rattle.codegen_base.proofs.Typing.{FieldsKnown, VariablesKnown, Fits}
 use Rattle.codegen_base.proofs.Splits.{plain_plan, equality_plain, constants_compare, made_logical, channel_is, unary_typed, Operands, Ints, Bools, Channels, Truths, typed_operands, left_operand, right_operand, nil_right, nil_left, two_constants}
 use Rattle.plan.specs.Plan.{Plan, Do}
 use Rattle.plan.proofs.Typed.{Typed}
@@ -62,8 +62,9 @@ pub record Grounds (globals : Globals) (elements : List Element) (code : Code) :
   pub shapes : code.shapes ≡ shapes_of globals.structs elements
   pub structs_there : (n : ℕ) → AreThere code (kinds_of globals.structs elements (StructType n))
 
--- the locals of each variable that is visible are of the kinds of its type, whose elements are noted
+-- each variable that is visible has a type, of whose kinds its locals are, and whose elements are noted
 pub record Housed (globals : Globals) (elements : List Element) (f : CodeFunction) (scope : Scope) : Type 0 where
+  pub known : VariablesKnown scope
   pub within : (name : List ℕ) (v : Variable) (t : ValueType) → variable_named scope name ≡ Some v → v.kind ≡ Some t → v.place + length (kinds_of globals.structs elements t) ≤ length f.locals
   pub kinds_are : (name : List ℕ) (v : Variable) (t : ValueType) → variable_named scope name ≡ Some v → v.kind ≡ Some t → slice_range f.locals v.place (v.place + length (kinds_of globals.structs elements t)) ≡ kinds_of globals.structs elements t
   pub noted : (name : List ℕ) (v : Variable) (t : ValueType) → variable_named scope name ≡ Some v → v.kind ≡ Some t → Noted elements t

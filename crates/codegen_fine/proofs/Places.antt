@@ -61,6 +61,7 @@ module _ (globals : Globals) (elements : List Element) (f : CodeFunction) where
   -- what is asked of the variables of a scope
   pub housed_of : (scope : Scope) → AllHoused scope.variables → Housed globals elements f scope
   housed_of scope all = record {
+    known = λ name v found. let h = of name v found in (h.kind, h.has);
     within = λ name v t found has. let h = of name v found in subst (λ k. v.place + length (kinds_here k) ≤ length f.locals) (same_Some h.kind t (sym h.has ∙ has)) h.within;
     kinds_are = λ name v t found has. let h = of name v found in stand_range f.locals v.place (length (kinds_here t)) (kinds_here t) refl (subst (λ k. Stand f.locals v.place (kinds_here k)) (same_Some h.kind t (sym h.has ∙ has)) h.stand);
     noted = λ name v t found has. let h = of name v found in subst (Noted elements) (same_Some h.kind t (sym h.has ∙ has)) h.noted;

@@ -20,7 +20,7 @@ use Rattle.codegen_base.proofs.Noted.{Noted, Grows}
 use Rattle.codegen_base.proofs.Typing.{Free, fits, broken, nodes_end, worth_there}
 use Rattle.plan.specs.Plan.{Stop}
 use Rattle.plan.proofs.Typed.{Allowed, Typed}
-use Rattle.codegen_fine.proofs.Sees.{Sees, worth_sees}
+use Rattle.codegen_fine.proofs.Sees.{Sees, worth_sees, known_sees}
 use Rattle.codegen_fine.proofs.WordKinds.{assignable_kinds}
 use Rattle.codegen_fine.proofs.Operands.{Grounds}
 use Rattle.codegen_fine.proofs.Operations.{Functions}
@@ -45,7 +45,7 @@ module _ (globals : Globals) (elements : List Element) (code : Code) (f : CodeFu
     typed_returned NoResult r (ReturnedOperation operation) first free all g a out = let b = broken rules.Returned (first + (returned_size (ReturnedOperation operation) + 1)) (omega arith) in absurd (free b.0 (inr b.1))
     typed_returned NoResult r (ReturnedValue value) first free all g a out = let b = broken rules.Returned (first + (returned_size (ReturnedValue value) + 1)) (omega arith) in absurd (free b.0 (inr b.1))
     typed_returned (Yields kind) r (ReturnedValue value) first free all g a out =
-        let (w, is) = worth_there globals s (grounds.fields_known s) value first (λ flaw h. free flaw (inl h)) in
+        let (w, is) = worth_there globals s (grounds.fields_known s) (known_sees s layout.scope sees (housed_of globals elements f layout.scope room.housed).known) value first (λ flaw h. free flaw (inl h)) in
         let fit = fits w (known kind) (nodes_of first value) (nodes_end first value) (λ flaw h. free flaw (inr (subst (λ o. ValueHas (worth globals s value) o (nodes_of first value) flaw) (sym (r.known_kind kind refl)) (subst (λ o. ValueHas o (Some (known kind)) (nodes_of first value) flaw) (sym is) h)))) in
         typed_return globals elements code f grounds layout.scope (housed_of globals elements f layout.scope room.housed) s sees value first (λ flaw h. free flaw (inl h)) w (known kind) (sym (worth_sees s layout.scope sees globals value) ∙ is) fit (r.noted kind refl) (sym r.kinds_are) a out
     typed_returned (Yields kind) r (ReturnedOperation operation) first free all g a out =

@@ -8,6 +8,8 @@ use Rattle.type_table.specs.Types.{BoolType, StructType, ChannelType}
 use Rattle.type_table.specs.Scopes.{Scope, Globals, is_blank, is_truth, is_nil, last_named, variable_named, number_of, type_in}
 use Rattle.typing_rules.specs.Worths.{Typed, Nil, selected_worth, unary_worth, binary_worth, worth}
 use Rattle.codegen_base.proofs.Alike.{kind_if, there_alike, kind_alike}
+use Rattle.codegen_base.proofs.Typing.{VariablesKnown}
+use Rattle.codegen_base.proofs.Static.{known_alike}
 
 abbrev pub Sees : Scope → Scope → Type 0
 Sees s t = (name : List ℕ) → is_blank name ≡ false → kind_if (last_named s.variables name) ≡ kind_if (last_named t.variables name)
@@ -18,6 +20,9 @@ module _ (s t : Scope) (sees : Sees s t) where
     go : (b : Bool) → (b ≡ false → kind_if (last_named s.variables name) ≡ kind_if (last_named t.variables name)) → kind_if (if b then None else last_named s.variables name) ≡ kind_if (if b then None else last_named t.variables name)
     go true same = refl
     go false same = same refl
+
+  pub known_sees : VariablesKnown t → VariablesKnown s
+  known_sees = known_alike s t variable_sees
 
   if_there : {A : Type 0} (name : List ℕ) (x y : A) → (if is_some (variable_named s name) then x else y) ≡ (if is_some (variable_named t name) then x else y)
   if_there name x y = ap (λ b. if b then x else y) (there_alike (variable_named s name) (variable_named t name) (variable_sees name))

@@ -20,7 +20,7 @@ use Rattle.codegen_base.specs.Generated.{result_kinds}
 use Rattle.codegen_base.specs.Layouts.{Layout, carried}
 use Rattle.codegen_base.specs.Pushes.{pushes, pushes_own, drops}
 use Rattle.codegen_base.specs.Statements.{result_words, simple_plan}
-use Rattle.codegen_fine.proofs.Sees.{Sees, worth_sees}
+use Rattle.codegen_fine.proofs.Sees.{Sees, worth_sees, known_sees}
 use Rattle.codegen_base.proofs.Typing.{Free, fits, nodes_end, worth_there}
 use Rattle.plan.specs.Plan.{Plan, Skip, Do}
 use Rattle.plan.proofs.Typed.{Allowed, Typed, typed_step}
@@ -66,7 +66,7 @@ module _ (globals : Globals) (elements : List Element) (code : Code) (f : CodeFu
       typed_send channel value first free a ks out t =
           let c = channel_there globals elements code f grounds layout.scope housed s alike functions channel first (λ flaw h. free flaw (inl h)) (λ flaw h. free flaw (inr (inr (inl h)))) in
           let behind = first + expression_size channel in
-          let w = worth_there globals s (grounds.fields_known s) value behind (λ flaw h. free flaw (inr (inl h))) in
+          let w = worth_there globals s (grounds.fields_known s) (known_sees s layout.scope alike housed.known) value behind (λ flaw h. free flaw (inr (inl h))) in
           let is-element : element_of (worth globals s channel) ≡ Some c.element = ap element_of (worth_sees s layout.scope alike globals channel ∙ c.is) in
           let fit = fits w.0 c.element (nodes_of behind value) (nodes_end behind value)
           (λ flaw h. free flaw (inr (inr (inr (inr (subst (λ o. ValueHas (worth globals s value) o (nodes_of behind value) flaw) (sym is-element) (subst (λ o. ValueHas o (Some c.element) (nodes_of behind value) flaw) (sym w.1) h))))))) in

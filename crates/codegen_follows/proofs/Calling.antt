@@ -36,6 +36,7 @@ use Rattle.codegen_base.proofs.Passed.{AllFit, EvalsAll, values_goes}
 use Rattle.codegen_base.proofs.Seen.{seen}
 use Rattle.codegen_base.proofs.Assigned.{AreLike, all_words_of}
 use Rattle.codegen_base.proofs.Typing.{Free, FieldsKnown}
+use Rattle.codegen_base.proofs.Static.{variables_known}
 use Rattle.codegen_follows.proofs.Stands.{Around, View, scope_of, variables, Together, IsOn, Fine, Taking}
 use Rattle.codegen_follows.proofs.Valued.{Goes, before}
 use Rattle.codegen_follows.proofs.Follows.{Held, Sitting, Rest}
@@ -127,7 +128,7 @@ module _ (file : File) (elements : List Element) (all : AllWide (globals file).s
 
         pub call_there : (function : List ℕ) (arguments : Arguments) (first : ℕ) → Free (CallHas (globals file) view.checked first function arguments) → IsCall function arguments.values
         call_there function arguments first free =
-            let c = calls (globals file) view.checked (known_fields view.checked) grounds.params_known function arguments first free in
+            let c = calls (globals file) view.checked (known_fields view.checked) (variables_known view.checked (scope_of view) fine.alike fine.placed.known) grounds.params_known function arguments first free in
             record { is_function = subst IsFunction (sym c.numbered) (all_there function c.number c.is); fit = subst (λ n. AllFit (globals file) view.checked arguments.values (parameters n)) (sym c.numbered) c.fit }
 
         pub call_goes : Starting R → Gives file elements all typed known_fields code result f → Wait result cs ds → (function : List ℕ) (arguments : Arguments) (first : ℕ) (purpose : Purpose) (rest : Plan) (place : ℕ) → Free (CallHas (globals file) view.checked first function arguments)

@@ -37,7 +37,7 @@ use Rattle.codegen_base.proofs.Known.{FieldsNoted, worth_noted}
 use Rattle.codegen_base.proofs.Likeness.{is_channel}
 use Rattle.codegen_base.proofs.Noted.{Noted, shape_there}
 use Rattle.codegen_base.proofs.Seen.{seen}
-use Rattle.codegen_base.proofs.Static.{seen_alike}
+use Rattle.codegen_base.proofs.Static.{seen_alike, variables_known}
 use Rattle.codegen_base.proofs.Typing.{Free, FieldsKnown, broken, nodes_end, worth_there}
 use Rattle.codegen_base.proofs.Expressions.{Holding}
 use Rattle.codegen_follows.proofs.Stands.{Around, View, scope_of, variables, IsOn, Fine}
@@ -93,7 +93,7 @@ module _ (file : File) (elements : List Element) (all : AllWide (globals file).s
     runs e = worth_alike (scope_in blocks) (scope_of view) (seen_alike (globals file).structs ls (scope_of view) view.begins fine.placed) (globals file) e
 
     pub channel_there : (e : Expression) (first : ℕ) → Free (ExpressionHas (globals file) view.checked first e) → Free (ChannelHas (worth (globals file) view.checked e) (nodes_of first e)) → IsChannel file elements code grounds ls view e
-    channel_there e first free channel = let w = worth_there (globals file) view.checked (known_fields view.checked) e first free in go w.0 w.1 where
+    channel_there e first free channel = let w = worth_there (globals file) view.checked (known_fields view.checked) (variables_known view.checked (scope_of view) fine.alike fine.placed.known) e first free in go w.0 w.1 where
       never : (w : Worth) → worth (globals file) view.checked e ≡ Some w → element_of (Some w) ≡ None → ⊥
       never w is none = let b = broken rules.Channel (nodes_of first e).end (nodes_end first e) in channel b.0 (subst (λ o. ChannelHas o (nodes_of first e) b.0) (sym is) (none, b.1))
 

@@ -35,7 +35,7 @@ use Rattle.codegen_base.proofs.Fields.{AllWide, AllTyped}
 use Rattle.codegen_base.proofs.Likeness.{assignable_zeros}
 use Rattle.codegen_base.proofs.Passed.{AllFit}
 use Rattle.codegen_base.proofs.Seen.{seen}
-use Rattle.codegen_base.proofs.Static.{seen_alike}
+use Rattle.codegen_base.proofs.Static.{seen_alike, variables_known}
 use Rattle.codegen_base.proofs.Typing.{Free, FieldsKnown, Fits, fits, broken, nodes_end, worth_there}
 use Rattle.codegen_follows.proofs.Stands.{Around, View, scope_of, variables, Together, IsOn, Fine}
 use Rattle.codegen_follows.proofs.Valued.{Goes}
@@ -119,7 +119,7 @@ module _ (file : File) (elements : List Element) (all : AllWide (globals file).s
   values_suit [] (e ∷ es) second n many good goes = absurd cc
   values_suit (name ∷ names) [] second n many good goes = absurd cc
   values_suit (name ∷ names) (e ∷ es) second n many good goes =
-      let w = worth_there (globals file) view.checked (known_fields view.checked) e second (λ flaw x. good flaw (inl x)) in
+      let w = worth_there (globals file) view.checked (known_fields view.checked) (variables_known view.checked (scope_of view) fine.alike fine.placed.known) e second (λ flaw x. good flaw (inl x)) in
       let one = name_fits name (record { worth = worth (globals file) view.checked e; nodes = nodes_of second e }) w.0 w.1 (nodes_end second e) (λ flaw x. goes flaw (inl x)) in
       let same : Some w.0 ≡ worth (globals file) (scope_of view) e = sym w.1 ∙ worth_alike view.checked (scope_of view) fine.alike (globals file) e in
       let left : suc (length es) ≡ suc (length names) = many in

@@ -40,6 +40,7 @@ use Rattle.codegen_base.proofs.Fields.{AllWide, AllTyped}
 use Rattle.codegen_base.proofs.Likeness.{kinds_long, like_long}
 use Rattle.codegen_base.proofs.Seen.{seen}
 use Rattle.codegen_base.proofs.Typing.{Free, FieldsKnown, Fits, fits, nodes_end, worth_there}
+use Rattle.codegen_base.proofs.Static.{variables_known}
 use Rattle.codegen_follows.proofs.Outers.{has_same, worth_same}
 use Rattle.codegen_follows.proofs.Channels.{Grounds, IsChannel, shape_is, channel_there, channel_goes}
 use Rattle.codegen_follows.proofs.Stands.{Around, View, scope_of, variables, IsOn, Fine, within}
@@ -131,7 +132,7 @@ module _ (file : File) (elements : List Element) (all : AllWide (globals file).s
         let w = comm_waited (CommSend e value) first n free in
         let c = w.channel in
         let good = outside value second n (λ flaw x. free flaw (inr (inl x))) in
-        let v = worth_there (globals file) view.checked (known_fields view.checked) value second good in
+        let v = worth_there (globals file) view.checked (known_fields view.checked) (variables_known view.checked (scope_of view) fine.alike fine.placed.known) value second good in
         let fit : Fits v.0 kind = subst (Fits v.0) (sym c.carries) (fits v.0 c.element (nodes_of second value) (nodes_end second value)
         (λ flaw x. free flaw (inr (inr (inr (inr (subst (λ o. ValueHas o (element_of (worth (globals file) (entered (wide n)) e)) (nodes_of second value) flaw) (sym v.1 ∙ worth_outside value n)
         (subst (λ o. ValueHas (Some v.0) (element_of o) (nodes_of second value) flaw) (sym c.is ∙ worth_outside e n) x)))))))) in

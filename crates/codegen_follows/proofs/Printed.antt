@@ -39,6 +39,7 @@ use Rattle.codegen_base.proofs.Fields.{AllWide, AllTyped}
 use Rattle.codegen_base.proofs.Likeness.{is_int as is_int_word, is_bool}
 use Rattle.codegen_base.proofs.Seen.{Like, seen}
 use Rattle.codegen_base.proofs.Typing.{Free, FieldsKnown, Fits, broken, nodes_end, worth_there, not_false}
+use Rattle.codegen_base.proofs.Static.{variables_known}
 use Rattle.codegen_follows.proofs.Stands.{Around, View, scope_of, variables, Together, IsOn, Fine}
 use Rattle.codegen_follows.proofs.Valued.{Goes, value_here, valued_then, value_goes}
 use Rattle.codegen_follows.proofs.Follows.{Held, Sitting, Rest}
@@ -137,7 +138,7 @@ module _ (file : File) (elements : List Element) (all : AllWide (globals file).s
     texts_go (ValuePart e ∷ parts) first go rest place stack free on then' =
         let V = λ (A B : Type 0). valued_then file elements all typed known_fields code result g f there ds R Asked panics {A = A} {B = B} in
         let o = value_here file elements all typed known_fields code result g f there ds R Asked panics ls l view fine room h.holding e in
-        let w = worth_there (globals file) view.checked (known_fields view.checked) e first (λ flaw x. free flaw (inl (inl x))) in
+        let w = worth_there (globals file) view.checked (known_fields view.checked) (variables_known view.checked (scope_of view) fine.alike fine.placed.known) e first (λ flaw x. free flaw (inl (inl x))) in
         let p = printable (globals file).structs w.0 (nodes_of first e) (nodes_end first e) (λ flaw x. free flaw (inl (inr (subst (λ o. PrintedHas o (nodes_of first e) flaw) (sym w.1) x)))) in
         let here-is : worth (globals file) (scope_of view) e ≡ Some w.0 = sym (worth_alike view.checked (scope_of view) fine.alike (globals file) e) ∙ w.1 in
         let others = pushes_parts (globals file) elements (scope_of view) parts rest in

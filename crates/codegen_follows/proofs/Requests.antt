@@ -46,6 +46,7 @@ use Rattle.codegen_base.proofs.Likeness.{kinds_zeros, kinds_long, like_long, is_
 use Rattle.codegen_base.proofs.Noted.{Noted}
 use Rattle.codegen_base.proofs.Seen.{Like, seen}
 use Rattle.codegen_base.proofs.Typing.{Free, FieldsKnown, Fits, fits, broken, nodes_end, worth_there, int_type, not_false}
+use Rattle.codegen_base.proofs.Static.{variables_known}
 use Rattle.codegen_follows.proofs.Stands.{Around, View, scope_of, variables, Together, IsOn, Fine, Taking, Asking, requesting}
 use Rattle.codegen_follows.proofs.Valued.{Goes, before, value_here, valued_then, value_goes}
 use Rattle.codegen_follows.proofs.Follows.{Held, Sitting, Rest}
@@ -230,7 +231,7 @@ module _ (file : File) (elements : List Element) (all : AllWide (globals file).s
         let kind = carried (globals file) elements (scope_of view) e in
         let second = first + expression_size e in
         let c = channel_there file elements all typed known_fields code result g f there ds R Asked panics grounds ls l view fine e first (λ flaw x. free flaw (inl x)) (λ flaw x. free flaw (inr (inr (inl x)))) in
-        let w = worth_there (globals file) view.checked (known_fields view.checked) value second (λ flaw x. free flaw (inr (inl x))) in
+        let w = worth_there (globals file) view.checked (known_fields view.checked) (variables_known view.checked (scope_of view) fine.alike fine.placed.known) value second (λ flaw x. free flaw (inr (inl x))) in
         let fit : Fits w.0 kind = subst (Fits w.0) (sym c.carries) (fits w.0 c.element (nodes_of second value) (nodes_end second value)
         (λ flaw x. free flaw (inr (inr (inr (inr (subst (λ o. ValueHas o (element_of (worth (globals file) view.checked e)) (nodes_of second value) flaw) (sym w.1)
         (subst (λ o. ValueHas (Some w.0) (element_of o) (nodes_of second value) flaw) (sym c.is) x)))))))) in
@@ -304,7 +305,7 @@ module _ (file : File) (elements : List Element) (all : AllWide (globals file).s
         let m = made_there kind first (first + operation_size (Make kind (Some size))) (omega arith) (λ flaw x. free flaw (inl x)) (λ flaw x. free flaw (inr (inr x))) in
         let second = first + type_size kind in
         let good : Free (ExpressionHas (globals file) view.checked second size) = λ flaw x. free flaw (inr (inl (inl x))) in
-        let w = worth_there (globals file) view.checked (known_fields view.checked) size second good in
+        let w = worth_there (globals file) view.checked (known_fields view.checked) (variables_known view.checked (scope_of view) fine.alike fine.placed.known) size second good in
         let fit = size_fits w.0 size second (λ flaw x. free flaw (inr (inl (inr (subst (λ o. SizeHas o (nodes_of second size) flaw) (sym w.1) x))))) in
         subst (λ x. G x (at place ls [])) (sym (valued_then file elements all typed known_fields code result g f there ds R Asked panics (value_is size) (λ words. Ok (word_in words)) (λ n. makes file blocks k cs kind (number_in n) purpose)))
         (value_goes file elements all typed known_fields code result g f there ds R Asked panics ls l view fine room h.holding size second w.0 IntType (λ words. makes file blocks k cs kind (number_in (word_in words)) purpose) _ mid place [] good w.1 fit on

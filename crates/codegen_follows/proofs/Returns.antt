@@ -37,6 +37,7 @@ use Rattle.codegen_base.proofs.Fields.{AllWide, AllTyped}
 use Rattle.codegen_base.proofs.Likeness.{kinds_long, assignable_zeros}
 use Rattle.codegen_base.proofs.Seen.{seen}
 use Rattle.codegen_base.proofs.Typing.{Free, FieldsKnown, Fits, fits, broken, nodes_end, worth_there}
+use Rattle.codegen_base.proofs.Static.{variables_known}
 use Rattle.codegen_follows.proofs.Stands.{Around, View, scope_of, variables, Together, IsOn, Fine, Taking, all_wide, Sits}
 use Rattle.codegen_follows.proofs.Valued.{Goes, value_goes}
 use Rattle.codegen_follows.proofs.Follows.{Held, Sitting, Rest}
@@ -99,7 +100,7 @@ module _ (file : File) (elements : List Element) (all : AllWide (globals file).s
       pub return_goes : (returned : Returned) (first place : ℕ) → YieldKnown result → ReturnsNoted returned → Free (ReturnStatementHas (globals file) result view.checked first returned) → On' (return_plan (globals file) elements result view.site.layout returned) place → G (statement_next file blocks k cs (Return returned)) (at place ls [])
       return_goes NoValue first place is-known noted free on = given_back [] place on (no_value file elements result (first + (returned_size NoValue + 1)) (omega arith) (λ flaw x. free flaw (inr x)))
       return_goes (ReturnedValue e) first place is-known noted free on =
-          let w = worth_there (globals file) view.checked (known_fields view.checked) e first (λ flaw x. free flaw (inl x)) in
+          let w = worth_there (globals file) view.checked (known_fields view.checked) (variables_known view.checked (scope_of view) fine.alike fine.placed.known) e first (λ flaw x. free flaw (inl x)) in
           let fit = returned_fits file elements result (record { worth = worth (globals file) view.checked e; nodes = nodes_of first e }) w.0 (first + (returned_size (ReturnedValue e) + 1)) (omega arith) (nodes_end first e) is-known w.1 (λ flaw x. free flaw (inr x)) in
           value_goes file elements all typed known_fields code result g f there ds R Asked panics ls l view fine room h.holding e first w.0 (result_type (globals file) elements result) (λ v. Slides (frame blocks (GiveBack v ∷ k) ∷ cs)) Stop mid place [] (λ flaw x. free flaw (inl x)) w.1 fit.0 on
           (λ v like to on1. given_back v to on1 (ap (λ z. words_like z v) fit.1 ∙ like))

@@ -35,6 +35,7 @@ use Rattle.codegen_base.proofs.Likeness.{assignable_zeros}
 use Rattle.codegen_base.proofs.Passed.{AllFit}
 use Rattle.codegen_base.proofs.Seen.{seen}
 use Rattle.codegen_base.proofs.Typing.{Free, FieldsKnown, Fits, fits, nodes_end, worth_there}
+use Rattle.codegen_base.proofs.Static.{variables_known}
 use Rattle.codegen_follows.proofs.Paths.{AllKnown}
 use Rattle.codegen_follows.proofs.Stands.{Around, View, scope_of, variables, Together, IsOn, Fine}
 use Rattle.codegen_follows.proofs.Valued.{Goes}
@@ -96,7 +97,7 @@ module _ (file : File) (elements : List Element) (all : AllWide (globals file).s
   values_suit [] (e ∷ es) first second n many free good goes = absurd cc
   values_suit (place ∷ places) [] first second n many free good goes = absurd cc
   values_suit (place ∷ places) (e ∷ es) first second n many free good goes =
-      let w = worth_there (globals file) view.checked (known_fields view.checked) e second (λ flaw x. good flaw (inl x)) in
+      let w = worth_there (globals file) view.checked (known_fields view.checked) (variables_known view.checked (scope_of view) fine.alike fine.placed.known) e second (λ flaw x. good flaw (inl x)) in
       let one = place_fits place first (record { worth = worth (globals file) view.checked e; nodes = nodes_of second e }) w.0 (λ flaw x. free flaw (inl x)) w.1 (nodes_end second e) (λ flaw x. goes flaw (inl x)) in
       let same : Some w.0 ≡ worth (globals file) (scope_of view) e = sym w.1 ∙ worth_alike view.checked (scope_of view) fine.alike (globals file) e in
       let left : suc (length es) ≡ suc (length places) = many in

@@ -43,6 +43,7 @@ use Rattle.codegen_base.proofs.Assigned.{AreLike, all_words_of}
 use Rattle.codegen_base.proofs.Expressions.{zeros_goes}
 use Rattle.codegen_base.proofs.Seen.{seen}
 use Rattle.codegen_base.proofs.Typing.{Free, FieldsKnown, fits, broken, nodes_end, worth_there}
+use Rattle.codegen_base.proofs.Static.{variables_known}
 use Rattle.codegen_follows.proofs.Stands.{Around, View, scope_of, variables, Together, IsOn, Fine, Storing, Sits}
 use Rattle.codegen_follows.proofs.Valued.{Goes}
 use Rattle.codegen_follows.proofs.Follows.{Held, Sitting, Rest}
@@ -98,7 +99,7 @@ module _ (file : File) (elements : List Element) (all : AllWide (globals file).s
   each_fits [] (e ∷ es) kind first many good fail = absurd cc
   each_fits (name ∷ names) [] kind first many good fail = absurd cc
   each_fits (name ∷ names) (e ∷ es) kind first many good fail =
-      let w = worth_there (globals file) view.checked (known_fields view.checked) e first (λ flaw x. good flaw (inl x)) in
+      let w = worth_there (globals file) view.checked (known_fields view.checked) (variables_known view.checked (scope_of view) fine.alike fine.placed.known) e first (λ flaw x. good flaw (inl x)) in
       let fit = fits w.0 kind (nodes_of first e) (nodes_end first e) (λ flaw x. fail flaw (inl (subst (λ o. ValueHas o (Some kind) (nodes_of first e) flaw) (sym w.1) x))) in
       let left : suc (length es) ≡ suc (length names) = many in
       ((w.0, w.1, fit), each_fits names es kind (first + expression_size e) (omega (arith, left)) (λ flaw x. good flaw (inr x)) (λ flaw x. fail flaw (inr x)))

@@ -45,7 +45,7 @@ use Rattle.codegen_base.proofs.Operators.{ints}
 use Rattle.codegen_base.proofs.Pushed.{emits_goes}
 use Rattle.codegen_base.proofs.Settled.{two_pushed, typed_goes}
 use Rattle.codegen_base.proofs.Splits.{right_operand}
-use Rattle.codegen_base.proofs.Static.{seen_alike}
+use Rattle.codegen_base.proofs.Static.{seen_alike, variables_known}
 use Rattle.codegen_base.proofs.Fields.{AllWide, AllTyped, held_within, held_like}
 use Rattle.codegen_base.proofs.Likeness.{kinds_long, assignable_zeros}
 use Rattle.codegen_base.proofs.Seen.{seen, seen_one, seen_lookup, found_below}
@@ -240,7 +240,7 @@ module _ (file : File) (elements : List Element) (all : AllWide (globals file).s
     pub update_goes : (place : Place) (operator : BinaryOperator) (e : Expression) (first at' : ℕ) → Free (SimpleHas (globals file) view.checked first (Update place operator e)) → On' (simple_plan (globals file) elements view.site.layout view.site.prints (Update place operator e)) at' → variables next ≡ variables view → (scope_of view).words ≤ length f.locals → G (simple_next file blocks k cs (Update place operator e)) (at at' ls [])
     update_goes place operator e first at' free on same most =
         let good : Free (ExpressionHas (globals file) view.checked (first + 1) e) = λ flaw x. free flaw (inr (inl x)) in
-        let w = worth_there (globals file) view.checked (known_fields view.checked) e (first + 1) good in
+        let w = worth_there (globals file) view.checked (known_fields view.checked) (variables_known view.checked (scope_of view) fine.alike fine.placed.known) e (first + 1) good in
         let u = updated_there operator place first w.0 (nodes_of (first + 1) e) (first + 1 + expression_size e + 1) (nodes_end (first + 1) e) (omega arith) (λ flaw x. free flaw (inl x))
         (λ flaw x. free flaw (inr (inr (subst (λ o. UpdatedHas operator (place_type (globals file) view.checked place) o (nodes_of (first + 1) e) (first + 1 + expression_size e + 1) flaw) (sym w.1) x)))) in
         let here-worth : worth (globals file) (scope_of view) e ≡ Some w.0 = sym (worth_alike view.checked (scope_of view) fine.alike (globals file) e) ∙ w.1 in

@@ -31,6 +31,7 @@ use Rattle.codegen_base.proofs.Typing.{Free, FieldsKnown, Fits, broken, nodes_en
 use Rattle.codegen_base.proofs.Settled.{pushes_by}
 use Rattle.codegen_base.proofs.Expressions.{Holding}
 use Rattle.codegen_base.proofs.Pushed.{env, same, checked, EK, emits_goes}
+use Rattle.codegen_base.proofs.Static.{variables_known}
 use Rattle.codegen_follows.proofs.Stands.{Around, View, scope_of, variables, IsOn, Fine}
 
 -- a truth value may stand where nothing is wrong with a condition
@@ -115,7 +116,7 @@ module _ (file : File) (elements : List Element) (all : AllWide (globals file).s
     pub test_goes : (e : Expression) (first : ℕ) (go : Word → Next Frames) (rest : Plan) (out : Option ℕ) (place : ℕ) → Free (TestHas (globals file) view.checked first e) → On' (pushes (globals file) elements (scope_of view) BoolType e rest) place out
         → ((b : Bool) (to : ℕ) → On' rest to out → Goes (go (Truth b)) (place_at to ls (Truth b ∷ []))) → Goes (valued (and_then (value_here e) (λ words. Ok (word_in words))) go) (place_at place ls [])
     test_goes e first go rest out place free on then' =
-        let w = worth_there (globals file) view.checked (known_fields view.checked) e first (λ flaw h. free flaw (inl h)) in
+        let w = worth_there (globals file) view.checked (known_fields view.checked) (variables_known view.checked (scope_of view) fine.alike fine.placed.known) e first (λ flaw h. free flaw (inl h)) in
         let is-bool = condition_fits e first w.0 (λ flaw h. free flaw (inr (subst (λ o. ConditionHas o (nodes_of first e) flaw) (sym w.1) h))) in
         subst (λ x. Goes x (place_at place ls [])) (sym (valued_then (value_here e) (λ words. Ok (word_in words)) go))
         (value_goes e first (Typed BoolType) BoolType _ rest out place [] (λ flaw h. free flaw (inl h)) (w.1 ∙ ap Some is-bool) refl on
