@@ -26,6 +26,16 @@ same_count a b end le free = go (a == b) refl where
   go true e = grind (arith, nat_tests, e)
   go false e = let x = broken rules.Numbers end le in absurd (free x.0 (e, x.1))
 
+-- what a name calls that hides no function
+pub function_is : (o : Option ℕ) (other : Bool) (n : ℕ) → (if other then NoFunction else function_of o) ≡ IsFunction n → o ≡ Some n
+function_is o true n e = absurd cc
+function_is None false n e = absurd cc
+function_is (Some m) false n e = ap number_in e where
+  number_in : Callee → Option ℕ
+  number_in NotDeclared = None
+  number_in NoFunction = None
+  number_in (IsFunction k) = Some k
+
 module _ (globals : Globals) (s : Scope) (known-fields : FieldsKnown globals s) (known-variables : VariablesKnown s) where
   -- values that fit places of types which are known
   pub all_fit : (es : List Expression) (kinds : List (Option ValueType)) (first : ℕ) → KindsKnown kinds → length es ≡ length kinds → Free (ExpressionsHave globals s first (expressions es)) → Free (ValuesFail globals s first es kinds) → AllFit globals s es (map known kinds)
@@ -47,15 +57,6 @@ module _ (globals : Globals) (s : Scope) (known-fields : FieldsKnown globals s) 
     pub is : function_number globals.functions function ≡ Some number
     pub numbered : number_of globals function ≡ number
     pub fit : AllFit globals s values (map known (parameters_of globals number))
-
-  pub function_is : (o : Option ℕ) (other : Bool) (n : ℕ) → (if other then NoFunction else function_of o) ≡ IsFunction n → o ≡ Some n
-  function_is o true n e = absurd cc
-  function_is None false n e = absurd cc
-  function_is (Some m) false n e = ap number_in e where
-    number_in : Callee → Option ℕ
-    number_in NotDeclared = None
-    number_in NoFunction = None
-    number_in (IsFunction k) = Some k
 
   pub calls : ((n : ℕ) → KindsKnown (parameters_of globals n)) → (function : List ℕ) (arguments : Arguments) (first : ℕ) → Free (CallHas globals s first function arguments) → Calls function arguments.values
   calls known-kinds function arguments first free = go (callee globals s function) refl (λ flaw h. free flaw (inr h)) where

@@ -32,6 +32,7 @@ use Rattle.codegen_base.proofs.Known.{worth_noted}
 use Rattle.codegen_base.proofs.Noted.{Noted}
 use Rattle.codegen_base.proofs.Passed.{AllFit}
 use Rattle.codegen_base.proofs.Typing.{Free, Fits, fits, broken, nodes_end, not_false, worth_there}
+use Rattle.codegen_base.proofs.Called.{function_is}
 use Rattle.plan.specs.Plan.{Do}
 use Rattle.plan.proofs.Typed.{Typed}
 use Rattle.codegen_fine.proofs.WordKinds.{assignable_kinds}
@@ -202,15 +203,6 @@ module _ (globals : Globals) (elements : List Element) where
           pub is : operation_type globals s operation ≡ Some kind
           pub noted : Noted elements kind
           pub pushed : P globals elements code f grounds kind (pushes_one globals elements scope operation)
-
-        function_is : (o : Option ℕ) (other : Bool) (n : ℕ) → (if other then NoFunction else function_of o) ≡ IsFunction n → o ≡ Some n
-        function_is o true n e = absurd cc
-        function_is None false n e = absurd cc
-        function_is (Some m) false n e = ap number_in e where
-          number_in : Callee → Option ℕ
-          number_in NotDeclared = None
-          number_in NoFunction = None
-          number_in (IsFunction k) = Some k
 
         call_gives : (function : List ℕ) (arguments : Arguments) (first : ℕ) → Free (OperationHas globals s first (Call function arguments)) → GivesOne (Call function arguments)
         call_gives function arguments first free = go (callee globals s function) refl where

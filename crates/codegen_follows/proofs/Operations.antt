@@ -90,7 +90,7 @@ module _ (file : File) (elements : List Element) (all : AllWide (globals file).s
         number = n;
         checked = is;
         laid-out = sym (callee_laid function) ∙ is;
-        named = ap (λ o. unwrap_or o 0) (function_is (globals file) view.checked (known_fields view.checked) (function_number (globals file).functions function) _ n is);
+        named = ap (λ o. unwrap_or o 0) (function_is (function_number (globals file).functions function) _ n is);
       }
 
     -- a call that is used as a value has a result
