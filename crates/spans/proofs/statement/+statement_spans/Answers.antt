@@ -414,3 +414,21 @@ statement_spans-returns-in-Break-clause-count t c = search (rules, the_lemmas)
 
 pub statement_spans-returns-in-Break-clause-spans : goal.statement_spans-returns-in-Break-clause-spans
 statement_spans-returns-in-Break-clause-spans t c = search (rules, the_lemmas)
+
+pub body_spans-overflow_add-count : goal.body_spans-overflow_add-count
+body_spans-overflow_add-count t c =
+    let cut : drop c.loop-statement.statement-index c.args.body.now ≡ c.statement-item.result ∷ drop (suc c.loop-statement.statement-index) c.args.body.now =
+      rw c.statement-item.is (drop-cons c.args.body.now c.loop-statement.statement-index _ c.loop-statement-test.true) in
+    omega (arith, c.requires, c.in_ok-count.ensures.count, rw cut at c.loop-statement.invariant.0)
+
+pub body_spans-overflow_add-count-in-loop-statement : goal.body_spans-overflow_add-count-in-loop-statement
+body_spans-overflow_add-count-in-loop-statement t c =
+    let cut : drop c.loop-statement.statement-index c.args.body.now ≡ c.statement-item.result ∷ drop (suc c.loop-statement.statement-index) c.args.body.now =
+      rw c.statement-item.is (drop-cons c.args.body.now c.loop-statement.statement-index _ c.loop-statement-test.true) in
+    omega (arith, c.requires, c.in_ok-count.ensures.count, rw cut at c.loop-statement.invariant.0)
+
+pub clauses_spans-overflow_add-count : goal.clauses_spans-overflow_add-count
+clauses_spans-overflow_add-count t c =
+    let cut : drop c.loop-clause.clause-index c.args.all.now ≡ c.clause-item.result ∷ drop (suc c.loop-clause.clause-index) c.args.all.now =
+      rw c.clause-item.is (drop-cons c.args.all.now c.loop-clause.clause-index _ c.loop-clause-test.true) in
+    omega (arith, c.requires, c.in_ok-count.ensures.count, rw cut at c.loop-clause.invariant.0)
