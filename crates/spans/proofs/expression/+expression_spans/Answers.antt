@@ -1,4 +1,6 @@
-use Rattle.std.proofs.Common.{◌≡◌, ◌∷◌, ◌+◌, suc, ℕ, map, drop, arith, drop-cons}
+use Rattle.std.proofs.Common.{◌≡◌, ◌∷◌, ◌+◌, suc, ℕ, map, drop, arith, drop-cons, [], rules}
+use Rattle.std.proofs.lemmas.List.{append-nil, drop_all}
+use Rattle.syntax.specs.declared.node.ExpressionNode.TheFolds.{the_lemmas}
 use Rattle.syntax.specs.Tree.{expressions}
 use Rattle.syntax.specs.View.{expression_of}
 use Rattle.spans.specs.Words.{expression_count}
@@ -20,3 +22,67 @@ values_spans-loop-value-preserved t c =
       next_spans (λ (at : ℕ). values_spans tokens at (expressions (map expression_of rest))) c.loop-value.spans.items (expression_spans tokens (c.args.at + count) first) _ c.expression_spans.new.spans.items (c.args.at + count + (expression_count first + 1)) (c.args.at + (count + (c.in_ok-count.field-0 + 1)))
           c.in_ok-count.ensures.spans (omega (arith, c.in_ok-count.ensures.count)) (rw cut at c.loop-value.invariant.1),
     )
+
+pub values_spans-returns-clause-count : goal.values_spans-returns-clause-count
+values_spans-returns-clause-count t c =
+    let none : drop c.loop-value.value-index c.args.values.now ≡ [] = drop_all c.loop-value.value-index c.args.values.now c.loop-value-test.false in
+    omega (arith, rw none at c.loop-value.invariant.0)
+
+pub values_spans-returns-clause-spans : goal.values_spans-returns-clause-spans
+values_spans-returns-clause-spans t c =
+    let none : drop c.loop-value.value-index c.args.values.now ≡ [] = drop_all c.loop-value.value-index c.args.values.now c.loop-value-test.false in
+    rw append-nil at (rw none at c.loop-value.invariant.1)
+
+pub expression_spans-expression_spans-requires : goal.expression_spans-expression_spans-requires
+expression_spans-expression_spans-requires t c = search (rules, the_lemmas)
+
+pub expression_spans-overflow_add-count : goal.expression_spans-overflow_add-count
+expression_spans-overflow_add-count t c = search (rules, the_lemmas)
+
+pub expression_spans-expression_spans-requires-in-Selection : goal.expression_spans-expression_spans-requires-in-Selection
+expression_spans-expression_spans-requires-in-Selection t c = search (rules, the_lemmas)
+
+pub expression_spans-overflow_add-count-in-Selection : goal.expression_spans-overflow_add-count-in-Selection
+expression_spans-overflow_add-count-in-Selection t c = search (rules, the_lemmas)
+
+pub expression_spans-values_spans-requires : goal.expression_spans-values_spans-requires
+expression_spans-values_spans-requires t c = search (rules, the_lemmas)
+
+pub expression_spans-overflow_add-count-in-Composite-2 : goal.expression_spans-overflow_add-count-in-Composite-2
+expression_spans-overflow_add-count-in-Composite-2 t c = search (rules, the_lemmas)
+
+pub expression_spans-expression_spans-requires-in-Unary : goal.expression_spans-expression_spans-requires-in-Unary
+expression_spans-expression_spans-requires-in-Unary t c = search (rules, the_lemmas)
+
+pub expression_spans-overflow_add-count-in-Unary : goal.expression_spans-overflow_add-count-in-Unary
+expression_spans-overflow_add-count-in-Unary t c = search (rules, the_lemmas)
+
+pub expression_spans-expression_spans-requires-in-Binary : goal.expression_spans-expression_spans-requires-in-Binary
+expression_spans-expression_spans-requires-in-Binary t c = search (rules, the_lemmas)
+
+pub expression_spans-overflow_add-at-in-Binary : goal.expression_spans-overflow_add-at-in-Binary
+expression_spans-overflow_add-at-in-Binary t c = search (rules, the_lemmas)
+
+pub expression_spans-overflow_add-at-in-Binary-2 : goal.expression_spans-overflow_add-at-in-Binary-2
+expression_spans-overflow_add-at-in-Binary-2 t c = search (rules, the_lemmas)
+
+pub expression_spans-expression_spans-requires-in-Binary-2 : goal.expression_spans-expression_spans-requires-in-Binary-2
+expression_spans-expression_spans-requires-in-Binary-2 t c = search (rules, the_lemmas)
+
+pub expression_spans-overflow_add-count-in-Binary : goal.expression_spans-overflow_add-count-in-Binary
+expression_spans-overflow_add-count-in-Binary t c = search (rules, the_lemmas)
+
+pub expression_spans-overflow_add-count-in-Binary-2 : goal.expression_spans-overflow_add-count-in-Binary-2
+expression_spans-overflow_add-count-in-Binary-2 t c = search (rules, the_lemmas)
+
+pub values_spans-overflow_add-count : goal.values_spans-overflow_add-count
+values_spans-overflow_add-count t c =
+    let cut : drop c.loop-value.value-index c.args.values.now ≡ c.value-item.result ∷ drop (suc c.loop-value.value-index) c.args.values.now =
+      rw c.value-item.is (drop-cons c.args.values.now c.loop-value.value-index _ c.loop-value-test.true) in
+    omega (arith, c.requires, c.in_ok-count.ensures.count, rw cut at c.loop-value.invariant.0)
+
+pub values_spans-overflow_add-count-in-loop-value : goal.values_spans-overflow_add-count-in-loop-value
+values_spans-overflow_add-count-in-loop-value t c =
+    let cut : drop c.loop-value.value-index c.args.values.now ≡ c.value-item.result ∷ drop (suc c.loop-value.value-index) c.args.values.now =
+      rw c.value-item.is (drop-cons c.args.values.now c.loop-value.value-index _ c.loop-value-test.true) in
+    omega (arith, c.requires, c.in_ok-count.ensures.count, rw cut at c.loop-value.invariant.0)

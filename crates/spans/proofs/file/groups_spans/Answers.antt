@@ -1,4 +1,5 @@
-use Rattle.std.proofs.Common.{◌≡◌, ◌∷◌, ◌+◌, suc, ℕ, map, drop, arith, drop-cons}
+use Rattle.std.proofs.Common.{◌≡◌, ◌∷◌, ◌+◌, suc, ℕ, map, drop, arith, drop-cons, []}
+use Rattle.std.proofs.lemmas.List.{append-nil, drop_all}
 use Rattle.syntax.specs.View.{declared_of}
 use Rattle.spans.specs.Words.{group_step}
 use Rattle.spans.specs.Places.{group_spans, groups_spans}
@@ -34,3 +35,8 @@ loop-group-preserved c =
       next_spans (λ (at : ℕ). groups_spans tokens at (map declared_of rest)) c.loop-group.spans.items (group_spans tokens (c.args.at + count) first) _ c.group_spans.new.spans.items (c.args.at + count + group_step first) (c.args.at + (count + (c.in_ok-count.field-0 + 1)))
           c.in_ok-count.ensures.spans (omega (arith, c.in_ok-count.ensures.count)) (rw cut at c.loop-group.invariant.1),
     )
+
+pub returns-clause-spans : goal.returns-clause-spans
+returns-clause-spans c =
+    let none : drop c.loop-group.group-index c.args.groups.now ≡ [] = drop_all c.loop-group.group-index c.args.groups.now c.loop-group-test.false in
+    rw append-nil at (rw none at c.loop-group.invariant.1)

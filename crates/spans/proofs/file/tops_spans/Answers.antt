@@ -1,4 +1,5 @@
-use Rattle.std.proofs.Common.{◌≡◌, ◌∷◌, ◌+◌, suc, ℕ, map, drop, arith, drop-cons}
+use Rattle.std.proofs.Common.{◌≡◌, ◌∷◌, ◌+◌, suc, ℕ, map, drop, arith, drop-cons, []}
+use Rattle.std.proofs.lemmas.List.{append-nil, drop_all}
 use Rattle.syntax.specs.View.{top_of}
 use Rattle.spans.specs.Words.{top_step}
 use Rattle.spans.specs.Places.{top_spans, tops_spans}
@@ -34,3 +35,13 @@ loop-top-preserved c =
       next_spans (λ (at : ℕ). tops_spans tokens at (map top_of rest)) c.loop-top.spans.items (top_spans tokens (c.args.at + count) first) _ c.top_spans.new.spans.items (c.args.at + count + top_step first) (c.args.at + (count + (c.in_ok-count.field-0 + 1)))
           c.in_ok-count.ensures.spans (omega (arith, c.in_ok-count.ensures.count)) (rw cut at c.loop-top.invariant.1),
     )
+
+pub returns-clause-count : goal.returns-clause-count
+returns-clause-count c =
+    let none : drop c.loop-top.top-index c.args.tops.now ≡ [] = drop_all c.loop-top.top-index c.args.tops.now c.loop-top-test.false in
+    omega (arith, rw none at c.loop-top.invariant.0)
+
+pub returns-clause-spans : goal.returns-clause-spans
+returns-clause-spans c =
+    let none : drop c.loop-top.top-index c.args.tops.now ≡ [] = drop_all c.loop-top.top-index c.args.tops.now c.loop-top-test.false in
+    rw append-nil at (rw none at c.loop-top.invariant.1)

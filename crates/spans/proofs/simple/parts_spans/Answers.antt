@@ -1,4 +1,5 @@
-use Rattle.std.proofs.Common.{◌≡◌, ◌∷◌, ◌+◌, suc, ℕ, map, drop, arith, drop-cons}
+use Rattle.std.proofs.Common.{◌≡◌, ◌∷◌, ◌+◌, suc, ℕ, map, drop, arith, drop-cons, []}
+use Rattle.std.proofs.lemmas.List.{append-nil, drop_all}
 use Rattle.syntax.specs.View.{part_of}
 use Rattle.spans.specs.Words.{part_step}
 use Rattle.spans.specs.Places.{part_spans, parts_spans}
@@ -34,3 +35,13 @@ loop-part-preserved c =
       next_spans (λ (at : ℕ). parts_spans tokens at (map part_of rest)) c.loop-part.spans.items (part_spans tokens (c.args.at + count) first) _ c.part_spans.new.spans.items (c.args.at + count + part_step first) (c.args.at + (count + (c.in_ok-count.field-0 + 1)))
           c.in_ok-count.ensures.spans (omega (arith, c.in_ok-count.ensures.count)) (rw cut at c.loop-part.invariant.1),
     )
+
+pub returns-clause-count : goal.returns-clause-count
+returns-clause-count c =
+    let none : drop c.loop-part.part-index c.args.parts.now ≡ [] = drop_all c.loop-part.part-index c.args.parts.now c.loop-part-test.false in
+    omega (arith, rw none at c.loop-part.invariant.0)
+
+pub returns-clause-spans : goal.returns-clause-spans
+returns-clause-spans c =
+    let none : drop c.loop-part.part-index c.args.parts.now ≡ [] = drop_all c.loop-part.part-index c.args.parts.now c.loop-part-test.false in
+    rw append-nil at (rw none at c.loop-part.invariant.1)

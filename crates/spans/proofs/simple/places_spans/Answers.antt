@@ -1,4 +1,5 @@
 use Rattle.std.proofs.Common.{◌≡◌, [], ◌∷◌, ◌+◌, suc, ℕ, map, drop, arith, drop-cons}
+use Rattle.std.proofs.lemmas.List.{append-nil, drop_all}
 use Rattle.syntax.specs.View.{place_of}
 use Rattle.spans.specs.Words.{place_step}
 use Rattle.spans.specs.Places.{place_span, places_spans}
@@ -34,3 +35,13 @@ loop-place-preserved c =
       next_spans (λ (at : ℕ). places_spans tokens at (map place_of rest)) c.loop-place.spans.items (place_span tokens (c.args.at + count) first ∷ []) _ c.place_span.new.spans.items (c.args.at + count + place_step first) (c.args.at + (count + (c.in_ok-count.field-0 + 1)))
           c.in_ok-count.ensures.spans (omega (arith, c.in_ok-count.ensures.count)) (rw cut at c.loop-place.invariant.1),
     )
+
+pub returns-clause-count : goal.returns-clause-count
+returns-clause-count c =
+    let none : drop c.loop-place.place-index c.args.places.now ≡ [] = drop_all c.loop-place.place-index c.args.places.now c.loop-place-test.false in
+    omega (arith, rw none at c.loop-place.invariant.0)
+
+pub returns-clause-spans : goal.returns-clause-spans
+returns-clause-spans c =
+    let none : drop c.loop-place.place-index c.args.places.now ≡ [] = drop_all c.loop-place.place-index c.args.places.now c.loop-place-test.false in
+    rw append-nil at (rw none at c.loop-place.invariant.1)
