@@ -1,0 +1,10 @@
+use Rattle.std.proofs.Common.{rules, ◌≡◌, [], ◌∷◌, ◌++◌, ◌∙◌}
+use Rattle.reference_value.proofs.Newer.{taken}
+use Rattle.reference_value.proofs.scope.put_back.Goals as goal
+
+pub loop-variable-preserved : goal.loop-variable-preserved
+loop-variable-preserved c = λ types.
+    let popped : c.loop-variable.newer.items ≡ c.pop.new.self.items ++ c.in-Some.variable ∷ [] = search rules in
+    let pushed : c.push.new.self.items ≡ c.loop-variable.variables.items ++ c.in-Some.variable ∷ [] = search rules in
+    let here = rw popped at (c.loop-variable.invariant types) in
+    rw pushed (taken types c.pop.new.self.items c.loop-variable.variables.items c.in-Some.variable ∙ here)
