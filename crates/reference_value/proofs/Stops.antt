@@ -3,7 +3,7 @@ use Rattle.std.proofs.Common.{◌≡◌, Result, Ok, IfOk, IfErr, sym, ap, ◌�
 use Rattle.std.proofs.lemmas.Result.{IfOk-at_ok, IfOk-weaker, IfErr-weaker}
 use Rattle.std.specs.Global.{Vec}
 use Rattle.word.specs.declared.value.Word.{Word}
-use Rattle.meaning.specs.Expressions.{Worked}
+use Rattle.meaning.specs.Expressions.{Worked, and_then}
 use Rattle.meaning.specs.Values.{Value}
 use Rattle.reference_value.specs.Stops.{Fails, IsMemory}
 use Rattle.reference_value.specs.declared.fault.Stop.{Stop}
@@ -23,3 +23,8 @@ want_fails worked (stops.Panics cause) memory = absurd memory
 -- want of memory says nothing of the value
 pub memory_fails : {A X : Type 0} (made : Result X Stop) (worked : Worked A) → IfErr made IsMemory → IfErr made (Fails worked)
 memory_fails made worked memory = IfErr-weaker made IsMemory (Fails worked) (want_fails worked) memory
+
+-- where the first value fails, what is made of it fails
+pub fails_first : {A B : Type 0} (first : Worked A) (go_on : A → Worked B) (all : Worked B) (stop : Stop) → all ≡ and_then first go_on → Fails first stop → Fails all stop
+fails_first first go_on all stops.Memory is fails = tt
+fails_first first go_on all (stops.Panics cause) is fails = is ∙ ap (λ w. and_then w go_on) fails

@@ -7,11 +7,12 @@ use Rattle.syntax.specs.Tree.{Composite, expressions}
 use Rattle.syntax.specs.View.{name_of, expression_of}
 use Rattle.type_table.specs.Visible.{types_of, globals_in}
 use Rattle.type_table.specs.Zeros.{zero_words}
-use Rattle.meaning.specs.Expressions.{fields, selected, type_of, value}
+use Rattle.meaning.specs.Expressions.{and_then, before, beside, fields, selected, type_of, value, word_in}
+use Rattle.meaning.specs.Values.{Value}
 use Rattle.meaning.specs.Variables.{lookup, value_of}
 use Rattle.reference_value.specs.Scopes.{blocks_of}
 use Rattle.reference_value.proofs.Literals.{filled, unfilled, joined_next, joined_last, fails_next}
-use Rattle.reference_value.proofs.Stops.{words_had, memory_fails}
+use Rattle.reference_value.proofs.Stops.{words_had, memory_fails, fails_first}
 use Rattle.reference_value.proofs.value.+value.Goals as goal
 
 pub value-returns-else-is_empty-clause-ok : goal.value-returns-else-is_empty-clause-ok
@@ -135,3 +136,37 @@ value-returns-in-Some-settled-clause-ok t c =
     let worked = value globals blocks (expression_of c.args.expression.now) in
     let is : worked ≡ Ok (c.in-Some-settled.word ∷ []) = search (rules, the_lemmas) in
     words_had c.or_stop-in-Some-settled.result c.single-in-Some-settled.result (c.in-Some-settled.word ∷ []) worked is c.single-in-Some-settled.ensures c.or_stop-in-Some-settled.ensures.ok
+
+pub value-returns-in_err-words-in-Selection-clause-err : goal.value-returns-in_err-words-in-Selection-clause-err
+value-returns-in_err-words-in-Selection-clause-err t c =
+    let globals = globals_in c.args.table.now in
+    let blocks = blocks_of (types_of c.args.table.now) c.args.scope.now in
+    let worked = value globals blocks (expression_of c.args.expression.now) in
+    let whole = expression_of c.deref-in-Selection.result.now in
+    let first = value globals blocks whole in
+    let go_on = λ (words : Value). Ok (selected globals blocks (type_of globals blocks whole) (name_of c.in-Selection.field) words) in
+    let is : worked ≡ and_then first go_on = search (rules, the_lemmas) in
+    let p = err_from_is_err_and c.from_residual.result c.from_residual.ensures.1 in
+    rw (p.1, p.2) (fails_first first go_on worked c.in_err-words-in-Selection.field-0.0 is c.in_err-words-in-Selection.ensures.err)
+
+pub value-returns-in_err-a-in-Unary-clause-err : goal.value-returns-in_err-a-in-Unary-clause-err
+value-returns-in_err-a-in-Unary-clause-err t c =
+    let globals = globals_in c.args.table.now in
+    let blocks = blocks_of (types_of c.args.table.now) c.args.scope.now in
+    let worked = value globals blocks (expression_of c.args.expression.now) in
+    let first = value globals blocks (expression_of c.deref-in-Unary.result.now) in
+    let go_on = λ (a : Value). before c.in-Unary.operator (word_in a) in
+    let is : worked ≡ and_then first go_on = search (rules, the_lemmas) in
+    let p = err_from_is_err_and c.from_residual-in_err-a-in-Unary.result c.from_residual-in_err-a-in-Unary.ensures.1 in
+    rw (p.1, p.2) (fails_first first go_on worked c.in_err-a-in-Unary.field-0.0 is c.in_err-a-in-Unary.ensures.err)
+
+pub value-returns-in_err-a-in-Binary-clause-err : goal.value-returns-in_err-a-in-Binary-clause-err
+value-returns-in_err-a-in-Binary-clause-err t c =
+    let globals = globals_in c.args.table.now in
+    let blocks = blocks_of (types_of c.args.table.now) c.args.scope.now in
+    let worked = value globals blocks (expression_of c.args.expression.now) in
+    let first = value globals blocks (expression_of c.deref-in-Binary.result.now) in
+    let go_on = λ (a : Value). beside c.in-Binary.operator (word_in a) (value globals blocks (expression_of c.in-Binary.right.value)) in
+    let is : worked ≡ and_then first go_on = search (rules, the_lemmas) in
+    let p = err_from_is_err_and c.from_residual-in_err-a-in-Binary.result c.from_residual-in_err-a-in-Binary.ensures.1 in
+    rw (p.1, p.2) (fails_first first go_on worked c.in_err-a-in-Binary.field-0.0 is c.in_err-a-in-Binary.ensures.err)
