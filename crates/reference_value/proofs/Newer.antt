@@ -2,7 +2,7 @@
 use Rattle.std.proofs.Common.{◌≡◌, ℕ, ◌+◌, ◌<◌, true, false, List, [], ◌∷◌, ◌++◌, map, reverse, length, take, get_or, bytes_eq, refl, sym, ap, ◌∙◌}
 use Rattle.std.proofs.lemmas.List.{take_more}
 use Rattle.meaning.specs.Values.{Value, written}
-use Rattle.meaning.specs.Variables.{Block, assign_in}
+use Rattle.meaning.specs.Variables.{assign_in}
 use Rattle.reference_value.specs.Scopes.{binding_of, newest_first}
 use Rattle.reference_value.specs.declared.scope.Variable.{Variable}
 use Rattle.reference_value.proofs.Lasts.{shown_last}

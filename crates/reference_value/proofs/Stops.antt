@@ -28,3 +28,10 @@ memory_fails made worked memory = IfErr-weaker made IsMemory (Fails worked) (wan
 pub fails_first : {A B : Type 0} (first : Worked A) (go_on : A → Worked B) (all : Worked B) (stop : Stop) → all ≡ and_then first go_on → Fails first stop → Fails all stop
 fails_first first go_on all stops.Memory is fails = tt
 fails_first first go_on all (stops.Panics cause) is fails = is ∙ ap (λ w. and_then w go_on) fails
+
+-- what is known of one is known of its equal
+pub same_ok : (made : Result (Vec Word) Stop) (a b : Worked Value) → a ≡ b → IfOk made (λ (v : Vec Word). b ≡ Ok v.items) → IfOk made (λ (v : Vec Word). a ≡ Ok v.items)
+same_ok made a b is ok = IfOk-weaker made (λ (v : Vec Word). b ≡ Ok v.items) (λ (v : Vec Word). a ≡ Ok v.items) (λ v e. is ∙ e) ok
+
+pub same_err : {A X : Type 0} (made : Result X Stop) (a b : Worked A) → a ≡ b → IfErr made (Fails b) → IfErr made (Fails a)
+same_err made a b is err = rw is err
