@@ -4,3 +4,4 @@ pub mod Parts
 pub mod Names
 pub mod Types
 pub mod Literals
+pub mod Stops

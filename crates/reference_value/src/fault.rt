@@ -1,5 +1,8 @@
 //! Why a step stops.
 
+ghost use Rattle.std.specs.Prelude.{◌≡◌, IfOk, IfErr, Ok};
+ghost use Rattle.reference_value.specs.Stops.{IsMemory};
+
 use std::alloc::{AllocError, AllocFailed};
 use word::panic::Panic;
 
@@ -43,4 +46,12 @@ impl From<Panic> for Stop {
     fn from(cause: Panic) -> Stop {
         Stop::Panics(cause)
     }
+}
+
+/// The same, where want of memory stops a step.
+pub(crate) fn or_stop<T: Drop>(given: Result<T, AllocError>) -> Result<T, Stop>
+    ensures ok { IfOk result (λ v. given ≡ Ok v) }
+    ensures err { IfErr result IsMemory }
+{
+    Ok(given?)
 }

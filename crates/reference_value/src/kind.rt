@@ -197,12 +197,12 @@ pub fn given_kinds<'t>(
     match right {
         RightNode::Values(expressions) => kinds_in(alloc, table, scope, expressions.as_slice()),
         RightNode::Operation(operation) => {
-            let mut all = Vec::new(alloc);
-            all.push(operation_kind(table, scope, operation))?;
+            let kind = operation_kind(table, scope, operation);
             if count == 2 && is_receive(operation) {
-                all.push(ValueType::Bool)?;
+                Vec::from_slice(alloc, &[kind, ValueType::Bool])
+            } else {
+                Vec::from_slice(alloc, &[kind])
             }
-            Ok(all)
         }
     }
 }

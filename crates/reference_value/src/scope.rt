@@ -99,8 +99,20 @@ fn written(alloc: Global, from: usize, new: &[Word], old: &[Word]) -> Result<Vec
     Ok(words)
 }
 
+/// The variable, with these words from a place on.
+fn changed<'t>(
+    alloc: Global,
+    mut variable: Variable<'t>,
+    from: usize,
+    words: &[Word],
+) -> Result<Variable<'t>, AllocError>
+    ensures { (types : List (List ℕ)) → IfOk result (λ v. binding_of types v ≡ record (binding_of types variable.entry) { value = written from words.now (binding_of types variable.entry).value }) }
+{
+    variable.words = written(alloc, from, words, variable.words.as_slice())?;
+    Ok(variable)
+}
+
 /// Puts variables back, the last one first.
-#[tactic(auto, using(crate::proofs::Lasts::shown_last, crate::proofs::Newer::shown_before))]
 fn put_back<'t>(
     variables: &mut Vec<Variable<'t>>,
     mut newer: Vec<Variable<'t>>,
@@ -114,7 +126,6 @@ fn put_back<'t>(
 }
 
 /// Gives the variable of this name, the newest one of more, these words from a place on.
-#[tactic(auto, using(crate::proofs::Lasts::shown_last, crate::proofs::Newer::shown_before))]
 fn put_in(
     alloc: Global,
     variables: &mut Vec<Variable<'_>>,
@@ -125,12 +136,10 @@ fn put_in(
     ensures { (types : List (List ℕ)) → OnOk result (newest_first types variables.new.items ≡ assign_in name.now from words.now (newest_first types variables.old.items)) }
 {
     let mut newer = Vec::new(alloc);
-    while let Some(mut variable) = variables.pop() {
+    while let Some(variable) = variables.pop() {
         if variable.name == name {
-            variable.words = written(alloc, from, words, variable.words.as_slice())?;
-            variables.push(variable)?;
-            put_back(variables, newer)?;
-            return Ok(());
+            variables.push(changed(alloc, variable, from, words)?)?;
+            return put_back(variables, newer);
         }
         newer.push(variable)?;
     }

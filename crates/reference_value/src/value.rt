@@ -13,7 +13,7 @@ ghost use Rattle.reference_value.specs.Scopes.{blocks_of};
 ghost use Rattle.reference_value.specs.Stops.{Fails};
 ghost use Rattle.reference_value.specs.Values.{by_parts, fixed, values_of};
 
-use crate::fault::Stop;
+use crate::fault::{Stop, or_stop};
 use crate::kind::kind_in;
 use crate::part::selected;
 use crate::scope::Scope;
@@ -133,7 +133,7 @@ fn unary(alloc: Global, operator: UnaryOperator, a: &[Word]) -> Result<Vec<Word>
     ensures err { IfErr result (Fails (before operator (word_in a.now))) }
 {
     let word = before(operator, word_in(a))?;
-    Ok(single(alloc, word)?)
+    or_stop(single(alloc, word))
 }
 
 /// The value of an operator between a word and a value.
@@ -144,7 +144,7 @@ fn binary(alloc: Global, operator: BinaryOperator, a: Word, b: &[Word]) -> Resul
     ensures err { IfErr result (Fails (between operator a (word_in b.now))) }
 {
     let word = between(operator, a, word_in(b))?;
-    Ok(single(alloc, word)?)
+    or_stop(single(alloc, word))
 }
 
 /// The value of an expression.
@@ -161,20 +161,20 @@ pub fn value<'a, 't>(
     ensures err { IfErr result (Fails (value (globals_in table.now) (blocks_of (types_of table.now) scope.now) (expression_of expression.now))) }
 {
     if let Some(word) = constant(table, scope, expression) {
-        return Ok(single(alloc, word)?);
+        return or_stop(single(alloc, word));
     }
     match expression {
         ExpressionNode::Integer(_) => Ok(Vec::new(alloc)),
-        ExpressionNode::Named(name) => Ok(held(alloc, scope, name.bytes.as_slice())?),
+        ExpressionNode::Named(name) => or_stop(held(alloc, scope, name.bytes.as_slice())),
         ExpressionNode::Parenthesized(inner) => value(alloc, table, scope, inner),
         ExpressionNode::Selection(whole, field) => {
             let words = value(alloc, table, scope, whole)?;
-            let (name, words) = (field.bytes.as_slice(), words.as_slice());
-            Ok(field_in(alloc, table, scope, whole, name, words)?)
+            let name = field.bytes.as_slice();
+            or_stop(field_in(alloc, table, scope, whole, name, words.as_slice()))
         }
         ExpressionNode::Composite(_, values, _) => {
             if values.is_empty() {
-                return Ok(zeros(alloc, table, scope, expression)?);
+                return or_stop(zeros(alloc, table, scope, expression));
             }
             fields(alloc, table, scope, values.as_slice())
         }
@@ -186,7 +186,7 @@ pub fn value<'a, 't>(
             let a = value(alloc, table, scope, left)?;
             let a = word_in(a.as_slice());
             if let Some(word) = settled(*operator, a) {
-                return Ok(single(alloc, word)?);
+                return or_stop(single(alloc, word));
             }
             let b = value(alloc, table, scope, right)?;
             binary(alloc, *operator, a, b.as_slice())
@@ -232,5 +232,5 @@ pub fn values<'a, 't>(
     };
     let words = value(alloc, table, scope, first)?;
     let others = values(alloc, table, scope, rest)?;
-    Ok(with_first(words, others)?)
+    or_stop(with_first(words, others))
 }
