@@ -12,7 +12,7 @@ use Rattle.command_line.specs.declared.arguments.Subcommand.{Subcommand}
 use Rattle.command_line.specs.declared.arguments.Subcommand.TheVariants as subcommands
 use Rattle.command_line.specs.declared.arguments.Invocation.{Invocation}
 use Rattle.kendo_front.specs.Outcome.{report_status}
-use Rattle.kendo_reading.specs.Reading.{HasNoReading, IsWhy, Reads}
+use Rattle.kendo_reading.specs.Reading.{HasNoReading, IsRefusal, IsWhy, Reads}
 use Rattle.worker_pool_base.specs.Runs.{IsWorkers}
 use Rattle.one_thread.specs.Worlds.{IsLimit}
 use Rattle.go_text.specs.declared.fault.Fault.{Fault}
@@ -30,25 +30,32 @@ HasReading text = (file : File) × Reads text file
 abbrev pub EndsAs : List ℕ → ℕ → End → Type 0
 EndsAs text limit end = (file : File) × (n : ℕ) × Reads text file × (end_of (moment (source_kind file) limit n) ≡ Some end)
 
--- why the command finds no end: want of memory; a writer that refused bytes, of a text that has a reading; workers or a limit out of their bounds; or, by
--- this fault, why the text has no reading
+-- the command's workers and its limit are within their bounds
+abbrev pub IsInBounds : Subcommand → Type 0
+IsInBounds (subcommands.Run workers limit) = IsWorkers workers × IsLimit limit
+IsInBounds (subcommands.Reference limit) = IsLimit limit
+IsInBounds (subcommands.Timeline limit) = IsLimit limit
+IsInBounds subcommand = Unit {0}
+
+-- a fault of the text or of a writer, which is told where workers and limit are within their bounds
+abbrev pub IsTold : Fault → Type 0
+IsTold fault = IsRefusal fault ⊎ (fault ≡ faults.Write)
+
+-- why the command finds no end: want of memory; workers or a limit out of their bounds, the workers first; else a writer that refused bytes, of a text that
+-- has a reading; or, by this fault, why the text has no reading
 abbrev pub IsReason : Subcommand → List ℕ → Fault → Type 0
 IsReason subcommand text faults.Memory = Unit {0}
-IsReason subcommands.Check text faults.Write = ⊥
-IsReason subcommands.Check text faults.BadWorkers = ⊥
-IsReason subcommands.Check text faults.BadLimit = ⊥
-IsReason (subcommands.Reference limit) text faults.BadWorkers = ⊥
-IsReason (subcommands.Reference limit) text faults.BadLimit = IsLimit limit → ⊥
-IsReason (subcommands.Timeline limit) text faults.BadWorkers = ⊥
-IsReason (subcommands.Timeline limit) text faults.BadLimit = IsLimit limit → ⊥
-IsReason subcommand text faults.Write = HasReading text
-IsReason subcommands.List text faults.BadWorkers = ⊥
-IsReason subcommands.List text faults.BadLimit = ⊥
 IsReason (subcommands.Run workers limit) text faults.BadWorkers = IsWorkers workers → ⊥
+IsReason subcommand text faults.BadWorkers = ⊥
 IsReason (subcommands.Run workers limit) text faults.BadLimit = IsWorkers workers × (IsLimit limit → ⊥)
+IsReason (subcommands.Reference limit) text faults.BadLimit = IsLimit limit → ⊥
+IsReason (subcommands.Timeline limit) text faults.BadLimit = IsLimit limit → ⊥
+IsReason subcommand text faults.BadLimit = ⊥
+IsReason subcommands.Check text faults.Write = ⊥
+IsReason subcommand text faults.Write = IsInBounds subcommand × HasReading text
 IsReason subcommand text (faults.Unverified rule function place) = ⊥
 IsReason subcommand text faults.NotYours = ⊥
-IsReason subcommand text fault = HasNoReading text × IsWhy text fault
+IsReason subcommand text fault = IsInBounds subcommand × HasNoReading text × IsWhy text fault
 
 -- what the command finds in the text: that it has a reading, or that a picture was made of its run, or how its run ends, or why none of these
 abbrev pub Finds : Subcommand → List ℕ → Result End Fault → Type 0

@@ -3,7 +3,7 @@
 
 ghost use Rattle.std.specs.Prelude.{◌≡◌, ◌⊎◌, ◌↔◌, ◌≤◌, IsErr, IsErrOf, IfErr, IfOk, map, string_bytes};
 ghost use Rattle.clap.specs.Values.{kind_of};
-ghost use Rattle.kendo.specs.Answers.{EndsAs, Finds, HasReading, IsStatus, Obeys, ShowsAs, Tells};
+ghost use Rattle.kendo.specs.Answers.{EndsAs, Finds, HasReading, IsStatus, IsTold, Obeys, ShowsAs, Tells};
 ghost use Rattle.kendo_reading.specs.Reading.{HasNoReading, IsOfText, IsRefusal, IsWhy};
 ghost use Rattle.worker_pool_base.specs.Runs.{IsWorkers};
 ghost use Rattle.one_thread.specs.Worlds.{IsLimit};
@@ -323,6 +323,7 @@ fn list(rt: &HostRuntime, alloc: Global, bytes: Vec<u8>) -> Result<End, Fault>
 /// Interprets the text as it stands, with standard output behind a buffer.
 fn interpret(rt: &HostRuntime, alloc: Global, bytes: Vec<u8>, limit: u64) -> Result<End, Fault>
     ensures ends { IfOk result (λ end. IsLimit limit × EndsAs bytes.items limit end) }
+    ensures bounds { IfErr result (λ fault. IsTold fault → IsLimit limit) }
     ensures refused { IfErr result (λ fault. IsRefusal fault → HasNoReading bytes.items) }
     ensures why { IfErr result (λ fault. IsRefusal fault → IsWhy bytes.items fault) }
     ensures limit { IsErrOf result Fault.BadLimit → IsLimit limit → ⊥ }
@@ -347,6 +348,7 @@ fn run(
     mut trace: Trace,
 ) -> Result<End, Fault>
     ensures ends { IfOk result (λ end. IsWorkers workers × IsLimit limit × EndsAs bytes.items limit end) }
+    ensures bounds { IfErr result (λ fault. IsTold fault → IsWorkers workers × IsLimit limit) }
     ensures refused { IfErr result (λ fault. IsRefusal fault → HasNoReading bytes.items) }
     ensures why { IfErr result (λ fault. IsRefusal fault → IsWhy bytes.items fault) }
     ensures workers { IsErrOf result Fault.BadWorkers → IsWorkers workers → ⊥ }

@@ -1,7 +1,7 @@
 //! Pictures of runs.
 
 ghost use Rattle.std.specs.Prelude.{◌≡◌, ◌⊎◌, IfErr, IfOk, IsErrOf};
-ghost use Rattle.kendo.specs.Answers.{HasReading};
+ghost use Rattle.kendo.specs.Answers.{HasReading, IsTold};
 ghost use Rattle.kendo_reading.specs.Reading.{HasNoReading, IsRefusal, IsWhy};
 ghost use Rattle.one_thread.specs.Worlds.{IsLimit};
 
@@ -24,6 +24,7 @@ pub(crate) fn picture(
     file: Trace,
 ) -> Result<End, Fault>
     ensures pictured { IfOk result (λ end. (end ≡ End.Finished) × IsLimit limit × HasReading bytes.items) }
+    ensures bounds { IfErr result (λ fault. IsTold fault → IsLimit limit) }
     ensures refused { IfErr result (λ fault. IsRefusal fault → HasNoReading bytes.items) }
     ensures why { IfErr result (λ fault. IsRefusal fault → IsWhy bytes.items fault) }
     ensures limit { IsErrOf result Fault.BadLimit → IsLimit limit → ⊥ }
