@@ -78,11 +78,11 @@ expression_spans-overflow_add-count-in-Binary-2 t c = search (rules, the_lemmas)
 pub values_spans-overflow_add-count : goal.values_spans-overflow_add-count
 values_spans-overflow_add-count t c =
     let cut : drop c.loop-value.value-index c.args.values.now ≡ c.value-item.result ∷ drop (suc c.loop-value.value-index) c.args.values.now =
-      rw c.value-item.is (drop-cons c.args.values.now c.loop-value.value-index _ c.loop-value-test.true) in
+    rw c.value-item.is (drop-cons c.args.values.now c.loop-value.value-index _ c.loop-value-test.true) in
     omega (arith, c.requires, c.in_ok-count.ensures.count, rw cut at c.loop-value.invariant.0)
 
 pub values_spans-overflow_add-count-in-loop-value : goal.values_spans-overflow_add-count-in-loop-value
 values_spans-overflow_add-count-in-loop-value t c =
     let cut : drop c.loop-value.value-index c.args.values.now ≡ c.value-item.result ∷ drop (suc c.loop-value.value-index) c.args.values.now =
-      rw c.value-item.is (drop-cons c.args.values.now c.loop-value.value-index _ c.loop-value-test.true) in
+    rw c.value-item.is (drop-cons c.args.values.now c.loop-value.value-index _ c.loop-value-test.true) in
     omega (arith, c.requires, c.in_ok-count.ensures.count, rw cut at c.loop-value.invariant.0)

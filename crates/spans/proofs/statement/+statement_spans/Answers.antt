@@ -64,7 +64,7 @@ branch_spans-returns-clause-spans t c =
     let third = rw (c.as_slice.ensures.value, head, condition) at c.in_ok-body.ensures.spans in
     let fourth = rw (head, condition, body) at c.in_ok-otherwise.ensures.spans in
     IfOk-equal c.add_node.result _ _ _ c.add_node.ensures.spans
-        (rw (is, fourth, third, second, c.in_ok-head.ensures.spans, head, condition, body, c.in_ok-otherwise.ensures.count) (simp append_assoc))
+    (rw (is, fourth, third, second, c.in_ok-head.ensures.spans, head, condition, body, c.in_ok-otherwise.ensures.count) (simp append_assoc))
 
 pub clause_spans-returns-clause-spans : goal.clause_spans-returns-clause-spans
 clause_spans-returns-clause-spans t c =
@@ -73,7 +73,7 @@ clause_spans-returns-clause-spans t c =
     let body = rw c.as_slice.ensures.value at c.in_ok-body.ensures.count in
     let second = rw (c.as_slice.ensures.value, c.in_ok-start.ensures.count) at c.in_ok-body.ensures.spans in
     IfOk-equal c.add_node.result _ _ _ c.add_node.ensures.spans
-        (rw (is, second, c.in_ok-start.ensures.spans, c.saturating_sub.ensures, c.in_ok-start.ensures.count, body) (simp append_assoc))
+    (rw (is, second, c.in_ok-start.ensures.spans, c.saturating_sub.ensures, c.in_ok-start.ensures.count, body) (simp append_assoc))
 
 pub statement_spans-returns-in_ok-values-in-Typed-clause-spans : goal.statement_spans-returns-in_ok-values-in-Typed-clause-spans
 statement_spans-returns-in_ok-values-in-Typed-clause-spans t c =
@@ -84,7 +84,7 @@ statement_spans-returns-in_ok-values-in-Typed-clause-spans t c =
     let first = rw names at c.in_ok-kind-in-Typed.ensures.spans in
     let second = rw (names, kind) at c.in_ok-values-in-Typed.ensures.spans in
     IfOk-equal c.add_node-in-Typed.result _ _ _ c.add_node-in-Typed.ensures.spans
-        (rw (is, second, first, names, kind, c.in_ok-values-in-Typed.ensures.count) (simp append_assoc))
+    (rw (is, second, first, names, kind, c.in_ok-values-in-Typed.ensures.count) (simp append_assoc))
 
 pub statement_spans-returns-in_ok-values-in-Untyped-clause-spans : goal.statement_spans-returns-in_ok-values-in-Untyped-clause-spans
 statement_spans-returns-in_ok-values-in-Untyped-clause-spans t c =
@@ -93,7 +93,7 @@ statement_spans-returns-in_ok-values-in-Untyped-clause-spans t c =
     let names : c.len-names.result ≡ length (map name_of arm.names.items) = omega (arith, length-map arm.names.items name_of) in
     let first = rw names at c.in_ok-values-in-Untyped.ensures.spans in
     IfOk-equal c.add_node-in-Untyped.result _ _ _ c.add_node-in-Untyped.ensures.spans
-        (rw (is, first, names, c.in_ok-values-in-Untyped.ensures.count) (simp append_assoc))
+    (rw (is, first, names, c.in_ok-values-in-Untyped.ensures.count) (simp append_assoc))
 
 pub statement_spans-returns-in_ok-count-in-Block-clause-spans : goal.statement_spans-returns-in_ok-count-in-Block-clause-spans
 statement_spans-returns-in_ok-count-in-Block-clause-spans t c =
@@ -109,7 +109,7 @@ statement_spans-returns-in_ok-body-in-For-clause-spans t c =
     let body = rw c.as_slice-in-For.ensures.value at c.in_ok-body-in-For.ensures.count in
     let second = rw (c.as_slice-in-For.ensures.value, head) at c.in_ok-body-in-For.ensures.spans in
     IfOk-equal c.add_node-in-For.result _ _ _ c.add_node-in-For.ensures.spans
-        (rw (is, second, c.in_ok-head-in-For.ensures.spans, head, body) (simp append_assoc))
+    (rw (is, second, c.in_ok-head-in-For.ensures.spans, head, body) (simp append_assoc))
 
 pub statement_spans-returns-in_ok-count-in-Select-clause-spans : goal.statement_spans-returns-in_ok-count-in-Select-clause-spans
 statement_spans-returns-in_ok-count-in-Select-clause-spans t c =
@@ -383,7 +383,7 @@ statement_spans-returns-in_ok-values-in-Typed-clause-count t c =
     let arm = c.in-Typed in
     let is : statement_of c.args.statement.now ≡ VarTyped (map name_of arm.names.items) (type_of arm.kind) (option_map right_of arm.right) = search (rules, the_lemmas) in
     let count : c.saturating_sub-names.result + c.in_ok-kind-in-Typed.kind + c.in_ok-values-in-Typed.values + 1 ≡ statement_count (statement_of c.args.statement.now) =
-      rw is (omega (arith, length-map arm.names.items name_of, c.in_ok-kind-in-Typed.ensures.count, c.in_ok-values-in-Typed.ensures.count)) in
+    rw is (omega (arith, length-map arm.names.items name_of, c.in_ok-kind-in-Typed.ensures.count, c.in_ok-values-in-Typed.ensures.count)) in
     rw count at c.add_node-in-Typed.ensures.count
 
 pub statement_spans-returns-in_ok-values-in-Untyped-clause-count : goal.statement_spans-returns-in_ok-values-in-Untyped-clause-count
@@ -391,7 +391,7 @@ statement_spans-returns-in_ok-values-in-Untyped-clause-count t c =
     let arm = c.in-Untyped in
     let is : statement_of c.args.statement.now ≡ VarUntyped (map name_of arm.names.items) (right_of arm.right) = search (rules, the_lemmas) in
     let count : c.len-names.result * 2 + c.in_ok-values-in-Untyped.values + 1 ≡ statement_count (statement_of c.args.statement.now) =
-      rw is (omega (arith, length-map arm.names.items name_of, c.in_ok-values-in-Untyped.ensures.count)) in
+    rw is (omega (arith, length-map arm.names.items name_of, c.in_ok-values-in-Untyped.ensures.count)) in
     rw count at c.add_node-in-Untyped.ensures.count
 
 pub statement_spans-returns-in_ok-count-in-Block-clause-count : goal.statement_spans-returns-in_ok-count-in-Block-clause-count
@@ -418,17 +418,17 @@ statement_spans-returns-in-Break-clause-spans t c = search (rules, the_lemmas)
 pub body_spans-overflow_add-count : goal.body_spans-overflow_add-count
 body_spans-overflow_add-count t c =
     let cut : drop c.loop-statement.statement-index c.args.body.now ≡ c.statement-item.result ∷ drop (suc c.loop-statement.statement-index) c.args.body.now =
-      rw c.statement-item.is (drop-cons c.args.body.now c.loop-statement.statement-index _ c.loop-statement-test.true) in
+    rw c.statement-item.is (drop-cons c.args.body.now c.loop-statement.statement-index _ c.loop-statement-test.true) in
     omega (arith, c.requires, c.in_ok-count.ensures.count, rw cut at c.loop-statement.invariant.0)
 
 pub body_spans-overflow_add-count-in-loop-statement : goal.body_spans-overflow_add-count-in-loop-statement
 body_spans-overflow_add-count-in-loop-statement t c =
     let cut : drop c.loop-statement.statement-index c.args.body.now ≡ c.statement-item.result ∷ drop (suc c.loop-statement.statement-index) c.args.body.now =
-      rw c.statement-item.is (drop-cons c.args.body.now c.loop-statement.statement-index _ c.loop-statement-test.true) in
+    rw c.statement-item.is (drop-cons c.args.body.now c.loop-statement.statement-index _ c.loop-statement-test.true) in
     omega (arith, c.requires, c.in_ok-count.ensures.count, rw cut at c.loop-statement.invariant.0)
 
 pub clauses_spans-overflow_add-count : goal.clauses_spans-overflow_add-count
 clauses_spans-overflow_add-count t c =
     let cut : drop c.loop-clause.clause-index c.args.all.now ≡ c.clause-item.result ∷ drop (suc c.loop-clause.clause-index) c.args.all.now =
-      rw c.clause-item.is (drop-cons c.args.all.now c.loop-clause.clause-index _ c.loop-clause-test.true) in
+    rw c.clause-item.is (drop-cons c.args.all.now c.loop-clause.clause-index _ c.loop-clause-test.true) in
     omega (arith, c.requires, c.in_ok-count.ensures.count, rw cut at c.loop-clause.invariant.0)
