@@ -1,5 +1,5 @@
 -- What a command finds in a text, and the exit status that tells it.
-use Rattle.std.proofs.Common.{◌≡◌, ℕ, ◌≤◌, ◌<◌, ◌^◌, ◌⊎◌, inl, inr, List, Result, Ok, Err, IfOk, IfErr, IsErrOf, refl, sym, ap, subst, arith}
+use Rattle.std.proofs.Common.{◌≡◌, ◌↔◌, ℕ, ◌≤◌, ◌<◌, ◌^◌, ◌⊎◌, inl, inr, List, Result, Ok, Err, IfOk, IfErr, IsErrOf, refl, sym, ap, subst, arith}
 use Rattle.std.proofs.lemmas.Bool.{cases_lt}
 use Rattle.kendo.specs.Answers.{EndsAs, Finds, HasReading, IsInBounds, IsReason, IsStatus, IsTold, Tells}
 use Rattle.command_line.specs.declared.arguments.Subcommand.{Subcommand}
@@ -29,19 +29,36 @@ limit_untold : IsTold faults.BadLimit → ⊥
 limit_untold (inl low) = omega (arith, low)
 limit_untold (inr is) = absurd cc
 
-fault_in : Fault → Result End Fault → Fault
-fault_in other (Ok end) = other
+fault_in : {T : Type 0} → Fault → Result T Fault → Fault
+fault_in other (Ok made) = other
 fault_in other (Err fault) = fault
 
 -- what is told of a text or of a writer, workers and a limit within their bounds come before
-pub limit_before : (limit : ℕ) (fault : Fault) → IsErrOf {T = End} (Err fault) faults.BadLimit ↔ (IsLimit limit → ⊥) → IsTold fault → IsLimit limit
+pub limit_before : {T : Type 0} (limit : ℕ) (fault : Fault) → IsErrOf {T = T} (Err fault) faults.BadLimit ↔ (IsLimit limit → ⊥) → IsTold fault → IsLimit limit
 limit_before limit fault bad told = within 1 (2 ^ 62) limit (λ out. limit_untold (subst IsTold (ap (fault_in fault) (bad.1 out)) told))
 
-pub both_before : (workers limit : ℕ) (fault : Fault) → IsErrOf {T = End} (Err fault) faults.BadWorkers ↔ (IsWorkers workers → ⊥) → IsErrOf {T = End} (Err fault) faults.BadLimit ↔ (IsWorkers workers × (IsLimit limit → ⊥)) → IsTold fault
+pub both_before : {T : Type 0} (workers limit : ℕ) (fault : Fault) → IsErrOf {T = T} (Err fault) faults.BadWorkers ↔ (IsWorkers workers → ⊥) → IsErrOf {T = T} (Err fault) faults.BadLimit ↔ (IsWorkers workers × (IsLimit limit → ⊥)) → IsTold fault
     → IsWorkers workers × IsLimit limit
 both_before workers limit fault bad_workers bad_limit told =
     let many = within 1 64 workers (λ out. workers_untold (subst IsTold (ap (fault_in fault) (bad_workers.1 out)) told)) in
     (many, within 1 (2 ^ 62) limit (λ out. limit_untold (subst IsTold (ap (fault_in fault) (bad_limit.1 (many, out))) told)))
+
+not_both : {T : Type 0} (made : T) (fault : Fault) → IsErrOf {T = T} (Ok made) fault → ⊥
+not_both made fault e = absurd cc
+
+-- they are so too where something was made
+pub limit_ended : {T : Type 0} (limit : ℕ) (made : T) → IsErrOf {T = T} (Ok made) faults.BadLimit ↔ (IsLimit limit → ⊥) → IsLimit limit
+limit_ended limit made bad = within 1 (2 ^ 62) limit (λ out. not_both made faults.BadLimit (bad.1 out))
+
+pub both_ended : {T : Type 0} (workers limit : ℕ) (made : T) → IsErrOf {T = T} (Ok made) faults.BadWorkers ↔ (IsWorkers workers → ⊥) → IsErrOf {T = T} (Ok made) faults.BadLimit ↔ (IsWorkers workers × (IsLimit limit → ⊥)) → IsWorkers workers × IsLimit limit
+both_ended workers limit made bad_workers bad_limit =
+    let many = within 1 64 workers (λ out. not_both made faults.BadWorkers (bad_workers.1 out)) in
+    (many, within 1 (2 ^ 62) limit (λ out. not_both made faults.BadLimit (bad_limit.1 (many, out))))
+
+-- what holds at last holds whatever is told
+pub whatever : {B : Type 0} (result : Result End Fault) → B → IfErr result (λ fault. IsTold fault → B)
+whatever (Ok end) b = tt
+whatever (Err fault) b = λ told. b
 
 -- why a text is refused
 unreadable : (subcommand : Subcommand) (text : List ℕ) (fault : Fault) → IsInBounds subcommand → IsRefusal fault → HasNoReading text → IsWhy text fault → IsReason subcommand text fault
