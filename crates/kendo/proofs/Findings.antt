@@ -29,7 +29,7 @@ limit_untold : IsTold faults.BadLimit → ⊥
 limit_untold (inl low) = omega (arith, low)
 limit_untold (inr is) = absurd cc
 
-fault_in : {T : Type 0} → Fault → Result T Fault → Fault
+abbrev fault_in : {T : Type 0} → Fault → Result T Fault → Fault
 fault_in other (Ok made) = other
 fault_in other (Err fault) = fault
 
