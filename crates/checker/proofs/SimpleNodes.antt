@@ -1,5 +1,5 @@
 -- A flaw's node is one of the simple statement's.
-use Rattle.std.proofs.Common.{ℕ, ◌+◌, ◌<◌, ◌≤◌, inl, inr, List, [], ◌∷◌, Option, Some, None, length, sum_by, arith, pos}
+use Rattle.std.proofs.Common.{ℕ, zero, suc, ◌+◌, ◌<◌, ◌≤◌, inl, inr, List, [], ◌∷◌, Option, Some, None, length, sum_by, arith, pos, true}
 use Rattle.std.specs.Option.{is_none}
 use Rattle.std.specs.Result.{result_ok}
 use Rattle.std.proofs.lemmas.List.Sums.{sum_by-cons}
@@ -15,7 +15,7 @@ use Rattle.typing_rules.specs.Worths.{Worth, Typed, Constant, Nil, kind_of, bina
 use Rattle.type_table.specs.Types.{IntType, BoolType, StructType, ChannelType}
 use Rattle.typing_rules.specs.Expressions.{PrintedHas, nodes_of, element_of}
 use Rattle.typing_rules.specs.Operations.{Given, given, place_type}
-use Rattle.typing_rules.specs.Simples.{PartHas, PartsHave, UpdatedHas, StepHas, NamesFail, DefinedHave, VariablesHave, AllFail, IfRightHas, SimpleHas, comm_simple, TypedVariablesHave, UntypedVariablesHave}
+use Rattle.typing_rules.specs.Simples.{PartHas, PartsHave, UpdatedHas, StepHas, NamesFail, DefaultsFail, DefinedHave, VariablesHave, AllFail, IfRightHas, SimpleHas, comm_simple, TypedVariablesHave, UntypedVariablesHave}
 use Rattle.typing_rules.specs.Nodes.{node_of}
 use Rattle.typing_rules.proofs.ExpressionNodes.{broken, expression_positive, type_positive, value_within, fails_within, numbers_within, expression_within, channel_within, sent_within}
 use Rattle.typing_rules.proofs.OperationNodes.{type_within, call_within, receive_within, measured_within, AreWithin, given_are, right_within, read_place_within, goes_within, places_fail_within, places_within}
@@ -61,6 +61,12 @@ names_fail_within scope (name ∷ names) (g ∷ gs) end flaw all (inl has) =
     let small = goes_within (is_none (own_variable scope name)) g (kind_of (own_variable scope name)) flaw all.0.0 has in omega (arith, small, all.0.1)
 names_fail_within scope (name ∷ names) (g ∷ gs) end flaw all (inr has) = names_fail_within scope names gs end flaw all.1 has
 
+defaults_within : (names : List (List ℕ)) (gs : List Given) (end : ℕ) (flaw : Flaw) → AreWithin end gs → DefaultsFail names gs flaw → node_of flaw < end
+defaults_within [] gs end flaw all has = absurd has
+defaults_within (name ∷ names) [] end flaw all has = absurd has
+defaults_within (name ∷ names) (g ∷ gs) end flaw all (inl has) = let small = goes_within true g None flaw all.0.0 has in omega (arith, small, all.0.1)
+defaults_within (name ∷ names) (g ∷ gs) end flaw all (inr has) = defaults_within names gs end flaw all.1 has
+
 pub defined_within : (scope : Scope) (names : List (List ℕ)) (end : ℕ) (flaw : Flaw) → DefinedHave scope names end flaw → node_of flaw < end
 defined_within scope names end flaw (inl has) = omega (arith, broken _ end flaw has.1)
 defined_within scope names end flaw (inr has) = omega (arith, broken _ end flaw has.1)
@@ -68,17 +74,18 @@ defined_within scope names end flaw (inr has) = omega (arith, broken _ end flaw 
 variables_within : (scope : Scope) (names : List (List ℕ)) (end : ℕ) (flaw : Flaw) → VariablesHave scope names end flaw → node_of flaw < end
 variables_within scope names end flaw has = omega (arith, broken _ end flaw has.1)
 
-all_fail_within : (kind : Option ValueType) (gs : List Given) (end : ℕ) (flaw : Flaw) → AreWithin end gs → AllFail kind gs flaw → node_of flaw < end
-all_fail_within kind [] end flaw all has = absurd has
-all_fail_within kind (g ∷ gs) end flaw all (inl has) =
+all_fail_within : (kind : Option ValueType) (n : ℕ) (gs : List Given) (end : ℕ) (flaw : Flaw) → AreWithin end gs → AllFail kind n gs flaw → node_of flaw < end
+all_fail_within kind n [] end flaw all has = absurd has
+all_fail_within kind zero (g ∷ gs) end flaw all has = absurd has
+all_fail_within kind (suc n) (g ∷ gs) end flaw all (inl has) =
     let small = value_within g.worth kind g.nodes flaw all.0.0 has in omega (arith, small, all.0.1)
-all_fail_within kind (g ∷ gs) end flaw all (inr has) = all_fail_within kind gs end flaw all.1 has
+all_fail_within kind (suc n) (g ∷ gs) end flaw all (inr has) = all_fail_within kind n gs end flaw all.1 has
 
 if_right_within : (globals : Globals) (scope : Scope) (names : ℕ) (kind : Option ValueType) (r : Option Right) (first : ℕ) (flaw : Flaw) → IfRightHas globals scope names kind first r flaw → node_of flaw < first + if_any right_size r + 1
 if_right_within globals scope names kind None first flaw has = absurd has
 if_right_within globals scope names kind (Some r) first flaw (inl has) = omega (arith, right_within globals scope r first flaw has)
 if_right_within globals scope names kind (Some r) first flaw (inr (inl has)) = omega (arith, numbers_within (length (given globals scope names first r)) names (first + right_size r + 1) flaw has)
-if_right_within globals scope names kind (Some r) first flaw (inr (inr has)) = omega (arith, all_fail_within kind (given globals scope names first r) (first + right_size r) flaw (given_are globals scope names r first) has)
+if_right_within globals scope names kind (Some r) first flaw (inr (inr has)) = omega (arith, all_fail_within kind names (given globals scope names first r) (first + right_size r) flaw (given_are globals scope names r first) has)
 
 pub typed_within : (globals : Globals) (scope : Scope) (names : List (List ℕ)) (kind : TypeExpression) (r : Option Right) (first : ℕ) (flaw : Flaw) → TypedVariablesHave globals scope first names kind r flaw → node_of flaw < first + (type_size kind + if_any right_size r + 1)
 typed_within globals scope names kind r first flaw (inl has) = omega (arith, type_within (type_in globals.types scope kind) first flaw has, type_positive kind)
@@ -89,7 +96,7 @@ pub untyped_within : (globals : Globals) (scope : Scope) (names : List (List ℕ
 untyped_within globals scope names r first flaw (inl has) = omega (arith, right_within globals scope r first flaw has)
 untyped_within globals scope names r first flaw (inr (inl has)) = omega (arith, numbers_within (length (given globals scope (length names) first r)) (length names) (first + right_size r + 1) flaw has)
 untyped_within globals scope names r first flaw (inr (inr (inl has))) = omega (arith, variables_within scope names (first + right_size r + 1) flaw has)
-untyped_within globals scope names r first flaw (inr (inr (inr has))) = omega (arith, names_fail_within scope names (given globals scope (length names) first r) (first + right_size r) flaw (given_are globals scope (length names) r first) has)
+untyped_within globals scope names r first flaw (inr (inr (inr has))) = omega (arith, defaults_within names (given globals scope (length names) first r) (first + right_size r) flaw (given_are globals scope (length names) r first) has)
 
 -- ---- simple statements
 

@@ -1,5 +1,5 @@
 -- A value goes to a variable of a type, or to one that takes its type.
-use Rattle.std.proofs.Common.{◌≡◌, true, false, inl, inr, List, ◌∷◌, Option, Some, None}
+use Rattle.std.proofs.Common.{◌≡◌, ℕ, suc, true, false, inl, inr, List, ◌∷◌, Option, Some, None}
 use Rattle.std.specs.Option.{is_none}
 use Rattle.typing_rules.specs.declared.flaw.Flaw.{Flaw}
 use Rattle.type_table.specs.Types.{ValueType}
@@ -22,8 +22,8 @@ pub free-own : (o : Option Variable) → o ≡ None → (k : Option ValueType) (
 free-own o e k g f h = rw e at h
 
 -- what is wrong with values for variables of one type
-pub all-fail : (k : Option ValueType) (g : Given) (gs all : List Given) (f : Flaw) → all ≡ g ∷ gs → (GoesHas false g k f → ⊥) → (AllFail k gs f → ⊥) → AllFail k all f → ⊥
-all-fail k g gs all f e first rest h = elim (rw e at h) [ inl x ↦ first x | inr x ↦ rest x ]
+pub all-fail : (k : Option ValueType) (g : Given) (gs all : List Given) (n m : ℕ) (f : Flaw) → all ≡ g ∷ gs → m ≡ suc n → (GoesHas false g k f → ⊥) → (AllFail k n gs f → ⊥) → AllFail k m all f → ⊥
+all-fail k g gs all n m f e d first rest h = elim (rw (e, d) at h) [ inl x ↦ first x | inr x ↦ rest x ]
 
-pub fail-one : (k : Option ValueType) (g : Given) (gs all : List Given) (f : Flaw) → all ≡ g ∷ gs → GoesHas false g k f → AllFail k all f
-fail-one k g gs all f e h = rw e (inl h)
+pub fail-one : (k : Option ValueType) (g : Given) (gs all : List Given) (n m : ℕ) (f : Flaw) → all ≡ g ∷ gs → m ≡ suc n → GoesHas false g k f → AllFail k m all f
+fail-one k g gs all n m f e d h = rw (e, d) (inl h)

@@ -1,5 +1,5 @@
 -- What is wrong with a statement is what is wrong with its parts.
-use Rattle.std.proofs.Common.{◌≡◌, ℕ, ◌+◌, inl, inr, List, length, Option, Some}
+use Rattle.std.proofs.Common.{rules, ◌≡◌, ℕ, ◌+◌, Bool, false, inl, inr, refl, sym, List, length, nat_eq, ◌==◌, Option, Some, arith}
 use Rattle.std.proofs.lemmas.List.{length-map}
 use denote.Ref.{Bor}
 use Rattle.syntax.specs.declared.node.Name.{Name}
@@ -13,7 +13,8 @@ use Rattle.checker_base.specs.declared.refusal.Refusal.{Refusal}
 use Rattle.checker_base.specs.declared.refusal.Refusal.TheVariants.{Memory, Flawed}
 use Rattle.checker_base.specs.Views.{Refuses}
 use Rattle.typing_rules.specs.Operations.{Given, given, RightHas, PlacesHave}
-use Rattle.typing_rules.specs.Simples.{AssignedHave, NamesHave, UntypedHave, TypedHave, VariablesHave, IfRightHas, with_defined, SimpleHas, TypedVariablesHave, UntypedVariablesHave}
+use Rattle.typing_rules.specs.Simples.{AssignedHave, NamesHave, NamesFail, UntypedHave, AllFail, TypedHave, VariablesHave, IfRightHas, with_defined, SimpleHas, TypedVariablesHave, UntypedVariablesHave}
+use Rattle.typing_rules.proofs.Defaults.{defaults_fail, names_fail, none_own}
 use Rattle.checker_operation.specs.Givens.{places_at}
 use Rattle.checker_simple.specs.Names.{names_at}
 use Rattle.checker_simple.proofs.Anywhere.{defined-anywhere}
@@ -49,6 +50,34 @@ pub defined-after : (g : Globals) (s new : Scope) (first count : ℕ) (names the
 defined-after g s new first count names these right values e n v h = rw (h, e, v, n) (defined-anywhere g s names (length names) first 0 right)
 
 -- ---- variables
+
+unequal : (a b : ℕ) → a ≡ b → (a == b) ≡ false → ⊥
+unequal a b e d = search rules
+
+-- so many values for so many variables of one type
+pub typed-given-none : (k : Option ValueType) (names n : ℕ) (values every : List Given) (end : ℕ) (f : Flaw)
+    → every ≡ values → length values ≡ names → n ≡ names → (AllFail k n values f → ⊥) → TypedHave k names every end f → ⊥
+typed-given-none k names n values every end f v l d goes (inl x) = unequal (length values) names l (rw v at x.0)
+typed-given-none k names n values every end f v l d goes (inr x) = goes (rw d (rw v at x))
+
+pub typed-given-one : (k : Option ValueType) (names n : ℕ) (values every : List Given) (end : ℕ) (f : Flaw)
+    → every ≡ values → n ≡ names → AllFail k n values f → TypedHave k names every end f
+typed-given-one k names n values every end f v d h = inr (rw v (rw d at h))
+
+-- values that might go to the names of a `:=` may be given to new variables, and what is wrong with the ones is wrong with the others
+pub given-none : (s : Scope) (names all : List (List ℕ)) (values every : List Given) (node end : ℕ) (f : Flaw)
+    → all ≡ names → every ≡ values → end ≡ node + 1
+    → length names ≡ length values → ((last : ℕ) → last ≡ node + 1 → (other : Flaw) → VariablesHave s names last other → ⊥) → (NamesFail s names values f → ⊥)
+    → UntypedHave s all every end f → ⊥
+given-none s names all values every node end f a v e n new goes (inl x) = unequal (length values) (length names) (sym n) (rw (a, v) at x.0)
+given-none s names all values every node end f a v e n new goes (inr (inl x)) = new end e f (rw a at x)
+given-none s names all values every node end f a v e n new goes (inr (inr x)) = goes (names_fail s names values f (none_own s names (node + 1) (omega arith) (new (node + 1) refl)) (rw (a, v) at x))
+
+pub given-one : (s : Scope) (names all : List (List ℕ)) (values every : List Given) (node end : ℕ) (r : Refusal)
+    → all ≡ names → every ≡ values → ((last : ℕ) → last ≡ node + 1 → (other : Flaw) → VariablesHave s names last other → ⊥)
+    → Refuses (NamesFail s names values) r → Refuses (UntypedHave s all every end) r
+given-one s names all values every node end Memory a v new h = tt
+given-one s names all values every node end (Flawed f) a v new h = inr (inr (rw (a, v) (defaults_fail s names values f (none_own s names (node + 1) (omega arith) (new (node + 1) refl)) h)))
 
 pub untyped-none : (g : Globals) (s : Scope) (first count end : ℕ) (names : List (List ℕ)) (right : Right) (f : Flaw)
     → count ≡ length names → end ≡ first + right_size right + 1

@@ -32,8 +32,8 @@ fn all_fit<'a>(
     kind: ValueType<'a>,
     values: &[Operand<'a>],
 ) -> Result<(), Flaw>
-    ensures none { IfOk result (λ _. (flaw : OneFlaw) → ¬ (AllFail (Some (kind_of (types_of table.now) kind.entry)) (map (given_of (types_of table.now)) values.now) flaw)) }
-    ensures one { IfErr result (AllFail (Some (kind_of (types_of table.now) kind.entry)) (map (given_of (types_of table.now)) values.now)) }
+    ensures none { IfOk result (λ _. (flaw : OneFlaw) → ¬ (AllFail (Some (kind_of (types_of table.now) kind.entry)) (length values.now) (map (given_of (types_of table.now)) values.now) flaw)) }
+    ensures one { IfErr result (AllFail (Some (kind_of (types_of table.now) kind.entry)) (length values.now) (map (given_of (types_of table.now)) values.now)) }
 {
     let Some((operand, rest)) = values.split_first() else {
         return Ok(());

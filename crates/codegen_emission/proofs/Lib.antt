@@ -12,3 +12,4 @@ pub mod Choosing
 pub mod Selecting
 pub mod Ranging
 pub mod Defaults
+pub mod Referred

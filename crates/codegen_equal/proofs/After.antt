@@ -12,6 +12,7 @@ use Rattle.type_table.specs.Scopes.{Globals, Scope, Yield, Yields, is_blank, is_
 use Rattle.typing_rules.specs.Operations.{given, result_of}
 use Rattle.typing_rules.specs.Simples.{SimpleHas, TypedVariablesHave, UntypedVariablesHave, has_twice, with_defined, with_variables}
 use Rattle.typing_rules.specs.Statements.{after, after_clauses}
+use Rattle.typing_rules.proofs.Defaults.{untyped_names}
 use Rattle.meaning.specs.Values.{known}
 use Rattle.meaning.specs.Source.{globals}
 use Rattle.codegen_base.specs.declared.element.Element.{Element}
@@ -136,7 +137,8 @@ module _ (file : File) (elements : List Element) (all : AllWide (globals file).s
   untyped_fine : (view : View) (names : List (List ℕ)) (right : Right) (first : ℕ) → IsFine view → Free (UntypedVariablesHave G view.checked first names right) → RightMakes file elements all code result f right → IsFine (past_one view (VarUntyped names right))
   untyped_fine view names right first fine free makes =
       let g = named_good view names right fine
-      (right_well elements G fields_noted results view.checked (scope_of view) (known_fields view.checked) (variables_known view.checked (scope_of view) fine.alike fine.placed.known) fine.alike fine.noted names right first (first + right_size right + 1) (omega arith) (made_right right makes) (λ flaw h. free flaw (inl h)) (λ flaw h. free flaw (inr (inl h))) (λ flaw h. free flaw (inr (inr (inr h))))) in
+      (right_well elements G fields_noted results view.checked (scope_of view) (known_fields view.checked) (variables_known view.checked (scope_of view) fine.alike fine.placed.known) fine.alike fine.noted names right first (first + right_size right + 1) (omega arith) (made_right right makes) (λ flaw h. free flaw (inl h)) (λ flaw h. free flaw (inr (inl h)))
+      (untyped_names view.checked names (given G view.checked (length names) first right) (first + right_size right + 1) (omega arith) (λ flaw h. free flaw (inr h)))) in
       record { placed = g.placed; alike = g.alike; noted = g.noted }
 
   alike_well : (s : Scope) (names : List (List ℕ)) (kind : ValueType) → Noted elements kind → AllWell elements s names (alike_values names kind)

@@ -17,6 +17,7 @@ use Rattle.typing_rules.specs.Worths.{Typed as TypedWorth}
 use Rattle.typing_rules.specs.Expressions.{ValueHas}
 use Rattle.typing_rules.specs.Operations.{Given, given}
 use Rattle.typing_rules.specs.Simples.{has_twice, with_defined, with_variables, AllFail, IfRightHas, TypedVariablesHave, UntypedVariablesHave}
+use Rattle.typing_rules.proofs.Defaults.{untyped_names}
 use Rattle.codegen_base.specs.declared.element.Element.{Element}
 use Rattle.codegen_base.specs.Elements.{kinds_of}
 use Rattle.codegen_base.specs.Generated.{zero_values, same_types, variables_plan}
@@ -118,7 +119,7 @@ module _ (globals : Globals) (elements : List Element) where
   want_noted [] kind noted = tt
   want_noted (name ∷ names) kind noted = (noted, want_noted names kind noted)
 
-  want_fails : (names : List (List ℕ)) (kind : ValueType) (o : Option ValueType) (values : List Given) (flaw : Flaw) → o ≡ Some kind → WantsFail (all_want names kind) values flaw → AllFail o values flaw
+  want_fails : (names : List (List ℕ)) (kind : ValueType) (o : Option ValueType) (values : List Given) (flaw : Flaw) → o ≡ Some kind → WantsFail (all_want names kind) values flaw → AllFail o (length names) values flaw
   want_fails [] kind o values flaw is h = absurd h
   want_fails (name ∷ names) kind o [] flaw is h = absurd h
   want_fails (name ∷ names) kind o (value ∷ values) flaw is (inl h) = inl (subst (λ x. ValueHas value.worth x value.nodes flaw) (sym is) h)
@@ -146,7 +147,7 @@ module _ (globals : Globals) (elements : List Element) where
           let b = broken rules.Declared end (omega arith) in
           let none = not_true (list_any is_reserved names || has_twice names || list_any (λ name. is_some (own_variable s name)) names) (λ e. free b.0 (inr (inr (inl (e, b.1))))) in
           typed_defines globals elements code f grounds functions layout room s alike names right first end (omega arith) (three_false (list_any is_reserved names) (has_twice names) (list_any (λ name. is_some (own_variable s name)) names) none).0
-          (λ flaw h. free flaw (inl h)) (λ flaw h. free flaw (inr (inl h))) (λ flaw h. free flaw (inr (inr (inr h)))) noted begins
+          (λ flaw h. free flaw (inl h)) (λ flaw h. free flaw (inr (inl h))) (untyped_names s names (given globals s (length names) first right) end (omega arith) (λ flaw h. free flaw (inr h))) noted begins
 
       -- a `var` with a type
       pub typed_typed : (names : List (List ℕ)) (written : TypeExpression) (right : Option Right) (first : ℕ) (kind : ValueType) → type_in globals.types s written ≡ Some kind → Noted elements kind → Free (TypedVariablesHave globals s first names written right)

@@ -94,7 +94,7 @@ module _ (file : File) (elements : List Element) (all : AllWide (globals file).s
       ((one.0, more.0), ap (λ (j : ValueType). j ∷ name_types (globals file) elements view.site.layout names (same names kind)) one.1 ∙ ap (λ (l : List ValueType). kind ∷ l) more.1)
 
   -- each value fits the type
-  each_fits : (names : List (List ℕ)) (es : List Expression) (kind : ValueType) (first : ℕ) → length es ≡ length names → Free (ExpressionsHave (globals file) view.checked first (expressions es)) → Free (AllFail (Some kind) (given_values (globals file) view.checked first es)) → AllFit (globals file) view.checked es (same names kind)
+  each_fits : (names : List (List ℕ)) (es : List Expression) (kind : ValueType) (first : ℕ) → length es ≡ length names → Free (ExpressionsHave (globals file) view.checked first (expressions es)) → Free (AllFail (Some kind) (length names) (given_values (globals file) view.checked first es)) → AllFit (globals file) view.checked es (same names kind)
   each_fits [] [] kind first many good fail = tt
   each_fits [] (e ∷ es) kind first many good fail = absurd cc
   each_fits (name ∷ names) [] kind first many good fail = absurd cc
@@ -105,7 +105,7 @@ module _ (file : File) (elements : List Element) (all : AllWide (globals file).s
       ((w.0, w.1, fit), each_fits names es kind (first + expression_size e) (omega (arith, left)) (λ flaw x. good flaw (inr x)) (λ flaw x. fail flaw (inr x)))
 
   -- what an operation gives has the words of the type
-  each_zeros : (names : List (List ℕ)) (vs : List Given) (kinds : List ValueType) (kind : ValueType) → AreTyped vs kinds → length vs ≡ length names → Free (AllFail (Some kind) vs) → map (zero_words (globals file).structs) (same names kind) ≡ map (zero_words (globals file).structs) kinds
+  each_zeros : (names : List (List ℕ)) (vs : List Given) (kinds : List ValueType) (kind : ValueType) → AreTyped vs kinds → length vs ≡ length names → Free (AllFail (Some kind) (length names) vs) → map (zero_words (globals file).structs) (same names kind) ≡ map (zero_words (globals file).structs) kinds
   each_zeros [] [] [] kind typed many fail = refl
   each_zeros [] [] (j ∷ kinds) kind typed many fail = absurd typed
   each_zeros [] (v ∷ vs) kinds kind typed many fail = absurd cc
@@ -158,7 +158,7 @@ module _ (file : File) (elements : List Element) (all : AllWide (globals file).s
         let d = declared_there view.checked names (first + type_size kind + if_any right_size (Some (Values es)) + 1) (omega arith) (λ flaw x. free flaw (inr (inr x))) in
         let many = same_count (length (given_values (globals file) view.checked second es)) (length names) end (omega arith) (λ flaw x. free flaw (inr (inl (inr (inl x))))) in
         let fit = each_fits file elements all known_fields code result f ls view fine names es K second (sym (given_long (globals file) view.checked second es) ∙ many) (λ flaw x. free flaw (inr (inl (inl x))))
-        (λ flaw x. free flaw (inr (inl (inr (inr (subst (λ o. AllFail o (given_values (globals file) view.checked second es) flaw) (sym w.checked) x)))))) in
+        (λ flaw x. free flaw (inr (inl (inr (inr (subst (λ o. AllFail o (length names) (given_values (globals file) view.checked second es) flaw) (sym w.checked) x)))))) in
         let suit = new_suit file elements all known_fields code result f ls view fine names K d.are_new in
         let are = names_are file elements all code result f ls view fine names (each names K) (each names K) d.single suit.0 in
         let behind = are.1 ∙ ap (λ (x : Layout). x.scope) (each_is file elements all known_fields code result f ls view fine names K view.site.layout) in
@@ -259,7 +259,7 @@ module _ (file : File) (elements : List Element) (all : AllWide (globals file).s
           let many = same_count (length vs) count end (omega arith) (λ flaw x. free flaw (inr (inl (inr (inl x))))) in
           let typed-there = given_typed file elements all typed known_fields code result g f there cs ds R Asked panics sitting grounds ls l view next mid k fine room h t r all_there starting has wait count second operation good in
           let kept = kept_types file elements all typed known_fields code result g f there cs ds R Asked panics sitting grounds ls l view next mid k fine room h t r all_there starting has wait count operation in
-          let zeros-are = each_zeros file elements all known_fields code result f ls view fine names vs kept K typed-there many (λ flaw x. free flaw (inr (inl (inr (inr (subst (λ o. AllFail o vs flaw) (sym w.checked) x)))))) in
+          let zeros-are = each_zeros file elements all known_fields code result f ls view fine names vs kept K typed-there many (λ flaw x. free flaw (inr (inl (inr (inr (subst (λ o. AllFail o (length names) vs flaw) (sym w.checked) x)))))) in
           let suit = new_suit file elements all known_fields code result f ls view fine names K d.are_new in
           let are = names_are file elements all code result f ls view fine names (each names K) (each names K) d.single suit.0 in
           let behind = are.1 ∙ ap (λ (x : Layout). x.scope) (each_is file elements all known_fields code result f ls view fine names K view.site.layout) in

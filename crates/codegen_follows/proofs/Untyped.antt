@@ -14,6 +14,8 @@ use Rattle.word.specs.Kinds.{Next}
 use Rattle.type_table.specs.Containment.{fields_of}
 use Rattle.type_table.specs.Scopes.{Scope, Yield, is_reserved, own_variable}
 use Rattle.typing_rules.specs.Simples.{has_twice, VariablesHave, UntypedVariablesHave}
+use Rattle.typing_rules.specs.Operations.{given}
+use Rattle.typing_rules.proofs.Defaults.{untyped_names}
 use Rattle.meaning.specs.Variables.{Blocks, Destination}
 use Rattle.meaning.specs.Destinations.{given_kinds}
 use Rattle.meaning.specs.Tasks.{Task, Frames}
@@ -70,4 +72,4 @@ module _ (file : File) (elements : List Element) (all : AllWide (globals file).s
           let d = declared_there view.checked names end (omega arith) (λ flaw x. free flaw (inr (inr (inl x)))) in
           subst (λ (to : List Destination). G (gives file here k cs to right) (code_spots code g f there ds place ls [])) (sym (new_names file elements all code result f ls view fine names (given_kinds (globals file) here (length names) right) d.are_new))
           (names_go file elements all typed known_fields code result g f there cs ds R Asked panics sitting grounds ls l view next mid k fine room h t r all_there starting has wait names right first end place (omega arith) noted d.single
-          (λ flaw x. free flaw (inl x)) (λ flaw x. free flaw (inr (inl x))) (λ flaw x. free flaw (inr (inr (inr x)))) on same most)
+          (λ flaw x. free flaw (inl x)) (λ flaw x. free flaw (inr (inl x))) (untyped_names view.checked names (given (globals file) view.checked (length names) first right) end (omega arith) (λ flaw x. free flaw (inr x))) on same most)

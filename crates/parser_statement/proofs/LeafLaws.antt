@@ -1,5 +1,6 @@
 -- Statements in which no other stands: what is spelt is read, and what is read is spelt so.
 use Rattle.std.proofs.Common.{◌≡◌, ℕ, zero, suc, ◌<◌, ◌≤◌, Bool, true, false, cond, Option, Some, None, max, List, [], ◌∷◌, ◌++◌, length, Err, inl, inr, refl, ap, ◌∙◌, subst, arith}
+use Rattle.std.proofs.lemmas.Bool.{false≢true}
 use Rattle.scanner.specs.declared.kind.TokenKind.{TokenKind}
 use Rattle.scanner.specs.declared.kind.TokenKind.TheVariants as kinds
 use Rattle.syntax.specs.declared.node.Direction.TheVariants as directions
@@ -83,15 +84,15 @@ operation_returns (Length c) rest is = refl
 operation_returns (Capacity c) rest is = refl
 
 plain_returns : (b c : Bool) → cond b false true ≡ true → cond b c true ≡ true
-plain_returns true c begun = absurd cc
+plain_returns true c begun = absurd (false≢true begun)
 plain_returns false c begun = refl
 
 value_returns : (ws : List Lexeme) → begins ws ≡ true → begins_returned ws ≡ true
 unfolding begins_returned begins
-value_returns [] begun = absurd cc
+value_returns [] begun = absurd (false≢true begun)
 value_returns (Literal value ∷ ws) begun = refl
 value_returns (Name name ∷ ws) begun = plain_returns (is_builtin name) _ begun
-value_returns (Text bytes ∷ ws) begun = absurd cc
+value_returns (Text bytes ∷ ws) begun = absurd (false≢true begun)
 value_returns (Mark kinds.Arrow ∷ ws) begun = refl
 value_returns (Mark kind ∷ ws) begun = begun
 
@@ -116,10 +117,10 @@ begun_no_end [] begun = refl
 begun_no_end (Literal value ∷ ws) begun = refl
 begun_no_end (Name name ∷ ws) begun = refl
 begun_no_end (Text bytes ∷ ws) begun = refl
-begun_no_end (Mark kinds.Semicolon ∷ ws) begun = absurd cc
-begun_no_end (Mark kinds.RightBrace ∷ ws) begun = absurd cc
-begun_no_end (Mark kinds.Case ∷ ws) begun = absurd cc
-begun_no_end (Mark kinds.Default ∷ ws) begun = absurd cc
+begun_no_end (Mark kinds.Semicolon ∷ ws) begun = absurd (false≢true begun)
+begun_no_end (Mark kinds.RightBrace ∷ ws) begun = absurd (false≢true begun)
+begun_no_end (Mark kinds.Case ∷ ws) begun = absurd (false≢true begun)
+begun_no_end (Mark kinds.Default ∷ ws) begun = absurd (false≢true begun)
 begun_no_end (Mark kind ∷ ws) begun = refl
 
 operation_no_end : (o : Operation) (rest : List Lexeme) → ends_statement (operation_words o rest) ≡ false

@@ -5,3 +5,4 @@ pub mod StatementAgain
 pub mod StatementSound
 pub mod StatementLaws
 pub mod Rooms
+pub mod Parts

@@ -1,5 +1,6 @@
 -- Statements: what is spelt is read.
 use Rattle.std.proofs.Common.{◌≡◌, ℕ, zero, suc, ◌≤◌, Bool, true, false, Option, Some, None, max, List, [], ◌∷◌, length, Ok, refl, ap, ◌∙◌, subst, arith}
+use Rattle.std.proofs.lemmas.Bool.{false≢true}
 use Rattle.scanner.specs.declared.kind.TokenKind.TheVariants as kinds
 use Rattle.syntax.specs.Tree.{Expression, TypeExpression, Arguments, Right, Returned, Simple, CallAlone, Close, Print, ReceiveAlone, Send, Increment, Decrement, Assign, Define, Update, IfHead, ForHead, Comm, CommSend, CommReceive, CommDefine, CommAssign, Statement, Empty, Alone, VarTyped, VarUntyped, Block, If, For, Select, Go, Return, Break, Continue, Statements, NoStatement, Then, statements_in, statements as made_statements, Branch, Conditional, Otherwise, NoElse, ElseBlock, ElseIf, Clauses, NoClause, Clause}
 use Rattle.syntax.specs.Measures.{SelectClauses, clauses as clause_entries, if_any, comm_height, comm_longest, statement_height, statements_height, branch_height, otherwise_height, block_height, clauses_height, statement_longest, statements_longest, branch_longest, otherwise_longest, clauses_longest, clauses_count}
@@ -121,19 +122,19 @@ begun_alone most room [] begun = refl
 begun_alone most room (Literal value ∷ ws) begun = refl
 begun_alone most room (Name name ∷ ws) begun = refl
 begun_alone most room (Text bytes ∷ ws) begun = refl
-begun_alone most room (Mark kinds.LeftBrace ∷ ws) begun = absurd cc
-begun_alone most room (Mark kinds.If ∷ ws) begun = absurd cc
-begun_alone most room (Mark kinds.For ∷ ws) begun = absurd cc
-begun_alone most room (Mark kinds.Select ∷ ws) begun = absurd cc
-begun_alone most room (Mark kinds.Go ∷ ws) begun = absurd cc
-begun_alone most room (Mark kinds.Var ∷ ws) begun = absurd cc
-begun_alone most room (Mark kinds.Return ∷ ws) begun = absurd cc
-begun_alone most room (Mark kinds.Break ∷ ws) begun = absurd cc
-begun_alone most room (Mark kinds.Continue ∷ ws) begun = absurd cc
-begun_alone most room (Mark kinds.Semicolon ∷ ws) begun = absurd cc
-begun_alone most room (Mark kinds.RightBrace ∷ ws) begun = absurd cc
-begun_alone most room (Mark kinds.Case ∷ ws) begun = absurd cc
-begun_alone most room (Mark kinds.Default ∷ ws) begun = absurd cc
+begun_alone most room (Mark kinds.LeftBrace ∷ ws) begun = absurd (false≢true begun)
+begun_alone most room (Mark kinds.If ∷ ws) begun = absurd (false≢true begun)
+begun_alone most room (Mark kinds.For ∷ ws) begun = absurd (false≢true begun)
+begun_alone most room (Mark kinds.Select ∷ ws) begun = absurd (false≢true begun)
+begun_alone most room (Mark kinds.Go ∷ ws) begun = absurd (false≢true begun)
+begun_alone most room (Mark kinds.Var ∷ ws) begun = absurd (false≢true begun)
+begun_alone most room (Mark kinds.Return ∷ ws) begun = absurd (false≢true begun)
+begun_alone most room (Mark kinds.Break ∷ ws) begun = absurd (false≢true begun)
+begun_alone most room (Mark kinds.Continue ∷ ws) begun = absurd (false≢true begun)
+begun_alone most room (Mark kinds.Semicolon ∷ ws) begun = absurd (false≢true begun)
+begun_alone most room (Mark kinds.RightBrace ∷ ws) begun = absurd (false≢true begun)
+begun_alone most room (Mark kinds.Case ∷ ws) begun = absurd (false≢true begun)
+begun_alone most room (Mark kinds.Default ∷ ws) begun = absurd (false≢true begun)
 begun_alone most room (Mark kind ∷ ws) begun = refl
 
 is_alone : (most room : ℕ) (s : Simple) (rest : List Lexeme) → IsSimple true true s → statement most (suc room) (simple_words s rest) ≡ as_one Alone (simple true true most room (simple_words s rest))

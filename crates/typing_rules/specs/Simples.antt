@@ -1,5 +1,5 @@
 -- What is wrong with a simple statement or a declaration, and which variables are visible behind it.
-use Rattle.std.specs.Prelude.{◌≡◌, ℕ, ◌+◌, ◌⊎◌, Bool, true, false, not, ◌&&◌, ◌||◌, if◌then◌else◌, List, [], ◌∷◌, Option, Some, None, Result, bytes_eq, pos, length}
+use Rattle.std.specs.Prelude.{◌≡◌, ℕ, zero, suc, ◌+◌, ◌⊎◌, Bool, true, false, not, ◌&&◌, ◌||◌, if◌then◌else◌, List, [], ◌∷◌, Option, Some, None, Result, bytes_eq, pos, length}
 use Rattle.std.specs.Result.{result_ok}
 use Rattle.std.specs.Option.{is_some, is_none}
 use Rattle.std.specs.List.{list_any}
@@ -14,7 +14,7 @@ use Rattle.typing_rules.specs.Flaws.{Nodes, IsBroken}
 use Rattle.type_table.specs.Types.{ValueType}
 use Rattle.type_table.specs.Scopes.{Scope, Globals, is_blank, is_reserved, own_variable, declared, declared_unless_blank, type_in}
 use Rattle.typing_rules.specs.Worths.{Worth, Typed, Constant, binary_worth, kind_of, worth}
-use Rattle.typing_rules.specs.Expressions.{nodes_of, ValueHas, Fails, NumbersHave, ExpressionHas, element_of, ChannelHas, SentHas, PrintedHas, default_type}
+use Rattle.typing_rules.specs.Expressions.{nodes_of, ValueHas, Fails, NumbersHave, ExpressionHas, DefaultHas, element_of, ChannelHas, SentHas, PrintedHas, default_type}
 use Rattle.typing_rules.specs.Operations.{and_also, TypeHas, CallHas, ReceiveHas, MeasuredHas, Given, given, RightHas, ReadPlaceHas, place_type, GoesHas, PlacesFail, PlacesHave}
 
 -- ---- what is printed
@@ -59,12 +59,18 @@ abbrev pub has_twice : List (List ℕ) → Bool
 has_twice [] = false
 has_twice (name ∷ names) = (not (is_blank name) && has_name names name) || has_twice names
 
--- the values of a `:=` and those of variables without a type
+-- the values of a `:=`
 abbrev pub NamesFail : Scope → List (List ℕ) → List Given → Flaw → Type 0
 NamesFail scope [] values flaw = ⊥
 NamesFail scope (name ∷ names) [] flaw = ⊥
 NamesFail scope (name ∷ names) (value ∷ values) flaw =
     GoesHas (is_none (own_variable scope name)) value (kind_of (own_variable scope name)) flaw ⊎ NamesFail scope names values flaw
+
+-- the values of variables that take their types from them
+abbrev pub DefaultsFail : List (List ℕ) → List Given → Flaw → Type 0
+DefaultsFail [] values flaw = ⊥
+DefaultsFail (name ∷ names) [] flaw = ⊥
+DefaultsFail (name ∷ names) (value ∷ values) flaw = DefaultHas value.worth value.nodes flaw ⊎ DefaultsFail names values flaw
 
 -- a `:=` declares these names, and is the last node before a number
 abbrev pub DefinedHave : Scope → List (List ℕ) → ℕ → Flaw → Type 0
@@ -94,7 +100,7 @@ NamesHave scope names values end flaw =
 -- what a `var` without a type gives these names
 abbrev pub UntypedHave : Scope → List (List ℕ) → List Given → ℕ → Flaw → Type 0
 UntypedHave scope names values end flaw =
-    NumbersHave (length values) (length names) end flaw ⊎ (VariablesHave scope names end flaw ⊎ NamesFail scope names values flaw)
+    NumbersHave (length values) (length names) end flaw ⊎ (VariablesHave scope names end flaw ⊎ DefaultsFail names values flaw)
 
 -- what an assignment gives these places, and is the last node before a number
 abbrev pub AssignedHave : Globals → Scope → List Place → List Given → ℕ → Flaw → Type 0
@@ -116,14 +122,15 @@ abbrev pub with_variables : Globals → Scope → Option ValueType → List (Lis
 with_variables globals scope kind [] = scope
 with_variables globals scope kind (name ∷ names) = with_variables globals (declared_unless_blank globals.structs scope kind name) kind names
 
--- values go to variables of one type
-abbrev pub AllFail : Option ValueType → List Given → Flaw → Type 0
-AllFail kind [] flaw = ⊥
-AllFail kind (value ∷ values) flaw = ValueHas value.worth kind value.nodes flaw ⊎ AllFail kind values flaw
+-- values go to so many variables of one type
+abbrev pub AllFail : Option ValueType → ℕ → List Given → Flaw → Type 0
+AllFail kind names [] flaw = ⊥
+AllFail kind zero (value ∷ values) flaw = ⊥
+AllFail kind (suc names) (value ∷ values) flaw = ValueHas value.worth kind value.nodes flaw ⊎ AllFail kind names values flaw
 
 -- what a `var` with a type gives so many names
 abbrev pub TypedHave : Option ValueType → ℕ → List Given → ℕ → Flaw → Type 0
-TypedHave kind names values end flaw = NumbersHave (length values) names end flaw ⊎ AllFail kind values flaw
+TypedHave kind names values end flaw = NumbersHave (length values) names end flaw ⊎ AllFail kind names values flaw
 
 abbrev pub IfRightHas : Globals → Scope → ℕ → Option ValueType → ℕ → Option Right → Flaw → Type 0
 IfRightHas globals scope names kind first None flaw = ⊥

@@ -9,7 +9,7 @@ use Rattle.syntax.specs.declared.node.ClauseNode.{ClauseNode}
 use Rattle.syntax.specs.declared.node.StatementNode.{StatementNode}
 use Rattle.syntax.specs.View.{OneClause, body_of, branch_of, clause_of, clauses, comm_of, expression_of, if_head_of, otherwise_of, simple_of, statement_of, target_of}
 use Rattle.syntax.specs.declared.node.ElseNode.TheFolds.{the_lemmas}
-use Rattle.syntax.specs.Tree.{Clause, Conditional, NoClause}
+use Rattle.syntax.specs.Tree.{Clause, Conditional, NoClause, NoElse}
 use Rattle.type_table.specs.Views.{kind_of, yield_of}
 use Rattle.type_table.specs.Visible.{globals_in, types_of}
 use Rattle.meaning.specs.Variables.{blank}
@@ -34,6 +34,8 @@ use Rattle.codegen_emission.proofs.Defaults.{all_ways, default_here, default_lat
 use Rattle.codegen_emission.proofs.Selecting.{emits_as_is, emits_comm, emits_select}
 use Rattle.codegen_flow.specs.Controls.{Control, control}
 use Rattle.codegen_emission.specs.Emitted.{Emits, site_of}
+use Rattle.codegen_emission.proofs.Emitting.{emits_nothing}
+use Rattle.codegen_emission.proofs.Referred.{of_copied}
 use Rattle.codegen_emission.proofs.Listing.{begins_all, begins_cut, begins_more, emits_block, next_statement}
 use Rattle.codegen_emission.specs.Branches.{made_condition, made_other, made_within}
 use Rattle.codegen_emission.specs.Turns.{made_turns}
@@ -448,3 +450,13 @@ emit_select-returns t c =
     let flow_is : control c.in_ok-flow.flow ≡ behind_select (any_control flow) = c.in_ok-flow.ensures.flow ∙ ap behind_select c.from_ways-ways.ensures in
     emits_select table globals elements result all no_table c.in_ok-made.made e0 e1 e2 e3 e4 flow (control c.in_ok-flow.flow) list.places.items c.len-at.result stop (c.in_ok-push_clauses.ensures result) (record { prints = refl; selects = refl; layout = refl }) at_is c.in_ok-hold_select.ensures.code refl c.in_ok-hold_select.ensures.tables
     refl ways w.begin refl settles refl sets refl table_is flow_is
+
+pub emit_header_clauses-returns : goal.emit_header_clauses-returns
+emit_header_clauses-returns t c =
+    rw (of_copied simple_of c.as_ref.result c.args.first.now c.as_ref.ensures.value, of_copied expression_of c.as_ref-2.result c.args.condition.now c.as_ref-2.ensures.value, of_copied simple_of c.as_ref-3.result c.args.post.now c.as_ref-3.ensures.value) at c.emit_clauses.ensures
+
+pub emit_other-returns-in-Nothing : goal.emit_other-returns-in-Nothing
+emit_other-returns-in-Nothing t c =
+    let table = c.args.context.now.program.now.table.now in
+    let e : otherwise_of c.args.otherwise.now ≡ NoElse = rw c.in-Nothing.is (search (rules, the_lemmas)) in
+    rw e (emits_nothing table c.args.emitter.now (control c.through.result) c.through.ensures)

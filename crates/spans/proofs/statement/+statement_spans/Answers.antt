@@ -1,14 +1,60 @@
-use Rattle.std.proofs.Common.{◌≡◌, ◌∷◌, ◌+◌, ◌*◌, suc, ℕ, length, map, option_map, drop, rules, arith, append_assoc, drop-cons, [], ◌-◌, ◌^◌, ◌<◌, List, Option}
+use Rattle.std.proofs.Common.{◌≡◌, ◌∷◌, ◌+◌, ◌*◌, suc, ℕ, length, map, option_map, drop, rules, arith, append_assoc, drop-cons, [], ◌-◌, ◌^◌, ◌<◌, List, Option, Vec, Global}
 use Rattle.std.proofs.lemmas.List.{length-map, append-nil, drop_all}
 use Rattle.std.proofs.lemmas.Result.{IfOk-equal}
 use Rattle.syntax.specs.declared.node.ElseNode.TheFolds.{the_lemmas}
 use Rattle.syntax.specs.declared.node.Name.{Name}
+use Rattle.syntax.specs.declared.node.TypeNode.{TypeNode}
+use Rattle.syntax.specs.declared.node.RightNode.{RightNode}
+use Rattle.syntax.specs.declared.node.IfNode.{IfNode}
+use Rattle.syntax.specs.declared.node.ForHeader.{ForHeader}
+use Rattle.syntax.specs.declared.node.ArgumentsNode.{ArgumentsNode}
+use Rattle.syntax.specs.declared.node.ReturnNode.{ReturnNode}
+use Rattle.syntax.specs.declared.node.ClauseNode.{ClauseNode}
+use Rattle.syntax.specs.declared.node.StatementNode.{StatementNode}
+use Rattle.syntax.specs.declared.node.StatementNode.TheVariants as nodes
 use Rattle.syntax.specs.Tree.{VarTyped, VarUntyped, Block, For, Select, Go, Return, Conditional, Statement, TypeExpression, Right}
 use Rattle.syntax.specs.View.{name_of, type_of, expression_of, arguments_of, right_of, if_head_of, for_head_of, comm_of, returned_of, statement_of, body_of, branch_of, otherwise_of, clause_of, clauses}
-use Rattle.spans.specs.Words.{joined, statement_count, clause_count, EndsInReach, type_count, initial_count, right_count}
+use Rattle.spans.specs.Words.{joined, statement_count, body_count, clauses_count, clause_count, EndsInReach, type_count, initial_count, right_count}
 use Rattle.spans.specs.Places.{statement_spans, body_spans, clause_spans, clauses_spans}
-use Rattle.spans.proofs.Walks.{next_spans}
+use Rattle.syntax.proofs.node.StatementNode.TheLaws.{the_size as statement_depth}
+use Rattle.syntax.proofs.node.ClauseNode.TheLaws.{the_size as clause_depth}
+use Rattle.spans.proofs.Walks.{next_spans, falls_within}
 use Rattle.spans.proofs.statement.+statement_spans.Goals as goal
+
+typed_is : (s : StatementNode) (names : Vec Name Global) (kind : TypeNode) (right : Option RightNode) → s ≡ nodes.Typed names kind right
+    → statement_of s ≡ VarTyped (map name_of names.items) (type_of kind) (option_map right_of right)
+typed_is s names kind right is = search (rules, the_lemmas)
+
+untyped_is : (s : StatementNode) (names : Vec Name Global) (right : RightNode) → s ≡ nodes.Untyped names right → statement_of s ≡ VarUntyped (map name_of names.items) (right_of right)
+untyped_is s names right is = search (rules, the_lemmas)
+
+block_is : (s : StatementNode) (body : Vec StatementNode Global) → s ≡ nodes.Block body → statement_of s ≡ Block (body_of body.items)
+block_is s body is = search (rules, the_lemmas)
+
+for_is : (s : StatementNode) (header : ForHeader) (body : Vec StatementNode Global) → s ≡ nodes.For header body → statement_of s ≡ For (for_head_of header) (body_of body.items)
+for_is s header body is = search (rules, the_lemmas)
+
+select_is : (s : StatementNode) (all : Vec ClauseNode Global) → s ≡ nodes.Select all → statement_of s ≡ Select (clauses (map clause_of all.items))
+select_is s all is = search (rules, the_lemmas)
+
+go_is : (s : StatementNode) (function : Name) (arguments : ArgumentsNode) → s ≡ nodes.Go function arguments → statement_of s ≡ Go (name_of function) (arguments_of arguments)
+go_is s function arguments is = search (rules, the_lemmas)
+
+return_is : (s : StatementNode) (returned : ReturnNode) → s ≡ nodes.Return returned → statement_of s ≡ Return (returned_of returned)
+return_is s returned is = search (rules, the_lemmas)
+
+branch_is : (branch : IfNode) → branch_of branch ≡ Conditional (if_head_of branch.header) (expression_of branch.condition) (body_of branch.body.items) (otherwise_of branch.otherwise)
+branch_is branch = search (rules, the_lemmas)
+
+clause_is : (clause : ClauseNode) → clause_of clause ≡ record { comm = option_map comm_of clause.comm; body = body_of clause.body.items }
+clause_is clause = search (rules, the_lemmas)
+
+-- how far the first of what is left reaches
+statement_reach : (at count one rest total : ℕ) → count + (one + 1 + rest) ≡ total → at + (total - 1) < 2 ^ 40 → at + count + one < 2 ^ 40
+statement_reach at count one rest total is reach = omega arith
+
+clause_reach : (at count one rest total : ℕ) → count + (one + rest) ≡ total → at + total < 2 ^ 40 → at + count + one < 2 ^ 40
+clause_reach at count one rest total is reach = omega arith
 
 -- how far a `var` reaches, by its parts
 typed_reach : (at : ℕ) (s : Statement) (names : List Name) (kind : TypeExpression) (right : Option Right) → s ≡ VarTyped (map name_of names) kind right
@@ -56,7 +102,7 @@ block_spans-returns-clause-spans t c =
 pub branch_spans-returns-clause-spans : goal.branch_spans-returns-clause-spans
 branch_spans-returns-clause-spans t c =
     let branch = c.args.branch.now in
-    let is : branch_of branch ≡ Conditional (if_head_of branch.header) (expression_of branch.condition) (body_of branch.body.items) (otherwise_of branch.otherwise) = search (rules, the_lemmas) in
+    let is : branch_of branch ≡ Conditional (if_head_of branch.header) (expression_of branch.condition) (body_of branch.body.items) (otherwise_of branch.otherwise) = branch_is branch in
     let head = c.in_ok-head.ensures.count in
     let condition = c.in_ok-condition.ensures.count in
     let body = rw c.as_slice.ensures.value at c.in_ok-body.ensures.count in
@@ -69,7 +115,7 @@ branch_spans-returns-clause-spans t c =
 pub clause_spans-returns-clause-spans : goal.clause_spans-returns-clause-spans
 clause_spans-returns-clause-spans t c =
     let clause = c.args.clause.now in
-    let is : clause_of clause ≡ record { comm = option_map comm_of clause.comm; body = body_of clause.body.items } = search (rules, the_lemmas) in
+    let is : clause_of clause ≡ record { comm = option_map comm_of clause.comm; body = body_of clause.body.items } = clause_is clause in
     let body = rw c.as_slice.ensures.value at c.in_ok-body.ensures.count in
     let second = rw (c.as_slice.ensures.value, c.in_ok-start.ensures.count) at c.in_ok-body.ensures.spans in
     IfOk-equal c.add_node.result _ _ _ c.add_node.ensures.spans
@@ -78,7 +124,7 @@ clause_spans-returns-clause-spans t c =
 pub statement_spans-returns-in_ok-values-in-Typed-clause-spans : goal.statement_spans-returns-in_ok-values-in-Typed-clause-spans
 statement_spans-returns-in_ok-values-in-Typed-clause-spans t c =
     let arm = c.in-Typed in
-    let is : statement_of c.args.statement.now ≡ VarTyped (map name_of arm.names.items) (type_of arm.kind) (option_map right_of arm.right) = search (rules, the_lemmas) in
+    let is : statement_of c.args.statement.now ≡ VarTyped (map name_of arm.names.items) (type_of arm.kind) (option_map right_of arm.right) = typed_is _ _ _ _ c.in-Typed.is in
     let names : c.saturating_sub-names.result ≡ joined (length (map name_of arm.names.items) * 2) = omega (arith, length-map arm.names.items name_of) in
     let kind = c.in_ok-kind-in-Typed.ensures.count in
     let first = rw names at c.in_ok-kind-in-Typed.ensures.spans in
@@ -89,7 +135,7 @@ statement_spans-returns-in_ok-values-in-Typed-clause-spans t c =
 pub statement_spans-returns-in_ok-values-in-Untyped-clause-spans : goal.statement_spans-returns-in_ok-values-in-Untyped-clause-spans
 statement_spans-returns-in_ok-values-in-Untyped-clause-spans t c =
     let arm = c.in-Untyped in
-    let is : statement_of c.args.statement.now ≡ VarUntyped (map name_of arm.names.items) (right_of arm.right) = search (rules, the_lemmas) in
+    let is : statement_of c.args.statement.now ≡ VarUntyped (map name_of arm.names.items) (right_of arm.right) = untyped_is _ _ _ c.in-Untyped.is in
     let names : c.len-names.result ≡ length (map name_of arm.names.items) = omega (arith, length-map arm.names.items name_of) in
     let first = rw names at c.in_ok-values-in-Untyped.ensures.spans in
     IfOk-equal c.add_node-in-Untyped.result _ _ _ c.add_node-in-Untyped.ensures.spans
@@ -97,14 +143,14 @@ statement_spans-returns-in_ok-values-in-Untyped-clause-spans t c =
 
 pub statement_spans-returns-in_ok-count-in-Block-clause-spans : goal.statement_spans-returns-in_ok-count-in-Block-clause-spans
 statement_spans-returns-in_ok-count-in-Block-clause-spans t c =
-    let is : statement_of c.args.statement.now ≡ Block (body_of c.in-Block.body.items) = search (rules, the_lemmas) in
+    let is : statement_of c.args.statement.now ≡ Block (body_of c.in-Block.body.items) = block_is _ _ c.in-Block.is in
     let count = rw c.as_slice.ensures.value at c.in_ok-count-in-Block.ensures.count in
     let first = rw c.as_slice.ensures.value at c.in_ok-count-in-Block.ensures.spans in
     IfOk-equal c.add_node-in-Block.result _ _ _ c.add_node-in-Block.ensures.spans (rw (is, first, count) (simp append_assoc))
 
 pub statement_spans-returns-in_ok-body-in-For-clause-spans : goal.statement_spans-returns-in_ok-body-in-For-clause-spans
 statement_spans-returns-in_ok-body-in-For-clause-spans t c =
-    let is : statement_of c.args.statement.now ≡ For (for_head_of c.in-For.header) (body_of c.in-For.body.items) = search (rules, the_lemmas) in
+    let is : statement_of c.args.statement.now ≡ For (for_head_of c.in-For.header) (body_of c.in-For.body.items) = for_is _ _ _ c.in-For.is in
     let head = c.in_ok-head-in-For.ensures.count in
     let body = rw c.as_slice-in-For.ensures.value at c.in_ok-body-in-For.ensures.count in
     let second = rw (c.as_slice-in-For.ensures.value, head) at c.in_ok-body-in-For.ensures.spans in
@@ -113,19 +159,19 @@ statement_spans-returns-in_ok-body-in-For-clause-spans t c =
 
 pub statement_spans-returns-in_ok-count-in-Select-clause-spans : goal.statement_spans-returns-in_ok-count-in-Select-clause-spans
 statement_spans-returns-in_ok-count-in-Select-clause-spans t c =
-    let is : statement_of c.args.statement.now ≡ Select (clauses (map clause_of c.in-Select.clauses.items)) = search (rules, the_lemmas) in
+    let is : statement_of c.args.statement.now ≡ Select (clauses (map clause_of c.in-Select.clauses.items)) = select_is _ _ c.in-Select.is in
     let count = rw c.as_slice-in-Select.ensures.value at c.in_ok-count-in-Select.ensures.count in
     let first = rw c.as_slice-in-Select.ensures.value at c.in_ok-count-in-Select.ensures.spans in
     IfOk-equal c.add_node-in-Select.result _ _ _ c.add_node-in-Select.ensures.spans (rw (is, first, count) (simp append_assoc))
 
 pub statement_spans-returns-in_ok-count-in-Go-clause-spans : goal.statement_spans-returns-in_ok-count-in-Go-clause-spans
 statement_spans-returns-in_ok-count-in-Go-clause-spans t c =
-    let is : statement_of c.args.statement.now ≡ Go (name_of c.in-Go.field-0) (arguments_of c.in-Go.arguments) = search (rules, the_lemmas) in
+    let is : statement_of c.args.statement.now ≡ Go (name_of c.in-Go.field-0) (arguments_of c.in-Go.arguments) = go_is _ _ _ c.in-Go.is in
     IfOk-equal c.add_node-in-Go.result _ _ _ c.add_node-in-Go.ensures.spans (rw (is, c.in_ok-count-in-Go.ensures.spans, c.in_ok-count-in-Go.ensures.count) (simp append_assoc))
 
 pub statement_spans-returns-in_ok-count-in-Return-clause-spans : goal.statement_spans-returns-in_ok-count-in-Return-clause-spans
 statement_spans-returns-in_ok-count-in-Return-clause-spans t c =
-    let is : statement_of c.args.statement.now ≡ Return (returned_of c.in-Return.returned) = search (rules, the_lemmas) in
+    let is : statement_of c.args.statement.now ≡ Return (returned_of c.in-Return.returned) = return_is _ _ c.in-Return.is in
     IfOk-equal c.add_node-in-Return.result _ _ _ c.add_node-in-Return.ensures.spans (rw (is, c.in_ok-count-in-Return.ensures.spans, c.in_ok-count-in-Return.ensures.count) (simp append_assoc))
 
 pub body_spans-returns-clause-count : goal.body_spans-returns-clause-count
@@ -252,59 +298,59 @@ statement_spans-branch_spans-requires t c = search (rules, the_lemmas)
 
 pub statement_spans-overflow_add-at-in-Typed : goal.statement_spans-overflow_add-at-in-Typed
 statement_spans-overflow_add-at-in-Typed t c =
-    omega (arith, typed_reach c.args.at (statement_of c.args.statement.now) c.in-Typed.names.items (type_of c.in-Typed.kind) (option_map right_of c.in-Typed.right) (search (rules, the_lemmas)) c.requires)
+    omega (arith, typed_reach c.args.at (statement_of c.args.statement.now) c.in-Typed.names.items (type_of c.in-Typed.kind) (option_map right_of c.in-Typed.right) (typed_is _ _ _ _ c.in-Typed.is) c.requires)
 
 pub statement_spans-type_spans-requires : goal.statement_spans-type_spans-requires
 statement_spans-type_spans-requires t c =
-    omega (arith, typed_reach c.args.at (statement_of c.args.statement.now) c.in-Typed.names.items (type_of c.in-Typed.kind) (option_map right_of c.in-Typed.right) (search (rules, the_lemmas)) c.requires)
+    omega (arith, typed_reach c.args.at (statement_of c.args.statement.now) c.in-Typed.names.items (type_of c.in-Typed.kind) (option_map right_of c.in-Typed.right) (typed_is _ _ _ _ c.in-Typed.is) c.requires)
 
 pub statement_spans-overflow_add-at-in-Typed-3 : goal.statement_spans-overflow_add-at-in-Typed-3
 statement_spans-overflow_add-at-in-Typed-3 t c =
-    omega (arith, typed_reach c.args.at (statement_of c.args.statement.now) c.in-Typed.names.items (type_of c.in-Typed.kind) (option_map right_of c.in-Typed.right) (search (rules, the_lemmas)) c.requires)
+    omega (arith, typed_reach c.args.at (statement_of c.args.statement.now) c.in-Typed.names.items (type_of c.in-Typed.kind) (option_map right_of c.in-Typed.right) (typed_is _ _ _ _ c.in-Typed.is) c.requires)
 
 pub statement_spans-overflow_add-at-in-Typed-4 : goal.statement_spans-overflow_add-at-in-Typed-4
 statement_spans-overflow_add-at-in-Typed-4 t c =
-    omega (arith, typed_reach c.args.at (statement_of c.args.statement.now) c.in-Typed.names.items (type_of c.in-Typed.kind) (option_map right_of c.in-Typed.right) (search (rules, the_lemmas)) c.requires, c.in_ok-kind-in-Typed.ensures.count)
+    omega (arith, typed_reach c.args.at (statement_of c.args.statement.now) c.in-Typed.names.items (type_of c.in-Typed.kind) (option_map right_of c.in-Typed.right) (typed_is _ _ _ _ c.in-Typed.is) c.requires, c.in_ok-kind-in-Typed.ensures.count)
 
 pub statement_spans-initial_spans-requires : goal.statement_spans-initial_spans-requires
 statement_spans-initial_spans-requires t c =
-    omega (arith, typed_reach c.args.at (statement_of c.args.statement.now) c.in-Typed.names.items (type_of c.in-Typed.kind) (option_map right_of c.in-Typed.right) (search (rules, the_lemmas)) c.requires, c.in_ok-kind-in-Typed.ensures.count)
+    omega (arith, typed_reach c.args.at (statement_of c.args.statement.now) c.in-Typed.names.items (type_of c.in-Typed.kind) (option_map right_of c.in-Typed.right) (typed_is _ _ _ _ c.in-Typed.is) c.requires, c.in_ok-kind-in-Typed.ensures.count)
 
 pub statement_spans-overflow_add-names : goal.statement_spans-overflow_add-names
 statement_spans-overflow_add-names t c =
-    omega (arith, typed_reach c.args.at (statement_of c.args.statement.now) c.in-Typed.names.items (type_of c.in-Typed.kind) (option_map right_of c.in-Typed.right) (search (rules, the_lemmas)) c.requires, c.in_ok-kind-in-Typed.ensures.count)
+    omega (arith, typed_reach c.args.at (statement_of c.args.statement.now) c.in-Typed.names.items (type_of c.in-Typed.kind) (option_map right_of c.in-Typed.right) (typed_is _ _ _ _ c.in-Typed.is) c.requires, c.in_ok-kind-in-Typed.ensures.count)
 
 pub statement_spans-overflow_add-names-in-Typed : goal.statement_spans-overflow_add-names-in-Typed
 statement_spans-overflow_add-names-in-Typed t c =
-    omega (arith, typed_reach c.args.at (statement_of c.args.statement.now) c.in-Typed.names.items (type_of c.in-Typed.kind) (option_map right_of c.in-Typed.right) (search (rules, the_lemmas)) c.requires, c.in_ok-kind-in-Typed.ensures.count, c.in_ok-values-in-Typed.ensures.count)
+    omega (arith, typed_reach c.args.at (statement_of c.args.statement.now) c.in-Typed.names.items (type_of c.in-Typed.kind) (option_map right_of c.in-Typed.right) (typed_is _ _ _ _ c.in-Typed.is) c.requires, c.in_ok-kind-in-Typed.ensures.count, c.in_ok-values-in-Typed.ensures.count)
 
 pub statement_spans-overflow_add-names-in-Typed-2 : goal.statement_spans-overflow_add-names-in-Typed-2
 statement_spans-overflow_add-names-in-Typed-2 t c =
-    omega (arith, typed_reach c.args.at (statement_of c.args.statement.now) c.in-Typed.names.items (type_of c.in-Typed.kind) (option_map right_of c.in-Typed.right) (search (rules, the_lemmas)) c.requires, c.in_ok-kind-in-Typed.ensures.count, c.in_ok-values-in-Typed.ensures.count)
+    omega (arith, typed_reach c.args.at (statement_of c.args.statement.now) c.in-Typed.names.items (type_of c.in-Typed.kind) (option_map right_of c.in-Typed.right) (typed_is _ _ _ _ c.in-Typed.is) c.requires, c.in_ok-kind-in-Typed.ensures.count, c.in_ok-values-in-Typed.ensures.count)
 
 pub statement_spans-add_node-requires-in-Typed : goal.statement_spans-add_node-requires-in-Typed
 statement_spans-add_node-requires-in-Typed t c =
-    omega (arith, typed_reach c.args.at (statement_of c.args.statement.now) c.in-Typed.names.items (type_of c.in-Typed.kind) (option_map right_of c.in-Typed.right) (search (rules, the_lemmas)) c.requires, c.in_ok-kind-in-Typed.ensures.count, c.in_ok-values-in-Typed.ensures.count)
+    omega (arith, typed_reach c.args.at (statement_of c.args.statement.now) c.in-Typed.names.items (type_of c.in-Typed.kind) (option_map right_of c.in-Typed.right) (typed_is _ _ _ _ c.in-Typed.is) c.requires, c.in_ok-kind-in-Typed.ensures.count, c.in_ok-values-in-Typed.ensures.count)
 
 pub statement_spans-overflow_add-at-in-Untyped-2 : goal.statement_spans-overflow_add-at-in-Untyped-2
 statement_spans-overflow_add-at-in-Untyped-2 t c =
-    omega (arith, untyped_reach c.args.at (statement_of c.args.statement.now) c.in-Untyped.names.items (right_of c.in-Untyped.right) (search (rules, the_lemmas)) c.requires)
+    omega (arith, untyped_reach c.args.at (statement_of c.args.statement.now) c.in-Untyped.names.items (right_of c.in-Untyped.right) (untyped_is _ _ _ c.in-Untyped.is) c.requires)
 
 pub statement_spans-right_spans-requires : goal.statement_spans-right_spans-requires
 statement_spans-right_spans-requires t c =
-    omega (arith, untyped_reach c.args.at (statement_of c.args.statement.now) c.in-Untyped.names.items (right_of c.in-Untyped.right) (search (rules, the_lemmas)) c.requires)
+    omega (arith, untyped_reach c.args.at (statement_of c.args.statement.now) c.in-Untyped.names.items (right_of c.in-Untyped.right) (untyped_is _ _ _ c.in-Untyped.is) c.requires)
 
 pub statement_spans-overflow_add-names-in-Untyped : goal.statement_spans-overflow_add-names-in-Untyped
 statement_spans-overflow_add-names-in-Untyped t c =
-    omega (arith, untyped_reach c.args.at (statement_of c.args.statement.now) c.in-Untyped.names.items (right_of c.in-Untyped.right) (search (rules, the_lemmas)) c.requires, c.in_ok-values-in-Untyped.ensures.count)
+    omega (arith, untyped_reach c.args.at (statement_of c.args.statement.now) c.in-Untyped.names.items (right_of c.in-Untyped.right) (untyped_is _ _ _ c.in-Untyped.is) c.requires, c.in_ok-values-in-Untyped.ensures.count)
 
 pub statement_spans-overflow_add-names-in-Untyped-2 : goal.statement_spans-overflow_add-names-in-Untyped-2
 statement_spans-overflow_add-names-in-Untyped-2 t c =
-    omega (arith, untyped_reach c.args.at (statement_of c.args.statement.now) c.in-Untyped.names.items (right_of c.in-Untyped.right) (search (rules, the_lemmas)) c.requires, c.in_ok-values-in-Untyped.ensures.count)
+    omega (arith, untyped_reach c.args.at (statement_of c.args.statement.now) c.in-Untyped.names.items (right_of c.in-Untyped.right) (untyped_is _ _ _ c.in-Untyped.is) c.requires, c.in_ok-values-in-Untyped.ensures.count)
 
 pub statement_spans-add_node-requires-in-Untyped : goal.statement_spans-add_node-requires-in-Untyped
 statement_spans-add_node-requires-in-Untyped t c =
-    omega (arith, untyped_reach c.args.at (statement_of c.args.statement.now) c.in-Untyped.names.items (right_of c.in-Untyped.right) (search (rules, the_lemmas)) c.requires, c.in_ok-values-in-Untyped.ensures.count)
+    omega (arith, untyped_reach c.args.at (statement_of c.args.statement.now) c.in-Untyped.names.items (right_of c.in-Untyped.right) (untyped_is _ _ _ c.in-Untyped.is) c.requires, c.in_ok-values-in-Untyped.ensures.count)
 
 pub statement_spans-block_spans-requires : goal.statement_spans-block_spans-requires
 statement_spans-block_spans-requires t c = search (rules, the_lemmas)
@@ -381,7 +427,7 @@ statement_spans-returns-in-If-clause-spans t c = search (rules, the_lemmas)
 pub statement_spans-returns-in_ok-values-in-Typed-clause-count : goal.statement_spans-returns-in_ok-values-in-Typed-clause-count
 statement_spans-returns-in_ok-values-in-Typed-clause-count t c =
     let arm = c.in-Typed in
-    let is : statement_of c.args.statement.now ≡ VarTyped (map name_of arm.names.items) (type_of arm.kind) (option_map right_of arm.right) = search (rules, the_lemmas) in
+    let is : statement_of c.args.statement.now ≡ VarTyped (map name_of arm.names.items) (type_of arm.kind) (option_map right_of arm.right) = typed_is _ _ _ _ c.in-Typed.is in
     let count : c.saturating_sub-names.result + c.in_ok-kind-in-Typed.kind + c.in_ok-values-in-Typed.values + 1 ≡ statement_count (statement_of c.args.statement.now) =
     rw is (omega (arith, length-map arm.names.items name_of, c.in_ok-kind-in-Typed.ensures.count, c.in_ok-values-in-Typed.ensures.count)) in
     rw count at c.add_node-in-Typed.ensures.count
@@ -389,7 +435,7 @@ statement_spans-returns-in_ok-values-in-Typed-clause-count t c =
 pub statement_spans-returns-in_ok-values-in-Untyped-clause-count : goal.statement_spans-returns-in_ok-values-in-Untyped-clause-count
 statement_spans-returns-in_ok-values-in-Untyped-clause-count t c =
     let arm = c.in-Untyped in
-    let is : statement_of c.args.statement.now ≡ VarUntyped (map name_of arm.names.items) (right_of arm.right) = search (rules, the_lemmas) in
+    let is : statement_of c.args.statement.now ≡ VarUntyped (map name_of arm.names.items) (right_of arm.right) = untyped_is _ _ _ c.in-Untyped.is in
     let count : c.len-names.result * 2 + c.in_ok-values-in-Untyped.values + 1 ≡ statement_count (statement_of c.args.statement.now) =
     rw is (omega (arith, length-map arm.names.items name_of, c.in_ok-values-in-Untyped.ensures.count)) in
     rw count at c.add_node-in-Untyped.ensures.count
@@ -432,3 +478,20 @@ clauses_spans-overflow_add-count t c =
     let cut : drop c.loop-clause.clause-index c.args.all.now ≡ c.clause-item.result ∷ drop (suc c.loop-clause.clause-index) c.args.all.now =
     rw c.clause-item.is (drop-cons c.args.all.now c.loop-clause.clause-index _ c.loop-clause-test.true) in
     omega (arith, c.requires, c.in_ok-count.ensures.count, rw cut at c.loop-clause.invariant.0)
+
+pub body_spans-statement_spans-requires : goal.body_spans-statement_spans-requires
+body_spans-statement_spans-requires t c =
+    let rest = drop (suc c.loop-statement.statement-index) c.args.body.now in
+    let cut : drop c.loop-statement.statement-index c.args.body.now ≡ c.statement-item.result ∷ rest = rw c.statement-item.is (drop-cons c.args.body.now c.loop-statement.statement-index _ c.loop-statement-test.true) in (
+      falls_within (λ (one : StatementNode). statement_depth one) c.args.body.now c.loop-statement.statement-index c.statement-item.result _ _ _ t c.statement-item.is c.loop-statement-test.true c.decreases (omega arith),
+      statement_reach c.args.at c.loop-statement.count (statement_count (statement_of c.statement-item.result)) (body_count (body_of rest)) _ (rw cut at c.loop-statement.invariant.0) c.requires,
+    )
+
+pub clauses_spans-clause_spans-requires : goal.clauses_spans-clause_spans-requires
+clauses_spans-clause_spans-requires t c =
+    let first = clause_of c.clause-item.result in
+    let rest = drop (suc c.loop-clause.clause-index) c.args.all.now in
+    let cut : drop c.loop-clause.clause-index c.args.all.now ≡ c.clause-item.result ∷ rest = rw c.clause-item.is (drop-cons c.args.all.now c.loop-clause.clause-index _ c.loop-clause-test.true) in (
+      falls_within (λ (one : ClauseNode). clause_depth one) c.args.all.now c.loop-clause.clause-index c.clause-item.result _ _ _ t c.clause-item.is c.loop-clause-test.true c.decreases (omega arith),
+      clause_reach c.args.at c.loop-clause.count (clause_count first.comm first.body) (clauses_count (clauses (map clause_of rest))) _ (rw cut at c.loop-clause.invariant.0) c.requires,
+    )
