@@ -3,8 +3,6 @@
 
 mod queue;
 mod rule;
-#[cfg(test)]
-mod tests;
 mod view;
 
 pub use queue::{PutPass, RunQueue, TakePass};

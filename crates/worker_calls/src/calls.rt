@@ -1,6 +1,6 @@
 //! What fails.
 
-use crate::{books, clocks, keys, workers};
+use crate::{books, clocks, keys, queues, workers};
 use go_text::Memory;
 use machine_calls::{Checks, make_calls};
 use std::alloc::Global;
@@ -17,6 +17,7 @@ pub fn failed_calls<R: Threads + Wait + Sync>(
     books::check(alloc, &mut checks)?;
     clocks::check(rt, alloc, &mut checks)?;
     keys::check(alloc, &mut checks)?;
+    queues::check(rt, alloc, &mut checks)?;
     workers::check(rt, alloc, &mut checks)?;
     Ok(checks.into_failed())
 }

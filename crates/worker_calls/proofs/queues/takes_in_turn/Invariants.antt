@@ -1,5 +1,5 @@
 use Rattle.run_queue.specs.Passes.{IsPutOf, IsTakeOf}
-use Rattle.run_queue.proofs.tests.what_one_pass_took_no_other_takes.Given as goal
+use Rattle.worker_calls.proofs.queues.takes_in_turn.Given as goal
 
 -- the passes are of this queue
 abbrev pub invariant-loop-round : goal.invariant-loop-round
