@@ -250,7 +250,6 @@ fn composite_literal<'a>(
     requires { 1 ≤ room }
     ensures tree { Gives (λ x. (expression_of x.node, ahead x.rest)) result (composite (expression true MAX_ENTRIES (room - 1)) MAX_ENTRIES name.now (ahead cursor.entry)) }
     ensures height { IfOk result (λ x. x.height ≡ expression_height (expression_of x.node)) }
-    ensures leaf { IfOk result (λ x. 1 ≤ x.height) }
     ensures within { IfOk result (λ x. x.height ≤ room) }
 {
     let (values, highest) = values(alloc, true, room - 1, TokenKind::RightBrace, cursor)?;
@@ -275,7 +274,6 @@ fn operand_name<'a>(
     requires { 1 ≤ room }
     ensures tree { Gives (λ x. (expression_of x.node, ahead x.rest)) result (named literals (expression literals MAX_ENTRIES (room - 1)) MAX_ENTRIES name.now (ahead cursor.entry)) }
     ensures height { IfOk result (λ x. x.height ≡ expression_height (expression_of x.node)) }
-    ensures leaf { IfOk result (λ x. 1 ≤ x.height) }
     ensures within { IfOk result (λ x. x.height ≤ room) }
 {
     if literals {
@@ -303,7 +301,6 @@ fn parenthesized<'a>(
     requires { 1 ≤ room }
     ensures tree { Gives (λ x. (expression_of x.node, ahead x.rest)) result (parenthesized (expression literals MAX_ENTRIES (room - 1)) (ahead cursor.entry)) }
     ensures height { IfOk result (λ x. x.height ≡ expression_height (expression_of x.node)) }
-    ensures leaf { IfOk result (λ x. 1 ≤ x.height) }
     ensures within { IfOk result (λ x. x.height ≤ room) }
 {
     if room < 2 {
@@ -333,7 +330,6 @@ fn unary_expression<'a>(
     requires { 1 ≤ room }
     ensures tree { Gives (λ x. (expression_of x.node, ahead x.rest)) result (negated (expression literals MAX_ENTRIES (room - 1)) (ahead cursor.entry) (Some operator)) }
     ensures height { IfOk result (λ x. x.height ≡ expression_height (expression_of x.node)) }
-    ensures leaf { IfOk result (λ x. 1 ≤ x.height) }
     ensures within { IfOk result (λ x. x.height ≤ room) }
 {
     if room < 2 {
@@ -360,7 +356,6 @@ fn operand(
     requires { 1 ≤ room }
     ensures tree { Gives (λ x. (expression_of x.node, ahead x.rest)) result (operand literals (expression literals MAX_ENTRIES (room - 1)) MAX_ENTRIES (ahead cursor.entry)) }
     ensures height { IfOk result (λ x. x.height ≡ expression_height (expression_of x.node)) }
-    ensures leaf { IfOk result (λ x. 1 ≤ x.height) }
     ensures within { IfOk result (λ x. x.height ≤ room) }
 {
     let Some((word, rest)) = cursor.next() else {
@@ -406,7 +401,6 @@ fn applied<'a>(
     requires height { left.height ≡ expression_height (expression_of left.node) }
     ensures tree { Gives (λ x. (expression_of x.node, ahead x.rest)) result (applied (expression literals MAX_ENTRIES (room - 1)) (expression_of left.entry.node) (step, ahead cursor.entry)) }
     ensures height { IfOk result (λ x. x.height ≡ expression_height (expression_of x.node)) }
-    ensures leaf { IfOk result (λ x. 1 ≤ x.height) }
     ensures within { IfOk result (λ x. x.height ≤ room) }
 {
     match step {
@@ -432,7 +426,6 @@ fn binary_expression<'a>(
     requires height { left.height ≡ expression_height (expression_of left.node) }
     ensures tree { Gives (λ x. (expression_of x.node, ahead x.rest)) result (applied (expression literals MAX_ENTRIES (room - 1)) (expression_of left.entry.node) (Infix.Operator operator, ahead cursor.entry)) }
     ensures height { IfOk result (λ x. x.height ≡ expression_height (expression_of x.node)) }
-    ensures leaf { IfOk result (λ x. 1 ≤ x.height) }
     ensures within { IfOk result (λ x. x.height ≤ room) }
 {
     let right = measured_expression(alloc, literals, room - 1, precedence(operator) + 1, cursor)?;
@@ -456,7 +449,6 @@ fn selection<'a>(
     requires height { left.height ≡ expression_height (expression_of left.node) }
     ensures tree { (deeper : ℕ → Lists Lexeme → Reading Expression) → Gives (λ x. (expression_of x.node, ahead x.rest)) result (applied deeper (expression_of left.entry.node) (Infix.Period, ahead cursor.entry)) }
     ensures height { IfOk result (λ x. x.height ≡ expression_height (expression_of x.node)) }
-    ensures leaf { IfOk result (λ x. 1 ≤ x.height) }
     ensures within { IfOk result (λ x. x.height ≤ room) }
 {
     let (field, rest) = cursor.plain_name()?;
@@ -477,7 +469,6 @@ fn measured_expression(
 ) -> Result<Measured<'_>, Fault>
     ensures tree { Gives (λ x. (expression_of x.node, ahead x.rest)) result (expression literals MAX_ENTRIES room least (ahead cursor.entry)) }
     ensures height { IfOk result (λ x. x.height ≡ expression_height (expression_of x.node)) }
-    ensures leaf { IfOk result (λ x. 1 ≤ x.height) }
     ensures within { IfOk result (λ x. x.height ≤ room) }
 {
     if room == 0 {

@@ -21,7 +21,6 @@ pub measured_expression-loop-init : goal.measured_expression-loop-init
 measured_expression-loop-init t c = record {
   total = opens c.args.literals 64 c.args.room c.args.least (ahead c.args.cursor) (expression_of c.in_ok-left.left.node) (ahead c.in_ok-left.left.rest) (omega arith) c.in_ok-left.ensures.tree;
   height = c.in_ok-left.ensures.height;
-  leaf = c.in_ok-left.ensures.leaf;
   within = c.in_ok-left.ensures.within;
 }
 
@@ -46,7 +45,6 @@ measured_expression-loop-preserved t c =
     record {
       total = turn_done (expression c.args.literals 64 (c.args.room - 1)) c.args.room c.args.least c.args.room c.loop.counter (expression_of c.loop.left.node) (ahead c.loop.left.rest) c.in-Some.step (ahead c.in-Some.after) (expression_of c.in_ok-left-2.left.node) (ahead c.in_ok-left-2.left.rest) _ c.loop-test.true c.in-Some.ensures low c.in_ok-left-2.ensures.tree c.loop.invariant.total;
       height = c.in_ok-left-2.ensures.height;
-      leaf = c.in_ok-left-2.ensures.leaf;
       within = c.in_ok-left-2.ensures.within;
     }
 
