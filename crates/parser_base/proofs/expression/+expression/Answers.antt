@@ -14,14 +14,16 @@ pub applied-returns-in-Period-clause-tree : goal.applied-returns-in-Period-claus
 applied-returns-in-Period-clause-tree t c = rw c.in-Period.is (c.selection.ensures.tree (expression c.args.literals 64 (c.args.room - 1)))
 
 pub composite_literal-returns-clause-height : goal.composite_literal-returns-clause-height
-composite_literal-returns-clause-height t c =
-    omega (arith, ap expression_height c.in_ok-node.ensures.ok, expressions_height-of (map expression_of c.in_ok-values.values.entries.items), c.in_ok-values.ensures.height)
+composite_literal-returns-clause-height t c = (
+  omega (arith, ap expression_height c.in_ok-node.ensures.ok, expressions_height-of (map expression_of c.in_ok-values.values.entries.items), c.in_ok-values.ensures.height),
+  omega (arith, c.in_ok-values.ensures.within),
+)
 
 pub measured_expression-loop-init : goal.measured_expression-loop-init
 measured_expression-loop-init t c = record {
   total = opens c.args.literals 64 c.args.room c.args.least (ahead c.args.cursor) (expression_of c.in_ok-left.left.node) (ahead c.in_ok-left.left.rest) (omega arith) c.in_ok-left.ensures.tree;
-  height = c.in_ok-left.ensures.height;
-  within = c.in_ok-left.ensures.within;
+  height = c.in_ok-left.ensures.height.0;
+  within = c.in_ok-left.ensures.height.1;
 }
 
 pub measured_expression-returns-in_default-clause-tree : goal.measured_expression-returns-in_default-clause-tree
@@ -44,8 +46,8 @@ measured_expression-loop-preserved t c =
     let low : expression_height (expression_of c.loop.left.node) < c.args.room = omega (arith, c.loop.invariant.height) in
     record {
       total = turn_done (expression c.args.literals 64 (c.args.room - 1)) c.args.room c.args.least c.args.room c.loop.counter (expression_of c.loop.left.node) (ahead c.loop.left.rest) c.in-Some.step (ahead c.in-Some.after) (expression_of c.in_ok-left-2.left.node) (ahead c.in_ok-left-2.left.rest) _ c.loop-test.true c.in-Some.ensures low c.in_ok-left-2.ensures.tree c.loop.invariant.total;
-      height = c.in_ok-left-2.ensures.height;
-      within = c.in_ok-left-2.ensures.within;
+      height = c.in_ok-left-2.ensures.height.0;
+      within = c.in_ok-left-2.ensures.height.1;
     }
 
 pub expression_list-returns-in_err-found-clause-values : goal.expression_list-returns-in_err-found-clause-values
@@ -66,15 +68,15 @@ expression_list-returns-in-End-clause-values t c =
 pub expression_list-returns-in-End-clause-height : goal.expression_list-returns-in-End-clause-height
 expression_list-returns-in-End-clause-height t c =
     let pushed = chosen _ _ _ _ c.push.ensures.items (ap is_ok c.in_ok-push.was) in
-    rw pushed (omega (arith, highest-pushed expression_of expression_height c.loop.entries.items c.in_ok-found.found.node, c.loop.invariant.height, c.in_ok-found.ensures.height, c.max-height.ensures))
+    rw pushed (omega (arith, highest-pushed expression_of expression_height c.loop.entries.items c.in_ok-found.found.node, c.loop.invariant.height, c.in_ok-found.ensures.height.0, c.max-height.ensures))
 
 pub expression_list-loop-preserved : goal.expression_list-loop-preserved
 expression_list-loop-preserved t c =
     let pushed = chosen _ _ _ _ c.push.ensures.items (ap is_ok c.in_ok-push.was) in
     record {
       total = rw pushed (more expression_of (expression c.args.literals 64 c.args.room 0) (value_next c.args.close) (TooMany Entries) 64 c.loop.counter c.loop.entries.items (ahead c.loop.rest) c.in_ok-found.found.node (ahead c.in_ok-found.found.rest) (ahead c.in_ok-next.after) _ c.loop-test.true c.in_ok-found.ensures.tree (rw c.in-More.is at c.in_ok-next.ensures) c.loop.invariant.total);
-      height = rw pushed (omega (arith, highest-pushed expression_of expression_height c.loop.entries.items c.in_ok-found.found.node, c.loop.invariant.height, c.in_ok-found.ensures.height, c.max-height.ensures));
-      within = omega (arith, c.loop.invariant.within, c.in_ok-found.ensures.within, c.max-height.ensures);
+      height = rw pushed (omega (arith, highest-pushed expression_of expression_height c.loop.entries.items c.in_ok-found.found.node, c.loop.invariant.height, c.in_ok-found.ensures.height.0, c.max-height.ensures));
+      within = omega (arith, c.loop.invariant.within, c.in_ok-found.ensures.height.1, c.max-height.ensures);
     }
 
 pub expression_list-returns-clause-values : goal.expression_list-returns-clause-values
