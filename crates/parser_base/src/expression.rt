@@ -249,9 +249,7 @@ fn composite_literal<'a>(
 ) -> Result<Measured<'a>, Fault>
     requires { 1 ≤ room }
     ensures tree { Gives (λ x. (expression_of x.node, ahead x.rest)) result (composite (expression true MAX_ENTRIES (room - 1)) MAX_ENTRIES name.now (ahead cursor.entry)) }
-    ensures height { IfOk result (λ x. x.height ≡ expression_height (expression_of x.node)) }
-    ensures leaf { IfOk result (λ x. 1 ≤ x.height) }
-    ensures within { IfOk result (λ x. x.height ≤ room) }
+    ensures height { IfOk result (λ x. (x.height ≡ expression_height (expression_of x.node)) × (x.height ≤ room)) }
 {
     let (values, highest) = values(alloc, true, room - 1, TokenKind::RightBrace, cursor)?;
     let node = composite_node(alloc, name, values.entries, values.trailing)?;
@@ -274,9 +272,7 @@ fn operand_name<'a>(
 ) -> Result<Measured<'a>, Fault>
     requires { 1 ≤ room }
     ensures tree { Gives (λ x. (expression_of x.node, ahead x.rest)) result (named literals (expression literals MAX_ENTRIES (room - 1)) MAX_ENTRIES name.now (ahead cursor.entry)) }
-    ensures height { IfOk result (λ x. x.height ≡ expression_height (expression_of x.node)) }
-    ensures leaf { IfOk result (λ x. 1 ≤ x.height) }
-    ensures within { IfOk result (λ x. x.height ≤ room) }
+    ensures height { IfOk result (λ x. (x.height ≡ expression_height (expression_of x.node)) × (x.height ≤ room)) }
 {
     if literals {
         if let Some((Word::Mark(TokenKind::LeftBrace), rest)) = cursor.next() {
@@ -302,9 +298,7 @@ fn parenthesized<'a>(
 ) -> Result<Measured<'a>, Fault>
     requires { 1 ≤ room }
     ensures tree { Gives (λ x. (expression_of x.node, ahead x.rest)) result (parenthesized (expression literals MAX_ENTRIES (room - 1)) (ahead cursor.entry)) }
-    ensures height { IfOk result (λ x. x.height ≡ expression_height (expression_of x.node)) }
-    ensures leaf { IfOk result (λ x. 1 ≤ x.height) }
-    ensures within { IfOk result (λ x. x.height ≤ room) }
+    ensures height { IfOk result (λ x. (x.height ≡ expression_height (expression_of x.node)) × (x.height ≤ room)) }
 {
     if room < 2 {
         return Err(Fault::TooDeep(first.place()));
@@ -332,9 +326,7 @@ fn unary_expression<'a>(
 ) -> Result<Measured<'a>, Fault>
     requires { 1 ≤ room }
     ensures tree { Gives (λ x. (expression_of x.node, ahead x.rest)) result (negated (expression literals MAX_ENTRIES (room - 1)) (ahead cursor.entry) (Some operator)) }
-    ensures height { IfOk result (λ x. x.height ≡ expression_height (expression_of x.node)) }
-    ensures leaf { IfOk result (λ x. 1 ≤ x.height) }
-    ensures within { IfOk result (λ x. x.height ≤ room) }
+    ensures height { IfOk result (λ x. (x.height ≡ expression_height (expression_of x.node)) × (x.height ≤ room)) }
 {
     if room < 2 {
         return Err(Fault::TooDeep(first.place()));
@@ -359,9 +351,7 @@ fn operand(
 ) -> Result<Measured<'_>, Fault>
     requires { 1 ≤ room }
     ensures tree { Gives (λ x. (expression_of x.node, ahead x.rest)) result (operand literals (expression literals MAX_ENTRIES (room - 1)) MAX_ENTRIES (ahead cursor.entry)) }
-    ensures height { IfOk result (λ x. x.height ≡ expression_height (expression_of x.node)) }
-    ensures leaf { IfOk result (λ x. 1 ≤ x.height) }
-    ensures within { IfOk result (λ x. x.height ≤ room) }
+    ensures height { IfOk result (λ x. (x.height ≡ expression_height (expression_of x.node)) × (x.height ≤ room)) }
 {
     let Some((word, rest)) = cursor.next() else {
         return Err(Fault::Syntax(cursor.place()));
@@ -405,9 +395,7 @@ fn applied<'a>(
     requires low { left.height < room }
     requires height { left.height ≡ expression_height (expression_of left.node) }
     ensures tree { Gives (λ x. (expression_of x.node, ahead x.rest)) result (applied (expression literals MAX_ENTRIES (room - 1)) (expression_of left.entry.node) (step, ahead cursor.entry)) }
-    ensures height { IfOk result (λ x. x.height ≡ expression_height (expression_of x.node)) }
-    ensures leaf { IfOk result (λ x. 1 ≤ x.height) }
-    ensures within { IfOk result (λ x. x.height ≤ room) }
+    ensures height { IfOk result (λ x. (x.height ≡ expression_height (expression_of x.node)) × (x.height ≤ room)) }
 {
     match step {
         Infix::Operator(operator) => binary_expression(
@@ -431,9 +419,7 @@ fn binary_expression<'a>(
     requires low { left.height < room }
     requires height { left.height ≡ expression_height (expression_of left.node) }
     ensures tree { Gives (λ x. (expression_of x.node, ahead x.rest)) result (applied (expression literals MAX_ENTRIES (room - 1)) (expression_of left.entry.node) (Infix.Operator operator, ahead cursor.entry)) }
-    ensures height { IfOk result (λ x. x.height ≡ expression_height (expression_of x.node)) }
-    ensures leaf { IfOk result (λ x. 1 ≤ x.height) }
-    ensures within { IfOk result (λ x. x.height ≤ room) }
+    ensures height { IfOk result (λ x. (x.height ≡ expression_height (expression_of x.node)) × (x.height ≤ room)) }
 {
     let right = measured_expression(alloc, literals, room - 1, precedence(operator) + 1, cursor)?;
     let height = left.height.max(right.height) + 1;
@@ -455,9 +441,7 @@ fn selection<'a>(
     requires low { left.height < room }
     requires height { left.height ≡ expression_height (expression_of left.node) }
     ensures tree { (deeper : ℕ → Lists Lexeme → Reading Expression) → Gives (λ x. (expression_of x.node, ahead x.rest)) result (applied deeper (expression_of left.entry.node) (Infix.Period, ahead cursor.entry)) }
-    ensures height { IfOk result (λ x. x.height ≡ expression_height (expression_of x.node)) }
-    ensures leaf { IfOk result (λ x. 1 ≤ x.height) }
-    ensures within { IfOk result (λ x. x.height ≤ room) }
+    ensures height { IfOk result (λ x. (x.height ≡ expression_height (expression_of x.node)) × (x.height ≤ room)) }
 {
     let (field, rest) = cursor.plain_name()?;
     let height = left.height + 1;
@@ -476,9 +460,7 @@ fn measured_expression(
     cursor: Cursor<'_>,
 ) -> Result<Measured<'_>, Fault>
     ensures tree { Gives (λ x. (expression_of x.node, ahead x.rest)) result (expression literals MAX_ENTRIES room least (ahead cursor.entry)) }
-    ensures height { IfOk result (λ x. x.height ≡ expression_height (expression_of x.node)) }
-    ensures leaf { IfOk result (λ x. 1 ≤ x.height) }
-    ensures within { IfOk result (λ x. x.height ≤ room) }
+    ensures height { IfOk result (λ x. (x.height ≡ expression_height (expression_of x.node)) × (x.height ≤ room)) }
 {
     if room == 0 {
         return Err(Fault::TooDeep(cursor.place()));

@@ -117,8 +117,7 @@ pub fn argument(
 ) -> Result<Found<'_, ExpressionNode>, Fault>
     ensures { Gives (λ x. (expression_of x.node, ahead x.rest)) result (argument literals MAX_ENTRIES room (ahead cursor.entry)) }
 {
-    let inside = cursor.expect(TokenKind::LeftParenthesis)?;
-    let value = expression(alloc, literals, room, 0, inside)?;
+    let value = expression_behind(alloc, literals, room, TokenKind::LeftParenthesis, cursor)?;
     let (node, rest) = beside(value.node, value.rest.expect(TokenKind::RightParenthesis))?;
     Ok(Found { node, rest })
 }

@@ -40,7 +40,6 @@ abbrev pub invariant-measured_expression-loop : goal.invariant-measured_expressi
 invariant-measured_expression-loop l = record {
   total : operations (expression l.literals 64 (l.room - 1)) l.room l.least (l.room - l.counter) (expression_of l.left.node) (ahead l.left.rest) ≡ expression l.literals 64 l.room l.least (ahead l.fn.cursor);
   height : l.left.height ≡ expression_height (expression_of l.left.node);
-  leaf : 1 ≤ l.left.height;
   within : l.left.height ≤ l.room;
 }
 
