@@ -1,3 +1,4 @@
 pub mod Powers
 pub mod Literals
 pub mod Variants
+pub mod Depths

@@ -11,6 +11,9 @@ use Rattle.typing_rules.specs.Worths.{literal_struct, worth}
 use Rattle.checker_base.specs.Views.{kind_in}
 use Rattle.typing_rules.specs.Expressions.{ExpressionsHave, ValuesFail, field_kinds, nodes_of}
 use Rattle.checker_base.proofs.Literals.{is_none, is_some, no_fields, number_has, value_has, narrows-end, next_field, found_next, passed_next, fits_next, fields_agree, composite_has, composite_in, literal_free, literal_flawed}
+use Rattle.syntax.specs.declared.node.ExpressionNode.{ExpressionNode}
+use Rattle.syntax.proofs.node.ExpressionNode.TheLaws.{the_size as expression_depth}
+use Rattle.checker_base.proofs.Depths.{falls_within}
 use Rattle.checker_base.proofs.Variants.{integer_is, named_is, parenthesized_is, selection_is, unary_is, binary_is}
 use Rattle.checker_base.proofs.operand.+checked.Goals as goal
 
@@ -303,3 +306,19 @@ checked-returns-in_ok-right-in-Binary-clause-none t c =
 pub checked-returns-in_ok-right-in-Binary-clause-one : goal.checked-returns-in_ok-right-in-Binary-clause-one
 checked-returns-in_ok-right-in-Binary-clause-one t c =
     rw (binary_is _ _ _ _ c.in-Binary.is, ← c.deref-in-Binary.ensures, ← c.deref-in-Binary-2.ensures) (IfErr-weaker c.between.result _ _ (λ flaw has. inr (inr (has _ _ c.in_ok-left-in-Binary.ensures.worth c.in_ok-right-in-Binary.ensures.worth _ _ c.in_ok-left-in-Binary.ensures.first c.in_ok-left-in-Binary.ensures.end (c.in_ok-left-in-Binary.ensures.end ∙ c.in_ok-right-in-Binary.ensures.first) (second_end _ _ _ _ _ c.in_ok-left-in-Binary.ensures.end c.in_ok-right-in-Binary.ensures.end) _ (both_end _ _ _ _ _ c.in_ok-left-in-Binary.ensures.end c.in_ok-right-in-Binary.ensures.end)))) c.between.ensures.one)
+
+pub fit_fields-checked-requires : goal.fit_fields-checked-requires
+fit_fields-checked-requires t c =
+    let left = drop (suc c.loop-number.number) c.args.values.now in
+    let cut : drop c.loop-number.number c.args.values.now ≡ c.index-values-number.result ∷ left = rw c.index-values-number.is (drop-cons c.args.values.now c.loop-number.number _ c.loop-number-test.true) in (
+      falls_within (λ (one : ExpressionNode). expression_depth one) c.args.values.now c.loop-number.number c.index-values-number.result _ _ _ t c.index-values-number.is c.loop-number-test.true c.decreases (omega arith),
+      omega (arith, rw cut at c.loop-number.invariant.end, c.requires.small),
+    )
+
+pub fit_fields-returns-in_err-operand-clause-one : goal.fit_fields-returns-in_err-operand-clause-one
+fit_fields-returns-in_err-operand-clause-one t c =
+    let left = drop (suc c.loop-number.number) c.args.values.now in
+    let cut : drop c.loop-number.number c.args.values.now ≡ c.index-values-number.result ∷ left = rw c.index-values-number.is (drop-cons c.args.values.now c.loop-number.number _ c.loop-number-test.true) in
+    let found = rw cut at c.loop-number.invariant.found in
+    let p = err_from_is_err_and c.from_residual.result c.from_residual.ensures.1 in
+    rw (p.1, p.2) (found c.in_err-operand.field-0.0 (inl c.in_err-operand.ensures.one))
