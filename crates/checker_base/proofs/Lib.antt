@@ -1,4 +1,3 @@
 pub mod Powers
 pub mod Literals
 pub mod Variants
-pub mod Depths

@@ -1,16 +1,13 @@
 -- What an expression is as a tree, by its variant in memory.
-use Rattle.std.proofs.Common.{rules, ◌≡◌, ℕ, Bool, map, Option, Vec, Box, Global}
+use Rattle.std.proofs.Common.{rules, ◌≡◌, Box, Global}
 use Rattle.syntax.specs.declared.node.Name.{Name}
 use Rattle.syntax.specs.declared.node.UnaryOperator.{UnaryOperator}
 use Rattle.syntax.specs.declared.node.BinaryOperator.{BinaryOperator}
 use Rattle.syntax.specs.declared.node.ExpressionNode.{ExpressionNode}
 use Rattle.syntax.specs.declared.node.ExpressionNode.TheVariants as nodes
 use Rattle.syntax.specs.declared.node.ExpressionNode.TheFolds.{the_lemmas}
-use Rattle.syntax.specs.Tree.{Integer, Named, Parenthesized, Selection, Composite, Unary, Binary, expressions}
+use Rattle.syntax.specs.Tree.{Named, Parenthesized, Selection, Unary, Binary}
 use Rattle.syntax.specs.View.{name_of, expression_of}
-
-pub integer_is : (e : ExpressionNode) (value : Option ℕ) → e ≡ nodes.Integer value → expression_of e ≡ Integer value
-integer_is e value is = search (rules, the_lemmas)
 
 pub named_is : (e : ExpressionNode) (name : Name) → e ≡ nodes.Named name → expression_of e ≡ Named (name_of name)
 named_is e name is = search (rules, the_lemmas)
@@ -20,10 +17,6 @@ parenthesized_is e inner is = search (rules, the_lemmas)
 
 pub selection_is : (e : ExpressionNode) (whole : Box ExpressionNode Global) (field : Name) → e ≡ nodes.Selection whole field → expression_of e ≡ Selection (expression_of whole.value) (name_of field)
 selection_is e whole field is = search (rules, the_lemmas)
-
-pub composite_is : (e : ExpressionNode) (name : Name) (values : Vec ExpressionNode Global) (trailing : Bool) → e ≡ nodes.Composite name values trailing
-    → expression_of e ≡ Composite (name_of name) (expressions (map expression_of values.items)) trailing
-composite_is e name values trailing is = search (rules, the_lemmas)
 
 pub unary_is : (e : ExpressionNode) (operator : UnaryOperator) (operand : Box ExpressionNode Global) → e ≡ nodes.Unary operator operand → expression_of e ≡ Unary operator (expression_of operand.value)
 unary_is e operator operand is = search (rules, the_lemmas)

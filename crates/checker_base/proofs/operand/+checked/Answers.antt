@@ -1,6 +1,6 @@
-use Rattle.std.proofs.Common.{rules, arith, ◌≡◌, ◌∙◌, [], refl, sym, ap, ℕ, ◌∷◌, ◌+◌, suc, inl, inr, Some, drop, map, slice_get, length, option_copied, drop-cons}
+use Rattle.std.proofs.Common.{rules, arith, ◌≡◌, ◌∙◌, [], refl, sym, ◌∷◌, ◌+◌, suc, inl, inr, Some, drop, map, slice_get, length, option_copied, drop-cons}
 use Rattle.std.proofs.lemmas.List.{drop_all, length-map}
-use Rattle.std.proofs.lemmas.Result.{err_from_is_err_and, IfOk-weaker, IfErr-weaker}
+use Rattle.std.proofs.lemmas.Result.{err_from_is_err_and, IfOk-weaker}
 use Rattle.syntax.specs.declared.node.ExpressionNode.TheFolds.{the_lemmas}
 use Rattle.syntax.specs.Measures.{expression_size, expressions_size}
 use Rattle.syntax.specs.Tree.{Composite, expressions}
@@ -11,28 +11,7 @@ use Rattle.typing_rules.specs.Worths.{literal_struct, worth}
 use Rattle.checker_base.specs.Views.{kind_in}
 use Rattle.typing_rules.specs.Expressions.{ExpressionsHave, ValuesFail, field_kinds, nodes_of}
 use Rattle.checker_base.proofs.Literals.{is_none, is_some, no_fields, number_has, value_has, narrows-end, next_field, found_next, passed_next, fits_next, fields_agree, composite_has, composite_in, literal_free, literal_flawed}
-use Rattle.syntax.specs.declared.node.ExpressionNode.{ExpressionNode}
-use Rattle.syntax.proofs.node.ExpressionNode.TheLaws.{the_size as expression_depth}
-use Rattle.checker_base.proofs.Depths.{falls_within}
-use Rattle.checker_base.proofs.Variants.{integer_is, named_is, parenthesized_is, selection_is, unary_is, binary_is}
 use Rattle.checker_base.proofs.operand.+checked.Goals as goal
-
--- the number behind the own node, which is behind those of an operand
-one_behind : (first size node last : ℕ) → first + size ≡ node + 1 → node + 1 ≡ last → first + (size + 1) ≡ last + 1
-one_behind first size node last end at = omega arith
-
-two_behind : (first size node : ℕ) → first + size ≡ node + 1 → first + (size + 1) ≡ node + 2
-two_behind first size node end = omega arith
-
--- the same behind those of two operands
-both_behind : (first size more left right last : ℕ) → first + size ≡ left + 1 → left + 1 + more ≡ right + 1 → right + 1 ≡ last → first + (size + more + 1) ≡ last + 1
-both_behind first size more left right last one other at = omega arith
-
-both_end : (first size more left right : ℕ) → first + size ≡ left + 1 → left + 1 + more ≡ right + 1 → first + (size + more + 1) ≡ right + 2
-both_end first size more left right one other = omega arith
-
-second_end : (first size more left right : ℕ) → first + size ≡ left + 1 → left + 1 + more ≡ right + 1 → first + size + more ≡ right + 1
-second_end first size more left right one other = omega arith
 
 pub checked-returns-in-Composite-clause-worth : goal.checked-returns-in-Composite-clause-worth
 checked-returns-in-Composite-clause-worth t c =
@@ -170,9 +149,7 @@ pub checked-checked-requires : goal.checked-checked-requires
 checked-checked-requires t c = search (rules, the_lemmas)
 
 pub checked-returns-in_err-inner-in-Parenthesized-clause-one : goal.checked-returns-in_err-inner-in-Parenthesized-clause-one
-checked-returns-in_err-inner-in-Parenthesized-clause-one t c =
-    let p = err_from_is_err_and c.from_residual.result c.from_residual.ensures.1 in
-    rw (p.1, p.2, parenthesized_is _ _ c.in-Parenthesized.is, ← c.deref.ensures) c.in_err-inner-in-Parenthesized.ensures.one
+checked-returns-in_err-inner-in-Parenthesized-clause-one t c = search (rules, the_lemmas)
 
 pub checked-overflow_add-result : goal.checked-overflow_add-result
 checked-overflow_add-result t c = search (rules, the_lemmas)
@@ -181,9 +158,7 @@ pub checked-checked-requires-in-Selection : goal.checked-checked-requires-in-Sel
 checked-checked-requires-in-Selection t c = search (rules, the_lemmas)
 
 pub checked-returns-in_err-whole-in-Selection-clause-one : goal.checked-returns-in_err-whole-in-Selection-clause-one
-checked-returns-in_err-whole-in-Selection-clause-one t c =
-    let p = err_from_is_err_and c.from_residual-in_err-whole-in-Selection.result c.from_residual-in_err-whole-in-Selection.ensures.1 in
-    rw (p.1, p.2, selection_is _ _ _ c.in-Selection.is, ← c.deref-in-Selection.ensures) (inl c.in_err-whole-in-Selection.ensures.one)
+checked-returns-in_err-whole-in-Selection-clause-one t c = search (rules, the_lemmas)
 
 pub checked-selection-requires : goal.checked-selection-requires
 checked-selection-requires t c = search (rules, the_lemmas)
@@ -195,9 +170,7 @@ pub checked-checked-requires-in-Unary : goal.checked-checked-requires-in-Unary
 checked-checked-requires-in-Unary t c = search (rules, the_lemmas)
 
 pub checked-returns-in_err-operand-in-Unary-clause-one : goal.checked-returns-in_err-operand-in-Unary-clause-one
-checked-returns-in_err-operand-in-Unary-clause-one t c =
-    let p = err_from_is_err_and c.from_residual-in_err-operand-in-Unary.result c.from_residual-in_err-operand-in-Unary.ensures.1 in
-    rw (p.1, p.2, unary_is _ _ _ c.in-Unary.is, ← c.deref-in-Unary.ensures) (inl c.in_err-operand-in-Unary.ensures.one)
+checked-returns-in_err-operand-in-Unary-clause-one t c = search (rules, the_lemmas)
 
 pub checked-before-requires-clause-small : goal.checked-before-requires-clause-small
 checked-before-requires-clause-small t c = search (rules, the_lemmas)
@@ -206,9 +179,7 @@ pub checked-checked-requires-in-Binary : goal.checked-checked-requires-in-Binary
 checked-checked-requires-in-Binary t c = search (rules, the_lemmas)
 
 pub checked-returns-in_err-left-in-Binary-clause-one : goal.checked-returns-in_err-left-in-Binary-clause-one
-checked-returns-in_err-left-in-Binary-clause-one t c =
-    let p = err_from_is_err_and c.from_residual-in_err-left-in-Binary.result c.from_residual-in_err-left-in-Binary.ensures.1 in
-    rw (p.1, p.2, binary_is _ _ _ _ c.in-Binary.is, ← c.deref-in-Binary.ensures) (inl c.in_err-left-in-Binary.ensures.one)
+checked-returns-in_err-left-in-Binary-clause-one t c = search (rules, the_lemmas)
 
 pub checked-overflow_add-left : goal.checked-overflow_add-left
 checked-overflow_add-left t c = search (rules, the_lemmas)
@@ -217,62 +188,55 @@ pub checked-checked-requires-in-Binary-2 : goal.checked-checked-requires-in-Bina
 checked-checked-requires-in-Binary-2 t c = search (rules, the_lemmas)
 
 pub checked-returns-in_err-right-in-Binary-clause-one : goal.checked-returns-in_err-right-in-Binary-clause-one
-checked-returns-in_err-right-in-Binary-clause-one t c =
-    let p = err_from_is_err_and c.from_residual-in_err-right-in-Binary.result c.from_residual-in_err-right-in-Binary.ensures.1 in
-    rw (p.1, p.2, binary_is _ _ _ _ c.in-Binary.is, ← c.deref-in-Binary.ensures, ← c.deref-in-Binary-2.ensures, c.in_ok-left-in-Binary.ensures.end) (inr (inl c.in_err-right-in-Binary.ensures.one))
+checked-returns-in_err-right-in-Binary-clause-one t c = search (rules, the_lemmas)
 
 pub checked-between-requires-clause-small : goal.checked-between-requires-clause-small
 checked-between-requires-clause-small t c = search (rules, the_lemmas)
 
 pub checked-returns-in-Integer-clause-worth : goal.checked-returns-in-Integer-clause-worth
-checked-returns-in-Integer-clause-worth t c = rw (integer_is _ _ c.in-Integer.is) (IfOk-weaker c.integer.result _ _ (λ _ worth. worth (types_of c.args.table.now)) c.integer.ensures.worth)
+checked-returns-in-Integer-clause-worth t c = search (rules, the_lemmas)
 
 pub checked-returns-in-Integer-clause-end : goal.checked-returns-in-Integer-clause-end
-checked-returns-in-Integer-clause-end t c = rw (integer_is _ _ c.in-Integer.is) (IfOk-weaker c.integer.result _ _ (λ _ at. ap (λ node. node + 1) at) c.integer.ensures.node)
+checked-returns-in-Integer-clause-end t c = search (rules, the_lemmas)
 
 pub checked-returns-in-Integer-clause-none : goal.checked-returns-in-Integer-clause-none
-checked-returns-in-Integer-clause-none t c = rw (integer_is _ _ c.in-Integer.is) (IfOk-weaker c.integer.result _ _ (λ _ some flaw has. some has.0) c.integer.ensures.none)
+checked-returns-in-Integer-clause-none t c = search (rules, the_lemmas)
 
 pub checked-returns-in-Integer-clause-one : goal.checked-returns-in-Integer-clause-one
-checked-returns-in-Integer-clause-one t c = rw (integer_is _ _ c.in-Integer.is) c.integer.ensures.one
+checked-returns-in-Integer-clause-one t c = search (rules, the_lemmas)
 
 pub checked-returns-in-Named-clause-worth : goal.checked-returns-in-Named-clause-worth
-checked-returns-in-Named-clause-worth t c = rw (named_is _ _ c.in-Named.is) c.named.ensures.worth
+checked-returns-in-Named-clause-worth t c = search (rules, the_lemmas)
 
 pub checked-returns-in-Named-clause-end : goal.checked-returns-in-Named-clause-end
-checked-returns-in-Named-clause-end t c = rw (named_is _ _ c.in-Named.is) (IfOk-weaker c.named.result _ _ (λ _ at. ap (λ node. node + 1) at) c.named.ensures.node)
+checked-returns-in-Named-clause-end t c = search (rules, the_lemmas)
 
 pub checked-returns-in-Named-clause-none : goal.checked-returns-in-Named-clause-none
-checked-returns-in-Named-clause-none t c = rw (named_is _ _ c.in-Named.is) c.named.ensures.none
+checked-returns-in-Named-clause-none t c = search (rules, the_lemmas)
 
 pub checked-returns-in-Named-clause-one : goal.checked-returns-in-Named-clause-one
-checked-returns-in-Named-clause-one t c = rw (named_is _ _ c.in-Named.is) c.named.ensures.one
+checked-returns-in-Named-clause-one t c = search (rules, the_lemmas)
 
 pub checked-returns-in_ok-inner-in-Parenthesized-clause-worth : goal.checked-returns-in_ok-inner-in-Parenthesized-clause-worth
-checked-returns-in_ok-inner-in-Parenthesized-clause-worth t c = rw (parenthesized_is _ _ c.in-Parenthesized.is, ← c.deref.ensures) c.in_ok-inner-in-Parenthesized.ensures.worth
+checked-returns-in_ok-inner-in-Parenthesized-clause-worth t c = search (rules, the_lemmas)
 
 pub checked-returns-in_ok-inner-in-Parenthesized-clause-end : goal.checked-returns-in_ok-inner-in-Parenthesized-clause-end
-checked-returns-in_ok-inner-in-Parenthesized-clause-end t c = rw (parenthesized_is _ _ c.in-Parenthesized.is, ← c.deref.ensures) (one_behind _ _ _ _ c.in_ok-inner-in-Parenthesized.ensures.end refl)
+checked-returns-in_ok-inner-in-Parenthesized-clause-end t c = search (rules, the_lemmas)
 
 pub checked-returns-in_ok-inner-in-Parenthesized-clause-none : goal.checked-returns-in_ok-inner-in-Parenthesized-clause-none
-checked-returns-in_ok-inner-in-Parenthesized-clause-none t c = rw (parenthesized_is _ _ c.in-Parenthesized.is, ← c.deref.ensures) c.in_ok-inner-in-Parenthesized.ensures.none
+checked-returns-in_ok-inner-in-Parenthesized-clause-none t c = search (rules, the_lemmas)
 
 pub checked-returns-in_ok-whole-in-Selection-clause-worth : goal.checked-returns-in_ok-whole-in-Selection-clause-worth
-checked-returns-in_ok-whole-in-Selection-clause-worth t c = rw (selection_is _ _ _ c.in-Selection.is, ← c.deref-in-Selection.ensures, c.in_ok-whole-in-Selection.ensures.worth, ← c.as_slice.ensures.value) c.selection.ensures.worth
+checked-returns-in_ok-whole-in-Selection-clause-worth t c = search (rules, the_lemmas)
 
 pub checked-returns-in_ok-whole-in-Selection-clause-end : goal.checked-returns-in_ok-whole-in-Selection-clause-end
-checked-returns-in_ok-whole-in-Selection-clause-end t c = rw (selection_is _ _ _ c.in-Selection.is, ← c.deref-in-Selection.ensures) (IfOk-weaker c.selection.result _ _ (λ _ at. one_behind _ _ _ _ c.in_ok-whole-in-Selection.ensures.end at) c.selection.ensures.node)
+checked-returns-in_ok-whole-in-Selection-clause-end t c = search (rules, the_lemmas)
 
 pub checked-returns-in_ok-whole-in-Selection-clause-none : goal.checked-returns-in_ok-whole-in-Selection-clause-none
-checked-returns-in_ok-whole-in-Selection-clause-none t c =
-    rw (selection_is _ _ _ c.in-Selection.is, ← c.deref-in-Selection.ensures, ← c.as_slice.ensures.value) (IfOk-weaker c.selection.result _ _ (λ _ free flaw has. elim has [
-      | inl bad ↦ c.in_ok-whole-in-Selection.ensures.none flaw bad
-      | inr bad ↦ free _ c.in_ok-whole-in-Selection.ensures.worth _ _ flaw bad
-    ]) c.selection.ensures.none)
+checked-returns-in_ok-whole-in-Selection-clause-none t c = search (rules, the_lemmas)
 
 pub checked-returns-in_ok-whole-in-Selection-clause-one : goal.checked-returns-in_ok-whole-in-Selection-clause-one
-checked-returns-in_ok-whole-in-Selection-clause-one t c =
-    rw (selection_is _ _ _ c.in-Selection.is, ← c.deref-in-Selection.ensures, ← c.as_slice.ensures.value) (IfErr-weaker c.selection.result _ _ (λ flaw has. inr (has _ c.in_ok-whole-in-Selection.ensures.worth _ c.in_ok-whole-in-Selection.ensures.first _ (two_behind _ _ _ c.in_ok-whole-in-Selection.ensures.end))) c.selection.ensures.one)
+checked-returns-in_ok-whole-in-Selection-clause-one t c = search (rules, the_lemmas)
 
 pub checked-returns-in-Composite-clause-end : goal.checked-returns-in-Composite-clause-end
 checked-returns-in-Composite-clause-end t c = search (rules, the_lemmas)
@@ -290,35 +254,13 @@ pub checked-returns-in_ok-operand-in-Unary-clause-one : goal.checked-returns-in_
 checked-returns-in_ok-operand-in-Unary-clause-one t c = search (rules, the_lemmas)
 
 pub checked-returns-in_ok-right-in-Binary-clause-worth : goal.checked-returns-in_ok-right-in-Binary-clause-worth
-checked-returns-in_ok-right-in-Binary-clause-worth t c = rw (binary_is _ _ _ _ c.in-Binary.is, ← c.deref-in-Binary.ensures, ← c.deref-in-Binary-2.ensures, c.in_ok-left-in-Binary.ensures.worth, c.in_ok-right-in-Binary.ensures.worth) c.between.ensures.worth
+checked-returns-in_ok-right-in-Binary-clause-worth t c = search (rules, the_lemmas)
 
 pub checked-returns-in_ok-right-in-Binary-clause-end : goal.checked-returns-in_ok-right-in-Binary-clause-end
-checked-returns-in_ok-right-in-Binary-clause-end t c = rw (binary_is _ _ _ _ c.in-Binary.is, ← c.deref-in-Binary.ensures, ← c.deref-in-Binary-2.ensures) (IfOk-weaker c.between.result _ _ (λ _ at. both_behind _ _ _ _ _ _ c.in_ok-left-in-Binary.ensures.end c.in_ok-right-in-Binary.ensures.end at) c.between.ensures.node)
+checked-returns-in_ok-right-in-Binary-clause-end t c = search (rules, the_lemmas)
 
 pub checked-returns-in_ok-right-in-Binary-clause-none : goal.checked-returns-in_ok-right-in-Binary-clause-none
-checked-returns-in_ok-right-in-Binary-clause-none t c =
-    rw (binary_is _ _ _ _ c.in-Binary.is, ← c.deref-in-Binary.ensures, ← c.deref-in-Binary-2.ensures, c.in_ok-left-in-Binary.ensures.end) (IfOk-weaker c.between.result _ _ (λ _ free flaw has. elim has [
-      | inl bad ↦ c.in_ok-left-in-Binary.ensures.none flaw bad
-      | inr (inl bad) ↦ c.in_ok-right-in-Binary.ensures.none flaw bad
-      | inr (inr bad) ↦ free _ _ c.in_ok-left-in-Binary.ensures.worth c.in_ok-right-in-Binary.ensures.worth _ _ _ flaw bad
-    ]) c.between.ensures.none)
+checked-returns-in_ok-right-in-Binary-clause-none t c = search (rules, the_lemmas)
 
 pub checked-returns-in_ok-right-in-Binary-clause-one : goal.checked-returns-in_ok-right-in-Binary-clause-one
-checked-returns-in_ok-right-in-Binary-clause-one t c =
-    rw (binary_is _ _ _ _ c.in-Binary.is, ← c.deref-in-Binary.ensures, ← c.deref-in-Binary-2.ensures) (IfErr-weaker c.between.result _ _ (λ flaw has. inr (inr (has _ _ c.in_ok-left-in-Binary.ensures.worth c.in_ok-right-in-Binary.ensures.worth _ _ c.in_ok-left-in-Binary.ensures.first c.in_ok-left-in-Binary.ensures.end (c.in_ok-left-in-Binary.ensures.end ∙ c.in_ok-right-in-Binary.ensures.first) (second_end _ _ _ _ _ c.in_ok-left-in-Binary.ensures.end c.in_ok-right-in-Binary.ensures.end) _ (both_end _ _ _ _ _ c.in_ok-left-in-Binary.ensures.end c.in_ok-right-in-Binary.ensures.end)))) c.between.ensures.one)
-
-pub fit_fields-checked-requires : goal.fit_fields-checked-requires
-fit_fields-checked-requires t c =
-    let left = drop (suc c.loop-number.number) c.args.values.now in
-    let cut : drop c.loop-number.number c.args.values.now ≡ c.index-values-number.result ∷ left = rw c.index-values-number.is (drop-cons c.args.values.now c.loop-number.number _ c.loop-number-test.true) in (
-      falls_within (λ (one : ExpressionNode). expression_depth one) c.args.values.now c.loop-number.number c.index-values-number.result _ _ _ t c.index-values-number.is c.loop-number-test.true c.decreases (omega arith),
-      omega (arith, rw cut at c.loop-number.invariant.end, c.requires.small),
-    )
-
-pub fit_fields-returns-in_err-operand-clause-one : goal.fit_fields-returns-in_err-operand-clause-one
-fit_fields-returns-in_err-operand-clause-one t c =
-    let left = drop (suc c.loop-number.number) c.args.values.now in
-    let cut : drop c.loop-number.number c.args.values.now ≡ c.index-values-number.result ∷ left = rw c.index-values-number.is (drop-cons c.args.values.now c.loop-number.number _ c.loop-number-test.true) in
-    let found = rw cut at c.loop-number.invariant.found in
-    let p = err_from_is_err_and c.from_residual.result c.from_residual.ensures.1 in
-    rw (p.1, p.2) (found c.in_err-operand.field-0.0 (inl c.in_err-operand.ensures.one))
+checked-returns-in_ok-right-in-Binary-clause-one t c = search (rules, the_lemmas)
