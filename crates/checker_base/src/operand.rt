@@ -1,6 +1,6 @@
 //! The check of expressions.
 
-ghost use Rattle.std.specs.Prelude.{◌≡◌, ◌≢◌, ℕ, ◌+◌, ◌^◌, ◌<◌, ◌⊎◌, Bool, List, map, option_map, option_copied, slice_get, sum_by, Option, Some, None, IfSome, IfOk, IfErr};
+ghost use Rattle.std.specs.Prelude.{◌≡◌, ◌≢◌, ℕ, ◌+◌, ◌^◌, ◌<◌, ◌⊎◌, Bool, List, map, option_map, option_and_then, option_copied, slice_get, sum_by, Option, Some, None, IfSome, IfOk, IfErr};
 ghost use Rattle.std.specs.Result.{result_ok};
 ghost use Rattle.syntax.specs.Measures.{expression_size, expressions_size};
 ghost use Rattle.syntax.specs.Tree.{Named, Composite, expressions};
@@ -379,6 +379,51 @@ fn fit_fields<'a>(
     Ok(Filling { end, misfit })
 }
 
+/// What a field of an operand is worth, if the operand is worth something.
+fn worth_selected<'a>(
+    table: &TypeTable<'a>,
+    whole: Option<Worth<'_>>,
+    field: &[u8],
+) -> Option<Worth<'a>>
+    ensures worth { option_map (worth_of (types_of table.now)) result ≡ option_and_then (selected_worth (globals_in table.now) field.now) (option_map (worth_of (types_of table.now)) whole.entry) }
+    ensures small { IfSome result IsSmall }
+{
+    match whole {
+        Some(whole) => selected_worth(table, whole, field),
+        None => None,
+    }
+}
+
+/// What an operator makes of an operand, if the operand is worth something.
+fn worth_before<'a>(operator: UnaryOperator, operand: Option<Worth<'_>>) -> Option<Worth<'a>>
+    requires { IfSome operand IsSmall }
+    ensures worth { (types : List (List ℕ)) → option_map (worth_of types) result ≡ option_and_then (λ a. result_ok (unary_worth operator a)) (option_map (worth_of types) operand.entry) }
+    ensures small { IfSome result IsSmall }
+{
+    match operand {
+        Some(operand) => unary_worth(operator, operand).ok(),
+        None => None,
+    }
+}
+
+/// What an operator makes of two operands, if both are worth something.
+fn worth_between<'a>(
+    table: &TypeTable<'_>,
+    operator: BinaryOperator,
+    left: Option<Worth<'_>>,
+    right: Option<Worth<'_>>,
+) -> Option<Worth<'a>>
+    requires left { IfSome left IsSmall }
+    requires right { IfSome right IsSmall }
+    ensures worth { option_map (worth_of (types_of table.now)) result ≡ option_and_then (λ a. option_and_then (λ b. result_ok (binary_worth operator a b)) (option_map (worth_of (types_of table.now)) right.entry)) (option_map (worth_of (types_of table.now)) left.entry) }
+    ensures small { IfSome result IsSmall }
+{
+    match (left, right) {
+        (Some(left), Some(right)) => binary_worth(table, operator, left, right).ok(),
+        _ => None,
+    }
+}
+
 /// What an expression is worth: `None` where it, or a part of it, has a flaw.
 pub fn worth<'a>(
     table: &TypeTable<'a>,
@@ -396,8 +441,7 @@ pub fn worth<'a>(
         ExpressionNode::Named(name) => named_worth(table, visible, name.bytes.as_slice()),
         ExpressionNode::Parenthesized(inner) => worth(table, visible, inner),
         ExpressionNode::Selection(whole, field) => {
-            let whole = worth(table, visible, whole)?;
-            selected_worth(table, whole, field.bytes.as_slice())
+            worth_selected(table, worth(table, visible, whole), field.bytes.as_slice())
         }
         ExpressionNode::Composite(name, _, _) => {
             match literal_struct(table, visible, name.bytes.as_slice()) {
@@ -406,14 +450,14 @@ pub fn worth<'a>(
             }
         }
         ExpressionNode::Unary(operator, operand) => {
-            let operand = worth(table, visible, operand)?;
-            unary_worth(*operator, operand).ok()
+            worth_before(*operator, worth(table, visible, operand))
         }
-        ExpressionNode::Binary(operator, left, right) => {
-            let left = worth(table, visible, left)?;
-            let right = worth(table, visible, right)?;
-            binary_worth(table, *operator, left, right).ok()
-        }
+        ExpressionNode::Binary(operator, left, right) => worth_between(
+            table,
+            *operator,
+            worth(table, visible, left),
+            worth(table, visible, right),
+        ),
     }
 }
 
@@ -434,31 +478,28 @@ pub fn values(
     Ok(filling.end)
 }
 
-/// Checks that a value, whose nodes have numbers from `first` on, fits its place, and answers the number behind it.
+/// Checks that a value, whose nodes have numbers from `first` on, fits its place.
 fn passes(
     table: &TypeTable<'_>,
     visible: &Visible<'_>,
     first: NodeId,
     passed: &ExpressionNode,
     kind: ValueType<'_>,
-) -> Result<NodeId, Flaw>
+) -> Result<(), Flaw>
     requires small { first + expression_size (expression_of passed.now) < 2 ^ 32 }
-    ensures end { IfOk result (λ end. first + expression_size (expression_of passed.now) ≡ end) }
     ensures none { IfOk result (λ _. (flaw : OneFlaw) → ¬ (ValueHas (spec_worth (globals_in table.now) (scope_of table.now visible.now) (expression_of passed.now)) (known_kind (types_of table.now) kind.entry) (nodes_of first (expression_of passed.now)) flaw)) }
     ensures one { IfErr result (ValueHas (spec_worth (globals_in table.now) (scope_of table.now visible.now) (expression_of passed.now)) (known_kind (types_of table.now) kind.entry) (nodes_of first (expression_of passed.now))) }
 {
-    let end = first + expression_size(passed);
     match worth(table, visible, passed) {
         Some(worth) => {
             let operand = Operand {
                 first,
-                node: end - 1,
+                node: first + expression_size(passed) - 1,
                 worth,
             };
-            value(table, operand, kind)?;
-            Ok(end)
+            value(table, operand, kind)
         }
-        None => Ok(end),
+        None => Ok(()),
     }
 }
 
@@ -480,8 +521,8 @@ fn all_pass(
     let Some((kind, others)) = kinds.split_first() else {
         return Ok(());
     };
-    let end = passes(table, visible, first, one, *kind)?;
-    all_pass(table, visible, end, rest, others)
+    passes(table, visible, first, one, *kind)?;
+    all_pass(table, visible, first + expression_size(one), rest, others)
 }
 
 /// Checks that the values, with nodes from `first` on, agree in number and type with the places that they are passed to.

@@ -3,12 +3,13 @@
 ghost use Rattle.std.specs.Prelude.{◌≡◌, ◌+◌, ◌^◌, ◌<◌, map, sum_by, IfSome, IfOk};
 ghost use Rattle.syntax.specs.Measures.{top_size};
 ghost use Rattle.syntax.specs.View.{top_of};
-ghost use Rattle.typing_rules.specs.Kinds.{type_names};
+ghost use Rattle.typing_rules.specs.Kinds.{type_names, structs};
 ghost use Rattle.typing_rules.specs.Declarations.{TypesHave};
 ghost use Rattle.typing_rules.specs.Nodes.{node_of};
+ghost use Rattle.checker_declaration.specs.Parts.{structs_in};
 
 use crate::held::first_held;
-use crate::parts::all_parts;
+use crate::parts::{Parts, all_parts};
 use crate::sizes::struct_node;
 use crate::wide::first_too_wide;
 use go_text::{LimitKind, Rule};
@@ -26,71 +27,71 @@ fn node_of(flaw: Flaw) -> NodeId
     }
 }
 
-/// The own node of the first struct type that is found within itself. The struct types have these names.
+/// The own node of the first struct type that is found within itself. The struct types have these fields.
 fn held_node(
     alloc: Global,
-    types: &NameList<'_>,
     tops: &[TopNode],
+    all: &[Parts<'_>],
 ) -> Result<Option<NodeId>, AllocError>
     requires small { sum_by top_size (map top_of tops.now) < 2 ^ 32 }
-    requires names { types.now ≡ type_names (map top_of tops.now) }
+    requires fields { structs_in (type_names (map top_of tops.now)) all.now ≡ structs (map top_of tops.now) }
     ensures { IfOk result (λ found. IfSome found (λ node. TypesHave (map top_of tops.now) (Flaw.Broken Rule.Struct node))) }
 {
-    let all = all_parts(alloc, types, tops)?;
-    match first_held(alloc, all.as_slice())? {
+    match first_held(alloc, all)? {
         None => Ok(None),
         Some(number) => Ok(struct_node(tops, number)),
     }
 }
 
-/// The own node of the first struct type that is known to be too wide. The struct types have these names.
+/// The own node of the first struct type that is known to be too wide. The struct types have these fields.
 fn wide_node(
     alloc: Global,
-    types: &NameList<'_>,
     tops: &[TopNode],
+    all: &[Parts<'_>],
 ) -> Result<Option<NodeId>, AllocError>
     requires small { sum_by top_size (map top_of tops.now) < 2 ^ 32 }
-    requires names { types.now ≡ type_names (map top_of tops.now) }
+    requires fields { structs_in (type_names (map top_of tops.now)) all.now ≡ structs (map top_of tops.now) }
     ensures { IfOk result (λ found. IfSome found (λ node. TypesHave (map top_of tops.now) (Flaw.Exceeded LimitKind.StructWidth node))) }
 {
-    let all = all_parts(alloc, types, tops)?;
-    match first_too_wide(alloc, all.as_slice())? {
+    match first_too_wide(alloc, all)? {
         None => Ok(None),
         Some(number) => Ok(struct_node(tops, number)),
     }
 }
 
-/// This flaw of the struct types, or that one contains itself, if its declaration stands before.
+/// This flaw of the struct types, or that one contains itself, if its declaration stands before. The struct types have these
+/// fields.
 fn held_before(
     alloc: Global,
-    types: &NameList<'_>,
     tops: &[TopNode],
+    all: &[Parts<'_>],
     flaw: Flaw,
 ) -> Result<Flaw, AllocError>
     requires small { sum_by top_size (map top_of tops.now) < 2 ^ 32 }
-    requires names { types.now ≡ type_names (map top_of tops.now) }
+    requires fields { structs_in (type_names (map top_of tops.now)) all.now ≡ structs (map top_of tops.now) }
     requires flaw { TypesHave (map top_of tops.now) flaw }
     ensures { IfOk result (TypesHave (map top_of tops.now)) }
 {
-    match held_node(alloc, types, tops)? {
+    match held_node(alloc, tops, all)? {
         Some(node) if node < node_of(flaw) => Ok(Flaw::Broken(Rule::Struct, node)),
         _ => Ok(flaw),
     }
 }
 
-/// This flaw of the struct types, or that one is too wide, if its declaration stands before.
+/// This flaw of the struct types, or that one is too wide, if its declaration stands before. The struct types have these
+/// fields.
 fn wide_before(
     alloc: Global,
-    types: &NameList<'_>,
     tops: &[TopNode],
+    all: &[Parts<'_>],
     flaw: Flaw,
 ) -> Result<Flaw, AllocError>
     requires small { sum_by top_size (map top_of tops.now) < 2 ^ 32 }
-    requires names { types.now ≡ type_names (map top_of tops.now) }
+    requires fields { structs_in (type_names (map top_of tops.now)) all.now ≡ structs (map top_of tops.now) }
     requires flaw { TypesHave (map top_of tops.now) flaw }
     ensures { IfOk result (TypesHave (map top_of tops.now)) }
 {
-    match wide_node(alloc, types, tops)? {
+    match wide_node(alloc, tops, all)? {
         Some(node) if node < node_of(flaw) => Ok(Flaw::Exceeded(LimitKind::StructWidth, node)),
         _ => Ok(flaw),
     }
@@ -111,6 +112,7 @@ pub(crate) fn earliest(
     requires flaw { TypesHave (map top_of tops.now) flaw }
     ensures { IfOk result (TypesHave (map top_of tops.now)) }
 {
-    let first = held_before(alloc, types, tops, flaw)?;
-    wide_before(alloc, types, tops, first)
+    let all = all_parts(alloc, types, tops)?;
+    let first = held_before(alloc, tops, all.as_slice(), flaw)?;
+    wide_before(alloc, tops, all.as_slice(), first)
 }

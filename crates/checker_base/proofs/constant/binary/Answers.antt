@@ -32,19 +32,19 @@ pub returns-in-Remainder-clause-small : goal.returns-in-Remainder-clause-small
 returns-in-Remainder-clause-small c = c.bounded-in-Remainder.ensures.small
 
 pub returns-in-And-clause-value : goal.returns-in-And-clause-value
-returns-in-And-clause-value c = search rules
+returns-in-And-clause-value c = rw c.in-And.is c.bounded-in-And.ensures.value
 
 pub returns-in-And-clause-small : goal.returns-in-And-clause-small
 returns-in-And-clause-small c = c.bounded-in-And.ensures.small
 
 pub returns-in-Or-clause-value : goal.returns-in-Or-clause-value
-returns-in-Or-clause-value c = search rules
+returns-in-Or-clause-value c = rw c.in-Or.is c.bounded-in-Or.ensures.value
 
 pub returns-in-Or-clause-small : goal.returns-in-Or-clause-small
 returns-in-Or-clause-small c = c.bounded-in-Or.ensures.small
 
 pub returns-in-ExclusiveOr-clause-value : goal.returns-in-ExclusiveOr-clause-value
-returns-in-ExclusiveOr-clause-value c = search rules
+returns-in-ExclusiveOr-clause-value c = rw c.in-ExclusiveOr.is c.bounded-in-ExclusiveOr.ensures.value
 
 pub returns-in-ExclusiveOr-clause-small : goal.returns-in-ExclusiveOr-clause-small
 returns-in-ExclusiveOr-clause-small c = c.bounded-in-ExclusiveOr.ensures.small
