@@ -272,13 +272,14 @@ fn emit_name<'t>(
     ensures emitted { IfOk result (λ w. Emits (Some (worth_of (types_in context.now) w)) code.old.items code.new.items (emits (globals_of context.now) (elements_of context.now) (scope_in context.now visible.now) (Named (name_of name.now)))) }
 {
     let name = name.bytes.as_slice();
-    let Some(worth) = named_worth(context.table, visible, name) else {
-        return Err(Halt::Flawed);
-    };
-    if let Worth::Typed(_) = worth {
-        code.push(named(context, visible, name)?)?;
+    match named_worth(context.table, visible, name) {
+        Some(Worth::Typed(kind)) => {
+            code.push(named(context, visible, name)?)?;
+            Ok(Worth::Typed(kind))
+        }
+        Some(worth) => Ok(worth),
+        None => Err(Halt::Flawed),
     }
-    Ok(worth)
 }
 
 /// Emits the selection of a field of an operand, which is pushed ("Selectors").
@@ -367,12 +368,10 @@ fn end_and<'t>(
     ensures small { IfOk result IsSmall }
     ensures made { IfOk result (λ w. (binary_worth BinaryOperator.LogicalAnd (worth_of (types_of table.now) left.entry) (worth_of (types_of table.now) right.entry) ≡ Ok (worth_of (types_of table.now) w)) × (code.new.items ≡ or_false test code.old.items)) }
 {
-    let made = made_between(table, BinaryOperator::LogicalAnd, left, right)?;
-    let end = code.len();
-    aim(code, test, Instr::Unless(number(end + 1)?));
-    code.push(Instr::Jump(number(end + 2)?))?;
-    code.push(Instr::Bool(false))?;
-    Ok(made)
+    let end = number(code.len() + 2)?;
+    aim(code, test, Instr::Unless(end - 1));
+    code.extend_from_slice(&[Instr::Jump(end), Instr::Bool(false)])?;
+    made_between(table, BinaryOperator::LogicalAnd, left, right)
 }
 
 /// Emits `||`: the right operand is valued where the left one is false.
@@ -400,9 +399,8 @@ fn start_or(code: &mut Vec<Instr>) -> Result<usize, Halt>
     ensures emitted { OnOk result (code.new.items ≡ code.old.items ++ true_or (length code.old.items)) }
 {
     let test = code.len();
-    code.push(Instr::Unless(number(test + 3)?))?;
-    code.push(Instr::Bool(true))?;
-    code.push(Instr::Jump(0))?;
+    let right = number(test + 3)?;
+    code.extend_from_slice(&[Instr::Unless(right), Instr::Bool(true), Instr::Jump(0)])?;
     Ok(test + 2)
 }
 
@@ -419,8 +417,7 @@ fn end_or<'t>(
     ensures small { IfOk result IsSmall }
     ensures made { IfOk result (λ w. (binary_worth BinaryOperator.LogicalOr (worth_of (types_of table.now) left.entry) (worth_of (types_of table.now) right.entry) ≡ Ok (worth_of (types_of table.now) w)) × (code.new.items ≡ slice_set code.old.items over (Instr.Jump (length code.old.items)))) }
 {
-    let made = made_between(table, BinaryOperator::LogicalOr, left, right)?;
     let end = number(code.len())?;
     aim(code, over, Instr::Jump(end));
-    Ok(made)
+    made_between(table, BinaryOperator::LogicalOr, left, right)
 }
