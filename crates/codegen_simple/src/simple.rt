@@ -250,8 +250,7 @@ pub fn emit_simple<'a>(
     match simple {
         SimpleNode::Define(names, right) => {
             let names = names.as_slice();
-            define(context, layout, names, right, code)?;
-            Ok(())
+            define(context, layout, names, right, code)
         }
         _ => emit_plain(context, layout, number, simple, code),
     }
