@@ -1,6 +1,11 @@
 //! What is emitted into.
 
+ghost use Rattle.std.specs.Prelude.{◌≡◌, ◌++◌, ◌∷◌, [], IfOk, OnOk, length};
+ghost use Rattle.bytecode.specs.declared.instr.Instr.TheVariants as instrs;
+
 use bytecode::{Instr, PrintTable, SelectTable};
+use codegen_expression::halt::Halt;
+use codegen_expression::operand::{number, put};
 use codegen_header::layout::Layout;
 
 /// What is emitted of a function, the tables of those before it, and where its variables lie.
@@ -10,4 +15,27 @@ pub struct Emitter<'a> {
     pub prints: Vec<PrintTable>,
     pub selects: Vec<SelectTable>,
     pub layout: Layout<'a>,
+}
+
+impl Emitter<'_> {
+    /// The place of the next instruction.
+    ///
+    /// Errors: it would pass 2^32.
+    pub(crate) fn next_place(&self) -> Result<u32, Halt>
+        ensures { IfOk result (λ place. place ≡ length self.now.code.items) }
+    {
+        number(self.code.len())
+    }
+}
+
+/// Puts a test whose target is known later, and answers its place.
+///
+/// Errors: want of memory.
+pub(crate) fn hold_test(code: &mut Vec<Instr>) -> Result<usize, Halt>
+    ensures place { IfOk result (λ test. test ≡ length code.old.items) }
+    ensures held { OnOk result (code.new.items ≡ code.old.items ++ instrs.Unless 0 ∷ []) }
+{
+    let test = code.len();
+    put(code, Instr::Unless(0))?;
+    Ok(test)
 }

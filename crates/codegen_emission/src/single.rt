@@ -69,8 +69,7 @@ fn start<'a>(
 {
     let visible = &emitter.layout.visible;
     let code = &mut emitter.code;
-    emit_go(context.program, visible, name, arguments, code)?;
-    Ok(())
+    emit_go(context.program, visible, name, arguments, code)
 }
 
 /// The function returns.

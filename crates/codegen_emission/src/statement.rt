@@ -20,12 +20,11 @@ ghost use Rattle.codegen_expression.specs.Contexts.{elements_of, globals_of};
 
 use crate::alone::{emit_any, emit_head};
 use crate::context::FunctionContext;
-use crate::emitter::Emitter;
+use crate::emitter::{Emitter, hold_test};
 use crate::single::emit_single;
 use crate::turn::{come_round, emit_round};
 use bytecode::Instr;
 use codegen_expression::halt::Halt;
-use codegen_expression::operand::number;
 use codegen_flow::flow::{Flow, join, join_way, may_end};
 use codegen_flow::select::{
     WayList, add_way, close, end_ways, from_ways, hold, hold_select, leave_select, set_table,
@@ -90,12 +89,12 @@ fn emit_endless<'t, 'm, 'a>(
 ) -> Result<Flow, Halt>
     ensures { IfOk result (λ flow. Emits (table_of context.now) emitter.old emitter.new (control flow) (of_function context.now made_turns (site_of (table_of context.now) emitter.old) None (body_of body.now) (option_map (λ (s : _). simple_of s.now) post.entry))) }
 {
-    let head = number(emitter.code.len())?;
+    let head = emitter.next_place()?;
     let within = emit_block(context, emitter, body)?;
-    let again = number(emitter.code.len())?;
+    let again = emitter.next_place()?;
     let turns = within.comes_round();
     emit_round(context, emitter, turns, head, post)?;
-    let stop = number(emitter.code.len())?;
+    let stop = emitter.next_place()?;
     fill(within.waits.as_slice(), stop, again, &mut emitter.code);
     Ok(Flow::behind_loop(context.program.alloc, within.has_break))
 }
@@ -111,17 +110,16 @@ fn emit_tested<'t, 'm, 'c, 'a>(
 ) -> Result<Flow, Halt>
     ensures { IfOk result (λ flow. Emits (table_of context.now) emitter.old emitter.new (control flow) (of_function context.now made_turns (site_of (table_of context.now) emitter.old) (Some (expression_of condition.now)) (body_of body.now) (option_map (λ (s : _). simple_of s.now) post.entry))) }
 {
-    let head = number(emitter.code.len())?;
+    let head = emitter.next_place()?;
     let layout = &emitter.layout;
     let code = &mut emitter.code;
     push_test(context.program, layout, condition, code)?;
-    let test = emitter.code.len();
-    emitter.code.push(Instr::Unless(0))?;
+    let test = hold_test(&mut emitter.code)?;
     let within = emit_block(context, emitter, body)?;
-    let again = number(emitter.code.len())?;
+    let again = emitter.next_place()?;
     let turns = within.comes_round();
     emit_round(context, emitter, turns, head, post)?;
-    let stop = number(emitter.code.len())?;
+    let stop = emitter.next_place()?;
     aim(&mut emitter.code, test, Instr::Unless(stop));
     fill(within.waits.as_slice(), stop, again, &mut emitter.code);
     Ok(Flow::through(context.program.alloc))
@@ -239,8 +237,7 @@ fn emit_two_ways<'t, 'm, 'a>(
     let condition = &branch.condition;
     let code = &mut emitter.code;
     push_test(context.program, layout, condition, code)?;
-    let test = emitter.code.len();
-    emitter.code.push(Instr::Unless(0))?;
+    let test = hold_test(&mut emitter.code)?;
     let body = branch.body.as_slice();
     let mut flow = emit_block(context, emitter, body)?;
     let leads = flow.reaches_end;
@@ -265,8 +262,7 @@ fn emit_one_way<'t, 'm, 'a>(
     let condition = &branch.condition;
     let code = &mut emitter.code;
     push_test(context.program, layout, condition, code)?;
-    let test = emitter.code.len();
-    emitter.code.push(Instr::Unless(0))?;
+    let test = hold_test(&mut emitter.code)?;
     let body = branch.body.as_slice();
     let mut flow = emit_block(context, emitter, body)?;
     end_test(test, &mut emitter.code)?;
@@ -338,17 +334,16 @@ fn emit_items<'t, 'm, 'a>(
 ) -> Result<Flow, Halt>
     ensures { IfOk result (λ flow. (around : OneLayout) (channel : Expression) → ranged.entry.place ≡ around.scope.words → of_program context.now carried around.scope channel ≡ kind_of (types_of (table_of context.now)) ranged.entry.item → Emits (table_of context.now) emitter.old emitter.new (control flow) (of_function context.now made_items around channel (site_of (table_of context.now) emitter.old) (target_of target.now) (body_of body.now))) }
 {
-    let head = number(emitter.code.len())?;
+    let head = emitter.next_place()?;
     emit_next(context.program, ranged, &mut emitter.code)?;
-    let test = emitter.code.len();
-    emitter.code.push(Instr::Unless(0))?;
+    let test = hold_test(&mut emitter.code)?;
     let kind = ranged.item;
     let within = emit_item(context, emitter, body, kind, target)?;
-    let again = number(emitter.code.len())?;
+    let again = emitter.next_place()?;
     come_round(within.comes_round(), head, &mut emitter.code)?;
-    let exit = number(emitter.code.len())?;
+    let exit = emitter.next_place()?;
     emit_unused(context.program, kind, &mut emitter.code)?;
-    let stop = number(emitter.code.len())?;
+    let stop = emitter.next_place()?;
     aim(&mut emitter.code, test, Instr::Unless(exit));
     fill(within.waits.as_slice(), stop, again, &mut emitter.code);
     Ok(Flow::through(context.program.alloc))
@@ -407,7 +402,7 @@ fn emit_clause<'t, 'm, 'w, 'a>(
     let Some(comm) = &clause.comm else {
         return Ok(());
     };
-    let place = number(emitter.code.len())?;
+    let place = emitter.next_place()?;
     let body = clause.body.as_slice();
     let flow = emit_way(context, emitter, body, comm)?;
     let held = hold(flow.reaches_end, &mut emitter.code)?;
@@ -461,7 +456,7 @@ fn emit_all_ways<'t, 'm, 'a>(
     ensures { IfOk result (λ list. Ways (table_of context.now) emitter.old emitter.new.code.items emitter.new [] list.places.items (option_map control list.flow) (of_function context.now ways_left (clauses (map clause_of all.now)) (site_of (table_of context.now) emitter.old) (clauses (map clause_of all.now)))) }
 {
     let mut list = emit_each_way(context, emitter, all)?;
-    let place = number(emitter.code.len())?;
+    let place = emitter.next_place()?;
     let default = emit_default(context, emitter, all)?;
     let there = default.is_some();
     close(list.held.as_slice(), there, &mut emitter.code)?;

@@ -53,6 +53,5 @@ pub fn emit_round<'a>(
 {
     let behind = emitter.code.len();
     emit_post(context, emitter, post)?;
-    come_back(comes_round, behind, head, &mut emitter.code)?;
-    Ok(())
+    come_back(comes_round, behind, head, &mut emitter.code)
 }

@@ -14,8 +14,8 @@ ghost use Rattle.codegen_expression.specs.Contexts.{elements_of, globals_of, sco
 use crate::context::Context;
 use crate::halt::Halt;
 use crate::operand::{
-    carried_shape, fields_at, literal_struct, named, number, push_constant, push_zeros, settle,
-    words_of,
+    carried_shape, fields_at, literal_struct, named, number, push_constant, push_zeros, put,
+    settle, words_of,
 };
 use crate::operator::{compared, operator_of, sign_of};
 use bytecode::Instr;
@@ -28,12 +28,12 @@ use type_table::table::TypeTable;
 use type_table::value_type::ValueType;
 
 /// What an operator does whose operands are pushed; where both are constants, so many instructions stay.
-fn operate(
-    context: &Context<'_, '_>,
+fn operate<'k>(
+    context: &Context<'_, 'k>,
     operator: BinaryOperator,
-    left: Worth<'_>,
-    right: Worth<'_>,
-    made: Worth<'_>,
+    left: Worth<'k>,
+    right: Worth<'k>,
+    made: Worth<'k>,
     first: usize,
     code: &mut Vec<Instr>,
 ) -> Result<(), Halt>
@@ -57,18 +57,17 @@ fn operate(
 }
 
 /// Pushes what is a constant or `nil` beside a value of this type, and then comes the operator.
-fn apply(
-    context: &Context<'_, '_>,
+fn apply<'k>(
+    context: &Context<'_, 'k>,
     operator: BinaryOperator,
-    kind: ValueType<'_>,
-    other: Worth<'_>,
+    kind: ValueType<'k>,
+    other: Worth<'k>,
     code: &mut Vec<Instr>,
 ) -> Result<(), Halt>
     ensures { OnOk result (code.new.items ≡ code.old.items ++ (settling (elements_of context.now) (worth_of (types_in context.now) other.entry) (kind_of (types_in context.now) kind.entry) ++ Instr.Apply (operator_of operator (kind_of (types_in context.now) kind.entry)) ∷ [])) }
 {
     settle(context, other, kind, code)?;
-    code.push(Instr::Apply(operator_of(operator, kind)))?;
-    Ok(())
+    put(code, Instr::Apply(operator_of(operator, kind)))
 }
 
 /// Two constants make another one, or are compared here and now; so many instructions stay.
@@ -85,10 +84,7 @@ fn compare(
     code.truncate(first);
     match made {
         Worth::Typed(_) => match compared(operator, a, b) {
-            Some(truth) => {
-                code.push(Instr::Bool(truth))?;
-                Ok(())
-            }
+            Some(truth) => put(code, Instr::Bool(truth)),
             None => Err(Halt::Flawed),
         },
         _ => Ok(()),
@@ -159,14 +155,14 @@ fn emit_binary<'t, 'v, 'e, 'f, 'm, 'k>(
 }
 
 /// What an operator does whose operands are pushed, and what is made of them; of two constants so many instructions stay.
-fn end_binary<'t>(
-    context: &Context<'_, '_>,
+fn end_binary<'k>(
+    context: &Context<'_, 'k>,
     operator: BinaryOperator,
-    left: Worth<'_>,
-    right: Worth<'_>,
+    left: Worth<'k>,
+    right: Worth<'k>,
     first: usize,
     code: &mut Vec<Instr>,
-) -> Result<Worth<'t>, Halt>
+) -> Result<Worth<'k>, Halt>
     requires left { IsSmall left }
     requires right { IsSmall right }
     ensures small { IfOk result IsSmall }
@@ -243,12 +239,12 @@ fn emit_fields<'t, 'v, 'e, 'f, 'm, 'k>(
 }
 
 /// What an operator makes of two operands.
-fn made_between<'t>(
-    table: &TypeTable<'_>,
+fn made_between<'k>(
+    table: &TypeTable<'k>,
     operator: BinaryOperator,
-    left: Worth<'_>,
-    right: Worth<'_>,
-) -> Result<Worth<'t>, Halt>
+    left: Worth<'k>,
+    right: Worth<'k>,
+) -> Result<Worth<'k>, Halt>
     requires left { IsSmall left }
     requires right { IsSmall right }
     ensures worth { IfOk result (λ w. binary_worth operator (worth_of (types_of table.now) left.entry) (worth_of (types_of table.now) right.entry) ≡ Ok (worth_of (types_of table.now) w)) }
@@ -261,33 +257,34 @@ fn made_between<'t>(
 }
 
 /// Emits a name ("Operands").
-fn emit_name<'t>(
-    context: &Context<'_, 't>,
-    visible: &Visible<'t>,
+fn emit_name<'k>(
+    context: &Context<'_, 'k>,
+    visible: &Visible<'k>,
     name: &Name,
     code: &mut Vec<Instr>,
-) -> Result<Worth<'t>, Halt>
+) -> Result<Worth<'k>, Halt>
     ensures worth { IfOk result (λ w. worth (globals_of context.now) (scope_in context.now visible.now) (Named (name_of name.now)) ≡ Some (worth_of (types_in context.now) w)) }
     ensures small { IfOk result IsSmall }
     ensures emitted { IfOk result (λ w. Emits (Some (worth_of (types_in context.now) w)) code.old.items code.new.items (emits (globals_of context.now) (elements_of context.now) (scope_in context.now visible.now) (Named (name_of name.now)))) }
 {
     let name = name.bytes.as_slice();
-    let Some(worth) = named_worth(context.table, visible, name) else {
-        return Err(Halt::Flawed);
-    };
-    if let Worth::Typed(_) = worth {
-        code.push(named(context, visible, name)?)?;
+    match named_worth(context.table, visible, name) {
+        Some(Worth::Typed(kind)) => {
+            code.push(named(context, visible, name)?)?;
+            Ok(Worth::Typed(kind))
+        }
+        Some(worth) => Ok(worth),
+        None => Err(Halt::Flawed),
     }
-    Ok(worth)
 }
 
 /// Emits the selection of a field of an operand, which is pushed ("Selectors").
-fn emit_field<'t>(
-    context: &Context<'_, 't>,
-    whole: Worth<'_>,
+fn emit_field<'k>(
+    context: &Context<'_, 'k>,
+    whole: Worth<'k>,
     field: &[u8],
     code: &mut Vec<Instr>,
-) -> Result<Worth<'t>, Halt>
+) -> Result<Worth<'k>, Halt>
     ensures worth { IfOk result (λ w. selected_worth (globals_of context.now) field.now (worth_of (types_in context.now) whole.entry) ≡ Some (worth_of (types_in context.now) w)) }
     ensures small { IfOk result IsSmall }
     ensures emitted { OnOk result (code.new.items ≡ code.old.items ++ picks (globals_of context.now) (elements_of context.now) (worth_of (types_in context.now) whole.entry) field.now) }
@@ -305,11 +302,11 @@ fn emit_field<'t>(
 }
 
 /// Emits an operator before an operand, which is pushed where it is no constant.
-fn emit_sign<'t>(
+fn emit_sign<'k>(
     operator: UnaryOperator,
-    operand: Worth<'_>,
+    operand: Worth<'k>,
     code: &mut Vec<Instr>,
-) -> Result<Worth<'t>, Halt>
+) -> Result<Worth<'k>, Halt>
     requires { IsSmall operand }
     ensures small { IfOk result IsSmall }
     ensures made { IfOk result (λ w. ((types : _) → unary_worth operator (worth_of types operand.entry) ≡ Ok (worth_of types w)) × ((types : _) → code.new.items ≡ code.old.items ++ signed_with operator (worth_of types operand.entry))) }
@@ -355,24 +352,22 @@ fn emit_and<'t, 'v, 'e, 'f, 'm, 'k>(
 }
 
 /// Behind the right operand of `&&` comes `false`, to which the test of the left one leads.
-fn end_and<'t>(
-    table: &TypeTable<'_>,
-    left: Worth<'_>,
-    right: Worth<'_>,
+fn end_and<'k>(
+    table: &TypeTable<'k>,
+    left: Worth<'k>,
+    right: Worth<'k>,
     test: usize,
     code: &mut Vec<Instr>,
-) -> Result<Worth<'t>, Halt>
+) -> Result<Worth<'k>, Halt>
     requires left { IsSmall left }
     requires right { IsSmall right }
     ensures small { IfOk result IsSmall }
     ensures made { IfOk result (λ w. (binary_worth BinaryOperator.LogicalAnd (worth_of (types_of table.now) left.entry) (worth_of (types_of table.now) right.entry) ≡ Ok (worth_of (types_of table.now) w)) × (code.new.items ≡ or_false test code.old.items)) }
 {
-    let made = made_between(table, BinaryOperator::LogicalAnd, left, right)?;
-    let end = code.len();
-    aim(code, test, Instr::Unless(number(end + 1)?));
-    code.push(Instr::Jump(number(end + 2)?))?;
-    code.push(Instr::Bool(false))?;
-    Ok(made)
+    let end = number(code.len() + 2)?;
+    aim(code, test, Instr::Unless(end - 1));
+    code.extend_from_slice(&[Instr::Jump(end), Instr::Bool(false)])?;
+    made_between(table, BinaryOperator::LogicalAnd, left, right)
 }
 
 /// Emits `||`: the right operand is valued where the left one is false.
@@ -400,27 +395,25 @@ fn start_or(code: &mut Vec<Instr>) -> Result<usize, Halt>
     ensures emitted { OnOk result (code.new.items ≡ code.old.items ++ true_or (length code.old.items)) }
 {
     let test = code.len();
-    code.push(Instr::Unless(number(test + 3)?))?;
-    code.push(Instr::Bool(true))?;
-    code.push(Instr::Jump(0))?;
+    let right = number(test + 3)?;
+    code.extend_from_slice(&[Instr::Unless(right), Instr::Bool(true), Instr::Jump(0)])?;
     Ok(test + 2)
 }
 
 /// Behind the right operand of `||`: the jump over it leads there.
-fn end_or<'t>(
-    table: &TypeTable<'_>,
-    left: Worth<'_>,
-    right: Worth<'_>,
+fn end_or<'k>(
+    table: &TypeTable<'k>,
+    left: Worth<'k>,
+    right: Worth<'k>,
     over: usize,
     code: &mut Vec<Instr>,
-) -> Result<Worth<'t>, Halt>
+) -> Result<Worth<'k>, Halt>
     requires left { IsSmall left }
     requires right { IsSmall right }
     ensures small { IfOk result IsSmall }
     ensures made { IfOk result (λ w. (binary_worth BinaryOperator.LogicalOr (worth_of (types_of table.now) left.entry) (worth_of (types_of table.now) right.entry) ≡ Ok (worth_of (types_of table.now) w)) × (code.new.items ≡ slice_set code.old.items over (Instr.Jump (length code.old.items)))) }
 {
-    let made = made_between(table, BinaryOperator::LogicalOr, left, right)?;
     let end = number(code.len())?;
     aim(code, over, Instr::Jump(end));
-    Ok(made)
+    made_between(table, BinaryOperator::LogicalOr, left, right)
 }

@@ -41,11 +41,11 @@ fn note_type(
 fn note_any(
     table: &TypeTable<'_>,
     elements: &mut ElementList,
-    kind: Option<&TypeNode>,
+    kind: &Option<TypeNode>,
 ) -> Result<(), AllocError>
-    requires room { length elements.old + if_any type_size (option_map (λ (t : _). type_of t.now) kind) < 2 ^ 32 }
-    ensures noted { OnOk result (elements.new ≡ noting_any (types_of table.now) (option_map (λ (t : _). type_of t.now) kind.entry) elements.old) }
-    ensures count { OnOk result (length elements.new ≤ length elements.old + if_any type_size (option_map (λ (t : _). type_of t.now) kind.entry)) }
+    requires room { length elements.old + if_any type_size (option_map type_of kind.now) < 2 ^ 32 }
+    ensures noted { OnOk result (elements.new ≡ noting_any (types_of table.now) (option_map type_of kind.now) elements.old) }
+    ensures count { OnOk result (length elements.new ≤ length elements.old + if_any type_size (option_map type_of kind.now)) }
 {
     match kind {
         Some(kind) => note_type(table, elements, kind),
@@ -328,7 +328,7 @@ fn note_top(
         TopNode::Struct(one) => note_declared(table, elements, one.fields.as_slice()),
         TopNode::Function(function) => {
             note_declared(table, elements, function.parameters.as_slice())?;
-            note_any(table, elements, function.result.as_ref())?;
+            note_any(table, elements, &function.result)?;
             note_statements(table, elements, function.body.as_slice())
         }
     }

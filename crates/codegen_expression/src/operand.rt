@@ -35,15 +35,23 @@ pub fn number(wide: usize) -> Result<u32, Halt>
     }
 }
 
+/// Puts an instruction behind the others.
+pub fn put(code: &mut Vec<Instr>, instr: Instr) -> Result<(), Halt>
+    ensures { OnOk result (code.new.items ≡ code.old.items ++ instr ∷ []) }
+{
+    code.push(instr)?;
+    Ok(())
+}
+
 /// How many words a value takes.
-pub fn words_of(context: &Context<'_, '_>, kind: ValueType<'_>) -> u32
+pub fn words_of<'k>(context: &Context<'_, 'k>, kind: ValueType<'k>) -> u32
     ensures { (scope : _) → result ≡ words_of (globals_of context.now) (elements_of context.now) scope (kind_of (types_in context.now) kind.entry) }
 {
     type_table::layout::words_of(context.table, kind) as u32
 }
 
 /// The number of the shape of what a channel of this type carries.
-pub(crate) fn carried_shape(context: &Context<'_, '_>, kind: ValueType<'_>) -> u32
+pub(crate) fn carried_shape<'k>(context: &Context<'_, 'k>, kind: ValueType<'k>) -> u32
     ensures { result ≡ elements_shape (elements_of context.now) (kind_of (types_in context.now) kind.entry) }
 {
     match kind {
@@ -80,9 +88,9 @@ pub fn push_zeros<'t>(
 }
 
 /// The instruction that pushes the value of a name.
-pub(crate) fn named(
-    context: &Context<'_, '_>,
-    visible: &Visible<'_>,
+pub(crate) fn named<'k>(
+    context: &Context<'_, 'k>,
+    visible: &Visible<'k>,
     name: &[u8],
 ) -> Result<Instr, Halt>
     ensures { IfOk result (λ i. i ≡ named (globals_of context.now) (elements_of context.now) (scope_in context.now visible.now) name.now) }
@@ -100,9 +108,9 @@ pub(crate) fn named(
 }
 
 /// The number of the struct that a literal's name stands for; where a variable hides it, none.
-pub(crate) fn literal_struct(
-    table: &TypeTable<'_>,
-    visible: &Visible<'_>,
+pub(crate) fn literal_struct<'k>(
+    table: &TypeTable<'k>,
+    visible: &Visible<'k>,
     name: &[u8],
 ) -> Option<usize>
     ensures { result ≡ literal_struct (globals_in table.now) (scope_of table.now visible.now) name.now }
@@ -138,10 +146,10 @@ pub(crate) fn push_constant(worth: Worth<'_>, code: &mut Vec<Instr>) -> Result<(
 }
 
 /// Pushes a constant, or `nil`, that is used as a value of this type.
-pub fn settle(
-    context: &Context<'_, '_>,
-    worth: Worth<'_>,
-    kind: ValueType<'_>,
+pub fn settle<'k>(
+    context: &Context<'_, 'k>,
+    worth: Worth<'k>,
+    kind: ValueType<'k>,
     code: &mut Vec<Instr>,
 ) -> Result<(), AllocError>
     ensures { OnOk result (code.new.items ≡ code.old.items ++ settling (elements_of context.now) (worth_of (types_in context.now) worth.entry) (kind_of (types_in context.now) kind.entry)) }

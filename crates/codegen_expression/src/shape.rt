@@ -21,7 +21,7 @@ use type_table::value_type::{ValueType, element_in};
 use type_table::zero::parts;
 
 /// What a channel of this type's values carries.
-pub fn element_of(table: &TypeTable<'_>, elements: &ElementList, kind: ValueType<'_>) -> Element
+pub fn element_of<'k>(table: &TypeTable<'k>, elements: &ElementList, kind: ValueType<'k>) -> Element
     ensures { result ≡ element_of elements.now (kind_of (types_of table.now) kind.entry) }
 {
     match kind {
@@ -36,7 +36,7 @@ pub fn element_of(table: &TypeTable<'_>, elements: &ElementList, kind: ValueType
 }
 
 /// The number of the shape of values of a type.
-pub fn shape_of(context: &Context<'_, '_>, kind: ValueType<'_>) -> u32
+pub fn shape_of<'k>(context: &Context<'_, 'k>, kind: ValueType<'k>) -> u32
     ensures { result ≡ shape_of (elements_of context.now) (kind_of (types_in context.now) kind.entry) }
 {
     let element = element_of(context.table, context.elements, kind);
@@ -45,10 +45,10 @@ pub fn shape_of(context: &Context<'_, '_>, kind: ValueType<'_>) -> u32
 
 /// Notes the elements of the channels in a type, those within others first.
 #[tactic(auto, using(crate::proofs::Counting::with_length))]
-pub fn note_kind<'t, 'e>(
-    table: &'t TypeTable<'_>,
+pub fn note_kind<'t, 'e, 'k>(
+    table: &'t TypeTable<'k>,
     elements: &'e mut ElementList,
-    kind: ValueType<'_>,
+    kind: ValueType<'k>,
 ) -> Result<(), AllocError>
     requires room { length elements.old + depth (kind_of (types_of table.now) kind) < 2 ^ 32 }
     ensures count { OnOk result (length elements.new ≤ length elements.old + depth (kind_of (types_of table.now) kind.entry)) }
@@ -65,7 +65,7 @@ pub fn note_kind<'t, 'e>(
 }
 
 /// The kind of the word of a value; a struct has many.
-pub fn word_kind(context: &Context<'_, '_>, kind: ValueType<'_>) -> WordKind
+pub fn word_kind<'k>(context: &Context<'_, 'k>, kind: ValueType<'k>) -> WordKind
     ensures { result ≡ word_kind (elements_of context.now) (kind_of (types_in context.now) kind.entry) }
 {
     match kind {

@@ -21,7 +21,7 @@ use crate::carried::carried;
 use bytecode::Instr;
 use codegen_expression::context::Context;
 use codegen_expression::halt::Halt;
-use codegen_expression::operand::words_of;
+use codegen_expression::operand::{put, words_of};
 use codegen_simple::assignment::assign;
 use codegen_simple::define::name_spot;
 use codegen_simple::layout::{Layout, declare_new};
@@ -36,10 +36,10 @@ fn define_received<'a>(
     layout: &mut Layout<'a>,
     kind: ValueType<'a>,
     item: &'a Name,
-    sent: Option<&'a Name>,
+    sent: &'a Option<Name>,
 ) -> Result<Vec<Spot>, Halt>
-    ensures spots { IfOk result (λ spots. (yields : Yield) → map spot_in spots.items ≡ name_spots (globals_of context.now) (elements_of context.now) (layout_in context.now layout.old) (one_or_two (globals_of context.now) (elements_of context.now) yields (name_of item.now) (option_map (λ (n : _). name_of n.now) sent.entry)) (kind_of (types_in context.now) kind.entry ∷ (BoolType ∷ []))) }
-    ensures after { (yields : Yield) → OnOk result (layout_in context.now layout.new ≡ declaring_all (globals_of context.now) (elements_of context.now) (one_or_two (globals_of context.now) (elements_of context.now) yields (name_of item.now) (option_map (λ (n : _). name_of n.now) sent.entry)) (kind_of (types_in context.now) kind.entry ∷ (BoolType ∷ [])) (layout_in context.now layout.old)) }
+    ensures spots { IfOk result (λ spots. (yields : Yield) → map spot_in spots.items ≡ name_spots (globals_of context.now) (elements_of context.now) (layout_in context.now layout.old) (one_or_two (globals_of context.now) (elements_of context.now) yields (name_of item.now) (option_map name_of sent.now)) (kind_of (types_in context.now) kind.entry ∷ (BoolType ∷ []))) }
+    ensures after { (yields : Yield) → OnOk result (layout_in context.now layout.new ≡ declaring_all (globals_of context.now) (elements_of context.now) (one_or_two (globals_of context.now) (elements_of context.now) yields (name_of item.now) (option_map name_of sent.now)) (kind_of (types_in context.now) kind.entry ∷ (BoolType ∷ [])) (layout_in context.now layout.old)) }
     ensures kept { OnOk result (Keeps layout.old.visible layout.new.visible) }
 {
     let mut spots = Vec::new(context.alloc);
@@ -69,11 +69,11 @@ fn emit_define<'a>(
     layout: &mut Layout<'a>,
     channel: &ExpressionNode,
     item: &'a Name,
-    sent: Option<&'a Name>,
+    sent: &'a Option<Name>,
     code: &mut Vec<Instr>,
 ) -> Result<(), Halt>
-    ensures emitted { (yields : Yield) → OnOk result (Appends code.old.items code.new.items (comm_plan (globals_of context.now) (elements_of context.now) yields (layout_in context.now layout.old) (CommDefine (name_of item.now) (option_map (λ (n : _). name_of n.now) sent.entry) (expression_of channel.now)))) }
-    ensures after { (yields : Yield) → OnOk result (layout_in context.now layout.new ≡ behind_comm (globals_of context.now) (elements_of context.now) yields (CommDefine (name_of item.now) (option_map (λ (n : _). name_of n.now) sent.entry) (expression_of channel.now)) (layout_in context.now layout.old)) }
+    ensures emitted { (yields : Yield) → OnOk result (Appends code.old.items code.new.items (comm_plan (globals_of context.now) (elements_of context.now) yields (layout_in context.now layout.old) (CommDefine (name_of item.now) (option_map name_of sent.now) (expression_of channel.now)))) }
+    ensures after { (yields : Yield) → OnOk result (layout_in context.now layout.new ≡ behind_comm (globals_of context.now) (elements_of context.now) yields (CommDefine (name_of item.now) (option_map name_of sent.now) (expression_of channel.now)) (layout_in context.now layout.old)) }
     ensures kept { OnOk result (Keeps layout.old.visible layout.new.visible) }
 {
     let kind = carried(context.table, &layout.visible, channel)?;
@@ -88,9 +88,9 @@ fn received_spots<'a>(
     layout: &Layout<'a>,
     kind: ValueType<'a>,
     item: &PlaceNode,
-    sent: Option<&PlaceNode>,
+    sent: &Option<PlaceNode>,
 ) -> Result<Vec<Spot>, Halt>
-    ensures { IfOk result (λ spots. (yields : Yield) → map spot_in spots.items ≡ place_spots (globals_of context.now) (elements_of context.now) (scope_in context.now layout.now.visible) (one_or_two (globals_of context.now) (elements_of context.now) yields (place_of item.now) (option_map (λ (p : _). place_of p.now) sent.entry)) (kind_of (types_in context.now) kind.entry ∷ (BoolType ∷ []))) }
+    ensures { IfOk result (λ spots. (yields : Yield) → map spot_in spots.items ≡ place_spots (globals_of context.now) (elements_of context.now) (scope_in context.now layout.now.visible) (one_or_two (globals_of context.now) (elements_of context.now) yields (place_of item.now) (option_map place_of sent.now)) (kind_of (types_in context.now) kind.entry ∷ (BoolType ∷ []))) }
 {
     let visible = &layout.visible;
     let mut spots = Vec::new(context.alloc);
@@ -108,10 +108,10 @@ fn emit_assign<'a>(
     layout: &Layout<'a>,
     channel: &ExpressionNode,
     item: &PlaceNode,
-    sent: Option<&PlaceNode>,
+    sent: &Option<PlaceNode>,
     code: &mut Vec<Instr>,
 ) -> Result<(), Halt>
-    ensures { (yields : Yield) → OnOk result (Appends code.old.items code.new.items (comm_plan (globals_of context.now) (elements_of context.now) yields (layout_in context.now layout.now) (CommAssign (place_of item.now) (option_map (λ (p : _). place_of p.now) sent.entry) (expression_of channel.now)))) }
+    ensures { (yields : Yield) → OnOk result (Appends code.old.items code.new.items (comm_plan (globals_of context.now) (elements_of context.now) yields (layout_in context.now layout.now) (CommAssign (place_of item.now) (option_map place_of sent.now) (expression_of channel.now)))) }
 {
     let kind = carried(context.table, &layout.visible, channel)?;
     drop_sent(sent.is_some(), code)?;
@@ -132,8 +132,7 @@ fn emit_dropped<'a>(
     let Some(count) = words_of(context, kind).checked_add(1) else {
         return Err(Halt::Memory);
     };
-    code.push(Instr::Discard(count))?;
-    Ok(())
+    put(code, Instr::Discard(count))
 }
 
 /// What was received goes where a clause wants it; names are declared for it.
@@ -150,18 +149,13 @@ pub fn take_comm<'a>(
     ensures kept { OnOk result (Keeps layout.old.visible layout.new.visible) }
 {
     match comm {
-        CommNode::Send(_, _) => {}
-        CommNode::Receive(channel) => {
-            emit_dropped(context, layout, channel, code)?;
-        }
+        CommNode::Send(_, _) => Ok(()),
+        CommNode::Receive(channel) => emit_dropped(context, layout, channel, code),
         CommNode::Define(item, sent, channel) => {
-            let sent = sent.as_ref();
-            emit_define(context, layout, channel, item, sent, code)?;
+            emit_define(context, layout, channel, item, sent, code)
         }
         CommNode::Assign(item, sent, channel) => {
-            let sent = sent.as_ref();
-            emit_assign(context, layout, channel, item, sent, code)?;
+            emit_assign(context, layout, channel, item, sent, code)
         }
     }
-    Ok(())
 }

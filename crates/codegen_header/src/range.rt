@@ -23,7 +23,7 @@ use crate::carried::carried;
 use bytecode::Instr;
 use codegen_expression::context::Context;
 use codegen_expression::halt::Halt;
-use codegen_expression::operand::{number, words_of};
+use codegen_expression::operand::{number, put, words_of};
 use codegen_expression::shape::shape_of;
 use codegen_simple::define::name_spot;
 use codegen_simple::layout::{Layout, declare, declare_new};
@@ -86,24 +86,23 @@ pub fn declare_kept<'a>(
 ///
 /// Errors: want of memory.
 #[tactic(auto, using(crate::proofs::Ranging::appends_receives))]
-pub fn emit_next(
-    context: &Context<'_, '_>,
-    ranged: Ranged<'_>,
+pub fn emit_next<'k>(
+    context: &Context<'_, 'k>,
+    ranged: Ranged<'k>,
     code: &mut Vec<Instr>,
 ) -> Result<(), Halt>
     ensures { (yields : Yield) (layout : OneLayout) (channel : Expression) → ranged.entry.place ≡ layout.scope.words → carried (globals_of context.now) (elements_of context.now) layout.scope channel ≡ kind_of (types_in context.now) ranged.entry.item → OnOk result (Appends code.old.items code.new.items (receives (globals_of context.now) (elements_of context.now) yields layout channel)) }
 {
     code.push(Instr::Load(ranged.place, 1))?;
-    code.push(Instr::Receive(shape_of(context, ranged.item)))?;
-    Ok(())
+    put(code, Instr::Receive(shape_of(context, ranged.item)))
 }
 
 /// Drops a value of this type, where it is not wanted.
 ///
 /// Errors: want of memory.
-pub fn emit_unused(
-    context: &Context<'_, '_>,
-    kind: ValueType<'_>,
+pub fn emit_unused<'k>(
+    context: &Context<'_, 'k>,
+    kind: ValueType<'k>,
     code: &mut Vec<Instr>,
 ) -> Result<(), Halt>
     ensures { (scope : Scope) → OnOk result (Appends code.old.items code.new.items (drops (width (globals_of context.now) (elements_of context.now) scope (kind_of (types_in context.now) kind.entry)) Skip)) }
@@ -117,8 +116,7 @@ fn emit_stored(spot: Spot, code: &mut Vec<Instr>) -> Result<(), Halt>
     ensures { OnOk result (Appends code.old.items code.new.items (stores (spot_in spot) (Do instrs.Tick Skip))) }
 {
     store(spot, code)?;
-    code.push(Instr::Tick)?;
-    Ok(())
+    put(code, Instr::Tick)
 }
 
 /// An item of this type goes to a name, which is declared.
@@ -171,15 +169,8 @@ pub fn take_item<'a>(
     ensures kept { OnOk result (Keeps layout.old.visible layout.new.visible) }
 {
     match target {
-        RangeTarget::Nothing => {
-            emit_unused(context, kind, code)?;
-        }
-        RangeTarget::Define(name) => {
-            take_name(context, layout, kind, name, code)?;
-        }
-        RangeTarget::Assign(place) => {
-            take_place(context, layout, kind, place, code)?;
-        }
+        RangeTarget::Nothing => emit_unused(context, kind, code),
+        RangeTarget::Define(name) => take_name(context, layout, kind, name, code),
+        RangeTarget::Assign(place) => take_place(context, layout, kind, place, code),
     }
-    Ok(())
 }

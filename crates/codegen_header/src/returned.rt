@@ -13,6 +13,7 @@ ghost use Rattle.codegen_header.specs.Returned.{pushes_returned};
 use bytecode::Instr;
 use codegen_expression::context::Context;
 use codegen_expression::halt::Halt;
+use codegen_expression::operand::put;
 use codegen_simple::layout::Layout;
 use codegen_simple::operation::push_one;
 use codegen_simple::values::push;
@@ -31,10 +32,10 @@ fn result_type<'a>(kind: Option<ValueType<'a>>) -> ValueType<'a>
 }
 
 /// Pushes what is returned from a function that has a result of this type, or none.
-fn push_returned(
-    context: &Context<'_, '_>,
-    visible: &Visible<'_>,
-    kind: Option<ValueType<'_>>,
+fn push_returned<'k>(
+    context: &Context<'_, 'k>,
+    visible: &Visible<'k>,
+    kind: Option<ValueType<'k>>,
     returned: &ReturnNode,
     code: &mut Vec<Instr>,
 ) -> Result<(), Halt>
@@ -53,10 +54,10 @@ fn push_returned(
 /// A return from a function that has a result of this type, or none.
 ///
 /// Errors: something is wrong with what is returned; want of memory.
-pub fn emit_return(
-    context: &Context<'_, '_>,
-    layout: &Layout<'_>,
-    kind: Option<ValueType<'_>>,
+pub fn emit_return<'k>(
+    context: &Context<'_, 'k>,
+    layout: &Layout<'k>,
+    kind: Option<ValueType<'k>>,
     returned: &ReturnNode,
     code: &mut Vec<Instr>,
 ) -> Result<(), Halt>
@@ -64,6 +65,5 @@ pub fn emit_return(
 {
     let visible = &layout.visible;
     push_returned(context, visible, kind, returned, code)?;
-    code.push(Instr::Return)?;
-    Ok(())
+    put(code, Instr::Return)
 }

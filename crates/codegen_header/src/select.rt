@@ -19,9 +19,9 @@ use codegen_simple::values::{push, push_own};
 use syntax::{ClauseNode, CommNode};
 
 /// Pushes the channel of a clause, and what is sent on it.
-fn push_comm(
-    context: &Context<'_, '_>,
-    layout: &Layout<'_>,
+fn push_comm<'k>(
+    context: &Context<'_, 'k>,
+    layout: &Layout<'k>,
     comm: &CommNode,
     code: &mut Vec<Instr>,
 ) -> Result<(), Halt>
@@ -43,9 +43,9 @@ fn push_comm(
 }
 
 /// The same for a clause; a default has none.
-fn push_clause(
-    context: &Context<'_, '_>,
-    layout: &Layout<'_>,
+fn push_clause<'k>(
+    context: &Context<'_, 'k>,
+    layout: &Layout<'k>,
     clause: &ClauseNode,
     code: &mut Vec<Instr>,
 ) -> Result<(), Halt>
@@ -76,9 +76,9 @@ pub fn push_clauses<'t, 'y, 'c, 'm, 'a>(
 }
 
 /// The entry of a clause whose way begins at this place.
-fn table_clause(
-    context: &Context<'_, '_>,
-    layout: &Layout<'_>,
+fn table_clause<'k>(
+    context: &Context<'_, 'k>,
+    layout: &Layout<'k>,
     comm: &CommNode,
     to: u32,
 ) -> Result<Clause, Halt>

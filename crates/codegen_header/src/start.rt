@@ -12,6 +12,7 @@ ghost use Rattle.codegen_expression.specs.Contexts.{elements_of, globals_of, sco
 use bytecode::Instr;
 use codegen_expression::context::Context;
 use codegen_expression::halt::Halt;
+use codegen_expression::operand::put;
 use codegen_simple::operation::push_arguments;
 use syntax::{ArgumentsNode, Name};
 use type_table::scope::Visible;
@@ -20,9 +21,9 @@ use type_table::scope::Visible;
 ///
 /// Errors: something is wrong with the call; want of memory.
 #[tactic(auto, using(crate::proofs::Starting::appends_go))]
-pub fn emit_go(
-    context: &Context<'_, '_>,
-    visible: &Visible<'_>,
+pub fn emit_go<'k>(
+    context: &Context<'_, 'k>,
+    visible: &Visible<'k>,
     name: &Name,
     arguments: &ArgumentsNode,
     code: &mut Vec<Instr>,
@@ -30,6 +31,5 @@ pub fn emit_go(
     ensures { OnOk result (Appends code.old.items code.new.items (pushes_arguments (globals_of context.now) (elements_of context.now) (scope_in context.now visible.now) (number_of (globals_of context.now) (name_of name.now)) (map expression_of arguments.now.values.items) (Do (instrs.Go (number_of (globals_of context.now) (name_of name.now))) Skip))) }
 {
     let function = push_arguments(context, visible, name, arguments, code)?;
-    code.push(Instr::Go(function))?;
-    Ok(())
+    put(code, Instr::Go(function))
 }

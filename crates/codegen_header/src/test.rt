@@ -18,15 +18,14 @@ use type_table::value_type::ValueType;
 /// Pushes a condition.
 ///
 /// Errors: something is wrong with it; want of memory.
-pub fn push_test(
-    context: &Context<'_, '_>,
-    layout: &Layout<'_>,
+pub fn push_test<'k>(
+    context: &Context<'_, 'k>,
+    layout: &Layout<'k>,
     condition: &ExpressionNode,
     code: &mut Vec<Instr>,
 ) -> Result<(), Halt>
     ensures { OnOk result (Puts code.old.items code.new.items (tests (globals_of context.now) (elements_of context.now) (layout_in context.now layout.now) (expression_of condition.now))) }
 {
     let visible = &layout.visible;
-    push(context, visible, ValueType::Bool, condition, code)?;
-    Ok(())
+    push(context, visible, ValueType::Bool, condition, code)
 }

@@ -84,10 +84,10 @@ fn emit_known<'a>(
     layout: &mut Layout<'a>,
     names: &'a [Name],
     kind: ValueType<'a>,
-    right: Option<&'a RightNode>,
+    right: &'a Option<RightNode>,
     code: &mut Vec<Instr>,
 ) -> Result<(), Halt>
-    ensures emitted { OnOk result (Appends code.old.items code.new.items (variables_plan (globals_of context.now) (elements_of context.now) (layout_in context.now layout.old) (map name_of names.now) (kind_of (types_in context.now) kind.entry) (option_map (λ (r : _). right_of r.now) right.entry))) }
+    ensures emitted { OnOk result (Appends code.old.items code.new.items (variables_plan (globals_of context.now) (elements_of context.now) (layout_in context.now layout.old) (map name_of names.now) (kind_of (types_in context.now) kind.entry) (option_map right_of right.now))) }
     ensures after { OnOk result (layout_in context.now layout.new ≡ declaring_each (globals_of context.now) (elements_of context.now) (kind_of (types_in context.now) kind.entry) (map name_of names.now) (layout_in context.now layout.old)) }
     ensures kept { OnOk result (Keeps layout.old.visible layout.new.visible) }
 {
@@ -117,7 +117,6 @@ pub fn emit_typed<'a>(
     let Some(kind) = type_in(context.table, &layout.visible, kind) else {
         return Err(Halt::Flawed);
     };
-    let right = right.as_ref();
     emit_known(context, layout, names, kind, right, code)
 }
 

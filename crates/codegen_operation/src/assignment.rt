@@ -9,6 +9,7 @@ ghost use Rattle.codegen_operation.specs.Spots.{Stored, spot_in, stores_each};
 use crate::spot::{Spot, store};
 use bytecode::Instr;
 use codegen_expression::halt::Halt;
+use codegen_expression::operand::put;
 use std::alloc::Global;
 use std::collections::HashSet;
 
@@ -17,11 +18,10 @@ fn store_word(place: u32, places: &mut HashSet<u32>, code: &mut Vec<Instr>) -> R
     ensures { (first : List OneInstr) (later : List OneSpot) → OnOk result (Stored first later places.old code.old.items → Stored first (Local place 1 ∷ later) places.new code.new.items) }
 {
     if places.insert(place)? {
-        code.push(Instr::Store(place, 1))?;
+        put(code, Instr::Store(place, 1))
     } else {
-        code.push(Instr::Discard(1))?;
+        put(code, Instr::Discard(1))
     }
-    Ok(())
 }
 
 /// So many words go to the places from one on, the last one first.
@@ -90,6 +90,5 @@ pub fn assign(alloc: Global, spots: &[Spot], code: &mut Vec<Instr>) -> Result<()
     ensures { OnOk result (Puts code.old.items code.new.items (assigns (map spot_in spots.now))) }
 {
     store_each(alloc, spots, code)?;
-    code.push(Instr::Tick)?;
-    Ok(())
+    put(code, Instr::Tick)
 }

@@ -26,7 +26,7 @@ use type_table::table::TypeTable;
 use type_table::value_type::{ValueType, element_in, type_in};
 
 /// Whether a name stands for a variable, a type or a value.
-fn is_other(table: &TypeTable<'_>, visible: &Visible<'_>, name: &[u8]) -> bool
+fn is_other<'k>(table: &TypeTable<'k>, visible: &Visible<'k>, name: &[u8]) -> bool
     ensures { result ≡ is_other (globals_in table.now) (scope_of table.now visible.now) name.now }
 {
     variable_named(table, visible, name).is_some()
@@ -35,7 +35,7 @@ fn is_other(table: &TypeTable<'_>, visible: &Visible<'_>, name: &[u8]) -> bool
 }
 
 /// The number of the function that a name in a call stands for.
-fn called(table: &TypeTable<'_>, visible: &Visible<'_>, name: &[u8]) -> Result<usize, Halt>
+fn called<'k>(table: &TypeTable<'k>, visible: &Visible<'k>, name: &[u8]) -> Result<usize, Halt>
     ensures { IfOk result (λ n. callee (globals_in table.now) (scope_of table.now visible.now) name.now ≡ IsFunction n) }
 {
     if is_other(table, visible, name) {

@@ -21,7 +21,7 @@ use crate::values::{push, push_all, push_own};
 use bytecode::Instr;
 use codegen_expression::context::Context;
 use codegen_expression::halt::Halt;
-use codegen_expression::operand::number;
+use codegen_expression::operand::{number, put};
 use codegen_expression::shape::shape_of;
 use syntax::{ArgumentsNode, ExpressionNode, Name, OperationNode, RightNode, TypeNode};
 use type_table::entry::FunctionEntry;
@@ -104,9 +104,9 @@ fn parameters_at<'a, 't>(
 /// Pushes the arguments of a call of the function of this name, and answers its number.
 ///
 /// Errors: something is wrong with the call; want of memory.
-pub fn push_arguments(
-    context: &Context<'_, '_>,
-    visible: &Visible<'_>,
+pub fn push_arguments<'k>(
+    context: &Context<'_, 'k>,
+    visible: &Visible<'k>,
     name: &Name,
     arguments: &ArgumentsNode,
     code: &mut Vec<Instr>,
@@ -122,27 +122,24 @@ pub fn push_arguments(
 }
 
 /// Pushes the size of a channel's buffer; where none is written it is 0.
-fn push_size(
-    context: &Context<'_, '_>,
-    visible: &Visible<'_>,
-    size: Option<&ExpressionNode>,
+fn push_size<'k>(
+    context: &Context<'_, 'k>,
+    visible: &Visible<'k>,
+    size: &Option<ExpressionNode>,
     code: &mut Vec<Instr>,
 ) -> Result<(), Halt>
-    ensures { OnOk result (Puts code.old.items code.new.items (pushes_size (globals_of context.now) (elements_of context.now) (scope_in context.now visible.now) (option_map (λ (e : _). expression_of e.now) size.entry))) }
+    ensures { OnOk result (Puts code.old.items code.new.items (pushes_size (globals_of context.now) (elements_of context.now) (scope_in context.now visible.now) (option_map expression_of size.now))) }
 {
     match size {
         Some(size) => push(context, visible, ValueType::Int, size, code),
-        None => {
-            code.push(Instr::Int(0))?;
-            Ok(())
-        }
+        None => put(code, Instr::Int(0)),
     }
 }
 
 /// The number of the shape of what a channel carries that is made by this type.
-fn made_shape(
-    context: &Context<'_, '_>,
-    visible: &Visible<'_>,
+fn made_shape<'k>(
+    context: &Context<'_, 'k>,
+    visible: &Visible<'k>,
     kind: &TypeNode,
 ) -> Result<u32, Halt>
     ensures { IfOk result (λ shape. shape ≡ shape_of (elements_of context.now) (known (element_type (known (type_in (types_in context.now) (scope_in context.now visible.now) (written_of kind.now)))))) }
@@ -157,9 +154,9 @@ fn made_shape(
 ///
 /// Errors: something is wrong with the operation; want of memory.
 #[tactic(auto, using(crate::proofs::Operating::puts_then))]
-pub fn push_operation(
-    context: &Context<'_, '_>,
-    visible: &Visible<'_>,
+pub fn push_operation<'k>(
+    context: &Context<'_, 'k>,
+    visible: &Visible<'k>,
     operation: &OperationNode,
     code: &mut Vec<Instr>,
 ) -> Result<(), Halt>
@@ -168,25 +165,25 @@ pub fn push_operation(
     match operation {
         OperationNode::Call(name, arguments) => {
             let function = push_arguments(context, visible, name, arguments, code)?;
-            code.push(Instr::Call(function))?;
+            put(code, Instr::Call(function))
         }
         OperationNode::Receive(channel) => {
             push_received(context, visible, channel, code)?;
+            Ok(())
         }
         OperationNode::Make(kind, size) => {
-            push_size(context, visible, size.as_ref(), code)?;
-            code.push(Instr::Make(made_shape(context, visible, kind)?))?;
+            push_size(context, visible, size, code)?;
+            put(code, Instr::Make(made_shape(context, visible, kind)?))
         }
         OperationNode::Length(channel) => {
             push_own(context, visible, channel, code)?;
-            code.push(Instr::Len)?;
+            put(code, Instr::Len)
         }
         OperationNode::Capacity(channel) => {
             push_own(context, visible, channel, code)?;
-            code.push(Instr::Cap)?;
+            put(code, Instr::Cap)
         }
     }
-    Ok(())
 }
 
 /// Whether the operation is a receive.
@@ -200,9 +197,9 @@ pub(crate) fn is_receive(operation: &OperationNode) -> bool
 ///
 /// Errors: something is wrong with the operation; want of memory.
 #[tactic(auto, using(crate::proofs::Operating::puts_one))]
-pub fn push_one(
-    context: &Context<'_, '_>,
-    visible: &Visible<'_>,
+pub fn push_one<'k>(
+    context: &Context<'_, 'k>,
+    visible: &Visible<'k>,
     operation: &OperationNode,
     code: &mut Vec<Instr>,
 ) -> Result<(), Halt>

@@ -71,7 +71,7 @@ pub fn selected<'a>(
 }
 
 /// The locals of a part of the frame.
-pub fn spot_of(context: &Context<'_, '_>, part: Selected<'_>) -> Result<Spot, Halt>
+pub fn spot_of<'k>(context: &Context<'_, 'k>, part: Selected<'k>) -> Result<Spot, Halt>
     ensures { IfOk result (λ spot. (scope : Scope) → spot_in spot ≡ spot_of (globals_of context.now) (elements_of context.now) scope (Some (selected_of (types_in context.now) part.entry))) }
 {
     let place = number(part.place)?;

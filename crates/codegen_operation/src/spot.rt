@@ -8,6 +8,7 @@ ghost use Rattle.codegen_operation.specs.Spots.{spot_in};
 
 use bytecode::Instr;
 use codegen_expression::halt::Halt;
+use codegen_expression::operand::put;
 
 /// Where the words of a value go.
 #[derive(Clone, Copy)]
@@ -34,12 +35,7 @@ pub fn store(spot: Spot, code: &mut Vec<Instr>) -> Result<(), Halt>
     ensures { OnOk result (Puts code.old.items code.new.items (stores (spot_in spot))) }
 {
     match spot {
-        Spot::Dropped(words) => {
-            drop_words(words, code)?;
-        }
-        Spot::Local(place, words) => {
-            code.push(Instr::Store(place, words))?;
-        }
+        Spot::Dropped(words) => drop_words(words, code),
+        Spot::Local(place, words) => put(code, Instr::Store(place, words)),
     }
-    Ok(())
 }

@@ -23,10 +23,10 @@ use type_table::value_type::ValueType;
 ///
 /// Errors: something is wrong with the expression; want of memory.
 #[tactic(auto, using(crate::proofs::Pushed::puts_pushes))]
-pub fn push(
-    context: &Context<'_, '_>,
-    visible: &Visible<'_>,
-    kind: ValueType<'_>,
+pub fn push<'k>(
+    context: &Context<'_, 'k>,
+    visible: &Visible<'k>,
+    kind: ValueType<'k>,
     expression: &ExpressionNode,
     code: &mut Vec<Instr>,
 ) -> Result<(), Halt>

@@ -64,7 +64,7 @@ pub fn declare<'a>(
 }
 
 /// Whether a name is new in its block, and not `_`.
-pub fn is_declarable(table: &TypeTable<'_>, visible: &Visible<'_>, name: &[u8]) -> bool
+pub fn is_declarable<'k>(table: &TypeTable<'k>, visible: &Visible<'k>, name: &[u8]) -> bool
     ensures { result ≡ is_declarable (scope_of table.now visible.now) name.now }
 {
     !is_blank(name) && own_variable(table, visible, name).is_none()

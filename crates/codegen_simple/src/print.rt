@@ -29,9 +29,9 @@ fn printed_as(worth: Worth<'_>) -> Part
 }
 
 /// How a part is printed.
-fn printed_part(
-    context: &Context<'_, '_>,
-    visible: &Visible<'_>,
+fn printed_part<'k>(
+    context: &Context<'_, 'k>,
+    visible: &Visible<'k>,
     part: &PartNode,
 ) -> Result<Part, Halt>
     ensures { IfOk result (λ made. (elements : List Element) → made ≡ printed_part (globals_of context.now) elements (scope_in context.now visible.now) (part_of part.now)) }
@@ -68,9 +68,9 @@ fn printed_parts<'t, 'v, 'p, 'k>(
 /// Puts the print table of a statement behind others, where it prints.
 ///
 /// Errors: something is wrong with a value; want of memory.
-pub fn put_prints(
-    context: &Context<'_, '_>,
-    visible: &Visible<'_>,
+pub fn put_prints<'k>(
+    context: &Context<'_, 'k>,
+    visible: &Visible<'k>,
     simple: &SimpleNode,
     prints: &mut Vec<PrintTable>,
 ) -> Result<(), Halt>
@@ -87,9 +87,9 @@ pub fn put_prints(
 }
 
 /// Pushes what is printed of a part.
-fn push_part(
-    context: &Context<'_, '_>,
-    visible: &Visible<'_>,
+fn push_part<'k>(
+    context: &Context<'_, 'k>,
+    visible: &Visible<'k>,
     part: &PartNode,
     code: &mut Vec<Instr>,
 ) -> Result<(), Halt>

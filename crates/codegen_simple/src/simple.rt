@@ -25,7 +25,7 @@ use crate::update::{step, update};
 use bytecode::Instr;
 use codegen_expression::context::Context;
 use codegen_expression::halt::Halt;
-use codegen_expression::operand::words_of;
+use codegen_expression::operand::{put, words_of};
 use codegen_expression::shape::shape_of;
 use codegen_operation::assignment::assign;
 use codegen_operation::given::{result_of, right_kinds};
@@ -50,9 +50,9 @@ fn drop_result(context: &Context<'_, '_>, number: u32, code: &mut Vec<Instr>) ->
 }
 
 /// A call of a function, whose result nobody needs.
-fn call(
-    context: &Context<'_, '_>,
-    visible: &Visible<'_>,
+fn call<'k>(
+    context: &Context<'_, 'k>,
+    visible: &Visible<'k>,
     name: &Name,
     arguments: &ArgumentsNode,
     code: &mut Vec<Instr>,
@@ -65,23 +65,22 @@ fn call(
 }
 
 /// A close of a channel.
-fn close(
-    context: &Context<'_, '_>,
-    visible: &Visible<'_>,
+fn close<'k>(
+    context: &Context<'_, 'k>,
+    visible: &Visible<'k>,
     channel: &ExpressionNode,
     code: &mut Vec<Instr>,
 ) -> Result<(), Halt>
     ensures { OnOk result (Appends code.old.items code.new.items (pushes_own (globals_of context.now) (elements_of context.now) (scope_in context.now visible.now) (expression_of channel.now) (Do instrs.Close Skip))) }
 {
     push_own(context, visible, channel, code)?;
-    code.push(Instr::Close)?;
-    Ok(())
+    put(code, Instr::Close)
 }
 
 /// A print whose table has this number.
-fn print(
-    context: &Context<'_, '_>,
-    visible: &Visible<'_>,
+fn print<'k>(
+    context: &Context<'_, 'k>,
+    visible: &Visible<'k>,
     number: u32,
     parts: &[PartNode],
     code: &mut Vec<Instr>,
@@ -89,14 +88,13 @@ fn print(
     ensures { OnOk result (Appends code.old.items code.new.items (pushes_parts (globals_of context.now) (elements_of context.now) (scope_in context.now visible.now) (map part_of parts.now) (Do (instrs.Print number) Skip))) }
 {
     push_parts(context, visible, parts, code)?;
-    code.push(Instr::Print(number))?;
-    Ok(())
+    put(code, Instr::Print(number))
 }
 
 /// A receive from a channel, of which nobody needs the item.
-fn receive(
-    context: &Context<'_, '_>,
-    visible: &Visible<'_>,
+fn receive<'k>(
+    context: &Context<'_, 'k>,
+    visible: &Visible<'k>,
     channel: &ExpressionNode,
     code: &mut Vec<Instr>,
 ) -> Result<(), Halt>
@@ -106,14 +104,13 @@ fn receive(
     let Some(count) = words_of(context, kind).checked_add(1) else {
         return Err(Halt::Memory);
     };
-    code.push(Instr::Discard(count))?;
-    Ok(())
+    put(code, Instr::Discard(count))
 }
 
 /// A send of a value on a channel.
-fn send(
-    context: &Context<'_, '_>,
-    visible: &Visible<'_>,
+fn send<'k>(
+    context: &Context<'_, 'k>,
+    visible: &Visible<'k>,
     channel: &ExpressionNode,
     value: &ExpressionNode,
     code: &mut Vec<Instr>,
@@ -122,8 +119,7 @@ fn send(
 {
     let kind = push_channel(context, visible, channel, code)?;
     push(context, visible, kind, value, code)?;
-    code.push(Instr::Send(shape_of(context, kind)))?;
-    Ok(())
+    put(code, Instr::Send(shape_of(context, kind)))
 }
 
 /// Places take what a right side gives.
@@ -198,22 +194,19 @@ fn emit_assignment<'a>(
 {
     let visible = &layout.visible;
     match simple {
-        SimpleNode::Increment(place) => {
-            step(context, visible, BinaryOperator::Add, place, code)?;
-        }
+        SimpleNode::Increment(place) => step(context, visible, BinaryOperator::Add, place, code),
         SimpleNode::Decrement(place) => {
-            step(context, visible, BinaryOperator::Subtract, place, code)?;
+            step(context, visible, BinaryOperator::Subtract, place, code)
         }
         SimpleNode::Assign(places, right) => {
             let places = places.as_slice();
-            set(context, visible, places, right, code)?;
+            set(context, visible, places, right, code)
         }
         SimpleNode::Update(place, operator, value) => {
-            update(context, visible, place, *operator, value, code)?;
+            update(context, visible, place, *operator, value, code)
         }
-        _ => return Err(Halt::Flawed),
+        _ => Err(Halt::Flawed),
     }
-    Ok(())
 }
 
 /// Emits a simple statement that declares nothing. The print table of a print has this number.
@@ -228,27 +221,16 @@ fn emit_plain<'a>(
 {
     let visible = &layout.visible;
     match simple {
-        SimpleNode::Call(name, arguments) => {
-            call(context, visible, name, arguments, code)?;
-        }
-        SimpleNode::Close(channel) => {
-            close(context, visible, channel, code)?;
-        }
+        SimpleNode::Call(name, arguments) => call(context, visible, name, arguments, code),
+        SimpleNode::Close(channel) => close(context, visible, channel, code),
         SimpleNode::Print(_, parts, _) => {
             let parts = parts.as_slice();
-            print(context, visible, number, parts, code)?;
+            print(context, visible, number, parts, code)
         }
-        SimpleNode::Receive(channel) => {
-            receive(context, visible, channel, code)?;
-        }
-        SimpleNode::Send(channel, value) => {
-            send(context, visible, channel, value, code)?;
-        }
-        _ => {
-            emit_assignment(context, layout, simple, code)?;
-        }
+        SimpleNode::Receive(channel) => receive(context, visible, channel, code),
+        SimpleNode::Send(channel, value) => send(context, visible, channel, value, code),
+        _ => emit_assignment(context, layout, simple, code),
     }
-    Ok(())
 }
 
 /// Emits a simple statement, and declares what it declares. The print table of a print has this number.
@@ -268,8 +250,7 @@ pub fn emit_simple<'a>(
     match simple {
         SimpleNode::Define(names, right) => {
             let names = names.as_slice();
-            define(context, layout, names, right, code)?;
-            Ok(())
+            define(context, layout, names, right, code)
         }
         _ => emit_plain(context, layout, number, simple, code),
     }

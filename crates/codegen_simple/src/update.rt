@@ -16,6 +16,7 @@ ghost use Rattle.codegen_operation.specs.Spots.{spot_in};
 use bytecode::Instr;
 use codegen_expression::context::Context;
 use codegen_expression::halt::Halt;
+use codegen_expression::operand::put;
 use codegen_expression::operator::operator_of;
 use codegen_operation::place::{selected, spot_of};
 use codegen_operation::spot::{Spot, store};
@@ -37,9 +38,9 @@ fn load(spot: Spot, code: &mut Vec<Instr>) -> Result<(), Halt>
 /// A place grows or becomes smaller by 1.
 ///
 /// Errors: something is wrong with the place; want of memory.
-pub fn step(
-    context: &Context<'_, '_>,
-    visible: &Visible<'_>,
+pub fn step<'k>(
+    context: &Context<'_, 'k>,
+    visible: &Visible<'k>,
     operator: BinaryOperator,
     place: &PlaceNode,
     code: &mut Vec<Instr>,
@@ -52,8 +53,7 @@ pub fn step(
     code.push(Instr::Int(1))?;
     code.push(Instr::Apply(operator_of(operator, ValueType::Int)))?;
     store(spot, code)?;
-    code.push(Instr::Tick)?;
-    Ok(())
+    put(code, Instr::Tick)
 }
 
 /// Whether the operator is `&&` or `||`.
@@ -69,9 +69,9 @@ fn is_logical(operator: BinaryOperator) -> bool
 /// A place takes what an operator makes of it and a value.
 ///
 /// Errors: something is wrong with the place or the value, or the operator is `&&` or `||`; want of memory.
-pub fn update(
-    context: &Context<'_, '_>,
-    visible: &Visible<'_>,
+pub fn update<'k>(
+    context: &Context<'_, 'k>,
+    visible: &Visible<'k>,
     place: &PlaceNode,
     operator: BinaryOperator,
     value: &ExpressionNode,
@@ -88,6 +88,5 @@ pub fn update(
     push(context, visible, part.kind, value, code)?;
     code.push(Instr::Apply(operator_of(operator, part.kind)))?;
     store(spot, code)?;
-    code.push(Instr::Tick)?;
-    Ok(())
+    put(code, Instr::Tick)
 }

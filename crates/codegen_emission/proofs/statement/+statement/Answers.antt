@@ -1,4 +1,4 @@
-use Rattle.std.proofs.Common.{rules, arith, ◌≡◌, ℕ, ◌+◌, true, false, List, [], ◌∷◌, ◌++◌, cond, None, Some, option_map, length, refl, sym, ap, ◌∙◌, subst, drop}
+use Rattle.std.proofs.Common.{rules, ◌≡◌, ℕ, ◌+◌, true, false, List, [], ◌∷◌, ◌++◌, cond, None, Some, option_map, length, refl, sym, ap, ◌∙◌, subst, drop}
 use Rattle.std.specs.Option.{is_none, is_some}
 use Rattle.std.specs.Prelude.{map, slice_set}
 use Rattle.bytecode.specs.declared.instr.Instr.{Instr}
@@ -84,19 +84,16 @@ emit_endless-returns t c =
     let post = option_map (λ (s : _). simple_of s.now) c.args.post in
     let stop = c.in_ok-stop.stop in
     let again = c.in_ok-again.again in
-    let head_is : c.in_ok-head.head ≡ length e0.code.items = omega (arith, c.in_ok-head.ensures, c.len.ensures) in
-    let again_is : again ≡ length e1.code.items = omega (arith, c.in_ok-again.ensures, c.len-2.ensures) in
-    let stop_is : stop ≡ length e2.code.items = omega (arith, c.in_ok-stop.ensures, c.len-3.ensures) in
     let done : e3.code.items ≡ filled flow.waits stop again e2.code.items = c.fill.ensures ∙ ap (λ (ws : List Wait). filled ws stop again e2.code.items) c.as_slice.ensures.value in
     emits_untested table (globals_in table) c.args.context.now.program.now.elements.now (yield_of (types_of table) c.args.context.now.result_type) (body_of c.args.body.now) post c.comes_round-turns.result e0 e1 e2 e3 flow (control c.behind_loop.result) c.in_ok-head.head again stop
-    c.in_ok-within.ensures c.comes_round-turns.ensures head_is again_is c.in_ok-emit_round.ensures stop_is done (record { prints = refl; selects = refl; layout = refl }) c.behind_loop.ensures
+    c.in_ok-within.ensures c.comes_round-turns.ensures c.in_ok-head.ensures c.in_ok-again.ensures c.in_ok-emit_round.ensures c.in_ok-stop.ensures done (record { prints = refl; selects = refl; layout = refl }) c.behind_loop.ensures
 
 pub emit_tested-returns : goal.emit_tested-returns
 emit_tested-returns t c =
     let table = c.args.context.now.program.now.table.now in
     let e0 = c.args.emitter.now in
     let e1 : Emitter = record { code = c.push_test.new.code; prints = e0.prints; selects = e0.selects; layout = e0.layout } in
-    let e2 : Emitter = record { code = c.push.new.self; prints = e0.prints; selects = e0.selects; layout = e0.layout } in
+    let e2 : Emitter = record { code = c.hold_test.new.code; prints = e0.prints; selects = e0.selects; layout = e0.layout } in
     let e3 = c.emit_block.new.emitter in
     let e4 = c.emit_round.new.emitter in
     let e5 : Emitter = record { code = c.fill.new.code; prints = e4.prints; selects = e4.selects; layout = e4.layout } in
@@ -104,15 +101,11 @@ emit_tested-returns t c =
     let post = option_map (λ (s : _). simple_of s.now) c.args.post in
     let stop = c.in_ok-stop.stop in
     let again = c.in_ok-again.again in
-    let head_is : c.in_ok-head.head ≡ length e0.code.items = omega (arith, c.in_ok-head.ensures, c.len.ensures) in
-    let test_is : c.len-test.result ≡ length e1.code.items = search rules in
-    let again_is : again ≡ length e3.code.items = omega (arith, c.in_ok-again.ensures, c.len-2.ensures) in
-    let stop_is : stop ≡ length e4.code.items = omega (arith, c.in_ok-stop.ensures, c.len-3.ensures) in
     let done : e5.code.items ≡ filled flow.waits stop again (slice_set e4.code.items (length e1.code.items) (instrs.Unless stop)) =
-    c.fill.ensures ∙ ap (λ (ws : List Wait). filled ws stop again c.aim.new.code.items) c.as_slice.ensures.value ∙ ap (λ (l : List Instr). filled flow.waits stop again l) (c.aim.ensures ∙ ap (λ n. slice_set e4.code.items n (instrs.Unless stop)) test_is) in
+    c.fill.ensures ∙ ap (λ (ws : List Wait). filled ws stop again c.aim.new.code.items) c.as_slice.ensures.value ∙ ap (λ (l : List Instr). filled flow.waits stop again l) (c.aim.ensures ∙ ap (λ n. slice_set e4.code.items n (instrs.Unless stop)) c.in_ok-test.ensures.place) in
     let same : Beside e0 e0 = record { prints = refl; selects = refl; layout = refl } in
     emits_tested table (globals_in table) c.args.context.now.program.now.elements.now (yield_of (types_of table) c.args.context.now.result_type) (expression_of c.args.condition.now) (body_of c.args.body.now) post c.comes_round-turns.result e0 e1 e2 e3 e4 e5 flow (control c.through.result) c.in_ok-head.head again stop
-    c.in_ok-push_test.ensures (record { prints = refl; selects = refl; layout = refl }) c.in_ok-push.ensures.items (record { prints = refl; selects = refl; layout = refl }) c.in_ok-within.ensures c.comes_round-turns.ensures head_is again_is c.in_ok-emit_round.ensures stop_is done
+    c.in_ok-push_test.ensures (record { prints = refl; selects = refl; layout = refl }) c.in_ok-test.ensures.held (record { prints = refl; selects = refl; layout = refl }) c.in_ok-within.ensures c.comes_round-turns.ensures c.in_ok-head.ensures c.in_ok-again.ensures c.in_ok-emit_round.ensures c.in_ok-stop.ensures done
     (record { prints = refl; selects = refl; layout = refl }) c.through.ensures
 
 pub emit_clauses-returns : goal.emit_clauses-returns
@@ -166,16 +159,15 @@ emit_one_way-returns t c =
     let result = yield_of (types_of table) c.args.context.now.result_type in
     let e0 = c.args.emitter.now in
     let e1 : Emitter = record { code = c.push_test.new.code; prints = e0.prints; selects = e0.selects; layout = e0.layout } in
-    let e2 : Emitter = record { code = c.push.new.self; prints = e0.prints; selects = e0.selects; layout = e0.layout } in
+    let e2 : Emitter = record { code = c.hold_test.new.code; prints = e0.prints; selects = e0.selects; layout = e0.layout } in
     let e3 = c.emit_block.new.emitter in
     let e4 : Emitter = record { code = c.end_test.new.code; prints = e3.prints; selects = e3.selects; layout = e3.layout } in
     let so = made_within globals elements result (site_of table e0) (body_of c.args.branch.now.body.items) in
     let within = subst (λ (b : List StatementNode). Emits table e2 e3 (control c.in_ok-flow.flow) (made_within globals elements result (site_of table e0) (body_of b))) c.as_slice-body.ensures.value c.in_ok-flow.ensures in
-    let test_is : c.len-test.result ≡ length e1.code.items = search rules in
     let next = length e3.code.items in
-    let set : e4.code.items ≡ slice_set e3.code.items (length e1.code.items) (instrs.Unless next) = c.in_ok-end_test.ensures ∙ ap (λ n. slice_set e3.code.items n (instrs.Unless next)) test_is in
+    let set : e4.code.items ≡ slice_set e3.code.items (length e1.code.items) (instrs.Unless next) = c.in_ok-end_test.ensures ∙ ap (λ n. slice_set e3.code.items n (instrs.Unless next)) c.in_ok-test.ensures.place in
     emits_one_way table globals elements result (expression_of c.args.branch.now.condition) so e0 e1 e2 e3 e4 (control c.in_ok-flow.flow) (control c.may_end.new.flow) next c.in_ok-push_test.ensures (record { prints = refl; selects = refl; layout = refl })
-    c.in_ok-push.ensures.items (record { prints = refl; selects = refl; layout = refl }) within refl set (record { prints = refl; selects = refl; layout = refl }) c.may_end.ensures
+    c.in_ok-test.ensures.held (record { prints = refl; selects = refl; layout = refl }) within refl set (record { prints = refl; selects = refl; layout = refl }) c.may_end.ensures
 
 pub emit_two_ways-returns : goal.emit_two_ways-returns
 emit_two_ways-returns t c =
@@ -185,7 +177,7 @@ emit_two_ways-returns t c =
     let result = yield_of (types_of table) c.args.context.now.result_type in
     let e0 = c.args.emitter.now in
     let e1 : Emitter = record { code = c.push_test.new.code; prints = e0.prints; selects = e0.selects; layout = e0.layout } in
-    let e2 : Emitter = record { code = c.push.new.self; prints = e0.prints; selects = e0.selects; layout = e0.layout } in
+    let e2 : Emitter = record { code = c.hold_test.new.code; prints = e0.prints; selects = e0.selects; layout = e0.layout } in
     let e3 = c.emit_block.new.emitter in
     let e4 : Emitter = record { code = c.begin_other.new.code; prints = e3.prints; selects = e3.selects; layout = e3.layout } in
     let e5 = c.emit_other.new.emitter in
@@ -194,12 +186,11 @@ emit_two_ways-returns t c =
     let so = made_within globals elements result (site_of table e0) (body_of c.args.branch.now.body.items) in
     let over = cond f.ends (instrs.Jump 0 ∷ []) [] in
     let within = subst (λ (b : List StatementNode). Emits table e2 e3 (control c.in_ok-flow.flow) (made_within globals elements result (site_of table e0) (body_of b))) c.as_slice-body.ensures.value c.in_ok-flow.ensures in
-    let test_is : c.len-test.result ≡ length e1.code.items = search rules in
-    let begun : e4.code.items ≡ slice_set (e3.code.items ++ over) (length e1.code.items) (instrs.Unless (length e4.code.items)) = c.in_ok-over.ensures.begun ∙ ap (λ n. slice_set (e3.code.items ++ over) n (instrs.Unless (length e4.code.items))) test_is in
+    let begun : e4.code.items ≡ slice_set (e3.code.items ++ over) (length e1.code.items) (instrs.Unless (length e4.code.items)) = c.in_ok-over.ensures.begun ∙ ap (λ n. slice_set (e3.code.items ++ over) n (instrs.Unless (length e4.code.items))) c.in_ok-test.ensures.place in
     let ended_at : e6.code.items ≡ cond f.ends (slice_set e5.code.items (length e3.code.items) (instrs.Jump (length e5.code.items))) e5.code.items =
     c.in_ok-end_other.ensures ∙ ap (λ n. cond f.ends (slice_set e5.code.items n (instrs.Jump (length e5.code.items))) e5.code.items) c.in_ok-over.ensures.over in
     emits_two_ways table globals elements result (expression_of c.args.branch.now.condition) so (λ site. made_other globals elements result site (otherwise_of c.args.branch.now.otherwise)) e0 e1 e2 e3 e4 e5 e6 f (control c.in_ok-other.other) (control c.join_way.new.flow) c.in_ok-push_test.ensures
-    (record { prints = refl; selects = refl; layout = refl }) c.in_ok-push.ensures.items (record { prints = refl; selects = refl; layout = refl }) within begun (record { prints = refl; selects = refl; layout = refl }) c.in_ok-other.ensures ended_at (record { prints = refl; selects = refl; layout = refl })
+    (record { prints = refl; selects = refl; layout = refl }) c.in_ok-test.ensures.held (record { prints = refl; selects = refl; layout = refl }) within begun (record { prints = refl; selects = refl; layout = refl }) c.in_ok-other.ensures ended_at (record { prints = refl; selects = refl; layout = refl })
     c.in_ok-join_way.ensures
 
 pub emit_item-returns : goal.emit_item-returns
@@ -228,7 +219,7 @@ emit_items-returns t c = λ around channel place_is kind_is.
     let result = yield_of (types_of table) c.args.context.now.result_type in
     let e0 = c.args.emitter.now in
     let e1 : Emitter = record { code = c.emit_next.new.code; prints = e0.prints; selects = e0.selects; layout = e0.layout } in
-    let e2 : Emitter = record { code = c.push.new.self; prints = e0.prints; selects = e0.selects; layout = e0.layout } in
+    let e2 : Emitter = record { code = c.hold_test.new.code; prints = e0.prints; selects = e0.selects; layout = e0.layout } in
     let e3 = c.emit_item.new.emitter in
     let e4 : Emitter = record { code = c.come_round.new.code; prints = e3.prints; selects = e3.selects; layout = e3.layout } in
     let e5 : Emitter = record { code = c.emit_unused.new.code; prints = e3.prints; selects = e3.selects; layout = e3.layout } in
@@ -239,17 +230,12 @@ emit_items-returns t c = λ around channel place_is kind_is.
     let stop = c.in_ok-stop.stop in
     let again = c.in_ok-again.again in
     let exit = c.in_ok-exit.exit in
-    let head_is : c.in_ok-head.head ≡ length e0.code.items = omega (arith, c.in_ok-head.ensures, c.len.ensures) in
-    let test_is : c.len-test.result ≡ length e1.code.items = search rules in
-    let again_is : again ≡ length e3.code.items = omega (arith, c.in_ok-again.ensures, c.len-2.ensures) in
-    let exit_is : exit ≡ length e4.code.items = omega (arith, c.in_ok-exit.ensures, c.len-3.ensures) in
-    let stop_is : stop ≡ length e5.code.items = omega (arith, c.in_ok-stop.ensures, c.len-4.ensures) in
     let done : e6.code.items ≡ filled flow.waits stop again (slice_set e5.code.items (length e1.code.items) (instrs.Unless exit)) =
-    c.fill.ensures ∙ ap (λ (ws : List Wait). filled ws stop again c.aim.new.code.items) c.as_slice.ensures.value ∙ ap (λ (l : List Instr). filled flow.waits stop again l) (c.aim.ensures ∙ ap (λ n. slice_set e5.code.items n (instrs.Unless exit)) test_is) in
+    c.fill.ensures ∙ ap (λ (ws : List Wait). filled ws stop again c.aim.new.code.items) c.as_slice.ensures.value ∙ ap (λ (l : List Instr). filled flow.waits stop again l) (c.aim.ensures ∙ ap (λ n. slice_set e5.code.items n (instrs.Unless exit)) c.in_ok-test.ensures.place) in
     let item = subst (λ k. Emits table e2 e3 flow (made_item globals elements result (site_of table e0) k target body)) (sym kind_is) c.in_ok-within.ensures in
     let unused = subst (λ k. Appends e4.code.items e5.code.items (drops (width globals elements around.scope k) Skip)) (sym kind_is) (c.in_ok-emit_unused.ensures around.scope) in
-    emits_items globals elements result table around channel target body c.comes_round.result e0 e1 e2 e3 e4 e5 e6 flow (control c.through.result) c.in_ok-head.head again exit stop (c.in_ok-emit_next.ensures result around channel place_is kind_is) (record { prints = refl; selects = refl; layout = refl }) c.in_ok-push.ensures.items
-    (record { prints = refl; selects = refl; layout = refl }) item c.comes_round.ensures head_is again_is c.in_ok-come_round.ensures (record { prints = refl; selects = refl; layout = refl }) exit_is unused (record { prints = refl; selects = refl; layout = refl }) stop_is done (record { prints = refl; selects = refl; layout = refl }) c.through.ensures
+    emits_items globals elements result table around channel target body c.comes_round.result e0 e1 e2 e3 e4 e5 e6 flow (control c.through.result) c.in_ok-head.head again exit stop (c.in_ok-emit_next.ensures result around channel place_is kind_is) (record { prints = refl; selects = refl; layout = refl }) c.in_ok-test.ensures.held
+    (record { prints = refl; selects = refl; layout = refl }) item c.comes_round.ensures c.in_ok-head.ensures c.in_ok-again.ensures c.in_ok-come_round.ensures (record { prints = refl; selects = refl; layout = refl }) c.in_ok-exit.ensures unused (record { prints = refl; selects = refl; layout = refl }) c.in_ok-stop.ensures done (record { prints = refl; selects = refl; layout = refl }) c.through.ensures
 
 pub emit_range-returns : goal.emit_range-returns
 emit_range-returns t c =
@@ -306,13 +292,12 @@ emit_clause-returns t c = λ whole left all first reaches.
     let f = control c.in_ok-flow.flow in
     let list = c.args.list.now in
     let next = c.add_way.new.list in
-    let place_is : c.in_ok-place.place ≡ length e0.code.items = omega (arith, c.in_ok-place.ensures, c.len.ensures) in
     let is : clause_of clause ≡ record { comm = option_map comm_of clause.comm; body = body_of clause.body.items } = search (rules, the_lemmas) in
     let with_comm : option_map comm_of clause.comm ≡ Some (comm_of c.in-Some.comm) = search rules in
     let body_is = c.as_slice-body.ensures.value in
     let here = subst (λ o. Reaches globals elements result table whole first e0 list (Clause o (body_of clause.body.items) left) all) with_comm (subst (λ (o : OneClause). Reaches globals elements result table whole first e0 list (Clause o.comm o.body left) all) is reaches) in
     let way = subst (λ (b : List StatementNode). Emits table e0 e1 f (made_way globals elements result (site_of table e0) (comm_of c.in-Some.comm) (body_of b))) body_is c.in_ok-flow.ensures in
-    let places : next.places.items ≡ list.places.items ++ length e0.code.items ∷ [] = c.in_ok-add_way.ensures.places ∙ ap (λ n. list.places.items ++ n ∷ []) place_is in
+    let places : next.places.items ≡ list.places.items ++ length e0.code.items ∷ [] = c.in_ok-add_way.ensures.places ∙ ap (λ n. list.places.items ++ n ∷ []) c.in_ok-place.ensures in
     reaches_more globals elements result table whole first e0 e1 e2 list next f c.in_ok-held.held (comm_of c.in-Some.comm) (body_of clause.body.items) left all here way c.in_ok-held.ensures.held (record { prints = refl; selects = refl; layout = refl }) c.in_ok-held.ensures.place c.in_ok-held.ensures.leads
     c.in_ok-add_way.ensures.flow places c.in_ok-add_way.ensures.held
 
@@ -417,13 +402,12 @@ emit_all_ways-returns t c =
     let e3 : Emitter = record { code = c.close.new.code; prints = e2.prints; selects = e2.selects; layout = e2.layout } in
     let list = c.in_ok-list.list in
     let default = option_map control c.in_ok-default.default in
-    let place_is : c.in_ok-place.place ≡ length e1.code.items = omega (arith, c.in_ok-place.ensures, c.len.ensures) in
     let there : c.is_some-there.result ≡ is_some default = search rules in
     let closes : e3.code.items ≡ closed list.held.items (is_some default) e2.code.items =
     c.in_ok-close.ensures ∙ ap (λ (hs : List Held). closed hs c.is_some-there.result e2.code.items) c.as_slice.ensures.value ∙ ap (λ b. closed list.held.items b e2.code.items) there in
     let same : is_some c.in_ok-default.default ≡ is_some default = search rules in
     let places : c.end_ways.new.list.places.items ≡ default_start list.places.items e1 default =
-    c.in_ok-end_ways.ensures.places ∙ ap (λ n. list.places.items ++ cond (is_some c.in_ok-default.default) (n ∷ []) []) place_is ∙ ap (λ b. list.places.items ++ cond b (length e1.code.items ∷ []) []) same in
+    c.in_ok-end_ways.ensures.places ∙ ap (λ n. list.places.items ++ cond (is_some c.in_ok-default.default) (n ∷ []) []) c.in_ok-place.ensures ∙ ap (λ b. list.places.items ++ cond b (length e1.code.items ∷ []) []) same in
     all_ways table globals elements result all e0 e1 e2 e3 list default (option_map control c.end_ways.new.list.flow) c.end_ways.new.list.places.items (c.in_ok-list.ensures all) c.in_ok-default.ensures closes (record { prints = refl; selects = refl; layout = refl }) places c.in_ok-end_ways.ensures.flow
 
 pub emit_select-returns : goal.emit_select-returns

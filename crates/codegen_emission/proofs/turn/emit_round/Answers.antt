@@ -1,4 +1,5 @@
 use Rattle.std.proofs.Common.{rules, ◌≡◌, ◌∙◌, ◌∷◌, [], ◌++◌, cond, length, take, ap, option_map, refl}
+use Rattle.std.proofs.lemmas.Result.{on_ok_weaker}
 use Rattle.bytecode.specs.declared.instr.Instr.TheVariants as instrs
 use Rattle.syntax.specs.View.{simple_of}
 use Rattle.type_table.specs.Visible.{globals_in}
@@ -22,6 +23,7 @@ returns c =
     let post = option_map (λ (s : _). simple_of s.now) c.args.post in
     let behind : c.len-behind.result ≡ length e0.code.items = search rules in
     let head = c.args.head in
+    on_ok_weaker c.come_back.result (λ done.
     let back : e2.code.items ≡ cond c.args.comes_round (e1.code.items ++ instrs.Loop head ∷ []) (take (length e0.code.items) e1.code.items) =
-    c.in_ok-come_back.ensures ∙ ap (λ n. cond c.args.comes_round (e1.code.items ++ instrs.Loop head ∷ []) (take n e1.code.items)) behind in
-    rounds table c.args.comes_round head e0 e1 e2 through (made_post globals elements (layout_of table e0.layout) (site_of table e0) post) refl (post_before globals elements (layout_of table e0.layout) (site_of table e0) post) c.in_ok-emit_post.ensures back (record { prints = refl; selects = refl; layout = refl })
+    done ∙ ap (λ n. cond c.args.comes_round (e1.code.items ++ instrs.Loop head ∷ []) (take n e1.code.items)) behind in
+    rounds table c.args.comes_round head e0 e1 e2 through (made_post globals elements (layout_of table e0.layout) (site_of table e0) post) refl (post_before globals elements (layout_of table e0.layout) (site_of table e0) post) c.in_ok-emit_post.ensures back (record { prints = refl; selects = refl; layout = refl })) c.come_back.ensures

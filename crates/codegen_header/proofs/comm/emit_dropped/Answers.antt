@@ -1,4 +1,5 @@
 use Rattle.std.proofs.Common.{rules, ◌≡◌, ◌+◌, ◌∙◌, ap, sym}
+use Rattle.std.proofs.lemmas.Result.{on_ok_weaker}
 use Rattle.syntax.specs.View.{expression_of}
 use Rattle.type_table.specs.Views.{kind_of}
 use Rattle.type_table.specs.Visible.{globals_in, scope_of, types_of}
@@ -17,4 +18,4 @@ returns c = λ yields.
     let words : c.words_of.result ≡ width globals elements scope (kind_of (types_of c.args.context.now.table.now) c.in_ok-kind.kind) = c.words_of.ensures scope in
     let one : c.in-Some.count ≡ c.words_of.result + 1 = search rules in
     let all : c.in-Some.count ≡ width globals elements scope (carried globals elements scope channel) + 1 = one ∙ ap (λ w. w + 1) (words ∙ ap (width globals elements scope) (sym (c.in_ok-kind.ensures elements))) in
-    appends_dropped globals elements yields (layout_of c.args.context.now.table.now c.args.layout.now) channel c.in-Some.count c.args.code.now.items c.push.new.self.items all c.in_ok-push.ensures.items
+    on_ok_weaker c.put.result (λ is. appends_dropped globals elements yields (layout_of c.args.context.now.table.now c.args.layout.now) channel c.in-Some.count c.args.code.now.items c.put.new.code.items all is) c.put.ensures

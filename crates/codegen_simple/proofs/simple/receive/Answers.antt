@@ -1,4 +1,5 @@
 use Rattle.std.proofs.Common.{rules, ◌≡◌, ◌+◌, ◌∙◌, ◌++◌, ◌∷◌, [], ap, sym}
+use Rattle.std.proofs.lemmas.Result.{on_ok_weaker}
 use Rattle.bytecode.specs.declared.instr.Instr.TheVariants as instrs
 use Rattle.syntax.specs.View.{expression_of}
 use Rattle.type_table.specs.Views.{kind_of}
@@ -17,5 +18,5 @@ returns c =
     let words : c.words_of.result ≡ width globals elements scope (kind_of (types_of c.args.context.now.table.now) c.in_ok-kind.kind) = c.words_of.ensures scope in
     let one : c.in-Some.count ≡ c.words_of.result + 1 = search rules in
     let all : c.in-Some.count ≡ width globals elements scope (carried globals elements scope channel) + 1 = one ∙ ap (λ w. w + 1) (words ∙ ap (width globals elements scope) (sym c.in_ok-kind.ensures.kind)) in
-    ends c.args.code.now.items c.push_received.new.code.items c.push.new.self.items (pushes_received globals elements scope channel) (instrs.Discard (width globals elements scope (carried globals elements scope channel) + 1))
-    c.in_ok-kind.ensures.pushed (c.in_ok-push.ensures.items ∙ ap (λ n. c.push_received.new.code.items ++ instrs.Discard n ∷ []) all)
+    on_ok_weaker c.put.result (λ is. ends c.args.code.now.items c.push_received.new.code.items c.put.new.code.items (pushes_received globals elements scope channel) (instrs.Discard (width globals elements scope (carried globals elements scope channel) + 1))
+    c.in_ok-kind.ensures.pushed (is ∙ ap (λ n. c.push_received.new.code.items ++ instrs.Discard n ∷ []) all)) c.put.ensures
