@@ -1,7 +1,6 @@
 -- A walk over a list goes on by one entry.
-use Rattle.std.proofs.Common.{◌≡◌, ℕ, suc, ◌+◌, ◌*◌, ◌<◌, ◌≤◌, List, [], ◌∷◌, ◌++◌, Result, Ok, Err, drop, get_or, length, map, sum_by, sym, subst, arith, append_assoc, drop-cons}
+use Rattle.std.proofs.Common.{◌≡◌, ℕ, suc, ◌+◌, ◌*◌, ◌<◌, ◌≤◌, List, ◌∷◌, ◌++◌, drop, get_or, length, map, sum_by, sym, subst, arith, append_assoc, drop-cons}
 use Rattle.std.proofs.lemmas.List.Sums.{sum_by-cons}
-use Rattle.std.specs.Result.{IfOk}
 use denote.Param.Weighed.{most, at_most}
 
 -- as many tokens as the entry has stand before the rest
@@ -27,9 +26,3 @@ pub falls_within : {X : Type 0} (depth : X → ℕ) (all : List X) (place : ℕ)
 falls_within depth all place one times less rank t is below measure smaller =
     let deep : depth one ≤ most depth all = subst (λ x. depth x ≤ most depth all) (sym is) (at_most depth all place one below) in
     grind arith
-
--- a node stands behind those that a walk added
-pub added_under : {A E : Type 0} (r : Result ℕ E) (before below total now : List A) (node : ℕ → A) (n : ℕ) → IfOk r (λ count. count ≡ n) → IfOk r (λ _. now ≡ before ++ below)
-    → before ++ (below ++ node n ∷ []) ≡ total → IfOk r (λ count. now ++ node count ∷ [] ≡ total)
-added_under (Ok count) before below total now node n counted added whole = rw (counted, added, append_assoc) whole
-added_under (Err e) before below total now node n counted added whole = tt

@@ -203,28 +203,6 @@ fn assign_spans(
     Ok(first + second + receive_spans(channel, tokens, at + first + second + 1, spans)? + 1)
 }
 
-/// Adds the spans of the nodes below what a clause of a select waits for. All its tokens are counted.
-fn below_comm(
-    comm: &CommNode,
-    tokens: &[Token],
-    at: usize,
-    spans: &mut Vec<Span>,
-) -> Result<usize, Memory>
-    requires { EndsInReach at (comm_count (comm_of comm.now)) }
-    ensures count { IfOk result (λ count. count ≡ comm_count (comm_of comm.now)) }
-    ensures spans { IfOk result (λ _. spans.new.items ≡ spans.old.items ++ below_comm tokens.now at (comm_of comm.now)) }
-{
-    match comm {
-        CommNode::Send(channel, value) => send_spans(channel, value, tokens, at, spans),
-        CommNode::Receive(channel) => Ok(expression_spans(channel, tokens, at + 1, spans)? + 1),
-        CommNode::Define(_, ok, channel) => {
-            let second = second_name_count(ok);
-            Ok(second + receive_spans(channel, tokens, at + second + 2, spans)? + 2)
-        }
-        CommNode::Assign(item, ok, channel) => assign_spans(item, ok, channel, tokens, at, spans),
-    }
-}
-
 /// Adds the spans of what a clause of a select waits for.
 fn comm_spans(
     comm: &CommNode,
@@ -236,7 +214,15 @@ fn comm_spans(
     ensures count { IfOk result (λ count. count ≡ comm_count (comm_of comm.now)) }
     ensures spans { IfOk result (λ _. spans.new.items ≡ spans.old.items ++ comm_spans tokens.now at (comm_of comm.now)) }
 {
-    let count = below_comm(comm, tokens, at, spans)?;
+    let count = match comm {
+        CommNode::Send(channel, value) => send_spans(channel, value, tokens, at, spans)?,
+        CommNode::Receive(channel) => expression_spans(channel, tokens, at + 1, spans)? + 1,
+        CommNode::Define(_, ok, channel) => {
+            let second = second_name_count(ok);
+            second + receive_spans(channel, tokens, at + second + 2, spans)? + 2
+        }
+        CommNode::Assign(item, ok, channel) => assign_spans(item, ok, channel, tokens, at, spans)?,
+    };
     add_node(tokens, at, count, spans)
 }
 

@@ -3,7 +3,7 @@
 ghost use Rattle.std.specs.Prelude.{◌≡◌, ◌+◌, ◌++◌, ◌∷◌, [], IfOk, map, option_map, sum_by};
 ghost use Rattle.syntax.specs.View.{arguments_of, expression_of, operation_of, right_of, part_of, place_of, simple_of};
 ghost use Rattle.spans.specs.Words.{EndsInReach, joined, arguments_count, size_count, operation_count, right_count, place_count, place_step, part_count, part_step, simple_count, expression_count, trailing_count as trailing_of};
-ghost use Rattle.spans.specs.Places.{under, expression_spans, arguments_spans, size_spans, below_operation, operation_spans, right_spans, place_span, places_spans, part_spans, parts_spans, below_simple, simple_spans};
+ghost use Rattle.spans.specs.Places.{under, expression_spans, arguments_spans, size_spans, operation_spans, right_spans, place_span, places_spans, part_spans, parts_spans, below_simple, simple_spans};
 
 use crate::expression::{expression_spans, trailing_count, values_spans};
 use crate::over::add_node;
@@ -46,34 +46,6 @@ fn size_spans(
     }
 }
 
-/// Adds the spans of the nodes below an operation. All its tokens are counted.
-fn below_operation(
-    operation: &OperationNode,
-    tokens: &[Token],
-    at: usize,
-    spans: &mut Vec<Span>,
-) -> Result<usize, Memory>
-    requires { EndsInReach at (operation_count (operation_of operation.now)) }
-    ensures count { IfOk result (λ count. count ≡ operation_count (operation_of operation.now)) }
-    ensures spans { IfOk result (λ _. spans.new.items ≡ spans.old.items ++ below_operation tokens.now at (operation_of operation.now)) }
-{
-    match operation {
-        OperationNode::Call(_, arguments) => Ok(
-            arguments_spans(arguments, tokens, at + 1, spans)? + 1,
-        ),
-        OperationNode::Receive(channel) => Ok(
-            expression_spans(channel, tokens, at + 1, spans)? + 1,
-        ),
-        OperationNode::Make(channel, size) => {
-            let count = type_spans(channel, tokens, at + 2, spans)?;
-            Ok(count + size_spans(size, tokens, at + 2 + count, spans)? + 3)
-        }
-        OperationNode::Length(channel) | OperationNode::Capacity(channel) => Ok(
-            expression_spans(channel, tokens, at + 2, spans)? + 3,
-        ),
-    }
-}
-
 /// Adds the spans of an operation.
 pub(crate) fn operation_spans(
     operation: &OperationNode,
@@ -85,7 +57,17 @@ pub(crate) fn operation_spans(
     ensures count { IfOk result (λ count. count ≡ operation_count (operation_of operation.now)) }
     ensures spans { IfOk result (λ _. spans.new.items ≡ spans.old.items ++ operation_spans tokens.now at (operation_of operation.now)) }
 {
-    let count = below_operation(operation, tokens, at, spans)?;
+    let count = match operation {
+        OperationNode::Call(_, arguments) => arguments_spans(arguments, tokens, at + 1, spans)? + 1,
+        OperationNode::Receive(channel) => expression_spans(channel, tokens, at + 1, spans)? + 1,
+        OperationNode::Make(channel, size) => {
+            let count = type_spans(channel, tokens, at + 2, spans)?;
+            count + size_spans(size, tokens, at + 2 + count, spans)? + 3
+        }
+        OperationNode::Length(channel) | OperationNode::Capacity(channel) => {
+            expression_spans(channel, tokens, at + 2, spans)? + 3
+        }
+    };
     add_node(tokens, at, count, spans)
 }
 
@@ -255,7 +237,7 @@ fn update_spans(
 }
 
 /// Adds the spans of the nodes below a simple statement. All its tokens are counted.
-pub(crate) fn below_simple(
+fn below_simple(
     simple: &SimpleNode,
     tokens: &[Token],
     at: usize,

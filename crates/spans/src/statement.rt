@@ -1,83 +1,18 @@
 //! Where the nodes of statements stand.
 
-ghost use Rattle.std.specs.Prelude.{◌≡◌, ◌+◌, ◌*◌, ◌++◌, IfOk, map, option_map};
-ghost use Rattle.syntax.specs.View.{type_of, right_of, statement_of, body_of, branch_of, otherwise_of, clause_of, clauses};
-ghost use Rattle.spans.specs.Words.{EndsInReach, joined, type_count, initial_count, statement_count, body_count, block_count, branch_count, otherwise_count, clauses_count, clause_count};
-ghost use Rattle.spans.specs.Places.{over, under, type_spans, initial_spans, statement_spans, body_spans, block_spans, branch_spans, otherwise_spans, clauses_spans, clause_spans};
+ghost use Rattle.std.specs.Prelude.{◌≡◌, ◌++◌, IfOk, map};
+ghost use Rattle.syntax.specs.View.{statement_of, body_of, branch_of, otherwise_of, clause_of, clauses};
+ghost use Rattle.spans.specs.Words.{EndsInReach, joined, statement_count, body_count, block_count, branch_count, otherwise_count, clauses_count, clause_count};
+ghost use Rattle.spans.specs.Places.{statement_spans, body_spans, block_spans, branch_spans, otherwise_spans, clauses_spans, clause_spans};
 
 use crate::expression::expression_spans;
 use crate::header::{for_head_spans, if_head_spans, initial_spans, returned_spans, start_spans};
 use crate::over::add_node;
-use crate::simple::{arguments_spans, below_simple, right_spans};
+use crate::simple::{arguments_spans, right_spans, simple_spans};
 use crate::types::type_spans;
 use go_text::{Memory, Span};
 use scanner::Token;
-use syntax::{ClauseNode, ElseNode, IfNode, RightNode, StatementNode, TypeNode};
-
-/// Adds the spans of the nodes below a `var` of so many names with a type. All its tokens are counted.
-fn typed_spans(
-    names: usize,
-    kind: &TypeNode,
-    right: &Option<RightNode>,
-    tokens: &[Token],
-    at: usize,
-    spans: &mut Vec<Span>,
-) -> Result<usize, Memory>
-    requires { EndsInReach at (joined (names * 2) + type_count (type_of kind.now) + initial_count (option_map right_of right.now) + 1) }
-    ensures count { IfOk result (λ count. count ≡ joined (names * 2) + type_count (type_of kind.now) + initial_count (option_map right_of right.now) + 1) }
-    ensures spans { IfOk result (λ _. spans.new.items ≡ spans.old.items ++ (type_spans tokens.now (at + 1 + joined (names * 2)) (type_of kind.now) ++ initial_spans tokens.now (at + 1 + joined (names * 2) + type_count (type_of kind.now)) (option_map right_of right.now))) }
-{
-    let names = (names * 2).saturating_sub(1);
-    let kind = type_spans(kind, tokens, at + 1 + names, spans)?;
-    let values = initial_spans(right, tokens, at + 1 + names + kind, spans)?;
-    Ok(names + kind + values + 1)
-}
-
-/// Adds the spans of the nodes below a statement. All its tokens are counted.
-#[cycle(statement_spans)]
-fn below_statement(
-    statement: &StatementNode,
-    tokens: &[Token],
-    at: usize,
-    spans: &mut Vec<Span>,
-) -> Result<usize, Memory>
-    requires { EndsInReach at (statement_count (statement_of statement.now)) }
-    ensures count { IfOk result (λ count. count ≡ statement_count (statement_of statement.now)) }
-    ensures spans { IfOk result (λ count. under spans.new.items (over tokens.now at count) ≡ spans.old.items ++ statement_spans tokens.now at (statement_of statement.now)) }
-{
-    match statement {
-        StatementNode::Empty => Ok(0),
-        StatementNode::Break | StatementNode::Continue => Ok(1),
-        StatementNode::Simple(simple) => below_simple(simple, tokens, at, spans),
-        StatementNode::If(branch) => below_branch(branch, tokens, at, spans),
-        StatementNode::Typed(names, kind, right) => {
-            typed_spans(names.len(), kind, right, tokens, at, spans)
-        }
-        StatementNode::Untyped(names, right) => {
-            let names = names.len() * 2;
-            let values = right_spans(right, tokens, at + 1 + names, spans)?;
-            Ok(names + values + 1)
-        }
-        StatementNode::Block(body) => block_spans(body.as_slice(), tokens, at, spans),
-        StatementNode::For(header, body) => {
-            let head = for_head_spans(header, tokens, at + 1, spans)?;
-            let body = block_spans(body.as_slice(), tokens, at + 1 + head, spans)?;
-            Ok(head + body + 1)
-        }
-        StatementNode::Select(clauses) => {
-            let count = clauses_spans(clauses.as_slice(), tokens, at + 2, spans)?;
-            Ok(count + 3)
-        }
-        StatementNode::Go(_, arguments) => {
-            let count = arguments_spans(arguments, tokens, at + 2, spans)?;
-            Ok(count + 2)
-        }
-        StatementNode::Return(returned) => {
-            let count = returned_spans(returned, tokens, at + 1, spans)?;
-            Ok(count + 1)
-        }
-    }
-}
+use syntax::{ClauseNode, ElseNode, IfNode, StatementNode};
 
 /// Adds the spans of a statement.
 #[cycle(statement_spans)]
@@ -91,8 +26,44 @@ fn statement_spans(
     ensures count { IfOk result (λ count. count ≡ statement_count (statement_of statement.now)) }
     ensures spans { IfOk result (λ _. spans.new.items ≡ spans.old.items ++ statement_spans tokens.now at (statement_of statement.now)) }
 {
-    let count = below_statement(statement, tokens, at, spans)?;
-    add_node(tokens, at, count, spans)
+    match statement {
+        StatementNode::Empty => add_node(tokens, at, 0, spans),
+        StatementNode::Break | StatementNode::Continue => add_node(tokens, at, 1, spans),
+        StatementNode::Simple(simple) => simple_spans(simple, tokens, at, spans),
+        StatementNode::If(branch) => branch_spans(branch, tokens, at, spans),
+        StatementNode::Typed(names, kind, right) => {
+            let names = (names.len() * 2).saturating_sub(1);
+            let kind = type_spans(kind, tokens, at + 1 + names, spans)?;
+            let values = initial_spans(right, tokens, at + 1 + names + kind, spans)?;
+            add_node(tokens, at, names + kind + values + 1, spans)
+        }
+        StatementNode::Untyped(names, right) => {
+            let names = names.len() * 2;
+            let values = right_spans(right, tokens, at + 1 + names, spans)?;
+            add_node(tokens, at, names + values + 1, spans)
+        }
+        StatementNode::Block(body) => {
+            let count = block_spans(body.as_slice(), tokens, at, spans)?;
+            add_node(tokens, at, count, spans)
+        }
+        StatementNode::For(header, body) => {
+            let head = for_head_spans(header, tokens, at + 1, spans)?;
+            let body = block_spans(body.as_slice(), tokens, at + 1 + head, spans)?;
+            add_node(tokens, at, head + body + 1, spans)
+        }
+        StatementNode::Select(clauses) => {
+            let count = clauses_spans(clauses.as_slice(), tokens, at + 2, spans)?;
+            add_node(tokens, at, count + 3, spans)
+        }
+        StatementNode::Go(_, arguments) => {
+            let count = arguments_spans(arguments, tokens, at + 2, spans)?;
+            add_node(tokens, at, count + 2, spans)
+        }
+        StatementNode::Return(returned) => {
+            let count = returned_spans(returned, tokens, at + 1, spans)?;
+            add_node(tokens, at, count + 1, spans)
+        }
+    }
 }
 
 /// Adds the spans of statements. They are counted with a mark behind each.
@@ -130,9 +101,9 @@ pub(crate) fn block_spans(
     add_node(tokens, at, count, spans)
 }
 
-/// Adds the spans of the nodes below an `if`. All its tokens are counted.
+/// Adds the spans of an `if`.
 #[cycle(statement_spans)]
-fn below_branch(
+fn branch_spans(
     branch: &IfNode,
     tokens: &[Token],
     at: usize,
@@ -140,7 +111,7 @@ fn below_branch(
 ) -> Result<usize, Memory>
     requires { EndsInReach at (branch_count (branch_of branch.now)) }
     ensures count { IfOk result (λ count. count ≡ branch_count (branch_of branch.now)) }
-    ensures spans { IfOk result (λ count. under spans.new.items (over tokens.now at count) ≡ spans.old.items ++ branch_spans tokens.now at (branch_of branch.now)) }
+    ensures spans { IfOk result (λ _. spans.new.items ≡ spans.old.items ++ branch_spans tokens.now at (branch_of branch.now)) }
 {
     let head = if_head_spans(&branch.header, tokens, at + 1, spans)?;
     let condition = expression_spans(&branch.condition, tokens, at + 1 + head, spans)?;
@@ -156,22 +127,7 @@ fn below_branch(
         at + 1 + head + condition + body,
         spans,
     )?;
-    Ok(head + condition + body + otherwise + 1)
-}
-
-/// Adds the spans of an `if`.
-#[cycle(statement_spans)]
-fn branch_spans(
-    branch: &IfNode,
-    tokens: &[Token],
-    at: usize,
-    spans: &mut Vec<Span>,
-) -> Result<usize, Memory>
-    requires { EndsInReach at (branch_count (branch_of branch.now)) }
-    ensures count { IfOk result (λ count. count ≡ branch_count (branch_of branch.now)) }
-    ensures spans { IfOk result (λ _. spans.new.items ≡ spans.old.items ++ branch_spans tokens.now at (branch_of branch.now)) }
-{
-    let count = below_branch(branch, tokens, at, spans)?;
+    let count = head + condition + body + otherwise + 1;
     add_node(tokens, at, count, spans)
 }
 

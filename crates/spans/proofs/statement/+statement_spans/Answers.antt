@@ -1,4 +1,4 @@
-use Rattle.std.proofs.Common.{◌≡◌, ◌∷◌, ◌++◌, ◌+◌, ◌*◌, suc, ℕ, length, map, option_map, drop, rules, arith, append_assoc, drop-cons, [], ◌-◌, ◌^◌, ◌<◌, List, Option, Vec, Global, refl}
+use Rattle.std.proofs.Common.{◌≡◌, ◌∷◌, ◌+◌, ◌*◌, suc, ℕ, length, map, option_map, drop, rules, arith, append_assoc, drop-cons, [], ◌-◌, ◌^◌, ◌<◌, List, Option, Vec, Global}
 use Rattle.std.proofs.lemmas.List.{length-map, append-nil, drop_all}
 use Rattle.std.proofs.lemmas.Result.{IfOk-equal}
 use Rattle.syntax.specs.declared.node.ElseNode.TheFolds.{the_lemmas}
@@ -12,13 +12,13 @@ use Rattle.syntax.specs.declared.node.ReturnNode.{ReturnNode}
 use Rattle.syntax.specs.declared.node.ClauseNode.{ClauseNode}
 use Rattle.syntax.specs.declared.node.StatementNode.{StatementNode}
 use Rattle.syntax.specs.declared.node.StatementNode.TheVariants as nodes
-use Rattle.syntax.specs.Tree.{Alone, VarTyped, VarUntyped, Block, For, Select, Go, Return, Conditional, Statement, TypeExpression, Right}
-use Rattle.syntax.specs.View.{name_of, type_of, expression_of, simple_of, arguments_of, right_of, if_head_of, for_head_of, comm_of, returned_of, statement_of, body_of, branch_of, otherwise_of, clause_of, clauses}
-use Rattle.spans.specs.Words.{braced, expression_count, if_head_count, branch_count, otherwise_count, statement_count, body_count, clauses_count, clause_count, EndsInReach, type_count, initial_count, right_count}
-use Rattle.spans.specs.Places.{over, statement_spans, body_spans, clause_spans, clauses_spans}
+use Rattle.syntax.specs.Tree.{VarTyped, VarUntyped, Block, For, Select, Go, Return, Conditional, Statement, TypeExpression, Right}
+use Rattle.syntax.specs.View.{name_of, type_of, expression_of, arguments_of, right_of, if_head_of, for_head_of, comm_of, returned_of, statement_of, body_of, branch_of, otherwise_of, clause_of, clauses}
+use Rattle.spans.specs.Words.{joined, statement_count, body_count, clauses_count, clause_count, EndsInReach, type_count, initial_count, right_count}
+use Rattle.spans.specs.Places.{statement_spans, body_spans, clause_spans, clauses_spans}
 use Rattle.syntax.proofs.node.StatementNode.TheLaws.{the_size as statement_depth}
 use Rattle.syntax.proofs.node.ClauseNode.TheLaws.{the_size as clause_depth}
-use Rattle.spans.proofs.Walks.{next_spans, added_under, falls_within}
+use Rattle.spans.proofs.Walks.{next_spans, falls_within}
 use Rattle.spans.proofs.statement.+statement_spans.Goals as goal
 
 typed_is : (s : StatementNode) (names : Vec Name Global) (kind : TypeNode) (right : Option RightNode) → s ≡ nodes.Typed names kind right
@@ -45,11 +45,6 @@ return_is s returned is = search (rules, the_lemmas)
 
 branch_is : (branch : IfNode) → branch_of branch ≡ Conditional (if_head_of branch.header) (expression_of branch.condition) (body_of branch.body.items) (otherwise_of branch.otherwise)
 branch_is branch = search (rules, the_lemmas)
-
--- how far an `if` reaches, by its parts
-branch_reach : (at : ℕ) (branch : IfNode) → EndsInReach at (branch_count (branch_of branch))
-    → at + (if_head_count (if_head_of branch.header) + expression_count (expression_of branch.condition) + braced (body_count (body_of branch.body.items)) + otherwise_count (otherwise_of branch.otherwise) + 1) < 2 ^ 40
-branch_reach at branch reach = rw (branch_is branch) at reach
 
 clause_is : (clause : ClauseNode) → clause_of clause ≡ record { comm = option_map comm_of clause.comm; body = body_of clause.body.items }
 clause_is clause = search (rules, the_lemmas)
@@ -104,8 +99,8 @@ pub block_spans-returns-clause-spans : goal.block_spans-returns-clause-spans
 block_spans-returns-clause-spans t c =
     IfOk-equal c.add_node.result _ _ _ c.add_node.ensures.spans (rw (c.saturating_sub-count.ensures, c.in_ok-body_spans.ensures.count, c.in_ok-body_spans.ensures.spans) (simp append_assoc))
 
-pub below_branch-returns-clause-spans : goal.below_branch-returns-clause-spans
-below_branch-returns-clause-spans t c =
+pub branch_spans-returns-clause-spans : goal.branch_spans-returns-clause-spans
+branch_spans-returns-clause-spans t c =
     let branch = c.args.branch.now in
     let is : branch_of branch ≡ Conditional (if_head_of branch.header) (expression_of branch.condition) (body_of branch.body.items) (otherwise_of branch.otherwise) = branch_is branch in
     let head = c.in_ok-head.ensures.count in
@@ -114,7 +109,8 @@ below_branch-returns-clause-spans t c =
     let second = rw head at c.in_ok-condition.ensures.spans in
     let third = rw (c.as_slice.ensures.value, head, condition) at c.in_ok-body.ensures.spans in
     let fourth = rw (head, condition, body) at c.in_ok-otherwise.ensures.spans in
-    rw (is, fourth, third, second, c.in_ok-head.ensures.spans, head, condition, body, c.in_ok-otherwise.ensures.count) (simp append_assoc)
+    IfOk-equal c.add_node.result _ _ _ c.add_node.ensures.spans
+    (rw (is, fourth, third, second, c.in_ok-head.ensures.spans, head, condition, body, c.in_ok-otherwise.ensures.count) (simp append_assoc))
 
 pub clause_spans-returns-clause-spans : goal.clause_spans-returns-clause-spans
 clause_spans-returns-clause-spans t c =
@@ -125,38 +121,58 @@ clause_spans-returns-clause-spans t c =
     IfOk-equal c.add_node.result _ _ _ c.add_node.ensures.spans
     (rw (is, second, c.in_ok-start.ensures.spans, c.saturating_sub.ensures, c.in_ok-start.ensures.count, body) (simp append_assoc))
 
-pub below_statement-returns-in_ok-values-in-Untyped-clause-spans : goal.below_statement-returns-in_ok-values-in-Untyped-clause-spans
-below_statement-returns-in_ok-values-in-Untyped-clause-spans t c =
+pub statement_spans-returns-in_ok-values-in-Typed-clause-spans : goal.statement_spans-returns-in_ok-values-in-Typed-clause-spans
+statement_spans-returns-in_ok-values-in-Typed-clause-spans t c =
+    let arm = c.in-Typed in
+    let is : statement_of c.args.statement.now ≡ VarTyped (map name_of arm.names.items) (type_of arm.kind) (option_map right_of arm.right) = typed_is _ _ _ _ c.in-Typed.is in
+    let names : c.saturating_sub-names.result ≡ joined (length (map name_of arm.names.items) * 2) = omega (arith, length-map arm.names.items name_of) in
+    let kind = c.in_ok-kind-in-Typed.ensures.count in
+    let first = rw names at c.in_ok-kind-in-Typed.ensures.spans in
+    let second = rw (names, kind) at c.in_ok-values-in-Typed.ensures.spans in
+    IfOk-equal c.add_node-in-Typed.result _ _ _ c.add_node-in-Typed.ensures.spans
+    (rw (is, second, first, names, kind, c.in_ok-values-in-Typed.ensures.count) (simp append_assoc))
+
+pub statement_spans-returns-in_ok-values-in-Untyped-clause-spans : goal.statement_spans-returns-in_ok-values-in-Untyped-clause-spans
+statement_spans-returns-in_ok-values-in-Untyped-clause-spans t c =
     let arm = c.in-Untyped in
     let is : statement_of c.args.statement.now ≡ VarUntyped (map name_of arm.names.items) (right_of arm.right) = untyped_is _ _ _ c.in-Untyped.is in
     let names : c.len-names.result ≡ length (map name_of arm.names.items) = omega (arith, length-map arm.names.items name_of) in
     let first = rw names at c.in_ok-values-in-Untyped.ensures.spans in
-    rw (is, first, names, c.in_ok-values-in-Untyped.ensures.count) (simp append_assoc)
+    IfOk-equal c.add_node-in-Untyped.result _ _ _ c.add_node-in-Untyped.ensures.spans
+    (rw (is, first, names, c.in_ok-values-in-Untyped.ensures.count) (simp append_assoc))
 
-pub below_statement-returns-in_ok-body-in-For-clause-spans : goal.below_statement-returns-in_ok-body-in-For-clause-spans
-below_statement-returns-in_ok-body-in-For-clause-spans t c =
+pub statement_spans-returns-in_ok-count-in-Block-clause-spans : goal.statement_spans-returns-in_ok-count-in-Block-clause-spans
+statement_spans-returns-in_ok-count-in-Block-clause-spans t c =
+    let is : statement_of c.args.statement.now ≡ Block (body_of c.in-Block.body.items) = block_is _ _ c.in-Block.is in
+    let count = rw c.as_slice.ensures.value at c.in_ok-count-in-Block.ensures.count in
+    let first = rw c.as_slice.ensures.value at c.in_ok-count-in-Block.ensures.spans in
+    IfOk-equal c.add_node-in-Block.result _ _ _ c.add_node-in-Block.ensures.spans (rw (is, first, count) (simp append_assoc))
+
+pub statement_spans-returns-in_ok-body-in-For-clause-spans : goal.statement_spans-returns-in_ok-body-in-For-clause-spans
+statement_spans-returns-in_ok-body-in-For-clause-spans t c =
     let is : statement_of c.args.statement.now ≡ For (for_head_of c.in-For.header) (body_of c.in-For.body.items) = for_is _ _ _ c.in-For.is in
     let head = c.in_ok-head-in-For.ensures.count in
     let body = rw c.as_slice-in-For.ensures.value at c.in_ok-body-in-For.ensures.count in
     let second = rw (c.as_slice-in-For.ensures.value, head) at c.in_ok-body-in-For.ensures.spans in
-    rw (is, second, c.in_ok-head-in-For.ensures.spans, head, body) (simp append_assoc)
+    IfOk-equal c.add_node-in-For.result _ _ _ c.add_node-in-For.ensures.spans
+    (rw (is, second, c.in_ok-head-in-For.ensures.spans, head, body) (simp append_assoc))
 
-pub below_statement-returns-in_ok-count-in-Select-clause-spans : goal.below_statement-returns-in_ok-count-in-Select-clause-spans
-below_statement-returns-in_ok-count-in-Select-clause-spans t c =
+pub statement_spans-returns-in_ok-count-in-Select-clause-spans : goal.statement_spans-returns-in_ok-count-in-Select-clause-spans
+statement_spans-returns-in_ok-count-in-Select-clause-spans t c =
     let is : statement_of c.args.statement.now ≡ Select (clauses (map clause_of c.in-Select.clauses.items)) = select_is _ _ c.in-Select.is in
     let count = rw c.as_slice-in-Select.ensures.value at c.in_ok-count-in-Select.ensures.count in
     let first = rw c.as_slice-in-Select.ensures.value at c.in_ok-count-in-Select.ensures.spans in
-    rw (is, first, count) (simp append_assoc)
+    IfOk-equal c.add_node-in-Select.result _ _ _ c.add_node-in-Select.ensures.spans (rw (is, first, count) (simp append_assoc))
 
-pub below_statement-returns-in_ok-count-in-Go-clause-spans : goal.below_statement-returns-in_ok-count-in-Go-clause-spans
-below_statement-returns-in_ok-count-in-Go-clause-spans t c =
+pub statement_spans-returns-in_ok-count-in-Go-clause-spans : goal.statement_spans-returns-in_ok-count-in-Go-clause-spans
+statement_spans-returns-in_ok-count-in-Go-clause-spans t c =
     let is : statement_of c.args.statement.now ≡ Go (name_of c.in-Go.field-0) (arguments_of c.in-Go.arguments) = go_is _ _ _ c.in-Go.is in
-    rw (is, c.in_ok-count-in-Go.ensures.spans, c.in_ok-count-in-Go.ensures.count) (simp append_assoc)
+    IfOk-equal c.add_node-in-Go.result _ _ _ c.add_node-in-Go.ensures.spans (rw (is, c.in_ok-count-in-Go.ensures.spans, c.in_ok-count-in-Go.ensures.count) (simp append_assoc))
 
-pub below_statement-returns-in_ok-count-in-Return-clause-spans : goal.below_statement-returns-in_ok-count-in-Return-clause-spans
-below_statement-returns-in_ok-count-in-Return-clause-spans t c =
+pub statement_spans-returns-in_ok-count-in-Return-clause-spans : goal.statement_spans-returns-in_ok-count-in-Return-clause-spans
+statement_spans-returns-in_ok-count-in-Return-clause-spans t c =
     let is : statement_of c.args.statement.now ≡ Return (returned_of c.in-Return.returned) = return_is _ _ c.in-Return.is in
-    rw (is, c.in_ok-count-in-Return.ensures.spans, c.in_ok-count-in-Return.ensures.count) (simp append_assoc)
+    IfOk-equal c.add_node-in-Return.result _ _ _ c.add_node-in-Return.ensures.spans (rw (is, c.in_ok-count-in-Return.ensures.spans, c.in_ok-count-in-Return.ensures.count) (simp append_assoc))
 
 pub body_spans-returns-clause-count : goal.body_spans-returns-clause-count
 body_spans-returns-clause-count t c =
@@ -178,50 +194,53 @@ clauses_spans-returns-clause-spans t c =
     let none : drop c.loop-clause.clause-index c.args.all.now ≡ [] = drop_all c.loop-clause.clause-index c.args.all.now c.loop-clause-test.false in
     rw append-nil at (rw none at c.loop-clause.invariant.1)
 
-pub below_branch-if_head_spans-requires : goal.below_branch-if_head_spans-requires
-below_branch-if_head_spans-requires t c = omega (arith, branch_reach c.args.at c.args.branch.now c.requires)
+pub branch_spans-if_head_spans-requires : goal.branch_spans-if_head_spans-requires
+branch_spans-if_head_spans-requires t c = search (rules, the_lemmas)
 
-pub below_branch-overflow_add-at-3 : goal.below_branch-overflow_add-at-3
-below_branch-overflow_add-at-3 t c = omega (arith, branch_reach c.args.at c.args.branch.now c.requires, c.in_ok-head.ensures.count)
+pub branch_spans-overflow_add-at-3 : goal.branch_spans-overflow_add-at-3
+branch_spans-overflow_add-at-3 t c = search (rules, the_lemmas)
 
-pub below_branch-expression_spans-requires : goal.below_branch-expression_spans-requires
-below_branch-expression_spans-requires t c = omega (arith, branch_reach c.args.at c.args.branch.now c.requires, c.in_ok-head.ensures.count)
+pub branch_spans-expression_spans-requires : goal.branch_spans-expression_spans-requires
+branch_spans-expression_spans-requires t c = search (rules, the_lemmas)
 
-pub below_branch-overflow_add-at-5 : goal.below_branch-overflow_add-at-5
-below_branch-overflow_add-at-5 t c = omega (arith, branch_reach c.args.at c.args.branch.now c.requires, c.in_ok-head.ensures.count, c.in_ok-condition.ensures.count)
+pub branch_spans-overflow_add-at-5 : goal.branch_spans-overflow_add-at-5
+branch_spans-overflow_add-at-5 t c = search (rules, the_lemmas)
 
-pub below_branch-overflow_add-at-6 : goal.below_branch-overflow_add-at-6
-below_branch-overflow_add-at-6 t c = omega (arith, branch_reach c.args.at c.args.branch.now c.requires, c.in_ok-head.ensures.count, c.in_ok-condition.ensures.count)
+pub branch_spans-overflow_add-at-6 : goal.branch_spans-overflow_add-at-6
+branch_spans-overflow_add-at-6 t c = search (rules, the_lemmas)
 
-pub below_branch-block_spans-requires : goal.below_branch-block_spans-requires
-below_branch-block_spans-requires t c = search (rules, the_lemmas)
+pub branch_spans-block_spans-requires : goal.branch_spans-block_spans-requires
+branch_spans-block_spans-requires t c = search (rules, the_lemmas)
 
-pub below_branch-overflow_add-at-8 : goal.below_branch-overflow_add-at-8
-below_branch-overflow_add-at-8 t c = omega (arith, branch_reach c.args.at c.args.branch.now c.requires, c.in_ok-head.ensures.count, c.in_ok-condition.ensures.count, rw c.as_slice.ensures.value at c.in_ok-body.ensures.count)
+pub branch_spans-overflow_add-at-8 : goal.branch_spans-overflow_add-at-8
+branch_spans-overflow_add-at-8 t c = search (rules, the_lemmas)
 
-pub below_branch-overflow_add-at-9 : goal.below_branch-overflow_add-at-9
-below_branch-overflow_add-at-9 t c = omega (arith, branch_reach c.args.at c.args.branch.now c.requires, c.in_ok-head.ensures.count, c.in_ok-condition.ensures.count, rw c.as_slice.ensures.value at c.in_ok-body.ensures.count)
+pub branch_spans-overflow_add-at-9 : goal.branch_spans-overflow_add-at-9
+branch_spans-overflow_add-at-9 t c = search (rules, the_lemmas)
 
-pub below_branch-overflow_add-at-10 : goal.below_branch-overflow_add-at-10
-below_branch-overflow_add-at-10 t c = omega (arith, branch_reach c.args.at c.args.branch.now c.requires, c.in_ok-head.ensures.count, c.in_ok-condition.ensures.count, rw c.as_slice.ensures.value at c.in_ok-body.ensures.count)
+pub branch_spans-overflow_add-at-10 : goal.branch_spans-overflow_add-at-10
+branch_spans-overflow_add-at-10 t c = search (rules, the_lemmas)
 
-pub below_branch-otherwise_spans-requires : goal.below_branch-otherwise_spans-requires
-below_branch-otherwise_spans-requires t c = search (rules, the_lemmas)
+pub branch_spans-otherwise_spans-requires : goal.branch_spans-otherwise_spans-requires
+branch_spans-otherwise_spans-requires t c = search (rules, the_lemmas)
 
-pub below_branch-overflow_add-result : goal.below_branch-overflow_add-result
-below_branch-overflow_add-result t c = omega (arith, branch_reach c.args.at c.args.branch.now c.requires, c.in_ok-head.ensures.count, c.in_ok-condition.ensures.count, rw c.as_slice.ensures.value at c.in_ok-body.ensures.count, c.in_ok-otherwise.ensures.count)
+pub branch_spans-overflow_add-count : goal.branch_spans-overflow_add-count
+branch_spans-overflow_add-count t c = search (rules, the_lemmas)
 
-pub below_branch-overflow_add-result-2 : goal.below_branch-overflow_add-result-2
-below_branch-overflow_add-result-2 t c = omega (arith, branch_reach c.args.at c.args.branch.now c.requires, c.in_ok-head.ensures.count, c.in_ok-condition.ensures.count, rw c.as_slice.ensures.value at c.in_ok-body.ensures.count, c.in_ok-otherwise.ensures.count)
+pub branch_spans-overflow_add-count-2 : goal.branch_spans-overflow_add-count-2
+branch_spans-overflow_add-count-2 t c = search (rules, the_lemmas)
 
-pub below_branch-overflow_add-result-3 : goal.below_branch-overflow_add-result-3
-below_branch-overflow_add-result-3 t c = omega (arith, branch_reach c.args.at c.args.branch.now c.requires, c.in_ok-head.ensures.count, c.in_ok-condition.ensures.count, rw c.as_slice.ensures.value at c.in_ok-body.ensures.count, c.in_ok-otherwise.ensures.count)
+pub branch_spans-overflow_add-count-3 : goal.branch_spans-overflow_add-count-3
+branch_spans-overflow_add-count-3 t c = search (rules, the_lemmas)
 
-pub below_branch-overflow_add-result-4 : goal.below_branch-overflow_add-result-4
-below_branch-overflow_add-result-4 t c = omega (arith, branch_reach c.args.at c.args.branch.now c.requires, c.in_ok-head.ensures.count, c.in_ok-condition.ensures.count, rw c.as_slice.ensures.value at c.in_ok-body.ensures.count, c.in_ok-otherwise.ensures.count)
+pub branch_spans-overflow_add-count-4 : goal.branch_spans-overflow_add-count-4
+branch_spans-overflow_add-count-4 t c = search (rules, the_lemmas)
 
-pub below_branch-returns-clause-count : goal.below_branch-returns-clause-count
-below_branch-returns-clause-count t c = rw (branch_is c.args.branch.now) (omega (arith, c.in_ok-head.ensures.count, c.in_ok-condition.ensures.count, rw c.as_slice.ensures.value at c.in_ok-body.ensures.count, c.in_ok-otherwise.ensures.count))
+pub branch_spans-add_node-requires : goal.branch_spans-add_node-requires
+branch_spans-add_node-requires t c = search (rules, the_lemmas)
+
+pub branch_spans-returns-clause-count : goal.branch_spans-returns-clause-count
+branch_spans-returns-clause-count t c = search (rules, the_lemmas)
 
 pub clause_spans-start_spans-requires : goal.clause_spans-start_spans-requires
 clause_spans-start_spans-requires t c = search (rules, the_lemmas)
@@ -271,138 +290,176 @@ otherwise_spans-returns-in_ok-branch_spans-in-If-clause-count t c = search (rule
 pub otherwise_spans-returns-in_ok-branch_spans-in-If-clause-spans : goal.otherwise_spans-returns-in_ok-branch_spans-in-If-clause-spans
 otherwise_spans-returns-in_ok-branch_spans-in-If-clause-spans t c = search (rules, the_lemmas)
 
-pub below_statement-below_simple-requires : goal.below_statement-below_simple-requires
-below_statement-below_simple-requires t c = search (rules, the_lemmas)
+pub statement_spans-simple_spans-requires : goal.statement_spans-simple_spans-requires
+statement_spans-simple_spans-requires t c = search (rules, the_lemmas)
 
-pub below_statement-below_branch-requires : goal.below_statement-below_branch-requires
-below_statement-below_branch-requires t c = search (rules, the_lemmas)
+pub statement_spans-branch_spans-requires : goal.statement_spans-branch_spans-requires
+statement_spans-branch_spans-requires t c = search (rules, the_lemmas)
 
-pub below_statement-overflow_add-at-in-Untyped : goal.below_statement-overflow_add-at-in-Untyped
-below_statement-overflow_add-at-in-Untyped t c =
-    omega (arith, untyped_reach c.args.at (statement_of c.args.statement.now) c.in-Untyped.names.items (right_of c.in-Untyped.right) (untyped_is _ _ _ c.in-Untyped.is) c.requires)
-
-pub below_statement-right_spans-requires : goal.below_statement-right_spans-requires
-below_statement-right_spans-requires t c =
-    omega (arith, untyped_reach c.args.at (statement_of c.args.statement.now) c.in-Untyped.names.items (right_of c.in-Untyped.right) (untyped_is _ _ _ c.in-Untyped.is) c.requires)
-
-pub below_statement-overflow_add-result : goal.below_statement-overflow_add-result
-below_statement-overflow_add-result t c =
-    omega (arith, untyped_reach c.args.at (statement_of c.args.statement.now) c.in-Untyped.names.items (right_of c.in-Untyped.right) (untyped_is _ _ _ c.in-Untyped.is) c.requires, c.in_ok-values-in-Untyped.ensures.count)
-
-pub below_statement-overflow_add-result-in-Untyped : goal.below_statement-overflow_add-result-in-Untyped
-below_statement-overflow_add-result-in-Untyped t c =
-    omega (arith, untyped_reach c.args.at (statement_of c.args.statement.now) c.in-Untyped.names.items (right_of c.in-Untyped.right) (untyped_is _ _ _ c.in-Untyped.is) c.requires, c.in_ok-values-in-Untyped.ensures.count)
-
-pub below_statement-block_spans-requires : goal.below_statement-block_spans-requires
-below_statement-block_spans-requires t c = search (rules, the_lemmas)
-
-pub below_statement-for_head_spans-requires : goal.below_statement-for_head_spans-requires
-below_statement-for_head_spans-requires t c = search (rules, the_lemmas)
-
-pub below_statement-overflow_add-at-in-For-3 : goal.below_statement-overflow_add-at-in-For-3
-below_statement-overflow_add-at-in-For-3 t c = search (rules, the_lemmas)
-
-pub below_statement-block_spans-requires-in-For : goal.below_statement-block_spans-requires-in-For
-below_statement-block_spans-requires-in-For t c = search (rules, the_lemmas)
-
-pub below_statement-overflow_add-result-in-For : goal.below_statement-overflow_add-result-in-For
-below_statement-overflow_add-result-in-For t c = search (rules, the_lemmas)
-
-pub below_statement-overflow_add-result-in-For-2 : goal.below_statement-overflow_add-result-in-For-2
-below_statement-overflow_add-result-in-For-2 t c = search (rules, the_lemmas)
-
-pub below_statement-clauses_spans-requires : goal.below_statement-clauses_spans-requires
-below_statement-clauses_spans-requires t c = search (rules, the_lemmas)
-
-pub below_statement-overflow_add-result-in-Select : goal.below_statement-overflow_add-result-in-Select
-below_statement-overflow_add-result-in-Select t c = search (rules, the_lemmas)
-
-pub below_statement-arguments_spans-requires : goal.below_statement-arguments_spans-requires
-below_statement-arguments_spans-requires t c = search (rules, the_lemmas)
-
-pub below_statement-overflow_add-result-in-Go : goal.below_statement-overflow_add-result-in-Go
-below_statement-overflow_add-result-in-Go t c = search (rules, the_lemmas)
-
-pub below_statement-returned_spans-requires : goal.below_statement-returned_spans-requires
-below_statement-returned_spans-requires t c = search (rules, the_lemmas)
-
-pub below_statement-overflow_add-result-in-Return : goal.below_statement-overflow_add-result-in-Return
-below_statement-overflow_add-result-in-Return t c = search (rules, the_lemmas)
-
-pub below_statement-returns-in-Empty-clause-count : goal.below_statement-returns-in-Empty-clause-count
-below_statement-returns-in-Empty-clause-count t c = search (rules, the_lemmas)
-
-pub below_statement-returns-in-Empty-clause-spans : goal.below_statement-returns-in-Empty-clause-spans
-below_statement-returns-in-Empty-clause-spans t c = search (rules, the_lemmas)
-
-pub below_statement-returns-in-Simple-clause-count : goal.below_statement-returns-in-Simple-clause-count
-below_statement-returns-in-Simple-clause-count t c = search (rules, the_lemmas)
-
-pub below_statement-returns-in-If-clause-count : goal.below_statement-returns-in-If-clause-count
-below_statement-returns-in-If-clause-count t c = search (rules, the_lemmas)
-
-pub below_statement-returns-in-If-clause-spans : goal.below_statement-returns-in-If-clause-spans
-below_statement-returns-in-If-clause-spans t c = search (rules, the_lemmas)
-
-pub below_statement-returns-in_ok-values-in-Untyped-clause-count : goal.below_statement-returns-in_ok-values-in-Untyped-clause-count
-below_statement-returns-in_ok-values-in-Untyped-clause-count t c =
-    let arm = c.in-Untyped in
-    let is : statement_of c.args.statement.now ≡ VarUntyped (map name_of arm.names.items) (right_of arm.right) = untyped_is _ _ _ c.in-Untyped.is in
-    rw is (omega (arith, length-map arm.names.items name_of, c.in_ok-values-in-Untyped.ensures.count))
-
-pub below_statement-typed_spans-requires : goal.below_statement-typed_spans-requires
-below_statement-typed_spans-requires t c =
+pub statement_spans-overflow_add-at-in-Typed : goal.statement_spans-overflow_add-at-in-Typed
+statement_spans-overflow_add-at-in-Typed t c =
     omega (arith, typed_reach c.args.at (statement_of c.args.statement.now) c.in-Typed.names.items (type_of c.in-Typed.kind) (option_map right_of c.in-Typed.right) (typed_is _ _ _ _ c.in-Typed.is) c.requires)
 
-pub below_statement-returns-in-Typed-clause-count : goal.below_statement-returns-in-Typed-clause-count
-below_statement-returns-in-Typed-clause-count t c =
+pub statement_spans-type_spans-requires : goal.statement_spans-type_spans-requires
+statement_spans-type_spans-requires t c =
+    omega (arith, typed_reach c.args.at (statement_of c.args.statement.now) c.in-Typed.names.items (type_of c.in-Typed.kind) (option_map right_of c.in-Typed.right) (typed_is _ _ _ _ c.in-Typed.is) c.requires)
+
+pub statement_spans-overflow_add-at-in-Typed-3 : goal.statement_spans-overflow_add-at-in-Typed-3
+statement_spans-overflow_add-at-in-Typed-3 t c =
+    omega (arith, typed_reach c.args.at (statement_of c.args.statement.now) c.in-Typed.names.items (type_of c.in-Typed.kind) (option_map right_of c.in-Typed.right) (typed_is _ _ _ _ c.in-Typed.is) c.requires)
+
+pub statement_spans-overflow_add-at-in-Typed-4 : goal.statement_spans-overflow_add-at-in-Typed-4
+statement_spans-overflow_add-at-in-Typed-4 t c =
+    omega (arith, typed_reach c.args.at (statement_of c.args.statement.now) c.in-Typed.names.items (type_of c.in-Typed.kind) (option_map right_of c.in-Typed.right) (typed_is _ _ _ _ c.in-Typed.is) c.requires, c.in_ok-kind-in-Typed.ensures.count)
+
+pub statement_spans-initial_spans-requires : goal.statement_spans-initial_spans-requires
+statement_spans-initial_spans-requires t c =
+    omega (arith, typed_reach c.args.at (statement_of c.args.statement.now) c.in-Typed.names.items (type_of c.in-Typed.kind) (option_map right_of c.in-Typed.right) (typed_is _ _ _ _ c.in-Typed.is) c.requires, c.in_ok-kind-in-Typed.ensures.count)
+
+pub statement_spans-overflow_add-names : goal.statement_spans-overflow_add-names
+statement_spans-overflow_add-names t c =
+    omega (arith, typed_reach c.args.at (statement_of c.args.statement.now) c.in-Typed.names.items (type_of c.in-Typed.kind) (option_map right_of c.in-Typed.right) (typed_is _ _ _ _ c.in-Typed.is) c.requires, c.in_ok-kind-in-Typed.ensures.count)
+
+pub statement_spans-overflow_add-names-in-Typed : goal.statement_spans-overflow_add-names-in-Typed
+statement_spans-overflow_add-names-in-Typed t c =
+    omega (arith, typed_reach c.args.at (statement_of c.args.statement.now) c.in-Typed.names.items (type_of c.in-Typed.kind) (option_map right_of c.in-Typed.right) (typed_is _ _ _ _ c.in-Typed.is) c.requires, c.in_ok-kind-in-Typed.ensures.count, c.in_ok-values-in-Typed.ensures.count)
+
+pub statement_spans-overflow_add-names-in-Typed-2 : goal.statement_spans-overflow_add-names-in-Typed-2
+statement_spans-overflow_add-names-in-Typed-2 t c =
+    omega (arith, typed_reach c.args.at (statement_of c.args.statement.now) c.in-Typed.names.items (type_of c.in-Typed.kind) (option_map right_of c.in-Typed.right) (typed_is _ _ _ _ c.in-Typed.is) c.requires, c.in_ok-kind-in-Typed.ensures.count, c.in_ok-values-in-Typed.ensures.count)
+
+pub statement_spans-add_node-requires-in-Typed : goal.statement_spans-add_node-requires-in-Typed
+statement_spans-add_node-requires-in-Typed t c =
+    omega (arith, typed_reach c.args.at (statement_of c.args.statement.now) c.in-Typed.names.items (type_of c.in-Typed.kind) (option_map right_of c.in-Typed.right) (typed_is _ _ _ _ c.in-Typed.is) c.requires, c.in_ok-kind-in-Typed.ensures.count, c.in_ok-values-in-Typed.ensures.count)
+
+pub statement_spans-overflow_add-at-in-Untyped-2 : goal.statement_spans-overflow_add-at-in-Untyped-2
+statement_spans-overflow_add-at-in-Untyped-2 t c =
+    omega (arith, untyped_reach c.args.at (statement_of c.args.statement.now) c.in-Untyped.names.items (right_of c.in-Untyped.right) (untyped_is _ _ _ c.in-Untyped.is) c.requires)
+
+pub statement_spans-right_spans-requires : goal.statement_spans-right_spans-requires
+statement_spans-right_spans-requires t c =
+    omega (arith, untyped_reach c.args.at (statement_of c.args.statement.now) c.in-Untyped.names.items (right_of c.in-Untyped.right) (untyped_is _ _ _ c.in-Untyped.is) c.requires)
+
+pub statement_spans-overflow_add-names-in-Untyped : goal.statement_spans-overflow_add-names-in-Untyped
+statement_spans-overflow_add-names-in-Untyped t c =
+    omega (arith, untyped_reach c.args.at (statement_of c.args.statement.now) c.in-Untyped.names.items (right_of c.in-Untyped.right) (untyped_is _ _ _ c.in-Untyped.is) c.requires, c.in_ok-values-in-Untyped.ensures.count)
+
+pub statement_spans-overflow_add-names-in-Untyped-2 : goal.statement_spans-overflow_add-names-in-Untyped-2
+statement_spans-overflow_add-names-in-Untyped-2 t c =
+    omega (arith, untyped_reach c.args.at (statement_of c.args.statement.now) c.in-Untyped.names.items (right_of c.in-Untyped.right) (untyped_is _ _ _ c.in-Untyped.is) c.requires, c.in_ok-values-in-Untyped.ensures.count)
+
+pub statement_spans-add_node-requires-in-Untyped : goal.statement_spans-add_node-requires-in-Untyped
+statement_spans-add_node-requires-in-Untyped t c =
+    omega (arith, untyped_reach c.args.at (statement_of c.args.statement.now) c.in-Untyped.names.items (right_of c.in-Untyped.right) (untyped_is _ _ _ c.in-Untyped.is) c.requires, c.in_ok-values-in-Untyped.ensures.count)
+
+pub statement_spans-block_spans-requires : goal.statement_spans-block_spans-requires
+statement_spans-block_spans-requires t c = search (rules, the_lemmas)
+
+pub statement_spans-add_node-requires-in-Block : goal.statement_spans-add_node-requires-in-Block
+statement_spans-add_node-requires-in-Block t c = search (rules, the_lemmas)
+
+pub statement_spans-for_head_spans-requires : goal.statement_spans-for_head_spans-requires
+statement_spans-for_head_spans-requires t c = search (rules, the_lemmas)
+
+pub statement_spans-overflow_add-at-in-For-3 : goal.statement_spans-overflow_add-at-in-For-3
+statement_spans-overflow_add-at-in-For-3 t c = search (rules, the_lemmas)
+
+pub statement_spans-block_spans-requires-in-For : goal.statement_spans-block_spans-requires-in-For
+statement_spans-block_spans-requires-in-For t c = search (rules, the_lemmas)
+
+pub statement_spans-overflow_add-head : goal.statement_spans-overflow_add-head
+statement_spans-overflow_add-head t c = search (rules, the_lemmas)
+
+pub statement_spans-overflow_add-head-in-For : goal.statement_spans-overflow_add-head-in-For
+statement_spans-overflow_add-head-in-For t c = search (rules, the_lemmas)
+
+pub statement_spans-add_node-requires-in-For : goal.statement_spans-add_node-requires-in-For
+statement_spans-add_node-requires-in-For t c = search (rules, the_lemmas)
+
+pub statement_spans-clauses_spans-requires : goal.statement_spans-clauses_spans-requires
+statement_spans-clauses_spans-requires t c = search (rules, the_lemmas)
+
+pub statement_spans-overflow_add-count : goal.statement_spans-overflow_add-count
+statement_spans-overflow_add-count t c = search (rules, the_lemmas)
+
+pub statement_spans-add_node-requires-in-Select : goal.statement_spans-add_node-requires-in-Select
+statement_spans-add_node-requires-in-Select t c = search (rules, the_lemmas)
+
+pub statement_spans-arguments_spans-requires : goal.statement_spans-arguments_spans-requires
+statement_spans-arguments_spans-requires t c = search (rules, the_lemmas)
+
+pub statement_spans-overflow_add-count-in-Go : goal.statement_spans-overflow_add-count-in-Go
+statement_spans-overflow_add-count-in-Go t c = search (rules, the_lemmas)
+
+pub statement_spans-add_node-requires-in-Go : goal.statement_spans-add_node-requires-in-Go
+statement_spans-add_node-requires-in-Go t c = search (rules, the_lemmas)
+
+pub statement_spans-returned_spans-requires : goal.statement_spans-returned_spans-requires
+statement_spans-returned_spans-requires t c = search (rules, the_lemmas)
+
+pub statement_spans-overflow_add-count-in-Return : goal.statement_spans-overflow_add-count-in-Return
+statement_spans-overflow_add-count-in-Return t c = search (rules, the_lemmas)
+
+pub statement_spans-add_node-requires-in-Return : goal.statement_spans-add_node-requires-in-Return
+statement_spans-add_node-requires-in-Return t c = search (rules, the_lemmas)
+
+pub statement_spans-add_node-requires-in-Break : goal.statement_spans-add_node-requires-in-Break
+statement_spans-add_node-requires-in-Break t c = search (rules, the_lemmas)
+
+pub statement_spans-returns-in-Empty-clause-count : goal.statement_spans-returns-in-Empty-clause-count
+statement_spans-returns-in-Empty-clause-count t c = search (rules, the_lemmas)
+
+pub statement_spans-returns-in-Empty-clause-spans : goal.statement_spans-returns-in-Empty-clause-spans
+statement_spans-returns-in-Empty-clause-spans t c = search (rules, the_lemmas)
+
+pub statement_spans-returns-in-Simple-clause-count : goal.statement_spans-returns-in-Simple-clause-count
+statement_spans-returns-in-Simple-clause-count t c = search (rules, the_lemmas)
+
+pub statement_spans-returns-in-Simple-clause-spans : goal.statement_spans-returns-in-Simple-clause-spans
+statement_spans-returns-in-Simple-clause-spans t c = search (rules, the_lemmas)
+
+pub statement_spans-returns-in-If-clause-count : goal.statement_spans-returns-in-If-clause-count
+statement_spans-returns-in-If-clause-count t c = search (rules, the_lemmas)
+
+pub statement_spans-returns-in-If-clause-spans : goal.statement_spans-returns-in-If-clause-spans
+statement_spans-returns-in-If-clause-spans t c = search (rules, the_lemmas)
+
+pub statement_spans-returns-in_ok-values-in-Typed-clause-count : goal.statement_spans-returns-in_ok-values-in-Typed-clause-count
+statement_spans-returns-in_ok-values-in-Typed-clause-count t c =
     let arm = c.in-Typed in
-    let is : statement_of c.args.statement.now ≡ VarTyped (map name_of arm.names.items) (type_of arm.kind) (option_map right_of arm.right) = typed_is _ _ _ _ arm.is in
-    let names : c.len.result ≡ length (map name_of arm.names.items) = omega (arith, length-map arm.names.items name_of) in
-    rw is (rw names at c.typed_spans.ensures.count)
+    let is : statement_of c.args.statement.now ≡ VarTyped (map name_of arm.names.items) (type_of arm.kind) (option_map right_of arm.right) = typed_is _ _ _ _ c.in-Typed.is in
+    let count : c.saturating_sub-names.result + c.in_ok-kind-in-Typed.kind + c.in_ok-values-in-Typed.values + 1 ≡ statement_count (statement_of c.args.statement.now) =
+    rw is (omega (arith, length-map arm.names.items name_of, c.in_ok-kind-in-Typed.ensures.count, c.in_ok-values-in-Typed.ensures.count)) in
+    rw count at c.add_node-in-Typed.ensures.count
 
-pub below_statement-returns-in-Typed-clause-spans : goal.below_statement-returns-in-Typed-clause-spans
-below_statement-returns-in-Typed-clause-spans t c =
-    let arm = c.in-Typed in
-    let is : statement_of c.args.statement.now ≡ VarTyped (map name_of arm.names.items) (type_of arm.kind) (option_map right_of arm.right) = typed_is _ _ _ _ arm.is in
-    let names : c.len.result ≡ length (map name_of arm.names.items) = omega (arith, length-map arm.names.items name_of) in
-    added_under c.typed_spans.result c.args.spans.now.items _ (c.args.spans.now.items ++ statement_spans c.args.tokens.now c.args.at (statement_of c.args.statement.now)) c.typed_spans.new.spans.items (over c.args.tokens.now c.args.at) _ (rw names at c.typed_spans.ensures.count) (rw names at c.typed_spans.ensures.spans) (rw is refl)
+pub statement_spans-returns-in_ok-values-in-Untyped-clause-count : goal.statement_spans-returns-in_ok-values-in-Untyped-clause-count
+statement_spans-returns-in_ok-values-in-Untyped-clause-count t c =
+    let arm = c.in-Untyped in
+    let is : statement_of c.args.statement.now ≡ VarUntyped (map name_of arm.names.items) (right_of arm.right) = untyped_is _ _ _ c.in-Untyped.is in
+    let count : c.len-names.result * 2 + c.in_ok-values-in-Untyped.values + 1 ≡ statement_count (statement_of c.args.statement.now) =
+    rw is (omega (arith, length-map arm.names.items name_of, c.in_ok-values-in-Untyped.ensures.count)) in
+    rw count at c.add_node-in-Untyped.ensures.count
 
-pub below_statement-returns-in-Simple-clause-spans : goal.below_statement-returns-in-Simple-clause-spans
-below_statement-returns-in-Simple-clause-spans t c =
-    let is : statement_of c.args.statement.now ≡ Alone (simple_of c.in-Simple.simple) = search (rules, the_lemmas) in
-    added_under c.below_simple.result c.args.spans.now.items _ (c.args.spans.now.items ++ statement_spans c.args.tokens.now c.args.at (statement_of c.args.statement.now)) c.below_simple.new.spans.items (over c.args.tokens.now c.args.at) _ c.below_simple.ensures.count c.below_simple.ensures.spans (rw is refl)
+pub statement_spans-returns-in_ok-count-in-Block-clause-count : goal.statement_spans-returns-in_ok-count-in-Block-clause-count
+statement_spans-returns-in_ok-count-in-Block-clause-count t c = search (rules, the_lemmas)
 
-pub below_statement-returns-in-Block-clause-count : goal.below_statement-returns-in-Block-clause-count
-below_statement-returns-in-Block-clause-count t c =
-    let is : statement_of c.args.statement.now ≡ Block (body_of c.in-Block.body.items) = block_is _ _ c.in-Block.is in
-    rw is (rw c.as_slice.ensures.value at c.block_spans.ensures.count)
+pub statement_spans-returns-in_ok-body-in-For-clause-count : goal.statement_spans-returns-in_ok-body-in-For-clause-count
+statement_spans-returns-in_ok-body-in-For-clause-count t c = search (rules, the_lemmas)
 
-pub below_statement-returns-in-Block-clause-spans : goal.below_statement-returns-in-Block-clause-spans
-below_statement-returns-in-Block-clause-spans t c =
-    let is : statement_of c.args.statement.now ≡ Block (body_of c.in-Block.body.items) = block_is _ _ c.in-Block.is in
-    let count = rw c.as_slice.ensures.value at c.block_spans.ensures.count in
-    let spans = rw c.as_slice.ensures.value at c.block_spans.ensures.spans in
-    let total = c.args.spans.now.items ++ statement_spans c.args.tokens.now c.args.at (statement_of c.args.statement.now) in
-    added_under c.block_spans.result c.args.spans.now.items _ total c.block_spans.new.spans.items (over c.args.tokens.now c.args.at) _ count spans (rw is refl)
+pub statement_spans-returns-in_ok-count-in-Select-clause-count : goal.statement_spans-returns-in_ok-count-in-Select-clause-count
+statement_spans-returns-in_ok-count-in-Select-clause-count t c = search (rules, the_lemmas)
 
-pub below_statement-returns-in_ok-body-in-For-clause-count : goal.below_statement-returns-in_ok-body-in-For-clause-count
-below_statement-returns-in_ok-body-in-For-clause-count t c = search (rules, the_lemmas)
+pub statement_spans-returns-in_ok-count-in-Go-clause-count : goal.statement_spans-returns-in_ok-count-in-Go-clause-count
+statement_spans-returns-in_ok-count-in-Go-clause-count t c = search (rules, the_lemmas)
 
-pub below_statement-returns-in_ok-count-in-Select-clause-count : goal.below_statement-returns-in_ok-count-in-Select-clause-count
-below_statement-returns-in_ok-count-in-Select-clause-count t c = search (rules, the_lemmas)
+pub statement_spans-returns-in_ok-count-in-Return-clause-count : goal.statement_spans-returns-in_ok-count-in-Return-clause-count
+statement_spans-returns-in_ok-count-in-Return-clause-count t c = search (rules, the_lemmas)
 
-pub below_statement-returns-in_ok-count-in-Go-clause-count : goal.below_statement-returns-in_ok-count-in-Go-clause-count
-below_statement-returns-in_ok-count-in-Go-clause-count t c = search (rules, the_lemmas)
+pub statement_spans-returns-in-Break-clause-count : goal.statement_spans-returns-in-Break-clause-count
+statement_spans-returns-in-Break-clause-count t c = search (rules, the_lemmas)
 
-pub below_statement-returns-in_ok-count-in-Return-clause-count : goal.below_statement-returns-in_ok-count-in-Return-clause-count
-below_statement-returns-in_ok-count-in-Return-clause-count t c = search (rules, the_lemmas)
-
-pub below_statement-returns-in-Break-clause-count : goal.below_statement-returns-in-Break-clause-count
-below_statement-returns-in-Break-clause-count t c = search (rules, the_lemmas)
-
-pub below_statement-returns-in-Break-clause-spans : goal.below_statement-returns-in-Break-clause-spans
-below_statement-returns-in-Break-clause-spans t c = search (rules, the_lemmas)
+pub statement_spans-returns-in-Break-clause-spans : goal.statement_spans-returns-in-Break-clause-spans
+statement_spans-returns-in-Break-clause-spans t c = search (rules, the_lemmas)
 
 pub body_spans-overflow_add-count : goal.body_spans-overflow_add-count
 body_spans-overflow_add-count t c =
