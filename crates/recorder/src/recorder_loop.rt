@@ -15,6 +15,8 @@ use std::marker::Brand;
 use std::sync::Arc;
 use timeline::Recording;
 use verifier::Verified;
+use word::end::End;
+use word::request::Event;
 
 /// How many local steps a goroutine makes before it is looked whether the next event is there.
 const QUANTUM: u32 = 65_536;
@@ -60,45 +62,40 @@ fn record_named<B: BookName>(
     ensures only { IfErr result (λ fault. fault ≡ Fault.Memory) }
 {
     let functions = names(alloc, program.code())?;
-    let book = Book::<B>::open_tracing(blank, program, limit, false)?;
-    let recording = collect(alloc, functions, book, most)?;
-    Ok(recording)
+    let mut book = Book::<B>::open_tracing(blank, program, limit, false)?;
+    let collected = collect(alloc, &mut book, most);
+    // A book that goes out of scope is proved to be dropped at each exit, part by part.
+    drop(book);
+    let (events, end) = collected?;
+    Ok(Recording {
+        functions,
+        events,
+        end,
+    })
 }
 
-/// The first events of the run of a book that has committed none.
+/// The first events of the run of a book that has committed none, and its end, where it has no more of them.
 #[tactic(auto, using(crate::proofs::Books::committed, crate::proofs::Books::waiting, crate::proofs::Books::all_there))]
 fn collect<B: BookName>(
     alloc: Global,
-    functions: Vec<String>,
-    book: Book<B>,
+    book: &mut Book<B>,
     most: usize,
-) -> Result<Recording, Memory>
-    requires { HasRecorded book.code book.limit book [] }
-    ensures first { IfOk result (λ made. AreFirst (code_kind book.code) book.limit (map event_of made.events.items)) }
-    ensures all { IfOk result (λ made. IfSome made.end (AreAll (code_kind book.code) book.limit (map event_of made.events.items))) }
-    ensures few { IfOk result (λ made. length made.events.items ≤ most) }
-    ensures cut { IfOk result (λ made. IfNone made.end (most ≤ length made.events.items)) }
+) -> Result<(Vec<Event>, Option<End>), Memory>
+    requires { HasRecorded book.old.code book.old.limit book.old [] }
+    ensures first { IfOk result (λ made. AreFirst (code_kind book.old.code) book.old.limit (map event_of made.0.items)) }
+    ensures all { IfOk result (λ made. IfSome made.1 (AreAll (code_kind book.old.code) book.old.limit (map event_of made.0.items))) }
+    ensures few { IfOk result (λ made. length made.0.items ≤ most) }
+    ensures cut { IfOk result (λ made. IfNone made.1 (most ≤ length made.0.items)) }
 {
-    let mut book = book;
     let mut events = Vec::new(alloc);
     'rounds: for _ in 0..u64::MAX {
         if events.len() >= most {
-            return Ok(Recording {
-                functions,
-                events,
-                end: None,
-            });
+            return Ok((events, None));
         }
-        match next(&mut book)? {
+        match next(book)? {
             Settled::Committed(event) => events.push(event)?,
             Settled::Waiting(_) => {}
-            Settled::Ended(end) => {
-                return Ok(Recording {
-                    functions,
-                    events,
-                    end: Some(end),
-                });
-            }
+            Settled::Ended(end) => return Ok((events, Some(end))),
         }
     }
     Err(Memory)

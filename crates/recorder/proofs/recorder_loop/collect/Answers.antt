@@ -5,15 +5,15 @@ use Rattle.recorder.proofs.recorder_loop.collect.Goals.{in-Committed+in_ok-push-
 
 pub returns-in-Ended-clause-all : goal.returns-in-Ended-clause-all
 returns-in-Ended-clause-all g c =
-    all_there c.args.book.code c.args.book.limit c.rounds.book c.next.new.book c.rounds.events.items c.in_ok-event.field-0 c.rounds.invariant.0 c.in_ok-event.ensures c.in-Ended.end c.in-Ended.is
+    all_there c.args.book.now.code c.args.book.now.limit c.rounds.book c.next.new.book c.rounds.events.items c.in_ok-event.field-0 c.rounds.invariant.0 c.in_ok-event.ensures c.in-Ended.end c.in-Ended.is
 
 pub rounds-preserved : goal.rounds-preserved
 rounds-preserved g c =
     elim c.match-branch-2.branch [
       | in-Committed+in_ok-push-in-Committed w ↦ rw (w.events-is, w.in_ok-push-in-Committed.ensures.items) (
-        committed c.args.book.code c.args.book.limit c.rounds.book c.next.new.book c.rounds.events.items c.in_ok-event.field-0 c.rounds.invariant.0 c.in_ok-event.ensures w.in-Committed.event w.in-Committed.is,
+        committed c.args.book.now.code c.args.book.now.limit c.rounds.book c.next.new.book c.rounds.events.items c.in_ok-event.field-0 c.rounds.invariant.0 c.in_ok-event.ensures w.in-Committed.event w.in-Committed.is,
         rw (one_longer c.rounds.events.items w.in-Committed.event) (omega (arith, c.if-len-most.false, c.len.ensures)),
       )
       | in-Waiting w ↦ rw w.events-is
-          (waiting c.args.book.code c.args.book.limit c.rounds.book c.next.new.book c.rounds.events.items c.in_ok-event.field-0 c.rounds.invariant.0 c.in_ok-event.ensures w.in-Waiting.field-0 w.in-Waiting.is, c.rounds.invariant.1)
+          (waiting c.args.book.now.code c.args.book.now.limit c.rounds.book c.next.new.book c.rounds.events.items c.in_ok-event.field-0 c.rounds.invariant.0 c.in_ok-event.ensures w.in-Waiting.field-0 w.in-Waiting.is, c.rounds.invariant.1)
     ]
