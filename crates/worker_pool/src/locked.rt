@@ -160,11 +160,10 @@ impl<B: RunName> Locked<B> {
         rt: &R,
         queues: &mut WorkQueues<B>,
     ) -> Result<Option<RunLease<B>>, Memory> {
-        let lease = self.lend()?;
-        if lease.is_some() {
-            return Ok(lease);
+        match self.lend()? {
+            Some(lease) => Ok(Some(lease)),
+            None => Ok(queues.take(rt)),
         }
-        Ok(queues.take(rt))
     }
 
     /// A lease for a worker whose goroutines compute: of a queue; else of the book, with all others that can be lent put into
@@ -176,15 +175,28 @@ impl<B: RunName> Locked<B> {
         rt: &R,
         queues: &mut WorkQueues<B>,
     ) -> Result<Option<RunLease<B>>, Memory> {
-        let found = queues.take(rt);
-        if found.is_some() {
-            return Ok(found);
+        match queues.take(rt) {
+            Some(lease) => Ok(Some(lease)),
+            None => self.lend_many(rt, queues),
         }
-        let lease = self.lend()?;
-        if lease.is_some() {
-            self.lend_more(rt, queues)?;
+    }
+
+    /// A lease of the book, with all others that can be lent put into the worker's queue.
+    fn lend_many<R: Wait>(
+        &mut self,
+        rt: &R,
+        queues: &mut WorkQueues<B>,
+    ) -> Result<Option<RunLease<B>>, Memory> {
+        let Some(lease) = self.lend()? else {
+            return Ok(None);
+        };
+        match self.lend_more(rt, queues) {
+            Ok(()) => Ok(Some(lease)),
+            Err(Memory) => {
+                drop(lease);
+                Err(Memory)
+            }
         }
-        Ok(lease)
     }
 
     /// Lends as many as a queue holds, and puts them into the worker's own. What comes back since it is full is brought back.

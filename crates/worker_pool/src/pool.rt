@@ -123,6 +123,7 @@ fn run_named<B: RunName + Send, R: Threads + Wait + Sync, G: Gate + Sync, O: Wri
     ensures write { IsErrOf result Fault.Write → (O.has_failed out.new ≡ true) ⊎ (T.has_failed trace.new ≡ true) }
     ensures only { IfErr result (λ fault. (fault ≡ Fault.Memory) ⊎ (fault ≡ Fault.Write)) }
 {
+    let queues = WorkQueues::of_all(alloc, workers)?;
     let Start {
         blank,
         program,
@@ -133,7 +134,6 @@ fn run_named<B: RunName + Send, R: Threads + Wait + Sync, G: Gate + Sync, O: Wri
         traced_ledger,
     } = start;
     let run = RunBook::open(blank, program, limit, traces)?;
-    let queues = WorkQueues::of_all(alloc, workers)?;
     let (printed_book, printed_share) = printed_ledger.open::<Printed<B>>();
     let (traced_book, traced_share) = traced_ledger.open::<Traced<B>>();
     let shared: Shared<B> = Shared::new(run, printed_book, traced_book);
@@ -148,6 +148,7 @@ fn run_named<B: RunName + Send, R: Threads + Wait + Sync, G: Gate + Sync, O: Wri
     let (out, trace, result) = beside(rt, &shared, gate, queues, writing);
     return_loan(out);
     return_loan(trace);
+    drop(shared);
     result
 }
 
@@ -197,12 +198,12 @@ impl<'a, 'o, 't, B: RunName, R: Wait, O: Write, T: Write> Task for Writing<'a, '
         let Writing {
             rt,
             shared,
-            printed,
-            traced,
+            mut printed,
+            mut traced,
             out,
             trace,
         } = self;
-        let result = write_run(rt, shared, printed, traced, out, trace);
+        let result = write_run(rt, shared, &mut printed, &mut traced, out, trace);
         shared.close(rt);
         (out, trace, result)
     }

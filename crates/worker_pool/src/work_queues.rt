@@ -73,13 +73,7 @@ pub(crate) struct WorkQueues<B: RunName> {
 impl<B: RunName> WorkQueues<B> {
     /// Those of each of so many workers.
     pub fn of_all(alloc: Global, workers: u64) -> Result<Vec<WorkQueues<B>>, Memory> {
-        let mut owners = Vec::new(alloc);
-        let mut stealers = Vec::new(alloc);
-        for _ in 0..workers {
-            let (owner, stealer) = empty_queue(alloc)?;
-            owners.push(owner)?;
-            stealers.push(stealer)?;
-        }
+        let (owners, mut stealers) = empty_queues(alloc, workers)?;
         let mut all = Vec::new(alloc);
         for (worker, own) in owners.into_iter().enumerate() {
             let stealers = stealers_of(alloc, &mut stealers, worker)?;
@@ -121,6 +115,21 @@ impl<B: RunName> WorkQueues<B> {
     pub fn is_filled(&self) -> bool {
         self.filled
     }
+}
+
+/// The owners of so many empty queues, and a stealer of each.
+fn empty_queues<B: RunName>(
+    alloc: Global,
+    count: u64,
+) -> Result<(Vec<Owner<B>>, Vec<Stealer<B>>), Memory> {
+    let mut owners = Vec::new(alloc);
+    let mut stealers = Vec::new(alloc);
+    for _ in 0..count {
+        let (owner, stealer) = empty_queue(alloc)?;
+        owners.push(owner)?;
+        stealers.push(stealer)?;
+    }
+    Ok((owners, stealers))
 }
 
 /// An empty queue.

@@ -111,10 +111,10 @@ pub(crate) fn work<B: RunName, R: Wait, G: Gate>(
     shared: &Shared<B>,
     gate: &G,
     worker: u64,
-    queues: WorkQueues<B>,
+    mut queues: WorkQueues<B>,
 ) {
     gate.at_start(worker);
-    work_leases(rt, shared, gate, worker, queues);
+    work_leases(rt, shared, gate, worker, &mut queues);
     shared.wake_all();
     gate.at_end(worker);
 }
@@ -125,13 +125,12 @@ fn work_leases<B: RunName, R: Wait, G: Gate>(
     shared: &Shared<B>,
     gate: &G,
     worker: u64,
-    queues: WorkQueues<B>,
+    queues: &mut WorkQueues<B>,
 ) {
-    let mut queues = queues;
     let mut pace = Pace::new();
     let mut back = Back::Begun;
     for _ in rt.forever() {
-        match shared.next_lease(rt, back, &mut pace, &mut queues) {
+        match shared.next_lease(rt, back, &mut pace, queues) {
             Some(lease) => {
                 gate.at_lent(worker, lease.number());
                 back = worked(lease);

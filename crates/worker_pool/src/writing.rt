@@ -33,21 +33,19 @@ impl<L: Ledger> Reach<L> {
 pub(crate) fn write_run<B: RunName, R: Wait, O: Write, T: Write>(
     rt: &R,
     shared: &Shared<B>,
-    printed: Reach<Printed<B>>,
-    traced: Reach<Traced<B>>,
+    printed: &mut Reach<Printed<B>>,
+    traced: &mut Reach<Traced<B>>,
     out: &mut O,
     trace: &mut T,
 ) -> Result<End, Fault>
-    requires printed { IsReached (output_run B.code B.limit) printed.progress printed.share.parts printed.share.amount }
-    requires traced { IsReached (trace_run B.code B.limit) traced.progress traced.share.parts traced.share.amount }
-    requires nothing { (progress_place printed.progress ≡ 0) × (progress_place traced.progress ≡ 0) }
+    requires printed { IsReached (output_run B.code B.limit) printed.old.progress printed.old.share.parts printed.old.share.amount }
+    requires traced { IsReached (trace_run B.code B.limit) traced.old.progress traced.old.share.parts traced.old.share.amount }
+    requires nothing { (progress_place printed.old.progress ≡ 0) × (progress_place traced.old.progress ≡ 0) }
     ensures output { ComesOf (output_run B.code B.limit) (O.contents out.old) (O.contents out.new) result }
     ensures trace { B.traces ≡ true → ComesOf (trace_run B.code B.limit) (T.contents trace.old) (T.contents trace.new) result }
     ensures write { IsErrOf result Fault.Write → (O.has_failed out.new ≡ true) ⊎ (T.has_failed trace.new ≡ true) }
     ensures only { IfErr result (λ fault. (fault ≡ Fault.Memory) ⊎ (fault ≡ Fault.Write)) }
 {
-    let mut printed = printed;
-    let mut traced = traced;
     for _ in rt.forever() {
         let handed = shared.next(rt, &mut printed.share, &mut traced.share)?;
         let (output, lines, end) = handed.into_parts();

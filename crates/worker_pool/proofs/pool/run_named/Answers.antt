@@ -6,17 +6,31 @@ use Rattle.worker_pool.proofs.pool.run_named.Goals as goal
 
 pub returns-in_err-queues-clause-output : goal.returns-in_err-queues-clause-output
 returns-in_err-queues-clause-output g c =
-    let p = err_from_is_err_and c.from_residual-in_err-queues.result c.from_residual-in_err-queues.ensures.1 in
+    let p = err_from_is_err_and c.from_residual.result c.from_residual.ensures.1 in
     let run = output_run g.B.RunName.code g.B.RunName.limit in
     let known = g.O.Write.contents c.args.out.now in
-    stops run known known 0 c.from_residual-in_err-queues.result p.0 p.1 (written_none run known)
+    stops run known known 0 c.from_residual.result p.0 p.1 (written_none run known)
 
 pub returns-in_err-queues-clause-trace : goal.returns-in_err-queues-clause-trace
 returns-in_err-queues-clause-trace g c =
-    let p = err_from_is_err_and c.from_residual-in_err-queues.result c.from_residual-in_err-queues.ensures.1 in
+    let p = err_from_is_err_and c.from_residual.result c.from_residual.ensures.1 in
     let run = trace_run g.B.RunName.code g.B.RunName.limit in
     let known = g.T.Write.contents c.args.trace.now in
-    λ kept. stops run known known 0 c.from_residual-in_err-queues.result p.0 p.1 (written_none run known)
+    λ kept. stops run known known 0 c.from_residual.result p.0 p.1 (written_none run known)
+
+pub returns-in_err-run-clause-output : goal.returns-in_err-run-clause-output
+returns-in_err-run-clause-output g c =
+    let p = err_from_is_err_and c.from_residual-in_err-run.result c.from_residual-in_err-run.ensures.1 in
+    let run = output_run g.B.RunName.code g.B.RunName.limit in
+    let known = g.O.Write.contents c.args.out.now in
+    stops run known known 0 c.from_residual-in_err-run.result p.0 p.1 (written_none run known)
+
+pub returns-in_err-run-clause-trace : goal.returns-in_err-run-clause-trace
+returns-in_err-run-clause-trace g c =
+    let p = err_from_is_err_and c.from_residual-in_err-run.result c.from_residual-in_err-run.ensures.1 in
+    let run = trace_run g.B.RunName.code g.B.RunName.limit in
+    let known = g.T.Write.contents c.args.trace.now in
+    λ kept. stops run known known 0 c.from_residual-in_err-run.result p.0 p.1 (written_none run known)
 
 pub returns-clause-output : goal.returns-clause-output
 returns-clause-output g c =

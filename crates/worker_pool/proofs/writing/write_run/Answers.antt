@@ -12,8 +12,8 @@ loop-init g c =
     record {
       printed = c.requires.printed;
       traced = c.requires.traced;
-      output = begun (output_run code limit) (g.O.Write.contents c.args.out.now) (progress_place c.args.printed.progress) c.requires.nothing.0;
-      trace = begun (trace_run code limit) (g.T.Write.contents c.args.trace.now) (progress_place c.args.traced.progress) c.requires.nothing.1;
+      output = begun (output_run code limit) (g.O.Write.contents c.args.out.now) (progress_place c.args.printed.now.progress) c.requires.nothing.0;
+      trace = begun (trace_run code limit) (g.T.Write.contents c.args.trace.now) (progress_place c.args.traced.now.progress) c.requires.nothing.1;
     }
 
 pub returns-in_err-handed-clause-output : goal.returns-in_err-handed-clause-output
