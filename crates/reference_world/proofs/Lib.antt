@@ -1,3 +1,4 @@
 pub mod Lists
 pub mod Performing
 pub mod Requests
+pub mod Serving

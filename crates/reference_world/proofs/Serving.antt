@@ -1,0 +1,46 @@
+-- A receive where one sleeps that sends.
+use Rattle.std.proofs.Common.{◌≡◌, ℕ, true, List, [], ◌∷◌, ◌++◌, map, drop, length, slice_set, Some, unwrap_or, refl, sym, ap, ◌∙◌}
+use Rattle.std.specs.Global.{Vec}
+use Rattle.std.specs.Vec.{with_items}
+use Rattle.std.proofs.lemmas.List.{length-set, set-get_or, with_items_is}
+use Rattle.word.specs.Values.{Channel, Done, Item, Offer, Reply, Request, Shared, Sleeper}
+use Rattle.word.specs.Requests.{GoesOn, channel_of, done, got, receive_from, sent, without}
+use Rattle.reference_world.specs.Deeds.{History, MeetingValue, SharedValue, exchanged, met, shared_with, with_event}
+use Rattle.reference_world.specs.declared.sleeper.Partner.{Partner}
+
+-- the channels, of which one was written
+pub written : (v : Vec Channel) (ws cs : List Channel) (k : ℕ) (x : Channel) → cs ≡ v.items → ws ≡ slice_set cs k x → (with_items v ws).items ≡ slice_set cs k x
+written v ws cs k x same is = with_items_is v ws (ap length is ∙ length-set cs k x ∙ ap length same ∙ sym v.ok.0) ∙ is
+
+same_front : (a b : Item) (xs : List Item) → ◌≡◌ {A = List Item} (a ∷ xs) (b ∷ xs) → a ≡ b
+same_front a b xs e = cc
+
+-- one item goes in and one comes out
+taken : (w : Shared) (n c : ℕ) (q : Request) (k clause : ℕ) (ch : Channel) (items : List Item) (x : Sleeper × Offer) (front : Item)
+    → slice_set w.channels k (record ch { items = items }) ≡ w.channels → items ++ unwrap_or x.1.item [] ∷ [] ≡ front ∷ drop 1 (items ++ unwrap_or x.1.item [] ∷ [])
+    → receive_from w n c q k ch clause items (Some x)
+    ≡ done w n c q (record w { channels = slice_set w.channels k (record ch { items = drop 1 (items ++ unwrap_or x.1.item [] ∷ []) }) }) (got clause front true) ((x.0.number, sent x.1.case) ∷ [])
+taken w n c q k clause ch [] x front same first = rw (same, ← same_front (unwrap_or x.1.item []) front [] first) refl
+taken w n c q k clause ch (y ∷ ys) x front same first = rw (← same_front y front (ys ++ unwrap_or x.1.item [] ∷ []) first) refl
+
+pub served : (h : History) (v : SharedValue) (old : MeetingValue) (n c : ℕ) (q : Request) (k clause : ℕ) (x : Sleeper × Offer) (p : Partner)
+    (channels after : List Channel) (asleep left : List Sleeper) (offered front : Item) (reply : Reply) (woken : List (ℕ × Reply))
+    → met x ≡ p → channels ≡ old.channels → asleep ≡ old.asleep → offered ≡ unwrap_or p.offer.item []
+    → (channel_of channels k).items ++ offered ∷ [] ≡ front ∷ exchanged channels k offered
+    → after ≡ slice_set channels k (record (channel_of channels k) { items = exchanged channels k offered })
+    → left ≡ without asleep p.number → reply ≡ got clause front true → woken ≡ (p.number, sent p.offer.case) ∷ []
+    → receive_from (shared_with h v old) n c q k (channel_of old.channels k) clause (channel_of old.channels k).items (Some x)
+    ≡ record {
+      fate = GoesOn reply;
+      woken = woken;
+      started = [];
+      shared = with_event h n c q v (record { asleep = left; channels = after }) (Done reply) (map (λ (y : ℕ × Reply). y.0) woken);
+    }
+served h v old n c q k clause x p channels after asleep left offered front reply woken meets there sleep offers first behind gone tells wakes =
+    let own : offered ≡ unwrap_or x.1.item [] = offers ∙ ap (λ (p : Partner). unwrap_or p.offer.item []) (sym meets) in
+    let number : left ≡ without old.asleep x.0.number = gone ∙ ap (λ (ss : List Sleeper). without ss p.number) sleep ∙ ap (λ (p : Partner). without old.asleep p.number) (sym meets) in
+    let waken : woken ≡ (x.0.number, sent x.1.case) ∷ [] = wakes ∙ ap (λ (p : Partner). (p.number, sent p.offer.case) ∷ []) (sym meets) in
+    let front_is : (channel_of old.channels k).items ++ unwrap_or x.1.item [] ∷ [] ≡ front ∷ exchanged old.channels k (unwrap_or x.1.item []) = rw (there, own) at first in
+    let after_is : after ≡ slice_set old.channels k (record (channel_of old.channels k) { items = exchanged old.channels k (unwrap_or x.1.item []) }) = rw (there, own) at behind in
+    taken (shared_with h v old) n c q k clause (channel_of old.channels k) (channel_of old.channels k).items x front (set-get_or old.channels k _) front_is
+    ∙ rw (number, waken, tells, after_is) refl
