@@ -1,10 +1,10 @@
--- A receive where one sleeps that sends.
-use Rattle.std.proofs.Common.{◌≡◌, ℕ, true, List, [], ◌∷◌, ◌++◌, map, drop, length, slice_set, Some, unwrap_or, refl, sym, ap, ◌∙◌}
+-- A receive where one sleeps that sends, and a send where nobody sleeps that receives.
+use Rattle.std.proofs.Common.{◌≡◌, ℕ, true, false, Option, None, option_map, List, [], ◌∷◌, ◌++◌, map, drop, length, slice_set, Some, unwrap_or, refl, sym, ap, ◌∙◌}
 use Rattle.std.specs.Global.{Vec}
 use Rattle.std.specs.Vec.{with_items}
 use Rattle.std.proofs.lemmas.List.{length-set, set-get_or, with_items_is}
 use Rattle.word.specs.Values.{Channel, Done, Item, Offer, Reply, Request, Shared, Sleeper}
-use Rattle.word.specs.Requests.{GoesOn, channel_of, done, got, receive_from, sent, without}
+use Rattle.word.specs.Requests.{GoesOn, channel_of, do_send, done, got, partner, receive_from, sent, without}
 use Rattle.reference_world.specs.Deeds.{History, MeetingValue, SharedValue, exchanged, met, shared_with, with_event}
 use Rattle.reference_world.specs.declared.sleeper.Partner.{Partner}
 
@@ -44,3 +44,21 @@ served h v old n c q k clause x p channels after asleep left offered front reply
     let after_is : after ≡ slice_set old.channels k (record (channel_of old.channels k) { items = exchanged old.channels k (unwrap_or x.1.item []) }) = rw (there, own) at behind in
     taken (shared_with h v old) n c q k clause (channel_of old.channels k) (channel_of old.channels k).items x front (set-get_or old.channels k _) front_is
     ∙ rw (number, waken, tells, after_is) refl
+
+none_met : (o : Option (Sleeper × Offer)) → None ≡ option_map met o → o ≡ None
+none_met None e = refl
+none_met (Some x) e = cc
+
+pub sent_alone : (h : History) (v : SharedValue) (old : MeetingValue) (n c : ℕ) (q : Request) (k : ℕ) (item : Item) (clause : ℕ) (channels after : List Channel) (asleep : List Sleeper) (reply : Reply) (woken : List (ℕ × Reply))
+    → (channel_of old.channels k).closed ≡ false → None ≡ option_map met (partner k false old.asleep) → channels ≡ old.channels → asleep ≡ old.asleep
+    → after ≡ slice_set channels k (record (channel_of channels k) { items = (channel_of channels k).items ++ item ∷ [] }) → reply ≡ sent clause → woken ≡ []
+    → do_send (shared_with h v old) n c q k item clause
+    ≡ record {
+      fate = GoesOn reply;
+      woken = woken;
+      started = [];
+      shared = with_event h n c q v (record { asleep = asleep; channels = after }) (Done reply) (map (λ (y : ℕ × Reply). y.0) woken);
+    }
+sent_alone h v old n c q k item clause channels after asleep reply woken stands alone there sleep behind tells wakes =
+    let after_is : after ≡ slice_set old.channels k (record (channel_of old.channels k) { items = (channel_of old.channels k).items ++ item ∷ [] }) = rw there at behind in
+    rw (stands, none_met (partner k false old.asleep) alone, after_is, sleep, tells, wakes) refl
