@@ -1,3 +1,4 @@
+pub mod Acting
 pub mod Lists
 pub mod Performing
 pub mod Requests
