@@ -1,11 +1,11 @@
--- A receive where one sleeps that sends, and a send where nobody sleeps that receives.
+-- A receive where one sleeps that sends, a send that is ready, and a close.
 use Rattle.std.proofs.Common.{◌≡◌, ℕ, true, false, Option, None, option_map, List, [], ◌∷◌, ◌++◌, map, drop, length, slice_set, Some, unwrap_or, refl, sym, ap, ◌∙◌}
 use Rattle.std.specs.Global.{Vec}
 use Rattle.std.specs.Vec.{with_items}
 use Rattle.std.proofs.lemmas.List.{length-set, set-get_or, with_items_is}
-use Rattle.word.specs.Values.{Channel, Done, Item, Offer, Reply, Request, Shared, Sleeper}
-use Rattle.word.specs.Requests.{GoesOn, channel_of, do_send, done, got, partner, receive_from, sent, without}
-use Rattle.reference_world.specs.Deeds.{History, MeetingValue, SharedValue, exchanged, met, shared_with, with_event}
+use Rattle.word.specs.Values.{Channel, Close, Done, Item, Nothing, Offer, Reply, Request, Shared, Sleeper}
+use Rattle.word.specs.Requests.{GoesOn, act, channel_of, do_send, done, got, partner, partners, receive_from, send_to, sent, without, without_all}
+use Rattle.reference_world.specs.Deeds.{History, MeetingValue, SharedValue, closed_for, exchanged, met, shared_with, with_event}
 use Rattle.reference_world.specs.declared.sleeper.Partner.{Partner}
 
 -- the channels, of which one was written
@@ -62,3 +62,43 @@ pub sent_alone : (h : History) (v : SharedValue) (old : MeetingValue) (n c : ℕ
 sent_alone h v old n c q k item clause channels after asleep reply woken stands alone there sleep behind tells wakes =
     let after_is : after ≡ slice_set old.channels k (record (channel_of old.channels k) { items = (channel_of old.channels k).items ++ item ∷ [] }) = rw there at behind in
     rw (stands, none_met (partner k false old.asleep) alone, after_is, sleep, tells, wakes) refl
+
+same_met : (x : Sleeper × Offer) (p : Partner) → Some p ≡ Some (met x) → met x ≡ p
+same_met x p e = cc
+
+met_one : (w : Shared) (n c : ℕ) (q : Request) (k : ℕ) (ch : Channel) (item : Item) (clause : ℕ) (o : Option (Sleeper × Offer)) (p : Partner) → Some p ≡ option_map met o
+    → send_to w n c q k ch item clause o ≡ done w n c q w (sent clause) ((p.number, got p.offer.case item true) ∷ [])
+met_one w n c q k ch item clause None p e = cc
+met_one w n c q k ch item clause (Some x) p e = rw (← same_met x p e) refl
+
+pub sent_to : (h : History) (v : SharedValue) (old : MeetingValue) (n c : ℕ) (q : Request) (k : ℕ) (item : Item) (clause : ℕ) (p : Partner) (new : MeetingValue) (channels : List Channel) (asleep left : List Sleeper) (number : ℕ) (reply told : Reply) (woken : List (ℕ × Reply))
+    → (channel_of old.channels k).closed ≡ false → Some p ≡ option_map met (partner k false old.asleep) → channels ≡ old.channels → asleep ≡ old.asleep
+    → new ≡ record { asleep = left; channels = channels } → number ≡ p.number → told ≡ got p.offer.case item true → left ≡ without asleep number → reply ≡ sent clause → woken ≡ (number, told) ∷ []
+    → do_send (shared_with h v old) n c q k item clause
+    ≡ record {
+      fate = GoesOn reply;
+      woken = woken;
+      started = [];
+      shared = with_event h n c q v new (Done reply) (map (λ (y : ℕ × Reply). y.0) woken);
+    }
+sent_to h v old n c q k item clause p new channels asleep left number reply told woken stands meets there sleep becomes numbered says gone tells wakes =
+    let open_still : do_send (shared_with h v old) n c q k item clause ≡ send_to (shared_with h v old) n c q k (channel_of old.channels k) item clause (partner k false old.asleep) = rw stands refl in
+    let left_is : left ≡ without old.asleep p.number = rw (sleep, numbered) at gone in
+    let woken_is : woken ≡ (p.number, got p.offer.case item true) ∷ [] = rw (numbered, says) at wakes in
+    open_still ∙ met_one (shared_with h v old) n c q k (channel_of old.channels k) item clause (partner k false old.asleep) p meets ∙ rw (becomes, left_is, there, tells, woken_is) refl
+
+pub closes : (h : History) (v : SharedValue) (old : MeetingValue) (n c : ℕ) (q : Request) (chan : Option ℕ) (k : ℕ) (zero : Item) (channels after : List Channel) (asleep left : List Sleeper) (woken : List (ℕ × Reply))
+    → chan ≡ Some k → (channel_of old.channels k).closed ≡ false → zero ≡ (channel_of old.channels k).zero → channels ≡ old.channels → asleep ≡ old.asleep
+    → woken ≡ closed_for zero (partners k asleep) → left ≡ without_all asleep woken → after ≡ slice_set channels k (record (channel_of channels k) { closed = true })
+    → act (shared_with h v old) n c q (Close chan)
+    ≡ record {
+      fate = GoesOn Nothing;
+      woken = woken;
+      started = [];
+      shared = with_event h n c q v (record { asleep = left; channels = after }) (Done Nothing) (map (λ (y : ℕ × Reply). y.0) woken);
+    }
+closes h v old n c q chan k zero channels after asleep left woken some stands empty there sleep wakes gone behind =
+    let woken_is : woken ≡ closed_for (channel_of old.channels k).zero (partners k old.asleep) = rw (empty, sleep) at wakes in
+    let left_is : left ≡ without_all old.asleep woken = rw sleep at gone in
+    let after_is : after ≡ slice_set old.channels k (record (channel_of old.channels k) { closed = true }) = rw there at behind in
+    rw (some, stands, left_is, woken_is, after_is) refl
