@@ -1,6 +1,6 @@
 //! Calls of functions.
 
-ghost use Rattle.std.specs.Prelude.{◌≡◌, ◌++◌, [], ℕ, Bool, List, IfErr, IfOk, OnOk, Some, map, option_map, slice_get};
+ghost use Rattle.std.specs.Prelude.{◌≡◌, ◌++◌, ◌∷◌, [], ℕ, Bool, List, IfErr, IfOk, OnOk, Some, map, option_map, slice_get};
 ghost use Rattle.syntax.specs.Tree.{Call};
 ghost use Rattle.syntax.specs.View.{arguments_of, declared_of, file_of, function_of, name_of, top_of};
 ghost use Rattle.type_table.specs.Views.{kind_of};
@@ -9,6 +9,7 @@ ghost use Rattle.typing_rules.specs.Kinds.{all_fields, fields_declared};
 ghost use Rattle.typing_rules.specs.Operations.{result_of};
 ghost use Rattle.meaning.specs.Destinations.{functions_in, zero_result};
 ghost use Rattle.meaning.specs.Source.{bound, called, calls, functions, globals, operates, parameters_of};
+ghost use Rattle.meaning.specs.Tasks.{Await, frame};
 ghost use Rattle.meaning.specs.Variables.{declare, entered, holding};
 ghost use Rattle.reference_value.specs.Scopes.{blocks_of};
 ghost use Rattle.reference_value.specs.Values.{values_of};
@@ -205,6 +206,20 @@ fn zero_result(alloc: Global, program: &Program<'_>, number: u32) -> Result<Vec<
     }
 }
 
+/// The function that runs waits for the one with this number.
+fn waits<'t>(
+    alloc: Global,
+    program: &Program<'t>,
+    top: &mut Frame<'t>,
+    purpose: Purpose<'t>,
+    number: u32,
+) -> Result<(), AllocError>
+    ensures { OnOk result (frame_of (types_of program.now.table) top.new ≡ frame (blocks_of (types_of program.now.table) top.old.scope) (Await (zero_result (globals (file_of program.now.file.now)) (result_of (globals (file_of program.now.file.now)) number)) (purpose_of (types_of program.now.table) purpose.entry) ∷ tasks_of (types_of program.now.table) top.old.tasks.items)) }
+{
+    let zero = zero_result(alloc, program, number)?;
+    top.push(Task::Await(zero, purpose))
+}
+
 /// A call of the function with this number.
 ///
 /// Errors: the panic where too many functions wait; want of memory.
@@ -226,8 +241,7 @@ fn enter<'t>(
     if callers.len() + 1 >= MAX_DEPTH {
         return Err(Stop::Panics(Panic::CallDepth));
     }
-    let zero = zero_result(alloc, program, number)?;
-    top.push(Task::Await(zero, purpose))?;
+    waits(alloc, program, top, purpose, number)?;
     let frame = called(alloc, program, function, arguments)?;
     Ok(Move::Calls(frame))
 }

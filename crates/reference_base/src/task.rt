@@ -1,13 +1,14 @@
 //! What a goroutine still has to do.
 
 ghost use Rattle.std.specs.Prelude.{◌≡◌, ◌++◌, ◌∷◌, ℕ, List, OnOk};
-ghost use Rattle.syntax.specs.View.{body_of};
-ghost use Rattle.meaning.specs.Tasks.{all_of, frame};
+ghost use Rattle.syntax.specs.View.{body_of, statement_of};
+ghost use Rattle.meaning.specs.Tasks.{Do, all_of, frame};
 ghost use Rattle.reference_value.specs.Scopes.{blocks_of};
 ghost use Rattle.reference_base.specs.Tasks.{task_of, tasks_of, frame_of};
 
 use reference_value::place::Destination;
 use reference_value::scope::Scope;
+use reference_value::words::put_last;
 use std::alloc::{AllocError, Global};
 use syntax::{ExpressionNode, IfNode, SimpleNode, StatementNode};
 use word::request::Request;
@@ -111,8 +112,15 @@ impl<'t> Frame<'t> {
     pub fn push(&mut self, task: Task<'t>) -> Result<(), AllocError>
         ensures { (types : List (List ℕ)) → OnOk result (frame_of types self.new ≡ frame (blocks_of types self.old.scope) (task_of types task.entry ∷ tasks_of types self.old.tasks.items)) }
     {
-        self.tasks.push(task)?;
+        put_last(&mut self.tasks, task)?;
         Ok(())
+    }
+
+    /// This statement is to be done first.
+    fn push_one(&mut self, alloc: Global, statement: &'t StatementNode) -> Result<(), AllocError>
+        ensures { (types : List (List ℕ)) → OnOk result (frame_of types self.new ≡ frame (blocks_of types self.old.scope) (Do (statement_of statement.now) ∷ tasks_of types self.old.tasks.items)) }
+    {
+        self.push(Task::Do(Box::new(alloc, statement)?))
     }
 
     /// These statements are to be done first.
@@ -122,7 +130,7 @@ impl<'t> Frame<'t> {
     {
         let mut left = body;
         while let Some((last, before)) = left.split_last() {
-            self.push(Task::Do(Box::new(alloc, last)?))?;
+            self.push_one(alloc, last)?;
             left = before;
         }
         Ok(())

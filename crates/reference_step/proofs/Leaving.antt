@@ -69,6 +69,9 @@ module _ (types : List (List ℕ)) (blocks : Blocks) (all rest : List Task) (tas
   continues_block (inl end) = ap (continued blocks) shown ∙ ap (λ (t : Task). continued blocks (task_of types t ∷ tasks_of types rest)) end
   continues_block (inr end) = ap (continued blocks) shown ∙ ap (λ (t : Task). continued blocks (task_of types t ∷ tasks_of types rest)) end
 
+  pub breaks_block : task ≡ tasks.EndBlock → broken blocks (tasks_of types all) ≡ broken (left blocks) (tasks_of types rest)
+  breaks_block end = ap (broken blocks) shown ∙ ap (λ (t : Task). broken blocks (task_of types t ∷ tasks_of types rest)) end
+
   pub breaks_here : ((loop : Loop) × (task ≡ tasks.Again loop)) ⊎ (task ≡ tasks.EndSelect) → broken blocks (tasks_of types all) ≡ frame (left blocks) (tasks_of types rest)
   breaks_here (inl (loop, end)) = ap (broken blocks) shown ∙ ap (λ (t : Task). broken blocks (task_of types t ∷ tasks_of types rest)) end
   breaks_here (inr end) = ap (broken blocks) shown ∙ ap (λ (t : Task). broken blocks (task_of types t ∷ tasks_of types rest)) end

@@ -18,7 +18,7 @@ ghost use Rattle.reference_base.specs.Steps.{Goes, Panics};
 ghost use Rattle.reference_base.specs.declared.task.Loop.TheVariants as loops;
 ghost use Rattle.reference_base.specs.Tasks.{expression_in, frame_of, frames_of, loop_of, simple_in, tasks_of};
 
-use crate::statement::opens;
+use crate::statement::{opens, simply};
 use reference_base::operand::{channel, channel_in, one, truth_in, with_sent, zero_of};
 use reference_base::program::Program;
 use reference_base::task::{Frame, Loop, Purpose, Range, Repeat, Task};
@@ -58,8 +58,7 @@ fn keep_in<'t>(
     let words = single(alloc, Word::Chan(c))?;
     let variable = holding(alloc, table, b"_", kind, words.as_slice())?;
     scope.enter(alloc)?;
-    scope.declare(alloc, variable)?;
-    Ok(())
+    scope.declare(alloc, variable)
 }
 
 /// The channel of a loop is kept in a block of its own.
@@ -115,6 +114,14 @@ fn range_of<'t>(
     Ok(Loop::Ranging(Box::new(alloc, range)?))
 }
 
+/// A loop is at its head, in a block of its own.
+fn heads<'t>(top: &mut Frame<'t>, at: Loop<'t>) -> Result<(), AllocError>
+    ensures { (types : List (List ℕ)) → OnOk result (frame_of types top.new ≡ frame (blocks_of types top.old.scope) (Head (loop_of types at.entry) ∷ (EndBlock ∷ tasks_of types top.old.tasks.items))) }
+{
+    top.push(Task::EndBlock)?;
+    top.push(Task::Head(at))
+}
+
 /// A loop over a channel.
 fn ranges<'t>(
     alloc: Global,
@@ -133,8 +140,7 @@ fn ranges<'t>(
     let range = range_of(alloc, program, &top.scope, target, from, body)?;
     let kind = kind_in(&program.table, &top.scope, from);
     keep(alloc, program, &mut top.scope, kind, c)?;
-    top.push(Task::EndBlock)?;
-    top.push(Task::Head(range))?;
+    heads(top, range)?;
     Ok(())
 }
 
@@ -170,10 +176,7 @@ fn clauses<'t>(
     opens(alloc, top)?;
     repeats(alloc, top, condition, post, body)?;
     match first {
-        Some(first) => {
-            top.push(Task::Simply(Box::new(alloc, first)?))?;
-            Ok(())
-        }
+        Some(first) => simply(alloc, top, first),
         None => Ok(()),
     }
 }
@@ -247,8 +250,7 @@ pub fn next_item<'t>(
     let c = kept(&top.scope);
     let zeros = next_zeros(alloc, at.zero.as_slice())?;
     let purpose = Purpose::NextItem(Loop::Ranging(at));
-    top.push(Task::Ask(Request::Receive(c), zeros, purpose))?;
-    Ok(())
+    top.push(Task::Ask(Request::Receive(c), zeros, purpose))
 }
 
 /// A loop with a condition at its head.
@@ -287,8 +289,7 @@ fn posts<'t>(
 {
     top.push(Task::Turn(Loop::Repeating(at)))?;
     opens(alloc, top)?;
-    top.push(Task::Simply(Box::new(alloc, post)?))?;
-    Ok(())
+    simply(alloc, top, post)
 }
 
 /// A loop at the end of its body.

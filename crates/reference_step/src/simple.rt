@@ -1,6 +1,6 @@
 //! What simple statements do.
 
-ghost use Rattle.std.specs.Prelude.{◌≡◌, ◌∷◌, [], IfErr, IfOk, Ok, OnOk, Some, map, pos};
+ghost use Rattle.std.specs.Prelude.{◌≡◌, ◌∷◌, [], ℕ, Err, List, IfErr, IfOk, Ok, OnOk, Some, map, pos};
 ghost use Rattle.syntax.specs.Tree.{Assign, Capacity, Close, Define, Length, Make, Print, Receive, Send, Update};
 ghost use Rattle.syntax.specs.View.{expression_of, file_of, name_of, operation_of, part_of, place_of, right_of, simple_of, type_of};
 ghost use Rattle.type_table.specs.Views.{kind_of};
@@ -9,11 +9,15 @@ ghost use Rattle.meaning.specs.Destinations.{placed};
 ghost use Rattle.meaning.specs.Source.{globals, gives, made_kind, makes, operates, simple_next, updates, value_at};
 ghost use Rattle.word.specs.declared.value.Word.TheVariants.{Int};
 ghost use Rattle.meaning.specs.Expressions.{beside, value, word_in};
-ghost use Rattle.meaning.specs.Tasks.{Store, frame};
+ghost use Rattle.meaning.specs.Tasks.{Ask, Store, frame};
 ghost use Rattle.reference_value.specs.Destinations.{destinations_of};
 ghost use Rattle.reference_value.specs.Scopes.{blocks_of};
-ghost use Rattle.reference_value.specs.Stops.{Fails};
-ghost use Rattle.reference_base.specs.Steps.{Panics, Went};
+ghost use Rattle.reference_value.specs.Stops.{Fails, IsMemory};
+ghost use Rattle.reference_value.specs.Values.{values_of};
+ghost use Rattle.reference_base.specs.Steps.{Panics, Went, went};
+ghost use Rattle.reference_base.specs.declared.task.Frame.{Frame as OneFrame};
+ghost use Rattle.word.specs.Kinds.{Slides};
+ghost use Rattle.word.specs.Views.{request_of};
 ghost use Rattle.reference_base.specs.Tasks.{frame_of, frames_of, purpose_of, tasks_of};
 
 use crate::places::{assigned, defined};
@@ -37,6 +41,7 @@ use syntax::{
 };
 use type_table::value_type::{ValueType, element_in};
 use type_table::zero::zero;
+use word::panic::Panic;
 use word::request::Request;
 use word::value::Word;
 
@@ -48,6 +53,20 @@ fn made_kind<'t>(program: &Program<'t>, kind: &'t TypeNode) -> ValueType<'t>
         ValueType::Channel(_, element) => element_in(&program.table, element),
         _ => ValueType::Int,
     }
+}
+
+/// A request is to be done first; zeros like the values that it is told.
+fn asks<'t>(
+    top: &mut Frame<'t>,
+    request: Request,
+    zeros: Vec<Vec<Word>>,
+    purpose: Purpose<'t>,
+) -> Result<Move<'t>, Stop>
+    ensures ok { (types : List (List ℕ)) → IfOk result (λ move. (callers : List OneFrame) → went types move top.new callers ≡ Slides (frame (blocks_of types top.old.scope) (Ask (request_of request) (values_of zeros.items) (purpose_of types purpose.entry) ∷ tasks_of types top.old.tasks.items) ∷ frames_of types callers)) }
+    ensures err { IfErr result IsMemory }
+{
+    top.push(Task::Ask(request, zeros, purpose))?;
+    Ok(Move::Slides)
 }
 
 /// A new channel.
@@ -66,8 +85,7 @@ fn makes<'t>(
     let _callers = callers;
     let zero = zero(alloc, &program.table, made_kind(program, kind))?;
     let zeros = one_value(alloc, Word::Chan(None))?;
-    top.push(Task::Ask(Request::Make(size, zero), zeros, purpose))?;
-    Ok(Move::Slides)
+    asks(top, Request::Make(size, zero), zeros, purpose)
 }
 
 /// A new channel whose size is an operand.
@@ -103,8 +121,7 @@ fn receives<'t>(
     let c = channel(alloc, program, &top.scope, from)?;
     let kind = element_kind(&program.table, &top.scope, from);
     let zeros = item_zeros(alloc, program, kind)?;
-    top.push(Task::Ask(Request::Receive(c), zeros, purpose))?;
-    Ok(Move::Slides)
+    asks(top, Request::Receive(c), zeros, purpose)
 }
 
 /// How many items a channel holds.
@@ -122,8 +139,7 @@ fn length<'t>(
     let _callers = callers;
     let c = channel(alloc, program, &top.scope, from)?;
     let zeros = one_value(alloc, Word::Int(0))?;
-    top.push(Task::Ask(Request::Len(c), zeros, purpose))?;
-    Ok(Move::Slides)
+    asks(top, Request::Len(c), zeros, purpose)
 }
 
 /// How many items a channel has room for.
@@ -141,8 +157,7 @@ fn capacity<'t>(
     let _callers = callers;
     let c = channel(alloc, program, &top.scope, from)?;
     let zeros = one_value(alloc, Word::Int(0))?;
-    top.push(Task::Ask(Request::Cap(c), zeros, purpose))?;
-    Ok(Move::Slides)
+    asks(top, Request::Cap(c), zeros, purpose)
 }
 
 /// What stands alone on the right of an assignment, or behind `return`.
@@ -219,8 +234,7 @@ fn close<'t>(
 {
     let _callers = callers;
     let c = channel(alloc, program, &top.scope, from)?;
-    top.push(Task::Ask(Request::Close(c), Vec::new(alloc), Purpose::Unused))?;
-    Ok(Move::Slides)
+    asks(top, Request::Close(c), Vec::new(alloc), Purpose::Unused)
 }
 
 /// A print.
@@ -240,8 +254,7 @@ fn print<'t>(
     let _trailing = trailing;
     let all = texts(alloc, program, &top.scope, parts)?;
     let bytes = printed(alloc, line, all.as_slice())?;
-    top.push(Task::Ask(Request::Print(bytes), Vec::new(alloc), Purpose::Unused))?;
-    Ok(Move::Slides)
+    asks(top, Request::Print(bytes), Vec::new(alloc), Purpose::Unused)
 }
 
 /// A send.
@@ -259,8 +272,12 @@ fn send<'t>(
     let _callers = callers;
     let c = channel(alloc, program, &top.scope, to)?;
     let words = item_in(alloc, program, &top.scope, to, item)?;
-    top.push(Task::Ask(Request::Send(c, words), Vec::new(alloc), Purpose::Unused))?;
-    Ok(Move::Slides)
+    asks(
+        top,
+        Request::Send(c, words),
+        Vec::new(alloc),
+        Purpose::Unused,
+    )
 }
 
 /// The word that a place holds.
@@ -289,8 +306,18 @@ fn stores<'t>(
     let destination = placed(&program.table, &top.scope, place);
     let destinations = with_first(destination, Vec::new(alloc))?;
     let values = one_value(alloc, word)?;
-    top.push(Task::Store(destinations, values))?;
-    Ok(())
+    top.push(Task::Store(destinations, values))
+}
+
+/// The word of an operator between a word and 1.
+fn counted(operator: BinaryOperator, a: Word) -> Result<Word, Panic>
+    ensures ok { IfOk result (λ w. beside operator a (Ok (Int (pos 1) ∷ [])) ≡ Ok (w ∷ [])) }
+    ensures err { IfErr result (λ p. beside operator a (Ok (Int (pos 1) ∷ [])) ≡ Err p) }
+{
+    match settled(operator, a) {
+        Some(word) => Ok(word),
+        None => between(operator, a, Word::Int(1)),
+    }
 }
 
 /// A place gets the value of an operator between its own and 1.
@@ -307,11 +334,7 @@ fn counts<'t>(
 {
     let _callers = callers;
     let a = held(alloc, program, top, place)?;
-    if let Some(word) = settled(operator, a) {
-        stores(alloc, program, top, place, word)?;
-        return Ok(Move::Slides);
-    }
-    let word = between(operator, a, Word::Int(1))?;
+    let word = counted(operator, a)?;
     stores(alloc, program, top, place, word)?;
     Ok(Move::Slides)
 }

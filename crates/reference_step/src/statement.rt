@@ -1,10 +1,11 @@
 //! What blocks, ifs, loops and returns do.
 
 ghost use Rattle.std.specs.Prelude.{◌≡◌, ◌∷◌, ℕ, List, IfErr, OnOk, IfOk};
-ghost use Rattle.syntax.specs.View.{body_of, branch_of, file_of, otherwise_of, returned_of};
+ghost use Rattle.syntax.specs.Tree.{Alone};
+ghost use Rattle.syntax.specs.View.{body_of, branch_of, file_of, otherwise_of, returned_of, simple_of};
 ghost use Rattle.type_table.specs.Visible.{types_of};
 ghost use Rattle.meaning.specs.Source.{branch_next, decides, enters_block, otherwise_next, return_next, task_next};
-ghost use Rattle.meaning.specs.Tasks.{EndBlock, all_of, broken, continued, frame};
+ghost use Rattle.meaning.specs.Tasks.{Do, EndBlock, all_of, broken, continued, frame};
 ghost use Rattle.meaning.specs.Variables.{entered};
 ghost use Rattle.reference_value.specs.Scopes.{blocks_of};
 ghost use Rattle.reference_base.specs.Steps.{Goes, Panics, Went};
@@ -19,7 +20,7 @@ use reference_value::fault::Stop;
 use reference_value::value::value;
 use std::alloc::{AllocError, Global};
 use syntax::node::IfHeader;
-use syntax::{ElseNode, IfNode, ReturnNode, StatementNode};
+use syntax::{ElseNode, IfNode, ReturnNode, SimpleNode, StatementNode};
 use word::value::Word;
 
 // The arms below drop a task by a call. One that goes out of scope behind a `match` is proved to be dropped in each arm for each of its
@@ -69,8 +70,18 @@ pub(crate) fn opens(alloc: Global, top: &mut Frame<'_>) -> Result<(), AllocError
     ensures { (types : List (List ℕ)) → OnOk result (frame_of types top.new ≡ frame (entered (blocks_of types top.old.scope)) (EndBlock ∷ tasks_of types top.old.tasks.items)) }
 {
     top.scope.enter(alloc)?;
-    top.push(Task::EndBlock)?;
-    Ok(())
+    top.push(Task::EndBlock)
+}
+
+/// A simple statement is to be done first.
+pub(crate) fn simply<'t>(
+    alloc: Global,
+    top: &mut Frame<'t>,
+    simple: &'t SimpleNode,
+) -> Result<(), AllocError>
+    ensures { (types : List (List ℕ)) → OnOk result (frame_of types top.new ≡ frame (blocks_of types top.old.scope) (Do (Alone (simple_of simple.now)) ∷ tasks_of types top.old.tasks.items)) }
+{
+    top.push(Task::Simply(Box::new(alloc, simple)?))
 }
 
 /// Goes into a block of these statements.
@@ -86,8 +97,7 @@ pub fn block<'t>(
     let _program = program;
     let _callers = callers;
     opens(alloc, top)?;
-    top.push_all(alloc, body)?;
-    Ok(())
+    top.push_all(alloc, body)
 }
 
 /// An if.
@@ -105,7 +115,7 @@ pub fn branch<'t>(
     opens(alloc, top)?;
     top.push(Task::Decide(Box::new(alloc, branch)?))?;
     match &branch.header {
-        IfHeader::Simple(first) => top.push(Task::Simply(Box::new(alloc, first)?))?,
+        IfHeader::Simple(first) => simply(alloc, top, first)?,
         IfHeader::Bare => {}
         IfHeader::Semicolon => {}
     }

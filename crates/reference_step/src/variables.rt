@@ -66,8 +66,7 @@ pub fn zeroed<'t>(
     let _callers = callers;
     let destinations = typed(alloc, program, &top.scope, names, kind)?;
     let values = zeros(alloc, program, kind, names)?;
-    top.push(Task::Store(destinations, values))?;
-    Ok(())
+    top.push(Task::Store(destinations, values))
 }
 
 /// A `var` with a type and values.

@@ -5,3 +5,4 @@ pub mod Names
 pub mod Types
 pub mod Literals
 pub mod Stops
+pub mod Constants

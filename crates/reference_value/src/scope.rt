@@ -6,6 +6,7 @@ ghost use Rattle.meaning.specs.Variables.{in_block, innermost, lookup, entered, 
 ghost use Rattle.meaning.specs.Values.{written};
 ghost use Rattle.reference_value.specs.Scopes.{binding_of, newest_first, innermost_first, blocks_of};
 
+use crate::words::put_last;
 use std::alloc::{AllocError, Global};
 use type_table::value_type::ValueType;
 use word::value::Word;
@@ -120,7 +121,7 @@ fn put_back<'t>(
     ensures { (types : List (List ℕ)) → OnOk result (newest_first types variables.new.items ≡ map (binding_of types) newer.entry.items ++ newest_first types variables.old.items) }
 {
     while let Some(variable) = newer.pop() {
-        variables.push(variable)?;
+        put_last(variables, variable)?;
     }
     Ok(())
 }
@@ -138,10 +139,10 @@ fn put_in(
     let mut newer = Vec::new(alloc);
     while let Some(variable) = variables.pop() {
         if variable.name == name {
-            variables.push(changed(alloc, variable, from, words)?)?;
+            put_last(variables, changed(alloc, variable, from, words)?)?;
             return put_back(variables, newer);
         }
-        newer.push(variable)?;
+        put_last(&mut newer, variable)?;
     }
     put_back(variables, newer)
 }
@@ -165,7 +166,7 @@ fn put(
     } else {
         put(alloc, blocks, name, from, words)?;
     }
-    blocks.push(block)?;
+    put_last(blocks, block)?;
     Ok(())
 }
 
@@ -193,9 +194,10 @@ impl<'t> Scope<'t> {
     pub fn enter(&mut self, alloc: Global) -> Result<(), AllocError>
         ensures { (types : List (List ℕ)) → OnOk result (blocks_of types self.new ≡ entered (blocks_of types self.old)) }
     {
-        self.blocks.push(Block {
+        let block = Block {
             variables: Vec::new(alloc),
-        })?;
+        };
+        put_last(&mut self.blocks, block)?;
         Ok(())
     }
 
@@ -218,8 +220,8 @@ impl<'t> Scope<'t> {
                 variables: Vec::new(alloc),
             },
         };
-        block.variables.push(variable)?;
-        self.blocks.push(block)?;
+        put_last(&mut block.variables, variable)?;
+        put_last(&mut self.blocks, block)?;
         Ok(())
     }
 

@@ -1,13 +1,15 @@
 //! The values of expressions.
 
-ghost use Rattle.std.specs.Prelude.{◌≡◌, ◌||◌, ◌∷◌, [], ℕ, List, true, false, IfSome, IfNone, IfOk, IfErr, Ok, map};
+ghost use Rattle.std.specs.Prelude.{◌≡◌, ◌||◌, ◌∷◌, [], ℕ, List, true, false, IfSome, IfNone, IfOk, IfErr, Ok, map, option_map};
 ghost use Rattle.syntax.specs.Tree.{expressions};
 ghost use Rattle.syntax.specs.View.{expression_of};
 ghost use Rattle.type_table.specs.Visible.{types_of, globals_in};
 ghost use Rattle.typing_rules.specs.Worths.{is_equality, is_order};
 ghost use Rattle.word.specs.Apply.{value as applied};
 ghost use Rattle.type_table.specs.Zeros.{zero_words};
-ghost use Rattle.meaning.specs.Expressions.{before, between, fields, one_word, operator_at, selected, type_of, value, values, word_in};
+ghost use Rattle.checker_base.specs.Views.{worth_of};
+ghost use Rattle.meaning.specs.Expressions.{Worked, before, between, compared, exactly, fields, one_word, operator_at, selected, type_of, value, values, word_in};
+ghost use Rattle.meaning.specs.Values.{Value};
 ghost use Rattle.meaning.specs.Variables.{lookup, value_of};
 ghost use Rattle.reference_value.specs.Scopes.{blocks_of};
 ghost use Rattle.reference_value.specs.Stops.{Fails};
@@ -57,30 +59,53 @@ fn fixed(name: &[u8]) -> Option<Word>
     }
 }
 
+/// The word of what is worth an exact constant.
+fn number(table: &TypeTable<'_>, worth: Option<Worth<'_>>) -> Option<Word>
+    ensures some { IfSome result (λ word. (other : Worked Value) → exactly (option_map (worth_of (types_of table.now)) worth.entry) other ≡ Ok (word ∷ [])) }
+    ensures none { IfNone result ((other : Worked Value) → exactly (option_map (worth_of (types_of table.now)) worth.entry) other ≡ other) }
+{
+    match worth {
+        Some(Worth::Constant(number)) => Some(Word::Int(wrapped(number))),
+        _ => None,
+    }
+}
+
+/// The word of a comparison of two constants.
+fn comparison(
+    table: &TypeTable<'_>,
+    operator: BinaryOperator,
+    left: Option<Worth<'_>>,
+    right: Option<Worth<'_>>,
+) -> Option<Word>
+    ensures some { IfSome result (λ word. (other : Worked Value) → compared operator (option_map (worth_of (types_of table.now)) left.entry) (option_map (worth_of (types_of table.now)) right.entry) other ≡ Ok (word ∷ [])) }
+    ensures none { IfNone result ((other : Worked Value) → compared operator (option_map (worth_of (types_of table.now)) left.entry) (option_map (worth_of (types_of table.now)) right.entry) other ≡ other) }
+{
+    match (left, right) {
+        (Some(Worth::Constant(a)), Some(Worth::Constant(b))) => match compared(operator, a, b) {
+            Some(truth) => Some(Word::Bool(truth)),
+            None => None,
+        },
+        _ => None,
+    }
+}
+
 /// The word of a constant, of a comparison of two, or of a name that stands for no variable; of another expression none.
 fn constant(table: &TypeTable<'_>, scope: &Scope<'_>, expression: &ExpressionNode) -> Option<Word>
     ensures some { IfSome result (λ word. value (globals_in table.now) (blocks_of (types_of table.now) scope.now) (expression_of expression.now) ≡ Ok (word ∷ [])) }
     ensures none { IfNone result (value (globals_in table.now) (blocks_of (types_of table.now) scope.now) (expression_of expression.now) ≡ by_parts (globals_in table.now) (blocks_of (types_of table.now) scope.now) (expression_of expression.now)) }
 {
     match expression {
-        ExpressionNode::Integer(_) | ExpressionNode::Unary(_, _) => {
-            match worth(table, scope, expression) {
-                Some(Worth::Constant(number)) => Some(Word::Int(wrapped(number))),
-                _ => None,
-            }
-        }
+        ExpressionNode::Integer(_) => number(table, worth(table, scope, expression)),
+        ExpressionNode::Unary(_, _) => number(table, worth(table, scope, expression)),
         ExpressionNode::Binary(operator, left, right) => {
-            if let Some(Worth::Constant(number)) = worth(table, scope, expression) {
-                return Some(Word::Int(wrapped(number)));
-            }
-            match (worth(table, scope, left), worth(table, scope, right)) {
-                (Some(Worth::Constant(a)), Some(Worth::Constant(b))) => {
-                    match compared(*operator, a, b) {
-                        Some(truth) => Some(Word::Bool(truth)),
-                        None => None,
-                    }
-                }
-                _ => None,
+            match number(table, worth(table, scope, expression)) {
+                Some(word) => Some(word),
+                None => comparison(
+                    table,
+                    *operator,
+                    worth(table, scope, left),
+                    worth(table, scope, right),
+                ),
             }
         }
         ExpressionNode::Named(name) => fixed(name.bytes.as_slice()),

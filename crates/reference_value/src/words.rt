@@ -1,6 +1,6 @@
 //! Values as words, and operators on them.
 
-ghost use Rattle.std.specs.Prelude.{◌≡◌, ◌++◌, ◌∷◌, [], Ok, Err, IfOk, IfErr, IfSome, IfNone, length};
+ghost use Rattle.std.specs.Prelude.{◌≡◌, ◌++◌, ◌∷◌, [], Ok, Err, IfOk, IfErr, OnOk, IfSome, IfNone, length};
 ghost use Rattle.std.specs.Int.{w64, int_wrap};
 ghost use Rattle.meaning.specs.Expressions.{Worked, and_then, word_in, one_word, equality, inequality, operator_at, between, beside, before};
 ghost use Rattle.meaning.specs.Values.{Value, word_like, words_like};
@@ -37,6 +37,14 @@ pub fn with_first<T: Drop>(first: T, others: Vec<T>) -> Result<Vec<T>, AllocErro
     let mut all = others;
     all.insert(0, first)?;
     Ok(all)
+}
+
+/// Puts an entry behind the others.
+pub fn put_last<T: Drop>(list: &mut Vec<T>, entry: T) -> Result<(), AllocError>
+    ensures { OnOk result (list.new.items ≡ list.old.items ++ entry ∷ []) }
+{
+    list.push(entry)?;
+    Ok(())
 }
 
 /// A number brought into 64 bits.

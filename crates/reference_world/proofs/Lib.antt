@@ -1,3 +1,5 @@
+pub mod Acting
 pub mod Lists
 pub mod Performing
 pub mod Requests
+pub mod Serving

@@ -1,12 +1,8 @@
-use Rattle.std.proofs.Common.{◌≡◌, ◌+◌, ◌<◌, ◌∷◌, length, map, sym, arith}
+use Rattle.std.proofs.Common.{◌+◌, ◌<◌, length, map, sym, arith}
 use Rattle.std.proofs.lemmas.List.{length-map, length-reverse}
 use Rattle.syntax.specs.View.{file_of, function_of}
 use Rattle.type_table.specs.Visible.{types_of}
 use Rattle.word.specs.declared.limits.TheConstants.{MAX_DEPTH}
-use Rattle.typing_rules.specs.Operations.{result_of}
-use Rattle.meaning.specs.Destinations.{zero_result}
-use Rattle.meaning.specs.Source.{globals}
-use Rattle.meaning.specs.Tasks.{Await, frame}
 use Rattle.reference_value.specs.Scopes.{blocks_of}
 use Rattle.reference_value.specs.Values.{values_of}
 use Rattle.reference_base.specs.Tasks.{frame_of, frames_of, purpose_of, tasks_of}
@@ -18,6 +14,5 @@ returns-clause-ok c =
     let types = types_of c.args.program.now.table in
     let file = file_of c.args.program.now.file.now in
     let few : length (frames_of types c.args.callers.now) + 1 < MAX_DEPTH = omega (arith, length-reverse (map (frame_of types) c.args.callers.now), length-map c.args.callers.now (frame_of types)) in
-    let waits : frame_of types c.push.new.self ≡ frame (blocks_of types c.args.top.now.scope) (Await (zero_result (globals file) (result_of (globals file) c.args.number)) (purpose_of types c.args.purpose) ∷ tasks_of types c.args.top.now.tasks.items) = rw (← c.in_ok-zero.ensures) (c.in_ok-push.ensures types) in
-    call_goes file (blocks_of types c.args.top.now.scope) (tasks_of types c.args.top.now.tasks.items) (frames_of types c.args.callers.now) (purpose_of types c.args.purpose) c.args.number (values_of c.args.arguments.now) (function_of c.in-Some.function.now) (frame_of types c.push.new.self) (frame_of types c.in_ok-frame.frame)
-    (sym c.in-Some.ensures) few c.in_ok-frame.ensures waits
+    call_goes file (blocks_of types c.args.top.now.scope) (tasks_of types c.args.top.now.tasks.items) (frames_of types c.args.callers.now) (purpose_of types c.args.purpose) c.args.number (values_of c.args.arguments.now) (function_of c.in-Some.function.now) (frame_of types c.waits.new.top) (frame_of types c.in_ok-frame.frame)
+    (sym c.in-Some.ensures) few c.in_ok-frame.ensures c.in_ok-waits.ensures

@@ -1,11 +1,10 @@
-use Rattle.std.proofs.Common.{◌≡◌, [], ◌∷◌, ◌++◌, ◌∙◌, is_ok, ap}
-use Rattle.std.proofs.ResultArms.{chosen}
+use Rattle.std.proofs.Common.{◌≡◌, [], ◌∷◌, ◌++◌, ◌∙◌}
 use Rattle.reference_value.proofs.Newer.{taken}
 use Rattle.reference_value.proofs.scope.put_back.Goals as goal
 
 pub loop-variable-preserved : goal.loop-variable-preserved
 loop-variable-preserved c = λ types.
     let popped : c.loop-variable.newer.items ≡ c.pop.new.self.items ++ c.in-Some.variable ∷ [] = c.in-Some.ensures.items in
-    let pushed : c.push.new.self.items ≡ c.loop-variable.variables.items ++ c.in-Some.variable ∷ [] = chosen _ _ _ _ c.push.ensures.items (ap is_ok c.in_ok-push.was) in
+    let pushed : c.put_last.new.list.items ≡ c.loop-variable.variables.items ++ c.in-Some.variable ∷ [] = c.in_ok-put_last.ensures in
     let here = rw popped at (c.loop-variable.invariant types) in
     rw pushed (taken types c.pop.new.self.items c.loop-variable.variables.items c.in-Some.variable ∙ here)

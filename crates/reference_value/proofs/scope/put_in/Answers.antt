@@ -1,5 +1,4 @@
-use Rattle.std.proofs.Common.{◌≡◌, [], ◌∷◌, ◌++◌, ◌∙◌, true, false, bytes_eq, is_ok, ap, sym}
-use Rattle.std.proofs.ResultArms.{chosen}
+use Rattle.std.proofs.Common.{◌≡◌, [], ◌∷◌, ◌++◌, ◌∙◌, true, false, bytes_eq, sym}
 use Rattle.std.proofs.lemmas.Result.{IfOk-equal}
 use Rattle.reference_value.proofs.Newer.{found_last, passed_last}
 use Rattle.reference_value.proofs.scope.put_in.Goals as goal
@@ -7,7 +6,7 @@ use Rattle.reference_value.proofs.scope.put_in.Goals as goal
 pub returns-then-eq : goal.returns-then-eq
 returns-then-eq c = λ types.
     let popped : c.loop-variable.variables.items ≡ c.pop.new.self.items ++ c.in-Some.variable ∷ [] = c.in-Some.ensures.items in
-    let pushed : c.push.new.self.items ≡ c.pop.new.self.items ++ c.in_ok-changed.field-0 ∷ [] = chosen _ _ _ _ c.push.ensures.items (ap is_ok c.in_ok-push.was) in
+    let pushed : c.put_last.new.list.items ≡ c.pop.new.self.items ++ c.in_ok-changed.field-0 ∷ [] = c.in_ok-put_last.ensures in
     let same : bytes_eq c.in-Some.variable.name.now c.args.name.now ≡ true = sym c.eq.ensures ∙ c.if-eq.true in
     let found = found_last types c.args.name.now c.args.from c.args.words.now c.loop-variable.newer.items c.pop.new.self.items c.in-Some.variable c.in_ok-changed.field-0 same (c.in_ok-changed.ensures types) in
     let here = rw popped at (c.loop-variable.invariant types) in
@@ -19,5 +18,5 @@ loop-variable-preserved c = λ types.
     let other : bytes_eq c.in-Some.variable.name.now c.args.name.now ≡ false = sym c.eq.ensures ∙ c.if-eq.false in
     let passed = passed_last types c.args.name.now c.args.from c.args.words.now c.loop-variable.newer.items c.pop.new.self.items c.in-Some.variable other in
     let here = rw popped at (c.loop-variable.invariant types) in
-    let pushed : c.push-in-Some.new.self.items ≡ c.loop-variable.newer.items ++ c.in-Some.variable ∷ [] = chosen _ _ _ _ c.push-in-Some.ensures.items (ap is_ok c.in_ok-push-2.was) in
+    let pushed : c.put_last-in-Some.new.list.items ≡ c.loop-variable.newer.items ++ c.in-Some.variable ∷ [] = c.in_ok-put_last-2.ensures in
     rw pushed (sym passed ∙ here)
