@@ -62,6 +62,7 @@ use Rattle.worker_pool_base.specs.contracts.run_book.RunBook as RunBook
 use Rattle.worker_pool_base.specs.contracts.run_name.OfRun as OfRun
 use Rattle.worker_pool_base.specs.contracts.run_name.OfRunBookName.TheImpl.{ghosts, no_dict}
 use Rattle.worker_pool.specs.contracts.shared.Shared as Shared
+use Rattle.worker_pool.proofs.signals.Signals.TheSendSync.{the_field_send as signals_send}
 use Rattle.worker_pool.specs.contracts.work_queues.Owner as Owner
 use Rattle.worker_pool.specs.contracts.work_queues.Stealer as Stealer
 use Rattle.worker_pool.specs.contracts.work_queues.WorkQueues as WorkQueues
@@ -198,7 +199,7 @@ locked_send : (B : RattleType) (g : Ghosts B.Denot) → IsSend B → IsSend (Loc
 locked_send B g s =
     recorded_send (Locked.the_field B g).row _ _ (Locked.the_type B g).to_one (struct_send (shape (Locked.the_type B g)) (
       struct_send (shape (RunBook.the_type B g)) (book_send (OfRun.the_row B) _, (event_send, tt)),
-      (ledger.the_send _ _, (ledger.the_send _ _, (search sendable, (search sendable, (search sendable, (search sendable, (search sendable, (search sendable, tt)))))))),
+      (ledger.the_send _ _, (ledger.the_send _ _, (signals_send, tt))),
     ))
 
 pub shared_sync : (B : RattleType) (g : Ghosts B.Denot) → IsSend B → IsSync (Shared.the_row B g)

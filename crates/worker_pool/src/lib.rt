@@ -5,6 +5,7 @@ mod gate;
 mod locked;
 mod pool;
 mod shared;
+mod signals;
 mod trace_writer;
 mod turn;
 mod work_queues;

@@ -4,6 +4,7 @@ ghost use Rattle.std.specs.Prelude.{◌≡◌, ◌+◌, [], IfOk, IfSome, OnOk, 
 ghost use Rattle.worker_pool_base.specs.Handing.{HasEnded};
 ghost use Rattle.worker_pool_base.specs.Runs.{IsHanded, output_run, trace_run};
 
+use crate::signals::Signals;
 use crate::turn::{Back, Turn};
 use crate::work_queues::{CAPACITY, WorkQueues};
 use go_text::Memory;
@@ -11,7 +12,6 @@ use output::Piece;
 use std::sync::Wait;
 use std::sync::atomic::{AtomicU64, Ordering};
 use std::sync::ledger::{Book, Share};
-use word::end::End;
 use worker_pool_base::handed::Handed;
 use worker_pool_base::run_book::RunBook;
 use worker_pool_base::run_name::{Printed, RunLease, RunName, Traced};
@@ -30,18 +30,7 @@ pub(crate) struct Locked<B: RunName> {
     printed: Book<Printed<B>>,
     /// How many bytes of the trace.
     traced: Book<Traced<B>>,
-    /// Whether memory was refused.
-    stopped: bool,
-    /// Whether no lease is given out any more: the run has ended, or stops.
-    over: bool,
-    /// How many workers wait until they are woken.
-    waiting: u64,
-    /// Whether a worker watches, which looks by itself whether something can be lent.
-    watched: bool,
-    /// How many leases were given out, and turns taken without one, modulo 2^64.
-    lent: u64,
-    /// How many leases are out to workers that yield.
-    talkers: u64,
+    pub signals: Signals,
     ghost counted: { run.book.taken ≡ printed.total },
     ghost lines: { run.book.traced ≡ traced.total },
 }
@@ -56,49 +45,8 @@ impl<B: RunName> Locked<B> {
             run,
             printed,
             traced,
-            stopped: false,
-            over: false,
-            waiting: 0,
-            watched: false,
-            lent: 0,
-            talkers: 0,
+            signals: Signals::new(),
         }
-    }
-
-    /// No lease is given out any more.
-    pub fn close(&mut self) {
-        self.over = true;
-    }
-
-    /// The run stops for want of memory, unless it has ended.
-    pub fn stop(&mut self) {
-        self.stopped = self.stopped || !self.over;
-        self.over = true;
-    }
-
-    /// Whether no lease is given out any more.
-    pub fn is_over(&self) -> bool {
-        self.over
-    }
-
-    /// A worker has watched, and looks again.
-    pub fn end_watch(&mut self) {
-        self.watched = false;
-    }
-
-    /// Whether workers wait, and nobody watches for them.
-    pub fn wants_watch(&self) -> bool {
-        self.waiting > 0 && !self.watched
-    }
-
-    /// A worker begins to wait.
-    pub fn begin_wait(&mut self) {
-        self.waiting = self.waiting.saturating_add(1);
-    }
-
-    /// A worker was woken.
-    pub fn end_wait(&mut self) {
-        self.waiting = self.waiting.saturating_sub(1);
     }
 
     /// Takes what a worker comes back with, and commits all that can be committed.
@@ -106,38 +54,23 @@ impl<B: RunName> Locked<B> {
         match back {
             Back::Begun => {}
             Back::Talking(lease) | Back::Asking(lease) | Back::Running(lease) => self.bring(lease),
-            Back::NoMemory => self.stop(),
+            Back::NoMemory => self.signals.stop(),
         }
-    }
-
-    /// How many leases were given out, and turns taken without one, modulo 2^64.
-    pub fn lent(&self) -> u64 {
-        self.lent
     }
 
     /// Whether a worker watches, and there is a lease for it: in the book, or in a queue of which it is told that it is filled.
     pub fn wants_call(&self, filled: bool) -> bool {
-        self.watched && !self.over && (filled || self.run.may_lend())
-    }
-
-    /// A lease goes out to a worker that yields.
-    pub fn begin_talk(&mut self) {
-        self.talkers = self.talkers.saturating_add(1);
-    }
-
-    /// That worker comes back.
-    pub fn end_talk(&mut self) {
-        self.talkers = self.talkers.saturating_sub(1);
+        self.signals.may_call() && (filled || self.run.may_lend())
     }
 
     /// What a worker with these queues does next. Of those that yield one gets leases: two whose leases are short would only
     /// wait for one another here.
     pub fn turn<R: Wait>(&mut self, rt: &R, yields: bool, queues: &mut WorkQueues<B>) -> Turn<B> {
-        if self.over {
+        if self.signals.is_over() {
             return Turn::Leave;
         }
-        if yields && self.talkers > 0 {
-            return self.idle_turn();
+        if yields && self.signals.is_talking() {
+            return idle_turn(&mut self.signals);
         }
         let found = if yields {
             self.short_lease(rt, queues)
@@ -146,9 +79,9 @@ impl<B: RunName> Locked<B> {
         };
         match found {
             Ok(Some(lease)) => Turn::Work(lease),
-            Ok(None) => self.idle_turn(),
+            Ok(None) => idle_turn(&mut self.signals),
             Err(Memory) => {
-                self.stop();
+                self.signals.stop();
                 Turn::Leave
             }
         }
@@ -218,7 +151,7 @@ impl<B: RunName> Locked<B> {
     fn lend(&mut self) -> Result<Option<RunLease<B>>, Memory> {
         let lease = self.run.lend()?;
         if lease.is_some() {
-            self.lent = self.lent.wrapping_add(1);
+            self.signals.count_turn();
         }
         Ok(lease)
     }
@@ -234,30 +167,21 @@ impl<B: RunName> Locked<B> {
         ensures output { IfOk result (λ h. (h.output.from ≡ printed.old.amount) × (printed.new.amount ≡ printed.old.amount + length h.output.bytes.items)) }
         ensures trace { IfOk result (λ h. (h.trace.from ≡ traced.old.amount) × (traced.new.amount ≡ traced.old.amount + length h.trace.bytes.items)) }
     {
-        if self.stopped {
+        if self.signals.is_stopped() {
             return Err(Memory);
         }
         let end = self.run.settle_all()?;
-        self.over = self.over || end.is_some();
+        self.signals.settle(end);
         let output = self.take_output(printed)?;
         let trace = self.take_trace(traced)?;
         Ok(Handed::new(output, trace, end))
-    }
-
-    /// What a worker does that nothing can be lent to.
-    fn idle_turn(&mut self) -> Turn<B> {
-        if self.watched {
-            return Turn::Wait;
-        }
-        self.watched = true;
-        Turn::Watch
     }
 
     /// Goroutines that talk make their steps under the lock, one after the other and without a lease, and what they ask is
     /// committed. That ends where one computes, where there is nobody, where another worker whose goroutines talk is out, where
     /// somebody comes to the lock, or after some turns.
     pub fn talk(&mut self, coming: &AtomicU64) {
-        if self.over || self.talkers > 0 {
+        if self.signals.is_over() || self.signals.is_talking() {
             return;
         }
         for _ in 0..TALKS {
@@ -267,7 +191,7 @@ impl<B: RunName> Locked<B> {
             match self.talk_once() {
                 Ok(true) => {}
                 Ok(false) => break,
-                Err(Memory) => return self.stop(),
+                Err(Memory) => return self.signals.stop(),
             }
         }
         self.settle();
@@ -278,7 +202,7 @@ impl<B: RunName> Locked<B> {
     fn talk_once(&mut self) -> Result<bool, Memory> {
         let asking = self.run.work(FEW_STEPS)?;
         let committed = self.run.settle_one()?;
-        self.lent = self.lent.wrapping_add(1);
+        self.signals.count_turn();
         Ok(asking.unwrap_or(committed))
     }
 
@@ -291,8 +215,8 @@ impl<B: RunName> Locked<B> {
     /// Commits all that can be committed.
     fn settle(&mut self) {
         match self.run.settle_all() {
-            Ok(end) => self.over = self.over || end.is_some(),
-            Err(Memory) => self.stop(),
+            Ok(end) => self.signals.settle(end),
+            Err(Memory) => self.signals.stop(),
         }
     }
 
@@ -325,5 +249,14 @@ impl<B: RunName> Locked<B> {
         let piece = run.take_trace()?;
         traced.add(mine, piece.bytes.len() as u64);
         Ok(piece)
+    }
+}
+
+/// What a worker does that nothing can be lent to.
+fn idle_turn<B: RunName>(signals: &mut Signals) -> Turn<B> {
+    if signals.begin_watch() {
+        Turn::Watch
+    } else {
+        Turn::Wait
     }
 }

@@ -65,7 +65,7 @@ impl<B: RunName> Shared<B> {
     ) -> Option<RunLease<B>> {
         let mut locked = self.lock(rt);
         let long = matches!(&back, Back::Running(_));
-        pace.come(&mut locked, &back);
+        pace.come(&mut locked.signals, &back);
         locked.take_back(back);
         if pace.talks() {
             locked.talk(&self.coming);
@@ -73,24 +73,24 @@ impl<B: RunName> Shared<B> {
         for _ in rt.forever() {
             match locked.turn(rt, pace.yields(), queues) {
                 Turn::Work(lease) => {
-                    pace.go(&mut locked);
+                    pace.go(&mut locked.signals);
                     let filled = queues.is_filled();
                     if (long || filled) && locked.wants_call(filled) {
                         self.watching.notify_one();
                     }
-                    if locked.wants_watch() {
+                    if locked.signals.wants_watch() {
                         self.waiting.notify_one();
                     }
                     return Some(lease);
                 }
                 Turn::Watch => {
                     locked = watch(rt, &self.watching, locked, pace);
-                    locked.end_watch();
+                    locked.signals.end_watch();
                 }
                 Turn::Wait => {
-                    locked.begin_wait();
+                    locked.signals.begin_wait();
                     locked = self.waiting.wait(rt, locked);
-                    locked.end_wait();
+                    locked.signals.end_wait();
                     pace.rest(true);
                 }
                 Turn::Leave => return None,
@@ -112,7 +112,7 @@ impl<B: RunName> Shared<B> {
         ensures trace { IfOk result (λ h. (h.trace.from ≡ traced.old.amount) × (traced.new.amount ≡ traced.old.amount + length h.trace.bytes.items)) }
     {
         let mut locked = self.lock(rt);
-        if !locked.is_over() {
+        if !locked.signals.is_over() {
             locked = sleep(
                 rt,
                 &self.writing,
@@ -125,13 +125,13 @@ impl<B: RunName> Shared<B> {
 
     /// The run stops for want of memory, unless it has ended.
     pub fn stop<R: Wait>(&self, rt: &R) {
-        self.lock(rt).stop();
+        self.lock(rt).signals.stop();
         self.wake_all();
     }
 
     /// No worker gets another lease.
     pub fn close<R: Wait>(&self, rt: &R) {
-        self.lock(rt).close();
+        self.lock(rt).signals.close();
         self.wake_all();
     }
 
@@ -150,7 +150,7 @@ fn watch<'a, B: RunName, R: Wait>(
     locked: MutexGuard<'a, Locked<B>>,
     pace: &mut Pace,
 ) -> MutexGuard<'a, Locked<B>> {
-    let lent = locked.lent();
+    let lent = locked.signals.lent();
     let seen = call.notifications();
     let lock = MutexGuard::unlock(locked);
     for _ in rt.forever() {
@@ -160,7 +160,7 @@ fn watch<'a, B: RunName, R: Wait>(
             return lock.lock(rt);
         }
         if let Some(locked) = lock.try_lock() {
-            pace.rest(locked.lent() != lent);
+            pace.rest(locked.signals.lent() != lent);
             return locked;
         }
     }

@@ -1,8 +1,8 @@
 //! A worker.
 
 use crate::gate::Gate;
-use crate::locked::Locked;
 use crate::shared::Shared;
+use crate::signals::Signals;
 use crate::turn::Back;
 use crate::work_queues::WorkQueues;
 use logical_clock::Clock;
@@ -63,9 +63,9 @@ impl Pace {
     }
 
     /// The worker comes to the lock with this.
-    pub fn come<B: RunName>(&mut self, locked: &mut Locked<B>, back: &Back<B>) {
+    pub fn come<B: RunName>(&mut self, signals: &mut Signals, back: &Back<B>) {
         if self.counted {
-            locked.end_talk();
+            signals.end_talk();
         }
         self.counted = false;
         self.yields = matches!(back, Back::Begun | Back::Talking(_));
@@ -80,9 +80,9 @@ impl Pace {
     }
 
     /// It goes off with a lease.
-    pub fn go<B: RunName>(&mut self, locked: &mut Locked<B>) {
+    pub fn go(&mut self, signals: &mut Signals) {
         if self.yields {
-            locked.begin_talk();
+            signals.begin_talk();
         }
         self.counted = self.yields;
     }

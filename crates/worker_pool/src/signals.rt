@@ -1,0 +1,117 @@
+//! What the threads of a run tell each other.
+
+use word::end::End;
+
+/// What the threads of a run tell each other under its lock.
+#[derive(Clone, Copy)]
+pub(crate) struct Signals {
+    /// Whether memory was refused.
+    stopped: bool,
+    /// Whether no lease is given out any more: the run has ended, or stops.
+    over: bool,
+    /// How many workers wait until they are woken.
+    waiting: u64,
+    /// Whether a worker watches, which looks by itself whether something can be lent.
+    watched: bool,
+    /// How many leases were given out, and turns taken without one, modulo 2^64.
+    lent: u64,
+    /// How many leases are out to workers that yield.
+    talkers: u64,
+}
+
+impl Signals {
+    /// Nobody has told anything.
+    pub fn new() -> Signals {
+        Signals {
+            stopped: false,
+            over: false,
+            waiting: 0,
+            watched: false,
+            lent: 0,
+            talkers: 0,
+        }
+    }
+
+    /// No lease is given out any more.
+    pub fn close(&mut self) {
+        self.over = true;
+    }
+
+    /// The run stops for want of memory, unless it has ended.
+    pub fn stop(&mut self) {
+        self.stopped = self.stopped || !self.over;
+        self.over = true;
+    }
+
+    /// All that can be committed is committed, up to this end of the run, if there is one.
+    pub fn settle(&mut self, end: Option<End>) {
+        self.over = self.over || end.is_some();
+    }
+
+    /// Whether no lease is given out any more.
+    pub fn is_over(&self) -> bool {
+        self.over
+    }
+
+    /// Whether memory was refused.
+    pub fn is_stopped(&self) -> bool {
+        self.stopped
+    }
+
+    /// A worker finds nothing to do. Answers whether it is to watch, since nobody else does.
+    pub fn begin_watch(&mut self) -> bool {
+        let begins = !self.watched;
+        self.watched = true;
+        begins
+    }
+
+    /// A worker has watched, and looks again.
+    pub fn end_watch(&mut self) {
+        self.watched = false;
+    }
+
+    /// Whether workers wait, and nobody watches for them.
+    pub fn wants_watch(&self) -> bool {
+        self.waiting > 0 && !self.watched
+    }
+
+    /// Whether a worker watches that may still get a lease.
+    pub fn may_call(&self) -> bool {
+        self.watched && !self.over
+    }
+
+    /// A worker begins to wait.
+    pub fn begin_wait(&mut self) {
+        self.waiting = self.waiting.saturating_add(1);
+    }
+
+    /// A worker was woken.
+    pub fn end_wait(&mut self) {
+        self.waiting = self.waiting.saturating_sub(1);
+    }
+
+    /// A lease was given out, or a turn taken without one.
+    pub fn count_turn(&mut self) {
+        self.lent = self.lent.wrapping_add(1);
+    }
+
+    /// How many leases were given out, and turns taken without one, modulo 2^64.
+    pub fn lent(&self) -> u64 {
+        self.lent
+    }
+
+    /// A lease goes out to a worker that yields.
+    pub fn begin_talk(&mut self) {
+        self.talkers = self.talkers.saturating_add(1);
+    }
+
+    /// That worker comes back.
+    pub fn end_talk(&mut self) {
+        self.talkers = self.talkers.saturating_sub(1);
+    }
+
+    /// Whether a worker that yields is out with a lease.
+    pub fn is_talking(&self) -> bool {
+        self.talkers > 0
+    }
+}
