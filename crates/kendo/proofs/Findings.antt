@@ -1,13 +1,15 @@
 -- What a command finds in a text, and the exit status that tells it.
-use Rattle.std.proofs.Common.{◌≡◌, ◌↔◌, ℕ, ◌≤◌, ◌<◌, ◌^◌, ◌⊎◌, inl, inr, List, Result, Ok, Err, IfOk, IfErr, IsErrOf, refl, sym, ap, subst, arith}
+use Rattle.std.proofs.Common.{◌≡◌, ◌↔◌, ℕ, ◌≤◌, ◌<◌, ◌^◌, ◌⊎◌, inl, inr, List, Result, Ok, Err, IfOk, IfErr, IsErrOf, Option, refl, sym, ap, subst, arith}
 use Rattle.std.proofs.lemmas.Bool.{cases_lt}
 use Rattle.kendo.specs.Answers.{EndsAs, Finds, HasReading, IsInBounds, IsReason, IsStatus, IsTold, Tells}
 use Rattle.command_line.specs.declared.arguments.Subcommand.{Subcommand}
 use Rattle.command_line.specs.declared.arguments.Subcommand.TheVariants as subcommands
 use Rattle.kendo_front.specs.Outcome.{fault_status, report_status}
-use Rattle.kendo_reading.specs.Reading.{HasNoReading, IsOfText, IsRefusal, IsWhy}
+use Rattle.kendo_reading.specs.Reading.{HasNoReading, IsOfText, IsRefusal, IsWhy, Reads}
 use Rattle.worker_pool_base.specs.Runs.{IsWorkers}
-use Rattle.one_thread.specs.Worlds.{IsLimit}
+use Rattle.meaning.specs.Source.{source_kind}
+use Rattle.one_thread.specs.Worlds.{IsLimit, IsWhole}
+use Rattle.syntax.specs.Tree.{File}
 use Rattle.go_text.specs.declared.fault.Fault.{Fault}
 use Rattle.go_text.specs.declared.fault.Fault.TheVariants as faults
 use Rattle.word.specs.declared.end.End.{End}
@@ -55,11 +57,6 @@ both_ended workers limit made bad_workers bad_limit =
     let many = within 1 64 workers (λ out. not_both made faults.BadWorkers (bad_workers.1 out)) in
     (many, within 1 (2 ^ 62) limit (λ out. not_both made faults.BadLimit (bad_limit.1 (many, out))))
 
--- what holds at last holds whatever is told
-pub whatever : {B : Type 0} (result : Result End Fault) → B → IfErr result (λ fault. IsTold fault → B)
-whatever (Ok end) b = tt
-whatever (Err fault) b = λ told. b
-
 -- why a text is refused
 unreadable : (subcommand : Subcommand) (text : List ℕ) (fault : Fault) → IsInBounds subcommand → IsRefusal fault → HasNoReading text → IsWhy text fault → IsReason subcommand text fault
 unreadable subcommand text faults.TooLong bounds is none why = (bounds, none, why)
@@ -79,67 +76,85 @@ unreadable subcommand text faults.BadLimit bounds is none why = absurd (omega (a
 unreadable subcommand text faults.Memory bounds is none why = tt
 unreadable subcommand text faults.Write bounds is none why = absurd (omega (arith, is))
 
-pub check_finds : (text : List ℕ) (result : Result End Fault) → IfOk result (λ end. (end ≡ Finished) × HasReading text)
-    → IfErr result IsOfText → IfErr result (λ fault. IsRefusal fault → HasNoReading text)
-    → IfErr result (λ fault. IsRefusal fault → IsWhy text fault) → Finds subcommands.Check text result
-check_finds text (Ok end) checked only refused why = checked
-check_finds text (Err fault) checked (inl is) refused why = unreadable subcommands.Check text fault tt is (refused is) (why is)
-check_finds text (Err fault) checked (inr is) refused why = subst (IsReason subcommands.Check text) (sym is) tt
+-- want of memory is a reason for every command
+pub no_memory : (subcommand : Subcommand) (text : List ℕ) (fault : Fault) → fault ≡ faults.Memory → IsReason subcommand text fault
+no_memory subcommand text fault is = subst (IsReason subcommand text) (sym is) tt
 
-pub list_finds : (text : List ℕ) (result : Result End Fault) → IfOk result (λ end. (end ≡ Finished) × HasReading text)
-    → IfErr result (λ fault. IsRefusal fault ⊎ ((fault ≡ faults.Memory) ⊎ (fault ≡ faults.Write))) → IfErr result (λ fault. IsRefusal fault → HasNoReading text)
-    → IfErr result (λ fault. IsRefusal fault → IsWhy text fault) → (IsErrOf result faults.Write → HasReading text) → Finds subcommands.List text result
-list_finds text (Ok end) listed only refused why write = listed
-list_finds text (Err fault) listed (inl is) refused why write = unreadable subcommands.List text fault tt is (refused is) (why is)
-list_finds text (Err fault) listed (inr (inl is)) refused why write = subst (IsReason subcommands.List text) (sym is) tt
-list_finds text (Err fault) listed (inr (inr is)) refused why write = subst (IsReason subcommands.List text) (sym is) (tt, write (ap (λ (f : Fault). Err f) is))
+-- the text has a reading of which more is said
+pub read_of : {Q : File → Type 0} (text : List ℕ) → (file : File) × Reads text file × Q file → HasReading text
+read_of text (file, reads, more) = (file, reads)
 
--- a fault of the interpreter that is no refusal of the text
-reference_reason : (limit : ℕ) (text : List ℕ) (fault : Fault) → (fault ≡ faults.Memory) ⊎ ((fault ≡ faults.Write) ⊎ (fault ≡ faults.BadLimit)) → (IsErrOf {T = End} (Err fault) faults.Write → HasReading text)
-    → (IsErrOf {T = End} (Err fault) faults.BadLimit → IsLimit limit → ⊥) → (IsTold fault → IsLimit limit) → IsReason (subcommands.Reference limit) text fault
-reference_reason limit text fault (inl is) write bad_limit bounds = subst (IsReason (subcommands.Reference limit) text) (sym is) tt
-reference_reason limit text fault (inr (inl is)) write bad_limit bounds = subst (IsReason (subcommands.Reference limit) text) (sym is) (bounds (inr is), write (ap (λ (f : Fault). Err f) is))
-reference_reason limit text fault (inr (inr is)) write bad_limit bounds = subst (IsReason (subcommands.Reference limit) text) (sym is) (bad_limit (ap (λ (f : Fault). Err f) is))
+-- ---- a text that is checked or listed
 
-pub reference_finds : (limit : ℕ) (text : List ℕ) (result : Result End Fault) → IfOk result (λ end. IsLimit limit × EndsAs text limit end)
-    → IfErr result (λ fault. IsRefusal fault ⊎ ((fault ≡ faults.Memory) ⊎ ((fault ≡ faults.Write) ⊎ (fault ≡ faults.BadLimit)))) → IfErr result (λ fault. IsRefusal fault → HasNoReading text)
-    → IfErr result (λ fault. IsRefusal fault → IsWhy text fault) → (IsErrOf result faults.Write → HasReading text) → (IsErrOf result faults.BadLimit → IsLimit limit → ⊥)
-    → IfErr result (λ fault. IsTold fault → IsLimit limit) → Finds (subcommands.Reference limit) text result
-reference_finds limit text (Ok end) ends only refused why write bad_limit bounds = ends
-reference_finds limit text (Err fault) ends (inl is) refused why write bad_limit bounds = unreadable (subcommands.Reference limit) text fault (bounds (inl is)) is (refused is) (why is)
-reference_finds limit text (Err fault) ends (inr is) refused why write bad_limit bounds = reference_reason limit text fault is write bad_limit bounds
+pub check_stops : (text : List ℕ) (fault : Fault) → IsOfText fault → (IsRefusal fault → HasNoReading text) → (IsRefusal fault → IsWhy text fault)
+    → IsReason subcommands.Check text fault
+check_stops text fault (inl is) refused why = unreadable subcommands.Check text fault tt is (refused is) (why is)
+check_stops text fault (inr is) refused why = no_memory subcommands.Check text fault is
 
--- a fault of a recording that is no refusal of the text
-timeline_reason : (limit : ℕ) (text : List ℕ) (fault : Fault) → (fault ≡ faults.Memory) ⊎ ((fault ≡ faults.Write) ⊎ (fault ≡ faults.BadLimit)) → (IsErrOf {T = End} (Err fault) faults.Write → HasReading text)
-    → (IsErrOf {T = End} (Err fault) faults.BadLimit → IsLimit limit → ⊥) → (IsTold fault → IsLimit limit) → IsReason (subcommands.Timeline limit) text fault
-timeline_reason limit text fault (inl is) write bad_limit bounds = subst (IsReason (subcommands.Timeline limit) text) (sym is) tt
-timeline_reason limit text fault (inr (inl is)) write bad_limit bounds = subst (IsReason (subcommands.Timeline limit) text) (sym is) (bounds (inr is), write (ap (λ (f : Fault). Err f) is))
-timeline_reason limit text fault (inr (inr is)) write bad_limit bounds = subst (IsReason (subcommands.Timeline limit) text) (sym is) (bad_limit (ap (λ (f : Fault). Err f) is))
+pub list_loses : (text : List ℕ) (fault : Fault) → fault ≡ faults.Write → HasReading text → IsReason subcommands.List text fault
+list_loses text fault is read = subst (IsReason subcommands.List text) (sym is) (tt, read)
 
-pub timeline_finds : (limit : ℕ) (text : List ℕ) (result : Result End Fault) → IfOk result (λ end. (end ≡ Finished) × IsLimit limit × HasReading text)
-    → IfErr result (λ fault. IsRefusal fault ⊎ ((fault ≡ faults.Memory) ⊎ ((fault ≡ faults.Write) ⊎ (fault ≡ faults.BadLimit)))) → IfErr result (λ fault. IsRefusal fault → HasNoReading text)
-    → IfErr result (λ fault. IsRefusal fault → IsWhy text fault) → (IsErrOf result faults.Write → HasReading text) → (IsErrOf result faults.BadLimit → IsLimit limit → ⊥)
-    → IfErr result (λ fault. IsTold fault → IsLimit limit) → Finds (subcommands.Timeline limit) text result
-timeline_finds limit text (Ok end) ends only refused why write bad_limit bounds = ends
-timeline_finds limit text (Err fault) ends (inl is) refused why write bad_limit bounds = unreadable (subcommands.Timeline limit) text fault (bounds (inl is)) is (refused is) (why is)
-timeline_finds limit text (Err fault) ends (inr is) refused why write bad_limit bounds = timeline_reason limit text fault is write bad_limit bounds
+pub list_stops : (text : List ℕ) (fault : Fault) → IsRefusal fault ⊎ ((fault ≡ faults.Memory) ⊎ (fault ≡ faults.Write)) → (IsRefusal fault → HasNoReading text)
+    → (IsRefusal fault → IsWhy text fault) → (IsErrOf {T = ⊤} (Err fault) faults.Write → HasReading text) → IsReason subcommands.List text fault
+list_stops text fault (inl is) refused why read = unreadable subcommands.List text fault tt is (refused is) (why is)
+list_stops text fault (inr (inl is)) refused why read = no_memory subcommands.List text fault is
+list_stops text fault (inr (inr is)) refused why read = list_loses text fault is (read (ap (λ (f : Fault). Err f) is))
 
--- a fault of a run that is no refusal of the text
-run_reason : (workers limit : ℕ) (text : List ℕ) (fault : Fault) → (fault ≡ faults.Memory) ⊎ ((fault ≡ faults.Write) ⊎ ((fault ≡ faults.BadWorkers) ⊎ (fault ≡ faults.BadLimit))) → (IsErrOf {T = End} (Err fault) faults.Write → HasReading text)
-    → (IsErrOf {T = End} (Err fault) faults.BadWorkers → IsWorkers workers → ⊥) → (IsErrOf {T = End} (Err fault) faults.BadLimit → IsWorkers workers × (IsLimit limit → ⊥)) → (IsTold fault → IsWorkers workers × IsLimit limit) → IsReason (subcommands.Run workers limit) text fault
-run_reason workers limit text fault (inl is) write bad_workers bad_limit bounds = subst (IsReason (subcommands.Run workers limit) text) (sym is) tt
-run_reason workers limit text fault (inr (inl is)) write bad_workers bad_limit bounds = subst (IsReason (subcommands.Run workers limit) text) (sym is) (bounds (inr is), write (ap (λ (f : Fault). Err f) is))
-run_reason workers limit text fault (inr (inr (inl is))) write bad_workers bad_limit bounds = subst (IsReason (subcommands.Run workers limit) text) (sym is) (bad_workers (ap (λ (f : Fault). Err f) is))
-run_reason workers limit text fault (inr (inr (inr is))) write bad_workers bad_limit bounds = subst (IsReason (subcommands.Run workers limit) text) (sym is) (bad_limit (ap (λ (f : Fault). Err f) is))
+-- ---- a text that is interpreted, or of whose run a picture is made
 
-pub run_finds : (workers limit : ℕ) (text : List ℕ) (result : Result End Fault) → IfOk result (λ end. IsWorkers workers × IsLimit limit × EndsAs text limit end)
-    → IfErr result (λ fault. IsRefusal fault ⊎ ((fault ≡ faults.Memory) ⊎ ((fault ≡ faults.Write) ⊎ ((fault ≡ faults.BadWorkers) ⊎ (fault ≡ faults.BadLimit))))) → IfErr result (λ fault. IsRefusal fault → HasNoReading text)
-    → IfErr result (λ fault. IsRefusal fault → IsWhy text fault) → (IsErrOf result faults.Write → HasReading text)
-    → (IsErrOf result faults.BadWorkers → IsWorkers workers → ⊥) → (IsErrOf result faults.BadLimit → IsWorkers workers × (IsLimit limit → ⊥))
-    → IfErr result (λ fault. IsTold fault → IsWorkers workers × IsLimit limit) → Finds (subcommands.Run workers limit) text result
-run_finds workers limit text (Ok end) ends only refused why write bad_workers bad_limit bounds = ends
-run_finds workers limit text (Err fault) ends (inl is) refused why write bad_workers bad_limit bounds = unreadable (subcommands.Run workers limit) text fault (bounds (inl is)) is (refused is) (why is)
-run_finds workers limit text (Err fault) ends (inr is) refused why write bad_workers bad_limit bounds = run_reason workers limit text fault is write bad_workers bad_limit bounds
+pub reference_loses : (limit : ℕ) (text : List ℕ) (fault : Fault) → fault ≡ faults.Write → IsLimit limit → HasReading text → IsReason (subcommands.Reference limit) text fault
+reference_loses limit text fault is bounds read = subst (IsReason (subcommands.Reference limit) text) (sym is) (bounds, read)
+
+pub reference_stops : (limit : ℕ) (text : List ℕ) (fault : Fault) → IsErrOf {T = End} (Err fault) faults.BadLimit ↔ (IsLimit limit → ⊥)
+    → IsRefusal fault ⊎ ((fault ≡ faults.Memory) ⊎ ((fault ≡ faults.Write) ⊎ (fault ≡ faults.BadLimit))) → (IsRefusal fault → HasNoReading text)
+    → (IsRefusal fault → IsWhy text fault) → (IsErrOf {T = End} (Err fault) faults.Write → HasReading text) → IsReason (subcommands.Reference limit) text fault
+reference_stops limit text fault bad (inl is) refused why read = unreadable (subcommands.Reference limit) text fault (limit_before limit fault bad (inl is)) is (refused is) (why is)
+reference_stops limit text fault bad (inr (inl is)) refused why read = no_memory (subcommands.Reference limit) text fault is
+reference_stops limit text fault bad (inr (inr (inl is))) refused why read =
+    reference_loses limit text fault is (limit_before limit fault bad (inr is)) (read (ap (λ (f : Fault). Err f) is))
+reference_stops limit text fault bad (inr (inr (inr is))) refused why read =
+    subst (IsReason (subcommands.Reference limit) text) (sym is) (bad.0 (ap (λ (f : Fault). Err f) is))
+
+pub timeline_loses : (limit : ℕ) (text : List ℕ) (fault : Fault) → fault ≡ faults.Write → IsLimit limit → HasReading text → IsReason (subcommands.Timeline limit) text fault
+timeline_loses limit text fault is bounds read = subst (IsReason (subcommands.Timeline limit) text) (sym is) (bounds, read)
+
+pub timeline_stops : {T : Type 0} (limit : ℕ) (text : List ℕ) (fault : Fault) → IsErrOf {T = T} (Err fault) faults.BadLimit ↔ (IsLimit limit → ⊥)
+    → IsRefusal fault ⊎ ((fault ≡ faults.Memory) ⊎ (fault ≡ faults.BadLimit)) → (IsRefusal fault → HasNoReading text)
+    → (IsRefusal fault → IsWhy text fault) → IsReason (subcommands.Timeline limit) text fault
+timeline_stops limit text fault bad (inl is) refused why = unreadable (subcommands.Timeline limit) text fault (limit_before limit fault bad (inl is)) is (refused is) (why is)
+timeline_stops limit text fault bad (inr (inl is)) refused why = no_memory (subcommands.Timeline limit) text fault is
+timeline_stops limit text fault bad (inr (inr is)) refused why =
+    subst (IsReason (subcommands.Timeline limit) text) (sym is) (bad.0 (ap (λ (f : Fault). Err f) is))
+
+-- the picture of a recording can't be made or written
+pub picture_loses : (limit : ℕ) (text : List ℕ) (fault : Fault) → (fault ≡ faults.Memory) ⊎ (fault ≡ faults.Write) → IsLimit limit → HasReading text → IsReason (subcommands.Timeline limit) text fault
+picture_loses limit text fault (inl is) bounds read = no_memory (subcommands.Timeline limit) text fault is
+picture_loses limit text fault (inr is) bounds read = timeline_loses limit text fault is bounds read
+
+-- ---- a text that is run
+
+pub run_loses : (workers limit : ℕ) (text : List ℕ) (fault : Fault) → fault ≡ faults.Write → IsWorkers workers × IsLimit limit → HasReading text → IsReason (subcommands.Run workers limit) text fault
+run_loses workers limit text fault is bounds read = subst (IsReason (subcommands.Run workers limit) text) (sym is) (bounds, read)
+
+pub run_stops : (workers limit : ℕ) (text : List ℕ) (fault : Fault) → IsErrOf {T = End} (Err fault) faults.BadWorkers ↔ (IsWorkers workers → ⊥)
+    → IsErrOf {T = End} (Err fault) faults.BadLimit ↔ (IsWorkers workers × (IsLimit limit → ⊥))
+    → IsRefusal fault ⊎ ((fault ≡ faults.Memory) ⊎ ((fault ≡ faults.Write) ⊎ ((fault ≡ faults.BadWorkers) ⊎ (fault ≡ faults.BadLimit)))) → (IsRefusal fault → HasNoReading text)
+    → (IsRefusal fault → IsWhy text fault) → (IsErrOf {T = End} (Err fault) faults.Write → HasReading text) → IsReason (subcommands.Run workers limit) text fault
+run_stops workers limit text fault bad_workers bad_limit (inl is) refused why read =
+    unreadable (subcommands.Run workers limit) text fault (both_before workers limit fault bad_workers bad_limit (inl is)) is (refused is) (why is)
+run_stops workers limit text fault bad_workers bad_limit (inr (inl is)) refused why read = no_memory (subcommands.Run workers limit) text fault is
+run_stops workers limit text fault bad_workers bad_limit (inr (inr (inl is))) refused why read =
+    run_loses workers limit text fault is (both_before workers limit fault bad_workers bad_limit (inr is)) (read (ap (λ (f : Fault). Err f) is))
+run_stops workers limit text fault bad_workers bad_limit (inr (inr (inr (inl is)))) refused why read =
+    subst (IsReason (subcommands.Run workers limit) text) (sym is) (bad_workers.0 (ap (λ (f : Fault). Err f) is))
+run_stops workers limit text fault bad_workers bad_limit (inr (inr (inr (inr is)))) refused why read =
+    subst (IsReason (subcommands.Run workers limit) text) (sym is) (bad_limit.0 (ap (λ (f : Fault). Err f) is))
+
+-- the one-thread run ends as a whole run of the source does
+pub ends_as : (limit : ℕ) (text : List ℕ) (old new : Option (List ℕ)) (end : End) → (file : File) × Reads text file × IsWhole (source_kind file) limit old new end → EndsAs text limit end
+ends_as limit text old new end (file, reads, n, appends, ends) = (file, n, reads, ends)
+
+-- ---- what is told
 
 pub told : (subcommand : Subcommand) (text : List ℕ) (outcome : Result End Fault) (status : ℕ) → Finds subcommand text outcome → status ≡ report_status outcome
     → (status ≡ 64) ⊎ Tells subcommand status

@@ -1,12 +1,9 @@
 //! The program: its command line, its file, and the two standard streams.
 #![tactic(auto)]
 
-ghost use Rattle.std.specs.Prelude.{◌≡◌, ◌⊎◌, ◌↔◌, ◌≤◌, IsErr, IsErrOf, IfErr, IfOk, map, string_bytes};
+ghost use Rattle.std.specs.Prelude.{◌≡◌, ◌⊎◌, ◌↔◌, IsErr, IfErr, IfOk, map, string_bytes};
 ghost use Rattle.clap.specs.Values.{kind_of};
-ghost use Rattle.kendo.specs.Answers.{EndsAs, Finds, HasReading, IsStatus, IsTold, Obeys, ShowsAs, Tells};
-ghost use Rattle.kendo_reading.specs.Reading.{HasNoReading, IsOfText, IsRefusal, IsWhy};
-ghost use Rattle.worker_pool_base.specs.Runs.{IsWorkers};
-ghost use Rattle.one_thread.specs.Worlds.{IsLimit};
+ghost use Rattle.kendo.specs.Answers.{Finds, IsStatus, Obeys, ShowsAs, Tells};
 
 mod pictures;
 mod suggestion;
@@ -23,7 +20,7 @@ use kendo_reading::check_bytes;
 use pictures::picture;
 use std::alloc::Global;
 use std::fs::File;
-use std::io::{BufWriter, Read as _, Write as _};
+use std::io::{BufWriter, Read as _, Stdout, Write as _};
 use std::process::ExitCode;
 use std::sync::Wait;
 use std::thread::Threads;
@@ -264,7 +261,6 @@ fn fault_told(alloc: Global, path: &str, bytes: Vec<u8>, fault: &Fault) -> Resul
 }
 
 /// What the command finds in the text, which it checks, lists, interprets, draws or runs.
-#[tactic(auto, using(crate::proofs::Findings::check_finds, crate::proofs::Findings::list_finds))]
 fn find(
     rt: &HostRuntime,
     leave: &(impl Threads + Wait + Sync),
@@ -296,25 +292,27 @@ fn read(rt: &HostRuntime, alloc: Global, path: &str) -> io::Result<Vec<u8>> {
 
 /// Checks the text.
 fn check(alloc: Global, bytes: Vec<u8>) -> Result<End, Fault>
-    ensures checked { IfOk result (λ end. (end ≡ End.Finished) × HasReading bytes.items) }
-    ensures refused { IfErr result (λ fault. IsRefusal fault → HasNoReading bytes.items) }
-    ensures why { IfErr result (λ fault. IsRefusal fault → IsWhy bytes.items fault) }
-    ensures only { IfErr result IsOfText }
+    ensures { Finds Subcommand.Check bytes.items result }
 {
     check_bytes(alloc, bytes)?;
     Ok(End::Finished)
 }
 
+/// Standard output, behind a buffer.
+fn buffered_output(rt: &HostRuntime, alloc: Global) -> Result<Flagged<BufWriter<Stdout>>, Fault>
+    ensures { IfErr result (λ fault. fault ≡ Fault.Memory) }
+{
+    match BufWriter::new(alloc, rt.stdout()) {
+        Ok(stdout) => Ok(Flagged::new(stdout)),
+        Err(_) => Err(Fault::Memory),
+    }
+}
+
 /// Lists the code of the text on standard output, behind a buffer.
 fn list(rt: &HostRuntime, alloc: Global, bytes: Vec<u8>) -> Result<End, Fault>
-    ensures listed { IfOk result (λ end. (end ≡ End.Finished) × HasReading bytes.items) }
-    ensures refused { IfErr result (λ fault. IsRefusal fault → HasNoReading bytes.items) }
-    ensures why { IfErr result (λ fault. IsRefusal fault → IsWhy bytes.items fault) }
-    ensures write { IsErrOf result Fault.Write → HasReading bytes.items }
-    ensures only { IfErr result (λ fault. IsRefusal fault ⊎ ((fault ≡ Fault.Memory) ⊎ (fault ≡ Fault.Write))) }
+    ensures { Finds Subcommand.List bytes.items result }
 {
-    let stdout = BufWriter::new(alloc, rt.stdout()).map_err(|_| Fault::Memory)?;
-    let mut out = Flagged::new(stdout);
+    let mut out = buffered_output(rt, alloc)?;
     list_bytes(alloc, bytes, &mut out)?;
     flush(out)?;
     Ok(End::Finished)
@@ -322,16 +320,9 @@ fn list(rt: &HostRuntime, alloc: Global, bytes: Vec<u8>) -> Result<End, Fault>
 
 /// Interprets the text as it stands, with standard output behind a buffer.
 fn interpret(rt: &HostRuntime, alloc: Global, bytes: Vec<u8>, limit: u64) -> Result<End, Fault>
-    ensures ends { IfOk result (λ end. IsLimit limit × EndsAs bytes.items limit end) }
-    ensures bounds { IfErr result (λ fault. IsTold fault → IsLimit limit) }
-    ensures refused { IfErr result (λ fault. IsRefusal fault → HasNoReading bytes.items) }
-    ensures why { IfErr result (λ fault. IsRefusal fault → IsWhy bytes.items fault) }
-    ensures limit { IsErrOf result Fault.BadLimit → IsLimit limit → ⊥ }
-    ensures write { IsErrOf result Fault.Write → HasReading bytes.items }
-    ensures only { IfErr result (λ fault. IsRefusal fault ⊎ ((fault ≡ Fault.Memory) ⊎ ((fault ≡ Fault.Write) ⊎ (fault ≡ Fault.BadLimit)))) }
+    ensures { Finds (Subcommand.Reference limit) bytes.items result }
 {
-    let stdout = BufWriter::new(alloc, rt.stdout()).map_err(|_| Fault::Memory)?;
-    let mut out = Flagged::new(stdout);
+    let mut out = buffered_output(rt, alloc)?;
     let end = reference_bytes(alloc, bytes, limit, &mut out)?;
     flush(out)?;
     Ok(end)
@@ -347,17 +338,9 @@ fn run(
     limit: u64,
     mut trace: Trace,
 ) -> Result<End, Fault>
-    ensures ends { IfOk result (λ end. IsWorkers workers × IsLimit limit × EndsAs bytes.items limit end) }
-    ensures bounds { IfErr result (λ fault. IsTold fault → IsWorkers workers × IsLimit limit) }
-    ensures refused { IfErr result (λ fault. IsRefusal fault → HasNoReading bytes.items) }
-    ensures why { IfErr result (λ fault. IsRefusal fault → IsWhy bytes.items fault) }
-    ensures workers { IsErrOf result Fault.BadWorkers → IsWorkers workers → ⊥ }
-    ensures limit { IsErrOf result Fault.BadLimit → IsWorkers workers × (IsLimit limit → ⊥) }
-    ensures write { IsErrOf result Fault.Write → HasReading bytes.items }
-    ensures only { IfErr result (λ fault. IsRefusal fault ⊎ ((fault ≡ Fault.Memory) ⊎ ((fault ≡ Fault.Write) ⊎ ((fault ≡ Fault.BadWorkers) ⊎ (fault ≡ Fault.BadLimit))))) }
+    ensures { Finds (Subcommand.Run workers limit) bytes.items result }
 {
-    let stdout = BufWriter::new(alloc, rt.stdout()).map_err(|_| Fault::Memory)?;
-    let mut out = Flagged::new(stdout);
+    let mut out = buffered_output(rt, alloc)?;
     let end = run_bytes(
         leave, alloc, bytes, limit, workers, &Open, &mut out, &mut trace,
     )?;

@@ -1,9 +1,8 @@
 //! Pictures of runs.
 
-ghost use Rattle.std.specs.Prelude.{◌≡◌, ◌⊎◌, IfErr, IfOk, IsErrOf};
-ghost use Rattle.kendo.specs.Answers.{HasReading, IsTold};
-ghost use Rattle.kendo_reading.specs.Reading.{HasNoReading, IsRefusal, IsWhy};
-ghost use Rattle.one_thread.specs.Worlds.{IsLimit};
+ghost use Rattle.std.specs.Prelude.{◌≡◌, ◌⊎◌, IfErr};
+ghost use Rattle.command_line.specs.declared.arguments.Subcommand.TheVariants as subcommands;
+ghost use Rattle.kendo.specs.Answers.{Finds};
 
 use crate::flush;
 use crate::tracing::Trace;
@@ -23,13 +22,7 @@ pub(crate) fn picture(
     format: Format,
     file: Trace,
 ) -> Result<End, Fault>
-    ensures pictured { IfOk result (λ end. (end ≡ End.Finished) × IsLimit limit × HasReading bytes.items) }
-    ensures bounds { IfErr result (λ fault. IsTold fault → IsLimit limit) }
-    ensures refused { IfErr result (λ fault. IsRefusal fault → HasNoReading bytes.items) }
-    ensures why { IfErr result (λ fault. IsRefusal fault → IsWhy bytes.items fault) }
-    ensures limit { IsErrOf result Fault.BadLimit → IsLimit limit → ⊥ }
-    ensures write { IsErrOf result Fault.Write → HasReading bytes.items }
-    ensures only { IfErr result (λ fault. IsRefusal fault ⊎ ((fault ≡ Fault.Memory) ⊎ ((fault ≡ Fault.Write) ⊎ (fault ≡ Fault.BadLimit)))) }
+    ensures { Finds (subcommands.Timeline limit) bytes.items result }
 {
     let recording = timeline_bytes(alloc, bytes, limit, format.most_events())?;
     show(rt, alloc, &recording, format, file)?;

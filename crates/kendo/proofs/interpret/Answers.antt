@@ -1,21 +1,26 @@
 use Rattle.std.proofs.lemmas.Result.{err_from_is_err_and}
-use Rattle.kendo.proofs.Findings.{limit_before, limit_ended, whatever}
+use Rattle.command_line.specs.declared.arguments.Subcommand.TheVariants as subcommands
+use Rattle.kendo.proofs.Findings.{ends_as, limit_ended, no_memory, read_of, reference_loses, reference_stops}
 use Rattle.kendo.proofs.interpret.Goals as goal
 
-pub returns-in_err-end-clause-refused : goal.returns-in_err-end-clause-refused
-returns-in_err-end-clause-refused c =
-    let p = err_from_is_err_and c.from_residual-in_err-end.result c.from_residual-in_err-end.ensures.1 in
-    rw (p.1, p.2) c.in_err-end.ensures.refused
+pub returns-in_err-out : goal.returns-in_err-out
+returns-in_err-out c =
+    let p = err_from_is_err_and c.from_residual-in_err-out.result c.from_residual-in_err-out.ensures.1 in
+    rw (p.1, p.2) (no_memory (subcommands.Reference c.args.limit) c.args.bytes.items _ c.in_err-out.ensures)
 
-pub returns-in_err-end-clause-why : goal.returns-in_err-end-clause-why
-returns-in_err-end-clause-why c =
+pub returns-in_err-end : goal.returns-in_err-end
+returns-in_err-end c =
     let p = err_from_is_err_and c.from_residual-in_err-end.result c.from_residual-in_err-end.ensures.1 in
-    rw (p.1, p.2) c.in_err-end.ensures.why
+    let e = c.in_err-end.ensures in
+    rw (p.1, p.2) (reference_stops c.args.limit c.args.bytes.items _ e.limit e.only e.refused e.why e.reading)
 
-pub returns-in_err-end-clause-bounds : goal.returns-in_err-end-clause-bounds
-returns-in_err-end-clause-bounds c =
-    let p = err_from_is_err_and c.from_residual-in_err-end.result c.from_residual-in_err-end.ensures.1 in
-    rw (p.1, p.2) (limit_before c.args.limit _ c.in_err-end.ensures.limit)
+pub returns-in_err-flush : goal.returns-in_err-flush
+returns-in_err-flush c =
+    let p = err_from_is_err_and c.from_residual-in_err-flush.result c.from_residual-in_err-flush.ensures.1 in
+    let made = c.in_ok-end.ensures in
+    rw (p.1, p.2) (reference_loses c.args.limit c.args.bytes.items _ c.in_err-flush.ensures (limit_ended c.args.limit _ made.limit) (read_of c.args.bytes.items made.whole))
 
-pub returns-in_err-flush-clause-bounds : goal.returns-in_err-flush-clause-bounds
-returns-in_err-flush-clause-bounds c = whatever _ (limit_ended c.args.limit _ c.in_ok-end.ensures.limit)
+pub returns : goal.returns
+returns c =
+    let made = c.in_ok-end.ensures in
+    (limit_ended c.args.limit _ made.limit, ends_as c.args.limit c.args.bytes.items _ _ _ made.whole)
