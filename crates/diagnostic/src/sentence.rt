@@ -2,7 +2,7 @@
 
 use crate::declaration::push_within;
 use crate::expected::push_expected;
-use crate::phrase::{Phrase, phrase_of_limit, phrase_of_rule};
+use crate::phrase::{phrase_of_limit, phrase_of_rule};
 use diagnostic_typing::push_flaw;
 use diagnostic_words::words::Words;
 use go_text::{Fault, LimitKind, Place, Rule};
@@ -47,7 +47,7 @@ fn plain(fault: &Fault) -> &'static str {
 fn push_rule(alloc: Global, said: &mut Words, text: &str, rule: Rule, node: u32, place: Place) {
     push_flaw(alloc, said, text, Flaw::Broken(rule, node));
     if said.is_empty() {
-        push_phrase(said, &phrase_of_rule(rule), piece_at(text, place));
+        push_phrase(said, phrase_of_rule(rule), piece_at(text, place));
     }
 }
 
@@ -85,17 +85,20 @@ fn push_limit(
         _ => {}
     }
     if said.is_empty() {
-        push_phrase(said, &phrase_of_limit(kind), piece_at(text, place));
+        push_phrase(said, phrase_of_limit(kind), piece_at(text, place));
     }
 }
 
-/// Puts a sentence about a piece of the text behind what is there.
-fn push_phrase(said: &mut Words, phrase: &Phrase, piece: &str) {
-    said.text(phrase.before);
-    if phrase.shows_piece {
-        said.text(piece);
+/// Puts a phrase behind what is there, with the piece of the text in the place of `{}`.
+fn push_phrase(said: &mut Words, phrase: &str, piece: &str) {
+    match phrase.split_once("{}") {
+        Some((before, after)) => {
+            said.text(before);
+            said.text(piece);
+            said.text(after);
+        }
+        None => said.text(phrase),
     }
-    said.text(phrase.after);
 }
 
 /// The text of a place up to the end of its line, but not more than so many bytes.
