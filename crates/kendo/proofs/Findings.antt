@@ -1,14 +1,13 @@
 -- What a command finds in a text, and the exit status that tells it.
-use Rattle.std.proofs.Common.{◌≡◌, ◌↔◌, ℕ, ◌≤◌, ◌<◌, ◌^◌, ◌⊎◌, inl, inr, List, Result, Ok, Err, IfOk, IfErr, IsErrOf, Option, refl, sym, ap, subst, arith}
+use Rattle.std.proofs.Common.{◌≡◌, ◌↔◌, ℕ, ◌≤◌, ◌<◌, ◌^◌, ◌⊎◌, inl, inr, List, Result, Ok, Err, IfOk, IfErr, IsErrOf, refl, sym, ap, subst, arith}
 use Rattle.std.proofs.lemmas.Bool.{cases_lt}
-use Rattle.kendo.specs.Answers.{EndsAs, Finds, HasReading, IsInBounds, IsReason, IsStatus, IsTold, Tells}
+use Rattle.kendo.specs.Answers.{Finds, HasReading, IsInBounds, IsReason, IsStatus, IsTold, Tells}
 use Rattle.command_line.specs.declared.arguments.Subcommand.{Subcommand}
 use Rattle.command_line.specs.declared.arguments.Subcommand.TheVariants as subcommands
 use Rattle.kendo_front.specs.Outcome.{fault_status, report_status}
 use Rattle.kendo_reading.specs.Reading.{HasNoReading, IsOfText, IsRefusal, IsWhy, Reads}
 use Rattle.worker_pool_base.specs.Runs.{IsWorkers}
-use Rattle.meaning.specs.Source.{source_kind}
-use Rattle.one_thread.specs.Worlds.{IsLimit, IsWhole}
+use Rattle.one_thread.specs.Worlds.{IsLimit}
 use Rattle.syntax.specs.Tree.{File}
 use Rattle.go_text.specs.declared.fault.Fault.{Fault}
 use Rattle.go_text.specs.declared.fault.Fault.TheVariants as faults
@@ -95,7 +94,7 @@ pub list_loses : (text : List ℕ) (fault : Fault) → fault ≡ faults.Write �
 list_loses text fault is read = subst (IsReason subcommands.List text) (sym is) (tt, read)
 
 pub list_stops : (text : List ℕ) (fault : Fault) → IsRefusal fault ⊎ ((fault ≡ faults.Memory) ⊎ (fault ≡ faults.Write)) → (IsRefusal fault → HasNoReading text)
-    → (IsRefusal fault → IsWhy text fault) → (IsErrOf {T = ⊤} (Err fault) faults.Write → HasReading text) → IsReason subcommands.List text fault
+    → (IsRefusal fault → IsWhy text fault) → (IsErrOf {T = Unit {0}} (Err fault) faults.Write → HasReading text) → IsReason subcommands.List text fault
 list_stops text fault (inl is) refused why read = unreadable subcommands.List text fault tt is (refused is) (why is)
 list_stops text fault (inr (inl is)) refused why read = no_memory subcommands.List text fault is
 list_stops text fault (inr (inr is)) refused why read = list_loses text fault is (read (ap (λ (f : Fault). Err f) is))
@@ -149,10 +148,6 @@ run_stops workers limit text fault bad_workers bad_limit (inr (inr (inr (inl is)
     subst (IsReason (subcommands.Run workers limit) text) (sym is) (bad_workers.0 (ap (λ (f : Fault). Err f) is))
 run_stops workers limit text fault bad_workers bad_limit (inr (inr (inr (inr is)))) refused why read =
     subst (IsReason (subcommands.Run workers limit) text) (sym is) (bad_limit.0 (ap (λ (f : Fault). Err f) is))
-
--- the one-thread run ends as a whole run of the source does
-pub ends_as : (limit : ℕ) (text : List ℕ) (old new : Option (List ℕ)) (end : End) → (file : File) × Reads text file × IsWhole (source_kind file) limit old new end → EndsAs text limit end
-ends_as limit text old new end (file, reads, n, appends, ends) = (file, n, reads, ends)
 
 -- ---- what is told
 

@@ -1,11 +1,11 @@
 use Rattle.std.proofs.lemmas.Result.{err_from_is_err_and}
 use Rattle.command_line.specs.declared.arguments.Subcommand.TheVariants as subcommands
-use Rattle.kendo.proofs.Findings.{ends_as, limit_ended, no_memory, read_of, reference_loses, reference_stops}
+use Rattle.kendo.proofs.Findings.{limit_ended, no_memory, read_of, reference_loses, reference_stops}
 use Rattle.kendo.proofs.interpret.Goals as goal
 
 pub returns-in_err-out : goal.returns-in_err-out
 returns-in_err-out c =
-    let p = err_from_is_err_and c.from_residual-in_err-out.result c.from_residual-in_err-out.ensures.1 in
+    let p = err_from_is_err_and c.from_residual.result c.from_residual.ensures.1 in
     rw (p.1, p.2) (no_memory (subcommands.Reference c.args.limit) c.args.bytes.items _ c.in_err-out.ensures)
 
 pub returns-in_err-end : goal.returns-in_err-end
@@ -23,4 +23,5 @@ returns-in_err-flush c =
 pub returns : goal.returns
 returns c =
     let made = c.in_ok-end.ensures in
-    (limit_ended c.args.limit _ made.limit, ends_as c.args.limit c.args.bytes.items _ _ _ made.whole)
+    let whole = made.whole in
+    (limit_ended c.args.limit _ made.limit, (whole.0, whole.2.0, whole.1, whole.2.2))

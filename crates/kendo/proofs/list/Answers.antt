@@ -6,7 +6,7 @@ use Rattle.kendo.proofs.list.Goals as goal
 
 pub returns-in_err-out : goal.returns-in_err-out
 returns-in_err-out c =
-    let p = err_from_is_err_and c.from_residual-in_err-out.result c.from_residual-in_err-out.ensures.1 in
+    let p = err_from_is_err_and c.from_residual.result c.from_residual.ensures.1 in
     rw (p.1, p.2) (no_memory subcommands.List c.args.bytes.items _ c.in_err-out.ensures)
 
 pub returns-in_err-list_bytes : goal.returns-in_err-list_bytes

@@ -1,11 +1,11 @@
 use Rattle.std.proofs.lemmas.Result.{err_from_is_err_and}
 use Rattle.command_line.specs.declared.arguments.Subcommand.TheVariants as subcommands
-use Rattle.kendo.proofs.Findings.{both_ended, ends_as, no_memory, read_of, run_loses, run_stops}
+use Rattle.kendo.proofs.Findings.{both_ended, no_memory, read_of, run_loses, run_stops}
 use Rattle.kendo.proofs.run.Goals as goal
 
 pub returns-in_err-out : goal.returns-in_err-out
 returns-in_err-out g c =
-    let p = err_from_is_err_and c.from_residual-in_err-out.result c.from_residual-in_err-out.ensures.1 in
+    let p = err_from_is_err_and c.from_residual.result c.from_residual.ensures.1 in
     rw (p.1, p.2) (no_memory (subcommands.Run c.args.workers c.args.limit) c.args.bytes.items _ c.in_err-out.ensures)
 
 pub returns-in_err-end : goal.returns-in_err-end
@@ -32,4 +32,5 @@ pub returns : goal.returns
 returns g c =
     let made = c.in_ok-end.ensures in
     let bounds = both_ended c.args.workers c.args.limit _ made.workers made.limit in
-    (bounds.0, (bounds.1, ends_as c.args.limit c.args.bytes.items _ _ _ made.whole))
+    let whole = made.whole in
+    (bounds.0, bounds.1, (whole.0, whole.2.0, whole.1, whole.2.2))

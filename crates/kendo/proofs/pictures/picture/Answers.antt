@@ -5,7 +5,7 @@ use Rattle.kendo.proofs.pictures.picture.Goals as goal
 
 pub returns-in_err-recording : goal.returns-in_err-recording
 returns-in_err-recording c =
-    let p = err_from_is_err_and c.from_residual-in_err-recording.result c.from_residual-in_err-recording.ensures.1 in
+    let p = err_from_is_err_and c.from_residual.result c.from_residual.ensures.1 in
     let e = c.in_err-recording.ensures in
     rw (p.1, p.2) (timeline_stops c.args.limit c.args.bytes.items _ e.limit e.only e.refused e.why)
 
@@ -18,4 +18,4 @@ returns-in_err-show c =
 pub returns : goal.returns
 returns c =
     let made = c.in_ok-recording.ensures in
-    (refl, (limit_ended c.args.limit _ made.limit, read_of c.args.bytes.items made.recorded))
+    (refl, limit_ended c.args.limit _ made.limit, read_of c.args.bytes.items made.recorded)
