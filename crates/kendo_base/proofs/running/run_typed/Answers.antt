@@ -2,8 +2,24 @@ use Rattle.checker.specs.Trees.{tree_in}
 use Rattle.meaning.specs.Source.{source_kind}
 use Rattle.output.specs.declared.piece.Kind.TheVariants.{Output, Trace}
 use Rattle.syntax.specs.Spans.{tree_of}
-use Rattle.kendo_base.proofs.Runs.{all_code, begins_code}
+use Rattle.kendo_base.proofs.Runs.{all_code, begins_code, nothing_begins}
 use Rattle.kendo_base.proofs.running.run_typed.Goals as goal
+
+pub returns-in_err-code-clause-begins : goal.returns-in_err-code-clause-begins
+returns-in_err-code-clause-begins g c =
+    nothing_begins Output (source_kind (tree_of (tree_in c.args.typed.now))) c.args.limit (g.O.Write.contents c.args.out.now)
+
+pub returns-in_err-code-clause-traces : goal.returns-in_err-code-clause-traces
+returns-in_err-code-clause-traces g c =
+    nothing_begins Trace (source_kind (tree_of (tree_in c.args.typed.now))) c.args.limit (g.T.Write.contents c.args.trace.now)
+
+pub returns-in_err-program-clause-begins : goal.returns-in_err-program-clause-begins
+returns-in_err-program-clause-begins g c =
+    nothing_begins Output (source_kind (tree_of (tree_in c.args.typed.now))) c.args.limit (g.O.Write.contents c.args.out.now)
+
+pub returns-in_err-program-clause-traces : goal.returns-in_err-program-clause-traces
+returns-in_err-program-clause-traces g c =
+    nothing_begins Trace (source_kind (tree_of (tree_in c.args.typed.now))) c.args.limit (g.T.Write.contents c.args.trace.now)
 
 pub returns-in_err-end-clause-begins : goal.returns-in_err-end-clause-begins
 returns-in_err-end-clause-begins g c =
