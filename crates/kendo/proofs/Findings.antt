@@ -1,7 +1,7 @@
 -- What a command finds in a text, and the exit status that tells it.
 use Rattle.std.proofs.Common.{◌≡◌, ◌↔◌, ℕ, ◌≤◌, ◌<◌, ◌^◌, ◌⊎◌, inl, inr, List, Result, Ok, Err, IfOk, IfErr, IsErrOf, refl, sym, ap, subst, arith}
 use Rattle.std.proofs.lemmas.Bool.{cases_lt}
-use Rattle.kendo.specs.Answers.{Finds, HasReading, IsInBounds, IsReason, IsStatus, IsTold, Tells}
+use Rattle.kendo.specs.Answers.{Finds, HasReading, IsInBounds, IsReason, IsStatus, Tells}
 use Rattle.command_line.specs.declared.arguments.Subcommand.{Subcommand}
 use Rattle.command_line.specs.declared.arguments.Subcommand.TheVariants as subcommands
 use Rattle.kendo_front.specs.Outcome.{fault_status, report_status}
@@ -21,6 +21,10 @@ within low high n never = go (cases_lt n low) (cases_lt high n) where
   go (inl a) b = absurd (never (λ r. omega (arith, a, r.0)))
   go (inr a) (inl b) = absurd (never (λ r. omega (arith, b, r.1)))
   go (inr a) (inr b) = (a, b)
+
+-- a fault of the text or of a writer, which is told where workers and limit are within their bounds
+abbrev IsTold : Fault → Type 0
+IsTold fault = IsRefusal fault ⊎ (fault ≡ faults.Write)
 
 workers_untold : IsTold faults.BadWorkers → ⊥
 workers_untold (inl low) = omega (arith, low)

@@ -12,7 +12,7 @@ use Rattle.command_line.specs.declared.arguments.Subcommand.{Subcommand}
 use Rattle.command_line.specs.declared.arguments.Subcommand.TheVariants as subcommands
 use Rattle.command_line.specs.declared.arguments.Invocation.{Invocation}
 use Rattle.kendo_front.specs.Outcome.{report_status}
-use Rattle.kendo_reading.specs.Reading.{HasNoReading, IsRefusal, IsWhy, Reads}
+use Rattle.kendo_reading.specs.Reading.{HasNoReading, IsWhy, Reads}
 use Rattle.worker_pool_base.specs.Runs.{IsWorkers}
 use Rattle.one_thread.specs.Worlds.{IsLimit}
 use Rattle.go_text.specs.declared.fault.Fault.{Fault}
@@ -36,10 +36,6 @@ IsInBounds (subcommands.Run workers limit) = IsWorkers workers × IsLimit limit
 IsInBounds (subcommands.Reference limit) = IsLimit limit
 IsInBounds (subcommands.Timeline limit) = IsLimit limit
 IsInBounds subcommand = Unit {0}
-
--- a fault of the text or of a writer, which is told where workers and limit are within their bounds
-abbrev pub IsTold : Fault → Type 0
-IsTold fault = IsRefusal fault ⊎ (fault ≡ faults.Write)
 
 -- why the command finds no end: want of memory; workers or a limit out of their bounds, the workers first; else a writer that refused bytes, of a text that
 -- has a reading; or, by this fault, why the text has no reading
