@@ -39,10 +39,10 @@ fault_in other (Ok made) = other
 fault_in other (Err fault) = fault
 
 -- what is told of a text or of a writer, workers and a limit within their bounds come before
-pub limit_before : {T : Type 0} (limit : ℕ) (fault : Fault) → IsErrOf {T = T} (Err fault) faults.BadLimit ↔ (IsLimit limit → ⊥) → IsTold fault → IsLimit limit
+limit_before : {T : Type 0} (limit : ℕ) (fault : Fault) → IsErrOf {T = T} (Err fault) faults.BadLimit ↔ (IsLimit limit → ⊥) → IsTold fault → IsLimit limit
 limit_before limit fault bad told = within 1 (2 ^ 62) limit (λ out. limit_untold (subst IsTold (ap (fault_in fault) (bad.1 out)) told))
 
-pub both_before : {T : Type 0} (workers limit : ℕ) (fault : Fault) → IsErrOf {T = T} (Err fault) faults.BadWorkers ↔ (IsWorkers workers → ⊥) → IsErrOf {T = T} (Err fault) faults.BadLimit ↔ (IsWorkers workers × (IsLimit limit → ⊥)) → IsTold fault
+both_before : {T : Type 0} (workers limit : ℕ) (fault : Fault) → IsErrOf {T = T} (Err fault) faults.BadWorkers ↔ (IsWorkers workers → ⊥) → IsErrOf {T = T} (Err fault) faults.BadLimit ↔ (IsWorkers workers × (IsLimit limit → ⊥)) → IsTold fault
     → IsWorkers workers × IsLimit limit
 both_before workers limit fault bad_workers bad_limit told =
     let many = within 1 64 workers (λ out. workers_untold (subst IsTold (ap (fault_in fault) (bad_workers.1 out)) told)) in
@@ -118,7 +118,7 @@ reference_stops limit text fault bad (inr (inr (inl is))) refused why read =
 reference_stops limit text fault bad (inr (inr (inr is))) refused why read =
     subst (IsReason (subcommands.Reference limit) text) (sym is) (bad.0 (ap (λ (f : Fault). Err f) is))
 
-pub timeline_loses : (limit : ℕ) (text : List ℕ) (fault : Fault) → fault ≡ faults.Write → IsLimit limit → HasReading text → IsReason (subcommands.Timeline limit) text fault
+timeline_loses : (limit : ℕ) (text : List ℕ) (fault : Fault) → fault ≡ faults.Write → IsLimit limit → HasReading text → IsReason (subcommands.Timeline limit) text fault
 timeline_loses limit text fault is bounds read = subst (IsReason (subcommands.Timeline limit) text) (sym is) (bounds, read)
 
 pub timeline_stops : {T : Type 0} (limit : ℕ) (text : List ℕ) (fault : Fault) → IsErrOf {T = T} (Err fault) faults.BadLimit ↔ (IsLimit limit → ⊥)
