@@ -22,10 +22,17 @@ use verifier::Verified;
 use word::request::Reply;
 
 /// Goroutine n, if it is awake, is at place n.
-#[derive(Drop)]
 pub struct AwakeRows {
     slots: Vec<Option<Slot>>,
     orders: Orders,
+}
+
+impl Drop for AwakeRows {
+    fn drop(self) {
+        let AwakeRows { slots, orders } = self;
+        drop(slots);
+        drop(orders);
+    }
 }
 
 impl Model for AwakeRows {

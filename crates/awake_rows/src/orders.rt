@@ -15,7 +15,6 @@ use steps::Steps;
 
 /// The keys of goroutines, that of goroutine n at slot n. A change of a row is noted once another row changes: one that changes
 /// several times in a row takes its places once.
-#[derive(Drop)]
 pub(crate) struct Orders {
     /// Of those that stand at their requests.
     pub parked: KeyIndex,
@@ -25,6 +24,20 @@ pub(crate) struct Orders {
     pub lent: KeyIndex,
     /// The goroutine whose row changed last: it may stand elsewhere.
     pub late: u64,
+}
+
+impl Drop for Orders {
+    fn drop(self) {
+        let Orders {
+            parked,
+            free,
+            lent,
+            late: _,
+        } = self;
+        drop(parked);
+        drop(free);
+        drop(lent);
+    }
 }
 
 impl Orders {

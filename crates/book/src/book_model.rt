@@ -35,7 +35,6 @@ use world_core::{Core, blank_event};
 
 /// The book of a run: what is committed, who is lent, and the bytes of the output and of the trace that were not yet taken
 /// out.
-#[derive(Drop)]
 pub struct Book<B: BookName> {
     alloc: Global,
     program: Arc<Verified>,
@@ -53,6 +52,28 @@ pub struct Book<B: BookName> {
     lines: Vec<u8>,
     /// The clocks that leases publish.
     slots: Slots<B>,
+}
+
+impl<B: BookName> Drop for Book<B> {
+    fn drop(self) {
+        let Book {
+            alloc: _,
+            program,
+            limit: _,
+            core,
+            taken: _,
+            pending,
+            traces: _,
+            traced: _,
+            lines,
+            slots,
+        } = self;
+        drop(program);
+        drop(core);
+        drop(pending);
+        drop(lines);
+        drop(slots);
+    }
 }
 
 impl<B: BookName> Model for Book<B> {

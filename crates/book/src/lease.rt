@@ -24,7 +24,6 @@ use verifier::Verified;
 
 /// A goroutine that is lent: it makes its local steps outside the book, and publishes its clock. Of the state in which it
 /// was lent there is no copy: contracts alone see it.
-#[derive(Drop)]
 pub struct Lease<B: BookName> {
     alloc: Global,
     program: Arc<Verified>,
@@ -36,6 +35,26 @@ pub struct Lease<B: BookName> {
     stands: bool,
     seat: LeaseSeat,
     of: PhantomData<B>,
+}
+
+impl<B: BookName> Drop for Lease<B> {
+    fn drop(self) {
+        let Lease {
+            alloc: _,
+            program,
+            limit: _,
+            number: _,
+            base,
+            present,
+            stands: _,
+            seat,
+            of: _,
+        } = self;
+        drop(program);
+        drop(base);
+        drop(present);
+        drop(seat);
+    }
 }
 
 impl<B: BookName> Model for Lease<B> {

@@ -22,7 +22,6 @@ use word::limits::MAX_GOROUTINES;
 const SLOTS: usize = MAX_GOROUTINES as usize;
 
 /// The table of clocks, and who has its slots.
-#[derive(Drop)]
 pub(crate) struct Slots<B: BookName> {
     table: ClockTable,
     pub seat: BookSeat,
@@ -36,6 +35,23 @@ pub(crate) struct Slots<B: BookName> {
     ghost seat_is: { seat_table seat ≡ B.table },
     ghost size: { length used.items ≡ length (words_of seat) },
     ghost free: { AreFree used.items (words_of seat) },
+}
+
+impl<B: BookName> Drop for Slots<B> {
+    fn drop(self) {
+        let Slots {
+            table,
+            seat,
+            used,
+            places,
+            spare,
+        } = self;
+        drop(table);
+        drop(seat);
+        drop(used);
+        drop(places);
+        drop(spare);
+    }
 }
 
 impl<B: BookName> Slots<B> {

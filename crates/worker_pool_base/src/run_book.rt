@@ -22,12 +22,19 @@ use word::end::End;
 use word::request::Event;
 
 /// The book of this run.
-#[derive(Drop)]
 pub struct RunBook<B: RunName> {
     pub book: Book<OfRun<B>>,
     /// Where each event is written in its turn.
     pub event: Event,
     pub ghost ours: { IsOfRun B.code B.limit B.traces book },
+}
+
+impl<B: RunName> Drop for RunBook<B> {
+    fn drop(self) {
+        let RunBook { book, event } = self;
+        drop(book);
+        drop(event);
+    }
 }
 
 impl<B: RunName> RunBook<B> {

@@ -23,10 +23,17 @@ use word::end::End;
 use word::request::{Event, EventOutcome, Request};
 
 /// A world of goroutines that run ahead of their turn, without its lists of events and bytes.
-#[derive(Drop)]
 pub struct Core {
     situation: Situation,
     spare: Spare,
+}
+
+impl Drop for Core {
+    fn drop(self) {
+        let Core { situation, spare } = self;
+        drop(situation);
+        drop(spare);
+    }
 }
 
 impl Model for Core {

@@ -27,7 +27,6 @@ use word::panic::Panic;
 use word::request::{Event, EventOutcome, Reply, Request};
 
 /// Where a run stands: who is awake or asleep and in which state, the channels, and the end.
-#[derive(Drop)]
 pub(crate) struct Situation {
     /// Goroutine n, if it is awake, is at place n; place 0 is never taken.
     pub rows: AwakeRows,
@@ -41,6 +40,24 @@ pub(crate) struct Situation {
     /// How many events there were.
     pub events: u64,
     pub ending: Option<End>,
+}
+
+impl Drop for Situation {
+    fn drop(self) {
+        let Situation {
+            rows,
+            beds,
+            taken,
+            channels,
+            live: _,
+            events: _,
+            ending: _,
+        } = self;
+        drop(rows);
+        drop(beds);
+        drop(taken);
+        drop(channels);
+    }
 }
 
 impl Model for Situation {

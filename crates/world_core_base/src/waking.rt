@@ -23,12 +23,19 @@ use word::request::Reply;
 const MOST_SPARE: usize = 64;
 
 /// What an event leaves to those behind it. Contracts don't see it.
-#[derive(Drop)]
 pub(crate) struct Spare {
     /// Rooms of those who fell asleep, for those who get up.
     pub rooms: Vec<Room>,
     /// Where an event lists whom it wakes.
     pub woken: Vec<Woken>,
+}
+
+impl Drop for Spare {
+    fn drop(self) {
+        let Spare { rooms, woken } = self;
+        drop(rooms);
+        drop(woken);
+    }
 }
 
 impl Spare {
