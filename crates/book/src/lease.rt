@@ -125,10 +125,15 @@ impl<B: BookName> Lease<B> {
         ensures seat { (lease_table result.2 ≡ B.table) × (lease_loan result.2 ≡ loan_for self.code self.limit self.number self.base) × (lease_slot result.2 ≡ self.slot) × (lease_clock result.2 ≡ self.published) }
     {
         let Lease {
+            alloc: _,
             program,
+            limit: _,
+            number: _,
+            base: _,
             present,
+            stands: _,
             seat,
-            ..
+            of: _,
         } = self;
         (program, present, seat)
     }

@@ -49,6 +49,7 @@ impl Drop for BookSeat {
 }
 
 /// What the holder of a lease knows of its word.
+#[derive(Drop)]
 pub struct LeaseSeat {
     words: Arc<Words, Global>,
     seat: Seat<(), View>,
@@ -57,19 +58,6 @@ pub struct LeaseSeat {
     pub ghost same: { seat.table_id ≡ (arc_value words).shared.table_id },
     pub ghost fits: { slot < seat.table_id.words },
     pub ghost is_lease: { seat.me ≡ lease_view slot (loan_of seat.me.0) clock },
-}
-
-impl Drop for LeaseSeat {
-    fn drop(self) {
-        let LeaseSeat {
-            words,
-            seat,
-            slot: _,
-            clock: _,
-        } = self;
-        drop(words);
-        drop(seat);
-    }
 }
 
 impl ClockTable {
