@@ -1,10 +1,11 @@
 //! The keys of slots, and which of them is least.
 
-ghost use Rattle.std.specs.Prelude.{◌≡◌, ◌≢◌, ℕ, ◌+◌, ◌*◌, ◌<◌, ◌≤◌, ◌^◌, ◌∷◌, ◌++◌, [], length, slice_index_or, slice_set, None, Some, false, IfNone, IfSome, IsSome, MatchOption, OnErr, OnOk};
+ghost use Rattle.std.specs.Prelude.{◌≡◌, ◌≢◌, ℕ, ◌+◌, ◌*◌, ◌<◌, ◌≤◌, ◌^◌, ◌∷◌, ◌++◌, [], length, slice_index_or, slice_set, replicate, None, Some, false, IfOk, IfNone, IfSome, IsSome, MatchOption, OnErr, OnOk};
 ghost use Rattle.logical_clock.specs.Order.{is_before};
 ghost use Rattle.logical_clock.specs.declared.key.Key.{Key};
 
 use crate::heap::{change, free, key_in, key_or, lift, put, second};
+use go_text::Memory;
 use logical_clock::Key;
 use std::alloc::{AllocError, Global};
 use std::marker::Model;
@@ -12,6 +13,7 @@ use std::sync::ledger::Ledger;
 use steps::Steps;
 
 /// The keys of slots, of which each is taken or free, and which is least. Room for a key is made with its slot.
+#[derive(Drop)]
 pub struct KeyIndex {
     /// The key of each slot that is taken.
     keys: Vec<Option<Key>>,
@@ -21,20 +23,6 @@ pub struct KeyIndex {
     places: Vec<usize>,
     /// How many slots are taken.
     len: usize,
-}
-
-impl Drop for KeyIndex {
-    fn drop(self) {
-        let KeyIndex {
-            keys,
-            order,
-            places,
-            len: _,
-        } = self;
-        drop(keys);
-        drop(order);
-        drop(places);
-    }
 }
 
 impl Model for KeyIndex {
@@ -60,6 +48,26 @@ impl KeyIndex {
             places: Vec::new(alloc),
             len: 0,
         }
+    }
+
+    /// So many slots, all free.
+    pub fn new(alloc: Global, slots: usize) -> Result<KeyIndex, Memory>
+        ensures { IfOk result (λ x. x ≡ replicate slots None) }
+    {
+        let mut keys = Vec::with_capacity(alloc, slots)?;
+        let mut order = Vec::with_capacity(alloc, slots)?;
+        let mut places = Vec::with_capacity(alloc, slots)?;
+        for slot in 0..slots {
+            keys.push(None)?;
+            order.push(slot)?;
+            places.push(slot)?;
+        }
+        Ok(KeyIndex {
+            keys,
+            order,
+            places,
+            len: 0,
+        })
     }
 
     /// One slot more, which is free.

@@ -26,10 +26,7 @@ fn is_told<L: Ledger>(alloc: Global, blank: Blank) -> Result<bool, Fault>
     requires one { blank.parts ≡ 1 }
 {
     let mut steps = Steps::<L>::new(blank);
-    let mut keys = KeyIndex::empty(alloc);
-    keys.push()?;
-    keys.push()?;
-    keys.push()?;
+    let mut keys = KeyIndex::new(alloc, 3)?;
     keys.insert(0, key(5, 1), &mut steps);
     keys.insert(1, key(5, 2), &mut steps);
     keys.insert(2, key(3, 3), &mut steps);

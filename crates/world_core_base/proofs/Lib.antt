@@ -8,5 +8,4 @@ pub mod Roused
 pub mod Stepping
 pub mod Taking
 pub mod Others
-pub mod Deserted
 pub use Rattle.awake_rows.proofs.Found
