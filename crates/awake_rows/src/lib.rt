@@ -10,4 +10,4 @@ mod turns;
 pub use awake::AwakeRows;
 pub use rows::{put_at, take_at};
 pub use slot::{Away, Slot};
-pub use turns::{Among, blocker, first_awake, least_parked};
+pub use turns::Among;

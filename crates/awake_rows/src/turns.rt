@@ -1,12 +1,11 @@
 //! Whose turn it is.
 
 ghost use Rattle.std.specs.Prelude.{◌≡◌, ◌+◌, ◌<◌, IfNone, IfSome, MatchOption, None, Some, drop, false, length, slice_index_or, true};
-ghost use Rattle.logical_clock.specs.Order.{keys, least};
 ghost use Rattle.turn_rule.specs.Schedule.{has_turn};
-ghost use Rattle.awake_rows.specs.Slots.{IsAwake, IsBefore, IsClear, IsNobodyAwake, IsNotClear, clock_among, waiting_clock};
+ghost use Rattle.awake_rows.specs.Slots.{IsBefore, IsClear, IsNotClear, clock_among};
 
 use crate::slot::Slot;
-use logical_clock::{Clock, Key, sooner};
+use logical_clock::{Clock, Key};
 
 /// Whose clocks count.
 #[derive(Clone, Copy)]
@@ -47,43 +46,8 @@ impl Among {
     }
 }
 
-/// The parked goroutine of least key. A goroutine's number is its place in the rows.
-#[tactic(auto, using(crate::proofs::Found::waiting_found))]
-pub fn least_parked(rows: &[Option<Slot>]) -> Option<Key>
-    ensures least { result ≡ least (keys waiting_clock 0 rows.now) }
-    ensures found { IfSome result (λ key. waiting_clock (slice_index_or rows.now key.number None) ≡ Some key.clock) }
-{
-    least_among(rows, Among::Parked)
-}
-
-/// The goroutine of least key of those whose clocks count.
-fn least_among(rows: &[Option<Slot>], among: Among) -> Option<Key>
-    ensures { result ≡ least (keys (clock_among among) 0 rows.now) }
-{
-    let mut best: Option<Key> = None;
-    for place in (0..rows.len()).rev() {
-        best = sooner_at(rows, among, place, best);
-    }
-    best
-}
-
-/// The least key from a place on, of that at the place and the least one behind it.
-fn sooner_at(rows: &[Option<Slot>], among: Among, place: usize, best: Option<Key>) -> Option<Key>
-    requires { place < length rows.now }
-    ensures { best ≡ least (keys (clock_among among) (place + 1) (drop (place + 1) rows.now)) → result ≡ least (keys (clock_among among) place (drop place rows.now)) }
-{
-    let Some(slot) = &rows[place] else {
-        return best;
-    };
-    let Some(clock) = among.clock(slot) else {
-        return best;
-    };
-    let number = place as u64;
-    Some(sooner(Key { clock, number }, best))
-}
-
 /// Who stands before the key: an awake goroutine whose floor the key is not below. None where the key has the turn.
-pub fn blocker(rows: &[Option<Slot>], key: Key) -> Option<u64>
+pub(crate) fn blocker(rows: &[Option<Slot>], key: Key) -> Option<u64>
     ensures { MatchOption result (has_turn key 0 rows.now ≡ true) (λ n. (has_turn key 0 rows.now ≡ false) × IsBefore rows.now key n) }
 {
     for place in 0..rows.len() {
@@ -131,16 +95,4 @@ fn is_before_at(rows: &[Option<Slot>], key: &Key, place: usize) -> bool
         number,
     };
     number != key.number && !key.is_before(&floor)
-}
-
-/// The first goroutine that is awake.
-pub fn first_awake(rows: &[Option<Slot>]) -> Option<u64>
-    ensures { MatchOption result (IsNobodyAwake rows.now) (λ n. IsAwake rows.now n) }
-{
-    for place in 0..rows.len() {
-        if let Some(_slot) = &rows[place] {
-            return Some(place as u64);
-        }
-    }
-    None
 }

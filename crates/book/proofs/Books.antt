@@ -31,11 +31,11 @@ use Rattle.tracer.proofs.Traces.{trace-push}
 use Rattle.word.proofs.Apart.{apart}
 use Rattle.word.proofs.Found.{In}
 use Rattle.word.proofs.Laws.{laws}
-use Rattle.world_core.specs.Cores.{CodeMachine, CoreValue, FitsCore, HasTurn, IsCoreOf, IsFreeIn, IsLentRow, Performs, Asks, bytes_of, shared_of}
-use Rattle.world_core.specs.Slots.{State, Rows, FitsRow, IsAwake, IsNobodyAwake, IsBefore, free_row, lent_row, waiting_clock}
-use Rattle.world_core.proofs.Leases.{core_fits_set, core_set, opened_fits}
-use Rattle.world_core.proofs.Others.{performed_other}
-use Rattle.world_core.proofs.Scheduling.{deserted}
+use Rattle.world_core_base.specs.Cores.{CodeMachine, CoreValue, FitsCore, HasTurn, IsCoreOf, IsFreeIn, IsLentRow, Performs, Asks, bytes_of, shared_of}
+use Rattle.world_core_base.specs.Slots.{State, Rows, FitsRow, IsAwake, IsNobodyAwake, IsBefore, free_row, lent_row, waiting_clock}
+use Rattle.world_core_base.proofs.Leases.{core_fits_set, core_set, opened_fits}
+use Rattle.world_core_base.proofs.Others.{performed_other}
+use Rattle.world_core_base.proofs.Deserted.{deserted}
 use Rattle.book.specs.Desks.{Desk, CommitsNext, IsDesk, IsPiece, IsTracePiece, IsEnd, kept_line, kept_trace, KeepsLeases, StandsBefore, Held, IsLent, brought, opened_desk, lent_desk}
 use Rattle.book.proofs.Desks.{lend_keeps, bring_keeps, lent_other, row_awake, settle_keeps, parked_asks, waits_alone, waits_before, nobody_awake}
 

@@ -20,9 +20,9 @@ use Rattle.turn_rule.proofs.Stable.{set_both}
 use Rattle.word.specs.Kinds.{Next, Slides, Ticks, Asks, Stuck, at, does, local_of}
 use Rattle.word.specs.Worlds.{moment, rules}
 use Rattle.word.proofs.Laws.{laws}
-use Rattle.world_core.specs.Cores.{IsLentRow}
-use Rattle.world_core.specs.Slots.{State, Rows, FitsRow, raised_row, waiting_clock}
-use Rattle.world_core.proofs.Leases.{core_fits_set, core_set}
+use Rattle.world_core_base.specs.Cores.{IsLentRow}
+use Rattle.world_core_base.specs.Slots.{State, Rows, FitsRow, raised_row, waiting_clock}
+use Rattle.world_core_base.proofs.Leases.{core_fits_set, core_set}
 use Rattle.book.specs.Desks.{Desk, IsDesk, IsSight, KeepsLeases, Looks, Sighting, seen_desk}
 
 -- ---- clocks stay within the limit

@@ -8,8 +8,8 @@ use Rattle.logical_clock.specs.declared.key.Key.{Key}
 use Rattle.logical_clock.specs.Order.{keys, least}
 use Rattle.turn_rule.specs.declared.Row.{Row}
 use Rattle.turn_rule.specs.Schedule.{has_turn}
-use Rattle.world_core.specs.Cores.{HasLease, HasTurn}
-use Rattle.world_core.specs.Slots.{State, Rows, IsAwake, IsBefore, raised_row, waiting_clock}
+use Rattle.world_core_base.specs.Cores.{HasLease, HasTurn}
+use Rattle.world_core_base.specs.Slots.{State, Rows, IsAwake, IsBefore, raised_row, waiting_clock}
 use Rattle.book.specs.Desks.{Desk, IsDesk, IsNobodyLent, IsSeen, IsSight, Looks, OnlyLooks, Sighting, Waits, seen_desk}
 use Rattle.book.proofs.Books.{waits_free}
 use Rattle.book.proofs.Looks.{looks_keep, raised_rows, seen_is_desk, still_there, was_there}

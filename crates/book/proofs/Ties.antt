@@ -14,8 +14,8 @@ use Rattle.turn_rule.specs.declared.Row.{Row}
 use Rattle.word.specs.declared.request.Event.{Event as Recorded}
 use Rattle.word.specs.Kinds.{at}
 use Rattle.word.specs.Worlds.{rules}
-use Rattle.world_core.specs.Cores.{CoreValue, IsFreeIn, IsLentRow}
-use Rattle.world_core.specs.Slots.{State, Rows, free_row, lent_row}
+use Rattle.world_core_base.specs.Cores.{CoreValue, IsFreeIn, IsLentRow}
+use Rattle.world_core_base.specs.Slots.{State, Rows, free_row, lent_row}
 use Rattle.book.specs.Desks.{CommitsNext, Desk, Held, IsDesk, IsLent, KeepsLeases, Sighting, brought, lent_desk, opened_desk, seen_desk}
 use Rattle.book.specs.Slots.{IsOut, IsPlaced, IsTied, SamePlaces, place_of}
 use Rattle.book.proofs.Books.{commits_keeps}

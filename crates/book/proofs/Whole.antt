@@ -18,8 +18,8 @@ use Rattle.turn_rule.specs.Turns.{Leads}
 use Rattle.word.specs.declared.request.Event.{Event as Recorded}
 use Rattle.word.specs.Kinds.{asks}
 use Rattle.word.specs.Worlds.{rules}
-use Rattle.world_core.specs.Cores.{CoreValue, HasLease, HasTurn, IsFreeIn, Works}
-use Rattle.world_core.specs.Slots.{State, Rows, FitsRow, IsBefore, back_row, free_row, lent_row, waiting_clock}
+use Rattle.world_core_base.specs.Cores.{CoreValue, HasLease, HasTurn, IsFreeIn, Works}
+use Rattle.world_core_base.specs.Slots.{State, Rows, FitsRow, IsBefore, back_row, free_row, lent_row, waiting_clock}
 use Rattle.book.specs.Desks.{CommitsNext, Desk, Held, IsDesk, IsLent, IsSeen, IsSight, KeepsLeases, OnlyLooks, Sighting, Waits, back_core, brought, lent_desk, opened_desk, seen_desk}
 use Rattle.book.specs.Slots.{IsBook, IsPlaced, SamePlaces, place_of}
 use Rattle.book.proofs.Books.{brought_by, brought_is_desk, lent_is_desk, opened_is_desk, output_taken, trace_taken, waits_key}

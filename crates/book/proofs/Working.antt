@@ -13,8 +13,8 @@ use Rattle.turn_rule.specs.Turns.{Leads, moved}
 use Rattle.turn_rule.proofs.Stable.{moved_climbs}
 use Rattle.word.specs.Worlds.{rules}
 use Rattle.word.proofs.Laws.{laws}
-use Rattle.world_core.specs.Slots.{State}
-use Rattle.world_core.proofs.Leases.{leads_goes}
+use Rattle.world_core_base.specs.Slots.{State}
+use Rattle.world_core_base.proofs.Leases.{leads_goes}
 use Rattle.book.specs.Desks.{Held}
 use Rattle.book.specs.Leases.{IsHeldBy}
 

@@ -22,8 +22,8 @@ use Rattle.book.specs.declared.settled.Reached.{Reached}
 use Rattle.book.specs.declared.settled.Reached.TheVariants as reached
 use Rattle.book.specs.declared.settled.Settled.{Settled}
 use Rattle.book.specs.declared.settled.Settled.TheVariants.{Committed, Waiting, Ended}
-use Rattle.world_core.specs.Cores.{CodeMachine, CoreValue, FitsCore, HasLease, HasTurn, IsCoreOf, IsLentRow, Performs, bytes_of, opened_core, shared_of}
-use Rattle.world_core.specs.Slots.{IsBefore, Rows, State, lent_row, raised_row, waiting_clock}
+use Rattle.world_core_base.specs.Cores.{CodeMachine, CoreValue, FitsCore, HasLease, HasTurn, IsCoreOf, IsLentRow, Performs, bytes_of, opened_core, shared_of}
+use Rattle.world_core_base.specs.Slots.{IsBefore, Rows, State, lent_row, raised_row, waiting_clock}
 
 -- ---- what is seen of the one-thread run of a code
 

@@ -7,8 +7,8 @@ use Rattle.clock_table.specs.declared.view.Row.{Row as Word}
 use Rattle.clock_table.specs.declared.view.Row.TheVariants.{Home, Lent, Back}
 use Rattle.clock_table.specs.Clocks.{IsLentOn, loan_for, row as word_at}
 use Rattle.turn_rule.specs.declared.Row.{Row}
-use Rattle.world_core.specs.Cores.{IsLentRow}
-use Rattle.world_core.specs.Slots.{State}
+use Rattle.world_core_base.specs.Cores.{IsLentRow}
+use Rattle.world_core_base.specs.Slots.{State}
 use Rattle.book.specs.Desks.{Desk, IsDesk}
 
 -- the slot that goroutine n had last

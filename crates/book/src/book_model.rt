@@ -9,10 +9,10 @@ ghost use Rattle.logical_clock.specs.Order.{keys, least};
 ghost use Rattle.turn_rule.specs.Schedule.{has_turn};
 ghost use Rattle.clock_table.specs.Clocks.{IsFree, WasLent, loan_for, row as word_at};
 ghost use Rattle.clock_table.specs.Seats.{table_of};
-ghost use Rattle.world_core.specs.Slots.{IsBefore, waiting_clock};
+ghost use Rattle.world_core_base.specs.Slots.{IsBefore, waiting_clock};
 ghost use Rattle.word.specs.declared.request.Event.{Event as Recorded};
 ghost use Rattle.word.specs.Views.{event_of};
-ghost use Rattle.world_core.specs.Cores.{HasLease, HasTurn, IsFreeIn, Works, no_event, to_lend};
+ghost use Rattle.world_core_base.specs.Cores.{HasLease, HasTurn, IsFreeIn, Works, no_event, to_lend};
 ghost use Rattle.book.specs.Desks.{CommitsNext, IsDesk, IsLent, IsNobodyLent, IsPiece, IsSeen, IsSight, IsTracePiece, KeepsLeases, OnlyLooks, Settles, Sighting, Waits, brought, lent_desk, opened_desk, seen_desk, settled_by};
 
 use crate::blank::Blank;
@@ -31,7 +31,7 @@ use std::sync::Arc;
 use verifier::Verified;
 use word::end::End;
 use word::request::Event;
-use world_core::{Core, blank_event};
+use world_core_base::{Core, blank_event};
 
 /// The book of a run: what is committed, who is lent, and the bytes of the output and of the trace that were not yet taken
 /// out.

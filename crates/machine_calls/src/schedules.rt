@@ -9,7 +9,7 @@ use turn_rule::Step;
 use word::end::End;
 use word::panic::Panic;
 use word::request::{Event, EventOutcome, Request};
-use world_core::{Core, first_awake, least_parked, run_schedule};
+use world_core::{Core, run_schedule};
 
 /// A clock limit that is not reached.
 const LIMIT: u64 = 1 << 40;
@@ -200,10 +200,10 @@ fn state_is_taken_out_and_put_back(alloc: Global) -> Result<bool, Fault> {
     let program = program(alloc, &HANDS_OVER)?;
     let mut core = Core::open(alloc, &program)?;
     let state = core.take_state(1);
-    let away = first_awake(core.rows());
+    let away = core.first_awake();
     core.put_state(1, state);
-    let here = first_awake(core.rows());
-    let parked = least_parked(core.rows());
+    let here = core.first_awake();
+    let parked = core.least_parked();
     Ok(away == None && here == Some(1) && parked == None)
 }
 

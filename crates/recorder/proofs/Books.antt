@@ -6,8 +6,8 @@ use Rattle.book.specs.Desks.{Desk, Held, IsEvent, Settles, Looks, Sighting, brou
 use Rattle.book.specs.declared.settled.Settled.{Settled}
 use Rattle.book.specs.declared.settled.Settled.TheVariants.{Committed, Waiting, Ended}
 use Rattle.bytecode.specs.Code.{Code}
-use Rattle.world_core.specs.Cores.{CoreValue}
-use Rattle.world_core.specs.Slots.{Rows}
+use Rattle.world_core_base.specs.Cores.{CoreValue}
+use Rattle.world_core_base.specs.Slots.{Rows}
 use Rattle.bytecode.specs.Machine.{code_kind}
 use Rattle.word.specs.declared.end.End.{End as Ending}
 use Rattle.word.specs.declared.request.Event.{Event as Recorded}

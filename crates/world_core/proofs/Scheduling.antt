@@ -24,21 +24,11 @@ use Rattle.word.specs.declared.end.End.TheVariants.{Deadlock}
 use Rattle.world_core_base.specs.Cores.{CodeMachine, CoreValue, Asks, FitsCore, HasTurn, IsCoreOf, shared_of, opened_core}
 use Rattle.world_core.specs.Schedules.{WorldValue, IsWorldOf, IsMoment, IsFirstInFirstOut, end_in, first_world, has_turn_with, is_turn, goroutine_of, scheduled, turns_at, turns_in}
 use Rattle.world_core_base.specs.Slots.{State, Rows, FitsRow, IsAwake, IsNobodyAwake, stepped_row, stepped_rows, waiting_clock}
+use Rattle.world_core_base.proofs.Deserted.{deserted, inhabited}
 use Rattle.world_core_base.proofs.Found.{waiting_found}
 use Rattle.world_core_base.proofs.Leases.{core_set}
 
 -- ---- who is awake, and who asks
-
-pub deserted : {A : Type 0} (xs : List (Option A)) → ((n : ℕ) → slice_index_or xs n None ≡ None) → is_deserted (map is_some xs) ≡ true
-deserted [] none = refl
-deserted (None ∷ xs) none = deserted xs (λ n. none (suc n))
-deserted (Some x ∷ xs) none = absurd (true≢false (ap is_some (none zero)))
-
-inhabited : {A : Type 0} (xs : List (Option A)) (n : ℕ) (x : A) → slice_index_or xs n None ≡ Some x → is_deserted (map is_some xs) ≡ false
-inhabited [] n x h = cc
-inhabited (None ∷ xs) zero x h = cc
-inhabited (None ∷ xs) (suc n) x h = inhabited xs n x h
-inhabited (Some y ∷ xs) n x h = refl
 
 pub end_where : (core : CoreValue) (b : Bool) → core.ending ≡ None → is_deserted (map is_some core.rows) ≡ b → end_in core ≡ cond b (Some Deadlock) None
 end_where core b going e = ap (λ (o : Option Ending). cond (is_some o) o (cond (is_deserted (map is_some core.rows)) (Some Deadlock) None)) going ∙ ap (λ t. cond t (Some Deadlock) None) e

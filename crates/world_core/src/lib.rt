@@ -4,6 +4,4 @@
 mod schedule;
 
 pub use schedule::{World, run_schedule};
-pub use world_core_base::{
-    Away, Core, Slot, Step, blank_event, blocker, first_awake, least_parked,
-};
+pub use world_core_base::{Away, Core, Slot, Step, blank_event};

@@ -15,7 +15,7 @@ use turn_rule::Step;
 use verifier::Verified;
 use word::end::End;
 use word::request::Event;
-use world_core_base::{Core, blank_event, blocker, first_awake, least_parked};
+use world_core_base::{Core, blank_event};
 
 /// A world of goroutines that run ahead of their turn, and all that was committed.
 pub struct World {
@@ -69,7 +69,7 @@ impl World {
         if let Some(end) = self.core.ending() {
             return Some(end);
         }
-        match first_awake(self.core.rows()) {
+        match self.core.first_awake() {
             Some(_) => None,
             None => Some(End::Deadlock),
         }
@@ -114,11 +114,11 @@ impl World {
         ensures fits { OnOk result (FitsCore code.now limit self.new.core) }
         ensures memory { OnErr result (self.new ≡ self.old) }
     {
-        let Some(key) = least_parked(self.core.rows()) else {
+        let Some(key) = self.core.least_parked() else {
             return Ok(());
         };
         let number = key.number;
-        if blocker(self.core.rows(), key).is_some() {
+        if self.core.blocker(key).is_some() {
             return Ok(());
         }
         self.commit(alloc, code, limit, number)

@@ -8,4 +8,5 @@ pub mod Roused
 pub mod Stepping
 pub mod Taking
 pub mod Others
+pub mod Deserted
 pub use Rattle.awake_rows.proofs.Found

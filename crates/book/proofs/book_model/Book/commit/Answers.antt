@@ -3,8 +3,8 @@ use Rattle.std.specs.Arc.{arc_value}
 use Rattle.clock_table.specs.Seats.{rows as words_of, seat_looks}
 use Rattle.bytecode.specs.Code.{Code}
 use Rattle.word.specs.Views.{event_of}
-use Rattle.world_core.specs.Cores.{Performs, bytes_of}
-use Rattle.world_core.specs.Cores.{FitsCore, HasTurn}
+use Rattle.world_core_base.specs.Cores.{Performs, bytes_of}
+use Rattle.world_core_base.specs.Cores.{FitsCore, HasTurn}
 use Rattle.book.specs.Desks.{Desk, kept_line}
 use Rattle.book.proofs.Books.{asks_at, committed, commits_keeps}
 use Rattle.book.proofs.Whole.{book_commits}

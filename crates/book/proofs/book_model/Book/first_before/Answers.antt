@@ -1,8 +1,8 @@
 use Rattle.std.proofs.Common.{◌≡◌, true, sym}
 use Rattle.std.proofs.lemmas.Bool.{true≢false}
 use Rattle.turn_rule.specs.Schedule.{has_turn}
-use Rattle.world_core.specs.Cores.{HasTurn}
-use Rattle.world_core.specs.Slots.{IsBefore}
+use Rattle.world_core_base.specs.Cores.{HasTurn}
+use Rattle.world_core_base.specs.Slots.{IsBefore}
 use Rattle.book.specs.Desks.{OnlyLooks, Waits}
 use Rattle.book.proofs.Settling.{turn_after, waits_first, waits_other, waits_seen, when_none, when_some}
 use Rattle.book.proofs.book_model.Book.first_before.Goals as goal

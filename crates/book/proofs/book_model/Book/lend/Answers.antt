@@ -5,8 +5,8 @@ use Rattle.bytecode.specs.Code.{Code}
 use Rattle.clock_table.specs.declared.view.Row.TheVariants.{Lent}
 use Rattle.clock_table.specs.Clocks.{loan_for}
 use Rattle.clock_table.specs.Seats.{lease_slot, rows as words_of, seat_looks}
-use Rattle.world_core.specs.Cores.{CoreValue, IsFreeIn}
-use Rattle.world_core.specs.Slots.{Rows, back_row, lent_row}
+use Rattle.world_core_base.specs.Cores.{CoreValue, IsFreeIn}
+use Rattle.world_core_base.specs.Slots.{Rows, back_row, lent_row}
 use Rattle.book.specs.Desks.{Desk, Held, lent_desk}
 use Rattle.book.proofs.Books.{lease_is_lent}
 use Rattle.book.proofs.Whole.{book_lends, book_places, taken_back}

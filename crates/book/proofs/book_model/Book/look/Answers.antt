@@ -2,8 +2,8 @@ use Rattle.std.proofs.Common.{◌≡◌, None, arith, refl, sym, subst}
 use Rattle.std.specs.Arc.{arc_value}
 use Rattle.clock_table.specs.Clocks.{loan_for, row as word_at}
 use Rattle.clock_table.specs.Seats.{rows as words_of, seat_looks}
-use Rattle.world_core.specs.Cores.{HasLease}
-use Rattle.world_core.specs.Slots.{FitsRow}
+use Rattle.world_core_base.specs.Cores.{HasLease}
+use Rattle.world_core_base.specs.Slots.{FitsRow}
 use Rattle.book.specs.Desks.{Desk, IsSight, Sighting}
 use Rattle.book.specs.Slots.{place_of}
 use Rattle.book.proofs.Looks.{held_below}

@@ -1,8 +1,8 @@
 use Rattle.std.proofs.Common.{◌≡◌, ℕ, ◌+◌, ◌<◌, None, arith, sym, ◌∙◌, subst}
 use Rattle.std.proofs.lemmas.Bool.{true≢false}
 use Rattle.logical_clock.specs.declared.key.Key.{Key}
-use Rattle.world_core.specs.Cores.{HasLease}
-use Rattle.world_core.specs.Slots.{IsBefore}
+use Rattle.world_core_base.specs.Cores.{HasLease}
+use Rattle.world_core_base.specs.Slots.{IsBefore}
 use Rattle.book.specs.Desks.{Desk, OnlyLooks}
 use Rattle.book.proofs.Settling.{clear_all, clear_more, clear_seen, looks_size, seen_ending, seen_only}
 use Rattle.book.proofs.book_model.Book.look_before.Goals as goal

@@ -1,7 +1,7 @@
 use Rattle.std.proofs.Common.{◌≡◌, ℕ, ◌<◌, None}
 use Rattle.book.specs.Desks.{OnlyLooks}
-use Rattle.world_core.specs.Cores.{HasLease}
-use Rattle.world_core.specs.Slots.{IsBefore}
+use Rattle.world_core_base.specs.Cores.{HasLease}
+use Rattle.world_core_base.specs.Slots.{IsBefore}
 use Rattle.book.proofs.book_model.Book.look_before.Given as goal
 
 abbrev pub invariant-loop-place : goal.invariant-loop-place

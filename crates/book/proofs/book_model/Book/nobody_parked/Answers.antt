@@ -2,7 +2,7 @@ use Rattle.std.proofs.Common.{refl, sym, subst}
 use Rattle.std.proofs.lemmas.Bool.{true≢false}
 use Rattle.std.specs.Arc.{arc_value}
 use Rattle.clock_table.specs.Seats.{rows as words_of, seat_looks}
-use Rattle.world_core.specs.Slots.{IsAwake, IsNobodyAwake}
+use Rattle.world_core_base.specs.Slots.{IsAwake, IsNobodyAwake}
 use Rattle.book.specs.Desks.{Desk, IsDesk}
 use Rattle.book.proofs.Books.{dead_desk}
 use Rattle.book.proofs.Settling.{seen_only, waits_lent, waits_unlent}

@@ -2,7 +2,7 @@ use Rattle.std.proofs.Common.{◌≡◌, None, inl, inr, subst, sym}
 use Rattle.std.specs.Arc.{arc_value}
 use Rattle.bytecode.specs.Code.{Code}
 use Rattle.clock_table.specs.Seats.{rows as words_of, seat_looks}
-use Rattle.world_core.specs.Cores.{CoreValue, Works, to_lend}
+use Rattle.world_core_base.specs.Cores.{CoreValue, Works, to_lend}
 use Rattle.book.specs.Desks.{Desk, KeepsLeases}
 use Rattle.book.specs.Slots.{IsBook}
 use Rattle.book.proofs.Whole.{book_works, works_as, works_leases}
