@@ -1,7 +1,7 @@
 -- Fields and parameters one after the other, as a loop reads them.
 use Rattle.std.proofs.Common.{◌≡◌, ℕ, suc, ◌-◌, ◌+◌, ◌<◌, ◌≤◌, Bool, List, [], ◌∷◌, ◌++◌, length, Ok, Err, map, refl, sym, ap, ◌∙◌, arith}
 use Rattle.scanner.specs.declared.kind.TokenKind.{TokenKind}
-use Rattle.go_text.specs.declared.fault.Fault.{Fault}
+use Rattle.parser_base.specs.declared.fault.ParseFault.{ParseFault}
 use Rattle.syntax.specs.Tree.{Declared}
 use Rattle.syntax.specs.Measures.{Entries}
 use Rattle.syntax.specs.declared.node.DeclaredNode.{DeclaredNode}
@@ -45,14 +45,14 @@ ends separator close room turns i left front ws x trailing after rest total lt e
     let begins : some_declared separator close room (turns - i) left ws ≡ Ok ((declared_of x ∷ [], trailing), rest) = turn separator close room turns i left ws lt ∙ rw (e, n) refl in
     sym so_far ∙ ap (with_front (map declared_of front)) begins ∙ ap (λ (xs : List Declared). Ok ((xs, trailing), rest)) (sym (one_more declared_of front x))
 
-pub one_fails : (fault : Fault) (separator close : TokenKind) (room turns i left : ℕ) (front : List Declared) (ws : List Lexeme) (total : Reading (List Declared × Bool)) → i < turns → Fails fault (declared left room ws)
+pub one_fails : (fault : ParseFault) (separator close : TokenKind) (room turns i left : ℕ) (front : List Declared) (ws : List Lexeme) (total : Reading (List Declared × Bool)) → i < turns → Fails fault (declared left room ws)
     → with_front front (some_declared separator close room (turns - i) left ws) ≡ total → Fails fault total
 one_fails fault separator close room turns i left front ws total lt fails so_far =
     fails_on fault (declared left room ws) total fails (λ r e.
     let begins : some_declared separator close room (turns - i) left ws ≡ Err r = turn separator close room turns i left ws lt ∙ rw e refl in
     sym so_far ∙ ap (with_front front) begins)
 
-pub next_fails : (fault : Fault) (separator close : TokenKind) (room turns i left : ℕ) (front : List Declared) (ws : List Lexeme) (x : Declared) (after : List Lexeme) (total : Reading (List Declared × Bool)) → i < turns → declared left room ws ≡ Ok (x, after) → Fails fault (next_of separator close after)
+pub next_fails : (fault : ParseFault) (separator close : TokenKind) (room turns i left : ℕ) (front : List Declared) (ws : List Lexeme) (x : Declared) (after : List Lexeme) (total : Reading (List Declared × Bool)) → i < turns → declared left room ws ≡ Ok (x, after) → Fails fault (next_of separator close after)
     → with_front front (some_declared separator close room (turns - i) left ws) ≡ total → Fails fault total
 next_fails fault separator close room turns i left front ws x after total lt o fails so_far =
     fails_on fault (next_of separator close after) total fails (λ r e.

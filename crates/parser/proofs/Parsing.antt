@@ -1,10 +1,12 @@
 -- What the fault or the file that was read says of the lexemes.
-use Rattle.std.proofs.Common.{◌≡◌, ℕ, ◌+◌, ◌≤◌, Option, Some, Result, Ok, Err, List, length, ap, ◌∙◌, sym, subst, arith}
-use Rattle.go_text.specs.declared.fault.Fault.{Fault}
+use Rattle.std.proofs.Common.{◌≡◌, refl, ℕ, ◌+◌, ◌≤◌, Option, Some, Result, Ok, Err, List, length, ap, ◌∙◌, sym, subst, arith}
+use Rattle.parser_base.specs.declared.fault.ParseFault.{ParseFault}
 use Rattle.syntax.specs.Tree.{File}
 use Rattle.syntax.specs.Measures.{Listing, size, height, longest}
 use Rattle.parser_base.specs.Lexemes.{Lexeme}
-use Rattle.parser_base.specs.Reading.{Refusal, Syntax, TooDeep, TooMany, FailsWith, Fails, refusal_of}
+use Rattle.parser_base.specs.declared.fault.ParseFault.TheVariants as parse
+use Rattle.parser_base.specs.Faults.{fault_of}
+use Rattle.parser_base.specs.Reading.{Refusal, Syntax, TooDeep, TooMany, FailsWith, Fails, named_by, refusal_of}
 use Rattle.parser.specs.Spelling.{Spells}
 use Rattle.parser.specs.Reading.{file}
 use Rattle.parser.proofs.FileLaws.{file_sound, no_syntax, no_low, no_few}
@@ -12,18 +14,26 @@ use Rattle.parser.proofs.Sizes.{size-le}
 use Rattle.parser.proofs.Counts.{file_counts}
 use Rattle.spans.specs.Words.{file_count}
 
-fails_as : {A : Type 0} (fault : Fault) (refusal : Refusal) (read : Result A Refusal) → Fails fault read → refusal_of fault ≡ Some refusal → read ≡ Err refusal
-fails_as fault refusal read fails is = subst (λ (o : Option Refusal). FailsWith fault o read) is fails
+-- A text is refused as its reading fails.
+refused_so : (fault : ParseFault) → refusal_of (fault_of fault) ≡ named_by fault
+refused_so (parse.Syntax span) = refl
+refused_so (parse.TooDeep span) = refl
+refused_so (parse.TooManyEntries span) = refl
+refused_so (parse.TooManyClauses span) = refl
+refused_so parse.Memory = refl
 
-pub fault_syntax : (room most : ℕ) (ahead words : List Lexeme) (fault : Fault) → ahead ≡ words → Fails fault (file most room ahead) → refusal_of fault ≡ Some Syntax → (f : File) → Spells words f → ⊥
+fails_as : {A : Type 0} (fault : ParseFault) (refusal : Refusal) (read : Result A Refusal) → Fails fault read → refusal_of (fault_of fault) ≡ Some refusal → read ≡ Err refusal
+fails_as fault refusal read fails is = subst (λ (o : Option Refusal). FailsWith fault o read) (sym (refused_so fault) ∙ is) fails
+
+pub fault_syntax : (room most : ℕ) (ahead words : List Lexeme) (fault : ParseFault) → ahead ≡ words → Fails fault (file most room ahead) → refusal_of (fault_of fault) ≡ Some Syntax → (f : File) → Spells words f → ⊥
 fault_syntax room most ahead words fault same fails is =
     no_syntax room most words (ap (file most room) (sym same) ∙ fails_as fault Syntax (file most room ahead) fails is)
 
-pub fault_deep : (room most : ℕ) (ahead words : List Lexeme) (fault : Fault) → ahead ≡ words → Fails fault (file most room ahead) → refusal_of fault ≡ Some TooDeep → (f : File) → Spells words f → height f ≤ room + 3 → ⊥
+pub fault_deep : (room most : ℕ) (ahead words : List Lexeme) (fault : ParseFault) → ahead ≡ words → Fails fault (file most room ahead) → refusal_of (fault_of fault) ≡ Some TooDeep → (f : File) → Spells words f → height f ≤ room + 3 → ⊥
 fault_deep room most ahead words fault same fails is =
     no_low room most words (ap (file most room) (sym same) ∙ fails_as fault TooDeep (file most room ahead) fails is)
 
-pub fault_many : (room most : ℕ) (ahead words : List Lexeme) (fault : Fault) (listing : Listing) → ahead ≡ words → Fails fault (file most room ahead) → refusal_of fault ≡ Some (TooMany listing) → (f : File) → Spells words f → longest listing f ≤ most → ⊥
+pub fault_many : (room most : ℕ) (ahead words : List Lexeme) (fault : ParseFault) (listing : Listing) → ahead ≡ words → Fails fault (file most room ahead) → refusal_of (fault_of fault) ≡ Some (TooMany listing) → (f : File) → Spells words f → longest listing f ≤ most → ⊥
 fault_many room most ahead words fault listing same fails is =
     no_few room most words listing (ap (file most room) (sym same) ∙ fails_as fault (TooMany listing) (file most room ahead) fails is)
 

@@ -8,10 +8,10 @@ ghost use Rattle.parser_base.specs.Reading.{Gives, entry_next};
 ghost use Rattle.parser_simple.specs.Reading.{begins_name};
 ghost use Rattle.parser.specs.Reading.{declared, some_declared, all_declared};
 
-use go_text::{Fault, LimitKind};
 use parser_base::beside::beside;
 use parser_base::cursor::{Cursor, Word};
 use parser_base::expression::closed;
+use parser_base::fault::ParseFault;
 use parser_base::list::{List, Next};
 use parser_base::types::type_at;
 use parser_simple::form::begins_name;
@@ -27,11 +27,11 @@ fn declared_next(
     separator: TokenKind,
     close: TokenKind,
     cursor: Cursor<'_>,
-) -> Result<(Next, Cursor<'_>), Fault>
+) -> Result<(Next, Cursor<'_>), ParseFault>
     ensures { Gives (λ x. (x.0, ahead x.1)) result (entry_next separator begins_name close (ahead cursor.entry)) }
 {
     let Some((Word::Mark(kind), rest)) = cursor.next() else {
-        return Err(Fault::Syntax(cursor.place()));
+        return Err(ParseFault::Syntax(cursor.place()));
     };
     if kind == separator {
         return match begins_name(rest) {
@@ -49,7 +49,7 @@ fn declared(
     most: usize,
     room: u32,
     cursor: Cursor<'_>,
-) -> Result<(DeclaredNode, Cursor<'_>), Fault>
+) -> Result<(DeclaredNode, Cursor<'_>), ParseFault>
     ensures { Gives (λ x. (declared_of x.0, ahead x.1)) result (declared most room (ahead cursor.entry)) }
 {
     let all = names(alloc, TokenKind::Comma, most, cursor)?;
@@ -68,7 +68,7 @@ fn some_declared(
     close: TokenKind,
     room: u32,
     cursor: Cursor<'_>,
-) -> Result<List<'_, DeclaredNode>, Fault>
+) -> Result<List<'_, DeclaredNode>, ParseFault>
     ensures { Gives (λ x. ((map declared_of x.entries.items, x.trailing), ahead x.rest)) result (some_declared separator close room MAX_ENTRIES MAX_ENTRIES (ahead cursor.entry)) }
 {
     let mut entries = Vec::new(alloc);
@@ -88,11 +88,7 @@ fn some_declared(
             }),
         }
     }
-    Err(Fault::Limit {
-        kind: LimitKind::ListEntries,
-        node: None,
-        place: rest.place(),
-    })
+    Err(ParseFault::TooManyEntries(rest.place()))
 }
 
 /// Fields or parameters to the closing mark, behind the opening one; their types have at most so many levels.
@@ -103,7 +99,7 @@ pub(crate) fn all_declared(
     close: TokenKind,
     room: u32,
     cursor: Cursor<'_>,
-) -> Result<List<'_, DeclaredNode>, Fault>
+) -> Result<List<'_, DeclaredNode>, ParseFault>
     ensures { Gives (λ x. ((map declared_of x.entries.items, x.trailing), ahead x.rest)) result (all_declared separator close MAX_ENTRIES room (ahead cursor.entry)) }
 {
     if begins_name(cursor) {

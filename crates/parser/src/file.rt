@@ -7,8 +7,8 @@ ghost use Rattle.parser_base.specs.Reading.{Gives, Syntax, listed};
 ghost use Rattle.parser.specs.Reading.{top, top_next, tops, file};
 
 use crate::top::{STATEMENT_ROOM, declaration};
-use go_text::Fault;
 use parser_base::cursor::Cursor;
+use parser_base::fault::ParseFault;
 use parser_base::list::{List, Next};
 use scanner::TokenKind;
 use std::alloc::Global;
@@ -17,7 +17,7 @@ use syntax::{FileNode, TopNode};
 
 /// What follows a declaration.
 #[tactic(auto, unfolding(crate::specs::Reading::top_next))]
-fn declaration_next(cursor: Cursor<'_>) -> Result<(Next, Cursor<'_>), Fault>
+fn declaration_next(cursor: Cursor<'_>) -> Result<(Next, Cursor<'_>), ParseFault>
     ensures { Gives (λ x. (x.0, ahead x.1)) result (top_next (ahead cursor.entry)) }
 {
     let rest = cursor.expect(TokenKind::Semicolon)?;
@@ -29,7 +29,7 @@ fn declaration_next(cursor: Cursor<'_>) -> Result<(Next, Cursor<'_>), Fault>
 }
 
 /// At least one declaration, to the file's end.
-fn declaration_list(alloc: Global, cursor: Cursor<'_>) -> Result<List<'_, TopNode>, Fault>
+fn declaration_list(alloc: Global, cursor: Cursor<'_>) -> Result<List<'_, TopNode>, ParseFault>
     ensures { Gives (λ x. ((map top_of x.entries.items, x.trailing), ahead x.rest)) result (listed (top MAX_ENTRIES STATEMENT_ROOM) top_next Syntax (length (ahead cursor.entry)) (ahead cursor.entry)) }
 {
     let mut entries = Vec::new(alloc);
@@ -47,12 +47,12 @@ fn declaration_list(alloc: Global, cursor: Cursor<'_>) -> Result<List<'_, TopNod
             }),
         }
     }
-    Err(Fault::Syntax(rest.place()))
+    Err(ParseFault::Syntax(rest.place()))
 }
 
 /// The declarations of a file behind the semicolon of its first line.
 #[tactic(auto, unfolding(crate::specs::Reading::tops))]
-fn declarations(alloc: Global, cursor: Cursor<'_>) -> Result<List<'_, TopNode>, Fault>
+fn declarations(alloc: Global, cursor: Cursor<'_>) -> Result<List<'_, TopNode>, ParseFault>
     ensures { Gives (λ x. ((map top_of x.entries.items, x.trailing), ahead x.rest)) result (tops MAX_ENTRIES STATEMENT_ROOM (ahead cursor.entry)) }
 {
     if cursor.next().is_some() {
@@ -67,7 +67,7 @@ fn declarations(alloc: Global, cursor: Cursor<'_>) -> Result<List<'_, TopNode>, 
 
 /// A whole file.
 #[tactic(auto, unfolding(crate::specs::Reading::file))]
-pub(crate) fn file(alloc: Global, cursor: Cursor<'_>) -> Result<FileNode, Fault>
+pub(crate) fn file(alloc: Global, cursor: Cursor<'_>) -> Result<FileNode, ParseFault>
     ensures { Gives file_of result (file MAX_ENTRIES STATEMENT_ROOM (ahead cursor.entry)) }
 {
     let rest = cursor.expect(TokenKind::Package)?;

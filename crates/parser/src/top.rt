@@ -7,8 +7,8 @@ ghost use Rattle.parser_base.specs.Reading.{Gives};
 ghost use Rattle.parser.specs.Reading.{structure, result_type, block, function, top};
 
 use crate::declared::all_declared;
-use go_text::Fault;
 use parser_base::cursor::Cursor;
+use parser_base::fault::ParseFault;
 use parser_base::list::List;
 use parser_base::types::type_at;
 use parser_simple::form::begins_with;
@@ -24,7 +24,7 @@ pub const STATEMENT_ROOM: u32 = MAX_HEIGHT - 3;
 
 /// A declaration of a struct type.
 #[tactic(auto, unfolding(crate::specs::Reading::structure))]
-fn type_declaration(alloc: Global, cursor: Cursor<'_>) -> Result<(TopNode, Cursor<'_>), Fault>
+fn type_declaration(alloc: Global, cursor: Cursor<'_>) -> Result<(TopNode, Cursor<'_>), ParseFault>
     ensures { Gives (λ x. (top_of x.0, ahead x.1)) result (structure MAX_ENTRIES STATEMENT_ROOM (ahead cursor.entry)) }
 {
     let rest = cursor.expect(TokenKind::TypeKeyword)?;
@@ -48,7 +48,10 @@ fn type_declaration(alloc: Global, cursor: Cursor<'_>) -> Result<(TopNode, Curso
 
 /// The type of a function's result, if there is one before its block.
 #[tactic(auto, unfolding(crate::specs::Reading::result_type))]
-fn result_type(alloc: Global, cursor: Cursor<'_>) -> Result<(Option<TypeNode>, Cursor<'_>), Fault>
+fn result_type(
+    alloc: Global,
+    cursor: Cursor<'_>,
+) -> Result<(Option<TypeNode>, Cursor<'_>), ParseFault>
     ensures { Gives (λ x. (option_map type_of x.0, ahead x.1)) result (result_type (STATEMENT_ROOM + 1) (ahead cursor.entry)) }
 {
     if begins_with(TokenKind::LeftBrace, cursor) {
@@ -60,7 +63,7 @@ fn result_type(alloc: Global, cursor: Cursor<'_>) -> Result<(Option<TypeNode>, C
 
 /// The statements of a function's block.
 #[tactic(auto, unfolding(crate::specs::Reading::block))]
-fn function_body(alloc: Global, cursor: Cursor<'_>) -> Result<List<'_, StatementNode>, Fault>
+fn function_body(alloc: Global, cursor: Cursor<'_>) -> Result<List<'_, StatementNode>, ParseFault>
     ensures { Gives (λ x. ((map statement_of x.entries.items, x.trailing), ahead x.rest)) result (block MAX_ENTRIES STATEMENT_ROOM (ahead cursor.entry)) }
 {
     let rest = cursor.expect(TokenKind::LeftBrace)?;
@@ -69,7 +72,10 @@ fn function_body(alloc: Global, cursor: Cursor<'_>) -> Result<List<'_, Statement
 
 /// A declaration of a function.
 #[tactic(auto, unfolding(crate::specs::Reading::function))]
-fn function_declaration(alloc: Global, cursor: Cursor<'_>) -> Result<(TopNode, Cursor<'_>), Fault>
+fn function_declaration(
+    alloc: Global,
+    cursor: Cursor<'_>,
+) -> Result<(TopNode, Cursor<'_>), ParseFault>
     ensures { Gives (λ x. (top_of x.0, ahead x.1)) result (function MAX_ENTRIES STATEMENT_ROOM (ahead cursor.entry)) }
 {
     let rest = cursor.expect(TokenKind::Func)?;
@@ -96,7 +102,10 @@ fn function_declaration(alloc: Global, cursor: Cursor<'_>) -> Result<(TopNode, C
 
 /// A declaration of a struct type or a function.
 #[tactic(auto, unfolding(crate::specs::Reading::top))]
-pub(crate) fn declaration(alloc: Global, cursor: Cursor<'_>) -> Result<(TopNode, Cursor<'_>), Fault>
+pub(crate) fn declaration(
+    alloc: Global,
+    cursor: Cursor<'_>,
+) -> Result<(TopNode, Cursor<'_>), ParseFault>
     ensures { Gives (λ x. (top_of x.0, ahead x.1)) result (top MAX_ENTRIES STATEMENT_ROOM (ahead cursor.entry)) }
 {
     if begins_with(TokenKind::TypeKeyword, cursor) {

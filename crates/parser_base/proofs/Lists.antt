@@ -1,7 +1,7 @@
 -- The entries of a list one after the other, as a loop reads them.
 use Rattle.std.proofs.Common.{◌≡◌, ℕ, suc, ◌-◌, ◌+◌, ◌<◌, ◌≤◌, Bool, List, [], ◌∷◌, ◌++◌, Ok, Err, map, max, refl, sym, ap, ◌∙◌, arith, append_assoc}
 use Rattle.std.proofs.lemmas.List.{map-append}
-use Rattle.go_text.specs.declared.fault.Fault.{Fault}
+use Rattle.parser_base.specs.declared.fault.ParseFault.{ParseFault}
 use Rattle.syntax.specs.Measures.{highest}
 use Rattle.parser_base.specs.declared.list.Next.{Next}
 use Rattle.parser_base.specs.declared.list.Next.TheVariants.{More, End}
@@ -52,14 +52,14 @@ ends view one next full turns i front ws x trailing after rest total lt e n so_f
     let begins : listed one next full (turns - i) ws ≡ Ok ((view x ∷ [], trailing), rest) = turn one next full turns i ws lt ∙ rw (e, n) refl in
     sym so_far ∙ ap (with_front (map view front)) begins ∙ ap (λ (xs : List _). Ok ((xs, trailing), rest)) (sym (one_more view front x))
 
-pub one_fails : {X : Type 0} (fault : Fault) (one : List Lexeme → Reading X) (next : List Lexeme → Reading Next) (full : Refusal) (turns i : ℕ) (front : List X) (ws : List Lexeme) (total : Reading (List X × Bool)) → i < turns → Fails fault (one ws)
+pub one_fails : {X : Type 0} (fault : ParseFault) (one : List Lexeme → Reading X) (next : List Lexeme → Reading Next) (full : Refusal) (turns i : ℕ) (front : List X) (ws : List Lexeme) (total : Reading (List X × Bool)) → i < turns → Fails fault (one ws)
     → with_front front (listed one next full (turns - i) ws) ≡ total → Fails fault total
 one_fails fault one next full turns i front ws total lt fails so_far =
     fails_on fault (one ws) total fails (λ r e.
     let begins : listed one next full (turns - i) ws ≡ Err r = turn one next full turns i ws lt ∙ rw e refl in
     sym so_far ∙ ap (with_front front) begins)
 
-pub next_fails : {X : Type 0} (fault : Fault) (one : List Lexeme → Reading X) (next : List Lexeme → Reading Next) (full : Refusal) (turns i : ℕ) (front : List X) (ws : List Lexeme) (x : X) (after : List Lexeme) (total : Reading (List X × Bool)) → i < turns → one ws ≡ Ok (x, after) → Fails fault (next after)
+pub next_fails : {X : Type 0} (fault : ParseFault) (one : List Lexeme → Reading X) (next : List Lexeme → Reading Next) (full : Refusal) (turns i : ℕ) (front : List X) (ws : List Lexeme) (x : X) (after : List Lexeme) (total : Reading (List X × Bool)) → i < turns → one ws ≡ Ok (x, after) → Fails fault (next after)
     → with_front front (listed one next full (turns - i) ws) ≡ total → Fails fault total
 next_fails fault one next full turns i front ws x after total lt o fails so_far =
     fails_on fault (next after) total fails (λ r e.

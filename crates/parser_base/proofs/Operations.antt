@@ -1,7 +1,7 @@
 -- One turn of reading steps, as the loop makes it.
 use Rattle.std.proofs.Common.{◌≡◌, ℕ, zero, suc, ◌+◌, ◌-◌, ◌<◌, ◌≤◌, Bool, List, Some, None, Ok, Err, true, false, leb, refl, ap, ◌∙◌, sym, arith}
 use Rattle.std.proofs.lemmas.Bool.{le-leb, lt-leb}
-use Rattle.go_text.specs.declared.fault.Fault.{Fault}
+use Rattle.parser_base.specs.declared.fault.ParseFault.{ParseFault}
 use Rattle.syntax.specs.Tree.{Expression}
 use Rattle.syntax.specs.Measures.{expression_height}
 use Rattle.parser_base.specs.declared.operator.Infix.{Infix}
@@ -57,7 +57,7 @@ pub turn_done : (deeper : ℕ → List Lexeme → Reading Expression) (room leas
 turn_done deeper room least turns i left ws step after more others total h found low e so_far =
     sym (goes_on deeper room least turns i left ws step after h found low ∙ rw e refl) ∙ so_far
 
-pub turn_fails : (fault : Fault) (deeper : ℕ → List Lexeme → Reading Expression) (room least turns i : ℕ) (left : Expression) (ws : List Lexeme) (step : Infix) (after : List Lexeme) (total : Reading Expression) → i < turns → Some (step, after) ≡ step_at least ws → expression_height left < room → Fails fault (applied deeper left (step, after))
+pub turn_fails : (fault : ParseFault) (deeper : ℕ → List Lexeme → Reading Expression) (room least turns i : ℕ) (left : Expression) (ws : List Lexeme) (step : Infix) (after : List Lexeme) (total : Reading Expression) → i < turns → Some (step, after) ≡ step_at least ws → expression_height left < room → Fails fault (applied deeper left (step, after))
     → operations deeper room least (turns - i) left ws ≡ total → Fails fault total
 turn_fails fault deeper room least turns i left ws step after total h found low fails so_far =
     fails_on fault (applied deeper left (step, after)) total fails (λ r e. sym so_far ∙ goes_on deeper room least turns i left ws step after h found low ∙ rw e refl)

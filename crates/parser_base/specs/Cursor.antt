@@ -1,6 +1,6 @@
 -- What is left to read.
-use Rattle.std.specs.Prelude.{ℕ, List, [], ◌∷◌, None}
-use Rattle.go_text.specs.declared.place.Place.{Place}
+use Rattle.std.specs.Prelude.{ℕ, List, [], ◌∷◌}
+use Rattle.go_text.specs.declared.place.Span.{Span}
 use Rattle.go_text.specs.Source.{bytes_of}
 use Rattle.scanner.specs.declared.token.Token.{Token}
 use Rattle.parser_base.specs.Lexemes.{Lexeme, Literal, Name, Text, Mark, literal, text, lexemes}
@@ -19,6 +19,6 @@ abbrev pub ahead : Cursor → List Lexeme
 ahead cursor = lexemes (bytes_of cursor.source.now) cursor.tokens.now
 
 -- the place of the first token, or the end of a text of so many bytes
-abbrev pub place_at : ℕ → List Token → Place
-place_at end [] = record { span = record { from = end; to = end }; position = None }
-place_at end (token ∷ rest) = record { span = token.span; position = None }
+abbrev pub place_at : ℕ → List Token → Span
+place_at end [] = record { from = end; to = end }
+place_at end (token ∷ rest) = token.span

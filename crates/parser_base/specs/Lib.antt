@@ -2,4 +2,5 @@ pub mod Lexemes
 pub mod Cursor
 pub mod Spelling
 pub mod Reading
+pub mod Faults
 pub mod TypeReading

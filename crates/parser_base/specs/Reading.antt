@@ -15,6 +15,8 @@ use Rattle.syntax.specs.declared.node.UnaryOperator.{UnaryOperator}
 use Rattle.syntax.specs.declared.node.UnaryOperator.TheVariants as unaries
 use Rattle.syntax.specs.Tree.{Expression, Integer, Named, Parenthesized, Selection, Composite, Unary, Binary, expressions}
 use Rattle.syntax.specs.Measures.{Listing, Entries, SelectClauses, expression_height}
+use Rattle.parser_base.specs.declared.fault.ParseFault.{ParseFault}
+use Rattle.parser_base.specs.declared.fault.ParseFault.TheVariants as parse
 use Rattle.parser_base.specs.declared.operator.Infix.{Infix}
 use Rattle.parser_base.specs.declared.operator.Infix.TheVariants.{Operator, Period}
 use Rattle.parser_base.specs.declared.list.Next.{Next}
@@ -30,28 +32,36 @@ pub data Refusal : Type 0 where
   TooDeep : Refusal
   TooMany : (listing : Listing) → Refusal
 
+-- the refusal that a fault of reading names
+abbrev pub named_by : ParseFault → Option Refusal
+named_by (parse.Syntax span) = Some Syntax
+named_by (parse.TooDeep span) = Some TooDeep
+named_by (parse.TooManyEntries span) = Some (TooMany Entries)
+named_by (parse.TooManyClauses span) = Some (TooMany SelectClauses)
+named_by parse.Memory = None
+
 abbrev pub limit_refusal : LimitKind → Option Refusal
 limit_refusal limits.ListEntries = Some (TooMany Entries)
 limit_refusal limits.SelectClauses = Some (TooMany SelectClauses)
 limit_refusal kind = None
 
--- the refusal that a fault names
+-- the refusal that a fault of the text names
 abbrev pub refusal_of : Fault → Option Refusal
 refusal_of (faults.Syntax place) = Some Syntax
 refusal_of (faults.TooDeep place) = Some TooDeep
 refusal_of (faults.Limit kind at place) = limit_refusal kind
 refusal_of fault = None
 
-abbrev pub FailsWith : {A : Type 0} → Fault → Option Refusal → Result A Refusal → Type 0
-FailsWith fault None read = fault ≡ faults.Memory
+abbrev pub FailsWith : {A : Type 0} → ParseFault → Option Refusal → Result A Refusal → Type 0
+FailsWith fault None read = fault ≡ parse.Memory
 FailsWith fault (Some refusal) read = read ≡ Err refusal
 
 -- Reading gives the refusal that the fault names, or memory ran out.
-abbrev pub Fails : {A : Type 0} → Fault → Result A Refusal → Type 0
-Fails fault read = FailsWith fault (refusal_of fault) read
+abbrev pub Fails : {A : Type 0} → ParseFault → Result A Refusal → Type 0
+Fails fault read = FailsWith fault (named_by fault) read
 
 -- What a function returned, seen by a view, is what reading gives, unless memory ran out.
-abbrev pub Gives : {A B : Type 0} → (A → B) → Result A Fault → Result B Refusal → Type 0
+abbrev pub Gives : {A B : Type 0} → (A → B) → Result A ParseFault → Result B Refusal → Type 0
 Gives view (Ok x) read = read ≡ Ok (view x)
 Gives view (Err fault) read = Fails fault read
 

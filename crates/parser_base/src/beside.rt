@@ -3,10 +3,13 @@
 
 ghost use Rattle.std.specs.Prelude.{◌≡◌, Ok, Err, IfErr, IfOk};
 
-use go_text::Fault;
+use crate::fault::ParseFault;
 
 /// What was read, beside what was read before it.
-pub fn beside<T: Drop, U: Drop>(before: T, read: Result<U, Fault>) -> Result<(T, U), Fault>
+pub fn beside<T: Drop, U: Drop>(
+    before: T,
+    read: Result<U, ParseFault>,
+) -> Result<(T, U), ParseFault>
     ensures ok { IfOk result (λ x. (x.0 ≡ before) × (read ≡ Ok x.1)) }
     ensures err { IfErr result (λ fault. read ≡ Err fault) }
 {

@@ -6,7 +6,8 @@ ghost use Rattle.parser_base.specs.Lexemes.{lexemes, piece};
 ghost use Rattle.parser_base.specs.Spelling.{is_builtin};
 ghost use Rattle.parser_base.specs.Reading.{Gives, expect, expect_name, plain_name};
 
-use go_text::{Fault, Place, Source, Span, is_word};
+use crate::fault::ParseFault;
+use go_text::{Source, Span, is_word};
 use scanner::{Token, TokenKind};
 
 /// What the grammar sees of a token.
@@ -68,14 +69,14 @@ impl<'a> Cursor<'a> {
     }
 
     /// The place of the first token, or the end of the text.
-    pub fn place(self) -> Place
+    pub fn place(self) -> Span
         ensures { result ≡ place_at (length (bytes_of self.entry.source.now)) self.entry.tokens.now }
     {
         match self.tokens.first() {
-            Some(token) => Place::from(token.span),
+            Some(token) => token.span,
             None => {
                 let end = self.source.as_bytes().len() as u32;
-                Place::from(Span { from: end, to: end })
+                Span { from: end, to: end }
             }
         }
     }
@@ -102,34 +103,34 @@ impl<'a> Cursor<'a> {
 
     /// The place behind a mark that is wanted here.
     #[tactic(auto, unfolding(crate::specs::Reading::expect))]
-    pub fn expect(self, kind: TokenKind) -> Result<Cursor<'a>, Fault>
+    pub fn expect(self, kind: TokenKind) -> Result<Cursor<'a>, ParseFault>
         ensures { Gives (λ x. ahead x) result (expect kind (ahead self.entry)) }
     {
         match self.next() {
             Some((Word::Mark(first), rest)) if first == kind => Ok(rest),
-            _ => Err(Fault::Syntax(self.place())),
+            _ => Err(ParseFault::Syntax(self.place())),
         }
     }
 
     /// The place behind a name that is wanted here.
     #[tactic(auto, unfolding(crate::specs::Reading::expect_name))]
-    pub fn expect_name(self, name: &[u8]) -> Result<Cursor<'a>, Fault>
+    pub fn expect_name(self, name: &[u8]) -> Result<Cursor<'a>, ParseFault>
         ensures { Gives (λ x. ahead x) result (expect_name name.now (ahead self.entry)) }
     {
         match self.next() {
             Some((Word::Name(first), rest)) if first == name => Ok(rest),
-            _ => Err(Fault::Syntax(self.place())),
+            _ => Err(ParseFault::Syntax(self.place())),
         }
     }
 
     /// A name that may be declared, and the place behind it.
     #[tactic(auto, unfolding(crate::specs::Reading::plain_name))]
-    pub fn plain_name(self) -> Result<(&'a [u8], Cursor<'a>), Fault>
+    pub fn plain_name(self) -> Result<(&'a [u8], Cursor<'a>), ParseFault>
         ensures { Gives (λ x. (x.0.now, ahead x.1)) result (plain_name (ahead self.entry)) }
     {
         match self.next() {
             Some((Word::Name(name), rest)) if !is_builtin(name) => Ok((name, rest)),
-            _ => Err(Fault::Syntax(self.place())),
+            _ => Err(ParseFault::Syntax(self.place())),
         }
     }
 }

@@ -1,7 +1,7 @@
 //! Expressions, by the strength of their operators.
 
 ghost use Rattle.std.specs.Prelude.{◌≡◌, ℕ, ◌<◌, ◌≤◌, ◌+◌, ◌-◌, true, List as Lists, IfOk, IfErr, option_map, map};
-ghost use Rattle.go_text.specs.declared.fault.Fault.TheVariants as faults;
+ghost use Rattle.parser_base.specs.declared.fault.ParseFault.TheVariants as faults;
 ghost use Rattle.syntax.specs.Tree.{Expression, Named, Parenthesized, Selection, Composite, Unary, Binary, expressions};
 ghost use Rattle.syntax.specs.Measures.{Entries, highest, expression_height};
 ghost use Rattle.syntax.specs.View.{expression_of};
@@ -10,11 +10,11 @@ ghost use Rattle.parser_base.specs.Lexemes.{Lexeme};
 ghost use Rattle.parser_base.specs.Reading.{Gives, Reading, TooMany, begins, closed, value_next, listed, values, composite, named, step_at, parenthesized, negated, operand, applied, expression};
 
 use crate::cursor::{Cursor, Word, is_builtin};
+use crate::fault::ParseFault;
 use crate::found::Found;
 use crate::list::{List, Next};
 use crate::literal::literal;
 use crate::operator::{Infix, infix_of, precedence, strength, unary_of};
-use go_text::{Fault, LimitKind};
 use scanner::TokenKind;
 use std::alloc::Global;
 use syntax::limits::MAX_ENTRIES;
@@ -69,7 +69,7 @@ pub fn closed(
     close: TokenKind,
     trailing: bool,
     cursor: Cursor<'_>,
-) -> Result<(Next, Cursor<'_>), Fault>
+) -> Result<(Next, Cursor<'_>), ParseFault>
     ensures { Gives (λ x. (x.0, ahead x.1)) result (closed close trailing (ahead cursor.entry)) }
 {
     let rest = cursor.expect(close)?;
@@ -78,11 +78,11 @@ pub fn closed(
 
 /// What follows a value of a list, and the place of the next one or behind the list.
 #[tactic(auto, unfolding(crate::specs::Reading::entry_next))]
-pub fn value_next(close: TokenKind, cursor: Cursor<'_>) -> Result<(Next, Cursor<'_>), Fault>
+pub fn value_next(close: TokenKind, cursor: Cursor<'_>) -> Result<(Next, Cursor<'_>), ParseFault>
     ensures { Gives (λ x. (x.0, ahead x.1)) result (value_next close (ahead cursor.entry)) }
 {
     let Some((Word::Mark(kind), rest)) = cursor.next() else {
-        return Err(Fault::Syntax(cursor.place()));
+        return Err(ParseFault::Syntax(cursor.place()));
     };
     if kind != TokenKind::Comma {
         return closed(close, false, cursor);
@@ -95,7 +95,7 @@ pub fn value_next(close: TokenKind, cursor: Cursor<'_>) -> Result<(Next, Cursor<
 }
 
 /// A name in memory of its own.
-pub fn name_node(alloc: Global, name: &[u8]) -> Result<Name, Fault>
+pub fn name_node(alloc: Global, name: &[u8]) -> Result<Name, ParseFault>
     ensures ok { IfOk result (λ x. x.bytes.items ≡ name.now) }
     ensures err { IfErr result (λ e. e ≡ faults.Memory) }
 {
@@ -105,7 +105,7 @@ pub fn name_node(alloc: Global, name: &[u8]) -> Result<Name, Fault>
 }
 
 /// An expression in parentheses, as a node.
-fn parenthesized_node(alloc: Global, inner: ExpressionNode) -> Result<ExpressionNode, Fault>
+fn parenthesized_node(alloc: Global, inner: ExpressionNode) -> Result<ExpressionNode, ParseFault>
     ensures ok { IfOk result (λ tree. expression_of tree ≡ Parenthesized (expression_of inner)) }
     ensures err { IfErr result (λ e. e ≡ faults.Memory) }
 {
@@ -117,7 +117,7 @@ fn unary_node(
     alloc: Global,
     operator: UnaryOperator,
     operand: ExpressionNode,
-) -> Result<ExpressionNode, Fault>
+) -> Result<ExpressionNode, ParseFault>
     ensures ok { IfOk result (λ tree. expression_of tree ≡ Unary operator (expression_of operand)) }
     ensures err { IfErr result (λ e. e ≡ faults.Memory) }
 {
@@ -130,7 +130,7 @@ fn binary_node(
     operator: BinaryOperator,
     left: ExpressionNode,
     right: ExpressionNode,
-) -> Result<ExpressionNode, Fault>
+) -> Result<ExpressionNode, ParseFault>
     ensures ok { IfOk result (λ tree. expression_of tree ≡ Binary operator (expression_of left) (expression_of right)) }
     ensures err { IfErr result (λ e. e ≡ faults.Memory) }
 {
@@ -142,7 +142,7 @@ fn selection_node(
     alloc: Global,
     whole: ExpressionNode,
     field: &[u8],
-) -> Result<ExpressionNode, Fault>
+) -> Result<ExpressionNode, ParseFault>
     ensures ok { IfOk result (λ tree. expression_of tree ≡ Selection (expression_of whole) field.now) }
     ensures err { IfErr result (λ e. e ≡ faults.Memory) }
 {
@@ -151,7 +151,7 @@ fn selection_node(
 }
 
 /// An operand name, as a node.
-fn named_node(alloc: Global, name: &[u8]) -> Result<ExpressionNode, Fault>
+fn named_node(alloc: Global, name: &[u8]) -> Result<ExpressionNode, ParseFault>
     ensures ok { IfOk result (λ tree. expression_of tree ≡ Named name.now) }
     ensures err { IfErr result (λ e. e ≡ faults.Memory) }
 {
@@ -164,7 +164,7 @@ fn composite_node(
     name: &[u8],
     values: Vec<ExpressionNode>,
     trailing: bool,
-) -> Result<ExpressionNode, Fault>
+) -> Result<ExpressionNode, ParseFault>
     ensures ok { IfOk result (λ tree. expression_of tree ≡ Composite name.now (expressions (map expression_of values.items)) trailing) }
     ensures err { IfErr result (λ e. e ≡ faults.Memory) }
 {
@@ -181,7 +181,7 @@ pub fn values(
     room: u32,
     close: TokenKind,
     cursor: Cursor<'_>,
-) -> Result<(List<'_, ExpressionNode>, u32), Fault>
+) -> Result<(List<'_, ExpressionNode>, u32), ParseFault>
     ensures values { Gives (λ x. ((map expression_of x.0.entries.items, x.0.trailing), ahead x.0.rest)) result (values (expression literals MAX_ENTRIES room) close MAX_ENTRIES (ahead cursor.entry)) }
     ensures height { IfOk result (λ x. x.1 ≡ highest expression_height (map expression_of x.0.entries.items)) }
     ensures within { IfOk result (λ x. x.1 ≤ room) }
@@ -206,7 +206,7 @@ fn expression_list(
     room: u32,
     close: TokenKind,
     cursor: Cursor<'_>,
-) -> Result<(List<'_, ExpressionNode>, u32), Fault>
+) -> Result<(List<'_, ExpressionNode>, u32), ParseFault>
     ensures values { Gives (λ x. ((map expression_of x.0.entries.items, x.0.trailing), ahead x.0.rest)) result (listed (expression literals MAX_ENTRIES room 0) (value_next close) (TooMany Entries) MAX_ENTRIES (ahead cursor.entry)) }
     ensures height { IfOk result (λ x. x.1 ≡ highest expression_height (map expression_of x.0.entries.items)) }
     ensures within { IfOk result (λ x. x.1 ≤ room) }
@@ -231,11 +231,7 @@ fn expression_list(
             }
         }
     }
-    Err(Fault::Limit {
-        kind: LimitKind::ListEntries,
-        node: None,
-        place: rest.place(),
-    })
+    Err(ParseFault::TooManyEntries(rest.place()))
 }
 
 /// A composite literal of a type of this name, behind its first brace.
@@ -246,7 +242,7 @@ fn composite_literal<'a>(
     room: u32,
     name: &[u8],
     cursor: Cursor<'a>,
-) -> Result<Measured<'a>, Fault>
+) -> Result<Measured<'a>, ParseFault>
     requires { 1 ≤ room }
     ensures tree { Gives (λ x. (expression_of x.node, ahead x.rest)) result (composite (expression true MAX_ENTRIES (room - 1)) MAX_ENTRIES name.now (ahead cursor.entry)) }
     ensures height { IfOk result (λ x. (x.height ≡ expression_height (expression_of x.node)) × (x.height ≤ room)) }
@@ -269,7 +265,7 @@ fn operand_name<'a>(
     room: u32,
     name: &[u8],
     cursor: Cursor<'a>,
-) -> Result<Measured<'a>, Fault>
+) -> Result<Measured<'a>, ParseFault>
     requires { 1 ≤ room }
     ensures tree { Gives (λ x. (expression_of x.node, ahead x.rest)) result (named literals (expression literals MAX_ENTRIES (room - 1)) MAX_ENTRIES name.now (ahead cursor.entry)) }
     ensures height { IfOk result (λ x. (x.height ≡ expression_height (expression_of x.node)) × (x.height ≤ room)) }
@@ -295,13 +291,13 @@ fn parenthesized<'a>(
     room: u32,
     first: Cursor<'a>,
     cursor: Cursor<'a>,
-) -> Result<Measured<'a>, Fault>
+) -> Result<Measured<'a>, ParseFault>
     requires { 1 ≤ room }
     ensures tree { Gives (λ x. (expression_of x.node, ahead x.rest)) result (parenthesized (expression literals MAX_ENTRIES (room - 1)) (ahead cursor.entry)) }
     ensures height { IfOk result (λ x. (x.height ≡ expression_height (expression_of x.node)) × (x.height ≤ room)) }
 {
     if room < 2 {
-        return Err(Fault::TooDeep(first.place()));
+        return Err(ParseFault::TooDeep(first.place()));
     }
     let inner = measured_expression(alloc, literals, room - 1, 0, cursor)?;
     let rest = inner.rest.expect(TokenKind::RightParenthesis)?;
@@ -323,13 +319,13 @@ fn unary_expression<'a>(
     operator: UnaryOperator,
     first: Cursor<'a>,
     cursor: Cursor<'a>,
-) -> Result<Measured<'a>, Fault>
+) -> Result<Measured<'a>, ParseFault>
     requires { 1 ≤ room }
     ensures tree { Gives (λ x. (expression_of x.node, ahead x.rest)) result (negated (expression literals MAX_ENTRIES (room - 1)) (ahead cursor.entry) (Some operator)) }
     ensures height { IfOk result (λ x. (x.height ≡ expression_height (expression_of x.node)) × (x.height ≤ room)) }
 {
     if room < 2 {
-        return Err(Fault::TooDeep(first.place()));
+        return Err(ParseFault::TooDeep(first.place()));
     }
     let operand = measured_expression(alloc, literals, room - 1, 6, cursor)?;
     let node = unary_node(alloc, operator, operand.node)?;
@@ -348,13 +344,13 @@ fn operand(
     literals: bool,
     room: u32,
     cursor: Cursor<'_>,
-) -> Result<Measured<'_>, Fault>
+) -> Result<Measured<'_>, ParseFault>
     requires { 1 ≤ room }
     ensures tree { Gives (λ x. (expression_of x.node, ahead x.rest)) result (operand literals (expression literals MAX_ENTRIES (room - 1)) MAX_ENTRIES (ahead cursor.entry)) }
     ensures height { IfOk result (λ x. (x.height ≡ expression_height (expression_of x.node)) × (x.height ≤ room)) }
 {
     let Some((word, rest)) = cursor.next() else {
-        return Err(Fault::Syntax(cursor.place()));
+        return Err(ParseFault::Syntax(cursor.place()));
     };
     match word {
         Word::Literal(digits) => Ok(Measured {
@@ -364,17 +360,17 @@ fn operand(
         }),
         Word::Name(name) => {
             if is_builtin(name) {
-                return Err(Fault::Syntax(cursor.place()));
+                return Err(ParseFault::Syntax(cursor.place()));
             }
             operand_name(alloc, literals, room, name, rest)
         }
-        Word::Text(_) => Err(Fault::Syntax(cursor.place())),
+        Word::Text(_) => Err(ParseFault::Syntax(cursor.place())),
         Word::Mark(kind) => {
             if kind == TokenKind::LeftParenthesis {
                 return parenthesized(alloc, literals, room, cursor, rest);
             }
             let Some(operator) = unary_of(kind) else {
-                return Err(Fault::Syntax(cursor.place()));
+                return Err(ParseFault::Syntax(cursor.place()));
             };
             unary_expression(alloc, literals, room, operator, cursor, rest)
         }
@@ -390,7 +386,7 @@ fn applied<'a>(
     left: Measured<'a>,
     step: Infix,
     cursor: Cursor<'a>,
-) -> Result<Measured<'a>, Fault>
+) -> Result<Measured<'a>, ParseFault>
     requires room { 1 ≤ room }
     requires low { left.height < room }
     requires height { left.height ≡ expression_height (expression_of left.node) }
@@ -414,7 +410,7 @@ fn binary_expression<'a>(
     left: Measured<'a>,
     operator: BinaryOperator,
     cursor: Cursor<'a>,
-) -> Result<Measured<'a>, Fault>
+) -> Result<Measured<'a>, ParseFault>
     requires room { 1 ≤ room }
     requires low { left.height < room }
     requires height { left.height ≡ expression_height (expression_of left.node) }
@@ -437,7 +433,7 @@ fn selection<'a>(
     room: u32,
     left: Measured<'a>,
     cursor: Cursor<'a>,
-) -> Result<Measured<'a>, Fault>
+) -> Result<Measured<'a>, ParseFault>
     requires low { left.height < room }
     requires height { left.height ≡ expression_height (expression_of left.node) }
     ensures tree { (deeper : ℕ → Lists Lexeme → Reading Expression) → Gives (λ x. (expression_of x.node, ahead x.rest)) result (applied deeper (expression_of left.entry.node) (Infix.Period, ahead cursor.entry)) }
@@ -458,12 +454,12 @@ fn measured_expression(
     room: u32,
     least: u32,
     cursor: Cursor<'_>,
-) -> Result<Measured<'_>, Fault>
+) -> Result<Measured<'_>, ParseFault>
     ensures tree { Gives (λ x. (expression_of x.node, ahead x.rest)) result (expression literals MAX_ENTRIES room least (ahead cursor.entry)) }
     ensures height { IfOk result (λ x. (x.height ≡ expression_height (expression_of x.node)) × (x.height ≤ room)) }
 {
     if room == 0 {
-        return Err(Fault::TooDeep(cursor.place()));
+        return Err(ParseFault::TooDeep(cursor.place()));
     }
     let mut left = operand(alloc, literals, room, cursor)?;
     for _ in 0..room {
@@ -471,11 +467,11 @@ fn measured_expression(
             return Ok(left);
         };
         if left.height >= room {
-            return Err(Fault::TooDeep(left.rest.place()));
+            return Err(ParseFault::TooDeep(left.rest.place()));
         }
         left = applied(alloc, literals, room, left, step, after)?;
     }
-    Err(Fault::TooDeep(left.rest.place()))
+    Err(ParseFault::TooDeep(left.rest.place()))
 }
 
 /// An expression of at most so many levels, whose outermost operator binds at least so strongly. Composite literals stand
@@ -486,7 +482,7 @@ pub fn expression(
     room: u32,
     least: u32,
     cursor: Cursor<'_>,
-) -> Result<Found<'_, ExpressionNode>, Fault>
+) -> Result<Found<'_, ExpressionNode>, ParseFault>
     ensures { Gives (λ x. (expression_of x.node, ahead x.rest)) result (expression literals MAX_ENTRIES room least (ahead cursor.entry)) }
 {
     let found = measured_expression(alloc, literals, room, least, cursor)?;

@@ -4,6 +4,7 @@
 pub mod beside;
 pub mod cursor;
 pub mod expression;
+pub mod fault;
 pub mod found;
 pub mod list;
 pub mod literal;

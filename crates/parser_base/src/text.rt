@@ -1,10 +1,10 @@
 //! What strings stand for.
 
 ghost use Rattle.std.specs.Prelude.{◌≡◌, false, IfOk, IfErr};
-ghost use Rattle.go_text.specs.declared.fault.Fault.TheVariants as faults;
+ghost use Rattle.parser_base.specs.declared.fault.ParseFault.TheVariants as faults;
 ghost use Rattle.parser_base.specs.Lexemes.{escape, text_behind, text};
 
-use go_text::Fault;
+use crate::fault::ParseFault;
 use std::alloc::Global;
 
 /// The byte that a letter behind a backslash stands for: `n` for a newline, `t` for a tab, and others for themselves.
@@ -19,7 +19,7 @@ fn escape(letter: u8) -> u8
 }
 
 /// The bytes that a string in quotes stands for.
-pub fn text(alloc: Global, quoted: &[u8]) -> Result<Vec<u8>, Fault>
+pub fn text(alloc: Global, quoted: &[u8]) -> Result<Vec<u8>, ParseFault>
     ensures ok { IfOk result (λ bytes. bytes.items ≡ text quoted.now) }
     ensures err { IfErr result (λ e. e ≡ faults.Memory) }
 {

@@ -1,7 +1,7 @@
 //! Types.
 
 ghost use Rattle.std.specs.Prelude.{◌≡◌, ◌≤◌, ◌-◌, IfOk, IfErr};
-ghost use Rattle.go_text.specs.declared.fault.Fault.TheVariants as faults;
+ghost use Rattle.parser_base.specs.declared.fault.ParseFault.TheVariants as faults;
 ghost use Rattle.syntax.specs.Tree.{NamedType, ParenthesizedType, Channel};
 ghost use Rattle.syntax.specs.View.{type_of};
 ghost use Rattle.parser_base.specs.Cursor.{ahead};
@@ -10,14 +10,14 @@ ghost use Rattle.parser_base.specs.TypeReading.{parenthesized_type, channel, beh
 
 use crate::cursor::{Cursor, Word, is_builtin};
 use crate::expression::name_node;
+use crate::fault::ParseFault;
 use crate::found::Found;
-use go_text::Fault;
 use scanner::TokenKind;
 use std::alloc::Global;
 use syntax::{Direction, TypeNode};
 
 /// A type's name, as a node.
-fn named_node(alloc: Global, name: &[u8]) -> Result<TypeNode, Fault>
+fn named_node(alloc: Global, name: &[u8]) -> Result<TypeNode, ParseFault>
     ensures ok { IfOk result (λ tree. type_of tree ≡ NamedType name.now) }
     ensures err { IfErr result (λ e. e ≡ faults.Memory) }
 {
@@ -25,7 +25,7 @@ fn named_node(alloc: Global, name: &[u8]) -> Result<TypeNode, Fault>
 }
 
 /// A type in parentheses, as a node.
-fn parenthesized_node(alloc: Global, inner: TypeNode) -> Result<TypeNode, Fault>
+fn parenthesized_node(alloc: Global, inner: TypeNode) -> Result<TypeNode, ParseFault>
     ensures ok { IfOk result (λ tree. type_of tree ≡ ParenthesizedType (type_of inner)) }
     ensures err { IfErr result (λ e. e ≡ faults.Memory) }
 {
@@ -33,7 +33,11 @@ fn parenthesized_node(alloc: Global, inner: TypeNode) -> Result<TypeNode, Fault>
 }
 
 /// A channel type, as a node.
-fn channel_node(alloc: Global, direction: Direction, element: TypeNode) -> Result<TypeNode, Fault>
+fn channel_node(
+    alloc: Global,
+    direction: Direction,
+    element: TypeNode,
+) -> Result<TypeNode, ParseFault>
     ensures ok { IfOk result (λ tree. type_of tree ≡ Channel direction (type_of element)) }
     ensures err { IfErr result (λ e. e ≡ faults.Memory) }
 {
@@ -48,12 +52,12 @@ fn parenthesized_type<'a>(
     room: u32,
     first: Cursor<'a>,
     cursor: Cursor<'a>,
-) -> Result<Found<'a, TypeNode>, Fault>
+) -> Result<Found<'a, TypeNode>, ParseFault>
     requires { 1 ≤ room }
     ensures { Gives (λ x. (type_of x.node, ahead x.rest)) result (parenthesized_type (type_at (room - 1)) (ahead cursor.entry)) }
 {
     if room < 2 {
-        return Err(Fault::TooDeep(first.place()));
+        return Err(ParseFault::TooDeep(first.place()));
     }
     let inner = type_at(alloc, room - 1, cursor)?;
     let rest = inner.rest.expect(TokenKind::RightParenthesis)?;
@@ -70,12 +74,12 @@ fn channel_type<'a>(
     direction: Direction,
     first: Cursor<'a>,
     cursor: Cursor<'a>,
-) -> Result<Found<'a, TypeNode>, Fault>
+) -> Result<Found<'a, TypeNode>, ParseFault>
     requires { 1 ≤ room }
     ensures { Gives (λ x. (type_of x.node, ahead x.rest)) result (channel direction (type_at (room - 1)) (ahead cursor.entry)) }
 {
     if room < 2 {
-        return Err(Fault::TooDeep(first.place()));
+        return Err(ParseFault::TooDeep(first.place()));
     }
     let element = type_at(alloc, room - 1, cursor)?;
     let node = channel_node(alloc, direction, element.node)?;
@@ -93,7 +97,7 @@ fn behind_chan<'a>(
     room: u32,
     first: Cursor<'a>,
     cursor: Cursor<'a>,
-) -> Result<Found<'a, TypeNode>, Fault>
+) -> Result<Found<'a, TypeNode>, ParseFault>
     requires { 1 ≤ room }
     ensures { Gives (λ x. (type_of x.node, ahead x.rest)) result (behind_chan (type_at (room - 1)) (ahead cursor.entry)) }
 {
@@ -113,7 +117,7 @@ fn behind_arrow<'a>(
     room: u32,
     first: Cursor<'a>,
     cursor: Cursor<'a>,
-) -> Result<Found<'a, TypeNode>, Fault>
+) -> Result<Found<'a, TypeNode>, ParseFault>
     requires { 1 ≤ room }
     ensures { Gives (λ x. (type_of x.node, ahead x.rest)) result (behind_arrow (type_at (room - 1)) (ahead cursor.entry)) }
 {
@@ -124,16 +128,20 @@ fn behind_arrow<'a>(
 /// A type of at most so many levels ("Types" of the Go specification: a name, a channel type, or one in parentheses).
 #[cycle(type_at)]
 #[tactic(auto, unfolding(crate::specs::TypeReading::type_at))]
-pub fn type_at(alloc: Global, room: u32, cursor: Cursor<'_>) -> Result<Found<'_, TypeNode>, Fault>
+pub fn type_at(
+    alloc: Global,
+    room: u32,
+    cursor: Cursor<'_>,
+) -> Result<Found<'_, TypeNode>, ParseFault>
     ensures { Gives (λ x. (type_of x.node, ahead x.rest)) result (type_at room (ahead cursor.entry)) }
 {
     if room == 0 {
-        return Err(Fault::TooDeep(cursor.place()));
+        return Err(ParseFault::TooDeep(cursor.place()));
     }
     match cursor.next() {
         Some((Word::Name(name), rest)) => {
             if is_builtin(name) {
-                return Err(Fault::Syntax(cursor.place()));
+                return Err(ParseFault::Syntax(cursor.place()));
             }
             let node = named_node(alloc, name)?;
             Ok(Found { node, rest })
@@ -148,8 +156,8 @@ pub fn type_at(alloc: Global, room: u32, cursor: Cursor<'_>) -> Result<Found<'_,
             if kind == TokenKind::Arrow {
                 return behind_arrow(alloc, room, cursor, rest);
             }
-            Err(Fault::Syntax(cursor.place()))
+            Err(ParseFault::Syntax(cursor.place()))
         }
-        _ => Err(Fault::Syntax(cursor.place())),
+        _ => Err(ParseFault::Syntax(cursor.place())),
     }
 }

@@ -8,9 +8,9 @@ ghost use Rattle.parser_base.specs.Reading.{Gives, plain_name};
 ghost use Rattle.parser_simple.specs.Reading.{as_one, primary, place, sent};
 ghost use Rattle.parser_header.specs.Reading.{second, received, comm_defined, comm_assigned, comm_formed, comm};
 
-use go_text::Fault;
 use parser_base::beside::beside;
 use parser_base::cursor::{Cursor, Word};
+use parser_base::fault::ParseFault;
 use parser_base::found::Found;
 use parser_simple::form::{Form, begins_with, defines, form_of};
 use parser_simple::place::{name_at, place};
@@ -23,7 +23,7 @@ use syntax::{CommNode, ExpressionNode, Name, PlaceNode};
 
 /// A second name behind a comma, if there is one.
 #[tactic(auto, unfolding(crate::specs::Reading::second))]
-fn second_name(alloc: Global, cursor: Cursor<'_>) -> Result<(Option<Name>, Cursor<'_>), Fault>
+fn second_name(alloc: Global, cursor: Cursor<'_>) -> Result<(Option<Name>, Cursor<'_>), ParseFault>
     ensures { Gives (λ x. (option_map name_of x.0, ahead x.1)) result (second plain_name (ahead cursor.entry)) }
 {
     if !begins_with(TokenKind::Comma, cursor) {
@@ -36,7 +36,10 @@ fn second_name(alloc: Global, cursor: Cursor<'_>) -> Result<(Option<Name>, Curso
 
 /// A second place behind a comma, if there is one.
 #[tactic(auto, unfolding(crate::specs::Reading::second))]
-fn second_place(alloc: Global, cursor: Cursor<'_>) -> Result<(Option<PlaceNode>, Cursor<'_>), Fault>
+fn second_place(
+    alloc: Global,
+    cursor: Cursor<'_>,
+) -> Result<(Option<PlaceNode>, Cursor<'_>), ParseFault>
     ensures { Gives (λ x. (option_map place_of x.0, ahead x.1)) result (second place (ahead cursor.entry)) }
 {
     if !begins_with(TokenKind::Comma, cursor) {
@@ -53,7 +56,7 @@ fn receive_behind(
     room: u32,
     mark: TokenKind,
     cursor: Cursor<'_>,
-) -> Result<Found<'_, ExpressionNode>, Fault>
+) -> Result<Found<'_, ExpressionNode>, ParseFault>
     ensures { Gives (λ x. (expression_of x.node, ahead x.rest)) result (received mark MAX_ENTRIES room (ahead cursor.entry)) }
 {
     let arrow = cursor.expect(mark)?;
@@ -67,7 +70,7 @@ fn defining_receive(
     alloc: Global,
     room: u32,
     cursor: Cursor<'_>,
-) -> Result<(CommNode, Cursor<'_>), Fault>
+) -> Result<(CommNode, Cursor<'_>), ParseFault>
     ensures { Gives (λ x. (comm_of x.0, ahead x.1)) result (comm_defined MAX_ENTRIES room (ahead cursor.entry)) }
 {
     let (item, rest) = name_at(alloc, cursor)?;
@@ -85,7 +88,7 @@ fn assigning_receive(
     alloc: Global,
     room: u32,
     cursor: Cursor<'_>,
-) -> Result<(CommNode, Cursor<'_>), Fault>
+) -> Result<(CommNode, Cursor<'_>), ParseFault>
     ensures { Gives (λ x. (comm_of x.0, ahead x.1)) result (comm_assigned MAX_ENTRIES room (ahead cursor.entry)) }
 {
     let item = place(alloc, cursor)?;
@@ -103,7 +106,7 @@ fn send_statement(
     alloc: Global,
     room: u32,
     cursor: Cursor<'_>,
-) -> Result<(CommNode, Cursor<'_>), Fault>
+) -> Result<(CommNode, Cursor<'_>), ParseFault>
     ensures { Gives (λ x. (comm_of x.0, ahead x.1)) result (sent CommSend true MAX_ENTRIES room (ahead cursor.entry)) }
 {
     let channel = send_operand(alloc, true, room, cursor)?;
@@ -119,7 +122,7 @@ fn lone_receive(
     alloc: Global,
     room: u32,
     cursor: Cursor<'_>,
-) -> Result<(CommNode, Cursor<'_>), Fault>
+) -> Result<(CommNode, Cursor<'_>), ParseFault>
     ensures { Gives (λ x. (comm_of x.0, ahead x.1)) result (as_one CommReceive (primary true MAX_ENTRIES room (ahead cursor.entry))) }
 {
     let channel = primary_expression(alloc, true, room, cursor)?;
@@ -133,7 +136,7 @@ fn form_statement(
     room: u32,
     form: Form,
     cursor: Cursor<'_>,
-) -> Result<(CommNode, Cursor<'_>), Fault>
+) -> Result<(CommNode, Cursor<'_>), ParseFault>
     ensures { Gives (λ x. (comm_of x.0, ahead x.1)) result (comm_formed MAX_ENTRIES room form (ahead cursor.entry)) }
 {
     match form {
@@ -151,7 +154,7 @@ pub fn comm_statement(
     alloc: Global,
     room: u32,
     cursor: Cursor<'_>,
-) -> Result<(CommNode, Cursor<'_>), Fault>
+) -> Result<(CommNode, Cursor<'_>), ParseFault>
     ensures { Gives (λ x. (comm_of x.0, ahead x.1)) result (comm MAX_ENTRIES room (ahead cursor.entry)) }
 {
     if let Some((Word::Mark(TokenKind::Arrow), rest)) = cursor.next() {

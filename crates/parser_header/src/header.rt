@@ -8,10 +8,10 @@ ghost use Rattle.parser_simple.specs.Reading.{as_one, simple};
 ghost use Rattle.parser_header.specs.Reading.{is_primary, condition_or_sent, head, condition, if_header, unless_next, for_clauses, post_behind, ranged, range_defined, range_assigned, ranges, for_begun, for_header};
 ghost use Rattle.parser_header.specs.Heads.{head_of};
 
-use go_text::Fault;
 use parser_base::beside::beside;
 use parser_base::cursor::Cursor;
 use parser_base::expression::expression;
+use parser_base::fault::ParseFault;
 use parser_base::found::Found;
 use parser_simple::form::{Form, begins_with, defines, fits, form_of};
 use parser_simple::place::{name_at, place_before};
@@ -44,7 +44,7 @@ fn condition_or_send(
     alloc: Global,
     room: u32,
     found: Found<'_, ExpressionNode>,
-) -> Result<(HeadNode, Cursor<'_>), Fault>
+) -> Result<(HeadNode, Cursor<'_>), ParseFault>
     ensures { Gives (λ x. (head_of x.0, ahead x.1)) result (condition_or_sent MAX_ENTRIES room (expression_of found.entry.node, ahead found.entry.rest)) }
 {
     if !begins_with(TokenKind::Arrow, found.rest) || !is_primary(&found.node) {
@@ -64,7 +64,7 @@ pub fn simple_or_condition(
     alloc: Global,
     room: u32,
     cursor: Cursor<'_>,
-) -> Result<(HeadNode, Cursor<'_>), Fault>
+) -> Result<(HeadNode, Cursor<'_>), ParseFault>
     ensures { Gives (λ x. (head_of x.0, ahead x.1)) result (head MAX_ENTRIES room (ahead cursor.entry)) }
 {
     let found = statement_unless_value(alloc, false, true, room, cursor)?;
@@ -86,7 +86,7 @@ pub fn if_header(
     alloc: Global,
     room: u32,
     cursor: Cursor<'_>,
-) -> Result<((IfHeader, ExpressionNode), Cursor<'_>), Fault>
+) -> Result<((IfHeader, ExpressionNode), Cursor<'_>), ParseFault>
     ensures { Gives (λ x. ((if_head_of x.0.0, expression_of x.0.1), ahead x.1)) result (if_header MAX_ENTRIES room (ahead cursor.entry)) }
 {
     if begins_with(TokenKind::Semicolon, cursor) {
@@ -111,7 +111,7 @@ fn optional_condition(
     alloc: Global,
     room: u32,
     cursor: Cursor<'_>,
-) -> Result<(Option<ExpressionNode>, Cursor<'_>), Fault>
+) -> Result<(Option<ExpressionNode>, Cursor<'_>), ParseFault>
     ensures { Gives (λ x. (option_map expression_of x.0, ahead x.1)) result (unless_next TokenKind.Semicolon (condition MAX_ENTRIES room) (ahead cursor.entry)) }
 {
     if begins_with(TokenKind::Semicolon, cursor) {
@@ -126,7 +126,7 @@ fn optional_post(
     alloc: Global,
     room: u32,
     cursor: Cursor<'_>,
-) -> Result<(Option<SimpleNode>, Cursor<'_>), Fault>
+) -> Result<(Option<SimpleNode>, Cursor<'_>), ParseFault>
     ensures { Gives (λ x. (option_map simple_of x.0, ahead x.1)) result (unless_next TokenKind.LeftBrace (simple false false MAX_ENTRIES room) (ahead cursor.entry)) }
 {
     if begins_with(TokenKind::LeftBrace, cursor) {
@@ -141,7 +141,7 @@ fn post_behind_semicolon(
     alloc: Global,
     room: u32,
     cursor: Cursor<'_>,
-) -> Result<(Option<SimpleNode>, Cursor<'_>), Fault>
+) -> Result<(Option<SimpleNode>, Cursor<'_>), ParseFault>
     ensures { Gives (λ x. (option_map simple_of x.0, ahead x.1)) result (post_behind MAX_ENTRIES room (ahead cursor.entry)) }
 {
     let rest = cursor.expect(TokenKind::Semicolon)?;
@@ -155,7 +155,7 @@ fn for_clauses(
     room: u32,
     first: Option<SimpleNode>,
     cursor: Cursor<'_>,
-) -> Result<(ForHeader, Cursor<'_>), Fault>
+) -> Result<(ForHeader, Cursor<'_>), ParseFault>
     ensures { Gives (λ x. (for_head_of x.0, ahead x.1)) result (for_clauses (option_map simple_of first) MAX_ENTRIES room (ahead cursor.entry)) }
 {
     let (first, (condition, rest)) = beside(first, optional_condition(alloc, room, cursor))?;
@@ -173,7 +173,7 @@ fn range_clause(
     room: u32,
     target: RangeTarget,
     cursor: Cursor<'_>,
-) -> Result<(ForHeader, Cursor<'_>), Fault>
+) -> Result<(ForHeader, Cursor<'_>), ParseFault>
     ensures { Gives (λ x. (for_head_of x.0, ahead x.1)) result (ranged (target_of target) MAX_ENTRIES room (ahead cursor.entry)) }
 {
     let (target, found) = beside(
@@ -189,7 +189,7 @@ fn defining_range(
     alloc: Global,
     room: u32,
     cursor: Cursor<'_>,
-) -> Result<(ForHeader, Cursor<'_>), Fault>
+) -> Result<(ForHeader, Cursor<'_>), ParseFault>
     ensures { Gives (λ x. (for_head_of x.0, ahead x.1)) result (range_defined MAX_ENTRIES room (ahead cursor.entry)) }
 {
     let (name, rest) = name_at(alloc, cursor)?;
@@ -203,7 +203,7 @@ fn assigning_range(
     alloc: Global,
     room: u32,
     cursor: Cursor<'_>,
-) -> Result<(ForHeader, Cursor<'_>), Fault>
+) -> Result<(ForHeader, Cursor<'_>), ParseFault>
     ensures { Gives (λ x. (for_head_of x.0, ahead x.1)) result (range_assigned MAX_ENTRIES room (ahead cursor.entry)) }
 {
     let (place, rest) = place_before(alloc, TokenKind::Assign, cursor)?;
@@ -223,7 +223,7 @@ fn unmarked_for_header(
     alloc: Global,
     room: u32,
     cursor: Cursor<'_>,
-) -> Result<(ForHeader, Cursor<'_>), Fault>
+) -> Result<(ForHeader, Cursor<'_>), ParseFault>
     ensures { Gives (λ x. (for_head_of x.0, ahead x.1)) result (for_begun MAX_ENTRIES room (ahead cursor.entry)) }
 {
     if ranges(form_of(cursor)) {
@@ -249,7 +249,7 @@ pub fn for_header(
     alloc: Global,
     room: u32,
     cursor: Cursor<'_>,
-) -> Result<(ForHeader, Cursor<'_>), Fault>
+) -> Result<(ForHeader, Cursor<'_>), ParseFault>
     ensures { Gives (λ x. (for_head_of x.0, ahead x.1)) result (for_header MAX_ENTRIES room (ahead cursor.entry)) }
 {
     if begins_with(TokenKind::LeftBrace, cursor) {

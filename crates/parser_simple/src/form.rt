@@ -6,9 +6,9 @@ ghost use Rattle.parser_base.specs.Reading.{Gives, begins};
 ghost use Rattle.parser_simple.specs.Spelling.{update_kind};
 ghost use Rattle.parser_simple.specs.Reading.{begins_with, begins_name, separator_next, update_of, form_at, form_of, defines, goes_on, within, stopped, fits};
 
-use go_text::Fault;
 use parser_base::cursor::{Cursor, Word, is_builtin};
 use parser_base::expression::begins;
+use parser_base::fault::ParseFault;
 use parser_base::list::Next;
 use parser_base::operator::binary_of;
 use scanner::TokenKind;
@@ -57,13 +57,13 @@ pub fn begins_name(cursor: Cursor<'_>) -> bool
 
 /// What follows a name or a place of a list without a closing mark, and the place of the next one or behind the list.
 #[tactic(auto, unfolding(crate::specs::Reading::separator_next))]
-pub fn name_next(separator: TokenKind, cursor: Cursor<'_>) -> Result<(Next, Cursor<'_>), Fault>
+pub fn name_next(separator: TokenKind, cursor: Cursor<'_>) -> Result<(Next, Cursor<'_>), ParseFault>
     ensures { Gives (λ x. (x.0, ahead x.1)) result (separator_next begins_name separator (ahead cursor.entry)) }
 {
     match cursor.next() {
         Some((Word::Mark(kind), rest)) if kind == separator => {
             if !begins_name(rest) {
-                return Err(Fault::Syntax(rest.place()));
+                return Err(ParseFault::Syntax(rest.place()));
             }
             Ok((Next::More, rest))
         }
@@ -73,13 +73,13 @@ pub fn name_next(separator: TokenKind, cursor: Cursor<'_>) -> Result<(Next, Curs
 
 /// What follows a value of a list without a closing mark, and the place of the next one or behind the list.
 #[tactic(auto, unfolding(crate::specs::Reading::separator_next))]
-pub fn value_next(cursor: Cursor<'_>) -> Result<(Next, Cursor<'_>), Fault>
+pub fn value_next(cursor: Cursor<'_>) -> Result<(Next, Cursor<'_>), ParseFault>
     ensures { Gives (λ x. (x.0, ahead x.1)) result (separator_next begins TokenKind.Comma (ahead cursor.entry)) }
 {
     match cursor.next() {
         Some((Word::Mark(TokenKind::Comma), rest)) => {
             if !begins(rest) {
-                return Err(Fault::Syntax(rest.place()));
+                return Err(ParseFault::Syntax(rest.place()));
             }
             Ok((Next::More, rest))
         }
@@ -207,20 +207,20 @@ fn goes_on(header: bool, literals: bool, kind: TokenKind) -> bool
 }
 
 /// Refuses what has more levels than there is room for, at what follows it: as too high where it `goes` on as a value.
-fn within(height: usize, room: u32, goes: bool, behind: Cursor<'_>) -> Result<(), Fault>
+fn within(height: usize, room: u32, goes: bool, behind: Cursor<'_>) -> Result<(), ParseFault>
     ensures { Gives (λ x. x) result (within height room goes) }
 {
     if height <= room as usize {
         return Ok(());
     }
     if goes {
-        return Err(Fault::TooDeep(behind.place()));
+        return Err(ParseFault::TooDeep(behind.place()));
     }
-    Err(Fault::Syntax(behind.place()))
+    Err(ParseFault::Syntax(behind.place()))
 }
 
 /// Refuses the same where no value goes on; behind a period, where a name is to come next, there is room for none.
-fn stopped(named: bool, height: usize, room: u32, behind: Cursor<'_>) -> Result<(), Fault>
+fn stopped(named: bool, height: usize, room: u32, behind: Cursor<'_>) -> Result<(), ParseFault>
     ensures { Gives (λ x. x) result (stopped named height room) }
 {
     within(height, if named { 0 } else { room }, false, behind)
@@ -228,7 +228,7 @@ fn stopped(named: bool, height: usize, room: u32, behind: Cursor<'_>) -> Result<
 
 /// Refuses a name or a selection here that is too high as a value, at what follows it, since it could be a place before.
 #[tactic(auto, unfolding(crate::specs::Reading::fits))]
-pub fn fits(header: bool, literals: bool, room: u32, cursor: Cursor<'_>) -> Result<(), Fault>
+pub fn fits(header: bool, literals: bool, room: u32, cursor: Cursor<'_>) -> Result<(), ParseFault>
     ensures { Gives (λ x. x) result (fits header literals true 0 room (ahead cursor.entry)) }
 {
     let mut literals = literals;

@@ -8,10 +8,10 @@ ghost use Rattle.parser_base.specs.Reading.{Gives, TooMany, plain_name, listed};
 ghost use Rattle.parser_simple.specs.Reading.{begins_name, separator_next, names, fields, place, before_mark, places};
 
 use crate::form::{begins_with, name_next};
-use go_text::{Fault, LimitKind};
 use parser_base::beside::beside;
 use parser_base::cursor::Cursor;
 use parser_base::expression::name_node;
+use parser_base::fault::ParseFault;
 use parser_base::found::Found;
 use parser_base::list::{List, Next};
 use scanner::TokenKind;
@@ -20,7 +20,7 @@ use syntax::limits::MAX_ENTRIES;
 use syntax::{Name, PlaceNode};
 
 /// A name that may be declared, and the place behind it.
-pub fn name_at(alloc: Global, cursor: Cursor<'_>) -> Result<(Name, Cursor<'_>), Fault>
+pub fn name_at(alloc: Global, cursor: Cursor<'_>) -> Result<(Name, Cursor<'_>), ParseFault>
     ensures { Gives (λ x. (name_of x.0, ahead x.1)) result (plain_name (ahead cursor.entry)) }
 {
     let (name, rest) = cursor.plain_name()?;
@@ -33,7 +33,7 @@ pub fn names(
     separator: TokenKind,
     most: usize,
     cursor: Cursor<'_>,
-) -> Result<List<'_, Name>, Fault>
+) -> Result<List<'_, Name>, ParseFault>
     ensures { Gives (λ x. ((map name_of x.entries.items, x.trailing), ahead x.rest)) result (names separator most (ahead cursor.entry)) }
 {
     let mut entries = Vec::new(alloc);
@@ -51,16 +51,12 @@ pub fn names(
             }),
         }
     }
-    Err(Fault::Limit {
-        kind: LimitKind::ListEntries,
-        node: None,
-        place: rest.place(),
-    })
+    Err(ParseFault::TooManyEntries(rest.place()))
 }
 
 /// The fields of a place, each behind a period.
 #[tactic(auto, unfolding(crate::specs::Reading::fields))]
-fn fields(alloc: Global, cursor: Cursor<'_>) -> Result<(Vec<Name>, Cursor<'_>), Fault>
+fn fields(alloc: Global, cursor: Cursor<'_>) -> Result<(Vec<Name>, Cursor<'_>), ParseFault>
     ensures { Gives (λ x. (map name_of x.0.items, ahead x.1)) result (fields (ahead cursor.entry)) }
 {
     if !begins_with(TokenKind::Period, cursor) {
@@ -73,7 +69,7 @@ fn fields(alloc: Global, cursor: Cursor<'_>) -> Result<(Vec<Name>, Cursor<'_>), 
 
 /// A place: a name, or fields behind it.
 #[tactic(auto, unfolding(crate::specs::Reading::place))]
-pub fn place(alloc: Global, cursor: Cursor<'_>) -> Result<Found<'_, PlaceNode>, Fault>
+pub fn place(alloc: Global, cursor: Cursor<'_>) -> Result<Found<'_, PlaceNode>, ParseFault>
     ensures { Gives (λ x. (place_of x.node, ahead x.rest)) result (place (ahead cursor.entry)) }
 {
     let (name, rest) = name_at(alloc, cursor)?;
@@ -89,7 +85,7 @@ pub fn place_before(
     alloc: Global,
     mark: TokenKind,
     cursor: Cursor<'_>,
-) -> Result<(PlaceNode, Cursor<'_>), Fault>
+) -> Result<(PlaceNode, Cursor<'_>), ParseFault>
     ensures { Gives (λ x. (place_of x.0, ahead x.1)) result (before_mark mark (ahead cursor.entry)) }
 {
     let target = place(alloc, cursor)?;
@@ -97,7 +93,7 @@ pub fn place_before(
 }
 
 /// Places with a comma between each two.
-pub fn places(alloc: Global, cursor: Cursor<'_>) -> Result<List<'_, PlaceNode>, Fault>
+pub fn places(alloc: Global, cursor: Cursor<'_>) -> Result<List<'_, PlaceNode>, ParseFault>
     ensures { Gives (λ x. ((map place_of x.entries.items, x.trailing), ahead x.rest)) result (places MAX_ENTRIES (ahead cursor.entry)) }
 {
     let mut entries = Vec::new(alloc);
@@ -115,9 +111,5 @@ pub fn places(alloc: Global, cursor: Cursor<'_>) -> Result<List<'_, PlaceNode>, 
             }),
         }
     }
-    Err(Fault::Limit {
-        kind: LimitKind::ListEntries,
-        node: None,
-        place: rest.place(),
-    })
+    Err(ParseFault::TooManyEntries(rest.place()))
 }

@@ -1,7 +1,7 @@
 //! Right sides of assignments, and the operands and arguments of calls, sends and receives.
 
 ghost use Rattle.std.specs.Prelude.{◌≡◌, ◌<◌, ◌||◌, IfErr, bytes_eq, codes, map, option_map};
-ghost use Rattle.go_text.specs.declared.fault.Fault.TheVariants as faults;
+ghost use Rattle.parser_base.specs.declared.fault.ParseFault.TheVariants as faults;
 ghost use Rattle.syntax.specs.Tree.{Length, Capacity, Call, Receive};
 ghost use Rattle.syntax.specs.View.{expression_of, arguments_of, operation_of, right_of};
 ghost use Rattle.parser_base.specs.Cursor.{ahead};
@@ -9,10 +9,11 @@ ghost use Rattle.parser_base.specs.Reading.{Gives, expression};
 ghost use Rattle.parser_simple.specs.Reading.{as_one, behind_mark, begins_primary, primary, received, arguments, argument, size, size_closed, make, builtin_operation, begins_operation, operation, value_list, right};
 
 use crate::form::{begins_with, value_next};
-use go_text::{Fault, LimitKind, Place, is_word};
+use go_text::{Span, is_word};
 use parser_base::beside::beside;
 use parser_base::cursor::{Cursor, Word, is_builtin};
 use parser_base::expression::{expression, name_node, values};
+use parser_base::fault::ParseFault;
 use parser_base::found::Found;
 use parser_base::list::{List, Next};
 use parser_base::types::type_at;
@@ -41,11 +42,11 @@ pub fn primary_expression(
     literals: bool,
     room: u32,
     cursor: Cursor<'_>,
-) -> Result<Found<'_, ExpressionNode>, Fault>
+) -> Result<Found<'_, ExpressionNode>, ParseFault>
     ensures { Gives (λ x. (expression_of x.node, ahead x.rest)) result (primary literals MAX_ENTRIES room (ahead cursor.entry)) }
 {
     if !begins_primary(cursor) {
-        return Err(Fault::Syntax(cursor.place()));
+        return Err(ParseFault::Syntax(cursor.place()));
     }
     expression(alloc, literals, room, 7, cursor)
 }
@@ -58,12 +59,12 @@ pub fn expression_behind(
     room: u32,
     mark: TokenKind,
     cursor: Cursor<'_>,
-) -> Result<Found<'_, ExpressionNode>, Fault>
+) -> Result<Found<'_, ExpressionNode>, ParseFault>
     ensures { Gives (λ x. (expression_of x.node, ahead x.rest)) result (behind_mark mark (expression literals MAX_ENTRIES room 0) (ahead cursor.entry)) }
 {
     let rest = cursor.expect(mark)?;
     if room == 0 {
-        return Err(Fault::TooDeep(cursor.place()));
+        return Err(ParseFault::TooDeep(cursor.place()));
     }
     expression(alloc, literals, room, 0, rest)
 }
@@ -73,14 +74,14 @@ pub fn receive_operand(
     alloc: Global,
     literals: bool,
     room: u32,
-    arrow: Place,
+    arrow: Span,
     cursor: Cursor<'_>,
-) -> Result<Found<'_, ExpressionNode>, Fault>
+) -> Result<Found<'_, ExpressionNode>, ParseFault>
     ensures value { Gives (λ x. (expression_of x.node, ahead x.rest)) result (received literals MAX_ENTRIES room (ahead cursor.entry)) }
     ensures place { room < 1 → IfErr result (λ fault. fault ≡ faults.TooDeep arrow) }
 {
     if room < 1 {
-        return Err(Fault::TooDeep(arrow));
+        return Err(ParseFault::TooDeep(arrow));
     }
     primary_expression(alloc, literals, room, cursor)
 }
@@ -92,7 +93,7 @@ pub fn arguments(
     literals: bool,
     room: u32,
     cursor: Cursor<'_>,
-) -> Result<Found<'_, ArgumentsNode>, Fault>
+) -> Result<Found<'_, ArgumentsNode>, ParseFault>
     ensures { Gives (λ x. (arguments_of x.node, ahead x.rest)) result (arguments literals MAX_ENTRIES room (ahead cursor.entry)) }
 {
     let inside = cursor.expect(TokenKind::LeftParenthesis)?;
@@ -114,7 +115,7 @@ pub fn argument(
     literals: bool,
     room: u32,
     cursor: Cursor<'_>,
-) -> Result<Found<'_, ExpressionNode>, Fault>
+) -> Result<Found<'_, ExpressionNode>, ParseFault>
     ensures { Gives (λ x. (expression_of x.node, ahead x.rest)) result (argument literals MAX_ENTRIES room (ahead cursor.entry)) }
 {
     let value = expression_behind(alloc, literals, room, TokenKind::LeftParenthesis, cursor)?;
@@ -129,7 +130,7 @@ fn buffer_size(
     literals: bool,
     room: u32,
     cursor: Cursor<'_>,
-) -> Result<(Option<ExpressionNode>, Cursor<'_>), Fault>
+) -> Result<(Option<ExpressionNode>, Cursor<'_>), ParseFault>
     ensures { Gives (λ x. (option_map expression_of x.0, ahead x.1)) result (size literals MAX_ENTRIES room (ahead cursor.entry)) }
 {
     if !begins_with(TokenKind::Comma, cursor) {
@@ -145,7 +146,7 @@ fn closed_size(
     literals: bool,
     room: u32,
     cursor: Cursor<'_>,
-) -> Result<(Option<ExpressionNode>, Cursor<'_>), Fault>
+) -> Result<(Option<ExpressionNode>, Cursor<'_>), ParseFault>
     ensures { Gives (λ x. (option_map expression_of x.0, ahead x.1)) result (size_closed literals MAX_ENTRIES room (ahead cursor.entry)) }
 {
     let (size, rest) = buffer_size(alloc, literals, room, cursor)?;
@@ -159,7 +160,7 @@ fn make_call(
     literals: bool,
     room: u32,
     cursor: Cursor<'_>,
-) -> Result<Found<'_, OperationNode>, Fault>
+) -> Result<Found<'_, OperationNode>, ParseFault>
     ensures { Gives (λ x. (operation_of x.node, ahead x.rest)) result (make literals MAX_ENTRIES room (ahead cursor.entry)) }
 {
     let inside = cursor.expect(TokenKind::LeftParenthesis)?;
@@ -180,7 +181,7 @@ fn len_call(
     literals: bool,
     room: u32,
     cursor: Cursor<'_>,
-) -> Result<Found<'_, OperationNode>, Fault>
+) -> Result<Found<'_, OperationNode>, ParseFault>
     ensures { Gives (λ x. (operation_of x.node, ahead x.rest)) result (as_one Length (argument literals MAX_ENTRIES room (ahead cursor.entry))) }
 {
     let channel = argument(alloc, literals, room, cursor)?;
@@ -196,7 +197,7 @@ fn cap_call(
     literals: bool,
     room: u32,
     cursor: Cursor<'_>,
-) -> Result<Found<'_, OperationNode>, Fault>
+) -> Result<Found<'_, OperationNode>, ParseFault>
     ensures { Gives (λ x. (operation_of x.node, ahead x.rest)) result (as_one Capacity (argument literals MAX_ENTRIES room (ahead cursor.entry))) }
 {
     let channel = argument(alloc, literals, room, cursor)?;
@@ -222,11 +223,11 @@ fn builtin_operation<'a>(
     name: &[u8],
     first: Cursor<'a>,
     cursor: Cursor<'a>,
-) -> Result<Found<'a, OperationNode>, Fault>
+) -> Result<Found<'a, OperationNode>, ParseFault>
     ensures { Gives (λ x. (operation_of x.node, ahead x.rest)) result (builtin_operation literals MAX_ENTRIES room name.now (ahead cursor.entry)) }
 {
     if room < 1 && is_channel_builtin(name) {
-        return Err(Fault::TooDeep(first.place()));
+        return Err(ParseFault::TooDeep(first.place()));
     }
     if is_word(name, b"make") {
         return make_call(alloc, literals, room, cursor);
@@ -237,7 +238,7 @@ fn builtin_operation<'a>(
     if is_word(name, b"cap") {
         return cap_call(alloc, literals, room, cursor);
     }
-    Err(Fault::Syntax(first.place()))
+    Err(ParseFault::Syntax(first.place()))
 }
 
 /// A call of a function behind its name.
@@ -247,7 +248,7 @@ fn call<'a>(
     room: u32,
     name: &[u8],
     cursor: Cursor<'a>,
-) -> Result<Found<'a, OperationNode>, Fault>
+) -> Result<Found<'a, OperationNode>, ParseFault>
     ensures { Gives (λ x. (operation_of x.node, ahead x.rest)) result (as_one (Call name.now) (arguments literals MAX_ENTRIES room (ahead cursor.entry))) }
 {
     let found = arguments(alloc, literals, room, cursor)?;
@@ -265,7 +266,7 @@ fn receive_operation<'a>(
     room: u32,
     first: Cursor<'a>,
     cursor: Cursor<'a>,
-) -> Result<Found<'a, OperationNode>, Fault>
+) -> Result<Found<'a, OperationNode>, ParseFault>
     ensures { Gives (λ x. (operation_of x.node, ahead x.rest)) result (as_one Receive (received literals MAX_ENTRIES room (ahead cursor.entry))) }
 {
     let channel = receive_operand(alloc, literals, room, first.place(), cursor)?;
@@ -295,13 +296,13 @@ pub fn operation(
     literals: bool,
     room: u32,
     cursor: Cursor<'_>,
-) -> Result<Found<'_, OperationNode>, Fault>
+) -> Result<Found<'_, OperationNode>, ParseFault>
     ensures { Gives (λ x. (operation_of x.node, ahead x.rest)) result (operation literals MAX_ENTRIES room (ahead cursor.entry)) }
 {
     match cursor.next() {
         Some((Word::Mark(kind), rest)) => {
             if kind != TokenKind::Arrow {
-                return Err(Fault::Syntax(cursor.place()));
+                return Err(ParseFault::Syntax(cursor.place()));
             }
             receive_operation(alloc, literals, room, cursor, rest)
         }
@@ -311,7 +312,7 @@ pub fn operation(
             }
             call(alloc, literals, room, name, rest)
         }
-        _ => Err(Fault::Syntax(cursor.place())),
+        _ => Err(ParseFault::Syntax(cursor.place())),
     }
 }
 
@@ -321,7 +322,7 @@ fn expression_list(
     literals: bool,
     room: u32,
     cursor: Cursor<'_>,
-) -> Result<List<'_, ExpressionNode>, Fault>
+) -> Result<List<'_, ExpressionNode>, ParseFault>
     ensures { Gives (λ x. ((map expression_of x.entries.items, x.trailing), ahead x.rest)) result (value_list literals MAX_ENTRIES room (ahead cursor.entry)) }
 {
     let mut entries = Vec::new(alloc);
@@ -339,11 +340,7 @@ fn expression_list(
             }),
         }
     }
-    Err(Fault::Limit {
-        kind: LimitKind::ListEntries,
-        node: None,
-        place: rest.place(),
-    })
+    Err(ParseFault::TooManyEntries(rest.place()))
 }
 
 /// The right side of an assignment, of at most so many levels.
@@ -353,11 +350,11 @@ pub fn right_side(
     literals: bool,
     room: u32,
     cursor: Cursor<'_>,
-) -> Result<Found<'_, RightNode>, Fault>
+) -> Result<Found<'_, RightNode>, ParseFault>
     ensures { Gives (λ x. (right_of x.node, ahead x.rest)) result (right literals MAX_ENTRIES room (ahead cursor.entry)) }
 {
     if room == 0 {
-        return Err(Fault::TooDeep(cursor.place()));
+        return Err(ParseFault::TooDeep(cursor.place()));
     }
     if begins_operation(cursor) {
         let found = operation(alloc, literals, room - 1, cursor)?;
@@ -381,12 +378,12 @@ pub fn right_behind(
     room: u32,
     mark: TokenKind,
     cursor: Cursor<'_>,
-) -> Result<Found<'_, RightNode>, Fault>
+) -> Result<Found<'_, RightNode>, ParseFault>
     ensures { Gives (λ x. (right_of x.node, ahead x.rest)) result (behind_mark mark (right literals MAX_ENTRIES room) (ahead cursor.entry)) }
 {
     let rest = cursor.expect(mark)?;
     if room == 0 {
-        return Err(Fault::TooDeep(cursor.place()));
+        return Err(ParseFault::TooDeep(cursor.place()));
     }
     right_side(alloc, literals, room, rest)
 }

@@ -13,10 +13,11 @@ use crate::place::{names, place, place_before, places};
 use crate::right::{
     argument, arguments, expression_behind, primary_expression, receive_operand, right_behind,
 };
-use go_text::{Fault, LimitKind, is_word};
+use go_text::is_word;
 use parser_base::beside::beside;
 use parser_base::cursor::{Cursor, Word, is_builtin};
 use parser_base::expression::{begins, closed, expression, name_node};
+use parser_base::fault::ParseFault;
 use parser_base::found::Found;
 use parser_base::list::{List, Next};
 use parser_base::text::text;
@@ -43,11 +44,11 @@ fn print_argument(
     room: u32,
     literals: bool,
     cursor: Cursor<'_>,
-) -> Result<(PartNode, Cursor<'_>), Fault>
+) -> Result<(PartNode, Cursor<'_>), ParseFault>
     ensures { Gives (λ x. (part_of x.0, ahead x.1)) result (part literals MAX_ENTRIES room (ahead cursor.entry)) }
 {
     if room == 0 {
-        return Err(Fault::TooDeep(cursor.place()));
+        return Err(ParseFault::TooDeep(cursor.place()));
     }
     if let Some((Word::Text(quoted), rest)) = cursor.next() {
         let node = PartNode::Text(text(alloc, quoted)?);
@@ -59,11 +60,11 @@ fn print_argument(
 
 /// What follows an argument of `print` or `println`, and the place of the next one or behind the arguments.
 #[tactic(auto, unfolding(parser_base::specs::Reading::entry_next))]
-fn print_argument_next(cursor: Cursor<'_>) -> Result<(Next, Cursor<'_>), Fault>
+fn print_argument_next(cursor: Cursor<'_>) -> Result<(Next, Cursor<'_>), ParseFault>
     ensures { Gives (λ x. (x.0, ahead x.1)) result (entry_next TokenKind.Comma begins_part TokenKind.RightParenthesis (ahead cursor.entry)) }
 {
     let Some((Word::Mark(kind), rest)) = cursor.next() else {
-        return Err(Fault::Syntax(cursor.place()));
+        return Err(ParseFault::Syntax(cursor.place()));
     };
     if kind != TokenKind::Comma {
         return closed(TokenKind::RightParenthesis, false, cursor);
@@ -81,7 +82,7 @@ fn print_argument_list(
     room: u32,
     literals: bool,
     cursor: Cursor<'_>,
-) -> Result<List<'_, PartNode>, Fault>
+) -> Result<List<'_, PartNode>, ParseFault>
     ensures { Gives (λ x. ((map part_of x.entries.items, x.trailing), ahead x.rest)) result (listed (part literals MAX_ENTRIES room) (entry_next TokenKind.Comma begins_part TokenKind.RightParenthesis) (TooMany Entries) MAX_ENTRIES (ahead cursor.entry)) }
 {
     let mut entries = Vec::new(alloc);
@@ -99,11 +100,7 @@ fn print_argument_list(
             }),
         }
     }
-    Err(Fault::Limit {
-        kind: LimitKind::ListEntries,
-        node: None,
-        place: rest.place(),
-    })
+    Err(ParseFault::TooManyEntries(rest.place()))
 }
 
 /// The arguments of `print` or `println`, behind the first parenthesis.
@@ -113,7 +110,7 @@ fn print_arguments(
     room: u32,
     literals: bool,
     cursor: Cursor<'_>,
-) -> Result<List<'_, PartNode>, Fault>
+) -> Result<List<'_, PartNode>, ParseFault>
     ensures { Gives (λ x. ((map part_of x.entries.items, x.trailing), ahead x.rest)) result (parts literals MAX_ENTRIES room (ahead cursor.entry)) }
 {
     if begins_print_argument(cursor) {
@@ -135,7 +132,7 @@ fn print_call(
     literals: bool,
     room: u32,
     cursor: Cursor<'_>,
-) -> Result<Found<'_, SimpleNode>, Fault>
+) -> Result<Found<'_, SimpleNode>, ParseFault>
     ensures { Gives (λ x. (simple_of x.node, ahead x.rest)) result (print line literals MAX_ENTRIES room (ahead cursor.entry)) }
 {
     let inside = cursor.expect(TokenKind::LeftParenthesis)?;
@@ -152,7 +149,7 @@ fn close_call(
     literals: bool,
     room: u32,
     cursor: Cursor<'_>,
-) -> Result<Found<'_, SimpleNode>, Fault>
+) -> Result<Found<'_, SimpleNode>, ParseFault>
     ensures { Gives (λ x. (simple_of x.node, ahead x.rest)) result (as_one Close (argument literals MAX_ENTRIES room (ahead cursor.entry))) }
 {
     let channel = argument(alloc, literals, room, cursor)?;
@@ -171,7 +168,7 @@ fn builtin_call<'a>(
     name: &[u8],
     first: Cursor<'a>,
     cursor: Cursor<'a>,
-) -> Result<Found<'a, SimpleNode>, Fault>
+) -> Result<Found<'a, SimpleNode>, ParseFault>
     ensures { Gives (λ x. (simple_of x.node, ahead x.rest)) result (builtin_call literals MAX_ENTRIES room name.now (ahead cursor.entry)) }
 {
     if is_word(name, b"println") {
@@ -182,11 +179,11 @@ fn builtin_call<'a>(
     }
     if is_word(name, b"close") {
         if room < 1 {
-            return Err(Fault::TooDeep(first.place()));
+            return Err(ParseFault::TooDeep(first.place()));
         }
         return close_call(alloc, literals, room, cursor);
     }
-    Err(Fault::Syntax(first.place()))
+    Err(ParseFault::Syntax(first.place()))
 }
 
 /// A call of a function alone, behind its name.
@@ -196,7 +193,7 @@ fn call_statement<'a>(
     room: u32,
     name: &[u8],
     cursor: Cursor<'a>,
-) -> Result<Found<'a, SimpleNode>, Fault>
+) -> Result<Found<'a, SimpleNode>, ParseFault>
     ensures { Gives (λ x. (simple_of x.node, ahead x.rest)) result (as_one (CallAlone name.now) (arguments literals MAX_ENTRIES room (ahead cursor.entry))) }
 {
     let found = arguments(alloc, literals, room, cursor)?;
@@ -214,7 +211,7 @@ fn receive_statement<'a>(
     room: u32,
     first: Cursor<'a>,
     cursor: Cursor<'a>,
-) -> Result<Found<'a, SimpleNode>, Fault>
+) -> Result<Found<'a, SimpleNode>, ParseFault>
     ensures { Gives (λ x. (simple_of x.node, ahead x.rest)) result (as_one ReceiveAlone (received literals MAX_ENTRIES room (ahead cursor.entry))) }
 {
     let channel = receive_operand(alloc, literals, room, first.place(), cursor)?;
@@ -231,7 +228,7 @@ fn assignment(
     literals: bool,
     room: u32,
     cursor: Cursor<'_>,
-) -> Result<Found<'_, SimpleNode>, Fault>
+) -> Result<Found<'_, SimpleNode>, ParseFault>
     ensures { Gives (λ x. (simple_of x.node, ahead x.rest)) result (assigned literals MAX_ENTRIES room (ahead cursor.entry)) }
 {
     let all = places(alloc, cursor)?;
@@ -252,7 +249,7 @@ fn short_var_declaration(
     literals: bool,
     room: u32,
     cursor: Cursor<'_>,
-) -> Result<Found<'_, SimpleNode>, Fault>
+) -> Result<Found<'_, SimpleNode>, ParseFault>
     ensures { Gives (λ x. (simple_of x.node, ahead x.rest)) result (defined literals MAX_ENTRIES room (ahead cursor.entry)) }
 {
     let all = names(alloc, TokenKind::Comma, MAX_ENTRIES as usize, cursor)?;
@@ -268,7 +265,10 @@ fn short_var_declaration(
 
 /// A `++` behind a place.
 #[tactic(auto, unfolding(crate::specs::Reading::stepped))]
-fn increment_statement(alloc: Global, cursor: Cursor<'_>) -> Result<Found<'_, SimpleNode>, Fault>
+fn increment_statement(
+    alloc: Global,
+    cursor: Cursor<'_>,
+) -> Result<Found<'_, SimpleNode>, ParseFault>
     ensures { Gives (λ x. (simple_of x.node, ahead x.rest)) result (stepped Increment TokenKind.Increment (ahead cursor.entry)) }
 {
     let (place, rest) = place_before(alloc, TokenKind::Increment, cursor)?;
@@ -280,7 +280,10 @@ fn increment_statement(alloc: Global, cursor: Cursor<'_>) -> Result<Found<'_, Si
 
 /// A `--` behind a place.
 #[tactic(auto, unfolding(crate::specs::Reading::stepped))]
-fn decrement_statement(alloc: Global, cursor: Cursor<'_>) -> Result<Found<'_, SimpleNode>, Fault>
+fn decrement_statement(
+    alloc: Global,
+    cursor: Cursor<'_>,
+) -> Result<Found<'_, SimpleNode>, ParseFault>
     ensures { Gives (λ x. (simple_of x.node, ahead x.rest)) result (stepped Decrement TokenKind.Decrement (ahead cursor.entry)) }
 {
     let (place, rest) = place_before(alloc, TokenKind::Decrement, cursor)?;
@@ -298,7 +301,7 @@ fn operator_assignment(
     room: u32,
     operator: BinaryOperator,
     cursor: Cursor<'_>,
-) -> Result<Found<'_, SimpleNode>, Fault>
+) -> Result<Found<'_, SimpleNode>, ParseFault>
     ensures { Gives (λ x. (simple_of x.node, ahead x.rest)) result (updated literals MAX_ENTRIES room operator (ahead cursor.entry)) }
 {
     let target = place(alloc, cursor)?;
@@ -314,8 +317,8 @@ fn operator_assignment(
 
 /// A simple statement that was read, as what was looked for.
 fn as_some(
-    read: Result<Found<'_, SimpleNode>, Fault>,
-) -> Result<Found<'_, Option<SimpleNode>>, Fault>
+    read: Result<Found<'_, SimpleNode>, ParseFault>,
+) -> Result<Found<'_, Option<SimpleNode>>, ParseFault>
     ensures { (words : Reading Simple) → Gives (λ x. (simple_of x.node, ahead x.rest)) read.entry words → Gives (λ x. (option_map simple_of x.node, ahead x.rest)) result (as_one (λ (s : Simple). Some s) words) }
 {
     let found = read?;
@@ -334,7 +337,7 @@ fn place_statement(
     room: u32,
     form: Form,
     cursor: Cursor<'_>,
-) -> Result<Found<'_, Option<SimpleNode>>, Fault>
+) -> Result<Found<'_, Option<SimpleNode>>, ParseFault>
     ensures { Gives (λ x. (option_map simple_of x.node, ahead x.rest)) result (formed literals defining MAX_ENTRIES room form (ahead cursor.entry)) }
 {
     match form {
@@ -346,7 +349,7 @@ fn place_statement(
         Form::Assign(_) => as_some(assignment(alloc, literals, room, cursor)),
         Form::List if room < 1 => {
             let first = place(alloc, cursor)?;
-            Err(Fault::TooDeep(first.rest.place()))
+            Err(ParseFault::TooDeep(first.rest.place()))
         }
         Form::Define(_) | Form::List if defining && defines(cursor) => {
             as_some(short_var_declaration(alloc, literals, room, cursor))
@@ -367,7 +370,7 @@ pub fn statement_unless_value(
     defining: bool,
     room: u32,
     cursor: Cursor<'_>,
-) -> Result<Found<'_, Option<SimpleNode>>, Fault>
+) -> Result<Found<'_, Option<SimpleNode>>, ParseFault>
     ensures { Gives (λ x. (option_map simple_of x.node, ahead x.rest)) result (led literals defining MAX_ENTRIES room (ahead cursor.entry)) }
 {
     match cursor.next() {
@@ -398,7 +401,7 @@ pub fn send_operand(
     literals: bool,
     room: u32,
     cursor: Cursor<'_>,
-) -> Result<Found<'_, ExpressionNode>, Fault>
+) -> Result<Found<'_, ExpressionNode>, ParseFault>
     ensures { Gives (λ x. (expression_of x.node, ahead x.rest)) result (send_operand literals MAX_ENTRIES room (ahead cursor.entry)) }
 {
     fits(false, literals, room, cursor)?;
@@ -412,7 +415,7 @@ fn send_statement(
     literals: bool,
     room: u32,
     cursor: Cursor<'_>,
-) -> Result<Found<'_, SimpleNode>, Fault>
+) -> Result<Found<'_, SimpleNode>, ParseFault>
     ensures { Gives (λ x. (simple_of x.node, ahead x.rest)) result (sent Send literals MAX_ENTRIES room (ahead cursor.entry)) }
 {
     let channel = send_operand(alloc, literals, room, cursor)?;
@@ -435,7 +438,7 @@ pub fn simple_statement(
     defining: bool,
     room: u32,
     cursor: Cursor<'_>,
-) -> Result<Found<'_, SimpleNode>, Fault>
+) -> Result<Found<'_, SimpleNode>, ParseFault>
     ensures { Gives (λ x. (simple_of x.node, ahead x.rest)) result (simple literals defining MAX_ENTRIES room (ahead cursor.entry)) }
 {
     let Found { node, rest } = statement_unless_value(alloc, literals, defining, room, cursor)?;

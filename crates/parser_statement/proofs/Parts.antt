@@ -1,6 +1,6 @@
 -- What is read of a statement, part by part: where a part fails, and what all parts make.
 use Rattle.std.proofs.Common.{◌≡◌, ℕ, ◌-◌, ◌≤◌, Bool, true, false, cond, List, ◌∷◌, Option, Some, None, Result, Ok, Err, zero, suc, nat_le, length, refl, ap, ◌∙◌, arith}
-use Rattle.go_text.specs.declared.fault.Fault.{Fault}
+use Rattle.parser_base.specs.declared.fault.ParseFault.{ParseFault}
 use Rattle.scanner.specs.declared.kind.TokenKind.{TokenKind}
 use Rattle.scanner.specs.declared.kind.TokenKind.TheVariants as kinds
 use Rattle.syntax.specs.Tree.{Expression, Comm, IfHead, ForHead, Statement, Block, If, For, Select, Statements, statements, Branch, Conditional, Otherwise, ElseBlock, ElseIf, Clauses}
@@ -23,19 +23,19 @@ has_room least room read h = enough least room read (nat_le least room) refl h
 
 -- ---- an `if`
 
-pub if_head_fails : (fault : Fault) (most room : ℕ) (inside : List Lexeme → Reading Statements) (below : List Lexeme → Reading Branch) (ws : List Lexeme) → 2 ≤ room → Fails fault (if_header most room ws)
+pub if_head_fails : (fault : ParseFault) (most room : ℕ) (inside : List Lexeme → Reading Statements) (below : List Lexeme → Reading Branch) (ws : List Lexeme) → 2 ≤ room → Fails fault (if_header most room ws)
     → Fails fault (branched most room inside below ws)
 unfolding branched
 if_head_fails fault most room inside below ws h fails =
     fails_on fault (if_header most room ws) (branched most room inside below ws) fails (λ r e. has_room 2 room _ h ∙ rw e refl)
 
-pub if_body_fails : (fault : Fault) (most room : ℕ) (inside : List Lexeme → Reading Statements) (below : List Lexeme → Reading Branch) (ws : List Lexeme) (head : (IfHead × Expression) × List Lexeme) → 2 ≤ room → if_header most room ws ≡ Ok head
+pub if_body_fails : (fault : ParseFault) (most room : ℕ) (inside : List Lexeme → Reading Statements) (below : List Lexeme → Reading Branch) (ws : List Lexeme) (head : (IfHead × Expression) × List Lexeme) → 2 ≤ room → if_header most room ws ≡ Ok head
     → Fails fault (inside head.1) → Fails fault (branched most room inside below ws)
 unfolding branched
 if_body_fails fault most room inside below ws head h read fails =
     fails_on fault (inside head.1) (branched most room inside below ws) fails (λ r e. has_room 2 room _ h ∙ rw (read, e) refl)
 
-pub if_else_fails : (fault : Fault) (most room : ℕ) (inside : List Lexeme → Reading Statements) (below : List Lexeme → Reading Branch) (ws : List Lexeme) (head : (IfHead × Expression) × List Lexeme) (body : Statements × List Lexeme)
+pub if_else_fails : (fault : ParseFault) (most room : ℕ) (inside : List Lexeme → Reading Statements) (below : List Lexeme → Reading Branch) (ws : List Lexeme) (head : (IfHead × Expression) × List Lexeme) (body : Statements × List Lexeme)
     → 2 ≤ room → if_header most room ws ≡ Ok head → inside head.1 ≡ Ok body → Fails fault (otherwise inside below body.1) → Fails fault (branched most room inside below ws)
 unfolding branched
 if_else_fails fault most room inside below ws head body h read read' fails =
@@ -56,7 +56,7 @@ branch_begins most (suc room) ws h =
     let e : room ≡ suc room - 1 = omega arith in
     ap (λ (r : ℕ). branched most r (block most r) (branch most r) ws) e
 
-pub else_if_fails : (fault : Fault) (most room : ℕ) (ws after : List Lexeme) → 1 ≤ room → begins_with kinds.If ws ≡ true → expect kinds.If ws ≡ Ok after
+pub else_if_fails : (fault : ParseFault) (most room : ℕ) (ws after : List Lexeme) → 1 ≤ room → begins_with kinds.If ws ≡ true → expect kinds.If ws ≡ Ok after
     → Fails fault (branched most (room - 1) (block most (room - 1)) (branch most (room - 1)) after) → Fails fault (other (block most room) (branch most room) ws)
 unfolding other
 else_if_fails fault most room ws after h begins behind fails =
@@ -73,11 +73,11 @@ else_block_done inside below ws found begins read = rw (begins, read) refl
 
 -- ---- a `for`
 
-pub for_head_fails : (fault : Fault) (most room : ℕ) (inside : List Lexeme → Reading Statements) (ws : List Lexeme) → 2 ≤ room → Fails fault (for_header most room ws) → Fails fault (repeated most room inside ws)
+pub for_head_fails : (fault : ParseFault) (most room : ℕ) (inside : List Lexeme → Reading Statements) (ws : List Lexeme) → 2 ≤ room → Fails fault (for_header most room ws) → Fails fault (repeated most room inside ws)
 unfolding repeated
 for_head_fails fault most room inside ws h fails = fails_on fault (for_header most room ws) (repeated most room inside ws) fails (λ r e. has_room 2 room _ h ∙ rw e refl)
 
-pub for_body_fails : (fault : Fault) (most room : ℕ) (inside : List Lexeme → Reading Statements) (ws : List Lexeme) (head : ForHead × List Lexeme) → 2 ≤ room → for_header most room ws ≡ Ok head → Fails fault (inside head.1) → Fails fault (repeated most room inside ws)
+pub for_body_fails : (fault : ParseFault) (most room : ℕ) (inside : List Lexeme → Reading Statements) (ws : List Lexeme) (head : ForHead × List Lexeme) → 2 ≤ room → for_header most room ws ≡ Ok head → Fails fault (inside head.1) → Fails fault (repeated most room inside ws)
 unfolding repeated
 for_body_fails fault most room inside ws head h read fails = fails_on fault (inside head.1) (repeated most room inside ws) fails (λ r e. has_room 2 room _ h ∙ rw (read, e) refl)
 
@@ -88,7 +88,7 @@ for_done most room inside ws head body h read read' = has_room 2 room _ h ∙ rw
 
 -- ---- a clause
 
-pub clause_body_fails : (fault : Fault) (one : List Lexeme → Reading Statement) (waits : Option Comm) (ws inside : List Lexeme) → expect kinds.Colon ws ≡ Ok inside → Fails fault (listed one clause_next Syntax (length inside) inside)
+pub clause_body_fails : (fault : ParseFault) (one : List Lexeme → Reading Statement) (waits : Option Comm) (ws inside : List Lexeme) → expect kinds.Colon ws ≡ Ok inside → Fails fault (listed one clause_next Syntax (length inside) inside)
     → Fails fault (clause_body one waits ws)
 unfolding clause_body
 clause_body_fails fault one waits ws inside behind fails =
@@ -99,7 +99,7 @@ pub clause_body_done : (one : List Lexeme → Reading Statement) (waits : Option
 unfolding clause_body
 clause_body_done one waits ws inside all behind read = rw (behind, read) refl
 
-pub waits_fails : (fault : Fault) (most room : ℕ) (one : List Lexeme → Reading Statement) (ws rest : List Lexeme) → 2 ≤ room → ws ≡ Mark kinds.Case ∷ rest → Fails fault (waited most room rest) → Fails fault (one_clause most room one ws)
+pub waits_fails : (fault : ParseFault) (most room : ℕ) (one : List Lexeme → Reading Statement) (ws rest : List Lexeme) → 2 ≤ room → ws ≡ Mark kinds.Case ∷ rest → Fails fault (waited most room rest) → Fails fault (one_clause most room one ws)
 unfolding one_clause
 waits_fails fault most room one ws rest h is fails =
     fails_on fault (waited most room rest) (one_clause most room one ws) fails (λ r e. rw is (has_room 2 room _ h ∙ rw e refl))
@@ -123,7 +123,7 @@ marked_leaf most room inside below one kinds.For rest brace if' for select = abs
 marked_leaf most room inside below one kinds.Select rest brace if' for select = absurd (select refl)
 marked_leaf most room inside below one kind rest brace if' for select = refl
 
-pub block_fails : (fault : Fault) (most room : ℕ) (inside : List Lexeme → Reading Statements) (below : List Lexeme → Reading Branch) (one : List Lexeme → Reading OneClause) (kind : TokenKind) (rest : List Lexeme) → 2 ≤ room → kind ≡ kinds.LeftBrace
+pub block_fails : (fault : ParseFault) (most room : ℕ) (inside : List Lexeme → Reading Statements) (below : List Lexeme → Reading Branch) (one : List Lexeme → Reading OneClause) (kind : TokenKind) (rest : List Lexeme) → 2 ≤ room → kind ≡ kinds.LeftBrace
     → Fails fault (inside (Mark kind ∷ rest)) → Fails fault (marked most room inside below one kind rest)
 block_fails fault most room inside below one kind rest h is fails =
     fails_on fault (inside (Mark kind ∷ rest)) (marked most room inside below one kind rest) fails (λ r e. rw is (has_room 2 room _ h ∙ rw (rw is at e) refl))
@@ -132,7 +132,7 @@ pub block_done : (most room : ℕ) (inside : List Lexeme → Reading Statements)
     → inside (Mark kind ∷ rest) ≡ Ok found → marked most room inside below one kind rest ≡ Ok (Block found.0, found.1)
 block_done most room inside below one kind rest found h is read = rw is (has_room 2 room _ h ∙ rw (rw is at read) refl)
 
-pub branch_fails : (fault : Fault) (most room : ℕ) (inside : List Lexeme → Reading Statements) (below : List Lexeme → Reading Branch) (one : List Lexeme → Reading OneClause) (kind : TokenKind) (rest : List Lexeme) → kind ≡ kinds.If
+pub branch_fails : (fault : ParseFault) (most room : ℕ) (inside : List Lexeme → Reading Statements) (below : List Lexeme → Reading Branch) (one : List Lexeme → Reading OneClause) (kind : TokenKind) (rest : List Lexeme) → kind ≡ kinds.If
     → Fails fault (branched most room inside below rest) → Fails fault (marked most room inside below one kind rest)
 branch_fails fault most room inside below one kind rest is fails =
     fails_on fault (branched most room inside below rest) (marked most room inside below one kind rest) fails (λ r e. rw (is, e) refl)

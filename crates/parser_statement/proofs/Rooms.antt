@@ -1,6 +1,6 @@
 -- A statement and its parts, in the room that is left below them.
 use Rattle.std.proofs.Common.{◌≡◌, ℕ, zero, suc, ◌-◌, ◌≤◌, Bool, List, length, Ok, refl, ap, ◌∙◌, arith}
-use Rattle.go_text.specs.declared.fault.Fault.{Fault}
+use Rattle.parser_base.specs.declared.fault.ParseFault.{ParseFault}
 use Rattle.scanner.specs.declared.kind.TokenKind.TheVariants as kinds
 use Rattle.syntax.specs.Tree.{Statement, statements}
 use Rattle.parser_base.specs.Lexemes.{Lexeme}
@@ -34,7 +34,7 @@ pub block_done : (most room : ℕ) (ws inside : List Lexeme) (all : List Stateme
 unfolding braced
 block_done most room ws inside all trailing rest h braces read = block_begins most room ws h ∙ rw (braces, read) refl
 
-pub block_fails : (fault : Fault) (most room : ℕ) (ws inside : List Lexeme) → 1 ≤ room → expect kinds.LeftBrace ws ≡ Ok inside → Fails fault (listed (statement most (room - 1)) statement_next Syntax (length inside) inside)
+pub block_fails : (fault : ParseFault) (most room : ℕ) (ws inside : List Lexeme) → 1 ≤ room → expect kinds.LeftBrace ws ≡ Ok inside → Fails fault (listed (statement most (room - 1)) statement_next Syntax (length inside) inside)
     → Fails fault (block most room ws)
 unfolding braced
 block_fails fault most room ws inside h braces fails =

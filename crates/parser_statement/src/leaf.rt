@@ -1,7 +1,7 @@
 //! Statements in which no other one stands.
 
 ghost use Rattle.std.specs.Prelude.{◌≡◌, ◌∷◌, ◌<◌, true, IfErr, map, option_map};
-ghost use Rattle.go_text.specs.declared.fault.Fault.TheVariants as faults;
+ghost use Rattle.parser_base.specs.declared.fault.ParseFault.TheVariants as faults;
 ghost use Rattle.scanner.specs.declared.kind.TokenKind.TheVariants as kinds;
 ghost use Rattle.syntax.specs.Tree.{Alone, Return};
 ghost use Rattle.syntax.specs.View.{name_of, right_of, returned_of, statement_of};
@@ -11,10 +11,11 @@ ghost use Rattle.parser_base.specs.Reading.{Gives};
 ghost use Rattle.parser_simple.specs.Reading.{as_one, right, simple};
 ghost use Rattle.parser_statement.specs.Reading.{is_end, ends_statement, begins_returned, returned_value, returned, started, behind_next, typed, untyped, variables, variable, leaf};
 
-use go_text::{Fault, Place};
+use go_text::Span;
 use parser_base::beside::beside;
 use parser_base::cursor::{Cursor, Word, is_builtin};
 use parser_base::expression::{begins, expression};
+use parser_base::fault::ParseFault;
 use parser_base::types::type_at;
 use parser_simple::form::begins_with;
 use parser_simple::place::{name_at, names};
@@ -51,7 +52,7 @@ pub(crate) fn simple_statement(
     alloc: Global,
     room: u32,
     cursor: Cursor<'_>,
-) -> Result<(StatementNode, Cursor<'_>), Fault>
+) -> Result<(StatementNode, Cursor<'_>), ParseFault>
     ensures { Gives (λ x. (statement_of x.0, ahead x.1)) result (as_one Alone (simple true true MAX_ENTRIES room (ahead cursor.entry))) }
 {
     let found = simple::simple_statement(alloc, true, true, room, cursor)?;
@@ -64,7 +65,7 @@ pub(crate) fn go_statement(
     alloc: Global,
     room: u32,
     cursor: Cursor<'_>,
-) -> Result<(StatementNode, Cursor<'_>), Fault>
+) -> Result<(StatementNode, Cursor<'_>), ParseFault>
     ensures { Gives (λ x. (statement_of x.0, ahead x.1)) result (started MAX_ENTRIES room (ahead cursor.entry)) }
 {
     let (function, rest) = name_at(alloc, cursor)?;
@@ -93,14 +94,14 @@ fn return_value(
     alloc: Global,
     room: u32,
     cursor: Cursor<'_>,
-) -> Result<(ReturnNode, Cursor<'_>), Fault>
+) -> Result<(ReturnNode, Cursor<'_>), ParseFault>
     ensures { Gives (λ x. (returned_of x.0, ahead x.1)) result (returned_value MAX_ENTRIES room (ahead cursor.entry)) }
 {
     if room == 0 {
         if begins_return_value(cursor) {
-            return Err(Fault::TooDeep(cursor.place()));
+            return Err(ParseFault::TooDeep(cursor.place()));
         }
-        return Err(Fault::Syntax(cursor.place()));
+        return Err(ParseFault::Syntax(cursor.place()));
     }
     if begins_operation(cursor) {
         let found = operation(alloc, true, room - 1, cursor)?;
@@ -116,7 +117,7 @@ fn return_operand(
     alloc: Global,
     room: u32,
     cursor: Cursor<'_>,
-) -> Result<(ReturnNode, Cursor<'_>), Fault>
+) -> Result<(ReturnNode, Cursor<'_>), ParseFault>
     ensures { Gives (λ x. (returned_of x.0, ahead x.1)) result (returned MAX_ENTRIES room (ahead cursor.entry)) }
 {
     if ends_statement(cursor) {
@@ -131,7 +132,7 @@ pub(crate) fn return_statement(
     alloc: Global,
     room: u32,
     cursor: Cursor<'_>,
-) -> Result<(StatementNode, Cursor<'_>), Fault>
+) -> Result<(StatementNode, Cursor<'_>), ParseFault>
     ensures { Gives (λ x. (statement_of x.0, ahead x.1)) result (as_one Return (returned MAX_ENTRIES room (ahead cursor.entry))) }
 {
     let (returned, rest) = return_operand(alloc, room, cursor)?;
@@ -143,7 +144,7 @@ fn initial_values(
     alloc: Global,
     room: u32,
     cursor: Cursor<'_>,
-) -> Result<(Option<RightNode>, Cursor<'_>), Fault>
+) -> Result<(Option<RightNode>, Cursor<'_>), ParseFault>
     ensures { Gives (λ x. (option_map right_of x.0, ahead x.1)) result (behind_next kinds.Assign (right true MAX_ENTRIES room) (ahead cursor.entry)) }
 {
     if !begins_with(TokenKind::Assign, cursor) {
@@ -160,7 +161,7 @@ fn typed_var(
     room: u32,
     names: Vec<Name>,
     cursor: Cursor<'_>,
-) -> Result<(StatementNode, Cursor<'_>), Fault>
+) -> Result<(StatementNode, Cursor<'_>), ParseFault>
     ensures { Gives (λ x. (statement_of x.0, ahead x.1)) result (typed (map name_of names.items) MAX_ENTRIES room (ahead cursor.entry)) }
 {
     let (names, found) = beside(names, type_at(alloc, room, cursor))?;
@@ -178,7 +179,7 @@ fn untyped_var(
     room: u32,
     names: Vec<Name>,
     cursor: Cursor<'_>,
-) -> Result<(StatementNode, Cursor<'_>), Fault>
+) -> Result<(StatementNode, Cursor<'_>), ParseFault>
     ensures { Gives (λ x. (statement_of x.0, ahead x.1)) result (untyped (map name_of names.items) MAX_ENTRIES room (ahead cursor.entry)) }
 {
     let (names, found) = beside(
@@ -194,7 +195,7 @@ fn var_spec(
     alloc: Global,
     room: u32,
     cursor: Cursor<'_>,
-) -> Result<(StatementNode, Cursor<'_>), Fault>
+) -> Result<(StatementNode, Cursor<'_>), ParseFault>
     ensures { Gives (λ x. (statement_of x.0, ahead x.1)) result (variables MAX_ENTRIES room (ahead cursor.entry)) }
 {
     let names = names(alloc, TokenKind::Comma, MAX_ENTRIES as usize, cursor)?;
@@ -209,14 +210,14 @@ fn var_spec(
 pub(crate) fn var_declaration(
     alloc: Global,
     room: u32,
-    first: Place,
+    first: Span,
     cursor: Cursor<'_>,
-) -> Result<(StatementNode, Cursor<'_>), Fault>
+) -> Result<(StatementNode, Cursor<'_>), ParseFault>
     ensures statement { Gives (λ x. (statement_of x.0, ahead x.1)) result (variable MAX_ENTRIES room (ahead cursor.entry)) }
     ensures deep { room < 1 → IfErr result (λ fault. fault ≡ faults.TooDeep first) }
 {
     if room < 1 {
-        return Err(Fault::TooDeep(first));
+        return Err(ParseFault::TooDeep(first));
     }
     var_spec(alloc, room, cursor)
 }
@@ -229,7 +230,7 @@ pub(crate) fn leaf<'a>(
     kind: TokenKind,
     rest: Cursor<'a>,
     cursor: Cursor<'a>,
-) -> Result<(StatementNode, Cursor<'a>), Fault>
+) -> Result<(StatementNode, Cursor<'a>), ParseFault>
     requires { ahead cursor ≡ Mark kind ∷ ahead rest }
     ensures { Gives (λ x. (statement_of x.0, ahead x.1)) result (leaf MAX_ENTRIES room kind (ahead rest.entry)) }
 {

@@ -1,7 +1,7 @@
 //! Statements.
 
 ghost use Rattle.std.specs.Prelude.{◌≡◌, ◌∷◌, IfOk, IfErr, map, option_map, length};
-ghost use Rattle.go_text.specs.declared.fault.Fault.TheVariants as faults;
+ghost use Rattle.parser_base.specs.declared.fault.ParseFault.TheVariants as faults;
 ghost use Rattle.syntax.specs.Tree.{If, ElseIf, Select};
 ghost use Rattle.syntax.specs.Measures.{SelectClauses};
 ghost use Rattle.syntax.specs.View.{comm_of, statement_of, body_of, clauses};
@@ -13,9 +13,10 @@ ghost use Rattle.parser_statement.specs.Reading.{statement_next, clause_next, ne
 ghost use Rattle.parser_statement.specs.Views.{branch_of, otherwise_of, clause_of};
 
 use crate::leaf::{ends_statement, leaf, simple_statement};
-use go_text::{Fault, LimitKind, Place};
+use go_text::Span;
 use parser_base::beside::beside;
 use parser_base::cursor::{Cursor, Word};
+use parser_base::fault::ParseFault;
 use parser_base::list::{List, Next};
 use parser_header::comm::comm_statement;
 use parser_header::header::{for_header, if_header};
@@ -29,19 +30,19 @@ use syntax::{ClauseNode, CommNode, ElseNode, IfNode, StatementNode};
 
 /// What follows a statement of a block.
 #[tactic(auto, unfolding(crate::specs::Reading::statement_next))]
-pub fn statement_next(cursor: Cursor<'_>) -> Result<(Next, Cursor<'_>), Fault>
+pub fn statement_next(cursor: Cursor<'_>) -> Result<(Next, Cursor<'_>), ParseFault>
     ensures { Gives (λ x. (x.0, ahead x.1)) result (statement_next (ahead cursor.entry)) }
 {
     match cursor.next() {
         Some((Word::Mark(TokenKind::Semicolon), rest)) => Ok((Next::More, rest)),
         Some((Word::Mark(TokenKind::RightBrace), rest)) => Ok((Next::End(false), rest)),
-        _ => Err(Fault::Syntax(cursor.place())),
+        _ => Err(ParseFault::Syntax(cursor.place())),
     }
 }
 
 /// What follows a statement of a clause.
 #[tactic(auto, unfolding(crate::specs::Reading::clause_next))]
-fn clause_next(cursor: Cursor<'_>) -> Result<(Next, Cursor<'_>), Fault>
+fn clause_next(cursor: Cursor<'_>) -> Result<(Next, Cursor<'_>), ParseFault>
     ensures { Gives (λ x. (x.0, ahead x.1)) result (clause_next (ahead cursor.entry)) }
 {
     if let Some((Word::Mark(TokenKind::Semicolon), rest)) = cursor.next() {
@@ -50,11 +51,11 @@ fn clause_next(cursor: Cursor<'_>) -> Result<(Next, Cursor<'_>), Fault>
     if ends_statement(cursor) {
         return Ok((Next::End(false), cursor));
     }
-    Err(Fault::Syntax(cursor.place()))
+    Err(ParseFault::Syntax(cursor.place()))
 }
 
 /// What follows a statement of a block or, where `clause` holds, of a clause.
-fn next_of(clause: bool, cursor: Cursor<'_>) -> Result<(Next, Cursor<'_>), Fault>
+fn next_of(clause: bool, cursor: Cursor<'_>) -> Result<(Next, Cursor<'_>), ParseFault>
     ensures { Gives (λ x. (x.0, ahead x.1)) result (next_of clause (ahead cursor.entry)) }
 {
     if clause {
@@ -66,7 +67,7 @@ fn next_of(clause: bool, cursor: Cursor<'_>) -> Result<(Next, Cursor<'_>), Fault
 
 /// What follows a clause.
 #[tactic(auto, unfolding(crate::specs::Reading::clauses_next))]
-fn clauses_next(cursor: Cursor<'_>) -> Result<(Next, Cursor<'_>), Fault>
+fn clauses_next(cursor: Cursor<'_>) -> Result<(Next, Cursor<'_>), ParseFault>
     ensures { Gives (λ x. (x.0, ahead x.1)) result (clauses_next (ahead cursor.entry)) }
 {
     if begins_with(TokenKind::RightBrace, cursor) {
@@ -79,7 +80,7 @@ fn clauses_next(cursor: Cursor<'_>) -> Result<(Next, Cursor<'_>), Fault>
 // ---- nodes
 
 /// An `if`, as a statement.
-fn if_node(alloc: Global, branch: IfNode) -> Result<StatementNode, Fault>
+fn if_node(alloc: Global, branch: IfNode) -> Result<StatementNode, ParseFault>
     ensures ok { IfOk result (λ node. statement_of node ≡ If (branch_of branch)) }
     ensures err { IfErr result (λ e. e ≡ faults.Memory) }
 {
@@ -87,7 +88,7 @@ fn if_node(alloc: Global, branch: IfNode) -> Result<StatementNode, Fault>
 }
 
 /// An `if` behind an `else`.
-fn else_node(alloc: Global, branch: IfNode) -> Result<ElseNode, Fault>
+fn else_node(alloc: Global, branch: IfNode) -> Result<ElseNode, ParseFault>
     ensures ok { IfOk result (λ node. otherwise_of node ≡ ElseIf (branch_of branch)) }
     ensures err { IfErr result (λ e. e ≡ faults.Memory) }
 {
@@ -118,7 +119,7 @@ fn statements_to_end(
     room: u32,
     clause: bool,
     cursor: Cursor<'_>,
-) -> Result<List<'_, StatementNode>, Fault>
+) -> Result<List<'_, StatementNode>, ParseFault>
     ensures { Gives (λ x. ((map statement_of x.entries.items, x.trailing), ahead x.rest)) result (listed (statement MAX_ENTRIES room) (next_of clause) Syntax (length (ahead cursor.entry)) (ahead cursor.entry)) }
 {
     let mut entries = Vec::new(alloc);
@@ -136,7 +137,7 @@ fn statements_to_end(
             }),
         }
     }
-    Err(Fault::Syntax(rest.place()))
+    Err(ParseFault::Syntax(rest.place()))
 }
 
 /// The statements of a block, each of at most so many levels, behind its first brace.
@@ -145,7 +146,7 @@ pub fn statement_list(
     alloc: Global,
     room: u32,
     cursor: Cursor<'_>,
-) -> Result<List<'_, StatementNode>, Fault>
+) -> Result<List<'_, StatementNode>, ParseFault>
     ensures { Gives (λ x. ((map statement_of x.entries.items, x.trailing), ahead x.rest)) result (listed (statement MAX_ENTRIES room) statement_next Syntax (length (ahead cursor.entry)) (ahead cursor.entry)) }
 {
     statements_to_end(alloc, room, false, cursor)
@@ -158,11 +159,11 @@ fn block(
     alloc: Global,
     room: u32,
     cursor: Cursor<'_>,
-) -> Result<(Vec<StatementNode>, Cursor<'_>), Fault>
+) -> Result<(Vec<StatementNode>, Cursor<'_>), ParseFault>
     ensures { Gives (λ x. (body_of x.0.items, ahead x.1)) result (block MAX_ENTRIES room (ahead cursor.entry)) }
 {
     if room == 0 {
-        return Err(Fault::TooDeep(cursor.place()));
+        return Err(ParseFault::TooDeep(cursor.place()));
     }
     let rest = cursor.expect(TokenKind::LeftBrace)?;
     let all = statement_list(alloc, room - 1, rest)?;
@@ -178,13 +179,13 @@ fn else_branch(
     alloc: Global,
     room: u32,
     cursor: Cursor<'_>,
-) -> Result<(ElseNode, Cursor<'_>), Fault>
+) -> Result<(ElseNode, Cursor<'_>), ParseFault>
     ensures { Gives (λ x. (otherwise_of x.0, ahead x.1)) result (other (block MAX_ENTRIES room) (branch MAX_ENTRIES room) (ahead cursor.entry)) }
 {
     if begins_with(TokenKind::If, cursor) {
         let rest = cursor.expect(TokenKind::If)?;
         if room == 0 {
-            return Err(Fault::TooDeep(cursor.place()));
+            return Err(ParseFault::TooDeep(cursor.place()));
         }
         let (branch, rest) = if_statement(alloc, room - 1, cursor.place(), rest)?;
         return Ok((else_node(alloc, branch)?, rest));
@@ -200,7 +201,7 @@ fn optional_else(
     alloc: Global,
     room: u32,
     cursor: Cursor<'_>,
-) -> Result<(ElseNode, Cursor<'_>), Fault>
+) -> Result<(ElseNode, Cursor<'_>), ParseFault>
     ensures { Gives (λ x. (otherwise_of x.0, ahead x.1)) result (otherwise (block MAX_ENTRIES room) (branch MAX_ENTRIES room) (ahead cursor.entry)) }
 {
     if !begins_with(TokenKind::Else, cursor) {
@@ -217,13 +218,13 @@ fn optional_else(
 fn if_statement(
     alloc: Global,
     room: u32,
-    first: Place,
+    first: Span,
     cursor: Cursor<'_>,
-) -> Result<(IfNode, Cursor<'_>), Fault>
+) -> Result<(IfNode, Cursor<'_>), ParseFault>
     ensures { Gives (λ x. (branch_of x.0, ahead x.1)) result (branched MAX_ENTRIES room (block MAX_ENTRIES room) (branch MAX_ENTRIES room) (ahead cursor.entry)) }
 {
     if room < 2 {
-        return Err(Fault::TooDeep(first));
+        return Err(ParseFault::TooDeep(first));
     }
     let (head, rest) = if_header(alloc, room, cursor)?;
     let (head, (body, rest)) = beside(head, block(alloc, room, rest))?;
@@ -245,13 +246,13 @@ fn if_statement(
 fn for_statement(
     alloc: Global,
     room: u32,
-    first: Place,
+    first: Span,
     cursor: Cursor<'_>,
-) -> Result<(StatementNode, Cursor<'_>), Fault>
+) -> Result<(StatementNode, Cursor<'_>), ParseFault>
     ensures { Gives (λ x. (statement_of x.0, ahead x.1)) result (repeated MAX_ENTRIES room (block MAX_ENTRIES room) (ahead cursor.entry)) }
 {
     if room < 2 {
-        return Err(Fault::TooDeep(first));
+        return Err(ParseFault::TooDeep(first));
     }
     let (header, rest) = for_header(alloc, room, cursor)?;
     let (header, (body, rest)) = beside(header, block(alloc, room, rest))?;
@@ -262,11 +263,15 @@ fn for_statement(
 
 /// What a clause waits for, of at most so many levels.
 #[tactic(auto, unfolding(crate::specs::Reading::waited))]
-fn comm_case(alloc: Global, room: u32, cursor: Cursor<'_>) -> Result<(CommNode, Cursor<'_>), Fault>
+fn comm_case(
+    alloc: Global,
+    room: u32,
+    cursor: Cursor<'_>,
+) -> Result<(CommNode, Cursor<'_>), ParseFault>
     ensures { Gives (λ x. (comm_of x.0, ahead x.1)) result (waited MAX_ENTRIES room (ahead cursor.entry)) }
 {
     if room == 0 {
-        return Err(Fault::TooDeep(cursor.place()));
+        return Err(ParseFault::TooDeep(cursor.place()));
     }
     comm_statement(alloc, room - 1, cursor)
 }
@@ -279,7 +284,7 @@ fn clause_body(
     room: u32,
     waits: Option<CommNode>,
     cursor: Cursor<'_>,
-) -> Result<(ClauseNode, Cursor<'_>), Fault>
+) -> Result<(ClauseNode, Cursor<'_>), ParseFault>
     ensures { Gives (λ x. (clause_of x.0, ahead x.1)) result (clause_body (statement MAX_ENTRIES room) (option_map comm_of waits) (ahead cursor.entry)) }
 {
     let (waits, rest) = beside(waits, cursor.expect(TokenKind::Colon))?;
@@ -294,37 +299,37 @@ fn comm_clause_below(
     alloc: Global,
     room: u32,
     cursor: Cursor<'_>,
-) -> Result<(ClauseNode, Cursor<'_>), Fault>
+) -> Result<(ClauseNode, Cursor<'_>), ParseFault>
     ensures { Gives (λ x. (clause_of x.0, ahead x.1)) result (one_clause MAX_ENTRIES room (statement MAX_ENTRIES room) (ahead cursor.entry)) }
 {
     match cursor.next() {
         Some((Word::Mark(TokenKind::Case), rest)) => {
             if room < 2 {
-                return Err(Fault::TooDeep(cursor.place()));
+                return Err(ParseFault::TooDeep(cursor.place()));
             }
             let (waits, rest) = comm_case(alloc, room, rest)?;
             clause_body(alloc, room, Some(waits), rest)
         }
         Some((Word::Mark(TokenKind::Default), rest)) => {
             if room < 1 {
-                return Err(Fault::TooDeep(cursor.place()));
+                return Err(ParseFault::TooDeep(cursor.place()));
             }
             clause_body(alloc, room, None, rest)
         }
-        _ => Err(Fault::Syntax(cursor.place())),
+        _ => Err(ParseFault::Syntax(cursor.place())),
     }
 }
 
 /// What is wrong with a clause for which there is no room.
 #[tactic(auto, unfolding(crate::specs::Reading::no_clause))]
-fn no_clause(cursor: Cursor<'_>) -> Fault
+fn no_clause(cursor: Cursor<'_>) -> ParseFault
     ensures { Fails result (no_clause (ahead cursor.entry)) }
 {
     match cursor.next() {
         Some((Word::Mark(TokenKind::Case | TokenKind::Default), _)) => {
-            Fault::TooDeep(cursor.place())
+            ParseFault::TooDeep(cursor.place())
         }
-        _ => Fault::Syntax(cursor.place()),
+        _ => ParseFault::Syntax(cursor.place()),
     }
 }
 
@@ -335,7 +340,7 @@ fn comm_clause(
     alloc: Global,
     room: u32,
     cursor: Cursor<'_>,
-) -> Result<(ClauseNode, Cursor<'_>), Fault>
+) -> Result<(ClauseNode, Cursor<'_>), ParseFault>
     ensures { Gives (λ x. (clause_of x.0, ahead x.1)) result (clause MAX_ENTRIES room (ahead cursor.entry)) }
 {
     if room == 0 {
@@ -346,7 +351,11 @@ fn comm_clause(
 
 /// The clauses of a `select`, each of at most so many levels.
 #[cycle(statement)]
-fn comm_clauses(alloc: Global, room: u32, cursor: Cursor<'_>) -> Result<List<'_, ClauseNode>, Fault>
+fn comm_clauses(
+    alloc: Global,
+    room: u32,
+    cursor: Cursor<'_>,
+) -> Result<List<'_, ClauseNode>, ParseFault>
     ensures { Gives (λ x. ((map clause_of x.entries.items, x.trailing), ahead x.rest)) result (listed (clause MAX_ENTRIES room) clauses_next (TooMany SelectClauses) MAX_CLAUSES (ahead cursor.entry)) }
 {
     let mut entries = Vec::new(alloc);
@@ -364,11 +373,7 @@ fn comm_clauses(alloc: Global, room: u32, cursor: Cursor<'_>) -> Result<List<'_,
             }),
         }
     }
-    Err(Fault::Limit {
-        kind: LimitKind::SelectClauses,
-        node: None,
-        place: rest.place(),
-    })
+    Err(ParseFault::TooManyClauses(rest.place()))
 }
 
 /// What stands behind a `select` ("Select statements" of the Go specification), below which there are at most so many
@@ -379,7 +384,7 @@ fn select_statement(
     alloc: Global,
     room: u32,
     cursor: Cursor<'_>,
-) -> Result<(StatementNode, Cursor<'_>), Fault>
+) -> Result<(StatementNode, Cursor<'_>), ParseFault>
     ensures { Gives (λ x. (statement_of x.0, ahead x.1)) result (as_one Select (selected MAX_CLAUSES (clause MAX_ENTRIES room) (ahead cursor.entry))) }
 {
     let inside = cursor.expect(TokenKind::LeftBrace)?;
@@ -401,14 +406,14 @@ fn keyword_statement<'a>(
     kind: TokenKind,
     rest: Cursor<'a>,
     cursor: Cursor<'a>,
-) -> Result<(StatementNode, Cursor<'a>), Fault>
+) -> Result<(StatementNode, Cursor<'a>), ParseFault>
     requires { ahead cursor ≡ Mark kind ∷ ahead rest }
     ensures { Gives (λ x. (statement_of x.0, ahead x.1)) result (marked MAX_ENTRIES room (block MAX_ENTRIES room) (branch MAX_ENTRIES room) (clause MAX_ENTRIES room) kind (ahead rest.entry)) }
 {
     match kind {
         TokenKind::LeftBrace => {
             if room < 2 {
-                return Err(Fault::TooDeep(cursor.place()));
+                return Err(ParseFault::TooDeep(cursor.place()));
             }
             let (body, rest) = block(alloc, room, cursor)?;
             Ok((StatementNode::Block(body), rest))
@@ -430,7 +435,7 @@ fn statement_below(
     alloc: Global,
     room: u32,
     cursor: Cursor<'_>,
-) -> Result<(StatementNode, Cursor<'_>), Fault>
+) -> Result<(StatementNode, Cursor<'_>), ParseFault>
     ensures { Gives (λ x. (statement_of x.0, ahead x.1)) result (stated MAX_ENTRIES room (block MAX_ENTRIES room) (branch MAX_ENTRIES room) (clause MAX_ENTRIES room) (ahead cursor.entry)) }
 {
     match cursor.next() {
@@ -446,11 +451,11 @@ pub fn statement(
     alloc: Global,
     room: u32,
     cursor: Cursor<'_>,
-) -> Result<(StatementNode, Cursor<'_>), Fault>
+) -> Result<(StatementNode, Cursor<'_>), ParseFault>
     ensures { Gives (λ x. (statement_of x.0, ahead x.1)) result (statement MAX_ENTRIES room (ahead cursor.entry)) }
 {
     if room == 0 {
-        return Err(Fault::TooDeep(cursor.place()));
+        return Err(ParseFault::TooDeep(cursor.place()));
     }
     statement_below(alloc, room - 1, cursor)
 }
