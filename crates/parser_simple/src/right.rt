@@ -359,7 +359,7 @@ pub fn right_side(
     if begins_operation(cursor) {
         let found = operation(alloc, literals, room - 1, cursor)?;
         return Ok(Found {
-            node: RightNode::Operation(found.node),
+            node: RightNode::Operation(Box::new(alloc, found.node)?),
             rest: found.rest,
         });
     }

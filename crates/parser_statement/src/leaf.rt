@@ -105,7 +105,8 @@ fn return_value(
     }
     if begins_operation(cursor) {
         let found = operation(alloc, true, room - 1, cursor)?;
-        return Ok((ReturnNode::Operation(found.node), found.rest));
+        let operation = Box::new(alloc, found.node)?;
+        return Ok((ReturnNode::Operation(operation), found.rest));
     }
     let found = expression(alloc, true, room, 0, cursor)?;
     Ok((ReturnNode::Value(found.node), found.rest))

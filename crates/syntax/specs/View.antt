@@ -81,7 +81,7 @@ operation_of (operations.Length channel) = Length (expression_of channel)
 operation_of (operations.Capacity channel) = Capacity (expression_of channel)
 
 abbrev pub right_of : RightNode → Right
-right_of (rights.Operation operation) = RightOperation (operation_of operation)
+right_of (rights.Operation operation) = RightOperation (operation_of operation.value)
 right_of (rights.Values values) = Values (map expression_of values.items)
 
 abbrev pub place_of : PlaceNode → Place
@@ -129,7 +129,7 @@ comm_of (comms.Assign item ok channel) = CommAssign (place_of item) (option_map 
 
 abbrev pub returned_of : ReturnNode → Returned
 returned_of returns.Nothing = NoValue
-returned_of (returns.Operation operation) = ReturnedOperation (operation_of operation)
+returned_of (returns.Operation operation) = ReturnedOperation (operation_of operation.value)
 returned_of (returns.Value value) = ReturnedValue (expression_of value)
 
 -- a clause of a select, of which the others are still to come

@@ -200,7 +200,7 @@ impl Drop for OperationNode {
 
 /// The right side of an assignment.
 pub enum RightNode {
-    Operation(OperationNode),
+    Operation(Box<OperationNode>),
     Values(Vec<ExpressionNode>),
 }
 
@@ -379,7 +379,7 @@ impl Drop for CommNode {
 /// What follows a `return`.
 pub enum ReturnNode {
     Nothing,
-    Operation(OperationNode),
+    Operation(Box<OperationNode>),
     Value(ExpressionNode),
 }
 
