@@ -2,5 +2,4 @@ pub mod Options
 pub mod Fitted
 pub mod Instrs
 pub mod Unstuck
-pub mod Listings
 pub mod Silent

@@ -2,5 +2,4 @@ pub mod Code
 pub mod Effects
 pub mod Machine
 pub mod Rules
-pub mod Listing
 pub mod Silence

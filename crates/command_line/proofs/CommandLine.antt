@@ -1,14 +1,16 @@
--- What the getters of a command's values read.
-use Rattle.std.proofs.Common.{Bool, false, ◌≡◌, ℕ, ◌<◌, ◌^◌, List, Option, Some, None, Result, Ok, Err, refl, sym, ap, ap₂, subst, ◌∙◌}
-use Rattle.std.specs.Prelude.{◌↔◌, IfOk, IsTrue, option_map, codes}
+-- What the getters of a command's values read, and what the loops over the commands and their arguments keep.
+use Rattle.std.proofs.Common.{Bool, false, ◌≡◌, ℕ, ◌<◌, ◌≤◌, ◌+◌, ◌^◌, List, drop, length, slice_index_or, Option, Some, None, Result, Ok, Err, refl, sym, ap, ap₂, subst, ◌∙◌}
+use Rattle.std.specs.Prelude.{◌↔◌, IsTrue, option_map, codes}
 use Rattle.std.specs.Str.Parse.{ParsesUnsigned}
 use Rattle.std.proofs.lemmas.Bool.{false≢true}
+use Rattle.std.proofs.lemmas.List.{at_drop_all, at_drop_more}
 use Rattle.std.proofs.lemmas.Option.{none-some}
 use Rattle.std.specs.Bool.{Decides}
-use Rattle.clap.specs.Words.{App, ReadsOne, Row, Rule, Text, app_of, first_of, with_rule, with_subcommand}
-use Rattle.clap.specs.declared.builder.command.Command.{Command}
+use Rattle.clap.specs.Words.{App, ReadsOne, Row, Rule, Text, first_of, with_rule, with_subcommand}
+use Rattle.command_line.specs.declared.arguments.Argument.{Argument}
 use Rattle.command_line.specs.declared.arguments.Invocation.{Invocation}
-use Rattle.command_line.specs.CommandLine.{Does, IsAsked, IsExtended, IsLocal, IsNumberThere, IsTaking}
+use Rattle.command_line.specs.declared.arguments.TextCommand.{TextCommand}
+use Rattle.command_line.specs.CommandLine.{Does, IsAsked, IsNumberThere, app_for, rule_for, with_commands, with_rules}
 
 -- what reads a text as an unsigned number of 64 bits reads the number that it is
 pub number_read : {E : Type 0} (gives : List ℕ → Result ℕ E → Type 0) (text same : Option (List ℕ)) → text ≡ same → (result : Option ℕ) → (text ≡ None → result ≡ None)
@@ -57,23 +59,23 @@ flag_there set value wanted found is tests = ((λ yes. sym is ∙ ap Some (tests
 pub flag_missing : (wanted : List ℕ) (found : Option (List ℕ)) → None ≡ found → IsTrue false ↔ (found ≡ Some wanted)
 flag_missing wanted found is = ((λ yes. absurd (false≢true yes)), (λ same. absurd (none-some wanted (is ∙ same))))
 
--- what takes this argument too, behind what took this before
-pub taken : {E : Type 0} (base : App) (rule : Rule) {more : Rule} (before after : Result Command E) → more ≡ rule → IfOk before (λ c. app_of c ≡ base)
-    → IfOk after (IsTaking before more) → IfOk after (λ c. app_of c ≡ with_rule base rule)
-taken base rule (Ok command) (Ok made) more same takes = takes.0 ∙ ap₂ with_rule same more
-taken base rule (Err e) (Ok made) more same takes = absurd takes
-taken base rule before (Err e) more same takes = tt
+-- one argument more is taken, and those behind it are left
+pub one_taken : (before after all : App) (arguments : List Argument) (i : ℕ) (other : Argument) (rule : Rule) → i < length arguments
+    → rule ≡ rule_for (slice_index_or arguments i other) → after ≡ with_rule before rule → with_rules before (drop i arguments) ≡ all
+    → with_rules after (drop (i + 1) arguments) ≡ all
+one_taken before after all arguments i other rule is_there same takes left =
+    ap (λ a. with_rules a (drop (i + 1) arguments)) (takes ∙ ap (with_rule before) same) ∙ sym (at_drop_more (with_rules before) arguments i other is_there) ∙ left
 
--- and no argument of it is taken by its subcommands
-pub taken_locally : {E : Type 0} (more : Rule) (before after : Result Command E) → IfOk before IsLocal → IfOk after (IsTaking before more) → IfOk after IsLocal
-taken_locally more (Ok command) (Ok made) local takes = takes.1 local
-taken_locally more (Err e) (Ok made) local takes = absurd takes
-taken_locally more before (Err e) local takes = tt
+-- all are taken
+pub all_taken : (made all : App) (arguments : List Argument) (i : ℕ) → length arguments ≤ i → with_rules made (drop i arguments) ≡ all → made ≡ all
+all_taken made all arguments i is_end left = sym (at_drop_all (with_rules made) arguments i is_end) ∙ left
 
--- what takes this subcommand too, behind what took this before
-pub extended_by : {E : Type 0} (base sub : App) (before made after : Result Command E) → IfOk before (λ c. app_of c ≡ base) → IfOk made (λ c. app_of c ≡ sub)
-    → IfOk made IsLocal → IfOk after (IsExtended before made) → IfOk after (λ c. app_of c ≡ with_subcommand base sub.top)
-extended_by base sub (Ok command) (Ok c) (Ok made) first same local extends = extends local ∙ ap₂ with_subcommand first (ap (λ (a : App). a.top) same)
-extended_by base sub (Err e) (Ok c) (Ok made) first same local extends = absurd extends
-extended_by base sub before (Err e) (Ok made) first same local extends = absurd extends
-extended_by base sub before made (Err e) first same local extends = tt
+-- one subcommand more is there, and those behind it are left
+pub one_there : (before after all : App) (list : List TextCommand) (i : ℕ) (other : TextCommand) → i < length list
+    → after ≡ with_subcommand before (app_for (slice_index_or list i other)).top → with_commands before (drop i list) ≡ all → with_commands after (drop (i + 1) list) ≡ all
+one_there before after all list i other is_there extends left =
+    ap (λ a. with_commands a (drop (i + 1) list)) extends ∙ sym (at_drop_more (with_commands before) list i other is_there) ∙ left
+
+-- all are there
+pub all_there : (made all : App) (list : List TextCommand) (i : ℕ) → length list ≤ i → with_commands made (drop i list) ≡ all → made ≡ all
+all_there made all list i is_end left = sym (at_drop_all (with_commands made) list i is_end) ∙ left

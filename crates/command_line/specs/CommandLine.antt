@@ -1,11 +1,15 @@
 -- The command line: the commands that are taken, and what the words of one ask for.
-use Rattle.std.specs.Prelude.{◌≡◌, ◌↔◌, IsTrue, ℕ, ◌<◌, ◌-◌, ◌^◌, List, [], ◌∷◌, Option, Some, None, Result, Ok, Err, option_map, false, true, codes}
+use Rattle.std.specs.Prelude.{◌≡◌, ◌↔◌, IsTrue, ℕ, ◌<◌, ◌-◌, ◌^◌, List, [], ◌∷◌, Option, Some, None, option_map, false, true, codes}
 use Rattle.std.specs.Str.Parse.{IsNumeral, digits_value, without_leading_plus}
-use Rattle.clap.specs.Words.{App, Row, Rule, Text, app_of, first_of, new_app, new_rule, one_of, with_rule, with_subcommand}
+use Rattle.clap.specs.Words.{App, Row, Rule, Text, first_of, new_app, new_rule, one_of, rule_of, with_rule, with_subcommand}
 use Rattle.clap.specs.declared.builder.action.ArgAction.TheVariants.{Set, SetTrue}
+use Rattle.clap.specs.declared.builder.arg.Arg.{Arg}
 use Rattle.clap.specs.declared.builder.command.Command.{Command}
 use Rattle.clap.specs.declared.builder.command.Command.TheViews.{out-Command}
 use Rattle.clap.specs.declared.builder.value_parser.ValueParser.TheVariants.{Unsigned}
+use Rattle.command_line.specs.declared.arguments.Argument.{Argument}
+use Rattle.command_line.specs.declared.arguments.Argument.TheVariants as arguments
+use Rattle.command_line.specs.declared.arguments.TextCommand.{TextCommand}
 use Rattle.command_line.specs.declared.arguments.Subcommand.{Subcommand}
 use Rattle.command_line.specs.declared.arguments.Subcommand.TheVariants as subcommands
 use Rattle.command_line.specs.declared.arguments.Invocation.{Invocation}
@@ -86,16 +90,36 @@ kendo = with_subcommand (with_subcommand first_commands timeline.top) run.top
 abbrev pub IsLocal : Command → Type 0
 IsLocal c = (out-Command c).has_globals ≡ false
 
--- the command takes what this one takes, and this argument too
-abbrev pub IsTaking : {E : Type 0} → Result Command E → Rule → Command → Type 0
-IsTaking (Ok before) rule command = (app_of command ≡ with_rule (app_of before) rule) × (IsLocal before → IsLocal command)
-IsTaking (Err e) rule command = ⊥
+-- words are read with the argument by this rule, and no subcommand of its command takes it too
+abbrev pub IsRead : Arg → Rule → Type 0
+IsRead argument rule = (rule_of argument ≡ rule) × (argument.global ≡ false)
 
--- the command takes what this one takes, and this subcommand too
-abbrev pub IsExtended : {E : Type 0} → Result Command E → Result Command E → Command → Type 0
-IsExtended (Ok before) (Ok subcommand) command = IsLocal subcommand → app_of command ≡ with_subcommand (app_of before) (app_of subcommand).top
-IsExtended before (Err e) command = ⊥
-IsExtended (Err e) (Ok subcommand) command = ⊥
+-- an option of this name
+abbrev pub option : (name : Text) → Rule
+option name = record (new_rule name) { long = Some name }
+
+-- the rule of each argument
+abbrev pub rule_for : Argument → Rule
+rule_for arguments.File = file
+rule_for arguments.Workers = workers
+rule_for arguments.Limit = limit
+rule_for arguments.Trace = trace
+rule_for arguments.Out = out
+rule_for arguments.Explain = explain
+
+-- a command that takes these arguments too, one behind the other
+abbrev pub with_rules : App → List Argument → App
+with_rules command [] = command
+with_rules command (argument ∷ rest) = with_rules (with_rule command (rule_for argument)) rest
+
+-- a command of the list
+abbrev pub app_for : TextCommand → App
+app_for listed = with_rules (new_app listed.name.now) listed.arguments.now
+
+-- a command with these subcommands too, one behind the other
+abbrev pub with_commands : App → List TextCommand → App
+with_commands command [] = command
+with_commands command (listed ∷ rest) = with_commands (with_subcommand command (app_for listed).top) rest
 
 -- ---- what the words ask for
 

@@ -1,8 +1,8 @@
 //! The command line.
 
-ghost use Rattle.std.specs.Prelude.{◌≡◌, ◌↔◌, false, codes, IfOk, IsTrue, Some};
-ghost use Rattle.clap.specs.Words.{app_of, first_of, found_of, new_app, one_of, rows_of, rule_of, subcommand_rows_of, with_rule};
-ghost use Rattle.command_line.specs.CommandLine.{IsAsked, IsDone, IsExtended, IsLocal, IsNumberThere, IsTaking, check, explain, file, first_commands, kendo, limit, list, named, number, out, plain_run, reference, run, timeline, trace, workers};
+ghost use Rattle.std.specs.Prelude.{◌≡◌, ◌↔◌, codes, IfOk, IsTrue, Some};
+ghost use Rattle.clap.specs.Words.{app_of, first_of, found_of, one_of, rows_of, subcommand_rows_of, with_subcommand};
+ghost use Rattle.command_line.specs.CommandLine.{IsAsked, IsDone, IsLocal, IsNumberThere, IsRead, app_for, file, kendo, named, number, option, rule_for};
 
 use clap::{Arg, ArgAction, ArgMatches, Command, value_parser};
 use std::alloc::{AllocError, Global};
@@ -66,15 +66,84 @@ pub enum Subcommand {
     },
 }
 
+/// An argument of a command.
+#[derive(Clone, Copy)]
+enum Argument {
+    /// The text's file.
+    File,
+    /// How many workers there are.
+    Workers,
+    /// The last logical time.
+    Limit,
+    /// The file that the trace of a run goes to.
+    Trace,
+    /// The file that a picture of a run goes to.
+    Out,
+    /// Whether it is told in a sentence what is wrong.
+    Explain,
+}
+
+/// A command that is done with a text.
+#[derive(Clone, Copy)]
+struct TextCommand {
+    /// Its name.
+    name: &'static str,
+    /// What help says of it.
+    about: &'static str,
+    /// What it takes, in the order of its help.
+    arguments: &'static [Argument],
+}
+
+/// The commands, in the order of the help.
+const TEXT_COMMANDS: [TextCommand; 5] = [
+    TextCommand {
+        name: "check",
+        about: "Checks whether a text is a program",
+        arguments: &[Argument::File, Argument::Explain],
+    },
+    TextCommand {
+        name: "list",
+        about: "Lists the code of a program",
+        arguments: &[Argument::File],
+    },
+    TextCommand {
+        name: "reference",
+        about: "Interprets a program as it stands",
+        arguments: &[Argument::File, Argument::Limit, Argument::Explain],
+    },
+    TextCommand {
+        name: "timeline",
+        about: "Makes a picture of a run",
+        arguments: &[Argument::File, Argument::Limit, Argument::Out],
+    },
+    TextCommand {
+        name: "run",
+        about: "Runs a program",
+        arguments: &[
+            Argument::File,
+            Argument::Workers,
+            Argument::Limit,
+            Argument::Trace,
+            Argument::Explain,
+        ],
+    },
+];
+
 /// The argument that names the text's file.
 fn file_argument<'a>(alloc: Global) -> Arg<'a>
-    ensures rule { rule_of result ≡ file }
-    ensures local { result.global ≡ false }
+    ensures { IsRead result file }
 {
     Arg::new(alloc, "FILE")
         .help("The text of the program")
         .required(true)
         .action(ArgAction::Set)
+}
+
+/// An option of this name.
+fn option_argument<'a>(alloc: Global, name: &'a str, help: &'a str) -> Arg<'a>
+    ensures { IsRead result (option name.entry.now) }
+{
+    Arg::new(alloc, name).long(name).help(help)
 }
 
 /// An option with one number, and the number where it is left out.
@@ -85,183 +154,94 @@ fn number_argument<'a>(
     help: &'a str,
     default: &'a str,
 ) -> Arg<'a>
-    ensures rule { rule_of result ≡ number name.entry.now default.entry.now }
-    ensures local { result.global ≡ false }
+    ensures { IsRead result (number name.entry.now default.entry.now) }
 {
-    Arg::new(alloc, name)
-        .long(name)
+    option_argument(alloc, name, help)
         .value_name(value)
-        .help(help)
         .value_parser(value_parser!(u64))
         .default_value(default)
 }
 
-/// The option that tells how many workers there are.
-fn workers_argument<'a>(alloc: Global) -> Arg<'a>
-    ensures rule { rule_of result ≡ workers }
-    ensures local { result.global ≡ false }
+/// The argument as words are read with it.
+fn argument_of<'a>(alloc: Global, argument: Argument) -> Arg<'a>
+    ensures { IsRead result (rule_for argument) }
 {
-    number_argument(
-        alloc,
-        "workers",
-        "N",
-        "How many worker threads, 1 to 64",
-        "4",
-    )
-}
-
-/// The option that tells the last logical time.
-fn limit_argument<'a>(alloc: Global) -> Arg<'a>
-    ensures rule { rule_of result ≡ limit }
-    ensures local { result.global ≡ false }
-{
-    number_argument(
-        alloc,
-        "limit",
-        "L",
-        "The last logical time, 1 to 2^62",
-        "1099511627776",
-    )
-}
-
-/// The option that names the file which the trace of a run goes to.
-fn trace_argument<'a>(alloc: Global) -> Arg<'a>
-    ensures rule { rule_of result ≡ trace }
-    ensures local { result.global ≡ false }
-{
-    Arg::new(alloc, "trace")
-        .long("trace")
-        .value_name("TRACE")
-        .help("Writes each operation with its logical time to this file")
-}
-
-/// The option that names the file which a picture of a run goes to.
-fn out_argument<'a>(alloc: Global) -> Arg<'a>
-    ensures rule { rule_of result ≡ out }
-    ensures local { result.global ≡ false }
-{
-    Arg::new(alloc, "out").long("out").value_name("OUT").help(
-        "Writes the picture to this file, as JSON where it ends in .json, else as SVG",
-    )
-}
-
-/// The option that asks for a sentence on what is wrong.
-fn explain_argument<'a>(alloc: Global) -> Arg<'a>
-    ensures rule { rule_of result ≡ explain }
-    ensures local { result.global ≡ false }
-{
-    Arg::new(alloc, "explain")
-        .long("explain")
-        .help("Tells in a sentence what is wrong with the text, and shows the place")
-        .action(ArgAction::SetTrue)
-}
-
-/// A command that also takes this argument, where there was memory to make it.
-fn taking<'a>(
-    command: Result<Command<'a>, AllocError>,
-    argument: Arg<'a>,
-) -> Result<Command<'a>, AllocError>
-    requires { argument.global ≡ false }
-    ensures { IfOk result (IsTaking command.entry (rule_of argument.entry)) }
-{
-    match command {
-        Ok(command) => command.arg(argument),
-        Err(error) => Err(error),
+    match argument {
+        Argument::File => file_argument(alloc),
+        Argument::Workers => number_argument(
+            alloc,
+            "workers",
+            "N",
+            "How many worker threads, 1 to 64",
+            "4",
+        ),
+        Argument::Limit => number_argument(
+            alloc,
+            "limit",
+            "L",
+            "The last logical time, 1 to 2^62",
+            "1099511627776",
+        ),
+        Argument::Trace => option_argument(
+            alloc,
+            "trace",
+            "Writes each operation with its logical time to this file",
+        )
+        .value_name("TRACE"),
+        Argument::Out => option_argument(
+            alloc,
+            "out",
+            "Writes the picture to this file, as JSON where it ends in .json, else as SVG",
+        )
+        .value_name("OUT"),
+        Argument::Explain => option_argument(
+            alloc,
+            "explain",
+            "Tells in a sentence what is wrong with the text, and shows the place",
+        )
+        .action(ArgAction::SetTrue),
     }
 }
 
-/// A command of this name, which takes the text's file.
-fn text_command<'a>(alloc: Global, name: &'a str, about: &'a str) -> Result<Command<'a>, AllocError>
-    ensures app { IfOk result (λ c. app_of c ≡ with_rule (new_app name.entry.now) file) }
+/// A command that is done with a text, as words are read with it.
+fn text_command<'a>(alloc: Global, listed: &TextCommand) -> Result<Command<'a>, AllocError>
+    ensures app { IfOk result (λ c. app_of c ≡ app_for listed.now) }
     ensures local { IfOk result IsLocal }
 {
-    Command::new(alloc, name)
-        .about(about)
-        .arg(file_argument(alloc))
+    let mut command = Command::new(alloc, listed.name).about(listed.about);
+    for argument in listed.arguments {
+        command = command.arg(argument_of(alloc, *argument))?;
+    }
+    Ok(command)
 }
 
-/// The command that checks a text.
-fn check_command<'a>(alloc: Global) -> Result<Command<'a>, AllocError>
-    ensures app { IfOk result (λ c. app_of c ≡ check) }
-    ensures local { IfOk result IsLocal }
-{
-    let command = text_command(alloc, "check", "Checks whether a text is a program");
-    taking(command, explain_argument(alloc))
-}
-
-/// The command that lists a program's code.
-fn list_command<'a>(alloc: Global) -> Result<Command<'a>, AllocError>
-    ensures app { IfOk result (λ c. app_of c ≡ list) }
-    ensures local { IfOk result IsLocal }
-{
-    text_command(alloc, "list", "Lists the code of a program")
-}
-
-/// The command that interprets a program.
-fn reference_command<'a>(alloc: Global) -> Result<Command<'a>, AllocError>
-    ensures app { IfOk result (λ c. app_of c ≡ reference) }
-    ensures local { IfOk result IsLocal }
-{
-    let command = text_command(alloc, "reference", "Interprets a program as it stands");
-    let limited = taking(command, limit_argument(alloc));
-    taking(limited, explain_argument(alloc))
-}
-
-/// The command that makes a picture of a run.
-fn timeline_command<'a>(alloc: Global) -> Result<Command<'a>, AllocError>
-    ensures app { IfOk result (λ c. app_of c ≡ timeline) }
-    ensures local { IfOk result IsLocal }
-{
-    let command = text_command(alloc, "timeline", "Makes a picture of a run");
-    let limited = taking(command, limit_argument(alloc));
-    taking(limited, out_argument(alloc))
-}
-
-/// The command that runs a program.
-fn run_command<'a>(alloc: Global) -> Result<Command<'a>, AllocError>
-    ensures app { IfOk result (λ c. app_of c ≡ run) }
-    ensures local { IfOk result IsLocal }
-{
-    taking(plain_run_command(alloc), explain_argument(alloc))
-}
-
-/// The same without the option that all commands have which tell what is wrong with a text.
-fn plain_run_command<'a>(alloc: Global) -> Result<Command<'a>, AllocError>
-    ensures app { IfOk result (λ c. app_of c ≡ plain_run) }
-    ensures local { IfOk result IsLocal }
-{
-    let command = text_command(alloc, "run", "Runs a program");
-    let working = taking(command, workers_argument(alloc));
-    let limited = taking(working, limit_argument(alloc));
-    taking(limited, trace_argument(alloc))
-}
-
-/// A command that also takes this subcommand, where there was memory to make both.
+/// A command that also has this subcommand.
 fn extended<'a>(
-    command: Result<Command<'a>, AllocError>,
-    subcommand: Result<Command<'a>, AllocError>,
+    alloc: Global,
+    command: Command<'a>,
+    listed: &TextCommand,
 ) -> Result<Command<'a>, AllocError>
-    ensures { IfOk result (IsExtended command.entry subcommand.entry) }
+    ensures { IfOk result (λ c. app_of c ≡ with_subcommand (app_of command.entry) (app_for listed.now).top) }
 {
-    let command = command?;
-    command.subcommand(subcommand?)
+    match text_command(alloc, listed) {
+        Ok(subcommand) => command.subcommand(subcommand),
+        Err(error) => {
+            // A command that goes out of scope is proved to be dropped part by part.
+            drop(command);
+            Err(error)
+        }
+    }
 }
 
 /// The command that `main` reads its words with.
 pub fn command<'a>(alloc: Global) -> Result<Command<'a>, AllocError>
     ensures { IfOk result (λ c. app_of c ≡ kendo) }
 {
-    let commands = extended(first_commands(alloc), timeline_command(alloc));
-    extended(commands, run_command(alloc))
-}
-
-/// The same with the commands alone that make no run of the code.
-fn first_commands<'a>(alloc: Global) -> Result<Command<'a>, AllocError>
-    ensures { IfOk result (λ c. app_of c ≡ first_commands) }
-{
-    let checking = extended(Ok(named_command(alloc)), check_command(alloc));
-    let listing = extended(checking, list_command(alloc));
-    extended(listing, reference_command(alloc))
+    let mut command = named_command(alloc);
+    for listed in &TEXT_COMMANDS {
+        command = extended(alloc, command, listed)?;
+    }
+    Ok(command)
 }
 
 /// The same with no command, of which one has to be there.
@@ -296,18 +276,15 @@ fn is_set(matches: &ArgMatches<'_>, name: &str) -> bool
 fn subcommand_named(name: &str, matches: &ArgMatches<'_>) -> Option<Subcommand>
     ensures { IsDone name.now (rows_of (found_of matches.now)) result }
 {
+    let limit = option_number(matches, "limit");
     match name {
         "check" => Some(Subcommand::Check),
         "list" => Some(Subcommand::List),
-        "reference" => Some(Subcommand::Reference {
-            limit: option_number(matches, "limit")?,
-        }),
-        "timeline" => Some(Subcommand::Timeline {
-            limit: option_number(matches, "limit")?,
-        }),
+        "reference" => Some(Subcommand::Reference { limit: limit? }),
+        "timeline" => Some(Subcommand::Timeline { limit: limit? }),
         "run" => Some(Subcommand::Run {
             workers: option_number(matches, "workers")?,
-            limit: option_number(matches, "limit")?,
+            limit: limit?,
         }),
         _ => None,
     }
@@ -317,8 +294,12 @@ fn subcommand_named(name: &str, matches: &ArgMatches<'_>) -> Option<Subcommand>
 pub fn invocation_of<'a>(matches: &ArgMatches<'a>) -> Option<Invocation<'a>>
     ensures { IsAsked (subcommand_rows_of matches.now) result }
 {
-    let (name, matches) = matches.subcommand()?;
-    let subcommand = subcommand_named(name, matches)?;
+    let Some((name, matches)) = matches.subcommand() else {
+        return None;
+    };
+    let Some(subcommand) = subcommand_named(name, matches) else {
+        return None;
+    };
     let trace = matches.get_str("trace");
     let out = matches.get_str("out");
     let explains = is_set(matches, "explain");

@@ -2,12 +2,12 @@
 
 ghost use Rattle.std.specs.Prelude.{◌≡◌, ◌⊎◌, IfErr};
 ghost use Rattle.command_line.specs.declared.arguments.Subcommand.TheVariants as subcommands;
-ghost use Rattle.kendo.specs.Answers.{Finds};
+ghost use Rattle.kendo_shell.specs.Answers.{Finds};
 
-use crate::flush;
-use crate::tracing::Trace;
 use go_text::Fault;
-use kendo_base::timeline_bytes;
+use kendo_code::timeline_bytes;
+use kendo_shell::streams::flush;
+use kendo_shell::tracing::Trace;
 use std::alloc::Global;
 use timeline::{Format, Recording};
 use word::end::End;

@@ -5,12 +5,12 @@ use Rattle.bytecode.specs.Code.{Code}
 use Rattle.bytecode.specs.Machine.{code_kind}
 use Rattle.go_text.specs.declared.fault.Fault.{Fault}
 use Rattle.go_text.specs.declared.fault.Fault.TheVariants as faults
-use Rattle.one_thread.specs.Worlds.{IsLimit}
+use Rattle.whole_run.specs.Runs.{IsLimit, IsWorkers}
 use Rattle.output.specs.declared.piece.Kind.{Kind}
 use Rattle.word.specs.declared.end.End.{End as Ending}
 use Rattle.word.specs.Kinds.{GoroutineKind}
 use Rattle.word.specs.Worlds.{Equal}
-use Rattle.worker_pool_base.specs.Runs.{Begins, IsAll, IsWorkers, bytes_of}
+use Rattle.worker_pool_base.specs.Runs.{Begins, IsAll, bytes_of}
 
 appends_none : (old : Option (List ℕ)) → Appends old old []
 appends_none None = tt

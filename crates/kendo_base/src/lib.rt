@@ -1,12 +1,10 @@
-//! From bytes to what needs code: a run of a text, its listing and its recording.
+//! From bytes to bytes: a run of a text.
 #![tactic(auto)]
 
-mod listing;
-mod pictures;
+mod command;
 pub mod run;
 mod running;
 
-pub use listing::list_bytes;
-pub use pictures::timeline_bytes;
+pub use command::run_text;
 pub use run::run_bytes;
 pub use worker_pool::{Gate, TraceWriter};

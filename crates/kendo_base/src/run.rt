@@ -3,10 +3,9 @@
 ghost use Rattle.std.specs.Prelude.{◌≡◌, ◌≤◌, ◌⊎◌, ◌↔◌, IfErr, IfOk, IsErrOf, true};
 ghost use Rattle.meaning.specs.Source.{source_kind};
 ghost use Rattle.kendo_reading.specs.Reading.{HasNoReading, IsRefusal, IsWhy, Reads};
-ghost use Rattle.one_thread.specs.Worlds.{BeginsOutput, IsLimit, IsWhole};
+ghost use Rattle.whole_run.specs.Runs.{BeginsOutput, IsLimit, IsWhole, IsWorkers};
 ghost use Rattle.syntax.specs.Tree.{File};
 ghost use Rattle.tracer.specs.Trace.{BeginsTrace, IsWholeTrace};
-ghost use Rattle.worker_pool_base.specs.Runs.{IsWorkers};
 
 use crate::running::run_typed;
 use go_text::Fault;

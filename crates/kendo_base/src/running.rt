@@ -5,10 +5,9 @@ ghost use Rattle.bytecode.specs.Machine.{code_kind};
 ghost use Rattle.checker.specs.Trees.{tree_in};
 ghost use Rattle.codegen_base.specs.Grammar.{IsGrammatical, IsLimited};
 ghost use Rattle.meaning.specs.Source.{source_kind};
-ghost use Rattle.one_thread.specs.Worlds.{BeginsOutput, IsLimit, IsWhole};
+ghost use Rattle.whole_run.specs.Runs.{BeginsOutput, IsLimit, IsWhole, IsWorkers};
 ghost use Rattle.syntax.specs.Spans.{tree_of};
 ghost use Rattle.tracer.specs.Trace.{BeginsTrace, IsWholeTrace};
-ghost use Rattle.worker_pool_base.specs.Runs.{IsWorkers};
 
 use checker::Typed;
 use codegen::compile;

@@ -15,7 +15,7 @@ use Rattle.meaning.specs.Source.{source_kind}
 use Rattle.parser.proofs.FileLaws.{one_file}
 use Rattle.parser_base.specs.Lexemes.{lexemes}
 use Rattle.syntax.specs.Tree.{File}
-use Rattle.one_thread.specs.Worlds.{IsWhole}
+use Rattle.whole_run.specs.Runs.{IsWhole}
 use Rattle.kendo_front.specs.Agreement.{Agree}
 use Rattle.kendo_reading.specs.Reading.{Reads}
 use Rattle.kendo_reading.proofs.Refusals.{spelt_by}

@@ -4,7 +4,7 @@ ghost use Rattle.std.specs.Prelude.{ℕ, List, Option};
 ghost use Rattle.kendo_front.specs.Agreement.{Agree};
 ghost use Rattle.kendo_reading.specs.Reading.{Reads};
 ghost use Rattle.meaning.specs.Source.{source_kind};
-ghost use Rattle.one_thread.specs.Worlds.{IsWhole};
+ghost use Rattle.whole_run.specs.Runs.{IsWhole};
 ghost use Rattle.syntax.specs.Tree.{File};
 ghost use Rattle.word.specs.declared.end.End.{End as Ending};
 

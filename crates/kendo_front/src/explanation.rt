@@ -1,13 +1,13 @@
 //! What is said of the end of a run.
 
 ghost use Rattle.std.specs.Prelude.{◌≡◌, ◌≤◌, ◌^◌, ◌⊎◌, ◌↔◌, [], IfErr, IfOk, IsErrOf};
-ghost use Rattle.one_thread.specs.Worlds.{IsLimit};
+ghost use Rattle.whole_run.specs.Runs.{IsLimit};
 ghost use Rattle.kendo_reading.specs.Reading.{HasNoReading, IsRefusal, IsWhy};
 
-use crate::outcome::text_of_panic;
 use end_explanation::end_explanation;
 use go_text::Fault;
 use kendo_reading::read;
+use kendo_report::text_of_panic;
 use std::alloc::Global;
 use word::end::End;
 

@@ -3,7 +3,7 @@
 ghost use Rattle.std.specs.Prelude.{◌≡◌, ◌⊎◌, ◌↔◌, IfErr, IfOk, IsErrOf, true};
 ghost use Rattle.meaning.specs.Source.{source_kind};
 ghost use Rattle.kendo_reading.specs.Reading.{HasNoReading, IsRefusal, IsWhy, Reads};
-ghost use Rattle.one_thread.specs.Worlds.{BeginsOutput, IsLimit, IsWhole};
+ghost use Rattle.whole_run.specs.Runs.{BeginsOutput, IsLimit, IsWhole};
 ghost use Rattle.syntax.specs.Tree.{File};
 
 use go_text::Fault;

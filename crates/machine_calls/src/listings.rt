@@ -2,8 +2,9 @@
 
 use crate::checks::Checks;
 use crate::made::main_code;
+use bytecode::Instr;
 use bytecode::Instr::*;
-use bytecode::{Instr, listing};
+use code_listing::listing;
 use go_text::{Fault, Memory};
 use std::alloc::Global;
 use word::apply::Op;

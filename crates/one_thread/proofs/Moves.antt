@@ -21,7 +21,8 @@ use Rattle.word.specs.Worlds.{Bed, Rest, end_of, is_deserted, moment, opening, r
 use Rattle.one_thread.specs.declared.goroutine.Goroutine.{Goroutine}
 use Rattle.one_thread.specs.declared.goroutine.Turn.TheVariants as turns
 use Rattle.one_thread.specs.Places.{AdvancesAt, IsAt, SleepOn, awake_in, awake_of, clock_of, clocked, here}
-use Rattle.one_thread.specs.Worlds.{Applies, BeginsOutput, Goes, IsAsked, IsLast, IsOpen, IsWhole, IsWorldOf, LieIn, Stands, printed}
+use Rattle.one_thread.specs.Worlds.{Applies, Goes, IsAsked, IsLast, IsOpen, IsWorldOf, LieIn, Stands, printed}
+use Rattle.whole_run.specs.Runs.{BeginsOutput, IsWhole}
 use Rattle.one_thread.proofs.After.{Known, after, applied, known, one_after}
 use Rattle.word.specs.declared.request.Request.{Request as Asked}
 use Rattle.word.proofs.Laws.{laws}

@@ -1,5 +1,5 @@
 -- Worlds in memory, and what a run has written.
-use Rattle.std.specs.Prelude.{◌≡◌, ◌≢◌, ℕ, ◌+◌, ◌≤◌, ◌^◌, false, List, [], ◌∷◌, ◌++◌, map, take, Option, Some, None}
+use Rattle.std.specs.Prelude.{◌≡◌, ◌≢◌, ℕ, ◌+◌, false, List, [], ◌∷◌, ◌++◌, map, Option, Some, None}
 use Rattle.std.specs.Io.KnownBytes.{Appends}
 use Rattle.reference_world.specs.Deeds.{IsShownBy, SharedValue}
 use Rattle.reference_world.specs.declared.deed.Deed.{Deed}
@@ -13,20 +13,9 @@ use Rattle.word.specs.declared.end.End.TheVariants.{Deadlock}
 use Rattle.word.specs.Kinds.{Clocked, GoroutineKind, asks, at, told}
 use Rattle.word.specs.Views.{reply_of}
 use Rattle.word.specs.Worlds.{Bed, Rest, end_of, in_bed, moment}
+use Rattle.whole_run.specs.Runs.{IsWhole}
 use Rattle.one_thread.specs.declared.goroutine.Goroutine.{Goroutine}
 use Rattle.one_thread.specs.Places.{IsAt, Sets, Wakes, awake_in, bed_at, clock_of, clocked}
-
-abbrev pub IsLimit : ℕ → Type 0
-IsLimit limit = (1 ≤ limit) × (limit ≤ 2 ^ 62)
-
--- what was written after the old contents begins the output of the one-thread run
-abbrev pub BeginsOutput : GoroutineKind → ℕ → Option (List ℕ) → Option (List ℕ) → Type 0
-BeginsOutput K limit old new = (n : ℕ) × (k : ℕ) × Appends old new (take k (moment K limit n).shared.shared.output)
-
--- it is all of it, and the run ends so
-abbrev pub IsWhole : GoroutineKind → ℕ → Option (List ℕ) → Option (List ℕ) → Ending → Type 0
-IsWhole K limit old new ending =
-    (n : ℕ) × Appends old new (moment K limit n).shared.shared.output × (end_of (moment K limit n) ≡ Some ending)
 
 -- none of these numbers is n; each of them stands there once
 abbrev pub Misses : ℕ → List ℕ → Type 0

@@ -2,7 +2,8 @@
 
 ghost use Rattle.std.specs.Prelude.{◌≡◌, ◌^◌, ◌≤◌, IfOk, IfSome, None, Some};
 ghost use Rattle.word.specs.Related.{kind_of};
-ghost use Rattle.one_thread.specs.Worlds.{IsLast, IsWhole};
+ghost use Rattle.one_thread.specs.Worlds.{IsLast};
+ghost use Rattle.whole_run.specs.Runs.{IsWhole};
 
 use crate::goroutine::Goroutine;
 use crate::interpreter::Interpreter;

@@ -7,7 +7,8 @@ ghost use Rattle.word.specs.Related.{kind_of};
 ghost use Rattle.word.specs.Values.{Request as AnyRequest};
 ghost use Rattle.word.specs.Views.{request_of};
 ghost use Rattle.one_thread.specs.Places.{AreWithin, awake_of, here};
-ghost use Rattle.one_thread.specs.Worlds.{Applies, BeginsOutput, Goes, IsAsked, IsLimit, IsOpen, IsWhole, Stands, printed};
+ghost use Rattle.one_thread.specs.Worlds.{Applies, Goes, IsAsked, IsOpen, Stands, printed};
+ghost use Rattle.whole_run.specs.Runs.{BeginsOutput, IsLimit, IsWhole};
 
 use crate::goroutine::{Goroutine, Turn};
 use crate::interpreter::Interpreter;

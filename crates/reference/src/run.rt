@@ -4,7 +4,7 @@ ghost use Rattle.std.specs.Prelude.{◌≡◌, ◌⊎◌, ◌↔◌, IfErr, IfOk
 ghost use Rattle.syntax.specs.Spans.{tree_of};
 ghost use Rattle.checker.specs.Trees.{tree_in};
 ghost use Rattle.meaning.specs.Source.{source_kind};
-ghost use Rattle.one_thread.specs.Worlds.{BeginsOutput, IsLimit, IsWhole};
+ghost use Rattle.whole_run.specs.Runs.{BeginsOutput, IsLimit, IsWhole};
 
 use crate::program::program_of;
 use crate::source::Source;

@@ -5,7 +5,7 @@ ghost use Rattle.std.specs.Prelude.{Some};
 use crate::run::{Open, differs};
 use go_text::{Fault, Place, Span};
 use kendo_base::{TraceWriter, run_bytes};
-use kendo_front::report;
+use kendo_report::report;
 use row_format::flaw::{Flaw, same};
 use row_format::row::LIMIT;
 use std::alloc::Global;

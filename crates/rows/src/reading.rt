@@ -2,7 +2,7 @@
 
 use diagnostic::explanation;
 use go_text::Fault;
-use kendo_base::{list_bytes, timeline_bytes};
+use kendo_code::{list_bytes, timeline_bytes};
 use kendo_front::{explain_end, reference_bytes};
 use row_format::flaw::Flaw;
 use std::alloc::Global;

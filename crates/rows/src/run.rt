@@ -2,8 +2,9 @@
 
 use go_text::Fault;
 use kendo_base::{Gate, run_bytes};
-use kendo_front::{reference_bytes, report};
+use kendo_front::reference_bytes;
 use kendo_reading::check_bytes;
+use kendo_report::report;
 use row_format::flaw::{Flaw, same};
 use row_format::row::Row;
 use std::alloc::Global;

@@ -3,7 +3,7 @@
 ghost use Rattle.std.specs.Prelude.{◌≡◌, ◌≢◌, ◌↔◌, ◌<◌, ◌≤◌, length, IsTrue, IfOk, IfErr, IfSome, IfNone, MatchOption, Some, slice_get};
 ghost use Rattle.bytecode.specs.Machine.{main_of};
 ghost use Rattle.bytecode.specs.Rules.{AreThere, Breaks, BrokenIn, HasMain, HasShapes, Holds, IsHeaded, IsSelect, IsShaped, IsShort, IsThere, IsVerified};
-ghost use Rattle.superinstruction.specs.Forms.{IsTableOf};
+ghost use Rattle.superinstruction_base.specs.Forms.{IsTableOf};
 ghost use Rattle.verifier.specs.Refusals.{IsRefused, NeverStuck, ShapesFine, PrintsFine, SelectsFine, FunctionsFine, ShapeBroken, SelectBroken};
 ghost use Rattle.verifier.specs.Tables.{Judged};
 
@@ -35,7 +35,7 @@ impl Drop for Verified {
 impl Model for Verified {
     ghost use Rattle.bytecode.specs.Code.{Code as CodeValue};
     ghost use Rattle.bytecode.specs.Rules.{IsVerified};
-    ghost use Rattle.superinstruction.specs.Forms.{IsTableOf};
+    ghost use Rattle.superinstruction_base.specs.Forms.{IsTableOf};
 
     ghost Value = { CodeValue };
 

@@ -1,6 +1,6 @@
 //! What fails.
 
-use crate::{books, clocks, keys, queues, workers};
+use crate::{books, clocks, keys, queues, runs};
 use go_text::Memory;
 use machine_calls::{Checks, make_calls};
 use std::alloc::Global;
@@ -18,6 +18,6 @@ pub fn failed_calls<R: Threads + Wait + Sync>(
     clocks::check(rt, alloc, &mut checks)?;
     keys::check(alloc, &mut checks)?;
     queues::check(rt, alloc, &mut checks)?;
-    workers::check(rt, alloc, &mut checks)?;
+    runs::check(rt, alloc, &mut checks)?;
     Ok(checks.into_failed())
 }

@@ -6,6 +6,6 @@ mod calls;
 mod clocks;
 mod keys;
 mod queues;
-mod workers;
+mod runs;
 
 pub use calls::failed_calls;

@@ -25,10 +25,6 @@ use Rattle.clock_table.proofs.table.LeaseSeat.TheSendSync.{the_field_send as sea
 use Rattle.goroutine_vm.proofs.sleeping.Room.TheSendSync.{the_field_send as room_send}
 use Rattle.goroutine_vm.proofs.sleeping.Sleeping.TheSendSync.{the_send as sleeping_send}
 use Rattle.goroutine_vm.proofs.state.GoState.TheSendSync.{the_send as state_send}
-use Rattle.run_queue.proofs.queue.PutPass.TheSendSync.{the_field_send as put_send}
-use Rattle.run_queue.proofs.queue.RunQueue.TheSendSync.{the_send as queue_send, the_sync as queue_sync}
-use Rattle.run_queue.proofs.queue.TakePass.TheSendSync.{the_field_send as take_send}
-use Rattle.run_queue.specs.contracts.queue.RunQueue as RunQueue
 use Rattle.slab.proofs.Slab.TheSendSync.{the_send as slab_send}
 use Rattle.sleep_queue.proofs.numbered_keys.NumberedKeys.TheSendSync.{the_send as keys_send}
 use Rattle.sleep_queue.proofs.rings.Rings.TheSendSync.{the_send as rings_send}
@@ -62,10 +58,9 @@ use Rattle.worker_pool_base.specs.contracts.run_book.RunBook as RunBook
 use Rattle.worker_pool_base.specs.contracts.run_name.OfRun as OfRun
 use Rattle.worker_pool_base.specs.contracts.run_name.OfRunBookName.TheImpl.{ghosts, no_dict}
 use Rattle.worker_pool.specs.contracts.shared.Shared as Shared
-use Rattle.worker_pool.proofs.signals.Signals.TheSendSync.{the_field_send as signals_send}
-use Rattle.worker_pool.specs.contracts.work_queues.Owner as Owner
-use Rattle.worker_pool.specs.contracts.work_queues.Stealer as Stealer
-use Rattle.worker_pool.specs.contracts.work_queues.WorkQueues as WorkQueues
+use Rattle.workers.proofs.signals.Signals.TheSendSync.{the_field_send as signals_send}
+use Rattle.workers.proofs.work_queues.WorkQueues.TheSendSync.{the_send as work_queues_send}
+use Rattle.workers.specs.contracts.work_queues.WorkQueues as WorkQueues
 use Rattle.worker_pool_base.specs.declared.run_name.RunName.{Ghosts}
 
 away_inside : IsSend away.the_row
@@ -239,24 +234,5 @@ lease_row B g = Lease.the_row (OfRun.the_row B) (ghosts B g no_dict)
 run_lease_send : (B : RattleType) (g : Ghosts B.Denot) → IsSend (lease_row B g)
 run_lease_send B g = lease_send (OfRun.the_row B) (ghosts B g no_dict)
 
-queue_send_of_run : (B : RattleType) (g : Ghosts B.Denot) → IsSend (RunQueue.the_row (lease_row B g))
-queue_send_of_run B g = queue_send (lease_row B g) (run_lease_send B g)
-
-queue_sync_of_run : (B : RattleType) (g : Ghosts B.Denot) → IsSync (RunQueue.the_row (lease_row B g))
-queue_sync_of_run B g = queue_sync (lease_row B g) (run_lease_send B g)
-
-stealer_send : (B : RattleType) (g : Ghosts B.Denot) → IsSend (Stealer.the_row B g)
-stealer_send B g = recorded_send (Stealer.the_field B g).row _ _ (Stealer.the_type B g).to_one (struct_send (shape (Stealer.the_type B g)) (
-  search (sendable, crosses, queue_send_of_run, queue_sync_of_run) depth 20,
-  (take_send (lease_row B g) (run_lease_send B g), tt),
-))
-
-pub queues_of_worker_send : (B : RattleType) (g : Ghosts B.Denot) → IsSend (WorkQueues.the_row B g)
-queues_of_worker_send B g =
-    recorded_send (WorkQueues.the_field B g).row _ _ (WorkQueues.the_type B g).to_one (struct_send (shape (WorkQueues.the_type B g)) (
-      struct_send (shape (Owner.the_type B g)) (
-        search (sendable, crosses, queue_send_of_run, queue_sync_of_run) depth 20,
-        (put_send (lease_row B g) (run_lease_send B g), tt),
-      ),
-      (search (sendable, crosses, stealer_send) depth 20, (search sendable, tt)),
-    ))
+pub queues_of_worker_send : (B : RattleType) (g : Ghosts B.Denot) → IsSend (WorkQueues.the_row (lease_row B g))
+queues_of_worker_send B g = work_queues_send (lease_row B g) (run_lease_send B g)

@@ -4,9 +4,6 @@ ghost use Rattle.std.specs.Prelude.{◌≡◌, ◌+◌, [], IfOk, IfSome, OnOk, 
 ghost use Rattle.worker_pool_base.specs.Handing.{HasEnded};
 ghost use Rattle.worker_pool_base.specs.Runs.{IsHanded, output_run, trace_run};
 
-use crate::signals::Signals;
-use crate::turn::{Back, Turn};
-use crate::work_queues::{CAPACITY, WorkQueues};
 use go_text::Memory;
 use output::Piece;
 use std::sync::Wait;
@@ -15,6 +12,7 @@ use std::sync::ledger::{Book, Share};
 use worker_pool_base::handed::Handed;
 use worker_pool_base::run_book::RunBook;
 use worker_pool_base::run_name::{Printed, RunLease, RunName, Traced};
+use workers::{Back, CAPACITY, Signals, Turn, WorkQueues};
 
 /// How many local steps a goroutine that talks makes at most between two requests.
 const FEW_STEPS: u32 = 512;
@@ -50,7 +48,7 @@ impl<B: RunName> Locked<B> {
     }
 
     /// Takes what a worker comes back with, and commits all that can be committed.
-    pub fn take_back(&mut self, back: Back<B>) {
+    pub fn take_back(&mut self, back: Back<RunLease<B>>) {
         match back {
             Back::Begun => {}
             Back::Talking(lease) | Back::Asking(lease) | Back::Running(lease) => self.bring(lease),
@@ -65,7 +63,12 @@ impl<B: RunName> Locked<B> {
 
     /// What a worker with these queues does next. Of those that yield one gets leases: two whose leases are short would only
     /// wait for one another here.
-    pub fn turn<R: Wait>(&mut self, rt: &R, yields: bool, queues: &mut WorkQueues<B>) -> Turn<B> {
+    pub fn turn<R: Wait>(
+        &mut self,
+        rt: &R,
+        yields: bool,
+        queues: &mut WorkQueues<RunLease<B>>,
+    ) -> Turn<RunLease<B>> {
         if self.signals.is_over() {
             return Turn::Leave;
         }
@@ -91,7 +94,7 @@ impl<B: RunName> Locked<B> {
     fn short_lease<R: Wait>(
         &mut self,
         rt: &R,
-        queues: &mut WorkQueues<B>,
+        queues: &mut WorkQueues<RunLease<B>>,
     ) -> Result<Option<RunLease<B>>, Memory> {
         match self.lend()? {
             Some(lease) => Ok(Some(lease)),
@@ -106,7 +109,7 @@ impl<B: RunName> Locked<B> {
     fn long_lease<R: Wait>(
         &mut self,
         rt: &R,
-        queues: &mut WorkQueues<B>,
+        queues: &mut WorkQueues<RunLease<B>>,
     ) -> Result<Option<RunLease<B>>, Memory> {
         match queues.take(rt) {
             Some(lease) => Ok(Some(lease)),
@@ -118,7 +121,7 @@ impl<B: RunName> Locked<B> {
     fn lend_many<R: Wait>(
         &mut self,
         rt: &R,
-        queues: &mut WorkQueues<B>,
+        queues: &mut WorkQueues<RunLease<B>>,
     ) -> Result<Option<RunLease<B>>, Memory> {
         let Some(lease) = self.lend()? else {
             return Ok(None);
@@ -133,7 +136,11 @@ impl<B: RunName> Locked<B> {
     }
 
     /// Lends as many as a queue holds, and puts them into the worker's own. What comes back since it is full is brought back.
-    fn lend_more<R: Wait>(&mut self, rt: &R, queues: &mut WorkQueues<B>) -> Result<(), Memory> {
+    fn lend_more<R: Wait>(
+        &mut self,
+        rt: &R,
+        queues: &mut WorkQueues<RunLease<B>>,
+    ) -> Result<(), Memory> {
         for _ in 0..CAPACITY {
             let Some(lease) = self.lend()? else {
                 break;
@@ -253,7 +260,7 @@ impl<B: RunName> Locked<B> {
 }
 
 /// What a worker does that nothing can be lent to.
-fn idle_turn<B: RunName>(signals: &mut Signals) -> Turn<B> {
+fn idle_turn<B: RunName>(signals: &mut Signals) -> Turn<RunLease<B>> {
     if signals.begin_watch() {
         Turn::Watch
     } else {

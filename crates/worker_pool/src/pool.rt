@@ -5,15 +5,12 @@ ghost use denote.Param.Send.{IsSend, IsSync};
 ghost use Rattle.std.specs.Arc.{arc_value};
 ghost use Rattle.bytecode.specs.Machine.{code_kind};
 ghost use Rattle.clock_table.specs.Seats.{table_of};
-ghost use Rattle.one_thread.specs.Worlds.{BeginsOutput, IsLimit, IsWhole};
+ghost use Rattle.whole_run.specs.Runs.{BeginsOutput, IsLimit, IsWhole, IsWorkers};
 ghost use Rattle.output.specs.Progress.{progress_place, run_of};
 ghost use Rattle.tracer.specs.Trace.{BeginsTrace, IsWholeTrace};
-ghost use Rattle.worker_pool_base.specs.Runs.{ComesOf, IsStart, IsWorkers, output_run, trace_run};
+ghost use Rattle.worker_pool_base.specs.Runs.{ComesOf, IsStart, output_run, trace_run};
 
-use crate::gate::Gate;
 use crate::shared::Shared;
-use crate::trace_writer::TraceWriter;
-use crate::work_queues::WorkQueues;
 use crate::worker::work;
 use crate::writing::{Reach, write_run};
 use book::Blank;
@@ -28,7 +25,8 @@ use verifier::Verified;
 use word::Write;
 use word::end::End;
 use worker_pool_base::run_book::RunBook;
-use worker_pool_base::run_name::{Printed, RunName, Traced};
+use worker_pool_base::run_name::{Printed, RunLease, RunName, Traced};
+use workers::{Gate, TraceWriter, WorkQueues};
 
 /// Runs a program up to the clock limit (1 to 2^62) on 1 to 64 workers, and answers how it ended. What is written begins the
 /// output of the one-thread run, and its trace; at an end it is all of them. Of a trace that nobody reads nothing is made.
@@ -214,7 +212,7 @@ fn beside<B: RunName + Send, R: Threads + Wait + Sync, G: Gate + Sync, T: Task>(
     rt: &R,
     shared: &Shared<B>,
     gate: &G,
-    queues: Vec<WorkQueues<B>>,
+    queues: Vec<WorkQueues<RunLease<B>>>,
     task: T,
 ) -> T::Output
     requires { T.can_run task }

@@ -3,9 +3,6 @@
 ghost use Rattle.std.specs.Prelude.{◌≡◌, ◌+◌, IfOk, length};
 
 use crate::locked::Locked;
-use crate::turn::{Back, Turn};
-use crate::work_queues::WorkQueues;
-use crate::worker::Pace;
 use go_text::Memory;
 use std::sync::atomic::{AtomicU64, Ordering};
 use std::sync::ledger::{Book, Share};
@@ -14,6 +11,7 @@ use std::time::Duration;
 use worker_pool_base::handed::Handed;
 use worker_pool_base::run_book::RunBook;
 use worker_pool_base::run_name::{Printed, RunLease, RunName, Traced};
+use workers::{Back, Pace, Turn, WorkQueues};
 
 /// How long the thread that writes sleeps, if nothing wakes it, in milliseconds.
 const WRITING_NAP: u64 = 5;
@@ -59,9 +57,9 @@ impl<B: RunName> Shared<B> {
     pub fn next_lease<R: Wait>(
         &self,
         rt: &R,
-        back: Back<B>,
+        back: Back<RunLease<B>>,
         pace: &mut Pace,
-        queues: &mut WorkQueues<B>,
+        queues: &mut WorkQueues<RunLease<B>>,
     ) -> Option<RunLease<B>> {
         let mut locked = self.lock(rt);
         let long = matches!(&back, Back::Running(_));

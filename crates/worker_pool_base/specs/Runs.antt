@@ -16,9 +16,6 @@ use Rattle.word.specs.Kinds.{GoroutineKind}
 use Rattle.word.specs.Values.{Shared}
 use Rattle.word.specs.Worlds.{end_of, moment}
 
-abbrev pub IsWorkers : ℕ → Type 0
-IsWorkers workers = (1 ≤ workers) × (workers ≤ 64)
-
 -- ---- the bytes of a run
 
 -- the bytes of this kind so far: the output, or the lines of the events

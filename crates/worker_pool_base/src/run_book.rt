@@ -6,7 +6,7 @@ ghost use Rattle.std.specs.Option.{is_some};
 ghost use Rattle.book.specs.Desks.{IsLent, KeepsLeases, OnlyLooks, brought, opened_desk};
 ghost use Rattle.clock_table.specs.Clocks.{WasLent, loan_for, row as word_at};
 ghost use Rattle.clock_table.specs.Seats.{table_of};
-ghost use Rattle.one_thread.specs.Worlds.{IsLimit};
+ghost use Rattle.whole_run.specs.Runs.{IsLimit};
 ghost use Rattle.worker_pool_base.specs.Handing.{HasEnded, KeepsTaken};
 ghost use Rattle.worker_pool_base.specs.Runs.{IsHanded, IsOfRun, output_run, trace_run};
 ghost use Rattle.worker_pool_base.specs.Turns.{Lends, SettlesAll, SettlesOne, SettlesSome};

@@ -1,5 +1,5 @@
 use Rattle.std.proofs.Common.{sym, subst}
-use Rattle.kendo.specs.Answers.{Finds}
+use Rattle.kendo_shell.specs.Answers.{Finds}
 use Rattle.command_line.specs.declared.arguments.Subcommand.{Subcommand}
 use Rattle.kendo.proofs.find.Goals as goal
 
@@ -16,4 +16,4 @@ pub returns-in-Timeline : goal.returns-in-Timeline
 returns-in-Timeline g c = subst (λ (s : Subcommand). Finds s c.args.bytes.items c.picture.result) (sym c.in-Timeline.is) c.picture.ensures
 
 pub returns-in-Run : goal.returns-in-Run
-returns-in-Run g c = subst (λ (s : Subcommand). Finds s c.args.bytes.items c.run.result) (sym c.in-Run.is) c.run.ensures
+returns-in-Run g c = subst (λ (s : Subcommand). Finds s c.args.bytes.items c.run_text.result) (sym c.in-Run.is) c.run_text.ensures

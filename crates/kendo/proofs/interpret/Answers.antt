@@ -1,6 +1,6 @@
 use Rattle.std.proofs.lemmas.Result.{err_from_is_err_and}
 use Rattle.command_line.specs.declared.arguments.Subcommand.TheVariants as subcommands
-use Rattle.kendo.proofs.Findings.{limit_ended, no_memory, read_of, reference_loses, reference_stops}
+use Rattle.kendo_shell.proofs.Findings.{limit_ended, no_memory, read_of, reference_loses, reference_stops}
 use Rattle.kendo.proofs.interpret.Goals as goal
 
 pub returns-in_err-out : goal.returns-in_err-out

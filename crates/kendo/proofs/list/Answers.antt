@@ -1,7 +1,7 @@
 use Rattle.std.proofs.Common.{refl}
 use Rattle.std.proofs.lemmas.Result.{err_from_is_err_and}
 use Rattle.command_line.specs.declared.arguments.Subcommand.TheVariants as subcommands
-use Rattle.kendo.proofs.Findings.{list_loses, list_stops, no_memory, read_of}
+use Rattle.kendo_shell.proofs.Findings.{list_loses, list_stops, no_memory, read_of}
 use Rattle.kendo.proofs.list.Goals as goal
 
 pub returns-in_err-out : goal.returns-in_err-out

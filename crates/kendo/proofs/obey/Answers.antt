@@ -1,7 +1,7 @@
 use Rattle.std.proofs.Common.{map, string_bytes}
 use Rattle.std.proofs.lemmas.Result.{IfOk-weaker}
 use Rattle.clap.specs.Simple.{app_of}
-use Rattle.kendo.proofs.Obeying.{done, nothing_done, shown}
+use Rattle.kendo_shell.proofs.Obeying.{done, nothing_done, shown}
 use Rattle.kendo.proofs.obey.Goals as goal
 
 pub returns-in-Some : goal.returns-in-Some

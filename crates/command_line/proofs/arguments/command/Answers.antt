@@ -1,9 +1,8 @@
-use Rattle.clap.specs.Words.{with_subcommand}
-use Rattle.command_line.specs.CommandLine.{first_commands, run, timeline}
-use Rattle.command_line.proofs.CommandLine.{extended_by}
+use Rattle.command_line.proofs.CommandLine.{all_there, one_there}
 use Rattle.command_line.proofs.arguments.command.Goals as goal
 
+pub loop-listed-preserved : goal.loop-listed-preserved
+loop-listed-preserved c = one_there _ _ _ _ c.loop-listed.listed-index _ c.loop-listed-test.true c.in_ok-command.ensures c.loop-listed.invariant
+
 pub returns : goal.returns
-returns c =
-    let with_timeline = extended_by first_commands timeline c.first_commands.result c.timeline_command.result c.extended-commands.result c.first_commands.ensures c.timeline_command.ensures.app c.timeline_command.ensures.local c.extended-commands.ensures in
-    extended_by (with_subcommand first_commands timeline.top) run c.extended-commands.result c.run_command.result c.extended.result with_timeline c.run_command.ensures.app c.run_command.ensures.local c.extended.ensures
+returns c = all_there _ _ _ c.loop-listed.listed-index c.loop-listed-test.false c.loop-listed.invariant

@@ -7,12 +7,12 @@ use Rattle.command_line.proofs.arguments.invocation_of.Goals as goal
 
 pub returns-in_err-get_str : goal.returns-in_err-get_str
 returns-in_err-get_str c =
-    let found = both_parts _ _ _ _ _ (ap (option_map (λ p. p.0.now)) (sym (c.in_ok-name.was)) ∙ c.subcommand.ensures.name) (ap (option_map (λ p. rows_of (found_of p.1.now))) (sym (c.in_ok-name.was)) ∙ c.subcommand.ensures.rows) in
-    subst (IsAsked _) (sym c.from_residual-in_err-get_str.ensures) (not_asked _ _ _ found (ap (option_map (λ s. s.now)) (sym (c.in_err-get_str.was)) ∙ c.get_str.ensures ∙ first_value-rows (found_of c.in_ok-name.matches.now) (codes "FILE")))
+    let found = both_parts _ _ _ _ _ (ap (option_map (λ p. p.0.now)) (sym (c.in-Some.is)) ∙ c.subcommand.ensures.name) (ap (option_map (λ p. rows_of (found_of p.1.now))) (sym (c.in-Some.is)) ∙ c.subcommand.ensures.rows) in
+    subst (IsAsked _) (sym c.from_residual.ensures) (not_asked _ _ _ found (ap (option_map (λ s. s.now)) (sym (c.in_err-get_str.was)) ∙ c.get_str.ensures ∙ first_value-rows (found_of c.in-Some.matches.now) (codes "FILE")))
 
 pub returns : goal.returns
 returns c =
-    let found = both_parts _ _ _ _ _ (ap (option_map (λ p. p.0.now)) (sym (c.in_ok-name.was)) ∙ c.subcommand.ensures.name) (ap (option_map (λ p. rows_of (found_of p.1.now))) (sym (c.in_ok-name.was)) ∙ c.subcommand.ensures.rows) in
-    asked _ _ _ _ found (search rules) (ap (option_map (λ s. s.now)) (sym (c.in_ok-get_str.was)) ∙ c.get_str.ensures ∙ first_value-rows (found_of c.in_ok-name.matches.now) (codes "FILE"))
-    (c.get_str-trace.ensures ∙ first_value-rows (found_of c.in_ok-name.matches.now) (codes "trace"))
-    (c.get_str-out.ensures ∙ first_value-rows (found_of c.in_ok-name.matches.now) (codes "out")) c.is_set-explains.ensures
+    let found = both_parts _ _ _ _ _ (ap (option_map (λ p. p.0.now)) (sym (c.in-Some.is)) ∙ c.subcommand.ensures.name) (ap (option_map (λ p. rows_of (found_of p.1.now))) (sym (c.in-Some.is)) ∙ c.subcommand.ensures.rows) in
+    asked _ _ _ _ found (search rules) (ap (option_map (λ s. s.now)) (sym (c.in_ok-get_str.was)) ∙ c.get_str.ensures ∙ first_value-rows (found_of c.in-Some.matches.now) (codes "FILE"))
+    (c.get_str-trace.ensures ∙ first_value-rows (found_of c.in-Some.matches.now) (codes "trace"))
+    (c.get_str-out.ensures ∙ first_value-rows (found_of c.in-Some.matches.now) (codes "out")) c.is_set-explains.ensures

@@ -1,6 +1,6 @@
 use Rattle.std.proofs.Common.{refl}
 use Rattle.std.proofs.lemmas.Result.{err_from_is_err_and}
-use Rattle.kendo.proofs.Findings.{limit_ended, picture_loses, read_of, timeline_stops}
+use Rattle.kendo_shell.proofs.Findings.{limit_ended, picture_loses, read_of, timeline_stops}
 use Rattle.kendo.proofs.pictures.picture.Goals as goal
 
 pub returns-in_err-recording : goal.returns-in_err-recording

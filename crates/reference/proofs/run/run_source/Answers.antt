@@ -1,7 +1,7 @@
 use Rattle.std.proofs.Common.{IfOk, subst}
 use Rattle.syntax.specs.Tree.{File}
 use Rattle.meaning.specs.Source.{source_kind}
-use Rattle.one_thread.specs.Worlds.{BeginsOutput, IsWhole}
+use Rattle.whole_run.specs.Runs.{BeginsOutput, IsWhole}
 use Rattle.reference.proofs.run.run_source.Goals as goal
 
 pub returns-clause-begins : goal.returns-clause-begins

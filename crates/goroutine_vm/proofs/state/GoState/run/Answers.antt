@@ -4,7 +4,7 @@ use Rattle.bytecode.specs.Rules.{IsVerified}
 use Rattle.call_frame.specs.Steps.{Runs}
 use Rattle.goroutine_vm.specs.Advance.{IsStateOf}
 use Rattle.goroutine_vm.proofs.Turns.{Ran, ran, same_view}
-use Rattle.superinstruction.specs.Forms.{IsTableOf}
+use Rattle.superinstruction_base.specs.Forms.{IsTableOf}
 use Rattle.word.specs.Kinds.{Clocked, at}
 use Rattle.goroutine_vm.proofs.state.GoState.run.Goals as goal
 

@@ -1,6 +1,6 @@
 use Rattle.std.proofs.Common.{subst}
 use Rattle.bytecode.specs.Code.{Code}
-use Rattle.superinstruction.specs.Forms.{IsTableOf}
+use Rattle.superinstruction_base.specs.Forms.{IsTableOf}
 use Rattle.verifier.proofs.verified.Verified.superinstructions.Goals as goal
 
 pub returns : goal.returns

@@ -1,0 +1,65 @@
+//! The recording of a text's run, of which pictures are made.
+
+ghost use Rattle.std.specs.Prelude.{◌≡◌, ◌≤◌, ◌⊎◌, ◌↔◌, IfErr, IfNone, IfOk, IfSome, IsErrOf, length, map};
+ghost use Rattle.meaning.specs.Source.{source_kind};
+ghost use Rattle.kendo_reading.specs.Reading.{HasNoReading, IsRefusal, IsWhy, Reads};
+ghost use Rattle.kendo_code.specs.Recorded.{IsRecorded};
+ghost use Rattle.whole_run.specs.Runs.{IsLimit};
+ghost use Rattle.syntax.specs.Tree.{File};
+ghost use Rattle.word.specs.Views.{event_of};
+ghost use Rattle.codegen_base.specs.Grammar.{IsGrammatical, IsLimited};
+ghost use Rattle.checker.specs.Trees.{tree_in};
+ghost use Rattle.syntax.specs.Spans.{tree_of};
+
+use checker::Typed;
+use codegen::compile;
+use go_text::Fault;
+use kendo_reading::read;
+use recorder::record;
+use std::alloc::Global;
+use std::sync::Arc;
+use timeline::Recording;
+use verifier::verify;
+
+/// Runs the program that a text is, up to the clock limit (1 to 2^62 steps) on this thread, and keeps its first events, at most so
+/// many, and how the run ended where it has no more: what a picture of the run shows. What it prints is not written.
+///
+/// Errors: by the numbers 1 to 10 why the text is no program, with line and column; `Memory`; `BadLimit`.
+#[tactic(auto, using(kendo_reading::proofs::Spelled::grammatical, kendo_reading::proofs::Spelled::limited))]
+pub fn timeline_bytes(
+    alloc: Global,
+    bytes: Vec<u8>,
+    limit: u64,
+    most: usize,
+) -> Result<Recording, Fault>
+    ensures limit { IsErrOf result Fault.BadLimit ↔ (IsLimit limit → ⊥) }
+    ensures refused { IfErr result (λ fault. IsRefusal fault → HasNoReading bytes.items) }
+    ensures why { IfErr result (λ fault. IsRefusal fault → IsWhy bytes.items fault) }
+    ensures only { IfErr result (λ fault. IsRefusal fault ⊎ ((fault ≡ Fault.Memory) ⊎ (fault ≡ Fault.BadLimit))) }
+    ensures recorded { IfOk result (λ made. (file : File) × Reads bytes.items file × IsRecorded (source_kind file) limit (map event_of made.events.items) made.end) }
+    ensures few { IfOk result (λ made. length made.events.items ≤ most) }
+    ensures cut { IfOk result (λ made. IfNone made.end (most ≤ length made.events.items)) }
+{
+    if limit < 1 || limit > 1 << 62 {
+        return Err(Fault::BadLimit);
+    }
+    let (_source, typed) = read(alloc, bytes)?;
+    let recording = recorded(alloc, &typed, limit, most)?;
+    Ok(recording)
+}
+
+/// The first events of the run of a checked program.
+fn recorded(alloc: Global, typed: &Typed, limit: u64, most: usize) -> Result<Recording, Fault>
+    requires limit { IsLimit limit }
+    requires grammatical { IsGrammatical (tree_of (tree_in typed.now)) }
+    requires lists { IsLimited (tree_of (tree_in typed.now)) }
+    ensures recorded { IfOk result (λ made. IsRecorded (source_kind (tree_of (tree_in typed.now))) limit (map event_of made.events.items) made.end) }
+    ensures few { IfOk result (λ made. length made.events.items ≤ most) }
+    ensures cut { IfOk result (λ made. IfNone made.end (most ≤ length made.events.items)) }
+    ensures only { IfErr result (λ fault. fault ≡ Fault.Memory) }
+{
+    let code = compile(alloc, typed)?;
+    let verified = verify(alloc, code)?;
+    let program = Arc::new(alloc, verified)?;
+    record(alloc, program, limit, most)
+}

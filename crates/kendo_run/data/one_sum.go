@@ -1,0 +1,1 @@
+package main; func main() { println(1 + 2) }

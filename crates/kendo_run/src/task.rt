@@ -1,0 +1,35 @@
+//! What this program does of the commands that there are.
+
+ghost use Rattle.std.specs.Prelude.{◌≡◌, ◌⊎◌, IfNone, IfSome, IsTrue};
+ghost use Rattle.kendo_run.specs.Tasks.{IsAnother, subcommand_of};
+
+use command_line::arguments::{Invocation, Subcommand};
+
+/// What this program does with a text.
+#[derive(Clone, Copy)]
+pub(crate) enum Task {
+    /// It is checked.
+    Check,
+    /// It is run.
+    Run {
+        /// How many workers; the run judges whether it is 1 to 64.
+        workers: u64,
+        /// The last logical time; the run judges whether it is 1 to 2^62.
+        limit: u64,
+    },
+}
+
+/// What is asked for, if this program does it: not where another command is, or a sentence on what is wrong.
+pub(crate) fn task_of(invocation: &Invocation<'_>) -> Option<Task>
+    ensures some { IfSome result (λ task. subcommand_of task ≡ invocation.now.subcommand) }
+    ensures none { IfNone result (IsTrue invocation.now.explains ⊎ IsAnother invocation.now.subcommand) }
+{
+    if invocation.explains {
+        return None;
+    }
+    match invocation.subcommand {
+        Subcommand::Check => Some(Task::Check),
+        Subcommand::Run { workers, limit } => Some(Task::Run { workers, limit }),
+        Subcommand::List | Subcommand::Reference { .. } | Subcommand::Timeline { .. } => None,
+    }
+}

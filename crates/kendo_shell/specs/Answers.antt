@@ -1,0 +1,85 @@
+-- What the program finds in a file.
+use Rattle.std.specs.Prelude.{◌≡◌, ℕ, ◌≤◌, ◌⊎◌, List, [], Some, None, Result, Ok, Err}
+use Rattle.clap.specs.Faults.{fault_of}
+use Rattle.clap.specs.Kinds.{IsAmong}
+use Rattle.clap.specs.Simple.{subcommand_of}
+use Rattle.clap.specs.Words.{Text}
+use Rattle.clap.specs.declared.error.kind.ErrorKind.{ErrorKind}
+use Rattle.clap.specs.declared.error.kind.ErrorKind.TheVariants as kinds
+use Rattle.meaning.specs.Source.{source_kind}
+use Rattle.command_line.specs.CommandLine.{IsAsked, kendo}
+use Rattle.command_line.specs.declared.arguments.Subcommand.{Subcommand}
+use Rattle.command_line.specs.declared.arguments.Subcommand.TheVariants as subcommands
+use Rattle.command_line.specs.declared.arguments.Invocation.{Invocation}
+use Rattle.kendo_report.specs.Outcome.{report_status}
+use Rattle.kendo_reading.specs.Reading.{HasNoReading, IsWhy, Reads}
+use Rattle.whole_run.specs.Runs.{IsLimit, IsWorkers}
+use Rattle.go_text.specs.declared.fault.Fault.{Fault}
+use Rattle.go_text.specs.declared.fault.Fault.TheVariants as faults
+use Rattle.syntax.specs.Tree.{File}
+use Rattle.word.specs.declared.end.End.{End}
+use Rattle.word.specs.declared.end.End.TheVariants.{Finished}
+use Rattle.word.specs.Worlds.{end_of, moment}
+
+-- the text has a reading
+abbrev pub HasReading : List ℕ → Type 0
+HasReading text = (file : File) × Reads text file
+
+-- the one-thread run of its reading at this limit ends so
+abbrev pub EndsAs : List ℕ → ℕ → End → Type 0
+EndsAs text limit end = (file : File) × (n : ℕ) × Reads text file × (end_of (moment (source_kind file) limit n) ≡ Some end)
+
+-- the command's workers and its limit are within their bounds
+abbrev pub IsInBounds : Subcommand → Type 0
+IsInBounds (subcommands.Run workers limit) = IsWorkers workers × IsLimit limit
+IsInBounds (subcommands.Reference limit) = IsLimit limit
+IsInBounds (subcommands.Timeline limit) = IsLimit limit
+IsInBounds subcommand = Unit {0}
+
+-- why the command finds no end: want of memory; workers or a limit out of their bounds, the workers first; else a writer that refused bytes, of a text that
+-- has a reading; or, by this fault, why the text has no reading
+abbrev pub IsReason : Subcommand → List ℕ → Fault → Type 0
+IsReason subcommand text faults.Memory = Unit {0}
+IsReason (subcommands.Run workers limit) text faults.BadWorkers = IsWorkers workers → ⊥
+IsReason subcommand text faults.BadWorkers = ⊥
+IsReason (subcommands.Run workers limit) text faults.BadLimit = IsWorkers workers × (IsLimit limit → ⊥)
+IsReason (subcommands.Reference limit) text faults.BadLimit = IsLimit limit → ⊥
+IsReason (subcommands.Timeline limit) text faults.BadLimit = IsLimit limit → ⊥
+IsReason subcommand text faults.BadLimit = ⊥
+IsReason subcommands.Check text faults.Write = ⊥
+IsReason subcommand text faults.Write = IsInBounds subcommand × HasReading text
+IsReason subcommand text (faults.Unverified rule function place) = ⊥
+IsReason subcommand text faults.NotYours = ⊥
+IsReason subcommand text fault = IsInBounds subcommand × HasNoReading text × IsWhy text fault
+
+-- what the command finds in the text: that it has a reading, or that a picture was made of its run, or how its run ends, or why none of these
+abbrev pub Finds : Subcommand → List ℕ → Result End Fault → Type 0
+Finds subcommands.Check text (Ok end) = (end ≡ Finished) × HasReading text
+Finds subcommands.List text (Ok end) = (end ≡ Finished) × HasReading text
+Finds (subcommands.Reference limit) text (Ok end) = IsLimit limit × EndsAs text limit end
+Finds (subcommands.Timeline limit) text (Ok end) = (end ≡ Finished) × IsLimit limit × HasReading text
+Finds (subcommands.Run workers limit) text (Ok end) = IsWorkers workers × IsLimit limit × EndsAs text limit end
+Finds subcommand text (Err fault) = IsReason subcommand text fault
+
+-- an exit status that tells what was found in some text
+abbrev pub Tells : Subcommand → ℕ → Type 0
+Tells subcommand status = (text : List ℕ) × (outcome : Result End Fault) × Finds subcommand text outcome × (status ≡ report_status outcome)
+
+-- an exit status of the program
+abbrev pub IsStatus : ℕ → Type 0
+IsStatus status = (status ≤ 6) ⊎ (status ≡ 64)
+
+-- the exit status where help or the version was asked for, or the words are refused for another reason
+abbrev pub ShowsAs : ErrorKind → ℕ → Type 0
+ShowsAs kinds.DisplayHelp status = (status ≡ 0) ⊎ (status ≡ 6)
+ShowsAs kinds.DisplayVersion status = (status ≡ 0) ⊎ (status ≡ 6)
+ShowsAs kind status = status ≡ 64
+
+-- the exit status of a command line
+pub data Obeys (words : List Text) (status : ℕ) : Type 0 where
+  -- the words are taken: 64, as where a file can't be read or created, or what was found in some text
+  WasDone : fault_of kendo words ≡ [] → (invocation : Invocation) → IsAsked (subcommand_of kendo words) (Some invocation) → (status ≡ 64) ⊎ Tells invocation.subcommand status → Obeys words status
+  -- they ask for nothing that is done
+  WasNothing : fault_of kendo words ≡ [] → IsAsked (subcommand_of kendo words) None → status ≡ 64 → Obeys words status
+  -- they are refused, or ask for help
+  WasShown : (kind : ErrorKind) → IsAmong kind (fault_of kendo words) → ShowsAs kind status → Obeys words status

@@ -1,0 +1,29 @@
+//! What a worker does next, and with what it comes back.
+
+/// With what a worker comes back.
+#[derive(Drop)]
+pub enum Back<T: Drop> {
+    /// With nothing, since it begins.
+    Begun,
+    /// With an item whose goroutine asks, after a few steps.
+    Talking(T),
+    /// With an item whose goroutine asks, after many steps.
+    Asking(T),
+    /// With an item whose goroutine can go on at once.
+    Running(T),
+    /// With no item, since memory was refused to it.
+    NoMemory,
+}
+
+/// What a worker does next.
+#[derive(Drop)]
+pub enum Turn<T: Drop> {
+    /// It works this item.
+    Work(T),
+    /// It naps, and looks again: nobody else does.
+    Watch,
+    /// It waits until it is woken: somebody else watches.
+    Wait,
+    /// It leaves: the run is over.
+    Leave,
+}
