@@ -1,6 +1,6 @@
 //! What this program does of the commands that there are.
 
-ghost use Rattle.std.specs.Prelude.{◌≡◌, ◌⊎◌, IfNone, IfSome, IsTrue};
+ghost use Rattle.std.specs.Prelude.{◌≡◌, ◌⊎◌, IfNone, IfSome, IsTrue, false};
 ghost use Rattle.kendo_run.specs.Tasks.{IsAnother, subcommand_of};
 
 use command_line::arguments::{Invocation, Subcommand};
@@ -22,6 +22,7 @@ pub(crate) enum Task {
 /// What is asked for, if this program does it: not where another command is, or a sentence on what is wrong.
 pub(crate) fn task_of(invocation: &Invocation<'_>) -> Option<Task>
     ensures some { IfSome result (λ task. subcommand_of task ≡ invocation.now.subcommand) }
+    ensures plain { IfSome result (λ _. invocation.now.explains ≡ false) }
     ensures none { IfNone result (IsTrue invocation.now.explains ⊎ IsAnother invocation.now.subcommand) }
 {
     if invocation.explains {
