@@ -1,12 +1,16 @@
-//! The book of a run, which stands where the one-thread run does, and the leases of goroutines that run ahead.
+//! The book of a run, which stands where the one-thread run does, the leases of goroutines that run ahead, and what is handed out
+//! of the book of a run that has a name.
 #![tactic(auto)]
 
 mod blank;
 mod book_model;
+pub mod handed;
 mod kept_lines;
 mod lease;
 mod name;
 mod program;
+pub mod run_book;
+pub mod run_name;
 mod settled;
 mod slots;
 

@@ -10,7 +10,7 @@ use Rattle.output.specs.declared.piece.Kind.{Kind}
 use Rattle.word.specs.declared.end.End.{End as Ending}
 use Rattle.word.specs.Kinds.{GoroutineKind}
 use Rattle.word.specs.Worlds.{Equal}
-use Rattle.worker_pool_base.specs.Runs.{Begins, IsAll, bytes_of}
+use Rattle.book.specs.Runs.{Begins, IsAll, bytes_of}
 
 appends_none : (old : Option (List ℕ)) → Appends old old []
 appends_none None = tt

@@ -54,14 +54,14 @@ use Rattle.awake_rows.specs.contracts.slot.Away as Away
 use Rattle.awake_rows.specs.contracts.slot.Away.TheInside as away
 use Rattle.book.specs.declared.name.BookName.{Ghosts as BookGhosts}
 use Rattle.worker_pool.specs.contracts.locked.Locked as Locked
-use Rattle.worker_pool_base.specs.contracts.run_book.RunBook as RunBook
-use Rattle.worker_pool_base.specs.contracts.run_name.OfRun as OfRun
-use Rattle.worker_pool_base.specs.contracts.run_name.OfRunBookName.TheImpl.{ghosts, no_dict}
+use Rattle.book.specs.contracts.run_book.RunBook as RunBook
+use Rattle.book.specs.contracts.run_name.OfRun as OfRun
+use Rattle.book.specs.contracts.run_name.OfRunBookName.TheImpl.{ghosts, no_dict}
 use Rattle.worker_pool.specs.contracts.shared.Shared as Shared
 use Rattle.workers.proofs.signals.Signals.TheSendSync.{the_field_send as signals_send}
 use Rattle.workers.proofs.work_queues.WorkQueues.TheSendSync.{the_send as work_queues_send}
 use Rattle.workers.specs.contracts.work_queues.WorkQueues as WorkQueues
-use Rattle.worker_pool_base.specs.declared.run_name.RunName.{Ghosts}
+use Rattle.book.specs.declared.run_name.RunName.{Ghosts}
 
 away_inside : IsSend away.the_row
 away_inside = recorded_send away.the_field.row _ _ away.the_type.to_one (struct_send (shape away.the_type) (search (sendable, crosses), (search (sendable), tt)))

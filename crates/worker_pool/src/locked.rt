@@ -1,17 +1,17 @@
 //! What is under the lock of a run.
 
 ghost use Rattle.std.specs.Prelude.{◌≡◌, ◌+◌, [], IfOk, IfSome, OnOk, length};
-ghost use Rattle.worker_pool_base.specs.Handing.{HasEnded};
-ghost use Rattle.worker_pool_base.specs.Runs.{IsHanded, output_run, trace_run};
+ghost use Rattle.book.specs.Handing.{HasEnded};
+ghost use Rattle.book.specs.Runs.{IsHanded, output_run, trace_run};
 
+use book::handed::Handed;
+use book::run_book::RunBook;
+use book::run_name::{Printed, RunLease, RunName, Traced};
 use go_text::Memory;
 use output::Piece;
 use std::sync::Wait;
 use std::sync::atomic::{AtomicU64, Ordering};
 use std::sync::ledger::{Book, Share};
-use worker_pool_base::handed::Handed;
-use worker_pool_base::run_book::RunBook;
-use worker_pool_base::run_name::{Printed, RunLease, RunName, Traced};
 use workers::{Back, CAPACITY, Signals, Turn, WorkQueues};
 
 /// How many local steps a goroutine that talks makes at most between two requests.

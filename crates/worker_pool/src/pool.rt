@@ -8,12 +8,14 @@ ghost use Rattle.clock_table.specs.Seats.{table_of};
 ghost use Rattle.whole_run.specs.Runs.{BeginsOutput, IsLimit, IsWhole, IsWorkers};
 ghost use Rattle.output.specs.Progress.{progress_place, run_of};
 ghost use Rattle.tracer.specs.Trace.{BeginsTrace, IsWholeTrace};
-ghost use Rattle.worker_pool_base.specs.Runs.{ComesOf, IsStart, output_run, trace_run};
+ghost use Rattle.book.specs.Runs.{ComesOf, IsStart, output_run, trace_run};
 
 use crate::shared::Shared;
 use crate::worker::work;
 use crate::writing::{Reach, write_run};
 use book::Blank;
+use book::run_book::RunBook;
+use book::run_name::{Printed, RunLease, RunName, Traced};
 use go_text::Fault;
 use output::{Kind, Progress};
 use std::alloc::Global;
@@ -24,8 +26,6 @@ use std::thread::Threads;
 use verifier::Verified;
 use word::Write;
 use word::end::End;
-use worker_pool_base::run_book::RunBook;
-use worker_pool_base::run_name::{Printed, RunLease, RunName, Traced};
 use workers::{Gate, TraceWriter, WorkQueues};
 
 /// Runs a program up to the clock limit (1 to 2^62) on 1 to 64 workers, and answers how it ended. What is written begins the
@@ -180,7 +180,7 @@ impl<'a, 'o, 't, B: RunName, R: Wait, O: Write, T: Write> Task for Writing<'a, '
     ghost use Rattle.std.specs.Prelude.{◌≡◌, ◌⊎◌, IfErr, IsErrOf, true};
     ghost use Rattle.go_text.specs.declared.fault.Fault.TheVariants as faults;
     ghost use Rattle.output.specs.Progress.{progress_place};
-    ghost use Rattle.worker_pool_base.specs.Runs.{ComesOf, IsReached, output_run, trace_run};
+    ghost use Rattle.book.specs.Runs.{ComesOf, IsReached, output_run, trace_run};
 
     ghost can_run = { λ t. IsReached (output_run B.code B.limit) t.printed.progress t.printed.share.parts t.printed.share.amount
         × IsReached (trace_run B.code B.limit) t.traced.progress t.traced.share.parts t.traced.share.amount

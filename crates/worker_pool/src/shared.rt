@@ -3,14 +3,14 @@
 ghost use Rattle.std.specs.Prelude.{◌≡◌, ◌+◌, IfOk, length};
 
 use crate::locked::Locked;
+use book::handed::Handed;
+use book::run_book::RunBook;
+use book::run_name::{Printed, RunLease, RunName, Traced};
 use go_text::Memory;
 use std::sync::atomic::{AtomicU64, Ordering};
 use std::sync::ledger::{Book, Share};
 use std::sync::{Condvar, Mutex, MutexGuard, Wait};
 use std::time::Duration;
-use worker_pool_base::handed::Handed;
-use worker_pool_base::run_book::RunBook;
-use worker_pool_base::run_name::{Printed, RunLease, RunName, Traced};
 use workers::{Back, Pace, Turn, WorkQueues};
 
 /// How long the thread that writes sleeps, if nothing wakes it, in milliseconds.

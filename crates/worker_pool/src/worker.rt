@@ -1,9 +1,9 @@
 //! A worker.
 
 use crate::shared::Shared;
+use book::run_name::{RunLease, RunName};
 use logical_clock::Clock;
 use std::sync::Wait;
-use worker_pool_base::run_name::{RunLease, RunName};
 use workers::{Back, Gate, Pace, WorkQueues};
 
 /// How many local steps a lease makes before its clock is published again.

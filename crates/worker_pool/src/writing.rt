@@ -2,16 +2,16 @@
 
 ghost use Rattle.std.specs.Prelude.{◌≡◌, ◌⊎◌, ◌+◌, ℕ, List, Option, IfErr, IsErrOf, OnOk, length, true};
 ghost use Rattle.output.specs.Progress.{progress_place, run_of};
-ghost use Rattle.worker_pool_base.specs.Runs.{ComesOf, IsHanded, IsReached, Written, output_run, trace_run};
+ghost use Rattle.book.specs.Runs.{ComesOf, IsHanded, IsReached, Written, output_run, trace_run};
 
 use crate::shared::Shared;
+use book::run_name::{Printed, RunName, Traced};
 use go_text::Fault;
 use output::{Piece, Progress, drain_next};
 use std::sync::Wait;
 use std::sync::ledger::{Ledger, Share};
 use word::Write;
 use word::end::End;
-use worker_pool_base::run_name::{Printed, RunName, Traced};
 
 /// How far the bytes of one kind are written, and the share of those that were handed out.
 #[derive(Drop)]

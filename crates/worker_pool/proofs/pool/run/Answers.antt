@@ -1,9 +1,9 @@
 use Rattle.std.proofs.Common.{ℕ, subst}
 use Rattle.std.specs.Arc.{arc_value}
 use Rattle.bytecode.specs.Code.{Code}
-use Rattle.worker_pool_base.specs.Runs.{ComesOf, output_run, trace_run}
+use Rattle.book.specs.Runs.{ComesOf, output_run, trace_run}
 use Rattle.bytecode.specs.Machine.{code_kind}
-use Rattle.worker_pool_base.proofs.Pieces.{read_begins, read_whole}
+use Rattle.book.proofs.Pieces.{read_begins, read_whole}
 use Rattle.worker_pool.proofs.pool.run.Goals as goal
 
 pub returns-clause-begins : goal.returns-clause-begins

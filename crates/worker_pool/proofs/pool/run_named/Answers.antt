@@ -1,7 +1,7 @@
 use Rattle.std.proofs.Common.{rules, ◌≡◌}
 use Rattle.std.proofs.lemmas.Result.{err_from_is_err_and}
-use Rattle.worker_pool_base.specs.Runs.{output_run, trace_run}
-use Rattle.worker_pool_base.proofs.Pieces.{stops, written_none}
+use Rattle.book.specs.Runs.{output_run, trace_run}
+use Rattle.book.proofs.Pieces.{stops, written_none}
 use Rattle.worker_pool.proofs.pool.run_named.Goals as goal
 
 pub returns-in_err-queues-clause-output : goal.returns-in_err-queues-clause-output

@@ -1,6 +1,6 @@
 use Rattle.std.proofs.Common.{refl, arith}
 use Rattle.output.specs.Progress.{progress_place, run_of}
-use Rattle.worker_pool_base.proofs.Pieces.{is_next, written_to}
+use Rattle.book.proofs.Pieces.{is_next, written_to}
 use Rattle.worker_pool.proofs.writing.write_piece.Goals as goal
 
 pub drain_next-requires : goal.drain_next-requires

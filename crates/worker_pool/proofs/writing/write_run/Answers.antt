@@ -1,8 +1,8 @@
 use Rattle.std.proofs.Common.{◌∙◌}
 use Rattle.std.proofs.lemmas.Result.{err_from_is_err_and}
 use Rattle.output.specs.Progress.{progress_place, run_of}
-use Rattle.worker_pool_base.specs.Runs.{output_run, trace_run}
-use Rattle.worker_pool_base.proofs.Pieces.{begun, comes_to_end, output_to_end, reached, stops, trace_to_end, wrote_on}
+use Rattle.book.specs.Runs.{output_run, trace_run}
+use Rattle.book.proofs.Pieces.{begun, comes_to_end, output_to_end, reached, stops, trace_to_end, wrote_on}
 use Rattle.worker_pool.proofs.writing.write_run.Goals as goal
 
 pub loop-init : goal.loop-init

@@ -1,4 +1,4 @@
-use Rattle.worker_pool_base.specs.Runs.{IsReached, Written, output_run, trace_run}
+use Rattle.book.specs.Runs.{IsReached, Written, output_run, trace_run}
 use Rattle.output.specs.Progress.{progress_place}
 use Rattle.worker_pool.proofs.writing.write_run.Given as goal
 

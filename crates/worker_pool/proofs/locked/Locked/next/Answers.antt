@@ -1,6 +1,6 @@
 use Rattle.std.proofs.Common.{ap, ◌∙◌}
 use Rattle.book.specs.Desks.{Desk}
-use Rattle.worker_pool_base.proofs.Pieces.{handing}
+use Rattle.book.proofs.Pieces.{handing}
 use Rattle.worker_pool.proofs.locked.Locked.next.Goals as goal
 
 pub new-requires : goal.new-requires

@@ -7,13 +7,15 @@ ghost use Rattle.book.specs.Desks.{IsLent, KeepsLeases, OnlyLooks, brought, open
 ghost use Rattle.clock_table.specs.Clocks.{WasLent, loan_for, row as word_at};
 ghost use Rattle.clock_table.specs.Seats.{table_of};
 ghost use Rattle.whole_run.specs.Runs.{IsLimit};
-ghost use Rattle.worker_pool_base.specs.Handing.{HasEnded, KeepsTaken};
-ghost use Rattle.worker_pool_base.specs.Runs.{IsHanded, IsOfRun, output_run, trace_run};
-ghost use Rattle.worker_pool_base.specs.Turns.{Lends, SettlesAll, SettlesOne, SettlesSome};
+ghost use Rattle.book.specs.Handing.{HasEnded, KeepsTaken};
+ghost use Rattle.book.specs.Runs.{IsHanded, IsOfRun, output_run, trace_run};
+ghost use Rattle.book.specs.Turns.{Lends, SettlesAll, SettlesOne, SettlesSome};
 ghost use Rattle.world_core_base.specs.Cores.{Works, to_lend};
 
+use crate::blank::Blank;
+use crate::book_model::Book;
 use crate::run_name::{OfRun, RunLease, RunName};
-use book::{Blank, Book, Reached};
+use crate::settled::Reached;
 use go_text::{Fault, Memory};
 use output::Piece;
 use std::sync::Arc;

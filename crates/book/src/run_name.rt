@@ -1,6 +1,7 @@
 //! Names of runs, which proofs alone see.
 
-use book::{BookName, Lease};
+use crate::lease::Lease;
+use crate::name::BookName;
 use std::marker::{Brand, PhantomData};
 use std::sync::ledger::Ledger;
 

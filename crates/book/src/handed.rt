@@ -1,7 +1,7 @@
 //! What the workers hand to the thread that writes.
 
 ghost use Rattle.std.specs.Prelude.{◌≡◌, ◌+◌, IfSome, length};
-ghost use Rattle.worker_pool_base.specs.Handing.{Handing, IsHanding};
+ghost use Rattle.book.specs.Handing.{Handing, IsHanding};
 
 use crate::run_name::RunName;
 use output::Piece;
@@ -18,7 +18,7 @@ pub struct Handed<B: RunName> {
 }
 
 impl<B: RunName> Model for Handed<B> {
-    ghost use Rattle.worker_pool_base.specs.Handing.{Handing, IsHanding};
+    ghost use Rattle.book.specs.Handing.{Handing, IsHanding};
 
     ghost Value = { Handing };
 

@@ -7,9 +7,9 @@ use Rattle.book.specs.declared.settled.Settled.{Settled}
 use Rattle.book.specs.declared.settled.Settled.TheVariants.{Committed, Waiting, Ended}
 use Rattle.book.proofs.Whole.{looks_run, looks_taken}
 use Rattle.bytecode.specs.Code.{Code}
-use Rattle.worker_pool_base.specs.Handing.{KeepsTaken}
-use Rattle.worker_pool_base.specs.Runs.{IsOfRun}
-use Rattle.worker_pool_base.specs.Turns.{Commits, SettlesAll, SettlesOne, SettlesSome, is_committed}
+use Rattle.book.specs.Handing.{KeepsTaken}
+use Rattle.book.specs.Runs.{IsOfRun}
+use Rattle.book.specs.Turns.{Commits, SettlesAll, SettlesOne, SettlesSome, is_committed}
 use Rattle.std.specs.Prelude.{◌≡◌, ℕ, Bool, List, ◌∷◌, None, Some, IfOk, OnErr, Result, Ok, Err}
 use Rattle.word.specs.declared.end.End.{End as Ending}
 use Rattle.go_text.specs.declared.fault.Memory.{Memory}

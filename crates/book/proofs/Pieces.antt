@@ -24,8 +24,8 @@ use Rattle.word.specs.Worlds.{Rest, moment, opening, rules}
 use Rattle.word.proofs.Laws.{laws}
 use Rattle.word.proofs.Outputs.{outputs_begin}
 use Rattle.word.proofs.Records.{events_begin}
-use Rattle.worker_pool_base.specs.Handing.{Handing, HasEnded, IsHanding}
-use Rattle.worker_pool_base.specs.Runs.{Begins, ComesOf, EndsAt, IsAll, IsHanded, IsOfRun, IsPieceOf, Written, bytes_after, bytes_of, output_run, trace_run}
+use Rattle.book.specs.Handing.{Handing, HasEnded, IsHanding}
+use Rattle.book.specs.Runs.{Begins, ComesOf, EndsAt, IsAll, IsHanded, IsOfRun, IsPieceOf, Written, bytes_after, bytes_of, output_run, trace_run}
 
 pub appends_more : (old mid new : Option (List ℕ)) (xs ys : List ℕ) → Appends old mid xs → Appends mid new ys → Appends old new (xs ++ ys)
 appends_more None mid new xs ys a b = tt

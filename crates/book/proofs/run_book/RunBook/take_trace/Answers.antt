@@ -1,5 +1,5 @@
-use Rattle.worker_pool_base.proofs.Pieces.{hands_trace}
-use Rattle.worker_pool_base.proofs.run_book.RunBook.take_trace.Goals as goal
+use Rattle.book.proofs.Pieces.{hands_trace}
+use Rattle.book.proofs.run_book.RunBook.take_trace.Goals as goal
 
 pub returns-clause-piece : goal.returns-clause-piece
 returns-clause-piece g c =

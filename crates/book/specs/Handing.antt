@@ -4,7 +4,7 @@ use Rattle.book.specs.Desks.{Desk, IsEnd}
 use Rattle.bytecode.specs.Code.{Code}
 use Rattle.output.specs.declared.piece.Piece.{Piece}
 use Rattle.word.specs.declared.end.End.{End as Ending}
-use Rattle.worker_pool_base.specs.Runs.{EndsAt, IsHanded, output_run, trace_run}
+use Rattle.book.specs.Runs.{EndsAt, IsHanded, output_run, trace_run}
 
 pub record Handing : Type 0 where
   pub output : Piece

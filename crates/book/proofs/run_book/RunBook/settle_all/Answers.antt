@@ -1,7 +1,7 @@
 use Rattle.std.proofs.Common.{rules}
 use Rattle.book.specs.Desks.{settled_by}
-use Rattle.worker_pool_base.proofs.Settling.{all_ended, all_waiting, kept_taken, leases_stay, looks_keep_taken, one_more, settled_keeps_run, settles_keep_taken, some_settled}
-use Rattle.worker_pool_base.proofs.run_book.RunBook.settle_all.Goals as goal
+use Rattle.book.proofs.Committing.{all_ended, all_waiting, kept_taken, leases_stay, looks_keep_taken, one_more, settled_keeps_run, settles_keep_taken, some_settled}
+use Rattle.book.proofs.run_book.RunBook.settle_all.Goals as goal
 
 pub invariant_of-self : goal.invariant_of-self
 invariant_of-self g c = record { ours = settled_keeps_run g.B.RunName.code g.B.RunName.limit g.B.RunName.traces c.events.self.book c.settle_into.new.self c.settle_into.new.event c.settle_into.result c.settle_into.ensures.settles c.settle_into.ensures.memory c.events.self.ours }

@@ -1,3 +1,0 @@
-pub mod Handing
-pub mod Runs
-pub mod Turns
