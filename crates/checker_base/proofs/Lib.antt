@@ -1,3 +1,2 @@
 pub mod Powers
 pub mod Literals
-pub mod Variants

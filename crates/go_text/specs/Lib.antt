@@ -1,2 +1,3 @@
 pub mod Source
 pub mod Lines
+pub mod Titles

@@ -1,5 +1,6 @@
 //! Why a text or a run is refused.
 ghost use Rattle.std.specs.Prelude.{◌≡◌};
+ghost use Rattle.go_text.specs.Titles.{fault_title};
 ghost use Rattle.go_text.specs.declared.fault.Fault.TheVariants as fault;
 
 use crate::place::Place;
@@ -70,7 +71,9 @@ pub enum Fault {
 
 impl Fault {
     /// Its number and what it is called.
-    fn title(self) -> &'static str {
+    pub fn title(self) -> &'static str
+        ensures { result.now ≡ fault_title self }
+    {
         match self {
             Self::TooLong => "1 TooLong",
             Self::NotUtf8 => "2 NotUtf8",

@@ -1,5 +1,5 @@
 -- What a run writes is what the source of its code writes.
-use Rattle.std.proofs.Common.{◌≡◌, ℕ, ◌↔◌, ◌⊎◌, inl, inr, List, [], take, append-nil, Option, Some, None, Result, Ok, Err, IfErr, IfOk, IsErrOf, sym, ap, ◌∙◌, subst}
+use Rattle.std.proofs.Common.{◌≡◌, ℕ, ◌↔◌, ◌⊎◌, inl, inr, List, take, Option, Result, Ok, Err, IfErr, IfOk, IsErrOf, sym, ap, ◌∙◌, subst}
 use Rattle.std.specs.Io.KnownBytes.{Appends}
 use Rattle.bytecode.specs.Code.{Code}
 use Rattle.bytecode.specs.Machine.{code_kind}
@@ -11,10 +11,7 @@ use Rattle.word.specs.declared.end.End.{End as Ending}
 use Rattle.word.specs.Kinds.{GoroutineKind}
 use Rattle.word.specs.Worlds.{Equal}
 use Rattle.book.specs.Runs.{Begins, IsAll, bytes_of}
-
-appends_none : (old : Option (List ℕ)) → Appends old old []
-appends_none None = tt
-appends_none (Some xs) = sym (append-nil xs)
+use Rattle.book.proofs.Pieces.{appends_none}
 
 -- nothing is written
 pub nothing_begins : (kind : Kind) (K : GoroutineKind) (limit : ℕ) (old : Option (List ℕ)) → Begins kind K limit old old

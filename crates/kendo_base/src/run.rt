@@ -23,7 +23,6 @@ use worker_pool::{Gate, TraceWriter};
 /// without a reading is refused before anything is written.
 ///
 /// Errors: by the numbers 1 to 10 why it is none, with line and column; `Memory`; `Write`; `BadWorkers`; `BadLimit`.
-#[tactic(auto, using(kendo_reading::proofs::Spelled::grammatical, kendo_reading::proofs::Spelled::limited))]
 pub fn run_bytes<R: Threads + Wait + Sync, G: Gate + Sync, O: Write, T: TraceWriter>(
     rt: &R,
     alloc: Global,
@@ -55,6 +54,5 @@ pub fn run_bytes<R: Threads + Wait + Sync, G: Gate + Sync, O: Write, T: TraceWri
         return Err(Fault::BadLimit);
     }
     let (_source, typed) = read(alloc, bytes)?;
-    let end = run_typed(rt, alloc, &typed, limit, workers, gate, out, trace)?;
-    Ok(end)
+    run_typed(rt, alloc, &typed, limit, workers, gate, out, trace)
 }

@@ -26,7 +26,6 @@ use syntax::Tree;
 /// The text, and the checked program that it is.
 ///
 /// Errors: by the numbers 1 to 10 why it is none, with line and column; `Memory`.
-#[tactic(auto, using(crate::proofs::Refusals::treeless, crate::proofs::Refusals::untyped, crate::proofs::Refusals::reads))]
 pub fn read(alloc: Global, bytes: Vec<u8>) -> Result<(Source, Typed), Fault>
     ensures text { IfOk result (λ read. bytes_of read.0 ≡ bytes.items) }
     ensures reads { IfOk result (λ read. Reads bytes.items (tree_of (tree_in read.1))) }

@@ -4,6 +4,7 @@ use Rattle.go_text.specs.declared.rule.Rule.{Rule}
 use Rattle.go_text.specs.declared.rule.Rule.TheVariants.{Main, Declared, Visible, Struct, Operands, Constant, Assignable, Numbers, NewName, Assigned, Direction, Channel, Nil, Condition, Returned, Terminating, Branch, Called, Made, OneDefault}
 use Rattle.go_text.specs.declared.rule.LimitKind.{LimitKind}
 use Rattle.go_text.specs.declared.rule.LimitKind.TheVariants.{ConstantSize, StructWidth, SelectClauses, ListEntries, FunctionWords, Declarations}
+use Rattle.go_text.specs.Titles.{fault_title}
 use Rattle.go_text.specs.declared.fault.Fault.{Fault}
 use Rattle.go_text.specs.declared.fault.Fault.TheVariants as fault
 use Rattle.word.specs.declared.panic.Panic.{Panic}
@@ -48,28 +49,23 @@ abbrev pub position_text : Option Position → List ℕ
 position_text None = []
 position_text (Some p) = codes " at " ++ decimal p.line ++ codes ":" ++ decimal p.column
 
+-- what stands behind the title of a refusal: its details, and where it lies
+abbrev pub fault_details : Fault → List ℕ
+fault_details (fault.BadCharacter place) = position_text place.position
+fault_details (fault.BadNumber place) = position_text place.position
+fault_details (fault.OpenString place) = position_text place.position
+fault_details (fault.OpenComment place) = position_text place.position
+fault_details (fault.Syntax place) = position_text place.position
+fault_details (fault.TooDeep place) = position_text place.position
+fault_details (fault.Typing rule _ place) = codes " " ++ decimal (rule_number rule) ++ position_text place.position
+fault_details (fault.Limit kind _ place) = codes " " ++ decimal (limit_number kind) ++ position_text place.position
+fault_details (fault.Unverified rule function place) =
+    codes " " ++ (decimal rule ++ (codes " in function " ++ (decimal function ++ (codes " at " ++ decimal place))))
+fault_details _ = []
+
 -- a refusal by its number and its name, and where it lies
 abbrev pub fault_text : Fault → List ℕ
-fault_text fault.TooLong = codes "1 TooLong"
-fault_text fault.NotUtf8 = codes "2 NotUtf8"
-fault_text (fault.BadCharacter place) = codes "3 BadCharacter" ++ position_text place.position
-fault_text (fault.BadNumber place) = codes "4 BadNumber" ++ position_text place.position
-fault_text (fault.OpenString place) = codes "5 OpenString" ++ position_text place.position
-fault_text (fault.OpenComment place) = codes "6 OpenComment" ++ position_text place.position
-fault_text (fault.Syntax place) = codes "7 Syntax" ++ position_text place.position
-fault_text (fault.TooDeep place) = codes "8 TooDeep" ++ position_text place.position
-fault_text (fault.Typing rule _ place) =
-    codes "9 Type rule " ++ decimal (rule_number rule) ++ position_text place.position
-fault_text (fault.Limit kind _ place) =
-    codes "10 Limit kind " ++ decimal (limit_number kind) ++ position_text place.position
-fault_text (fault.Unverified rule function place) =
-    codes "11 Unverified rule " ++ (decimal rule ++ (codes " in function " ++ (decimal function
-    ++ (codes " at " ++ decimal place))))
-fault_text fault.NotYours = codes "12 NotYours"
-fault_text fault.Memory = codes "13 Memory"
-fault_text fault.Write = codes "14 Write"
-fault_text fault.BadWorkers = codes "15 BadWorkers"
-fault_text fault.BadLimit = codes "16 BadLimit"
+fault_text refusal = fault_title refusal ++ fault_details refusal
 
 -- the number of a panic
 abbrev pub panic_number : Panic → ℕ

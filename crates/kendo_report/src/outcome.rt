@@ -1,6 +1,5 @@
 //! The line on standard error and the exit status, for each way in which a run can end.
-ghost use Rattle.std.specs.Prelude.{◌≡◌, ◌++◌, IfOk, Some, string_bytes};
-ghost use Rattle.std.specs.Fmt.{DisplaysOnOk};
+ghost use Rattle.std.specs.Prelude.{◌≡◌, IfOk, Some, string_bytes};
 ghost use Rattle.kendo_report.specs.Outcome.{fault_text, panic_number, panic_text, position_text, report_line, report_status};
 
 use go_text::{Fault, Memory, Place, Position};
@@ -113,46 +112,37 @@ impl fmt::Display for FaultText {
     ghost output = { λ text. Some (fault_text text.0) };
 
     fn fmt<W: fmt::Write>(&self, f: &mut fmt::Formatter<W>) -> fmt::Result {
+        let title = self.0.title();
         match self.0 {
-            Fault::TooLong => write!(f, "1 TooLong"),
-            Fault::NotUtf8 => write!(f, "2 NotUtf8"),
-            Fault::BadCharacter(place) => placed(f, "3 BadCharacter", place),
-            Fault::BadNumber(place) => placed(f, "4 BadNumber", place),
-            Fault::OpenString(place) => placed(f, "5 OpenString", place),
-            Fault::OpenComment(place) => placed(f, "6 OpenComment", place),
-            Fault::Syntax(place) => placed(f, "7 Syntax", place),
-            Fault::TooDeep(place) => placed(f, "8 TooDeep", place),
+            Fault::BadCharacter(place)
+            | Fault::BadNumber(place)
+            | Fault::OpenString(place)
+            | Fault::OpenComment(place)
+            | Fault::Syntax(place)
+            | Fault::TooDeep(place) => {
+                let at = At(place);
+                write!(f, "{title}{at}")
+            }
             Fault::Typing { rule, place, .. } => {
                 let (number, at) = (rule as u8, At(place));
-                write!(f, "9 Type rule {number}{at}")
+                write!(f, "{title} {number}{at}")
             }
             Fault::Limit { kind, place, .. } => {
                 let (number, at) = (kind as u8, At(place));
-                write!(f, "10 Limit kind {number}{at}")
+                write!(f, "{title} {number}{at}")
             }
             Fault::Unverified {
                 rule,
                 function,
                 place,
-            } => {
-                write!(
-                    f,
-                    "11 Unverified rule {rule} in function {function} at {place}"
-                )
-            }
-            Fault::NotYours => write!(f, "12 NotYours"),
-            Fault::Memory => write!(f, "13 Memory"),
-            Fault::Write => write!(f, "14 Write"),
-            Fault::BadWorkers => write!(f, "15 BadWorkers"),
-            Fault::BadLimit => write!(f, "16 BadLimit"),
+            } => write!(f, "{title} {rule} in function {function} at {place}"),
+            Fault::TooLong
+            | Fault::NotUtf8
+            | Fault::NotYours
+            | Fault::Memory
+            | Fault::Write
+            | Fault::BadWorkers
+            | Fault::BadLimit => f.write_str(title),
         }
     }
-}
-
-/// A name and a place.
-fn placed<W: fmt::Write>(f: &mut fmt::Formatter<W>, name: &str, place: Place) -> fmt::Result
-    ensures { DisplaysOnOk W.write_str_gives f.old result (Some (name.now ++ position_text place.position)) f.new }
-{
-    let at = At(place);
-    write!(f, "{name}{at}")
 }

@@ -8,7 +8,7 @@ use Rattle.parser_base.specs.Lexemes.{Lexeme, Name, Mark}
 use Rattle.parser_base.specs.Spelling.{behind, separated, joined, closing, AreSome}
 use Rattle.parser_base.specs.Reading.{Syntax, Reading, ◌>>=◌, expect, plain_name, listed}
 use Rattle.parser_base.specs.TypeReading.{type_words, type_at}
-use Rattle.parser_base.proofs.Marks.{bind_ok, ok_is, expect_is, plain_name_is}
+use Rattle.parser_base.proofs.Marks.{bind_ok, in_turn, ok_is, expect_is, plain_name_is}
 use Rattle.parser_base.proofs.ListLaws.{AreFew, ReadBack, Found, High, Many, Found as AllFound, High as AllHigh, Many as AllMany, Full, all_again, IsReadAgain, listed_again, listed_sound}
 use Rattle.parser_base.proofs.Steps.{then_again, gave, made_is, either}
 use Rattle.parser_base.proofs.TypeLaws.{Found as TypeFound, High as TypeHigh, type_again, type_sound}
@@ -178,6 +178,30 @@ parameters_words parameters rest = joined declared_words (behind kinds.Comma) pa
 typed_parts : (parameters : List Declared × Bool) (kind : Option TypeExpression) (inside typed bare tail : List Lexeme) → inside ≡ parameters_words parameters typed → typed ≡ result_words kind bare → bare ≡ tail → inside ≡ parameters_words parameters (result_words kind tail)
 typed_parts parameters kind inside typed bare tail first second third = first ∙ ap (parameters_words parameters) (second ∙ ap (result_words kind) third)
 
+-- the parts of a function, each as it was read
+function_of : (most room : ℕ) (ws : List Lexeme) (t : Top) (rest first : List Lexeme) (name : List ℕ × List Lexeme) (within : List Lexeme) (parameters : (List Declared × Bool) × List Lexeme) (kind : Option TypeExpression × List Lexeme) (found : (List Statement × Bool) × List Lexeme)
+    → expect kinds.Func ws ≡ Ok first → plain_name first ≡ Ok name → expect kinds.LeftParenthesis name.1 ≡ Ok within → all_declared kinds.Comma kinds.RightParenthesis most room within ≡ Ok parameters
+    → result_type (suc room) parameters.1 ≡ Ok kind → block most room kind.1 ≡ Ok found → gave (made_function name.0 parameters.0.0 parameters.0.1 kind.0 found.0.0) found.1 ≡ gave t rest → IsTopSound most room ws t rest
+function_of most room ws t rest first name within parameters kind found begun named braced listed typed blocked made =
+    let word = plain_name_is first name.0 name.1 named in
+    let ps = declared_sound kinds.Comma kinds.RightParenthesis most room within parameters listed in
+    let ks = result_sound (suc room) parameters.1 kind.0 kind.1 typed in
+    let bs = block_sound most room kind.1 found blocked in
+    let ss = found.0.0 in
+    let same : statements_in (made_statements ss) ≡ ss = statements_in-statements ss in
+    let after = result_words kind.0 (block_words (statements_in (made_statements ss)) found.1) in
+    let inside' = parameters_words parameters.0 after in
+    let block' = bs.parts ∙ ap (λ (x : List Statement). block_words x found.1) (sym same) in
+    let parameters' = typed_parts parameters.0 kind.0 within parameters.1 kind.1 (block_words (statements_in (made_statements ss)) found.1) ps.parts ks.parts block' in
+    let open' = behind_word (Mark kinds.LeftParenthesis) name.1 within inside' (expect_is kinds.LeftParenthesis name.1 within braced) parameters' in
+    let name' = behind_word (Name name.0) first name.1 (Mark kinds.LeftParenthesis ∷ inside') word.0 open' in
+    subst (λ (x : Top × List Lexeme). IsTopSound most room ws x.0 x.1) (ok_is (made_function name.0 parameters.0.0 parameters.0.1 kind.0 ss, found.1) (t, rest) made) (record {
+      parts = behind_word (Mark kinds.Func) ws first (Name name.0 ∷ Mark kinds.LeftParenthesis ∷ inside') (expect_is kinds.Func ws first begun) name';
+      is = record { named = word.1; parameters = ps.are; trailing = ps.last; result = ks.is; body = subst (AreSome IsStatement) (sym same) bs.are };
+      low = omega (arith, ps.low, ks.low, bs.low, statements_height-of ss);
+      few = λ listing. omega (arith, ps.few listing, bs.few listing, statements_longest-of listing ss);
+    })
+
 function_sound : (most room : ℕ) (ws : List Lexeme) (t : Top) (rest : List Lexeme) → function most room ws ≡ gave t rest → IsTopSound most room ws t rest
 unfolding function
 function_sound most room ws t rest e =
@@ -185,30 +209,13 @@ function_sound most room ws t rest e =
     let kinded = λ (name : List ℕ) (parameters : List Declared × Bool) (words : List Lexeme). result_type (suc room) words >>= λ kind. body name parameters kind.0 kind.1 in
     let inside = λ (name : List ℕ) (words : List Lexeme). all_declared kinds.Comma kinds.RightParenthesis most room words >>= λ parameters. kinded name parameters.0 parameters.1 in
     let opened = λ (name : List ℕ) (words : List Lexeme). expect kinds.LeftParenthesis words >>= inside name in
-    let a = bind_ok (expect kinds.Func ws) (λ first. plain_name first >>= λ name. opened name.0 name.1) (t, rest) e in
-    let n = bind_ok (plain_name a.0) (λ name. opened name.0 name.1) (t, rest) a.2 in
-    let o = bind_ok (expect kinds.LeftParenthesis n.0.1) (inside n.0.0) (t, rest) n.2 in
-    let p = bind_ok (all_declared kinds.Comma kinds.RightParenthesis most room o.0) (λ parameters. kinded n.0.0 parameters.0 parameters.1) (t, rest) o.2 in
-    let k = bind_ok (result_type (suc room) p.0.1) (λ kind. body n.0.0 p.0.0 kind.0 kind.1) (t, rest) p.2 in
-    let b = bind_ok (block most room k.0.1) (λ found. gave (made_function n.0.0 p.0.0.0 p.0.0.1 k.0.0 found.0.0) found.1) (t, rest) k.2 in
-    let named = plain_name_is a.0 n.0.0 n.0.1 n.1 in
-    let ps = declared_sound kinds.Comma kinds.RightParenthesis most room o.0 p.0 p.1 in
-    let ks = result_sound (suc room) p.0.1 k.0.0 k.0.1 k.1 in
-    let bs = block_sound most room k.0.1 b.0 b.1 in
-    let ss = b.0.0.0 in
-    let same : statements_in (made_statements ss) ≡ ss = statements_in-statements ss in
-    let after = result_words k.0.0 (block_words (statements_in (made_statements ss)) b.0.1) in
-    let inside' = parameters_words p.0.0 after in
-    let block' = bs.parts ∙ ap (λ (x : List Statement). block_words x b.0.1) (sym same) in
-    let parameters' = typed_parts p.0.0 k.0.0 o.0 p.0.1 k.0.1 (block_words (statements_in (made_statements ss)) b.0.1) ps.parts ks.parts block' in
-    let open' = behind_word (Mark kinds.LeftParenthesis) n.0.1 o.0 inside' (expect_is kinds.LeftParenthesis n.0.1 o.0 o.1) parameters' in
-    let name' = behind_word (Name n.0.0) a.0 n.0.1 (Mark kinds.LeftParenthesis ∷ inside') named.0 open' in
-    subst (λ (x : Top × List Lexeme). IsTopSound most room ws x.0 x.1) (ok_is (made_function n.0.0 p.0.0.0 p.0.0.1 k.0.0 ss, b.0.1) (t, rest) b.2) (record {
-      parts = behind_word (Mark kinds.Func) ws a.0 (Name n.0.0 ∷ Mark kinds.LeftParenthesis ∷ inside') (expect_is kinds.Func ws a.0 a.1) name';
-      is = record { named = named.1; parameters = ps.are; trailing = ps.last; result = ks.is; body = subst (AreSome IsStatement) (sym same) bs.are };
-      low = omega (arith, ps.low, ks.low, bs.low, statements_height-of ss);
-      few = λ listing. omega (arith, ps.few listing, bs.few listing, statements_longest-of listing ss);
-    })
+    in_turn (expect kinds.Func ws) (λ first. plain_name first >>= λ name. opened name.0 name.1) (t, rest) e (λ first begun e1.
+    in_turn (plain_name first) (λ name. opened name.0 name.1) (t, rest) e1 (λ name named e2.
+    in_turn (expect kinds.LeftParenthesis name.1) (inside name.0) (t, rest) e2 (λ within braced e3.
+    in_turn (all_declared kinds.Comma kinds.RightParenthesis most room within) (λ parameters. kinded name.0 parameters.0 parameters.1) (t, rest) e3 (λ parameters listed e4.
+    in_turn (result_type (suc room) parameters.1) (λ kind. body name.0 parameters.0 kind.0 kind.1) (t, rest) e4 (λ kind typed e5.
+    in_turn (block most room kind.1) (λ found. gave (made_function name.0 parameters.0.0 parameters.0.1 kind.0 found.0.0) found.1) (t, rest) e5 (λ found blocked e6.
+    function_of most room ws t rest first name within parameters kind found begun named braced listed typed blocked e6))))))
 
 pub top_sound : (most room : ℕ) (ws : List Lexeme) (t : Top) (rest : List Lexeme) → top most room ws ≡ gave t rest → IsTopSound most room ws t rest
 unfolding top

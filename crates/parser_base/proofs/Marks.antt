@@ -21,6 +21,12 @@ pub bind_ok : {A B : Type 0} (r : Result A Refusal) (f : A → Result B Refusal)
 bind_ok (Ok x) f y e = (x, refl, e)
 bind_ok (Err d) f y e = absurd cc
 
+-- one step that did not fail, and then the next: what follows has its value as a variable
+pub in_turn : {A B P : Type 0} (r : Result A Refusal) (f : A → Result B Refusal) (y : B) → (r >>= f) ≡ Ok y → ((x : A) → r ≡ Ok x → f x ≡ Ok y → P) → P
+in_turn r f y e goes =
+    let step = bind_ok r f y e in
+    goes step.0 step.1 step.2
+
 -- where a test that holds refuses
 pub unless_ok : {A : Type 0} (b : Bool) (d : Refusal) (r : Result A Refusal) (y : A) → cond b (Err d) r ≡ Ok y → (b ≡ false) × (r ≡ Ok y)
 unless_ok true d r y e = absurd cc

@@ -3,7 +3,7 @@ use Rattle.std.proofs.Common.{◌≡◌, ℕ, ◌-◌, ◌≤◌, Bool, true, fa
 use Rattle.parser_base.specs.declared.fault.ParseFault.{ParseFault}
 use Rattle.scanner.specs.declared.kind.TokenKind.{TokenKind}
 use Rattle.scanner.specs.declared.kind.TokenKind.TheVariants as kinds
-use Rattle.syntax.specs.Tree.{Expression, Comm, IfHead, ForHead, Statement, Block, If, For, Select, Statements, statements, Branch, Conditional, Otherwise, ElseBlock, ElseIf, Clauses}
+use Rattle.syntax.specs.Tree.{Expression, Comm, IfHead, ForHead, Statement, Block, If, For, Statements, statements, Branch, Conditional, Otherwise, ElseBlock, ElseIf}
 use Rattle.syntax.specs.View.{OneClause}
 use Rattle.std.proofs.lemmas.Bool.{leb-false}
 use Rattle.parser_base.specs.Lexemes.{Lexeme, Mark}
@@ -11,7 +11,7 @@ use Rattle.parser_base.specs.Reading.{Refusal, TooDeep, Syntax, Fails, Reading, 
 use Rattle.parser_base.proofs.Results.{fails_on}
 use Rattle.parser_simple.specs.Reading.{needing, begins_with}
 use Rattle.parser_header.specs.Reading.{if_header, for_header}
-use Rattle.parser_statement.specs.Reading.{statement, block, branch, clause, other, otherwise, branched, repeated, waited, clause_body, one_clause, clause_next, marked, leaf}
+use Rattle.parser_statement.specs.Reading.{statement, block, branch, other, otherwise, branched, repeated, waited, clause_body, one_clause, clause_next, marked, leaf}
 
 enough : {A : Type 0} (least room : ℕ) (read : Result A Refusal) (b : Bool) → nat_le least room ≡ b → least ≤ room → cond b read (Err TooDeep) ≡ read
 enough least room read true e h = refl

@@ -1,5 +1,5 @@
 -- A table's entries.
-use Rattle.std.proofs.Common.{◌≡◌, ℕ, zero, suc, ◌<◌, List, [], ◌∷◌, length, Option, Some, None, refl, sym, ap, ◌∙◌, subst, arith, slice_set, slice_index_or}
+use Rattle.std.proofs.Common.{◌≡◌, ℕ, zero, suc, ◌<◌, List, [], ◌∷◌, ◌++◌, length, Option, Some, None, refl, sym, ap, ◌∙◌, subst, arith, slice_set, slice_index_or}
 use Rattle.std.specs.Global.{Vec}
 use Rattle.bytecode.specs.declared.instr.WordKind.{WordKind}
 use Rattle.std.proofs.Common.{◌⊎◌, inl, inr}
@@ -68,3 +68,10 @@ led New code f old new to ks h r p m =
       subst (Reached code f) (sym m.1.2) (reached_set code f old to v m.0 h r (p.0, subst (λ x. Path code f p.0 to x) (sym same) p.1)),
       (subst (λ x. unknown x < unknown old) (sym m.1.2) (unknown_set old to v h m.0), m),
     )
+
+-- an entry without kinds at the end changes nothing
+pub entry_more : (t : Table) (n : ℕ) → entry (t ++ None ∷ []) n ≡ entry t n
+entry_more [] zero = refl
+entry_more [] (suc n) = refl
+entry_more (x ∷ t) zero = refl
+entry_more (x ∷ t) (suc n) = entry_more t n

@@ -1,6 +1,6 @@
 use Rattle.std.proofs.Common.{rules, arith, ◌≡◌, ◌∙◌, [], refl, sym, ◌∷◌, ◌+◌, suc, inl, inr, Some, drop, map, slice_get, length, option_copied, drop-cons}
 use Rattle.std.proofs.lemmas.List.{drop_all, length-map}
-use Rattle.std.proofs.lemmas.Result.{err_from_is_err_and, IfOk-weaker}
+use Rattle.std.proofs.lemmas.Result.{err_from_is_err_and, IfOk-weaker, IfErr-weaker}
 use Rattle.syntax.specs.declared.node.ExpressionNode.TheFolds.{the_lemmas}
 use Rattle.syntax.specs.Measures.{expression_size, expressions_size}
 use Rattle.syntax.specs.Tree.{Composite, expressions}
@@ -10,22 +10,23 @@ use Rattle.type_table.specs.Visible.{types_of, globals_in, scope_of}
 use Rattle.typing_rules.specs.Worths.{literal_struct, worth}
 use Rattle.checker_base.specs.Views.{kind_in}
 use Rattle.typing_rules.specs.Expressions.{ExpressionsHave, ValuesFail, field_kinds, nodes_of}
+use Rattle.syntax.proofs.Nodes.{integer_is, named_is, parenthesized_is, selection_is, unary_is, binary_is, composite_is}
 use Rattle.checker_base.proofs.Literals.{is_none, is_some, no_fields, number_has, value_has, narrows-end, next_field, found_next, passed_next, fits_next, fields_agree, composite_has, composite_in, literal_free, literal_flawed}
 use Rattle.checker_base.proofs.operand.+checked.Goals as goal
 
 pub checked-returns-in-Composite-clause-worth : goal.checked-returns-in-Composite-clause-worth
 checked-returns-in-Composite-clause-worth t c =
-    IfOk-weaker c.composite.result _ _ (λ o every. let h = every c.in-Composite.field-2 in search (rules, the_lemmas, h)) c.composite.ensures.worth
+    rw (composite_is _ _ _ _ c.in-Composite.is) (IfOk-weaker c.composite.result _ _ (λ o every. every c.in-Composite.field-2) c.composite.ensures.worth)
 
 pub checked-returns-in-Composite-clause-none : goal.checked-returns-in-Composite-clause-none
 checked-returns-in-Composite-clause-none t c =
-    let is : expression_of c.args.expression.now ≡ Composite (name_of c.in-Composite.name) (expressions (map expression_of c.in-Composite.values.items)) c.in-Composite.field-2 = search (rules, the_lemmas) in
+    let is : expression_of c.args.expression.now ≡ Composite (name_of c.in-Composite.name) (expressions (map expression_of c.in-Composite.values.items)) c.in-Composite.field-2 = composite_is _ _ _ _ c.in-Composite.is in
     literal_free c.composite.result (globals_in c.args.table.now) (scope_of c.args.table.now c.args.visible.now) c.args.first (name_of c.in-Composite.name) (expressions (map expression_of c.in-Composite.values.items)) c.in-Composite.field-2
     (expression_of c.args.expression.now) is (rw c.as_slice-in-Composite.ensures.value at c.composite.ensures.none)
 
 pub checked-returns-in-Composite-clause-one : goal.checked-returns-in-Composite-clause-one
 checked-returns-in-Composite-clause-one t c =
-    let is : expression_of c.args.expression.now ≡ Composite (name_of c.in-Composite.name) (expressions (map expression_of c.in-Composite.values.items)) c.in-Composite.field-2 = search (rules, the_lemmas) in
+    let is : expression_of c.args.expression.now ≡ Composite (name_of c.in-Composite.name) (expressions (map expression_of c.in-Composite.values.items)) c.in-Composite.field-2 = composite_is _ _ _ _ c.in-Composite.is in
     literal_flawed c.composite.result (globals_in c.args.table.now) (scope_of c.args.table.now c.args.visible.now) c.args.first (name_of c.in-Composite.name) (expressions (map expression_of c.in-Composite.values.items)) c.in-Composite.field-2
     (expression_of c.args.expression.now) is (rw c.as_slice-in-Composite.ensures.value at c.composite.ensures.one)
 
@@ -145,122 +146,158 @@ fit_fields-returns-clause-misfit t c =
     (ValuesFail globals scope c.loop-number.end (map expression_of (drop c.loop-number.number c.args.values.now)) (field_kinds (map (field_in types) (drop c.loop-number.number c.args.fields.now))))
     c.loop-number.misfit (λ flaw has. rw none at has) c.loop-number.invariant.fits
 
-pub checked-checked-requires : goal.checked-checked-requires
-checked-checked-requires t c = search (rules, the_lemmas)
-
-pub checked-returns-in_err-inner-in-Parenthesized-clause-one : goal.checked-returns-in_err-inner-in-Parenthesized-clause-one
-checked-returns-in_err-inner-in-Parenthesized-clause-one t c = search (rules, the_lemmas)
-
-pub checked-overflow_add-result : goal.checked-overflow_add-result
-checked-overflow_add-result t c = search (rules, the_lemmas)
-
-pub checked-checked-requires-in-Selection : goal.checked-checked-requires-in-Selection
-checked-checked-requires-in-Selection t c = search (rules, the_lemmas)
-
-pub checked-returns-in_err-whole-in-Selection-clause-one : goal.checked-returns-in_err-whole-in-Selection-clause-one
-checked-returns-in_err-whole-in-Selection-clause-one t c = search (rules, the_lemmas)
-
-pub checked-selection-requires : goal.checked-selection-requires
-checked-selection-requires t c = search (rules, the_lemmas)
-
-pub checked-composite-requires : goal.checked-composite-requires
-checked-composite-requires t c = search (rules, the_lemmas)
-
-pub checked-checked-requires-in-Unary : goal.checked-checked-requires-in-Unary
-checked-checked-requires-in-Unary t c = search (rules, the_lemmas)
-
-pub checked-returns-in_err-operand-in-Unary-clause-one : goal.checked-returns-in_err-operand-in-Unary-clause-one
-checked-returns-in_err-operand-in-Unary-clause-one t c = search (rules, the_lemmas)
-
-pub checked-before-requires-clause-small : goal.checked-before-requires-clause-small
-checked-before-requires-clause-small t c = search (rules, the_lemmas)
-
-pub checked-checked-requires-in-Binary : goal.checked-checked-requires-in-Binary
-checked-checked-requires-in-Binary t c = search (rules, the_lemmas)
-
-pub checked-returns-in_err-left-in-Binary-clause-one : goal.checked-returns-in_err-left-in-Binary-clause-one
-checked-returns-in_err-left-in-Binary-clause-one t c = search (rules, the_lemmas)
-
-pub checked-overflow_add-left : goal.checked-overflow_add-left
-checked-overflow_add-left t c = search (rules, the_lemmas)
-
-pub checked-checked-requires-in-Binary-2 : goal.checked-checked-requires-in-Binary-2
-checked-checked-requires-in-Binary-2 t c = search (rules, the_lemmas)
-
-pub checked-returns-in_err-right-in-Binary-clause-one : goal.checked-returns-in_err-right-in-Binary-clause-one
-checked-returns-in_err-right-in-Binary-clause-one t c = search (rules, the_lemmas)
-
-pub checked-between-requires-clause-small : goal.checked-between-requires-clause-small
-checked-between-requires-clause-small t c = search (rules, the_lemmas)
-
 pub checked-returns-in-Integer-clause-worth : goal.checked-returns-in-Integer-clause-worth
-checked-returns-in-Integer-clause-worth t c = search (rules, the_lemmas)
+checked-returns-in-Integer-clause-worth t c = rw (integer_is _ _ c.in-Integer.is) (IfOk-weaker c.integer.result _ _ (λ o every. every (types_of c.args.table.now)) c.integer.ensures.worth)
 
 pub checked-returns-in-Integer-clause-end : goal.checked-returns-in-Integer-clause-end
-checked-returns-in-Integer-clause-end t c = search (rules, the_lemmas)
+checked-returns-in-Integer-clause-end t c = rw (integer_is _ _ c.in-Integer.is) (IfOk-weaker c.integer.result _ _ (λ o is. omega (arith, is)) c.integer.ensures.node)
 
 pub checked-returns-in-Integer-clause-none : goal.checked-returns-in-Integer-clause-none
-checked-returns-in-Integer-clause-none t c = search (rules, the_lemmas)
+checked-returns-in-Integer-clause-none t c = rw (integer_is _ _ c.in-Integer.is) (IfOk-weaker c.integer.result _ _ (λ o some flaw has. some has.0) c.integer.ensures.none)
 
 pub checked-returns-in-Integer-clause-one : goal.checked-returns-in-Integer-clause-one
-checked-returns-in-Integer-clause-one t c = search (rules, the_lemmas)
+checked-returns-in-Integer-clause-one t c = rw (integer_is _ _ c.in-Integer.is) c.integer.ensures.one
 
 pub checked-returns-in-Named-clause-worth : goal.checked-returns-in-Named-clause-worth
-checked-returns-in-Named-clause-worth t c = search (rules, the_lemmas)
+checked-returns-in-Named-clause-worth t c = rw (named_is _ _ c.in-Named.is) c.named.ensures.worth
 
 pub checked-returns-in-Named-clause-end : goal.checked-returns-in-Named-clause-end
-checked-returns-in-Named-clause-end t c = search (rules, the_lemmas)
+checked-returns-in-Named-clause-end t c = rw (named_is _ _ c.in-Named.is) (IfOk-weaker c.named.result _ _ (λ o is. omega (arith, is)) c.named.ensures.node)
 
 pub checked-returns-in-Named-clause-none : goal.checked-returns-in-Named-clause-none
-checked-returns-in-Named-clause-none t c = search (rules, the_lemmas)
+checked-returns-in-Named-clause-none t c = rw (named_is _ _ c.in-Named.is) c.named.ensures.none
 
 pub checked-returns-in-Named-clause-one : goal.checked-returns-in-Named-clause-one
-checked-returns-in-Named-clause-one t c = search (rules, the_lemmas)
+checked-returns-in-Named-clause-one t c = rw (named_is _ _ c.in-Named.is) c.named.ensures.one
 
 pub checked-returns-in_ok-inner-in-Parenthesized-clause-worth : goal.checked-returns-in_ok-inner-in-Parenthesized-clause-worth
-checked-returns-in_ok-inner-in-Parenthesized-clause-worth t c = search (rules, the_lemmas)
-
-pub checked-returns-in_ok-inner-in-Parenthesized-clause-end : goal.checked-returns-in_ok-inner-in-Parenthesized-clause-end
-checked-returns-in_ok-inner-in-Parenthesized-clause-end t c = search (rules, the_lemmas)
+checked-returns-in_ok-inner-in-Parenthesized-clause-worth t c = rw (parenthesized_is _ _ c.in-Parenthesized.is, ← c.deref.ensures) c.in_ok-inner-in-Parenthesized.ensures.worth
 
 pub checked-returns-in_ok-inner-in-Parenthesized-clause-none : goal.checked-returns-in_ok-inner-in-Parenthesized-clause-none
-checked-returns-in_ok-inner-in-Parenthesized-clause-none t c = search (rules, the_lemmas)
+checked-returns-in_ok-inner-in-Parenthesized-clause-none t c = rw (parenthesized_is _ _ c.in-Parenthesized.is, ← c.deref.ensures) c.in_ok-inner-in-Parenthesized.ensures.none
+
+pub checked-returns-in_ok-inner-in-Parenthesized-clause-end : goal.checked-returns-in_ok-inner-in-Parenthesized-clause-end
+checked-returns-in_ok-inner-in-Parenthesized-clause-end t c = rw (parenthesized_is _ _ c.in-Parenthesized.is, ← c.deref.ensures) (omega (arith, c.in_ok-inner-in-Parenthesized.ensures.end))
+
+pub checked-returns-in_err-inner-in-Parenthesized-clause-one : goal.checked-returns-in_err-inner-in-Parenthesized-clause-one
+checked-returns-in_err-inner-in-Parenthesized-clause-one t c =
+    let p = err_from_is_err_and c.from_residual.result c.from_residual.ensures.1 in
+    rw (p.1, p.2, parenthesized_is _ _ c.in-Parenthesized.is, ← c.deref.ensures) c.in_err-inner-in-Parenthesized.ensures.one
+
+pub checked-returns-in_err-whole-in-Selection-clause-one : goal.checked-returns-in_err-whole-in-Selection-clause-one
+checked-returns-in_err-whole-in-Selection-clause-one t c =
+    let p = err_from_is_err_and c.from_residual-in_err-whole-in-Selection.result c.from_residual-in_err-whole-in-Selection.ensures.1 in
+    rw (p.1, p.2, selection_is _ _ _ c.in-Selection.is, ← c.deref-in-Selection.ensures) (inl c.in_err-whole-in-Selection.ensures.one)
 
 pub checked-returns-in_ok-whole-in-Selection-clause-worth : goal.checked-returns-in_ok-whole-in-Selection-clause-worth
-checked-returns-in_ok-whole-in-Selection-clause-worth t c = search (rules, the_lemmas)
+checked-returns-in_ok-whole-in-Selection-clause-worth t c = rw (selection_is _ _ _ c.in-Selection.is, ← c.deref-in-Selection.ensures, c.in_ok-whole-in-Selection.ensures.worth, ← c.as_slice.ensures.value) c.selection.ensures.worth
 
 pub checked-returns-in_ok-whole-in-Selection-clause-end : goal.checked-returns-in_ok-whole-in-Selection-clause-end
-checked-returns-in_ok-whole-in-Selection-clause-end t c = search (rules, the_lemmas)
+checked-returns-in_ok-whole-in-Selection-clause-end t c = rw (selection_is _ _ _ c.in-Selection.is, ← c.deref-in-Selection.ensures) (IfOk-weaker c.selection.result _ _ (λ o is. omega (arith, is, c.in_ok-whole-in-Selection.ensures.end)) c.selection.ensures.node)
 
 pub checked-returns-in_ok-whole-in-Selection-clause-none : goal.checked-returns-in_ok-whole-in-Selection-clause-none
-checked-returns-in_ok-whole-in-Selection-clause-none t c = search (rules, the_lemmas)
+checked-returns-in_ok-whole-in-Selection-clause-none t c =
+    rw (selection_is _ _ _ c.in-Selection.is, ← c.deref-in-Selection.ensures, ← c.as_slice.ensures.value) (IfOk-weaker c.selection.result _ _ (λ o free flaw has. elim has [ | inl bad ↦ c.in_ok-whole-in-Selection.ensures.none flaw bad | inr bad ↦ free _ c.in_ok-whole-in-Selection.ensures.worth _ _ flaw bad ]) c.selection.ensures.none)
 
 pub checked-returns-in_ok-whole-in-Selection-clause-one : goal.checked-returns-in_ok-whole-in-Selection-clause-one
-checked-returns-in_ok-whole-in-Selection-clause-one t c = search (rules, the_lemmas)
+checked-returns-in_ok-whole-in-Selection-clause-one t c =
+    rw (selection_is _ _ _ c.in-Selection.is, ← c.deref-in-Selection.ensures, ← c.as_slice.ensures.value) (IfErr-weaker c.selection.result _ _ (λ flaw has. inr (has _ c.in_ok-whole-in-Selection.ensures.worth (nodes_of c.args.first (expression_of c.deref-in-Selection.result.now)) c.in_ok-whole-in-Selection.ensures.first (c.args.first + (expression_size (expression_of c.deref-in-Selection.result.now) + 1)) (omega (arith, c.in_ok-whole-in-Selection.ensures.end)))) c.selection.ensures.one)
 
 pub checked-returns-in-Composite-clause-end : goal.checked-returns-in-Composite-clause-end
-checked-returns-in-Composite-clause-end t c = search (rules, the_lemmas)
+checked-returns-in-Composite-clause-end t c = rw (composite_is _ _ _ _ c.in-Composite.is, ← c.as_slice-in-Composite.ensures.value) (IfOk-weaker c.composite.result _ _ (λ o is. omega (arith, is)) c.composite.ensures.end)
+
+pub checked-returns-in_err-operand-in-Unary-clause-one : goal.checked-returns-in_err-operand-in-Unary-clause-one
+checked-returns-in_err-operand-in-Unary-clause-one t c =
+    let p = err_from_is_err_and c.from_residual-in_err-operand-in-Unary.result c.from_residual-in_err-operand-in-Unary.ensures.1 in
+    rw (p.1, p.2, unary_is _ _ _ c.in-Unary.is, ← c.deref-in-Unary.ensures) (inl c.in_err-operand-in-Unary.ensures.one)
 
 pub checked-returns-in_ok-operand-in-Unary-clause-worth : goal.checked-returns-in_ok-operand-in-Unary-clause-worth
-checked-returns-in_ok-operand-in-Unary-clause-worth t c = search (rules, the_lemmas)
+checked-returns-in_ok-operand-in-Unary-clause-worth t c = rw (unary_is _ _ _ c.in-Unary.is, ← c.deref-in-Unary.ensures, c.in_ok-operand-in-Unary.ensures.worth) (IfOk-weaker c.before-in-Unary.result _ _ (λ o every. every (types_of c.args.table.now)) c.before-in-Unary.ensures.worth)
 
 pub checked-returns-in_ok-operand-in-Unary-clause-end : goal.checked-returns-in_ok-operand-in-Unary-clause-end
-checked-returns-in_ok-operand-in-Unary-clause-end t c = search (rules, the_lemmas)
+checked-returns-in_ok-operand-in-Unary-clause-end t c = rw (unary_is _ _ _ c.in-Unary.is, ← c.deref-in-Unary.ensures) (IfOk-weaker c.before-in-Unary.result _ _ (λ o is. omega (arith, is, c.in_ok-operand-in-Unary.ensures.end)) c.before-in-Unary.ensures.node)
 
 pub checked-returns-in_ok-operand-in-Unary-clause-none : goal.checked-returns-in_ok-operand-in-Unary-clause-none
-checked-returns-in_ok-operand-in-Unary-clause-none t c = search (rules, the_lemmas)
+checked-returns-in_ok-operand-in-Unary-clause-none t c =
+    rw (unary_is _ _ _ c.in-Unary.is, ← c.deref-in-Unary.ensures) (IfOk-weaker c.before-in-Unary.result _ _ (λ o free flaw has. elim has [ | inl bad ↦ c.in_ok-operand-in-Unary.ensures.none flaw bad | inr bad ↦ free (types_of c.args.table.now) _ c.in_ok-operand-in-Unary.ensures.worth _ _ flaw bad ]) c.before-in-Unary.ensures.none)
 
 pub checked-returns-in_ok-operand-in-Unary-clause-one : goal.checked-returns-in_ok-operand-in-Unary-clause-one
-checked-returns-in_ok-operand-in-Unary-clause-one t c = search (rules, the_lemmas)
+checked-returns-in_ok-operand-in-Unary-clause-one t c =
+    rw (unary_is _ _ _ c.in-Unary.is, ← c.deref-in-Unary.ensures) (IfErr-weaker c.before-in-Unary.result _ _ (λ flaw has. inr (has (types_of c.args.table.now) _ c.in_ok-operand-in-Unary.ensures.worth (nodes_of c.args.first (expression_of c.deref-in-Unary.result.now)) c.in_ok-operand-in-Unary.ensures.first c.in_ok-operand-in-Unary.ensures.end (c.args.first + (expression_size (expression_of c.deref-in-Unary.result.now) + 1)) (omega (arith, c.in_ok-operand-in-Unary.ensures.end)))) c.before-in-Unary.ensures.one)
+
+pub checked-returns-in_err-left-in-Binary-clause-one : goal.checked-returns-in_err-left-in-Binary-clause-one
+checked-returns-in_err-left-in-Binary-clause-one t c =
+    let p = err_from_is_err_and c.from_residual-in_err-left-in-Binary.result c.from_residual-in_err-left-in-Binary.ensures.1 in
+    rw (p.1, p.2, binary_is _ _ _ _ c.in-Binary.is, ← c.deref-in-Binary.ensures) (inl c.in_err-left-in-Binary.ensures.one)
+
+pub checked-returns-in_err-right-in-Binary-clause-one : goal.checked-returns-in_err-right-in-Binary-clause-one
+checked-returns-in_err-right-in-Binary-clause-one t c =
+    let p = err_from_is_err_and c.from_residual-in_err-right-in-Binary.result c.from_residual-in_err-right-in-Binary.ensures.1 in
+    rw (p.1, p.2, binary_is _ _ _ _ c.in-Binary.is, ← c.deref-in-Binary.ensures, ← c.deref-in-Binary-2.ensures) (inr (inl (rw (← c.in_ok-left-in-Binary.ensures.end) at c.in_err-right-in-Binary.ensures.one)))
 
 pub checked-returns-in_ok-right-in-Binary-clause-worth : goal.checked-returns-in_ok-right-in-Binary-clause-worth
-checked-returns-in_ok-right-in-Binary-clause-worth t c = search (rules, the_lemmas)
+checked-returns-in_ok-right-in-Binary-clause-worth t c = rw (binary_is _ _ _ _ c.in-Binary.is, ← c.deref-in-Binary.ensures, ← c.deref-in-Binary-2.ensures, c.in_ok-left-in-Binary.ensures.worth, c.in_ok-right-in-Binary.ensures.worth) c.between.ensures.worth
 
 pub checked-returns-in_ok-right-in-Binary-clause-end : goal.checked-returns-in_ok-right-in-Binary-clause-end
-checked-returns-in_ok-right-in-Binary-clause-end t c = search (rules, the_lemmas)
+checked-returns-in_ok-right-in-Binary-clause-end t c = rw (binary_is _ _ _ _ c.in-Binary.is, ← c.deref-in-Binary.ensures, ← c.deref-in-Binary-2.ensures) (IfOk-weaker c.between.result _ _ (λ o is. omega (arith, is, c.in_ok-left-in-Binary.ensures.end, c.in_ok-right-in-Binary.ensures.end)) c.between.ensures.node)
 
 pub checked-returns-in_ok-right-in-Binary-clause-none : goal.checked-returns-in_ok-right-in-Binary-clause-none
 checked-returns-in_ok-right-in-Binary-clause-none t c = search (rules, the_lemmas)
 
 pub checked-returns-in_ok-right-in-Binary-clause-one : goal.checked-returns-in_ok-right-in-Binary-clause-one
-checked-returns-in_ok-right-in-Binary-clause-one t c = search (rules, the_lemmas)
+checked-returns-in_ok-right-in-Binary-clause-one t c =
+    let a = (expression_of c.deref-in-Binary.result.now) in
+    let b = (expression_of c.deref-in-Binary-2.result.now) in
+    rw (binary_is _ _ _ _ c.in-Binary.is, ← c.deref-in-Binary.ensures, ← c.deref-in-Binary-2.ensures) (IfErr-weaker c.between.result _ _ (λ flaw has. inr (inr (has _ _ c.in_ok-left-in-Binary.ensures.worth c.in_ok-right-in-Binary.ensures.worth (nodes_of c.args.first a) (nodes_of (c.args.first + expression_size a) b) c.in_ok-left-in-Binary.ensures.first c.in_ok-left-in-Binary.ensures.end (c.in_ok-left-in-Binary.ensures.end ∙ c.in_ok-right-in-Binary.ensures.first) (omega (arith, c.in_ok-left-in-Binary.ensures.end, c.in_ok-right-in-Binary.ensures.end))
+    (c.args.first + (expression_size a + expression_size b + 1)) (omega (arith, c.in_ok-left-in-Binary.ensures.end, c.in_ok-right-in-Binary.ensures.end))))) c.between.ensures.one)
+
+pub checked-checked-requires : goal.checked-checked-requires
+checked-checked-requires t c =
+    let small = rw (parenthesized_is _ _ c.in-Parenthesized.is, ← c.deref.ensures) at c.requires.small in
+    (search (rules, the_lemmas), omega (arith, small))
+
+pub checked-checked-requires-in-Selection : goal.checked-checked-requires-in-Selection
+checked-checked-requires-in-Selection t c =
+    let small = rw (selection_is _ _ _ c.in-Selection.is, ← c.deref-in-Selection.ensures) at c.requires.small in
+    (search (rules, the_lemmas), omega (arith, small))
+
+pub checked-selection-requires : goal.checked-selection-requires
+checked-selection-requires t c =
+    let small = rw (selection_is _ _ _ c.in-Selection.is, ← c.deref-in-Selection.ensures) at c.requires.small in
+    record { small = omega (arith, small, c.in_ok-whole-in-Selection.ensures.end) }
+
+pub checked-composite-requires : goal.checked-composite-requires
+checked-composite-requires t c =
+    let small = rw (composite_is _ _ _ _ c.in-Composite.is, ← c.as_slice-in-Composite.ensures.value) at c.requires.small in
+    (search (rules, the_lemmas), omega (arith, small))
+
+pub checked-checked-requires-in-Unary : goal.checked-checked-requires-in-Unary
+checked-checked-requires-in-Unary t c =
+    let small = rw (unary_is _ _ _ c.in-Unary.is, ← c.deref-in-Unary.ensures) at c.requires.small in
+    (search (rules, the_lemmas), omega (arith, small))
+
+pub checked-before-requires-clause-small : goal.checked-before-requires-clause-small
+checked-before-requires-clause-small t c =
+    let small = rw (unary_is _ _ _ c.in-Unary.is, ← c.deref-in-Unary.ensures) at c.requires.small in
+    omega (arith, small, c.in_ok-operand-in-Unary.ensures.end)
+
+pub checked-checked-requires-in-Binary : goal.checked-checked-requires-in-Binary
+checked-checked-requires-in-Binary t c =
+    let small = rw (binary_is _ _ _ _ c.in-Binary.is, ← c.deref-in-Binary.ensures) at c.requires.small in
+    (search (rules, the_lemmas), omega (arith, small))
+
+pub checked-checked-requires-in-Binary-2 : goal.checked-checked-requires-in-Binary-2
+checked-checked-requires-in-Binary-2 t c =
+    let small = rw (binary_is _ _ _ _ c.in-Binary.is, ← c.deref-in-Binary.ensures, ← c.deref-in-Binary-2.ensures) at c.requires.small in
+    (search (rules, the_lemmas), omega (arith, small, c.in_ok-left-in-Binary.ensures.end))
+
+pub checked-between-requires-clause-small : goal.checked-between-requires-clause-small
+checked-between-requires-clause-small t c =
+    let small = rw (binary_is _ _ _ _ c.in-Binary.is, ← c.deref-in-Binary.ensures, ← c.deref-in-Binary-2.ensures) at c.requires.small in
+    omega (arith, small, c.in_ok-left-in-Binary.ensures.end, c.in_ok-right-in-Binary.ensures.end)
+
+pub checked-overflow_add-result : goal.checked-overflow_add-result
+checked-overflow_add-result t c = search (rules, the_lemmas)
+
+pub checked-overflow_add-left : goal.checked-overflow_add-left
+checked-overflow_add-left t c = search (rules, the_lemmas)

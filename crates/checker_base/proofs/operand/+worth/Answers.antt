@@ -1,5 +1,5 @@
 use Rattle.type_table.specs.Visible.{types_of}
-use Rattle.checker_base.proofs.Variants.{named_is, parenthesized_is, selection_is, unary_is, binary_is}
+use Rattle.syntax.proofs.Nodes.{named_is, parenthesized_is, selection_is, unary_is, binary_is}
 use Rattle.checker_base.proofs.operand.+worth.Goals as goal
 
 pub returns-in-Named-clause-worth : goal.returns-in-Named-clause-worth

@@ -11,6 +11,7 @@ use Rattle.typing_rules.specs.declared.flaw.Flaw.{Flaw}
 use Rattle.checker_base.specs.Views.{Refuses}
 use Rattle.checker_statement.specs.Settings.{setting_in}
 use Rattle.typing_rules.specs.Statements.{StatementHas, StatementsHave, PartsHave, ClauseHas, ClausesHave, after_all, after_parts, after_clause, after_for_head}
+use Rattle.syntax.proofs.Nodes.{empty_is, simple_is, typed_is, untyped_is, block_is, if_is, for_is, select_is, go_is, return_is, break_is, continue_is, branch_is, nothing_is, else_block_is, else_if_is}
 use Rattle.checker_statement.proofs.Defaults.{two_defaults}
 use Rattle.checker_statement.proofs.Further.{few_defaults, keeps_on, keeps_same, keeps_left, always, refuses_more, block_left, found_next, passed_next, found_clause, passed_clause}
 use Rattle.checker_statement.proofs.statement.+statement.Goals as goal
@@ -202,3 +203,213 @@ statement-returns-in-Break-clause-kept t c = always c.jump.result (Keeps c.args.
 
 pub statement-returns-in-Continue-clause-kept : goal.statement-returns-in-Continue-clause-kept
 statement-returns-in-Continue-clause-kept t c = always c.jump-in-Continue.result (Keeps c.args.visible.now c.args.visible.now) (keeps_same c.args.visible.now)
+
+-- ---- a statement, by its variant
+
+pub statement-returns-in-Simple-clause-end : goal.statement-returns-in-Simple-clause-end
+statement-returns-in-Simple-clause-end t c = rw (simple_is _ _ c.in-Simple.is) c.simple.ensures.end
+
+pub statement-returns-in-Simple-clause-after : goal.statement-returns-in-Simple-clause-after
+statement-returns-in-Simple-clause-after t c = rw (simple_is _ _ c.in-Simple.is) c.simple.ensures.after
+
+pub statement-returns-in-Simple-clause-none : goal.statement-returns-in-Simple-clause-none
+statement-returns-in-Simple-clause-none t c = rw (simple_is _ _ c.in-Simple.is) c.simple.ensures.none
+
+pub statement-returns-in-Simple-clause-one : goal.statement-returns-in-Simple-clause-one
+statement-returns-in-Simple-clause-one t c = rw (simple_is _ _ c.in-Simple.is) c.simple.ensures.one
+
+pub statement-returns-in-Typed-clause-end : goal.statement-returns-in-Typed-clause-end
+statement-returns-in-Typed-clause-end t c = rw (typed_is _ _ _ _ c.in-Typed.is) (IfOk-weaker c.typed_variables.result _ _ (λ _ is. omega (arith, is)) c.typed_variables.ensures.end)
+
+pub statement-returns-in-Typed-clause-after : goal.statement-returns-in-Typed-clause-after
+statement-returns-in-Typed-clause-after t c = rw (typed_is _ _ _ _ c.in-Typed.is, ← c.as_slice.ensures.value) c.typed_variables.ensures.after
+
+pub statement-returns-in-Typed-clause-none : goal.statement-returns-in-Typed-clause-none
+statement-returns-in-Typed-clause-none t c = rw (typed_is _ _ _ _ c.in-Typed.is, ← c.as_slice.ensures.value) c.typed_variables.ensures.none
+
+pub statement-returns-in-Typed-clause-one : goal.statement-returns-in-Typed-clause-one
+statement-returns-in-Typed-clause-one t c = rw (typed_is _ _ _ _ c.in-Typed.is, ← c.as_slice.ensures.value) c.typed_variables.ensures.one
+
+pub statement-returns-in-Untyped-clause-end : goal.statement-returns-in-Untyped-clause-end
+statement-returns-in-Untyped-clause-end t c = rw (untyped_is _ _ _ c.in-Untyped.is) (IfOk-weaker c.untyped_variables.result _ _ (λ _ is. omega (arith, is)) c.untyped_variables.ensures.end)
+
+pub statement-returns-in-Untyped-clause-after : goal.statement-returns-in-Untyped-clause-after
+statement-returns-in-Untyped-clause-after t c = rw (untyped_is _ _ _ c.in-Untyped.is, ← c.as_slice-in-Untyped.ensures.value) c.untyped_variables.ensures.after
+
+pub statement-returns-in-Untyped-clause-none : goal.statement-returns-in-Untyped-clause-none
+statement-returns-in-Untyped-clause-none t c = rw (untyped_is _ _ _ c.in-Untyped.is, ← c.as_slice-in-Untyped.ensures.value) c.untyped_variables.ensures.none
+
+pub statement-returns-in-Untyped-clause-one : goal.statement-returns-in-Untyped-clause-one
+statement-returns-in-Untyped-clause-one t c = rw (untyped_is _ _ _ c.in-Untyped.is, ← c.as_slice-in-Untyped.ensures.value) c.untyped_variables.ensures.one
+
+pub statement-returns-in-If-clause-end : goal.statement-returns-in-If-clause-end
+statement-returns-in-If-clause-end t c = rw (if_is _ _ c.in-If.is, ← c.deref.ensures) c.if_statement.ensures.end
+
+pub statement-returns-in-If-clause-after : goal.statement-returns-in-If-clause-after
+statement-returns-in-If-clause-after t c = rw (if_is _ _ c.in-If.is, ← c.deref.ensures, branch_is c.deref.result.now) c.if_statement.ensures.after
+
+pub statement-returns-in-If-clause-none : goal.statement-returns-in-If-clause-none
+statement-returns-in-If-clause-none t c = rw (if_is _ _ c.in-If.is, ← c.deref.ensures, branch_is c.deref.result.now) c.if_statement.ensures.none
+
+pub statement-returns-in-If-clause-one : goal.statement-returns-in-If-clause-one
+statement-returns-in-If-clause-one t c = rw (if_is _ _ c.in-If.is, ← c.deref.ensures, branch_is c.deref.result.now) c.if_statement.ensures.one
+
+pub statement-returns-in-For-clause-end : goal.statement-returns-in-For-clause-end
+statement-returns-in-For-clause-end t c = rw (for_is _ _ _ c.in-For.is, ← c.as_slice-body.ensures.value) c.for_statement.ensures.end
+
+pub statement-returns-in-For-clause-after : goal.statement-returns-in-For-clause-after
+statement-returns-in-For-clause-after t c = rw (for_is _ _ _ c.in-For.is, ← c.as_slice-body.ensures.value) c.for_statement.ensures.after
+
+pub statement-returns-in-For-clause-none : goal.statement-returns-in-For-clause-none
+statement-returns-in-For-clause-none t c = rw (for_is _ _ _ c.in-For.is, ← c.as_slice-body.ensures.value) c.for_statement.ensures.none
+
+pub statement-returns-in-For-clause-one : goal.statement-returns-in-For-clause-one
+statement-returns-in-For-clause-one t c = rw (for_is _ _ _ c.in-For.is, ← c.as_slice-body.ensures.value) c.for_statement.ensures.one
+
+pub statement-returns-in-Select-clause-end : goal.statement-returns-in-Select-clause-end
+statement-returns-in-Select-clause-end t c = rw (select_is _ _ c.in-Select.is, ← c.as_slice-in-Select.ensures.value) c.select.ensures.end
+
+pub statement-returns-in-Select-clause-after : goal.statement-returns-in-Select-clause-after
+statement-returns-in-Select-clause-after t c = rw (select_is _ _ c.in-Select.is, ← c.as_slice-in-Select.ensures.value) c.select.ensures.after
+
+pub statement-returns-in-Select-clause-none : goal.statement-returns-in-Select-clause-none
+statement-returns-in-Select-clause-none t c = rw (select_is _ _ c.in-Select.is, ← c.as_slice-in-Select.ensures.value) c.select.ensures.none
+
+pub statement-returns-in-Select-clause-one : goal.statement-returns-in-Select-clause-one
+statement-returns-in-Select-clause-one t c = rw (select_is _ _ c.in-Select.is, ← c.as_slice-in-Select.ensures.value) c.select.ensures.one
+
+pub statement-returns-in-Go-clause-end : goal.statement-returns-in-Go-clause-end
+statement-returns-in-Go-clause-end t c = rw (go_is _ _ _ c.in-Go.is) c.call_alone.ensures.end
+
+pub statement-returns-in-Go-clause-after : goal.statement-returns-in-Go-clause-after
+statement-returns-in-Go-clause-after t c = rw (go_is _ _ _ c.in-Go.is) (always c.call_alone.result _ refl)
+
+pub statement-returns-in-Go-clause-none : goal.statement-returns-in-Go-clause-none
+statement-returns-in-Go-clause-none t c = rw (go_is _ _ _ c.in-Go.is) c.call_alone.ensures.none
+
+pub statement-returns-in-Go-clause-one : goal.statement-returns-in-Go-clause-one
+statement-returns-in-Go-clause-one t c = rw (go_is _ _ _ c.in-Go.is) c.call_alone.ensures.one
+
+pub statement-returns-in-Break-clause-end : goal.statement-returns-in-Break-clause-end
+statement-returns-in-Break-clause-end t c = rw (break_is _ c.in-Break.is) c.jump.ensures.end
+
+pub statement-returns-in-Break-clause-after : goal.statement-returns-in-Break-clause-after
+statement-returns-in-Break-clause-after t c = rw (break_is _ c.in-Break.is) (always c.jump.result _ refl)
+
+pub statement-returns-in-Break-clause-none : goal.statement-returns-in-Break-clause-none
+statement-returns-in-Break-clause-none t c = rw (break_is _ c.in-Break.is) c.jump.ensures.none
+
+pub statement-returns-in-Break-clause-one : goal.statement-returns-in-Break-clause-one
+statement-returns-in-Break-clause-one t c = rw (break_is _ c.in-Break.is) c.jump.ensures.one
+
+pub statement-returns-in-Continue-clause-end : goal.statement-returns-in-Continue-clause-end
+statement-returns-in-Continue-clause-end t c = rw (continue_is _ c.in-Continue.is) c.jump-in-Continue.ensures.end
+
+pub statement-returns-in-Continue-clause-after : goal.statement-returns-in-Continue-clause-after
+statement-returns-in-Continue-clause-after t c = rw (continue_is _ c.in-Continue.is) (always c.jump-in-Continue.result _ refl)
+
+pub statement-returns-in-Continue-clause-none : goal.statement-returns-in-Continue-clause-none
+statement-returns-in-Continue-clause-none t c = rw (continue_is _ c.in-Continue.is) c.jump-in-Continue.ensures.none
+
+pub statement-returns-in-Continue-clause-one : goal.statement-returns-in-Continue-clause-one
+statement-returns-in-Continue-clause-one t c = rw (continue_is _ c.in-Continue.is) c.jump-in-Continue.ensures.one
+
+pub statement-returns-in-Empty-clause-end : goal.statement-returns-in-Empty-clause-end
+statement-returns-in-Empty-clause-end t c = rw (empty_is _ c.in-Empty.is) refl
+
+pub statement-returns-in-Empty-clause-after : goal.statement-returns-in-Empty-clause-after
+statement-returns-in-Empty-clause-after t c = rw (empty_is _ c.in-Empty.is) refl
+
+pub statement-returns-in-Empty-clause-none : goal.statement-returns-in-Empty-clause-none
+statement-returns-in-Empty-clause-none t c = λ flaw has. rw (empty_is _ c.in-Empty.is) at has
+
+-- ---- a block, and a return
+
+pub statement-returns-in_ok-end-in-Block-clause-end : goal.statement-returns-in_ok-end-in-Block-clause-end
+statement-returns-in_ok-end-in-Block-clause-end t c = rw (block_is _ _ c.in-Block.is, ← c.as_slice-in-Block.ensures.value) (omega (arith, c.in_ok-end-in-Block.ensures.end))
+
+pub statement-returns-in_ok-end-in-Block-clause-after : goal.statement-returns-in_ok-end-in-Block-clause-after
+statement-returns-in_ok-end-in-Block-clause-after t c = rw (block_is _ _ c.in-Block.is, ← c.as_slice-in-Block.ensures.value) c.in_ok-end-in-Block.ensures.after
+
+pub statement-returns-in_ok-end-in-Block-clause-none : goal.statement-returns-in_ok-end-in-Block-clause-none
+statement-returns-in_ok-end-in-Block-clause-none t c = rw (block_is _ _ c.in-Block.is, ← c.as_slice-in-Block.ensures.value) c.in_ok-end-in-Block.ensures.none
+
+pub statement-returns-in_err-end-in-Block-clause-one : goal.statement-returns-in_err-end-in-Block-clause-one
+statement-returns-in_err-end-in-Block-clause-one t c = 
+    let p = err_from_is_err_and c.from_residual.result c.from_residual.ensures.1 in
+    rw (p.1, p.2) (rw (block_is _ _ c.in-Block.is, ← c.as_slice-in-Block.ensures.value) c.in_err-end-in-Block.ensures.one)
+
+pub statement-returns-in_ok-return_statement-in-Return-clause-end : goal.statement-returns-in_ok-return_statement-in-Return-clause-end
+statement-returns-in_ok-return_statement-in-Return-clause-end t c = rw (return_is _ _ c.in-Return.is) c.in_ok-return_statement-in-Return.ensures.end
+
+pub statement-returns-in_ok-return_statement-in-Return-clause-after : goal.statement-returns-in_ok-return_statement-in-Return-clause-after
+statement-returns-in_ok-return_statement-in-Return-clause-after t c = rw (return_is _ _ c.in-Return.is) refl
+
+pub statement-returns-in_ok-return_statement-in-Return-clause-none : goal.statement-returns-in_ok-return_statement-in-Return-clause-none
+statement-returns-in_ok-return_statement-in-Return-clause-none t c = rw (return_is _ _ c.in-Return.is) c.in_ok-return_statement-in-Return.ensures.none
+
+-- ---- what stands behind the block of an if
+
+pub otherwise-returns-in-Nothing-clause-end : goal.otherwise-returns-in-Nothing-clause-end
+otherwise-returns-in-Nothing-clause-end t c = rw (nothing_is _ c.in-Nothing.is) (omega arith)
+
+pub otherwise-returns-in-Nothing-clause-after : goal.otherwise-returns-in-Nothing-clause-after
+otherwise-returns-in-Nothing-clause-after t c = rw (nothing_is _ c.in-Nothing.is) refl
+
+pub otherwise-returns-in-Nothing-clause-none : goal.otherwise-returns-in-Nothing-clause-none
+otherwise-returns-in-Nothing-clause-none t c = λ flaw has. rw (nothing_is _ c.in-Nothing.is) at has
+
+pub otherwise-returns-in_ok-end-in-Block-clause-end : goal.otherwise-returns-in_ok-end-in-Block-clause-end
+otherwise-returns-in_ok-end-in-Block-clause-end t c = rw (else_block_is _ _ c.in-Block.is, ← c.as_slice.ensures.value) (omega (arith, c.in_ok-end-in-Block.ensures.end))
+
+pub otherwise-returns-in_ok-end-in-Block-clause-after : goal.otherwise-returns-in_ok-end-in-Block-clause-after
+otherwise-returns-in_ok-end-in-Block-clause-after t c = rw (else_block_is _ _ c.in-Block.is, ← c.as_slice.ensures.value) c.in_ok-end-in-Block.ensures.after
+
+pub otherwise-returns-in_ok-end-in-Block-clause-none : goal.otherwise-returns-in_ok-end-in-Block-clause-none
+otherwise-returns-in_ok-end-in-Block-clause-none t c = rw (else_block_is _ _ c.in-Block.is, ← c.as_slice.ensures.value) c.in_ok-end-in-Block.ensures.none
+
+pub otherwise-returns-in_err-end-in-Block-clause-one : goal.otherwise-returns-in_err-end-in-Block-clause-one
+otherwise-returns-in_err-end-in-Block-clause-one t c = 
+    let p = err_from_is_err_and c.from_residual.result c.from_residual.ensures.1 in
+    rw (p.1, p.2) (rw (else_block_is _ _ c.in-Block.is, ← c.as_slice.ensures.value) c.in_err-end-in-Block.ensures.one)
+
+pub otherwise-returns-in-If-clause-end : goal.otherwise-returns-in-If-clause-end
+otherwise-returns-in-If-clause-end t c = rw (else_if_is _ _ c.in-If.is, ← c.deref.ensures) c.if_statement.ensures.end
+
+pub otherwise-returns-in-If-clause-after : goal.otherwise-returns-in-If-clause-after
+otherwise-returns-in-If-clause-after t c = rw (else_if_is _ _ c.in-If.is, ← c.deref.ensures, branch_is c.deref.result.now) c.if_statement.ensures.after
+
+pub otherwise-returns-in-If-clause-none : goal.otherwise-returns-in-If-clause-none
+otherwise-returns-in-If-clause-none t c = rw (else_if_is _ _ c.in-If.is, ← c.deref.ensures, branch_is c.deref.result.now) c.if_statement.ensures.none
+
+pub otherwise-returns-in-If-clause-one : goal.otherwise-returns-in-If-clause-one
+otherwise-returns-in-If-clause-one t c = rw (else_if_is _ _ c.in-If.is, ← c.deref.ensures, branch_is c.deref.result.now) c.if_statement.ensures.one
+
+-- ---- what a statement's variants ask of the functions that check them
+
+pub statement-simple-requires : goal.statement-simple-requires
+statement-simple-requires t c = record { small = rw (simple_is _ _ c.in-Simple.is) at c.requires.small }
+
+pub statement-typed_variables-requires : goal.statement-typed_variables-requires
+statement-typed_variables-requires t c = record { small = omega (arith, rw (typed_is _ _ _ _ c.in-Typed.is) at c.requires.small) }
+
+pub statement-untyped_variables-requires : goal.statement-untyped_variables-requires
+statement-untyped_variables-requires t c = record { small = omega (arith, rw (untyped_is _ _ _ c.in-Untyped.is) at c.requires.small) }
+
+pub statement-call_alone-requires : goal.statement-call_alone-requires
+statement-call_alone-requires t c = record { small = rw (go_is _ _ _ c.in-Go.is) at c.requires.small }
+
+pub statement-return_statement-requires : goal.statement-return_statement-requires
+statement-return_statement-requires t c = record { small = omega (arith, rw (return_is _ _ c.in-Return.is) at c.requires.small) }
+
+pub statement-jump-requires : goal.statement-jump-requires
+statement-jump-requires t c = record { small = rw (break_is _ c.in-Break.is) at c.requires.small }
+
+pub statement-jump-requires-in-Continue : goal.statement-jump-requires-in-Continue
+statement-jump-requires-in-Continue t c = record { small = rw (continue_is _ c.in-Continue.is) at c.requires.small }
+
+pub statement-overflow_add-result : goal.statement-overflow_add-result
+statement-overflow_add-result t c = omega (arith, rw (empty_is _ c.in-Empty.is) at c.requires.small)
+
+pub statement-overflow_add-result-in-Block : goal.statement-overflow_add-result-in-Block
+statement-overflow_add-result-in-Block t c = omega (arith, c.in_ok-end-in-Block.ensures.end, rw (block_is _ _ c.in-Block.is, ← c.as_slice-in-Block.ensures.value) at c.requires.small)

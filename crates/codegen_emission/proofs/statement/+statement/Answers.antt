@@ -9,6 +9,7 @@ use Rattle.syntax.specs.declared.node.ClauseNode.{ClauseNode}
 use Rattle.syntax.specs.declared.node.StatementNode.{StatementNode}
 use Rattle.syntax.specs.View.{OneClause, body_of, branch_of, clause_of, clauses, comm_of, expression_of, if_head_of, otherwise_of, simple_of, statement_of, target_of}
 use Rattle.syntax.specs.declared.node.ElseNode.TheFolds.{the_lemmas}
+use Rattle.syntax.proofs.Nodes.{branch_is, clause_is}
 use Rattle.syntax.specs.Tree.{Clause, Conditional, NoClause, NoElse}
 use Rattle.type_table.specs.Views.{kind_of, yield_of}
 use Rattle.type_table.specs.Visible.{globals_in, types_of}
@@ -148,7 +149,7 @@ emit_branch-returns t c =
     let left : Left e3 e4 mark.count mark.outer = record { code = refl; prints = refl; selects = refl; entries = c.leave.ensures.entries; outer_is = c.leave.ensures.outer; words = c.leave.ensures.words; locals = c.leave.ensures.locals } in
     let done = emits_headed table globals elements (head_simple (if_head_of branch.header)) (λ site. made_condition globals elements result site (expression_of branch.condition) (body_of branch.body.items) (otherwise_of branch.otherwise)) e0 e1 e2 e3 e4 mark.count mark.outer flow entered
     c.in_ok-emit_head.ensures c.in_ok-flow.ensures left in
-    let is : branch_of branch ≡ Conditional (if_head_of branch.header) (expression_of branch.condition) (body_of branch.body.items) (otherwise_of branch.otherwise) = search (rules, the_lemmas) in
+    let is : branch_of branch ≡ Conditional (if_head_of branch.header) (expression_of branch.condition) (body_of branch.body.items) (otherwise_of branch.otherwise) = branch_is branch in
     subst (λ b. Emits table e0 e4 flow (made_branch globals elements result (site_of table e0) b)) (sym is) done
 
 pub emit_one_way-returns : goal.emit_one_way-returns
@@ -292,7 +293,7 @@ emit_clause-returns t c = λ whole left all first reaches.
     let f = control c.in_ok-flow.flow in
     let list = c.args.list.now in
     let next = c.add_way.new.list in
-    let is : clause_of clause ≡ record { comm = option_map comm_of clause.comm; body = body_of clause.body.items } = search (rules, the_lemmas) in
+    let is : clause_of clause ≡ record { comm = option_map comm_of clause.comm; body = body_of clause.body.items } = clause_is clause in
     let with_comm : option_map comm_of clause.comm ≡ Some (comm_of c.in-Some.comm) = search rules in
     let body_is = c.as_slice-body.ensures.value in
     let here = subst (λ o. Reaches globals elements result table whole first e0 list (Clause o (body_of clause.body.items) left) all) with_comm (subst (λ (o : OneClause). Reaches globals elements result table whole first e0 list (Clause o.comm o.body left) all) is reaches) in
@@ -309,7 +310,7 @@ emit_clause-returns-in_default t c = λ whole left all first reaches.
     let result = yield_of (types_of table) c.args.context.now.result_type in
     let clause = c.args.clause.now in
     let e0 = c.args.emitter.now in
-    let is : clause_of clause ≡ record { comm = option_map comm_of clause.comm; body = body_of clause.body.items } = search (rules, the_lemmas) in
+    let is : clause_of clause ≡ record { comm = option_map comm_of clause.comm; body = body_of clause.body.items } = clause_is clause in
     let without : option_map comm_of clause.comm ≡ None = search rules in
     let here = subst (λ o. Reaches globals elements result table whole first e0 c.args.list.now (Clause o (body_of clause.body.items) left) all) without (subst (λ (o : OneClause). Reaches globals elements result table whole first e0 c.args.list.now (Clause o.comm o.body left) all) is reaches) in
     reaches_past table globals elements result whole left all (body_of clause.body.items) first e0 c.args.list.now here
@@ -354,7 +355,7 @@ emit_default-loop-clause-preserved t c =
     let i = c.loop-clause.clause-index in
     let one = c.clause-item.result in
     let some : is_none one.comm ≡ false = search rules in
-    let is : clause_of one ≡ record { comm = option_map comm_of one.comm; body = body_of one.body.items } = search (rules, the_lemmas) in
+    let is : clause_of one ≡ record { comm = option_map comm_of one.comm; body = body_of one.body.items } = clause_is one in
     (c.loop-clause.invariant.0, default_later globals elements result site i one all c.loop-clause-test.true c.clause-item.is is some c.loop-clause.invariant.1)
 
 pub emit_default-returns-then-is_none : goal.emit_default-returns-then-is_none
@@ -369,7 +370,7 @@ emit_default-returns-then-is_none t c =
     let i = c.loop-clause.clause-index in
     let one = c.clause-item.result in
     let none : is_none one.comm ≡ true = search rules in
-    let is : clause_of one ≡ record { comm = option_map comm_of one.comm; body = body_of one.body.items } = search (rules, the_lemmas) in
+    let is : clause_of one ≡ record { comm = option_map comm_of one.comm; body = body_of one.body.items } = clause_is one in
     let way = subst (λ (b : List StatementNode). Emits table e0 c.emit_block.new.emitter (control c.in_ok-flow.flow) (made_within globals elements result site (body_of b))) c.as_slice-body.ensures.value c.in_ok-flow.ensures in
     let e1 = c.emit_block.new.emitter in
     let f = control c.in_ok-flow.flow in

@@ -1,8 +1,8 @@
 use Rattle.std.proofs.Common.{inr}
-use Rattle.std.proofs.lemmas.Result.{err_from_is_err_and}
+use Rattle.std.proofs.lemmas.Result.{err_from_is_err_and, IfOk-weaker}
 use Rattle.checker.specs.Trees.{tree_in}
 use Rattle.syntax.specs.Spans.{tree_of}
-use Rattle.kendo_reading.proofs.Spelled.{grammatical}
+use Rattle.kendo_reading.proofs.Spelled.{grammatical, limited}
 use Rattle.kendo_base.proofs.run.run_bytes.Goals as goal
 
 pub returns-in_err-_source-clause-refused : goal.returns-in_err-_source-clause-refused
@@ -13,11 +13,8 @@ returns-in_err-_source-clause-refused g c =
 pub run_typed-requires-clause-grammatical : goal.run_typed-requires-clause-grammatical
 run_typed-requires-clause-grammatical g c κs within = grammatical c.args.bytes.items (tree_of (tree_in c.in_ok-_source.typed)) c.in_ok-_source.ensures.reads
 
-pub returns-in_err-end-clause-begins : goal.returns-in_err-end-clause-begins
-returns-in_err-end-clause-begins g c = inr (tree_of (tree_in c.in_ok-_source.typed), c.in_ok-_source.ensures.reads, c.run_typed.ensures.begins)
-
-pub returns-in_err-end-clause-traces : goal.returns-in_err-end-clause-traces
-returns-in_err-end-clause-traces g c = inr (tree_of (tree_in c.in_ok-_source.typed), c.in_ok-_source.ensures.reads, c.run_typed.ensures.traces)
+pub run_typed-requires-clause-lists : goal.run_typed-requires-clause-lists
+run_typed-requires-clause-lists g c κs within = limited c.args.bytes.items (tree_of (tree_in c.in_ok-_source.typed)) c.in_ok-_source.ensures.reads
 
 pub returns-clause-begins : goal.returns-clause-begins
 returns-clause-begins g c = inr (tree_of (tree_in c.in_ok-_source.typed), c.in_ok-_source.ensures.reads, c.run_typed.ensures.begins)
@@ -26,7 +23,7 @@ pub returns-clause-traces : goal.returns-clause-traces
 returns-clause-traces g c = inr (tree_of (tree_in c.in_ok-_source.typed), c.in_ok-_source.ensures.reads, c.run_typed.ensures.traces)
 
 pub returns-clause-whole : goal.returns-clause-whole
-returns-clause-whole g c = (tree_of (tree_in c.in_ok-_source.typed), c.in_ok-_source.ensures.reads, c.in_ok-end.ensures.whole)
+returns-clause-whole g c = IfOk-weaker c.run_typed.result _ _ (λ end whole. (tree_of (tree_in c.in_ok-_source.typed), c.in_ok-_source.ensures.reads, whole)) c.run_typed.ensures.whole
 
 pub returns-clause-traced : goal.returns-clause-traced
-returns-clause-traced g c = (tree_of (tree_in c.in_ok-_source.typed), c.in_ok-_source.ensures.reads, c.in_ok-end.ensures.traced)
+returns-clause-traced g c = IfOk-weaker c.run_typed.result _ _ (λ end traced. (tree_of (tree_in c.in_ok-_source.typed), c.in_ok-_source.ensures.reads, traced)) c.run_typed.ensures.traced

@@ -1,10 +1,9 @@
-use Rattle.std.proofs.Common.{rules, ◌≤◌, ◌<◌, length, is_ok, map, sym, ap, ◌∙◌, arith}
+use Rattle.std.proofs.Common.{◌≤◌, ◌<◌, Ok, refl, length, is_ok, map, sym, ap, ◌∙◌, arith}
 use Rattle.std.proofs.ResultArms.{chosen}
 use Rattle.std.proofs.lemmas.Result.{err_from_is_err_and}
 use Rattle.syntax.specs.Measures.{SelectClauses}
 use Rattle.syntax.specs.View.{statement_of}
 use Rattle.syntax.specs.declared.limits.TheConstants.{MAX_CLAUSES, MAX_ENTRIES}
-use Rattle.syntax.specs.declared.node.ElseNode.TheFolds.{the_lemmas}
 use Rattle.parser_base.specs.Cursor.{ahead}
 use Rattle.parser_base.specs.Reading.{Syntax, TooMany}
 use Rattle.parser_base.proofs.Lists.{more, ends, one_fails, next_fails, is_full}
@@ -12,6 +11,7 @@ use Rattle.parser_statement.specs.Reading.{statement, block, branch, next_of, cl
 use Rattle.parser_statement.specs.Views.{clause_of}
 use Rattle.parser_statement.proofs.Rooms.{statement_begins, clause_begins, block_done, block_fails}
 use Rattle.parser_statement.proofs.Parts.{if_head_fails, if_body_fails, if_else_fails, if_done, else_if_fails, else_if_done, else_block_done, for_head_fails, for_body_fails, for_done, clause_body_fails, clause_body_done, waits_fails, case_is, default_is, marked_leaf, block_fails as block_statement_fails, block_done as block_statement_done, branch_fails, branch_done}
+use Rattle.syntax.proofs.Nodes.{block_is, for_is, branch_is, else_block_is}
 use Rattle.parser_statement.proofs.statement.+statement.Goals as goal
 
 pub statement-returns : goal.statement-returns
@@ -107,7 +107,7 @@ if_statement-returns-in_err-begun t c =
 
 pub if_statement-returns : goal.if_statement-returns
 if_statement-returns t c =
-    rw (c.in_ok-begun.ensures.ok.0, c.in_ok-head-2.ensures.ok.0) (if_done MAX_ENTRIES c.args.room _ _ (ahead c.args.cursor) _ _ _ (omega arith) c.in_ok-head.ensures (rw c.in_ok-head-2.ensures.ok.1 at c.block.ensures) (rw c.in_ok-begun.ensures.ok.1 at c.optional_else.ensures) ∙ search (rules, the_lemmas))
+    rw (c.in_ok-begun.ensures.ok.0, c.in_ok-head-2.ensures.ok.0) (if_done MAX_ENTRIES c.args.room _ _ (ahead c.args.cursor) _ _ _ (omega arith) c.in_ok-head.ensures (rw c.in_ok-head-2.ensures.ok.1 at c.block.ensures) (rw c.in_ok-begun.ensures.ok.1 at c.optional_else.ensures) ∙ ap (λ made. Ok (made, ahead c.in_ok-begun.rest)) (sym (branch_is _)))
 
 pub else_branch-returns-in_err-branch : goal.else_branch-returns-in_err-branch
 else_branch-returns-in_err-branch t c =
@@ -118,7 +118,7 @@ pub else_branch-returns-then-begins_with : goal.else_branch-returns-then-begins_
 else_branch-returns-then-begins_with t c = rw c.in_ok-else_node.ensures.ok (else_if_done MAX_ENTRIES c.args.room (ahead c.args.cursor) _ _ (omega arith) (sym c.begins_with.ensures ∙ c.if-begins_with.true) c.in_ok-rest.ensures c.in_ok-branch.ensures)
 
 pub else_branch-returns : goal.else_branch-returns
-else_branch-returns t c = else_block_done _ _ (ahead c.args.cursor) _ (sym c.begins_with.ensures ∙ c.if-begins_with.false) c.in_ok-body.ensures ∙ search (rules, the_lemmas)
+else_branch-returns t c = else_block_done _ _ (ahead c.args.cursor) _ (sym c.begins_with.ensures ∙ c.if-begins_with.false) c.in_ok-body.ensures ∙ ap (λ made. Ok (made, ahead c.in_ok-body.rest)) (sym (else_block_is _ c.in_ok-body.body refl))
 
 pub for_statement-returns-in_err-header : goal.for_statement-returns-in_err-header
 for_statement-returns-in_err-header t c =
@@ -131,7 +131,7 @@ for_statement-returns-in_err-header-2 t c =
     rw (p.1, p.2) (for_body_fails c.in_err-header-2.field-0.0 MAX_ENTRIES c.args.room _ (ahead c.args.cursor) _ (omega arith) c.in_ok-header.ensures (rw c.in_err-header-2.ensures.err at c.block.ensures))
 
 pub for_statement-returns : goal.for_statement-returns
-for_statement-returns t c = rw c.in_ok-header-2.ensures.ok.0 (for_done MAX_ENTRIES c.args.room _ (ahead c.args.cursor) _ _ (omega arith) c.in_ok-header.ensures (rw c.in_ok-header-2.ensures.ok.1 at c.block.ensures) ∙ search (rules, the_lemmas))
+for_statement-returns t c = rw c.in_ok-header-2.ensures.ok.0 (for_done MAX_ENTRIES c.args.room _ (ahead c.args.cursor) _ _ (omega arith) c.in_ok-header.ensures (rw c.in_ok-header-2.ensures.ok.1 at c.block.ensures) ∙ ap (λ made. Ok (made, ahead c.in_ok-header-2.rest)) (sym (for_is _ c.in_ok-header.header c.in_ok-header-2.body refl)))
 
 pub clause_body-returns-in_err-waits-2 : goal.clause_body-returns-in_err-waits-2
 clause_body-returns-in_err-waits-2 t c =
@@ -161,7 +161,7 @@ keyword_statement-returns-in_err-body-in-LeftBrace t c =
     rw (p.1, p.2) (block_statement_fails c.in_err-body-in-LeftBrace.field-0.0 MAX_ENTRIES c.args.room _ _ _ c.args.kind (ahead c.args.rest) (omega arith) c.in-LeftBrace.is (rw c.requires at c.in_err-body-in-LeftBrace.ensures))
 
 pub keyword_statement-returns-in_ok-body-in-LeftBrace : goal.keyword_statement-returns-in_ok-body-in-LeftBrace
-keyword_statement-returns-in_ok-body-in-LeftBrace t c = block_statement_done MAX_ENTRIES c.args.room _ _ _ c.args.kind (ahead c.args.rest) _ (omega arith) c.in-LeftBrace.is (rw c.requires at c.in_ok-body-in-LeftBrace.ensures) ∙ search (rules, the_lemmas)
+keyword_statement-returns-in_ok-body-in-LeftBrace t c = block_statement_done MAX_ENTRIES c.args.room _ _ _ c.args.kind (ahead c.args.rest) _ (omega arith) c.in-LeftBrace.is (rw c.requires at c.in_ok-body-in-LeftBrace.ensures) ∙ ap (λ made. Ok (made, ahead c.in_ok-body-in-LeftBrace.rest)) (sym (block_is _ c.in_ok-body-in-LeftBrace.body refl))
 
 pub keyword_statement-returns-in_err-branch-in-If : goal.keyword_statement-returns-in_err-branch-in-If
 keyword_statement-returns-in_err-branch-in-If t c =

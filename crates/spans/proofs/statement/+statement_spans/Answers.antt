@@ -18,36 +18,9 @@ use Rattle.spans.specs.Words.{joined, statement_count, body_count, clauses_count
 use Rattle.spans.specs.Places.{statement_spans, body_spans, clause_spans, clauses_spans}
 use Rattle.syntax.proofs.node.StatementNode.TheLaws.{the_size as statement_depth}
 use Rattle.syntax.proofs.node.ClauseNode.TheLaws.{the_size as clause_depth}
+use Rattle.syntax.proofs.Nodes.{typed_is, untyped_is, block_is, for_is, select_is, go_is, return_is, branch_is, clause_is}
 use Rattle.spans.proofs.Walks.{next_spans, falls_within}
 use Rattle.spans.proofs.statement.+statement_spans.Goals as goal
-
-typed_is : (s : StatementNode) (names : Vec Name Global) (kind : TypeNode) (right : Option RightNode) → s ≡ nodes.Typed names kind right
-    → statement_of s ≡ VarTyped (map name_of names.items) (type_of kind) (option_map right_of right)
-typed_is s names kind right is = search (rules, the_lemmas)
-
-untyped_is : (s : StatementNode) (names : Vec Name Global) (right : RightNode) → s ≡ nodes.Untyped names right → statement_of s ≡ VarUntyped (map name_of names.items) (right_of right)
-untyped_is s names right is = search (rules, the_lemmas)
-
-block_is : (s : StatementNode) (body : Vec StatementNode Global) → s ≡ nodes.Block body → statement_of s ≡ Block (body_of body.items)
-block_is s body is = search (rules, the_lemmas)
-
-for_is : (s : StatementNode) (header : ForHeader) (body : Vec StatementNode Global) → s ≡ nodes.For header body → statement_of s ≡ For (for_head_of header) (body_of body.items)
-for_is s header body is = search (rules, the_lemmas)
-
-select_is : (s : StatementNode) (all : Vec ClauseNode Global) → s ≡ nodes.Select all → statement_of s ≡ Select (clauses (map clause_of all.items))
-select_is s all is = search (rules, the_lemmas)
-
-go_is : (s : StatementNode) (function : Name) (arguments : ArgumentsNode) → s ≡ nodes.Go function arguments → statement_of s ≡ Go (name_of function) (arguments_of arguments)
-go_is s function arguments is = search (rules, the_lemmas)
-
-return_is : (s : StatementNode) (returned : ReturnNode) → s ≡ nodes.Return returned → statement_of s ≡ Return (returned_of returned)
-return_is s returned is = search (rules, the_lemmas)
-
-branch_is : (branch : IfNode) → branch_of branch ≡ Conditional (if_head_of branch.header) (expression_of branch.condition) (body_of branch.body.items) (otherwise_of branch.otherwise)
-branch_is branch = search (rules, the_lemmas)
-
-clause_is : (clause : ClauseNode) → clause_of clause ≡ record { comm = option_map comm_of clause.comm; body = body_of clause.body.items }
-clause_is clause = search (rules, the_lemmas)
 
 -- how far the first of what is left reaches
 statement_reach : (at count one rest total : ℕ) → count + (one + 1 + rest) ≡ total → at + (total - 1) < 2 ^ 40 → at + count + one < 2 ^ 40

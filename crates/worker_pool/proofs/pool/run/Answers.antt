@@ -3,8 +3,26 @@ use Rattle.std.specs.Arc.{arc_value}
 use Rattle.bytecode.specs.Code.{Code}
 use Rattle.book.specs.Runs.{ComesOf, output_run, trace_run}
 use Rattle.bytecode.specs.Machine.{code_kind}
-use Rattle.book.proofs.Pieces.{read_begins, read_whole}
+use Rattle.book.proofs.Pieces.{appends_none, read_begins, read_whole}
 use Rattle.worker_pool.proofs.pool.run.Goals as goal
+
+pub returns-then-workers-lt1-clause-begins : goal.returns-then-workers-lt1-clause-begins
+returns-then-workers-lt1-clause-begins g c = (0, 0, appends_none _)
+
+pub returns-then-workers-lt1-clause-traces : goal.returns-then-workers-lt1-clause-traces
+returns-then-workers-lt1-clause-traces g c = (0, 0, appends_none _)
+
+pub returns-then-limit-lt1-clause-begins : goal.returns-then-limit-lt1-clause-begins
+returns-then-limit-lt1-clause-begins g c = (0, 0, appends_none _)
+
+pub returns-then-limit-lt1-clause-traces : goal.returns-then-limit-lt1-clause-traces
+returns-then-limit-lt1-clause-traces g c = (0, 0, appends_none _)
+
+pub returns-in_err-start-clause-begins : goal.returns-in_err-start-clause-begins
+returns-in_err-start-clause-begins g c = (0, 0, appends_none _)
+
+pub returns-in_err-start-clause-traces : goal.returns-in_err-start-clause-traces
+returns-in_err-start-clause-traces g c = (0, 0, appends_none _)
 
 pub returns-clause-begins : goal.returns-clause-begins
 returns-clause-begins g c =
