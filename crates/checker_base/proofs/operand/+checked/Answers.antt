@@ -197,7 +197,7 @@ checked-returns-in_ok-whole-in-Selection-clause-end t c = rw (selection_is _ _ _
 
 pub checked-returns-in_ok-whole-in-Selection-clause-none : goal.checked-returns-in_ok-whole-in-Selection-clause-none
 checked-returns-in_ok-whole-in-Selection-clause-none t c =
-    rw (selection_is _ _ _ c.in-Selection.is, ← c.deref-in-Selection.ensures, ← c.as_slice.ensures.value) (IfOk-weaker c.selection.result _ _ (λ o free flaw has. elim has [ | inl bad ↦ c.in_ok-whole-in-Selection.ensures.none flaw bad | inr bad ↦ free _ c.in_ok-whole-in-Selection.ensures.worth _ _ flaw bad ]) c.selection.ensures.none)
+    rw (selection_is _ _ _ c.in-Selection.is, ← c.deref-in-Selection.ensures, ← c.as_slice.ensures.value) (IfOk-weaker c.selection.result _ _ (λ o free flaw has. elim has [ inl bad ↦ c.in_ok-whole-in-Selection.ensures.none flaw bad | inr bad ↦ free _ c.in_ok-whole-in-Selection.ensures.worth _ _ flaw bad ]) c.selection.ensures.none)
 
 pub checked-returns-in_ok-whole-in-Selection-clause-one : goal.checked-returns-in_ok-whole-in-Selection-clause-one
 checked-returns-in_ok-whole-in-Selection-clause-one t c =
@@ -219,7 +219,7 @@ checked-returns-in_ok-operand-in-Unary-clause-end t c = rw (unary_is _ _ _ c.in-
 
 pub checked-returns-in_ok-operand-in-Unary-clause-none : goal.checked-returns-in_ok-operand-in-Unary-clause-none
 checked-returns-in_ok-operand-in-Unary-clause-none t c =
-    rw (unary_is _ _ _ c.in-Unary.is, ← c.deref-in-Unary.ensures) (IfOk-weaker c.before-in-Unary.result _ _ (λ o free flaw has. elim has [ | inl bad ↦ c.in_ok-operand-in-Unary.ensures.none flaw bad | inr bad ↦ free (types_of c.args.table.now) _ c.in_ok-operand-in-Unary.ensures.worth _ _ flaw bad ]) c.before-in-Unary.ensures.none)
+    rw (unary_is _ _ _ c.in-Unary.is, ← c.deref-in-Unary.ensures) (IfOk-weaker c.before-in-Unary.result _ _ (λ o free flaw has. elim has [ inl bad ↦ c.in_ok-operand-in-Unary.ensures.none flaw bad | inr bad ↦ free (types_of c.args.table.now) _ c.in_ok-operand-in-Unary.ensures.worth _ _ flaw bad ]) c.before-in-Unary.ensures.none)
 
 pub checked-returns-in_ok-operand-in-Unary-clause-one : goal.checked-returns-in_ok-operand-in-Unary-clause-one
 checked-returns-in_ok-operand-in-Unary-clause-one t c =

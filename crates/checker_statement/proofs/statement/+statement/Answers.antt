@@ -335,7 +335,7 @@ pub statement-returns-in_ok-end-in-Block-clause-none : goal.statement-returns-in
 statement-returns-in_ok-end-in-Block-clause-none t c = rw (block_is _ _ c.in-Block.is, ← c.as_slice-in-Block.ensures.value) c.in_ok-end-in-Block.ensures.none
 
 pub statement-returns-in_err-end-in-Block-clause-one : goal.statement-returns-in_err-end-in-Block-clause-one
-statement-returns-in_err-end-in-Block-clause-one t c = 
+statement-returns-in_err-end-in-Block-clause-one t c =
     let p = err_from_is_err_and c.from_residual.result c.from_residual.ensures.1 in
     rw (p.1, p.2) (rw (block_is _ _ c.in-Block.is, ← c.as_slice-in-Block.ensures.value) c.in_err-end-in-Block.ensures.one)
 
@@ -369,7 +369,7 @@ pub otherwise-returns-in_ok-end-in-Block-clause-none : goal.otherwise-returns-in
 otherwise-returns-in_ok-end-in-Block-clause-none t c = rw (else_block_is _ _ c.in-Block.is, ← c.as_slice.ensures.value) c.in_ok-end-in-Block.ensures.none
 
 pub otherwise-returns-in_err-end-in-Block-clause-one : goal.otherwise-returns-in_err-end-in-Block-clause-one
-otherwise-returns-in_err-end-in-Block-clause-one t c = 
+otherwise-returns-in_err-end-in-Block-clause-one t c =
     let p = err_from_is_err_and c.from_residual.result c.from_residual.ensures.1 in
     rw (p.1, p.2) (rw (else_block_is _ _ c.in-Block.is, ← c.as_slice.ensures.value) c.in_err-end-in-Block.ensures.one)
 

@@ -12,4 +12,4 @@ loop-element-preserved c =
     let listed = c.elements-element-items.ensures in
     let here = rw listed at c.in_ok-kinds.ensures in
     let more : map kinds (take (at + 1) elements) ≡ map kinds (take at elements) ++ c.new.result ∷ [] = rw (c.new.ensures, here) (map_more kinds elements at _ (rw listed at c.loop-element-test.true)) in
-    record {shapes = rw (c.in_ok-push.ensures.items, c.loop-element.invariant.shapes, more) refl}
+    record { shapes = rw (c.in_ok-push.ensures.items, c.loop-element.invariant.shapes, more) refl }

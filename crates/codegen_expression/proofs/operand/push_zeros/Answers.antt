@@ -8,4 +8,4 @@ loop-kind-preserved c =
     let at = c.loop-kind.kind-index in
     let kinds = c.deref-kind-items.result.now in
     let more : map zero_instr (take (at + 1) kinds) ≡ map zero_instr (take at kinds) ++ c.zero_instr.result ∷ [] = rw c.zero_instr.ensures (map_more zero_instr kinds at _ c.loop-kind-test.true) in
-    record {zeros = rw (c.in_ok-push.ensures.items, c.loop-kind.invariant.zeros, more) (append_assoc c.args.code.now.items (map zero_instr (take at kinds)) (c.zero_instr.result ∷ []))}
+    record { zeros = rw (c.in_ok-push.ensures.items, c.loop-kind.invariant.zeros, more) (append_assoc c.args.code.now.items (map zero_instr (take at kinds)) (c.zero_instr.result ∷ [])) }

@@ -13,8 +13,8 @@ loop-part-preserved c =
     let cut : drop at parts ≡ c.part-item.result ∷ rest = rw c.part-item.is (drop-cons parts at _ c.loop-part-test.true) in
     let here = c.in_ok-index-2.ensures in
     let spaced : c.if-line.text.items ≡ text ++ cond line (32 ∷ []) [] = elim c.if-line.branch [
-      then-line+in_ok-push w ↦ rw (w.text-is, w.in_ok-push.ensures.items, ← c.line.ensures, w.if-line.true) refl
-    | else-line w ↦ rw (w.text-is, ← c.line.ensures, w.if-line.false) (sym (append-nil text))
+      | then-line+in_ok-push w ↦ rw (w.text-is, w.in_ok-push.ensures.items, ← c.line.ensures, w.if-line.true) refl
+      | else-line w ↦ rw (w.text-is, ← c.line.ensures, w.if-line.false) (sym (append-nil text))
     ] in
     record {
       text = rw (more, here.text, here.rest, spaced) (append_assoc (text ++ cond line (32 ∷ []) []) _ _ ∙ append_assoc text (cond line (32 ∷ []) []) _ ∙ rw cut at c.loop-part.invariant.text);

@@ -13,7 +13,7 @@ loop-part-preserved c =
     let cut : drop at parts ≡ c.part-item.result ∷ rest = rw c.part-item.is (drop-cons parts at _ c.loop-part-test.true) in
     let here : kinds ++ part_kinds (c.part-item.result ∷ rest) ≡ part_kinds parts = rw cut at c.loop-part.invariant in
     rw more (elim c.match-part.branch [
-      in-Int+in_ok-push-in-Int w ↦ rw (w.kinds-is, w.in_ok-push-in-Int.ensures.items) (append_assoc kinds _ (part_kinds rest) ∙ rw w.in-Int.is at here)
-    | in-Bool+in_ok-push-in-Bool w ↦ rw (w.kinds-is, w.in_ok-push-in-Bool.ensures.items) (append_assoc kinds _ (part_kinds rest) ∙ rw w.in-Bool.is at here)
-    | in-Text w ↦ rw w.kinds-is (rw w.in-Text.is at here)
+      | in-Int+in_ok-push-in-Int w ↦ rw (w.kinds-is, w.in_ok-push-in-Int.ensures.items) (append_assoc kinds _ (part_kinds rest) ∙ rw w.in-Int.is at here)
+      | in-Bool+in_ok-push-in-Bool w ↦ rw (w.kinds-is, w.in_ok-push-in-Bool.ensures.items) (append_assoc kinds _ (part_kinds rest) ∙ rw w.in-Bool.is at here)
+      | in-Text w ↦ rw w.kinds-is (rw w.in-Text.is at here)
     ])
