@@ -1,8 +1,9 @@
-use Rattle.std.proofs.Common.{◌≡◌}
+use Rattle.std.proofs.Common.{rules, ◌≡◌}
 use Rattle.std.proofs.lemmas.Result.{IfOk-weaker}
 use Rattle.syntax.specs.View.{statement_of}
 use Rattle.syntax.specs.Tree.{Break, Continue}
-use Rattle.syntax.proofs.Nodes.{break_is, continue_is, typed_is, untyped_is, go_is}
+use Rattle.syntax.specs.declared.node.ElseNode.TheFolds.{the_lemmas}
+use Rattle.syntax.proofs.Nodes.{break_is, continue_is}
 use Rattle.type_table.specs.Views.{yield_of}
 use Rattle.type_table.specs.Visible.{types_of}
 use Rattle.codegen_flow.specs.Controls.{control}
@@ -21,12 +22,15 @@ returns-in-Continue c =
 
 pub returns-in_ok-declare_typed-in-Typed : goal.returns-in_ok-declare_typed-in-Typed
 returns-in_ok-declare_typed-in-Typed c =
-    rw (typed_is _ _ _ _ c.in-Typed.is) (c.in_ok-declare_typed-in-Typed.ensures (yield_of (types_of c.args.context.now.program.now.table.now) c.args.context.now.result_type))
+    let emitted = c.in_ok-declare_typed-in-Typed.ensures (yield_of (types_of c.args.context.now.program.now.table.now) c.args.context.now.result_type) in
+    search (rules, the_lemmas, emitted)
 
 pub returns-in_ok-declare_untyped-in-Untyped : goal.returns-in_ok-declare_untyped-in-Untyped
 returns-in_ok-declare_untyped-in-Untyped c =
-    rw (untyped_is _ _ _ c.in-Untyped.is) (c.in_ok-declare_untyped-in-Untyped.ensures (yield_of (types_of c.args.context.now.program.now.table.now) c.args.context.now.result_type))
+    let emitted = c.in_ok-declare_untyped-in-Untyped.ensures (yield_of (types_of c.args.context.now.program.now.table.now) c.args.context.now.result_type) in
+    search (rules, the_lemmas, emitted)
 
 pub returns-in_ok-start-in-Go : goal.returns-in_ok-start-in-Go
 returns-in_ok-start-in-Go c =
-    rw (go_is _ _ _ c.in-Go.is) (c.in_ok-start-in-Go.ensures (yield_of (types_of c.args.context.now.program.now.table.now) c.args.context.now.result_type))
+    let emitted = c.in_ok-start-in-Go.ensures (yield_of (types_of c.args.context.now.program.now.table.now) c.args.context.now.result_type) in
+    search (rules, the_lemmas, emitted)
