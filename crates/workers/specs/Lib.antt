@@ -1,1 +1,2 @@
 pub mod Paces
+pub mod Queues

@@ -1,6 +1,6 @@
 //! The queues in which items lie until a worker takes them.
 
-ghost use Rattle.std.specs.Prelude.{◌≡◌, IfErr, IfNone, IfSome, OnOk};
+ghost use Rattle.std.specs.Prelude.{◌≡◌, length, IfErr, IfNone, IfOk, IfSome, OnOk, true};
 ghost use Rattle.std.specs.Arc.{arc_value};
 ghost use Rattle.run_queue.specs.Passes.{IsPutOf, IsTakeOf, put_view, take_view};
 ghost use Rattle.run_queue.specs.Turns.{PutsOne, TakesOne};
@@ -67,8 +67,12 @@ pub struct WorkQueues<T: Drop> {
 }
 
 impl<T: Drop> WorkQueues<T> {
+    ghost use Rattle.workers.specs.Queues.{TakesOfOne, views_of};
+
     /// Those of each of so many workers.
-    pub fn of_all(alloc: Global, workers: u64) -> Result<Vec<WorkQueues<T>>, Memory> {
+    pub fn of_all(alloc: Global, workers: u64) -> Result<Vec<WorkQueues<T>>, Memory>
+        ensures { IfOk result (λ all. length all.items ≡ workers) }
+    {
         let (owners, mut stealers) = empty_queues(alloc, workers)?;
         let mut all = Vec::new(alloc);
         for (worker, own) in owners.into_iter().enumerate() {
@@ -85,6 +89,7 @@ impl<T: Drop> WorkQueues<T> {
     /// Puts an item into its own queue; it comes back where that is full.
     pub fn put<R: Wait>(&mut self, rt: &R, item: T) -> Result<(), T>
         ensures ok { OnOk result (PutsOne (put_view self.old.own.pass) item (put_view self.new.own.pass)) }
+        ensures filled { OnOk result (self.new.filled ≡ true) }
         ensures back { IfErr result (λ back. (back ≡ item) × (put_view self.new.own.pass ≡ put_view self.old.own.pass)) }
     {
         self.own.put(rt, item)?;
@@ -94,17 +99,22 @@ impl<T: Drop> WorkQueues<T> {
 
     /// An item of its own queue, else of the others', if there is one.
     #[inline(never)]
-    pub fn take<R: Wait>(&mut self, rt: &R) -> Option<T> {
+    pub fn take<R: Wait>(&mut self, rt: &R) -> Option<T>
+        ensures own { put_view self.new.own.pass ≡ put_view self.old.own.pass }
+        ensures some { IfSome result (λ item. TakesOfOne (views_of self.old.stealers.items) item (views_of self.new.stealers.items)) }
+        ensures none { IfNone result (views_of self.new.stealers.items ≡ views_of self.old.stealers.items) }
+    {
+        let mut found = None;
         for (place, stealer) in self.stealers.iter_mut().enumerate() {
-            let found = stealer.take(rt);
+            found = stealer.take(rt);
             if found.is_some() {
-                return found;
+                break;
             }
             if place == 0 {
                 self.filled = false;
             }
         }
-        None
+        found
     }
 
     /// Whether others may find an item in its own queue.
@@ -119,10 +129,12 @@ impl<T: Drop> WorkQueues<T> {
 fn empty_queues<T: Drop>(
     alloc: Global,
     count: u64,
-) -> Result<(Vec<Owner<T>>, Vec<Stealer<T>>), Memory> {
+) -> Result<(Vec<Owner<T>>, Vec<Stealer<T>>), Memory>
+    ensures { IfOk result (λ both. (length both.0.items ≡ count) × (length both.1.items ≡ count)) }
+{
     let mut owners = Vec::new(alloc);
     let mut stealers = Vec::new(alloc);
-    for _ in 0..count {
+    for _worker in 0..count {
         let (owner, stealer) = empty_queue(alloc)?;
         owners.push(owner)?;
         stealers.push(stealer)?;
