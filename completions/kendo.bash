@@ -8,17 +8,21 @@ _kendo() {
         return
     fi
     case $previous in
-        --workers | --limit) return ;;
+        --workers | --limit | --from | --last) return ;;
         --trace | --out)
             mapfile -t COMPREPLY < <(compgen -f -- "$current")
             return
             ;;
     esac
     case ${COMP_WORDS[1]} in
+        help)
+            mapfile -t COMPREPLY < <(compgen -W 'check list reference timeline run' -- "$current")
+            return
+            ;;
         check) options='--explain' ;;
-        list) options='' ;;
+        list) options='--explain' ;;
         reference) options='--limit --explain' ;;
-        timeline) options='--limit --out' ;;
+        timeline) options='--limit --from --last --out --explain' ;;
         run) options='--workers --limit --trace --explain' ;;
     esac
     case $current in

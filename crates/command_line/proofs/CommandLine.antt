@@ -1,12 +1,12 @@
 -- What the getters of a command's values read, and what the loops over the commands and their arguments keep.
 use Rattle.std.proofs.Common.{Bool, false, ◌≡◌, ℕ, ◌<◌, ◌≤◌, ◌+◌, ◌^◌, List, drop, length, slice_index_or, Option, Some, None, Result, Ok, Err, refl, sym, ap, ap₂, subst, ◌∙◌}
-use Rattle.std.specs.Prelude.{◌↔◌, IsTrue, option_map, codes}
+use Rattle.std.specs.Prelude.{◌↔◌, IsTrue, map, option_map, codes}
 use Rattle.std.specs.Str.Parse.{ParsesUnsigned}
 use Rattle.std.proofs.lemmas.Bool.{false≢true}
 use Rattle.std.proofs.lemmas.List.{at_drop_all, at_drop_more}
 use Rattle.std.proofs.lemmas.Option.{none-some}
 use Rattle.std.specs.Bool.{Decides}
-use Rattle.clap.specs.Words.{App, ReadsOne, Row, Rule, Text, first_of, with_rule, with_subcommand}
+use Rattle.clap.specs.Words.{App, ReadsOne, Row, Rule, Text, all_of, first_of, one_of, with_rule, with_subcommand}
 use Rattle.command_line.specs.declared.arguments.Argument.{Argument}
 use Rattle.command_line.specs.declared.arguments.Invocation.{Invocation}
 use Rattle.command_line.specs.declared.arguments.TextCommand.{TextCommand}
@@ -41,15 +41,23 @@ both_parts {A = A} {B = B} f g (Some x) a b first second =
 -- a command that does this with these files asks for all of it
 pub asked : (found : Option (Text × List Row)) (name : Text) (rows : List Row) (invocation : Invocation) → found ≡ Some (name, rows)
     → Does name rows invocation.subcommand → Some invocation.file.now ≡ first_of (codes "FILE") rows
+    → Some (map (λ path. path.now) invocation.files.now) ≡ all_of (codes "FILE") rows
+    → IsNumberThere (one_of (codes "from") rows) invocation.from → IsNumberThere (one_of (codes "last") rows) invocation.last
     → option_map (λ path. path.now) invocation.trace ≡ first_of (codes "trace") rows
     → option_map (λ path. path.now) invocation.out ≡ first_of (codes "out") rows
     → (IsTrue invocation.explains ↔ (first_of (codes "explain") rows ≡ Some (codes "true"))) → IsAsked found (Some invocation)
-asked found name rows invocation is does file trace out explains = subst (λ x. IsAsked x (Some invocation)) (sym is) (does, sym file, sym trace, sym out, explains)
+asked found name rows invocation is does file files from last trace out explains =
+    subst (λ x. IsAsked x (Some invocation)) (sym is) (does, sym file, sym files, from, last, sym trace, sym out, explains)
 
 -- without a file it asks for nothing
 pub not_asked : (found : Option (Text × List Row)) (name : Text) (rows : List Row) → found ≡ Some (name, rows)
     → None ≡ first_of (codes "FILE") rows → IsAsked found None
 not_asked found name rows is no_file = subst (λ x. IsAsked x None) (sym is) (λ invocation asks. none-some _ (no_file ∙ asks.1))
+
+-- nor does it without a list of files
+pub not_asked_files : (found : Option (Text × List Row)) (name : Text) (rows : List Row) → found ≡ Some (name, rows)
+    → None ≡ all_of (codes "FILE") rows → IsAsked found None
+not_asked_files found name rows is no_files = subst (λ x. IsAsked x None) (sym is) (λ invocation asks. none-some _ (no_files ∙ asks.2))
 
 -- an option that is there with a text, which is tested
 pub flag_there : (set : Bool) (value wanted : List ℕ) (found : Option (List ℕ)) → Some value ≡ found → Decides set (value ≡ wanted) → IsTrue set ↔ (found ≡ Some wanted)

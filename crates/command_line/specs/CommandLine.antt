@@ -1,8 +1,10 @@
 -- The command line: the commands that are taken, and what the words of one ask for.
 use Rattle.std.specs.Prelude.{◌≡◌, ◌↔◌, IsTrue, ℕ, ◌<◌, ◌-◌, ◌^◌, List, [], ◌∷◌, Option, Some, None, option_map, false, true, codes}
 use Rattle.std.specs.Str.Parse.{IsNumeral, digits_value, without_leading_plus}
-use Rattle.clap.specs.Words.{App, Row, Rule, Text, first_of, new_app, new_rule, one_of, rule_of, with_rule, with_subcommand}
-use Rattle.clap.specs.declared.builder.action.ArgAction.TheVariants.{Set, SetTrue}
+use Rattle.std.specs.Prelude.{map}
+use Rattle.clap.specs.Lexer.{usize_max}
+use Rattle.clap.specs.Words.{App, Row, Rule, Text, all_of, first_of, new_app, new_rule, one_of, rule_of, with_rule, with_subcommand}
+use Rattle.clap.specs.declared.builder.action.ArgAction.TheVariants.{Append, Set, SetTrue}
 use Rattle.clap.specs.declared.builder.arg.Arg.{Arg}
 use Rattle.clap.specs.declared.builder.command.Command.{Command}
 use Rattle.clap.specs.declared.builder.command.Command.TheViews.{out-Command}
@@ -20,7 +22,15 @@ use Rattle.command_line.specs.declared.arguments.Invocation.{Invocation}
 abbrev pub file : Rule
 file = record (new_rule (codes "FILE")) { required = true; action = Some Set }
 
--- an option of this name with one number of 64 bits, and its value where it is left out
+-- FILE.., of which one has to be there
+abbrev pub files : Rule
+files = record (new_rule (codes "FILE")) {
+  required = true;
+  action = Some Append;
+  range = Some (record { start_inclusive = 1; end_inclusive = usize_max });
+}
+
+-- an option of this name with one number of 64 bits, and its value if it is left out
 abbrev pub number : (name default : Text) → Rule
 number name default = record (new_rule name) {
   long = Some name;
@@ -29,17 +39,25 @@ number name default = record (new_rule name) {
   defaults = default ∷ [];
 }
 
--- whether it is also told in a sentence what is wrong
+-- an option of this name with one number of 64 bits, which may be left out
+abbrev pub whole : (name : Text) → Rule
+whole name = record (new_rule name) {
+  long = Some name;
+  value_names = 1;
+  parser = Some (Unsigned 0 (2 ^ 64 - 1));
+}
+
+-- whether errors and ends are explained
 abbrev pub explain : Rule
 explain = record (new_rule (codes "explain")) { long = Some (codes "explain"); action = Some SetTrue }
 
--- kendo check FILE [--explain]
+-- kendo check FILE.. [--explain]
 abbrev pub check : App
-check = with_rule (with_rule (new_app (codes "check")) file) explain
+check = with_rule (with_rule (new_app (codes "check")) files) explain
 
--- kendo list FILE
+-- kendo list FILE [--explain]
 abbrev pub list : App
-list = with_rule (new_app (codes "list")) file
+list = with_rule (with_rule (new_app (codes "list")) file) explain
 
 -- how many workers there are, and the last logical time
 abbrev pub workers : Rule
@@ -68,9 +86,20 @@ run = with_rule plain_run explain
 abbrev pub out : Rule
 out = record (new_rule (codes "out")) { long = Some (codes "out"); value_names = 1 }
 
--- kendo timeline FILE [--limit L] [--out OUT]
+-- the first event that a picture shows, and how many of the last ones it shows
+abbrev pub from : Rule
+from = whole (codes "from")
+
+abbrev pub last : Rule
+last = whole (codes "last")
+
+-- kendo timeline FILE [--limit L] [--from EVENT] [--last N]
+abbrev pub chosen_timeline : App
+chosen_timeline = with_rule (with_rule (with_rule (with_rule (new_app (codes "timeline")) file) limit) from) last
+
+-- kendo timeline FILE [--limit L] [--from EVENT] [--last N] [--out OUT] [--explain]
 abbrev pub timeline : App
-timeline = with_rule (with_rule (with_rule (new_app (codes "timeline")) file) limit) out
+timeline = with_rule (with_rule chosen_timeline out) explain
 
 -- a command has to be there; kendo --version tells the version
 abbrev pub named : App
@@ -101,9 +130,12 @@ option name = record (new_rule name) { long = Some name }
 -- the rule of each argument
 abbrev pub rule_for : Argument → Rule
 rule_for arguments.File = file
+rule_for arguments.Files = files
 rule_for arguments.Workers = workers
 rule_for arguments.Limit = limit
 rule_for arguments.Trace = trace
+rule_for arguments.From = from
+rule_for arguments.Last = last
 rule_for arguments.Out = out
 rule_for arguments.Explain = explain
 
@@ -137,18 +169,21 @@ Does name rows (subcommands.Timeline limit) = (name ≡ codes "timeline") × IsN
 Does name rows (subcommands.Run workers limit) =
     (name ≡ codes "run") × IsNumber (one_of (codes "workers") rows) workers × IsNumber (one_of (codes "limit") rows) limit
 
--- the same with the file, with the files of the trace and of the picture where they were named, and whether what is wrong is explained
-abbrev pub Asks : Text × List Row → Invocation → Type 0
-Asks (name, rows) invocation =
-    Does name rows invocation.subcommand × (first_of (codes "FILE") rows ≡ Some invocation.file.now)
-    × (first_of (codes "trace") rows ≡ option_map (λ path. path.now) invocation.trace)
-    × (first_of (codes "out") rows ≡ option_map (λ path. path.now) invocation.out)
-    × (IsTrue invocation.explains ↔ (first_of (codes "explain") rows ≡ Some (codes "true")))
-
--- the number that the text is, or none where it is no number
+-- the number that the text is, or none if it is no number
 abbrev pub IsNumberThere : Option Text → Option ℕ → Type 0
 IsNumberThere text (Some n) = IsNumber text n
 IsNumberThere text None = (n : ℕ) → IsNumber text n → ⊥
+
+-- Like `Does`, but with the source files, the files of the trace and of the picture, the events of the picture, and whether errors and ends are explained
+abbrev pub Asks : Text × List Row → Invocation → Type 0
+Asks (name, rows) invocation =
+    Does name rows invocation.subcommand × (first_of (codes "FILE") rows ≡ Some invocation.file.now)
+    × (all_of (codes "FILE") rows ≡ Some (map (λ path. path.now) invocation.files.now))
+    × IsNumberThere (one_of (codes "from") rows) invocation.from
+    × IsNumberThere (one_of (codes "last") rows) invocation.last
+    × (first_of (codes "trace") rows ≡ option_map (λ path. path.now) invocation.trace)
+    × (first_of (codes "out") rows ≡ option_map (λ path. path.now) invocation.out)
+    × (IsTrue invocation.explains ↔ (first_of (codes "explain") rows ≡ Some (codes "true")))
 
 -- what the command does, or none where it does nothing
 abbrev pub IsDone : (name : Text) → List Row → Option Subcommand → Type 0

@@ -2,7 +2,7 @@
 
 ghost use Rattle.std.specs.Prelude.{◌≡◌, ◌↔◌, codes, IfOk, IsTrue, Some};
 ghost use Rattle.clap.specs.Words.{app_of, first_of, found_of, one_of, rows_of, subcommand_rows_of, with_subcommand};
-ghost use Rattle.command_line.specs.CommandLine.{IsAsked, IsDone, IsLocal, IsNumberThere, IsRead, app_for, file, kendo, named, number, option, rule_for};
+ghost use Rattle.command_line.specs.CommandLine.{IsAsked, IsDone, IsLocal, IsNumberThere, IsRead, app_for, file, files, kendo, named, number, option, rule_for, whole};
 
 use clap::{Arg, ArgAction, ArgMatches, Command, value_parser};
 use std::alloc::{AllocError, Global};
@@ -10,44 +10,51 @@ use std::alloc::{AllocError, Global};
 /// The version of the program.
 const VERSION: &str = "0.1.0";
 
-/// What refusals and exit statuses mean.
+/// The end of the help text: errors, exit statuses and the environment.
 const STATUSES: &str =
-    "A text that is refused is told by a number: 1 TooLong, 2 NotUtf8, 3 BadCharacter, 4 BadNumber, 5 OpenString,\n\
-6 OpenComment, 7 Syntax, 8 TooDeep, 9 Type rule R (1 to 20), 10 Limit kind K (1 to 6), and where it is: --explain\n\
-tells it in words. docs/LANGUAGE.md lists the rules and the limits.\n\n\
+    "FILE is a source file, or - for standard input. With KENDO_EXPLAIN=1 in the environment every command explains.\n\n\
+Errors in a program are reported by number and place: 1 TooLong, 2 NotUtf8, 3 BadCharacter, 4 BadNumber,\n\
+5 OpenString, 6 OpenComment, 7 Syntax, 8 TooDeep, 9 Type rule R (1 to 20), 10 Limit kind K (1 to 6). --explain\n\
+describes them. docs/LANGUAGE.md lists the rules and the limits.\n\n\
 Exit status:\n  \
-0   the program finished, or its text was checked, listed or drawn\n  \
-1   the text is refused\n  \
+0   the program finished, or was checked, listed or drawn\n  \
+1   the program has an error\n  \
 2   the program panicked, for a reason P1 to P9\n  \
 3   deadlock: every goroutine waits\n  \
 4   the limit of logical time was reached\n  \
-5   want of memory (13)\n  \
-6   an output refused bytes (14)\n  \
+5   out of memory (13)\n  \
+6   an output could not be written (14)\n  \
 64  the command line, a number of workers (15), a limit (16) or a file can't be used";
 
-/// A command line that was accepted: what is done with which file.
+/// A command line that was accepted: what is done with which files.
 #[derive(Clone, Copy)]
-pub struct Invocation<'a> {
-    /// The path, as it was typed.
+pub struct Invocation<'m, 'a> {
+    /// The path of the source file, as it was typed; the first one if there are several. `-` is standard input.
     pub file: &'a str,
-    /// The path of the file that the trace goes to, as it was typed, where it was.
+    /// The paths of all source files, as they were typed, `file` first. Only `check` takes several.
+    pub files: &'m [&'a str],
+    /// The path of the trace file, as it was typed.
     pub trace: Option<&'a str>,
-    /// The path of the file that a picture goes to, as it was typed, where it was.
+    /// The path of the picture's file, as it was typed.
     pub out: Option<&'a str>,
-    /// Whether it is also told in a sentence what is wrong with the text.
+    /// The number of the first event that a picture shows, counted from 1.
+    pub from: Option<u64>,
+    /// How many events a picture shows, of the last ones of the run.
+    pub last: Option<u64>,
+    /// Whether errors in the program and the end of its run are explained.
     pub explains: bool,
-    /// What is done with it.
+    /// What is done with the program.
     pub subcommand: Subcommand,
 }
 
-/// What is done with a text.
+/// What is done with a program.
 #[derive(Clone, Copy)]
 pub enum Subcommand {
     /// It is checked.
     Check,
     /// Its code is listed.
     List,
-    /// It is interpreted as it stands.
+    /// Its source is interpreted.
     Reference {
         /// The last logical time; the interpreter judges whether it is 1 to 2^62.
         limit: u64,
@@ -69,28 +76,34 @@ pub enum Subcommand {
 /// An argument of a command.
 #[derive(Clone, Copy)]
 enum Argument {
-    /// The text's file.
+    /// The source file.
     File,
+    /// The source files, one or more.
+    Files,
     /// How many workers there are.
     Workers,
     /// The last logical time.
     Limit,
     /// The file that the trace of a run goes to.
     Trace,
+    /// The number of the first event that a picture shows.
+    From,
+    /// How many of the last events a picture shows.
+    Last,
     /// The file that a picture of a run goes to.
     Out,
-    /// Whether it is told in a sentence what is wrong.
+    /// Whether errors and ends are explained.
     Explain,
 }
 
-/// A command that is done with a text.
+/// A command that takes source files.
 #[derive(Clone, Copy)]
 struct TextCommand {
     /// Its name.
     name: &'static str,
-    /// What help says of it.
+    /// Its line in the help text.
     about: &'static str,
-    /// What it takes, in the order of its help.
+    /// The arguments that it takes, in the order of the help text.
     arguments: &'static [Argument],
 }
 
@@ -98,23 +111,30 @@ struct TextCommand {
 const TEXT_COMMANDS: [TextCommand; 5] = [
     TextCommand {
         name: "check",
-        about: "Checks whether a text is a program",
-        arguments: &[Argument::File, Argument::Explain],
+        about: "Checks programs for errors",
+        arguments: &[Argument::Files, Argument::Explain],
     },
     TextCommand {
         name: "list",
         about: "Lists the code of a program",
-        arguments: &[Argument::File],
+        arguments: &[Argument::File, Argument::Explain],
     },
     TextCommand {
         name: "reference",
-        about: "Interprets a program as it stands",
+        about: "Runs a program by interpreting its source",
         arguments: &[Argument::File, Argument::Limit, Argument::Explain],
     },
     TextCommand {
         name: "timeline",
-        about: "Makes a picture of a run",
-        arguments: &[Argument::File, Argument::Limit, Argument::Out],
+        about: "Draws a picture of a run",
+        arguments: &[
+            Argument::File,
+            Argument::Limit,
+            Argument::From,
+            Argument::Last,
+            Argument::Out,
+            Argument::Explain,
+        ],
     },
     TextCommand {
         name: "run",
@@ -129,14 +149,25 @@ const TEXT_COMMANDS: [TextCommand; 5] = [
     },
 ];
 
-/// The argument that names the text's file.
+/// The argument that names the source file.
 fn file_argument<'a>(alloc: Global) -> Arg<'a>
     ensures { IsRead result file }
 {
     Arg::new(alloc, "FILE")
-        .help("The text of the program")
+        .help("The source file, or - for standard input")
         .required(true)
         .action(ArgAction::Set)
+}
+
+/// The argument that names one source file or more.
+fn files_argument<'a>(alloc: Global) -> Arg<'a>
+    ensures { IsRead result files }
+{
+    Arg::new(alloc, "FILE")
+        .help("The source files; - is standard input")
+        .required(true)
+        .action(ArgAction::Append)
+        .num_args(1..)
 }
 
 /// An option of this name.
@@ -162,12 +193,22 @@ fn number_argument<'a>(
         .default_value(default)
 }
 
+/// An option with one number, which may be left out.
+fn whole_argument<'a>(alloc: Global, name: &'a str, value: &'a str, help: &'a str) -> Arg<'a>
+    ensures { IsRead result (whole name.entry.now) }
+{
+    option_argument(alloc, name, help)
+        .value_name(value)
+        .value_parser(value_parser!(u64))
+}
+
 /// The argument as words are read with it.
 fn argument_of<'a>(alloc: Global, argument: Argument) -> Arg<'a>
     ensures { IsRead result (rule_for argument) }
 {
     match argument {
         Argument::File => file_argument(alloc),
+        Argument::Files => files_argument(alloc),
         Argument::Workers => number_argument(
             alloc,
             "workers",
@@ -185,25 +226,32 @@ fn argument_of<'a>(alloc: Global, argument: Argument) -> Arg<'a>
         Argument::Trace => option_argument(
             alloc,
             "trace",
-            "Writes each operation with its logical time to this file",
+            "Writes each event with its logical time to this file",
         )
         .value_name("TRACE"),
+        Argument::From => whole_argument(
+            alloc,
+            "from",
+            "EVENT",
+            "Draws the run from this event on, counted from 1",
+        ),
+        Argument::Last => whole_argument(alloc, "last", "N", "Draws the last N events of the run"),
         Argument::Out => option_argument(
             alloc,
             "out",
-            "Writes the picture to this file, as JSON where it ends in .json, else as SVG",
+            "Writes the picture to this file, as JSON if it ends in .json, else as SVG",
         )
         .value_name("OUT"),
         Argument::Explain => option_argument(
             alloc,
             "explain",
-            "Tells in a sentence what is wrong with the text, and shows the place",
+            "Explains errors in the program, how its run ends, and why a file can't be used",
         )
         .action(ArgAction::SetTrue),
     }
 }
 
-/// A command that is done with a text, as words are read with it.
+/// A command that takes source files, as words are read with it.
 fn text_command<'a>(alloc: Global, listed: &TextCommand) -> Result<Command<'a>, AllocError>
     ensures app { IfOk result (λ c. app_of c ≡ app_for listed.now) }
     ensures local { IfOk result IsLocal }
@@ -244,7 +292,7 @@ pub fn command<'a>(alloc: Global) -> Result<Command<'a>, AllocError>
     Ok(command)
 }
 
-/// The same with no command, of which one has to be there.
+/// Like `command`, but without subcommands, of which one has to be there.
 fn named_command<'a>(alloc: Global) -> Command<'a>
     ensures { app_of result ≡ named }
 {
@@ -291,7 +339,7 @@ fn subcommand_named(name: &str, matches: &ArgMatches<'_>) -> Option<Subcommand>
 }
 
 /// What the words ask for.
-pub fn invocation_of<'a>(matches: &ArgMatches<'a>) -> Option<Invocation<'a>>
+pub fn invocation_of<'m, 'a>(matches: &'m ArgMatches<'a>) -> Option<Invocation<'m, 'a>>
     ensures { IsAsked (subcommand_rows_of matches.now) result }
 {
     let Some((name, matches)) = matches.subcommand() else {
@@ -302,11 +350,17 @@ pub fn invocation_of<'a>(matches: &ArgMatches<'a>) -> Option<Invocation<'a>>
     };
     let trace = matches.get_str("trace");
     let out = matches.get_str("out");
+    let from = option_number(matches, "from");
+    let last = option_number(matches, "last");
     let explains = is_set(matches, "explain");
+    let files = matches.get_strs("FILE")?;
     Some(Invocation {
         file: matches.get_str("FILE")?,
+        files,
         trace,
         out,
+        from,
+        last,
         explains,
         subcommand,
     })

@@ -1,17 +1,18 @@
-//! What is told behind the line of an outcome, where it was asked for.
+//! The explanation that follows the line of an outcome.
 
 use command_line::arguments::{Invocation, Subcommand};
 use diagnostic::explanation;
-use go_text::Fault;
+use go_text::{Fault, Memory};
 use kendo_front::explain_end;
 use kendo_shell::streams::tell;
+use kendo_shell::tracing::Refused;
 use std::alloc::Global;
 use word::end::End;
 
-/// A copy of the text, where it may have to be explained what is wrong with it.
+/// A copy of the program, if the command explains.
 pub(crate) fn kept_text(
     alloc: Global,
-    invocation: &Invocation<'_>,
+    invocation: &Invocation<'_, '_>,
     bytes: &[u8],
 ) -> Option<Vec<u8>> {
     if !invocation.explains {
@@ -20,47 +21,79 @@ pub(crate) fn kept_text(
     bytes.to_vec(alloc).ok()
 }
 
-/// Tells on standard error what is wrong with the text that was kept, or where the goroutines stand at the end of its run. Where
-/// memory or the stream is refused, nothing else changes.
+/// Explains on standard error the errors in the program that was kept, how its run ended, or why an output refused bytes. If memory
+/// or the stream is refused, nothing else changes.
 pub(crate) fn explain(
     rt: &HostRuntime,
     alloc: Global,
-    invocation: &Invocation<'_>,
+    invocation: &Invocation<'_, '_>,
+    file: &str,
     kept: Option<Vec<u8>>,
     outcome: Result<End, Fault>,
+    refused: Option<Refused>,
 ) {
     let Some(bytes) = kept else {
         return;
     };
-    let told = match outcome {
-        Ok(end) => end_told(alloc, invocation, bytes, end),
-        Err(fault) => fault_told(alloc, invocation.file, bytes, &fault),
+    let explained = match (outcome, refused) {
+        (Ok(end), _) => end_explained(alloc, invocation, file, bytes, end),
+        (Err(Fault::Write), Some(refused)) => refusal_explained(alloc, invocation, refused),
+        (Err(fault), _) => fault_explained(alloc, invocation, file, bytes, &fault),
     };
-    if let Ok(told) = told {
-        tell(rt, told.as_slice());
+    if let Ok(explained) = explained {
+        tell(rt, explained.as_slice());
     }
 }
 
-/// What is told of the end of a run.
-fn end_told(
+/// Explains the end of a run.
+fn end_explained(
     alloc: Global,
-    invocation: &Invocation<'_>,
+    invocation: &Invocation<'_, '_>,
+    file: &str,
     bytes: Vec<u8>,
     end: End,
 ) -> Result<Vec<u8>, Fault> {
     match invocation.subcommand {
         Subcommand::Check | Subcommand::List | Subcommand::Timeline { .. } => Ok(Vec::new(alloc)),
         Subcommand::Reference { limit } | Subcommand::Run { limit, .. } => {
-            explain_end(alloc, invocation.file, bytes, limit, end)
+            explain_end(alloc, file, bytes, limit, end)
         }
     }
 }
 
-/// What is told of a text that is refused.
-fn fault_told(alloc: Global, path: &str, bytes: Vec<u8>, fault: &Fault) -> Result<Vec<u8>, Fault> {
+/// Explains which output refused bytes, and why.
+fn refusal_explained(
+    alloc: Global,
+    invocation: &Invocation<'_, '_>,
+    refused: Refused,
+) -> Result<Vec<u8>, Fault> {
+    let line = match refused {
+        Refused::Standard(reason) => format!(in alloc; "standard output: {reason}\n"),
+        Refused::File(reason) => {
+            let path = invocation.trace.or(invocation.out).unwrap_or("");
+            format!(in alloc; "{path}: {reason}\n")
+        }
+    };
+    match line {
+        Ok(line) => Ok(line.into_bytes()),
+        Err(_) => Err(Fault::Memory),
+    }
+}
+
+/// Explains the errors in a program.
+fn fault_explained(
+    alloc: Global,
+    _invocation: &Invocation<'_, '_>,
+    file: &str,
+    bytes: Vec<u8>,
+    fault: &Fault,
+) -> Result<Vec<u8>, Fault> {
     let text = match String::from_utf8(bytes) {
         Ok(text) => text,
         Err(_) => String::new(alloc),
     };
-    Ok(explanation(alloc, path, text.as_str(), fault)?)
+    match explanation(alloc, file, text.as_str(), fault) {
+        Ok(explained) => Ok(explained),
+        Err(Memory) => Err(Fault::Memory),
+    }
 }

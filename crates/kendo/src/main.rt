@@ -1,7 +1,7 @@
-//! The program: its command line, its file, and the two standard streams.
+//! The program: its command line, its files, and the standard streams.
 #![tactic(auto)]
 
-ghost use Rattle.std.specs.Prelude.{◌≡◌, ◌⊎◌, IfErr, IfOk, map, string_bytes};
+ghost use Rattle.std.specs.Prelude.{◌≡◌, ◌⊎◌, IfOk, map, string_bytes};
 ghost use Rattle.kendo_shell.specs.Answers.{Finds, IsStatus, Obeys, Tells};
 
 mod explaining;
@@ -16,29 +16,28 @@ use kendo_front::reference_bytes;
 use kendo_shell::USAGE;
 use kendo_shell::checking::check;
 use kendo_shell::files::opened;
-use kendo_shell::streams::{buffered_output, exit, flush, told};
-use kendo_shell::tracing::Trace;
-use kendo_shell::words::{show, words_in};
+use kendo_shell::streams::{exit, tell, told};
+use kendo_shell::tracing::{Outputs, Trace};
+use kendo_shell::words::{first_failure, name_of, show, with_environment, words_in};
 use pictures::picture;
 use std::alloc::Global;
 use std::process::ExitCode;
 use std::sync::Wait;
 use std::thread::Threads;
-use timeline::Format;
 use word::end::End;
 
 fn main(rt: HostRuntime) -> ExitCode {
     exit(&rt, start(&rt, &rt))
 }
 
-/// Reads the command line and does what it asks, down to the exit status. A run may wait for its workers, by this leave.
+/// Reads the command line and does what it asks, down to the exit status. `threads` permits a run to start workers and wait for them.
 #[tactic(auto, using(kendo_shell::proofs::Obeying::obeyed_status))]
-fn start(rt: &HostRuntime, leave: &(impl Threads + Wait + Sync)) -> Result<u8, Memory>
+fn start(rt: &HostRuntime, threads: &(impl Threads + Wait + Sync)) -> Result<u8, Memory>
     ensures { IfOk result IsStatus }
 {
     let alloc = rt.alloc();
     match words_in(rt, alloc)? {
-        Some(words) => obey(rt, leave, alloc, words.as_slice()),
+        Some(words) => obey(rt, threads, alloc, words.as_slice()),
         None => Ok(USAGE),
     }
 }
@@ -46,7 +45,7 @@ fn start(rt: &HostRuntime, leave: &(impl Threads + Wait + Sync)) -> Result<u8, M
 /// Does what these words ask, the first of which is the program's name, down to the exit status.
 fn obey(
     rt: &HostRuntime,
-    leave: &(impl Threads + Wait + Sync),
+    threads: &(impl Threads + Wait + Sync),
     alloc: Global,
     words: &[String],
 ) -> Result<u8, Memory>
@@ -54,96 +53,123 @@ fn obey(
 {
     match command(alloc)?.try_get_matches_from(words) {
         Ok(matches) => match invocation_of(&matches) {
-            Some(invocation) => perform(rt, leave, alloc, &invocation),
+            Some(invocation) => perform(rt, threads, alloc, &invocation),
             None => Ok(USAGE),
         },
         Err(error) => show(rt, alloc, words, &error),
     }
 }
 
-/// Checks, lists, interprets, draws or runs the file, and tells how it ended.
+/// Checks, lists, interprets, draws or runs the files, and reports each outcome. The status is that of the first file whose status
+/// is not 0.
 fn perform(
     rt: &HostRuntime,
-    leave: &(impl Threads + Wait + Sync),
+    threads: &(impl Threads + Wait + Sync),
     alloc: Global,
-    invocation: &Invocation<'_>,
+    invocation: &Invocation<'_, '_>,
 ) -> Result<u8, Memory>
     ensures { IfOk result (λ status. (status ≡ USAGE) ⊎ Tells invocation.now.subcommand status) }
 {
-    match opened(rt, alloc, invocation)? {
-        Some((bytes, trace)) => answer(rt, leave, alloc, invocation, bytes, trace),
+    if invocation.from.is_some() && invocation.last.is_some() {
+        tell(
+            rt,
+            b"kendo: --from and --last can't be used together\n".as_slice(),
+        );
+        return Ok(USAGE);
+    }
+    let invocation = &with_environment(rt, invocation);
+    let mut status = perform_on(rt, threads, alloc, invocation, invocation.file)?;
+    for file in invocation.files.iter().skip(1) {
+        let next = perform_on(rt, threads, alloc, invocation, file)?;
+        status = first_failure(status, next);
+    }
+    Ok(status)
+}
+
+/// Like `perform`, for one of the files.
+fn perform_on(
+    rt: &HostRuntime,
+    threads: &(impl Threads + Wait + Sync),
+    alloc: Global,
+    invocation: &Invocation<'_, '_>,
+    file: &str,
+) -> Result<u8, Memory>
+    ensures { IfOk result (λ status. (status ≡ USAGE) ⊎ Tells invocation.now.subcommand status) }
+{
+    match opened(rt, alloc, invocation, file, name_of(invocation, file))? {
+        Some((bytes, trace)) => answer(rt, threads, alloc, invocation, file, bytes, trace),
         None => Ok(USAGE),
     }
 }
 
-/// Does with the text what the command says, and tells how it ended. What is wrong with the text is explained behind that, where
-/// it was asked for: line and status are the same.
+/// Does with a program what the command says, and reports the outcome. If the command explains, an explanation follows: line and
+/// status are the same.
 #[tactic(auto, using(kendo_shell::proofs::Findings::told))]
 fn answer(
     rt: &HostRuntime,
-    leave: &(impl Threads + Wait + Sync),
+    threads: &(impl Threads + Wait + Sync),
     alloc: Global,
-    invocation: &Invocation<'_>,
+    invocation: &Invocation<'_, '_>,
+    file: &str,
     bytes: Vec<u8>,
     trace: Trace,
 ) -> Result<u8, Memory>
     ensures { IfOk result (λ status. (status ≡ USAGE) ⊎ Tells invocation.now.subcommand status) }
 {
     let kept = kept_text(alloc, invocation, bytes.as_slice());
-    let format = Format::of(invocation.out);
-    let outcome = find(
+    let mut outputs = Outputs::new(rt, trace);
+    let outcome = find(threads, alloc, invocation, bytes, &mut outputs);
+    let status = told(rt, alloc, name_of(invocation, file), &outcome)?;
+    explain(
         rt,
-        leave,
         alloc,
-        invocation.subcommand,
-        bytes,
-        trace,
-        format,
+        invocation,
+        file,
+        kept,
+        outcome,
+        outputs.refused(),
     );
-    let status = told(rt, alloc, &outcome)?;
-    explain(rt, alloc, invocation, kept, outcome);
     Ok(status)
 }
 
-/// What the command finds in the text, which it checks, lists, interprets, draws or runs.
+/// What the command finds in the program, which it checks, lists, interprets, draws or runs.
 fn find(
-    rt: &HostRuntime,
-    leave: &(impl Threads + Wait + Sync),
+    threads: &(impl Threads + Wait + Sync),
     alloc: Global,
-    subcommand: Subcommand,
+    invocation: &Invocation<'_, '_>,
     bytes: Vec<u8>,
-    trace: Trace,
-    format: Format,
+    outputs: &mut Outputs,
 ) -> Result<End, Fault>
-    ensures { Finds subcommand bytes.items result }
+    ensures { Finds invocation.now.subcommand bytes.items result }
 {
-    match subcommand {
+    match invocation.subcommand {
         Subcommand::Check => check(alloc, bytes),
-        Subcommand::List => list(rt, alloc, bytes),
-        Subcommand::Reference { limit } => interpret(rt, alloc, bytes, limit),
-        Subcommand::Timeline { limit } => picture(rt, alloc, bytes, limit, format, trace),
-        Subcommand::Run { workers, limit } => run_text(
-            rt, leave, alloc, bytes, workers, limit, trace,
-        ),
+        Subcommand::List => list(alloc, bytes, outputs),
+        Subcommand::Reference { limit } => interpret(alloc, bytes, limit, outputs),
+        Subcommand::Timeline { limit } => picture(alloc, bytes, limit, invocation, outputs),
+        Subcommand::Run { workers, limit } => {
+            run_text(threads, alloc, bytes, workers, limit, outputs)
+        }
     }
 }
 
-/// Lists the code of the text on standard output, behind a buffer.
-fn list(rt: &HostRuntime, alloc: Global, bytes: Vec<u8>) -> Result<End, Fault>
+/// Lists the code of the program on standard output.
+fn list(alloc: Global, bytes: Vec<u8>, outputs: &mut Outputs) -> Result<End, Fault>
     ensures { Finds Subcommand.List bytes.items result }
 {
-    let mut out = buffered_output(rt, alloc)?;
-    list_bytes(alloc, bytes, &mut out)?;
-    flush(out)?;
+    list_bytes(alloc, bytes, &mut outputs.standard)?;
     Ok(End::Finished)
 }
 
-/// Interprets the text as it stands, with standard output behind a buffer.
-fn interpret(rt: &HostRuntime, alloc: Global, bytes: Vec<u8>, limit: u64) -> Result<End, Fault>
+/// Interprets the source of the program, which prints to standard output.
+fn interpret(
+    alloc: Global,
+    bytes: Vec<u8>,
+    limit: u64,
+    outputs: &mut Outputs,
+) -> Result<End, Fault>
     ensures { Finds (Subcommand.Reference limit) bytes.items result }
 {
-    let mut out = buffered_output(rt, alloc)?;
-    let end = reference_bytes(alloc, bytes, limit, &mut out)?;
-    flush(out)?;
+    let end = reference_bytes(alloc, bytes, limit, &mut outputs.standard)?;
     Ok(end)
 }

@@ -1,12 +1,11 @@
-//! The run of a text for a command line.
+//! The run of a program for a command line.
 
 ghost use Rattle.command_line.specs.declared.arguments.Subcommand.TheVariants as subcommands;
 ghost use Rattle.kendo_shell.specs.Answers.{Finds};
 
 use crate::run::run_bytes;
 use go_text::Fault;
-use kendo_shell::streams::{buffered_output, flush};
-use kendo_shell::tracing::{Trace, close};
+use kendo_shell::tracing::Outputs;
 use std::alloc::Global;
 use std::sync::Wait;
 use std::thread::Threads;
@@ -24,25 +23,22 @@ impl Gate for Open {
     fn at_end(&self, _worker: u64) {}
 }
 
-/// Runs the text with standard output behind a buffer, and the lines of its events written to the trace.
+/// Runs the program: its output goes to standard output, the lines of its events to the file of the trace, if there is one.
 ///
-/// Errors: those of `run_bytes`; `Write` also where what was held back is refused at the end.
+/// Errors: those of `run_bytes`.
 pub fn run_text(
-    rt: &HostRuntime,
     leave: &(impl Threads + Wait + Sync),
     alloc: Global,
     bytes: Vec<u8>,
     workers: u64,
     limit: u64,
-    mut trace: Trace,
+    outputs: &mut Outputs,
 ) -> Result<End, Fault>
     ensures { Finds (subcommands.Run workers limit) bytes.items result }
 {
-    let mut out = buffered_output(rt, alloc)?;
+    let Outputs { standard, file } = outputs;
     let end = run_bytes(
-        leave, alloc, bytes, limit, workers, &Open, &mut out, &mut trace,
+        leave, alloc, bytes, limit, workers, &Open, standard, file,
     )?;
-    flush(out)?;
-    close(trace)?;
     Ok(end)
 }

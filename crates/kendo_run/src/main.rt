@@ -1,5 +1,5 @@
-//! The program that checks and runs texts, by the same functions as `kendo`, and does nothing else: so it needs fewer proofs before a
-//! first text runs.
+//! The program that checks and runs programs, by the same functions as `kendo`, and does nothing else: it needs fewer proofs before a
+//! first program runs.
 #![tactic(auto)]
 
 ghost use Rattle.std.specs.Prelude.{◌≡◌, ◌⊎◌, IfOk, map, string_bytes};
@@ -15,8 +15,8 @@ use kendo_shell::USAGE;
 use kendo_shell::checking::check;
 use kendo_shell::files::opened;
 use kendo_shell::streams::{exit, tell, told};
-use kendo_shell::tracing::Trace;
-use kendo_shell::words::{show, words_in};
+use kendo_shell::tracing::Outputs;
+use kendo_shell::words::{first_failure, name_of, show, with_environment, words_in};
 use std::alloc::Global;
 use std::process::ExitCode;
 use std::sync::Wait;
@@ -28,14 +28,14 @@ fn main(rt: HostRuntime) -> ExitCode {
     exit(&rt, start(&rt, &rt))
 }
 
-/// Reads the command line and does what it asks, down to the exit status. A run may wait for its workers, by this leave.
+/// Reads the command line and does what it asks, down to the exit status. `threads` permits a run to start workers and wait for them.
 #[tactic(auto, using(kendo_shell::proofs::Obeying::obeyed_status))]
-fn start(rt: &HostRuntime, leave: &(impl Threads + Wait + Sync)) -> Result<u8, Memory>
+fn start(rt: &HostRuntime, threads: &(impl Threads + Wait + Sync)) -> Result<u8, Memory>
     ensures { IfOk result IsStatus }
 {
     let alloc = rt.alloc();
     match words_in(rt, alloc)? {
-        Some(words) => obey(rt, leave, alloc, words.as_slice()),
+        Some(words) => obey(rt, threads, alloc, words.as_slice()),
         None => Ok(USAGE),
     }
 }
@@ -43,7 +43,7 @@ fn start(rt: &HostRuntime, leave: &(impl Threads + Wait + Sync)) -> Result<u8, M
 /// Does what these words ask, the first of which is the program's name, down to the exit status.
 fn obey(
     rt: &HostRuntime,
-    leave: &(impl Threads + Wait + Sync),
+    threads: &(impl Threads + Wait + Sync),
     alloc: Global,
     words: &[String],
 ) -> Result<u8, Memory>
@@ -51,64 +51,72 @@ fn obey(
 {
     match command(alloc)?.try_get_matches_from(words) {
         Ok(matches) => match invocation_of(&matches) {
-            Some(invocation) => perform(rt, leave, alloc, &invocation),
+            Some(invocation) => perform(rt, threads, alloc, &invocation),
             None => Ok(USAGE),
         },
         Err(error) => show(rt, alloc, words, &error),
     }
 }
 
-/// Checks or runs the file, and tells how it ended. Of what this program doesn't do no file is read.
+/// Checks or runs the files, and reports each outcome. The status is that of the first file whose status is not 0. No file is read
+/// of what this program doesn't do.
 fn perform(
     rt: &HostRuntime,
-    leave: &(impl Threads + Wait + Sync),
+    threads: &(impl Threads + Wait + Sync),
     alloc: Global,
-    invocation: &Invocation<'_>,
+    invocation: &Invocation<'_, '_>,
 ) -> Result<u8, Memory>
     ensures { IfOk result (λ status. (status ≡ USAGE) ⊎ Tells invocation.now.subcommand status) }
 {
+    let invocation = &with_environment(rt, invocation);
     let Some(task) = task_of(invocation) else {
         tell(
             rt,
-            b"kendo: this program only checks and runs, and explains nothing: ./kendo does all\n".as_slice(),
+            b"kendo: this build supports only `check` and `run` without `--explain`; use ./kendo\n".as_slice(),
         );
         return Ok(USAGE);
     };
-    match opened(rt, alloc, invocation)? {
-        Some((bytes, trace)) => answer(rt, leave, alloc, task, bytes, trace),
-        None => Ok(USAGE),
+    let mut status = perform_on(rt, threads, alloc, invocation, task, invocation.file)?;
+    for file in invocation.files.iter().skip(1) {
+        let next = perform_on(rt, threads, alloc, invocation, task, file)?;
+        status = first_failure(status, next);
     }
+    Ok(status)
 }
 
-/// Checks or runs the text, and tells how it ended.
+/// Like `perform`, for one of the files.
 #[tactic(auto, using(kendo_shell::proofs::Findings::told))]
-fn answer(
+fn perform_on(
     rt: &HostRuntime,
-    leave: &(impl Threads + Wait + Sync),
+    threads: &(impl Threads + Wait + Sync),
     alloc: Global,
+    invocation: &Invocation<'_, '_>,
     task: Task,
-    bytes: Vec<u8>,
-    trace: Trace,
+    file: &str,
 ) -> Result<u8, Memory>
     ensures { IfOk result (λ status. (status ≡ USAGE) ⊎ Tells (subcommand_of task) status) }
 {
-    let outcome = find(rt, leave, alloc, task, bytes, trace);
-    told(rt, alloc, &outcome)
+    let name = name_of(invocation, file);
+    let Some((bytes, trace)) = opened(rt, alloc, invocation, file, name)? else {
+        return Ok(USAGE);
+    };
+    let mut outputs = Outputs::new(rt, trace);
+    let outcome = find(threads, alloc, task, bytes, &mut outputs);
+    told(rt, alloc, name, &outcome)
 }
 
-/// What is found in the text, which is checked or run.
+/// What is found in the program, which is checked or run.
 fn find(
-    rt: &HostRuntime,
-    leave: &(impl Threads + Wait + Sync),
+    threads: &(impl Threads + Wait + Sync),
     alloc: Global,
     task: Task,
     bytes: Vec<u8>,
-    trace: Trace,
+    outputs: &mut Outputs,
 ) -> Result<End, Fault>
     ensures { Finds (subcommand_of task) bytes.items result }
 {
     match task {
         Task::Check => check(alloc, bytes),
-        Task::Run { workers, limit } => run_text(rt, leave, alloc, bytes, workers, limit, trace),
+        Task::Run { workers, limit } => run_text(threads, alloc, bytes, workers, limit, outputs),
     }
 }

@@ -1,11 +1,11 @@
-//! What this program does of the commands that there are.
+//! The commands that this program does.
 
 ghost use Rattle.std.specs.Prelude.{◌≡◌, ◌⊎◌, IfNone, IfSome, IsTrue, false};
 ghost use Rattle.kendo_run.specs.Tasks.{IsAnother, subcommand_of};
 
 use command_line::arguments::{Invocation, Subcommand};
 
-/// What this program does with a text.
+/// What this program does with a source file.
 #[derive(Clone, Copy)]
 pub(crate) enum Task {
     /// It is checked.
@@ -19,8 +19,8 @@ pub(crate) enum Task {
     },
 }
 
-/// What is asked for, if this program does it: not where another command is, or a sentence on what is wrong.
-pub(crate) fn task_of(invocation: &Invocation<'_>) -> Option<Task>
+/// What is asked for, if this program does it: `None` for another command, or if it is to explain.
+pub(crate) fn task_of(invocation: &Invocation<'_, '_>) -> Option<Task>
     ensures some { IfSome result (λ task. subcommand_of task ≡ invocation.now.subcommand) }
     ensures plain { IfSome result (λ _. invocation.now.explains ≡ false) }
     ensures none { IfNone result (IsTrue invocation.now.explains ⊎ IsAnother invocation.now.subcommand) }

@@ -1,25 +1,25 @@
--- Where the lines of a run's events go.
+-- The file of a trace or a picture.
 use Rattle.std.specs.Prelude.{◌≡◌, Bool, false, true, Option, Some, None}
 use Rattle.kendo_shell.specs.declared.tracing.Trace.{Trace}
 use Rattle.kendo_shell.specs.declared.tracing.Trace.TheVariants.{Dropped, Kept}
-use Rattle.word.specs.Flagged.{failed_of}
+use Rattle.kendo_shell.specs.Streams.{has_refused}
 
--- whether they go to a file
+-- whether there is one
 abbrev pub has_file : Trace → Bool
 has_file Dropped = false
 has_file (Kept file) = true
 
--- whether the file ever refused a line
+-- whether it ever refused bytes
 abbrev pub has_lost : Trace → Bool
 has_lost Dropped = false
-has_lost (Kept file) = failed_of file
+has_lost (Kept file) = has_refused file
 
--- they go to a file, which has refused none
+-- there is one, and it has refused none
 abbrev pub IsKept : Trace → Type 0
 IsKept Dropped = ⊥
-IsKept (Kept file) = failed_of file ≡ false
+IsKept (Kept file) = has_refused file ≡ false
 
--- whether a file is named for the lines, or for a picture
+-- whether a file is named for a trace or for a picture
 abbrev pub is_named : {A : Type 0} → Option A → Option A → Bool
 is_named (Some trace) out = true
 is_named None (Some out) = true

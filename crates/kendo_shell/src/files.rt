@@ -1,70 +1,159 @@
 //! The files that a command line names.
 
 ghost use Rattle.std.specs.Prelude.{◌≡◌, IfOk, IfSome};
-ghost use Rattle.kendo_shell.specs.Traces.{has_file, is_named};
+ghost use Rattle.kendo_shell.specs.Traces.{IsKept, has_file, is_named};
 
-use crate::streams::tell;
-use crate::tracing::{Trace, create};
+use crate::reason::Reason;
+use crate::streams::{Stream, tell, tell_as};
+use crate::tracing::Trace;
 use command_line::arguments::Invocation;
 use go_text::Memory;
 use go_text::source::MAX_LENGTH;
 use std::alloc::Global;
-use std::fs::File;
-use std::io;
-use std::io::Read as _;
+use std::fs::{File, Metadata};
+use std::io::Read;
+use std::os::unix::fs::MetadataExt;
+use std::{fs, io};
 
-/// The bytes of the text, and where its trace or its picture goes, whose file is created once the text was read, before anything is
-/// judged. `None` where one of the files can't be used, which is told on standard error.
+/// The path that stands for standard input.
+const STANDARD_INPUT: &str = "-";
+
+/// A regular file, whatever names and links lead to it.
+#[derive(Clone, Copy, PartialEq, Eq)]
+struct Identity {
+    device: u64,
+    inode: u64,
+}
+
+impl Identity {
+    /// Which file this is; `None` of a pipe, a terminal or another device.
+    fn of(metadata: &Metadata) -> Option<Identity> {
+        metadata.is_file().then(|| Identity {
+            device: metadata.dev(),
+            inode: metadata.ino(),
+        })
+    }
+}
+
+/// The bytes of the source file `source`, and the file of its trace or its picture, which is created once the source was read,
+/// before anything is judged. `None` if one of them can't be used: standard error says which, and, if the command explains,
+/// why. The line begins with `name` if there is one.
 ///
 /// Errors: `Memory`.
 pub fn opened(
     rt: &HostRuntime,
     alloc: Global,
-    invocation: &Invocation<'_>,
+    invocation: &Invocation<'_, '_>,
+    source: &str,
+    name: Option<&str>,
 ) -> Result<Option<(Vec<u8>, Trace)>, Memory>
     ensures { IfOk result (λ found. IfSome found (λ opened. has_file opened.1 ≡ is_named invocation.now.trace invocation.now.out)) }
 {
-    let file = invocation.file;
-    let bytes = match read(rt, alloc, file) {
-        Ok(bytes) => bytes,
+    let (bytes, identity) = match read(rt, alloc, source) {
+        Ok(read) => read,
         Err(error) => {
-            complain(rt, alloc, "read", file, &error)?;
+            let unusable = Unusable::new("read", source, Reason::of(&error));
+            unusable.report(rt, alloc, name, invocation.explains)?;
             return Ok(None);
         }
     };
     let Some(path) = invocation.trace.or(invocation.out) else {
         return Ok(Some((bytes, Trace::Dropped)));
     };
-    match create(rt, alloc, path) {
+    match create(rt, path, identity) {
         Ok(trace) => Ok(Some((bytes, trace))),
-        Err(error) => {
-            complain(rt, alloc, "create", path, &error)?;
+        Err(reason) => {
+            let unusable = Unusable::new("create", path, reason);
+            unusable.report(rt, alloc, name, invocation.explains)?;
             Ok(None)
         }
     }
 }
 
-/// The bytes of the file, up to one more than a text may have: of a longer file no more is needed to refuse it.
-fn read(rt: &HostRuntime, alloc: Global, path: &str) -> io::Result<Vec<u8>> {
+/// The bytes of a source file, and which file it is.
+fn read(rt: &HostRuntime, alloc: Global, path: &str) -> io::Result<(Vec<u8>, Option<Identity>)> {
+    if path == STANDARD_INPUT {
+        let identity = match fs::metadata(rt, "/dev/stdin") {
+            Ok(metadata) => Identity::of(&metadata),
+            Err(_) => None,
+        };
+        return Ok((read_source(alloc, rt.stdin())?, identity));
+    }
+    let file = File::open(rt, path)?;
+    let identity = Identity::of(&file.metadata()?);
+    Ok((read_source(alloc, file)?, identity))
+}
+
+/// The bytes of a reader, up to one more than a program may have: a longer one is refused whatever follows.
+fn read_source<R: Read + Drop>(alloc: Global, reader: R) -> io::Result<Vec<u8>> {
     let mut bytes = Vec::new(alloc);
-    File::open(rt, path)?
-        .take(MAX_LENGTH as u64 + 1)
-        .read_to_end(&mut bytes)?;
+    reader.take(MAX_LENGTH as u64 + 1).read_to_end(&mut bytes)?;
     Ok(bytes)
 }
 
-/// Tells that the file can't be read or created.
-fn complain(
-    rt: &HostRuntime,
-    alloc: Global,
-    what: &str,
-    path: &str,
-    error: &io::Error,
-) -> Result<(), Memory> {
-    if error.kind() == io::ErrorKind::OutOfMemory {
-        return Err(Memory);
+/// The file of this path, which is created, or emptied if it is there and is not the source file.
+fn create(rt: &HostRuntime, path: &str, source: Option<Identity>) -> Result<Trace, Reason>
+    ensures { IfOk result IsKept }
+{
+    match create_other(rt, path, source) {
+        Ok(Some(file)) => Ok(Trace::Kept(Stream::new(file))),
+        Ok(None) => Err(Reason::IsSource),
+        Err(error) => Err(Reason::of(&error)),
     }
-    let line = format!(in alloc; "kendo: cannot {what} {path}\n")?;
-    tell(rt, line.as_bytes());
-    Ok(())
+}
+
+/// Like `create`; `None` if it is the source file, which stays as it is.
+fn create_other(
+    rt: &HostRuntime,
+    path: &str,
+    source: Option<Identity>,
+) -> io::Result<Option<File>> {
+    let file = File::options().write(true).create(true).open(rt, path)?;
+    let identity = Identity::of(&file.metadata()?);
+    if identity.is_none() {
+        return Ok(Some(file));
+    }
+    if identity == source {
+        return Ok(None);
+    }
+    file.set_len(0)?;
+    Ok(Some(file))
+}
+
+/// A file that can't be used.
+#[derive(Clone, Copy)]
+struct Unusable<'a> {
+    /// What can't be done with it.
+    verb: &'static str,
+    /// Its path, as it was typed.
+    path: &'a str,
+    reason: Reason,
+}
+
+impl<'a> Unusable<'a> {
+    fn new(verb: &'static str, path: &'a str, reason: Reason) -> Unusable<'a> {
+        Unusable { verb, path, reason }
+    }
+
+    /// Writes on standard error that the file can't be used, in a line that begins with `name` if there is one, and then why, if
+    /// that is to be explained.
+    fn report(
+        self,
+        rt: &HostRuntime,
+        alloc: Global,
+        name: Option<&str>,
+        explains: bool,
+    ) -> Result<(), Memory> {
+        let Unusable { verb, path, reason } = self;
+        if reason == Reason::OutOfMemory {
+            return Err(Memory);
+        }
+        let line = format!(in alloc; "kendo: cannot {verb} {path}\n")?;
+        tell_as(rt, alloc, name, line.as_bytes())?;
+        if explains {
+            let why = format!(in alloc; "{path}: {reason}\n")?;
+            tell(rt, why.as_bytes());
+        }
+        Ok(())
+    }
 }

@@ -1,18 +1,19 @@
-//! What the programs share: their words, files, streams and exit statuses, and the check of a text.
+//! What the programs share: their words, files, streams and exit statuses, and the check of a program.
 #![tactic(auto)]
 
 pub mod checking;
 pub mod files;
+pub mod reason;
 pub mod streams;
 mod suggestion;
 pub mod tracing;
 pub mod words;
 
-/// The status of want of memory.
+/// The exit status if memory is refused.
 pub const MEMORY: u8 = 5;
 
-/// The status of a writer that refused bytes.
+/// The exit status if an output refuses bytes.
 pub const WRITE: u8 = 6;
 
-/// The status of a command line or a file that can't be used.
+/// The exit status if the command line or a file can't be used.
 pub const USAGE: u8 = 64;

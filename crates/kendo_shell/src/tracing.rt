@@ -1,24 +1,22 @@
-//! Where the lines of a run's events go.
+//! The file of a trace or a picture.
 
-ghost use Rattle.std.specs.Prelude.{◌≡◌, IfErr, IfOk, None, false};
-ghost use Rattle.kendo_shell.specs.Traces.{IsKept, has_file};
+ghost use Rattle.std.specs.Prelude.{◌≡◌, None, false};
+ghost use Rattle.kendo_shell.specs.Traces.{has_file};
 
-use crate::streams::flush;
-use go_text::Fault;
-use std::alloc::Global;
+use crate::reason::Reason;
+use crate::streams::Stream;
 use std::fs::File;
-use std::io;
-use std::io::BufWriter;
-use word::{Flagged, Write, WriteFault};
+use std::io::Stdout;
+use word::{Write, WriteFault};
 use workers::TraceWriter;
 
-/// Where the lines of a run's events go.
+/// The file of a trace or a picture, if one is named.
 #[derive(Drop)]
 pub enum Trace {
-    /// To nobody: they are dropped, and nothing ever fails.
+    /// No file: lines are dropped, which never fails.
     Dropped,
-    /// To a file, behind a buffer.
-    Kept(Flagged<BufWriter<File>>),
+    /// A file.
+    Kept(Stream<File>),
 }
 
 impl Write for Trace {
@@ -35,7 +33,7 @@ impl Write for Trace {
 }
 
 impl TraceWriter for Trace {
-    /// A file is read, what is dropped is not.
+    /// A file is read, dropped lines are not.
     fn is_read(&self) -> bool
         ensures unknown { result ≡ false → ⟦<Trace as Write>⟧.contents self.now ≡ None }
         ensures file { result ≡ has_file self.now }
@@ -44,21 +42,48 @@ impl TraceWriter for Trace {
     }
 }
 
-/// To the file of this path, which is created, or emptied where it is there.
-pub(crate) fn create(rt: &HostRuntime, alloc: Global, path: &str) -> io::Result<Trace>
-    ensures { IfOk result IsKept }
-{
-    let file = File::create(rt, path)?;
-    let buffer = BufWriter::new(alloc, file)?;
-    Ok(Trace::Kept(Flagged::new(buffer)))
+impl Trace {
+    /// Why bytes were first refused; `None` if none were.
+    fn refusal(&self) -> Option<Reason> {
+        match self {
+            Trace::Dropped => None,
+            Trace::Kept(file) => file.refusal(),
+        }
+    }
 }
 
-/// Writes the lines that are still held back. What is lost there is a refusal of the writer.
-pub fn close(trace: Trace) -> Result<(), Fault>
-    ensures { IfErr result (λ fault. fault ≡ Fault.Write) }
-{
-    match trace {
-        Trace::Dropped => Ok(()),
-        Trace::Kept(file) => flush(file),
+/// Where a command writes.
+#[derive(Drop)]
+pub struct Outputs {
+    /// Standard output.
+    pub standard: Stream<Stdout>,
+    /// The file of the trace or the picture.
+    pub file: Trace,
+}
+
+/// An output that refused bytes, and why.
+#[derive(Clone, Copy)]
+pub enum Refused {
+    /// Standard output.
+    Standard(Reason),
+    /// The file of the trace or the picture.
+    File(Reason),
+}
+
+impl Outputs {
+    /// Standard output, and this file.
+    pub fn new(rt: &HostRuntime, file: Trace) -> Outputs {
+        Outputs {
+            standard: Stream::new(rt.stdout()),
+            file,
+        }
+    }
+
+    /// Which output refused bytes, and why; `None` if none did.
+    pub fn refused(&self) -> Option<Refused> {
+        match self.standard.refusal() {
+            Some(reason) => Some(Refused::Standard(reason)),
+            None => self.file.refusal().map(Refused::File),
+        }
     }
 }

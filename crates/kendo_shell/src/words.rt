@@ -1,6 +1,6 @@
-//! The words of a command line that are not a command, and what is shown of them.
+//! The words of a command line, and what is shown of those that are no command.
 
-ghost use Rattle.std.specs.Prelude.{◌≡◌, ◌↔◌, IsErr, IfOk};
+ghost use Rattle.std.specs.Prelude.{◌≡◌, ◌↔◌, ◌⊎◌, IsErr, IfOk};
 ghost use Rattle.clap.specs.Values.{kind_of};
 ghost use Rattle.kendo_shell.specs.Answers.{ShowsAs};
 
@@ -8,11 +8,12 @@ use crate::streams::tell;
 use crate::suggestion::suggest;
 use crate::{USAGE, WRITE};
 use clap::error::ErrorKind;
+use command_line::arguments::Invocation;
 use go_text::Memory;
 use std::alloc::Global;
 use std::{env, io};
 
-/// The words of the command line, the first of which is the program's name. `None` where one is not UTF-8, which is told on standard
+/// The words of the command line, the first of which is the program's name. `None` if one is not UTF-8, which is reported on standard
 /// error.
 ///
 /// Errors: `Memory`.
@@ -28,6 +29,44 @@ pub fn words_in(rt: &HostRuntime, alloc: Global) -> Result<Option<Vec<String>>, 
             Ok(None)
         }
     }
+}
+
+/// The invocation, which also explains if the environment has `KENDO_EXPLAIN=1`.
+pub fn with_environment<'m, 'a>(
+    rt: &HostRuntime,
+    invocation: &Invocation<'m, 'a>,
+) -> Invocation<'m, 'a>
+    ensures { result ≡ record invocation.now { explains = result.explains } }
+{
+    let explains = invocation.explains || is_explaining(rt);
+    Invocation {
+        explains,
+        ..*invocation
+    }
+}
+
+/// Whether the environment has `KENDO_EXPLAIN=1`.
+fn is_explaining(rt: &HostRuntime) -> bool {
+    match env::var(rt, "KENDO_EXPLAIN") {
+        Ok(value) => value.as_str() == "1",
+        Err(_) => false,
+    }
+}
+
+/// The name of a file with which its lines on standard error begin, if the command has several files.
+pub fn name_of<'f>(invocation: &Invocation<'_, '_>, file: &'f str) -> Option<&'f str> {
+    if invocation.files.len() > 1 {
+        Some(file)
+    } else {
+        None
+    }
+}
+
+/// The first of two exit statuses that is not 0.
+pub fn first_failure(first: u8, second: u8) -> u8
+    ensures { (result ≡ first) ⊎ (result ≡ second) }
+{
+    if first == 0 { second } else { first }
 }
 
 /// Shows help on standard output, or what is wrong with the command line on standard error.

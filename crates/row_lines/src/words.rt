@@ -47,17 +47,34 @@ fn answer(alloc: Global, words: &[String]) -> Result<String, AllocError> {
     }
 }
 
-/// What is asked for: of which file, with which files beside it, and whether a sentence is told; and what is done with it.
-fn told(alloc: Global, asked: &Invocation<'_>) -> Result<String, AllocError> {
+/// What is asked for: of which files, with which other files, whether it explains, and what is done.
+fn told(alloc: Global, asked: &Invocation<'_, '_>) -> Result<String, AllocError> {
     let Invocation {
         file,
+        files,
         trace,
         out,
+        from,
+        last,
         explains,
         subcommand,
     } = *asked;
     let done = done(alloc, subcommand)?;
-    format!(in alloc; "file {file:?} trace {trace:?} out {out:?} explains {explains}: {done}")
+    let mut more = String::new(alloc);
+    for other in files.iter().skip(1) {
+        let other = format!(in alloc; "{other:?} ")?;
+        more.push_str(other.as_str())?;
+    }
+    let events = events(alloc, from, last)?;
+    format!(in alloc; "file {file:?} {more}trace {trace:?} out {out:?} {events}explains {explains}: {done}")
+}
+
+/// The events that a picture shows, if they are chosen.
+fn events(alloc: Global, from: Option<u64>, last: Option<u64>) -> Result<String, AllocError> {
+    match (from, last) {
+        (None, None) => Ok(String::new(alloc)),
+        (from, last) => format!(in alloc; "from {from:?} last {last:?} "),
+    }
 }
 
 /// What is done with a text.

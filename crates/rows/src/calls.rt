@@ -15,7 +15,10 @@ use word::end::End;
 use word::panic::Panic;
 use word::{Flagged, Write, WriteFault};
 
-/// A text that prints twice.
+/// A program that prints, and then computes for hours.
+const ENDLESS: &str = "package main; func main() { println(12); for {} }";
+
+/// A program that prints twice.
 const TWO_PRINTS: &str = "package main; func main() { println(12); println(3) }";
 
 /// Takes one byte a call, and fails at its n-th call and from then on.
@@ -131,6 +134,34 @@ fn check_failing_trace<R: Threads + Wait + Sync>(
     drop(out);
     check_report(alloc, &outcome, line, if line.is_empty() { 0 } else { 6 })?;
     same(alloc, "the trace", written.as_bytes(), &trace.taken)
+}
+
+/// Sees whether output and trace reach their writers while the program goes on computing: then a writer that fails ends the run.
+pub(crate) fn check_early_writes<R: Threads + Wait + Sync>(
+    rt: &R,
+    alloc: Global,
+) -> Result<(), Flaw> {
+    for workers in [1, 4] {
+        let mut out = Slow::new(alloc, 3);
+        let mut trace = Flagged::new(Vec::new(alloc));
+        let bytes = Vec::from_slice(alloc, ENDLESS.as_bytes())?;
+        let outcome = run_bytes(
+            rt, alloc, bytes, LIMIT, workers, &Open, &mut out, &mut trace,
+        );
+        drop(trace);
+        check_report(alloc, &outcome, "kendo: 14 Write\n", 6)?;
+        same(alloc, "the early output", b"12".as_slice(), &out.taken)?;
+        let mut out = Flagged::new(Vec::new(alloc));
+        let mut trace = Slow::new(alloc, 5);
+        let bytes = Vec::from_slice(alloc, ENDLESS.as_bytes())?;
+        let outcome = run_bytes(
+            rt, alloc, bytes, LIMIT, workers, &Open, &mut out, &mut trace,
+        );
+        drop(out);
+        check_report(alloc, &outcome, "kendo: 14 Write\n", 6)?;
+        same(alloc, "the early trace", b"0 1 ".as_slice(), &trace.taken)?;
+    }
+    Ok(())
 }
 
 /// Sees whether each panic has its line, and its status.

@@ -15,7 +15,9 @@ mod reading;
 mod run;
 mod table;
 
-use calls::{check_failing_traces, check_failing_writers, check_panics, check_refusals};
+use calls::{
+    check_early_writes, check_failing_traces, check_failing_writers, check_panics, check_refusals,
+};
 use check::check;
 use go_text::Fault;
 use row_format::flaw::Flaw;
@@ -99,6 +101,7 @@ impl Report {
     fn calls<R: AllocGlobal + Print + Threads + Wait + Sync>(&mut self, rt: &R) -> io::Result<()> {
         self.tell(rt, "failing writers", check_failing_writers(rt, rt.alloc()))?;
         self.tell(rt, "failing traces", check_failing_traces(rt, rt.alloc()))?;
+        self.tell(rt, "early writes", check_early_writes(rt, rt.alloc()))?;
         self.tell(rt, "panics", check_panics(rt.alloc()))?;
         self.tell(rt, "refusals", check_refusals(rt.alloc()))?;
         self.machine_calls(rt)
