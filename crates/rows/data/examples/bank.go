@@ -1,6 +1,6 @@
 package main
 
-// A request to an account. It adds the amount if the balance stays positive, and sends the balance after that.
+// A request to an account. It adds the amount unless the balance gets negative, and sends the balance after that.
 type order struct {
 	amount int
 	answer chan<- balance
