@@ -1,6 +1,6 @@
 package main
 
-// Each worker sends once on done, so that many receives wait for all of them.
+// Each worker sends once on done, and main receives once for each worker.
 func main() {
 	workers := 3
 	results := make(chan int, workers)
