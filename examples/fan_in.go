@@ -1,7 +1,7 @@
 package main
 
-// Two sources and one select, which takes whatever comes first, up to the end of both. Which of them that is changes
-// nothing that is printed: the sums don't depend on the order.
+// Two sources and one select, which takes what comes first, until both are closed. Which source that is changes
+// no output: the sums don't depend on the order.
 func main() {
 	evens := make(chan int)
 	threes := make(chan int)
@@ -12,7 +12,7 @@ func main() {
 		select {
 		case it, ok := <-evens:
 			if !ok {
-				// nothing ever comes from nil, so this clause is out of the way
+				// a receive from nil is never ready, so this clause is out of the way
 				evens = nil
 				open--
 				break

@@ -8,7 +8,7 @@ type matrix struct {
 	first, second, third row
 }
 
-// A row of the left matrix, the whole right one, and where the row of the product is awaited.
+// A row of the left matrix, the whole right one, and the channel for the row of the product.
 type task struct {
 	left   row
 	right  matrix

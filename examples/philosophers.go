@@ -1,6 +1,6 @@
 package main
 
-// The forks that a philosopher takes, in this order, and where the meals are told. A fork that lies on the table is a
+// The forks that a philosopher takes, in this order, and the channel for each meal. A fork that lies on the table is a
 // message in its channel.
 type seat struct {
 	first, second chan bool

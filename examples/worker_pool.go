@@ -1,13 +1,13 @@
 package main
 
-// A job brings the channel on which its answer is awaited.
+// A job brings the channel for its answer.
 type job struct {
 	number int
 	answer chan<- int
 }
 
-// Three workers share the jobs, and whoever is free takes the next one. The answers are printed in the order of the jobs:
-// the channels on which they are awaited stand in a queue.
+// Three workers share the jobs, and a free worker takes the next one. The answers are printed in the order of the jobs:
+// their channels wait in a queue.
 func main() {
 	jobs := make(chan job)
 	awaited := make(chan chan int, 12)

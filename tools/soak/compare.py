@@ -6,7 +6,7 @@ import parse
 
 # A run that takes longer than this is given up, and counts as one that differs.
 SECONDS = 120
-# Up to this clock, and for so many moves, the interpreter looks whether a program ends by itself.
+# Up to this clock, and for this number of moves, the interpreter looks whether a program ends by itself.
 CLOCK, MOVES = 300000, 1000000
 
 # What came of a run.

@@ -50,7 +50,7 @@ class Hazards(Patterns):
             self.line("}")
 
     def semaphore(self):
-        """A channel with room for so many at a time."""
+        """A channel with space for a number of items."""
         room, count = self.upto(2, 1), self.upto(4, 1)
         with self.function("guarded", [("room", ("", BOOL)), ("number", INT), ("done", self.sending(INT))]) as guarded:
             with self.turns(self.upto(2)):
@@ -97,7 +97,7 @@ class Hazards(Patterns):
             self.line(f"close({d})")
 
     def tree(self):
-        """Goroutines that start two more each, and add up what comes of them."""
+        """Goroutines that start two more each, and add up their results."""
         kind = self.sending(INT)
         name = self.fresh("tree")
         self.written.append("\n".join([

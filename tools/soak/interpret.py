@@ -56,7 +56,7 @@ class World:
     # ---- moves
 
     def run(self, most_moves=None):
-        """Moves up to the end; where there were so many moves before it, the end stays None."""
+        """Moves up to the end. If it takes more moves than are allowed, the end stays None."""
         while self.end is None and (most_moves is None or self.moves < most_moves):
             if not self.awake:
                 self.end = DEADLOCK
@@ -138,7 +138,7 @@ class World:
         return next(iter(channel.waiting[what].values()), None)
 
     def serve(self, actor, found, told):
-        """A sleeper's offer is done: it withdraws the others, and goes on behind the actor's clock."""
+        """A sleeper's offer is done: it withdraws the others, and goes on one tick after the actor's clock."""
         sleeper, number, _ = found
         for offer in sleeper.offers:
             if offer.channel:

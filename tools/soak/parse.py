@@ -31,7 +31,7 @@ def binary(sign, left, right):
 class Parser:
     def __init__(self, tokens):
         self.tokens, self.at = tokens, 0
-        # whether a `{` behind a name begins a literal: not in the header of an `if` or a `for`
+        # whether a `{` after a name begins a literal: not in the header of an `if` or a `for`
         self.literals = True
 
     # ---- tokens
@@ -54,7 +54,7 @@ class Parser:
         return found
 
     def listed(self, part, end):
-        """Parts with commas between them, and perhaps one behind the last, up to the token that ends them."""
+        """Parts with commas between them, and perhaps one after the last, up to the token that ends them."""
         parts = []
         while self.kind() != end:
             parts.append(part())
@@ -325,7 +325,7 @@ class Parser:
         return Name(name)
 
     def called(self, name):
-        """What is no expression: it stands as a whole right side or statement, or behind `go`."""
+        """What is no expression: it stands as a whole right side or statement, or after `go`."""
         self.take("(")
         if name == "make":
             kind = self.type()

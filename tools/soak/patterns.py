@@ -1,4 +1,4 @@
-"""Goroutines that talk to one another. Each pattern writes functions and, in steps, what the function that uses it does: behind
+"""Goroutines that talk to one another. Each pattern writes functions and, in steps, what the function that uses it does: after
 each `yield` other statements may come. Unless something is mischievous, all of it comes to its end."""
 import contextlib
 
@@ -63,7 +63,7 @@ class Patterns(Statements):
 
     @contextlib.contextmanager
     def turns(self, count):
-        """A loop of so many turns, a number or a name; what comes of it is the name of its counter."""
+        """A loop with this number of turns, a number or a name; it returns the name of its counter."""
         name = self.fresh("i")
         self.frames.append({})
         self.declare(name, INT, True)
@@ -107,7 +107,7 @@ class Patterns(Statements):
                 self.hole(1)
 
     def consume(self, channel, kind, count):
-        """Takes all items of a channel that is closed behind so many of them."""
+        """Takes all items of a channel that is closed after a number of them."""
         how, name, ok = self.upto(3), self.fresh("x"), self.fresh("ok")
         if how < 2:
             self.frames.append({})
@@ -236,7 +236,7 @@ class Patterns(Statements):
         self.frames.pop()
 
     def many_producers(self):
-        """Several that send on one channel, and one that closes it behind the last."""
+        """Several that send on one channel, and one that closes it after the last."""
         kind, count, each = self.message(), self.upto(4, 1), self.upto(3)
         done = ("", BOOL)
         with self.function("produce", [("out", self.sending(kind)), ("done", self.sending(BOOL)), ("number", INT)]) as produce:

@@ -17,7 +17,7 @@ PIECES = re.compile(r"""
 ENDS = {"break", "continue", "fallthrough", "return", "++", "--", ")", "]", "}"}
 ESCAPES = {"n": "\n", "t": "\t", "\\": "\\", '"': '"'}
 
-# The kind is `name`, `integer`, `string`, or the keyword or mark itself; `end` behind the last token.
+# The kind is `name`, `integer`, `string`, or the keyword or mark itself; `end` after the last token.
 Token = collections.namedtuple("Token", "kind text")
 
 

@@ -5,7 +5,7 @@ def depth(line):
     return len(line) - len(line.lstrip("\t"))
 
 
-def behind(lines, first):
+def after(lines, first):
     """Where the block that begins with this line ends, or the line itself."""
     last = first + 1
     if lines[first].endswith("{"):
@@ -17,7 +17,7 @@ def behind(lines, first):
 
 def smaller(lines, first):
     """Texts without what begins with this line."""
-    last = behind(lines, first)
+    last = after(lines, first)
     yield lines[:first] + lines[last:]
     if last > first + 2:
         yield lines[:first] + lines[first + 1:last - 1] + lines[last:]

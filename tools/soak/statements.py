@@ -288,7 +288,7 @@ class Statements(Expressions):
         return True
 
     def odd_post(self, count):
-        """What is done behind each turn is no step of a counter."""
+        """The post statement is no step of a counter."""
         name = self.fresh("n")
         self.line(f"var {name} int = {count}")
         self.declare(name, INT, True)

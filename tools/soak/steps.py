@@ -119,7 +119,7 @@ class Steps:
     # ---- right sides
 
     def right(self, it, count, scope):
-        """The values of a right side, so many as there are names or places."""
+        """The values of a right side, as many as there are names or lvalues."""
         if isinstance(it, list):
             return self.values(it, scope)
         if isinstance(it, Call):

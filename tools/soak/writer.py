@@ -79,7 +79,7 @@ class Writer:
 
     @contextlib.contextmanager
     def block(self, head="", times=1, foot="}"):
-        """A block behind a header, within which what is declared is visible; it is done at most so many times."""
+        """A block after a header, within which its declarations are visible; it is done at most a number of times."""
         self.line(f"{head} {{".lstrip())
         with self.inside(times):
             yield
@@ -106,7 +106,7 @@ class Writer:
 
     @contextlib.contextmanager
     def function(self, stem, parameters, result=None, is_called=False):
-        """A function, of which the lines are written within; what comes of it is its name. A parameter is a name and a type."""
+        """A function, of which the lines are written within; the result is its name. A parameter is a name and a type."""
         name = stem if stem == "main" else self.fresh(stem)
         keys = "lines", "level", "frames", "cost", "times", "loop", "breaks", "hides", "header", "returns"
         before = [getattr(self, key) for key in keys]

@@ -1,6 +1,6 @@
 package main
 
-// What is asked of an account: it adds the amount, if that leaves something, and tells the balance behind it.
+// A request to an account. It adds the amount unless the balance gets negative, and sends the balance after that.
 type order struct {
 	amount int
 	answer chan<- balance
@@ -12,7 +12,7 @@ type balance struct {
 }
 
 // An account is a goroutine that keeps its balance to itself. Three clerks move money between three accounts at the same
-// time. Nothing gets lost, in whatever order they do; and since each account has enough from the start, nobody is refused.
+// time. Nothing gets lost, whatever the order. Each account has enough from the start, so no move is refused.
 func main() {
 	alice := open(100)
 	bob := open(50)
@@ -57,7 +57,7 @@ func ask(account chan<- order, amount int) balance {
 	return <-answer
 }
 
-// Moves an amount from one account to another ten times, as long as it is there.
+// Moves an amount from one account to another ten times, as long as the first one has it.
 func clerk(from, to chan<- order, amount int, done chan<- bool) {
 	for i := 0; i < 10; i++ {
 		taken := ask(from, -amount)

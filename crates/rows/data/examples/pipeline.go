@@ -1,7 +1,7 @@
 package main
 
-// A generator and a chain of stages between which numbers pass, as in a prime sieve. Each stage passes on every number:
-// this version has no conditions yet by which one could drop some.
+// A generator and a chain of stages between which numbers pass. No stage ever ends: the program ends when main has
+// received three numbers.
 func main() {
 	numbers := make(chan int)
 	doubled := make(chan int)

@@ -1,6 +1,6 @@
 package main
 
-// The concurrent prime sieve: behind each prime stands a goroutine that passes on what the prime doesn't divide.
+// The concurrent prime sieve: for each prime there is a goroutine that passes on what the prime doesn't divide.
 func main() {
 	numbers := make(chan int)
 	go generate(numbers)

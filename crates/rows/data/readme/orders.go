@@ -5,31 +5,23 @@ type order struct {
 }
 
 func main() {
-	orders := make(chan order, 2)
-	done := make(chan int)
-	for i := 0; i < 2; i++ {
-		go work(orders, done)
-	}
+	orders := make(chan order)
+	packed := make(chan int)
+	go pack(orders, packed)
+	go pack(orders, packed)
 	for i := 1; i <= 4; i++ {
 		orders <- order{i, 10 * i}
 	}
 	close(orders)
-	total := 0
-	for i := 0; i < 2; i++ {
-		select {
-		case parts := <-done:
-			total += parts
-		}
-	}
-	if total == 100 {
-		println("all parts are there:", total)
-	}
+	first := <-packed
+	second := <-packed
+	println("parts:", first+second)
 }
 
-func work(orders <-chan order, done chan<- int) {
+func pack(orders <-chan order, packed chan<- int) {
 	sum := 0
-	for o := range orders {
-		sum += o.parts
+	for it := range orders {
+		sum += it.parts
 	}
-	done <- sum
+	packed <- sum
 }

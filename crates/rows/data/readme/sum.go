@@ -1,5 +1,10 @@
 package main
 
 func main() {
-	println(1
+	total := add(1)
+	println(total)
+}
+
+func add(a, b int) int {
+	return a + b
 }
