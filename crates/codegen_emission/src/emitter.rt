@@ -3,18 +3,20 @@
 ghost use Rattle.std.specs.Prelude.{◌≡◌, ◌++◌, ◌∷◌, [], IfOk, OnOk, length};
 ghost use Rattle.bytecode.specs.declared.instr.Instr.TheVariants as instrs;
 
+use crate::marks::{Marks, Part};
 use bytecode::{Instr, PrintTable, SelectTable};
 use codegen_expression::halt::Halt;
 use codegen_expression::operand::{number, put};
 use codegen_header::layout::Layout;
 
-/// What is emitted of a function, the tables of those before it, and where its variables lie.
+/// What is emitted of a function, the tables and marks of those before it, and where its variables lie.
 #[derive(Drop)]
 pub struct Emitter<'a> {
     pub code: Vec<Instr>,
     pub prints: Vec<PrintTable>,
     pub selects: Vec<SelectTable>,
     pub layout: Layout<'a>,
+    pub marks: Marks,
 }
 
 impl Emitter<'_> {
@@ -25,6 +27,26 @@ impl Emitter<'_> {
         ensures { IfOk result (λ place. place ≡ length self.now.code.items) }
     {
         number(self.code.len())
+    }
+
+    /// Marks that a part begins at the next instruction.
+    ///
+    /// Errors: out of memory, or the next instruction's index passes 2^32.
+    pub(crate) fn begin(&mut self, part: Part) -> Result<(), Halt>
+        ensures { self.new ≡ record self.old { marks = self.new.marks } }
+    {
+        let at = self.next_place()?;
+        self.marks.begin(part, at)
+    }
+
+    /// Marks that the part that began last ends before the next instruction.
+    ///
+    /// Errors: out of memory, or the next instruction's index passes 2^32.
+    pub(crate) fn end(&mut self) -> Result<(), Halt>
+        ensures { self.new ≡ record self.old { marks = self.new.marks } }
+    {
+        let at = self.next_place()?;
+        self.marks.end(at)
     }
 }
 
