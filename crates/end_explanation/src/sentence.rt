@@ -1,160 +1,265 @@
 //! Where goroutines stand, in lines.
 
+use crate::cycle::push_cycles;
+use crate::goroutine::{Call, Goroutine};
+use crate::notes::Notes;
 use crate::scene::Scene;
-use crate::watched::Placed;
+use crate::wish::{push_clauses, push_wish};
 use diagnostic_words::words::Words;
-use one_thread::Goroutine;
-use reference_base::task::{Frame, Task};
 use syntax::NodeId;
-use word::request::Request;
+use word::limits::{MAX_CAPACITY, MAX_CHANNELS, MAX_DEPTH, MAX_GOROUTINES};
+use word::panic::Panic;
 
-/// The most goroutines that are told of.
-const MOST_GOROUTINES: usize = 50;
+/// The most goroutines of a deadlock that are printed.
+const MOST_WAITING: usize = 50;
 
-/// The most calls of one goroutine that are told of.
+/// The most goroutines of a run that finished that are printed.
+const MOST_UNFINISHED: usize = 20;
+
+/// The most lines for the calls of one goroutine.
 const MOST_CALLS: usize = 20;
 
-/// Puts `goroutine N (FUNCTION) DOES clock C: FILE:LINE:COLUMN: ` behind what is there.
-fn push_goroutine(
+/// Appends the goroutines of a deadlock: cycles first, and then each one.
+pub(crate) fn push_deadlock(
     said: &mut Words,
     scene: Scene<'_>,
-    number: u64,
-    does: &str,
-    goroutine: &Goroutine<Placed<'_>>,
+    notes: &Notes,
+    goroutines: &[Goroutine],
 ) {
-    let node = goroutine.state.trail.last();
-    said.text("goroutine ");
-    said.number(i128::from(number));
-    said.text(" (");
-    scene.push_function(said, node);
-    said.text(does);
-    said.number(i128::from(goroutine.clock.time()));
-    said.text(": ");
-    scene.push_place(said, node);
-    said.text(": ");
+    push_cycles(said, scene.alloc, notes, goroutines);
+    for goroutine in goroutines.iter().take(MOST_WAITING) {
+        push_waiting(said, scene, notes, goroutine);
+    }
+    let left = goroutines.len().saturating_sub(MOST_WAITING);
+    push_more(
+        said,
+        left,
+        " more goroutine waits\n",
+        " more goroutines wait\n",
+    );
 }
 
-/// Puts who waits, where, for what and since which clock, and the calls that led there, behind what is there.
-pub(crate) fn push_waiting(
+/// Appends the goroutines that had not ended when `main` returned.
+pub(crate) fn push_unfinished(
     said: &mut Words,
     scene: Scene<'_>,
-    goroutines: &[Option<Goroutine<Placed<'_>>>],
+    notes: &Notes,
+    goroutines: &[Goroutine],
 ) {
-    let mut told: usize = 0;
-    for (number, place) in goroutines.iter().enumerate() {
-        if let Some(goroutine) = place {
-            if told < MOST_GOROUTINES {
-                push_waiter(said, scene, number as u64, goroutine);
-            }
-            told = told.saturating_add(1);
-        }
-    }
-    let left = told.saturating_sub(MOST_GOROUTINES);
-    push_more(said, left, " more goroutines wait\n");
-}
-
-/// Puts that a goroutine waits behind what is there.
-fn push_waiter(said: &mut Words, scene: Scene<'_>, number: u64, goroutine: &Goroutine<Placed<'_>>) {
-    push_goroutine(said, scene, number, ") waits since clock ", goroutine);
-    push_wish(said, goroutine.state.frames.as_slice());
-    said.text("\n");
-    push_calls(said, scene, goroutine);
-}
-
-/// Puts that there are so many more, if any, behind what is there.
-fn push_more(said: &mut Words, left: usize, what: &str) {
-    if left > 0 {
-        said.text("and ");
-        said.number(left as i128);
-        said.text(what);
-    }
-}
-
-/// Puts what a goroutine waits for behind what is there.
-fn push_wish(said: &mut Words, frames: &[Frame<'_>]) {
-    let Some(top) = frames.last() else {
+    let count = goroutines.iter().filter(|one| one.number > 1).count();
+    if count == 0 {
         return;
-    };
-    match top.tasks.last() {
-        Some(Task::Ask(request, _, _)) => push_request(said, request),
-        _ => said.text("waits"),
     }
-}
-
-/// Puts what is asked behind what is there.
-fn push_request(said: &mut Words, request: &Request) {
-    match request {
-        Request::Send(chan, _) => push_channel(said, "sends to ", *chan),
-        Request::Receive(chan) => push_channel(said, "receives from ", *chan),
-        Request::Select(cases, _) => push_select(said, cases.len()),
-        _ => said.text("waits"),
-    }
-}
-
-/// Puts what is done, and a channel by its number, behind what is there.
-fn push_channel(said: &mut Words, does: &str, chan: Option<u32>) {
-    said.text(does);
-    match chan {
-        Some(number) => {
-            said.text("channel ");
-            said.number(i128::from(number));
+    said.number(count as i128);
+    said.text(if count == 1 {
+        " goroutine had not ended\n"
+    } else {
+        " goroutines had not ended\n"
+    });
+    let others = goroutines.iter().filter(|one| one.number > 1);
+    for goroutine in others.take(MOST_UNFINISHED) {
+        if goroutine.wish.is_some() {
+            push_waiting(said, scene, notes, goroutine);
+        } else {
+            push_awake(said, scene, notes, goroutine);
         }
-        None => said.text("a nil channel"),
     }
+    let left = count.saturating_sub(MOST_UNFINISHED);
+    push_more(said, left, " more goroutine\n", " more goroutines\n");
 }
 
-/// Puts a select of so many clauses behind what is there.
-fn push_select(said: &mut Words, clauses: usize) {
-    said.text("select of ");
-    said.number(clauses as i128);
-    said.text(if clauses == 1 { " clause" } else { " clauses" });
-}
-
-/// Puts who panicked, where and why, and the calls that led there, behind what is there.
+/// Appends the goroutine that panicked, with the cause.
 pub(crate) fn push_panic(
     said: &mut Words,
     scene: Scene<'_>,
-    number: u64,
-    goroutine: &Goroutine<Placed<'_>>,
+    notes: &Notes,
+    goroutine: &Goroutine,
     cause: &str,
+    panic: Panic,
 ) {
-    push_goroutine(said, scene, number, ") panics at clock ", goroutine);
+    push_goroutine(said, scene, notes, " panics at clock ", goroutine);
+    said.text(": ");
     said.text(cause);
+    push_bound(said, panic);
     said.text("\n");
-    scene.push_line(said, goroutine.state.trail.last());
+    push_source(said, scene, goroutine);
     push_calls(said, scene, goroutine);
 }
 
-/// Puts the calls that a goroutine waits for behind what is there, the last one first.
-fn push_calls(said: &mut Words, scene: Scene<'_>, goroutine: &Goroutine<Placed<'_>>) {
-    let trail = &goroutine.state.trail;
-    for number in 0..MOST_CALLS {
-        if let Some(call) = trail.call(number) {
-            push_call(said, scene, call);
-        }
-    }
-    let left = trail.waiting().saturating_sub(MOST_CALLS);
-    push_more(said, left, " more calls\n");
-}
-
-/// Puts where a call stands behind what is there.
-fn push_call(said: &mut Words, scene: Scene<'_>, call: NodeId) {
-    said.text("  called from ");
-    scene.push_function(said, call);
-    said.text(" at ");
-    scene.push_place(said, call);
-    said.text("\n");
-}
-
-/// Puts who came to the limit first, where, and the calls that led there, behind what is there.
+/// Appends the goroutine that came to the clock limit first.
 pub(crate) fn push_exhausted(
     said: &mut Words,
     scene: Scene<'_>,
-    number: u64,
-    goroutine: &Goroutine<Placed<'_>>,
+    notes: &Notes,
+    goroutine: &Goroutine,
+    limit: u64,
 ) {
-    push_goroutine(said, scene, number, ") has reached clock ", goroutine);
-    said.text("logical time exhausted\n");
-    scene.push_line(said, goroutine.state.trail.last());
+    push_goroutine(said, scene, notes, " has reached clock ", goroutine);
+    said.text(": logical time exhausted (the limit is ");
+    push_thousands(said, limit);
+    said.text("; --limit sets another one)\n");
+    push_source(said, scene, goroutine);
     push_calls(said, scene, goroutine);
+}
+
+/// Appends a goroutine that waits, and what for.
+fn push_waiting(said: &mut Words, scene: Scene<'_>, notes: &Notes, goroutine: &Goroutine) {
+    push_goroutine(said, scene, notes, " waits since clock ", goroutine);
+    said.text(": ");
+    push_wish(said, scene, notes, goroutine);
+    said.text("\n");
+    push_source(said, scene, goroutine);
+    push_clauses(said, scene, notes, goroutine);
+    push_calls(said, scene, goroutine);
+}
+
+/// Appends a goroutine that is awake.
+fn push_awake(said: &mut Words, scene: Scene<'_>, notes: &Notes, goroutine: &Goroutine) {
+    push_goroutine(said, scene, notes, " has come to clock ", goroutine);
+    said.text("\n");
+    push_source(said, scene, goroutine);
+    push_calls(said, scene, goroutine);
+}
+
+/// Appends `goroutine N (FUNCTION, started at LINE:COLUMN) DOES clock C: FILE:LINE:COLUMN`.
+fn push_goroutine(
+    said: &mut Words,
+    scene: Scene<'_>,
+    notes: &Notes,
+    does: &str,
+    goroutine: &Goroutine,
+) {
+    said.text("goroutine ");
+    said.number(i128::from(goroutine.number));
+    said.text(" (");
+    if let Some(call) = goroutine.last() {
+        scene.push_function(said, call.function);
+    }
+    if let Some(site) = notes.started(goroutine.number) {
+        said.text(", started at ");
+        let node: NodeId = scene.call(site).node;
+        scene.push_position(said, node);
+    }
+    said.text(")");
+    said.text(does);
+    said.number(i128::from(goroutine.clock));
+    said.text(": ");
+    if let Some(call) = goroutine.last() {
+        scene.push_location(said, call.node);
+    }
+}
+
+/// Appends the line of the source at which a goroutine stands, with marks.
+fn push_source(said: &mut Words, scene: Scene<'_>, goroutine: &Goroutine) {
+    if let Some(call) = goroutine.last() {
+        scene.push_line(said, call.node);
+    }
+}
+
+/// Appends which bound of a run a panic has met, if it has met one.
+fn push_bound(said: &mut Words, panic: Panic) {
+    match panic {
+        Panic::ChannelSize => push_number_between(said, " (sizes are 0 to ", MAX_CAPACITY, ")"),
+        Panic::CallDepth => {
+            push_number_between(said, " (at most ", MAX_DEPTH as u64, " calls deep)");
+        }
+        Panic::TooManyGoroutines => {
+            push_number_between(said, " (at most ", MAX_GOROUTINES, " are alive at once)");
+        }
+        Panic::TooManyChannels => {
+            push_number_between(said, " (a run makes at most ", MAX_CHANNELS as u64, ")");
+        }
+        Panic::DivideByZero
+        | Panic::SendOnClosed
+        | Panic::CloseOfClosed
+        | Panic::CloseOfNil
+        | Panic::NegativeShift => {}
+    }
+}
+
+/// Appends a number between two texts.
+fn push_number_between(said: &mut Words, before: &str, number: u64, behind: &str) {
+    said.text(before);
+    push_thousands(said, number);
+    said.text(behind);
+}
+
+/// Appends a number, with commas between thousands.
+fn push_thousands(said: &mut Words, number: u64) {
+    let mut unit: u64 = 1;
+    for _ in 0..6 {
+        if number / unit >= 1_000 {
+            unit = unit.saturating_mul(1_000);
+        }
+    }
+    said.number(i128::from(number / unit));
+    for _ in 0..6 {
+        if unit >= 1_000 {
+            unit = unit / 1_000;
+            push_group(said, number / unit % 1_000);
+        }
+    }
+}
+
+/// Appends a comma and three digits.
+fn push_group(said: &mut Words, group: u64) {
+    said.text(",");
+    said.number(i128::from(group / 100));
+    said.number(i128::from(group / 10 % 10));
+    said.number(i128::from(group % 10));
+}
+
+/// Appends the calls that led a goroutine to where it stands, the last one first. Equal calls that follow one another take one line.
+fn push_calls(said: &mut Words, scene: Scene<'_>, goroutine: &Goroutine) {
+    let callers = goroutine.calls.len().saturating_sub(1);
+    let mut folded: Option<(Call, usize)> = None;
+    let mut lines: usize = 0;
+    let mut told: usize = 0;
+    for call in goroutine.calls.iter().rev().skip(1) {
+        folded = match folded {
+            Some((before, times)) if before.node == call.node => {
+                Some((before, times.saturating_add(1)))
+            }
+            Some((before, times)) => {
+                if lines < MOST_CALLS {
+                    push_call(said, scene, before, times);
+                    told = told.saturating_add(times);
+                }
+                lines = lines.saturating_add(1);
+                Some((*call, 1))
+            }
+            None => Some((*call, 1)),
+        };
+    }
+    if let Some((before, times)) = folded {
+        if lines < MOST_CALLS {
+            push_call(said, scene, before, times);
+            told = told.saturating_add(times);
+        }
+    }
+    let left = callers.saturating_sub(told);
+    push_more(said, left, " more call\n", " more calls\n");
+}
+
+/// Appends where a function was called from, and how many times in a row if more than once.
+fn push_call(said: &mut Words, scene: Scene<'_>, call: Call, times: usize) {
+    said.text("  called from ");
+    scene.push_function(said, call.function);
+    said.text(" at ");
+    scene.push_location(said, call.node);
+    if times > 1 {
+        said.text(", ");
+        push_thousands(said, times as u64);
+        said.text(" times");
+    }
+    said.text("\n");
+}
+
+/// Appends that there are `left` more, if any.
+fn push_more(said: &mut Words, left: usize, one: &str, many: &str) {
+    if left > 0 {
+        said.text("and ");
+        said.number(left as i128);
+        said.text(if left == 1 { one } else { many });
+    }
 }
