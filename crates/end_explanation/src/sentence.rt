@@ -19,6 +19,17 @@ const MOST_UNFINISHED: usize = 20;
 /// The most lines for the calls of one goroutine.
 const MOST_CALLS: usize = 20;
 
+/// The units of the groups of three digits of a number, the largest first.
+const UNITS: [u64; 7] = [
+    1_000_000_000_000_000_000,
+    1_000_000_000_000_000,
+    1_000_000_000_000,
+    1_000_000_000,
+    1_000_000,
+    1_000,
+    1,
+];
+
 /// Appends the goroutines of a deadlock: cycles first, and then each one.
 pub(crate) fn push_deadlock(
     said: &mut Words,
@@ -77,7 +88,7 @@ pub(crate) fn push_panic(
     cause: &str,
     panic: Panic,
 ) {
-    push_goroutine(said, scene, notes, " panics at clock ", goroutine);
+    push_timed(said, scene, notes, " panics at clock ", goroutine);
     said.text(": ");
     said.text(cause);
     push_bound(said, panic);
@@ -94,7 +105,7 @@ pub(crate) fn push_exhausted(
     goroutine: &Goroutine,
     limit: u64,
 ) {
-    push_goroutine(said, scene, notes, " has reached clock ", goroutine);
+    push_timed(said, scene, notes, " has reached clock ", goroutine);
     said.text(": logical time exhausted (the limit is ");
     push_thousands(said, limit);
     said.text("; --limit sets another one)\n");
@@ -104,7 +115,7 @@ pub(crate) fn push_exhausted(
 
 /// Appends a goroutine that waits, and what for.
 fn push_waiting(said: &mut Words, scene: Scene<'_>, notes: &Notes, goroutine: &Goroutine) {
-    push_goroutine(said, scene, notes, " waits since clock ", goroutine);
+    push_timed(said, scene, notes, " waits since clock ", goroutine);
     said.text(": ");
     push_wish(said, scene, notes, goroutine);
     said.text("\n");
@@ -113,22 +124,33 @@ fn push_waiting(said: &mut Words, scene: Scene<'_>, notes: &Notes, goroutine: &G
     push_calls(said, scene, goroutine);
 }
 
-/// Appends a goroutine that is awake.
+/// Appends a goroutine that is awake. It may have run ahead of the event that ended the run, so its clock is not printed.
 fn push_awake(said: &mut Words, scene: Scene<'_>, notes: &Notes, goroutine: &Goroutine) {
-    push_goroutine(said, scene, notes, " has come to clock ", goroutine);
+    push_goroutine(said, scene, notes, goroutine);
+    said.text(" still runs: ");
+    push_location(said, scene, goroutine);
     said.text("\n");
     push_source(said, scene, goroutine);
     push_calls(said, scene, goroutine);
 }
 
-/// Appends `goroutine N (FUNCTION, started at LINE:COLUMN) DOES clock C: FILE:LINE:COLUMN`.
-fn push_goroutine(
+/// Appends `goroutine N (FUNCTION, started at LINE:COLUMN) DOES C: FILE:LINE:COLUMN`, where C is the goroutine's clock.
+fn push_timed(
     said: &mut Words,
     scene: Scene<'_>,
     notes: &Notes,
     does: &str,
     goroutine: &Goroutine,
 ) {
+    push_goroutine(said, scene, notes, goroutine);
+    said.text(does);
+    said.number(i128::from(goroutine.clock));
+    said.text(": ");
+    push_location(said, scene, goroutine);
+}
+
+/// Appends `goroutine N (FUNCTION, started at LINE:COLUMN)`.
+fn push_goroutine(said: &mut Words, scene: Scene<'_>, notes: &Notes, goroutine: &Goroutine) {
     said.text("goroutine ");
     said.number(i128::from(goroutine.number));
     said.text(" (");
@@ -141,9 +163,10 @@ fn push_goroutine(
         scene.push_position(said, node);
     }
     said.text(")");
-    said.text(does);
-    said.number(i128::from(goroutine.clock));
-    said.text(": ");
+}
+
+/// Appends `FILE:LINE:COLUMN` of the statement at which a goroutine stands.
+fn push_location(said: &mut Words, scene: Scene<'_>, goroutine: &Goroutine) {
     if let Some(call) = goroutine.last() {
         scene.push_location(said, call.node);
     }
@@ -186,17 +209,14 @@ fn push_number_between(said: &mut Words, before: &str, number: u64, behind: &str
 
 /// Appends a number, with commas between thousands.
 fn push_thousands(said: &mut Words, number: u64) {
-    let mut unit: u64 = 1;
-    for _ in 0..6 {
-        if number / unit >= 1_000 {
-            unit = unit.saturating_mul(1_000);
-        }
-    }
-    said.number(i128::from(number / unit));
-    for _ in 0..6 {
-        if unit >= 1_000 {
-            unit = unit / 1_000;
-            push_group(said, number / unit % 1_000);
+    let mut has_begun = false;
+    for unit in UNITS.iter() {
+        let group = number.checked_div(*unit).unwrap_or(0) % 1_000;
+        if has_begun {
+            push_group(said, group);
+        } else if group > 0 || *unit == 1 {
+            said.number(i128::from(group));
+            has_begun = true;
         }
     }
 }
