@@ -50,9 +50,9 @@ fn emit_marked<'a>(
 ) -> Result<(), Halt>
     ensures { OnOk result (Emits (table_of context.now) emitter.old emitter.new through (of_program context.now made_simple (site_of (table_of context.now) emitter.old) (simple_of simple.now))) }
 {
-    emitter.begin(part)?;
+    emitter.marks.begin(part, emitter.code.len())?;
     emit_alone(context, emitter, simple)?;
-    emitter.end()
+    emitter.marks.end(emitter.code.len())
 }
 
 /// The simple statement at the end of a header, in a block of its own.

@@ -3,7 +3,7 @@
 ghost use Rattle.std.specs.Prelude.{◌≡◌, ◌++◌, ◌∷◌, [], IfOk, OnOk, length};
 ghost use Rattle.bytecode.specs.declared.instr.Instr.TheVariants as instrs;
 
-use crate::marks::{Marks, Part};
+use crate::marks::Marks;
 use bytecode::{Instr, PrintTable, SelectTable};
 use codegen_expression::halt::Halt;
 use codegen_expression::operand::{number, put};
@@ -27,26 +27,6 @@ impl Emitter<'_> {
         ensures { IfOk result (λ place. place ≡ length self.now.code.items) }
     {
         number(self.code.len())
-    }
-
-    /// Marks that a part begins at the next instruction.
-    ///
-    /// Errors: out of memory, or the next instruction's index passes 2^32.
-    pub(crate) fn begin(&mut self, part: Part) -> Result<(), Halt>
-        ensures { self.new ≡ record self.old { marks = self.new.marks } }
-    {
-        let at = self.next_place()?;
-        self.marks.begin(part, at)
-    }
-
-    /// Marks that the part that began last ends before the next instruction.
-    ///
-    /// Errors: out of memory, or the next instruction's index passes 2^32.
-    pub(crate) fn end(&mut self) -> Result<(), Halt>
-        ensures { self.new ≡ record self.old { marks = self.new.marks } }
-    {
-        let at = self.next_place()?;
-        self.marks.end(at)
     }
 }
 

@@ -1,6 +1,7 @@
 //! Which part of the source each instruction comes from.
 
 use codegen_expression::halt::Halt;
+use codegen_expression::operand::number;
 use std::alloc::Global;
 
 /// A part of a function that has marks of its own.
@@ -56,18 +57,20 @@ impl Marks {
         Ok(())
     }
 
-    /// A part begins.
+    /// A part begins, when the function has `at` instructions.
     ///
-    /// Errors: out of memory.
-    pub(crate) fn begin(&mut self, part: Part, at: u32) -> Result<(), Halt> {
+    /// Errors: out of memory, or `at` is 2^32 or more.
+    pub(crate) fn begin(&mut self, part: Part, at: usize) -> Result<(), Halt> {
+        let at = number(at)?;
         self.list.push(Mark::Begin { part, at })?;
         Ok(())
     }
 
-    /// A part ends.
+    /// A part ends, when the function has `at` instructions.
     ///
-    /// Errors: out of memory.
-    pub(crate) fn end(&mut self, at: u32) -> Result<(), Halt> {
+    /// Errors: out of memory, or `at` is 2^32 or more.
+    pub(crate) fn end(&mut self, at: usize) -> Result<(), Halt> {
+        let at = number(at)?;
         self.list.push(Mark::End { at })?;
         Ok(())
     }

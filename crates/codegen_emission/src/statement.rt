@@ -235,9 +235,9 @@ fn emit_marked_other<'t, 'm, 'a>(
 ) -> Result<Flow, Halt>
     ensures { IfOk result (λ flow. Emits (table_of context.now) emitter.old emitter.new (control flow) (of_function context.now made_other (site_of (table_of context.now) emitter.old) (otherwise_of otherwise.now))) }
 {
-    emitter.begin(Part::Else)?;
+    emitter.marks.begin(Part::Else, emitter.code.len())?;
     let flow = emit_other(context, emitter, otherwise)?;
-    emitter.end()?;
+    emitter.marks.end(emitter.code.len())?;
     Ok(flow)
 }
 
@@ -417,9 +417,9 @@ fn emit_marked_way<'t, 'm, 'a>(
 ) -> Result<Flow, Halt>
     ensures { IfOk result (λ flow. Emits (table_of context.now) emitter.old emitter.new (control flow) (of_function context.now made_way (site_of (table_of context.now) emitter.old) (comm_of comm.now) (body_of body.now))) }
 {
-    emitter.begin(Part::Clause)?;
+    emitter.marks.begin(Part::Clause, emitter.code.len())?;
     let flow = emit_way(context, emitter, body, comm)?;
-    emitter.end()?;
+    emitter.marks.end(emitter.code.len())?;
     Ok(flow)
 }
 
@@ -559,8 +559,8 @@ fn emit_marked<'t, 'm, 'a>(
 ) -> Result<Flow, Halt>
     ensures { IfOk result (λ flow. Emits (table_of context.now) emitter.old emitter.new (control flow) (of_function context.now made (site_of (table_of context.now) emitter.old) (statement_of statement.now))) }
 {
-    emitter.begin(Part::Statement)?;
+    emitter.marks.begin(Part::Statement, emitter.code.len())?;
     let flow = emit_statement(context, emitter, statement)?;
-    emitter.end()?;
+    emitter.marks.end(emitter.code.len())?;
     Ok(flow)
 }

@@ -2,6 +2,7 @@
 
 use crate::goroutine::Goroutine;
 use crate::notes::Notes;
+use crate::scene::Report;
 use diagnostic_words::words::Words;
 use go_text::Memory;
 use std::alloc::Global;
@@ -21,20 +22,15 @@ struct Holders {
     last: usize,
 }
 
-/// Who could wake whom: for each goroutine the index of the one that it waits for, if that follows from the channels.
+/// For each goroutine of a deadlock the index of the one that it waits for, if that follows from the channels.
 #[derive(Drop)]
 struct Waiting {
     next: Vec<Option<usize>>,
 }
 
 /// Appends a line for each cycle of goroutines of a deadlock, five at most.
-pub(crate) fn push_cycles(
-    said: &mut Words,
-    alloc: Global,
-    notes: &Notes,
-    goroutines: &[Goroutine],
-) {
-    let Ok(waiting) = Waiting::new(alloc, notes, goroutines) else {
+pub(crate) fn push_cycles(said: &mut Words, report: Report<'_>, goroutines: &[Goroutine]) {
+    let Ok(waiting) = Waiting::new(report.scene.alloc, report.notes, goroutines) else {
         said.refuse();
         return;
     };
@@ -84,7 +80,7 @@ impl Waiting {
         said.text("goroutines ");
         push_number(said, goroutines, index);
         let mut at = index;
-        let mut told: usize = 1;
+        let mut printed: usize = 1;
         for _ in 0..self.next.len() {
             let Some(next) = self.after(at) else {
                 break;
@@ -92,14 +88,14 @@ impl Waiting {
             if next == index {
                 break;
             }
-            if told < MOST_MEMBERS {
+            if printed < MOST_MEMBERS {
                 said.text(" -> ");
                 push_number(said, goroutines, next);
             }
-            told = told.saturating_add(1);
+            printed = printed.saturating_add(1);
             at = next;
         }
-        if told > MOST_MEMBERS {
+        if printed > MOST_MEMBERS {
             said.text(" -> ..");
         }
         said.text(" -> ");

@@ -9,7 +9,7 @@ ghost use Rattle.syntax.specs.Spans.{tree_of};
 
 use crate::goroutine::Goroutine;
 use crate::notes::Notes;
-use crate::scene::Scene;
+use crate::scene::{Report, Scene};
 use crate::second_run::{SecondRun, run_again};
 use crate::sentence::{push_deadlock, push_exhausted, push_panic, push_unfinished};
 use book::{Blank, Book, BookName};
@@ -88,10 +88,10 @@ fn explain_named<B: BookName>(
         return Err(Memory);
     };
     let mut book = opened;
-    let told = explain(scene, &mut book, &asked, limit, cause);
+    let explanation = explain(scene, &mut book, &asked, limit, cause);
     // A book that goes out of scope is proved to be dropped at each exit, part by part.
     drop(book);
-    told
+    explanation
 }
 
 /// Runs a program whose book is open, and explains its end.
@@ -103,45 +103,22 @@ fn explain<B: BookName>(
     cause: &str,
 ) -> Result<Vec<u8>, Memory> {
     let mut notes = Notes::new(scene.alloc);
-    let run = run_again(scene.alloc, book, &mut notes)?;
+    let run = run_again(book, &mut notes)?;
     let goroutines = Goroutine::all(scene, book, program)?;
+    let goroutines = goroutines.as_slice();
+    let notes = &notes;
+    let report = Report { scene, notes };
     let mut said = Words::new(scene.alloc);
-    push_end(
-        &mut said,
-        scene,
-        &notes,
-        &run,
-        goroutines.as_slice(),
-        limit,
-        cause,
-    );
-    Ok(said.into_bytes()?)
-}
-
-/// Appends the explanation of the end of a run that left these goroutines.
-fn push_end(
-    said: &mut Words,
-    scene: Scene<'_>,
-    notes: &Notes,
-    run: &SecondRun,
-    goroutines: &[Goroutine],
-    limit: u64,
-    cause: &str,
-) {
-    match run.end {
-        End::Finished => push_unfinished(said, scene, notes, goroutines),
-        End::Deadlock => push_deadlock(said, scene, notes, goroutines),
-        End::Panicked(panic) => {
-            if let Some(acting) = acting(run, goroutines) {
-                push_panic(said, scene, notes, acting, cause, panic);
-            }
+    match (run.end, acting(&run, goroutines)) {
+        (End::Finished, _) => push_unfinished(&mut said, report, goroutines),
+        (End::Deadlock, _) => push_deadlock(&mut said, report, goroutines),
+        (End::Panicked(panic), Some(goroutine)) => {
+            push_panic(&mut said, report, goroutine, cause, panic);
         }
-        End::Exhausted => {
-            if let Some(acting) = acting(run, goroutines) {
-                push_exhausted(said, scene, notes, acting, limit);
-            }
-        }
+        (End::Exhausted, Some(goroutine)) => push_exhausted(&mut said, report, goroutine, limit),
+        (End::Panicked(_) | End::Exhausted, None) => {}
     }
+    Ok(said.into_bytes()?)
 }
 
 /// The goroutine whose event was the last one.

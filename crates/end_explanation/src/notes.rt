@@ -91,7 +91,6 @@ impl Notes {
     /// Errors: out of memory.
     pub(crate) fn take<B: BookName>(
         &mut self,
-        _alloc: Global,
         book: &Book<B>,
         event: &Event,
     ) -> Result<(), Memory> {

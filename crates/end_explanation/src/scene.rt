@@ -1,7 +1,7 @@
 //! The program, and what stands where in it.
 
 use crate::goroutine::Call;
-use crate::notes::Site;
+use crate::notes::{Notes, Site};
 use bytecode::Code;
 use diagnostic_words::excerpt::push_excerpt;
 use diagnostic_words::words::Words;
@@ -20,6 +20,13 @@ pub(crate) struct Scene<'a> {
     /// The statements that the code's instructions come from.
     pub map: &'a StatementMap,
     pub code: &'a Code,
+}
+
+/// What an explanation is made from, besides the goroutines: the program, and what was noted of its run.
+#[derive(Clone, Copy)]
+pub(crate) struct Report<'a> {
+    pub scene: Scene<'a>,
+    pub notes: &'a Notes,
 }
 
 impl Scene<'_> {

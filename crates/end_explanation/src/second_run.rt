@@ -3,7 +3,6 @@
 use crate::notes::Notes;
 use book::{Book, BookName, Reached};
 use go_text::Memory;
-use std::alloc::Global;
 use word::end::End;
 use word::request::{Event, Request};
 
@@ -25,7 +24,6 @@ pub(crate) struct SecondRun {
 ///
 /// Errors: out of memory, or 2^64 rounds that come to no end.
 pub(crate) fn run_again<B: BookName>(
-    alloc: Global,
     book: &mut Book<B>,
     notes: &mut Notes,
 ) -> Result<SecondRun, Memory> {
@@ -34,7 +32,7 @@ pub(crate) fn run_again<B: BookName>(
     'rounds: for _ in 0..u64::MAX {
         match book.settle_into(&mut event)? {
             Reached::Committed => {
-                notes.take(alloc, book, &event)?;
+                notes.take(book, &event)?;
                 prints = dropped(book, &event, prints)?;
             }
             Reached::Waiting(_) => {

@@ -2,8 +2,7 @@
 
 use crate::cycle::push_cycles;
 use crate::goroutine::{Call, Goroutine};
-use crate::notes::Notes;
-use crate::scene::Scene;
+use crate::scene::{Report, Scene};
 use crate::wish::{push_clauses, push_wish};
 use diagnostic_words::words::Words;
 use syntax::NodeId;
@@ -31,15 +30,10 @@ const UNITS: [u64; 7] = [
 ];
 
 /// Appends the goroutines of a deadlock: cycles first, and then each one.
-pub(crate) fn push_deadlock(
-    said: &mut Words,
-    scene: Scene<'_>,
-    notes: &Notes,
-    goroutines: &[Goroutine],
-) {
-    push_cycles(said, scene.alloc, notes, goroutines);
+pub(crate) fn push_deadlock(said: &mut Words, report: Report<'_>, goroutines: &[Goroutine]) {
+    push_cycles(said, report, goroutines);
     for goroutine in goroutines.iter().take(MOST_WAITING) {
-        push_waiting(said, scene, notes, goroutine);
+        push_waiting(said, report, goroutine);
     }
     let left = goroutines.len().saturating_sub(MOST_WAITING);
     push_more(
@@ -51,12 +45,7 @@ pub(crate) fn push_deadlock(
 }
 
 /// Appends the goroutines that had not ended when `main` returned.
-pub(crate) fn push_unfinished(
-    said: &mut Words,
-    scene: Scene<'_>,
-    notes: &Notes,
-    goroutines: &[Goroutine],
-) {
+pub(crate) fn push_unfinished(said: &mut Words, report: Report<'_>, goroutines: &[Goroutine]) {
     let count = goroutines.iter().filter(|one| one.number > 1).count();
     if count == 0 {
         return;
@@ -70,9 +59,9 @@ pub(crate) fn push_unfinished(
     let others = goroutines.iter().filter(|one| one.number > 1);
     for goroutine in others.take(MOST_UNFINISHED) {
         if goroutine.wish.is_some() {
-            push_waiting(said, scene, notes, goroutine);
+            push_waiting(said, report, goroutine);
         } else {
-            push_awake(said, scene, notes, goroutine);
+            push_awake(said, report, goroutine);
         }
     }
     let left = count.saturating_sub(MOST_UNFINISHED);
@@ -82,85 +71,77 @@ pub(crate) fn push_unfinished(
 /// Appends the goroutine that panicked, with the cause.
 pub(crate) fn push_panic(
     said: &mut Words,
-    scene: Scene<'_>,
-    notes: &Notes,
+    report: Report<'_>,
     goroutine: &Goroutine,
     cause: &str,
     panic: Panic,
 ) {
-    push_timed(said, scene, notes, " panics at clock ", goroutine);
+    push_timed(said, report, " panics at clock ", goroutine);
     said.text(": ");
     said.text(cause);
     push_bound(said, panic);
     said.text("\n");
-    push_source(said, scene, goroutine);
-    push_calls(said, scene, goroutine);
+    push_source(said, report.scene, goroutine);
+    push_calls(said, report.scene, goroutine);
 }
 
 /// Appends the goroutine that came to the clock limit first.
 pub(crate) fn push_exhausted(
     said: &mut Words,
-    scene: Scene<'_>,
-    notes: &Notes,
+    report: Report<'_>,
     goroutine: &Goroutine,
     limit: u64,
 ) {
-    push_timed(said, scene, notes, " has reached clock ", goroutine);
+    push_timed(said, report, " has reached clock ", goroutine);
     said.text(": logical time exhausted (the limit is ");
     push_thousands(said, limit);
     said.text("; --limit sets another one)\n");
-    push_source(said, scene, goroutine);
-    push_calls(said, scene, goroutine);
+    push_source(said, report.scene, goroutine);
+    push_calls(said, report.scene, goroutine);
 }
 
 /// Appends a goroutine that waits, and what for.
-fn push_waiting(said: &mut Words, scene: Scene<'_>, notes: &Notes, goroutine: &Goroutine) {
-    push_timed(said, scene, notes, " waits since clock ", goroutine);
+fn push_waiting(said: &mut Words, report: Report<'_>, goroutine: &Goroutine) {
+    push_timed(said, report, " waits since clock ", goroutine);
     said.text(": ");
-    push_wish(said, scene, notes, goroutine);
+    push_wish(said, report, goroutine);
     said.text("\n");
-    push_source(said, scene, goroutine);
-    push_clauses(said, scene, notes, goroutine);
-    push_calls(said, scene, goroutine);
+    push_source(said, report.scene, goroutine);
+    push_clauses(said, report, goroutine);
+    push_calls(said, report.scene, goroutine);
 }
 
 /// Appends a goroutine that is awake. It may have run ahead of the event that ended the run, so its clock is not printed.
-fn push_awake(said: &mut Words, scene: Scene<'_>, notes: &Notes, goroutine: &Goroutine) {
-    push_goroutine(said, scene, notes, goroutine);
+fn push_awake(said: &mut Words, report: Report<'_>, goroutine: &Goroutine) {
+    push_goroutine(said, report, goroutine);
     said.text(" still runs: ");
-    push_location(said, scene, goroutine);
+    push_location(said, report.scene, goroutine);
     said.text("\n");
-    push_source(said, scene, goroutine);
-    push_calls(said, scene, goroutine);
+    push_source(said, report.scene, goroutine);
+    push_calls(said, report.scene, goroutine);
 }
 
 /// Appends `goroutine N (FUNCTION, started at LINE:COLUMN) DOES C: FILE:LINE:COLUMN`, where C is the goroutine's clock.
-fn push_timed(
-    said: &mut Words,
-    scene: Scene<'_>,
-    notes: &Notes,
-    does: &str,
-    goroutine: &Goroutine,
-) {
-    push_goroutine(said, scene, notes, goroutine);
+fn push_timed(said: &mut Words, report: Report<'_>, does: &str, goroutine: &Goroutine) {
+    push_goroutine(said, report, goroutine);
     said.text(does);
     said.number(i128::from(goroutine.clock));
     said.text(": ");
-    push_location(said, scene, goroutine);
+    push_location(said, report.scene, goroutine);
 }
 
 /// Appends `goroutine N (FUNCTION, started at LINE:COLUMN)`.
-fn push_goroutine(said: &mut Words, scene: Scene<'_>, notes: &Notes, goroutine: &Goroutine) {
+fn push_goroutine(said: &mut Words, report: Report<'_>, goroutine: &Goroutine) {
     said.text("goroutine ");
     said.number(i128::from(goroutine.number));
     said.text(" (");
     if let Some(call) = goroutine.last() {
-        scene.push_function(said, call.function);
+        report.scene.push_function(said, call.function);
     }
-    if let Some(site) = notes.started(goroutine.number) {
+    if let Some(site) = report.notes.started(goroutine.number) {
         said.text(", started at ");
-        let node: NodeId = scene.call(site).node;
-        scene.push_position(said, node);
+        let node: NodeId = report.scene.call(site).node;
+        report.scene.push_position(said, node);
     }
     said.text(")");
 }
@@ -201,10 +182,10 @@ fn push_bound(said: &mut Words, panic: Panic) {
 }
 
 /// Appends a number between two texts.
-fn push_number_between(said: &mut Words, before: &str, number: u64, behind: &str) {
+fn push_number_between(said: &mut Words, before: &str, number: u64, after: &str) {
     said.text(before);
     push_thousands(said, number);
-    said.text(behind);
+    said.text(after);
 }
 
 /// Appends a number, with commas between thousands.
@@ -229,47 +210,69 @@ fn push_group(said: &mut Words, group: u64) {
     said.number(i128::from(group % 10));
 }
 
-/// Appends the calls that led a goroutine to where it stands, the last one first. Equal calls that follow one another take one line.
+/// Equal calls in a row.
+#[derive(Clone, Copy)]
+struct CallRun {
+    call: Call,
+    times: usize,
+}
+
+/// The lines of the calls of a goroutine.
+struct CallLines {
+    /// How many lines there are, or would be without the bound.
+    lines: usize,
+    /// How many calls they show.
+    shown: usize,
+}
+
+impl CallLines {
+    /// Appends the line of calls, if there are any and the bound permits.
+    fn push(&mut self, said: &mut Words, scene: Scene<'_>, run: Option<CallRun>) {
+        let Some(run) = run else {
+            return;
+        };
+        if self.lines < MOST_CALLS {
+            push_call(said, scene, run);
+            self.shown = self.shown.saturating_add(run.times);
+        }
+        self.lines = self.lines.saturating_add(1);
+    }
+}
+
+/// Appends the calls that led a goroutine to where it stands, the last one first. Equal calls in a row take one line.
 fn push_calls(said: &mut Words, scene: Scene<'_>, goroutine: &Goroutine) {
-    let callers = goroutine.calls.len().saturating_sub(1);
-    let mut folded: Option<(Call, usize)> = None;
-    let mut lines: usize = 0;
-    let mut told: usize = 0;
+    let mut lines = CallLines { lines: 0, shown: 0 };
+    let mut run: Option<CallRun> = None;
     for call in goroutine.calls.iter().rev().skip(1) {
-        folded = match folded {
-            Some((before, times)) if before.node == call.node => {
-                Some((before, times.saturating_add(1)))
+        run = match run {
+            Some(same) if same.call.node == call.node => Some(CallRun {
+                call: same.call,
+                times: same.times.saturating_add(1),
+            }),
+            ended => {
+                lines.push(said, scene, ended);
+                Some(CallRun {
+                    call: *call,
+                    times: 1,
+                })
             }
-            Some((before, times)) => {
-                if lines < MOST_CALLS {
-                    push_call(said, scene, before, times);
-                    told = told.saturating_add(times);
-                }
-                lines = lines.saturating_add(1);
-                Some((*call, 1))
-            }
-            None => Some((*call, 1)),
         };
     }
-    if let Some((before, times)) = folded {
-        if lines < MOST_CALLS {
-            push_call(said, scene, before, times);
-            told = told.saturating_add(times);
-        }
-    }
-    let left = callers.saturating_sub(told);
+    lines.push(said, scene, run);
+    let callers = goroutine.calls.len().saturating_sub(1);
+    let left = callers.saturating_sub(lines.shown);
     push_more(said, left, " more call\n", " more calls\n");
 }
 
 /// Appends where a function was called from, and how many times in a row if more than once.
-fn push_call(said: &mut Words, scene: Scene<'_>, call: Call, times: usize) {
+fn push_call(said: &mut Words, scene: Scene<'_>, run: CallRun) {
     said.text("  called from ");
-    scene.push_function(said, call.function);
+    scene.push_function(said, run.call.function);
     said.text(" at ");
-    scene.push_location(said, call.node);
-    if times > 1 {
+    scene.push_location(said, run.call.node);
+    if run.times > 1 {
         said.text(", ");
-        push_thousands(said, times as u64);
+        push_thousands(said, run.times as u64);
         said.text(" times");
     }
     said.text("\n");

@@ -1,8 +1,7 @@
 //! What goroutines wait for.
 
 use crate::goroutine::Goroutine;
-use crate::notes::Notes;
-use crate::scene::Scene;
+use crate::scene::Report;
 use diagnostic_scope::unit::{Unit, units_at};
 use diagnostic_words::words::{Words, push_expression};
 use syntax::{
@@ -10,13 +9,6 @@ use syntax::{
     StatementNode,
 };
 use word::request::{Case, Request};
-
-/// The program, and what was noted of its run.
-#[derive(Clone, Copy)]
-struct Naming<'a> {
-    scene: Scene<'a>,
-    notes: &'a Notes,
-}
 
 /// The channels that a statement names.
 #[derive(Clone, Copy)]
@@ -27,16 +19,15 @@ enum Named<'a> {
 }
 
 /// Appends what a goroutine waits for; of a `select` how many clauses it has.
-pub(crate) fn push_wish(said: &mut Words, scene: Scene<'_>, notes: &Notes, goroutine: &Goroutine) {
-    let naming = Naming { scene, notes };
+pub(crate) fn push_wish(said: &mut Words, report: Report<'_>, goroutine: &Goroutine) {
     match &goroutine.wish {
         Some(Request::Send(channel, _)) => {
             said.text("sends to ");
-            push_asked(said, naming, goroutine, *channel);
+            push_asked(said, report, goroutine, *channel);
         }
         Some(Request::Receive(channel)) => {
             said.text("receives from ");
-            push_asked(said, naming, goroutine, *channel);
+            push_asked(said, report, goroutine, *channel);
         }
         Some(Request::Select(cases, _)) => {
             said.text("select of ");
@@ -52,29 +43,23 @@ pub(crate) fn push_wish(said: &mut Words, scene: Scene<'_>, notes: &Notes, gorou
 }
 
 /// Appends a line for each clause of the `select` that a goroutine waits at, if it does.
-pub(crate) fn push_clauses(
-    said: &mut Words,
-    scene: Scene<'_>,
-    notes: &Notes,
-    goroutine: &Goroutine,
-) {
-    let naming = Naming { scene, notes };
+pub(crate) fn push_clauses(said: &mut Words, report: Report<'_>, goroutine: &Goroutine) {
     let (Some(Request::Select(cases, _)), Some(call)) = (&goroutine.wish, goroutine.last()) else {
         return;
     };
-    let found = units_at(scene.alloc, scene.tree.file(), call.node);
+    let found = units_at(report.scene.alloc, report.scene.tree.file(), call.node);
     let clauses = match found.found.first() {
         Some(unit) => clauses_of(named_by(unit.unit)),
         None => &[],
     };
     let mut left = clauses.iter().filter(|clause| clause.comm.is_some());
     for case in cases.iter() {
-        push_clause(said, naming, case, left.next());
+        push_clause(said, report, case, left.next());
     }
 }
 
 /// Appends the line of a clause of a `select`.
-fn push_clause(said: &mut Words, naming: Naming<'_>, case: &Case, clause: Option<&ClauseNode>) {
+fn push_clause(said: &mut Words, report: Report<'_>, case: &Case, clause: Option<&ClauseNode>) {
     said.text(if case.item.is_some() {
         "  sends to "
     } else {
@@ -84,28 +69,28 @@ fn push_clause(said: &mut Words, naming: Naming<'_>, case: &Case, clause: Option
         Some(clause) => channel_of(clause),
         None => None,
     };
-    push_channel(said, naming, channel, case.chan);
+    push_channel(said, report, channel, case.chan);
     said.text("\n");
 }
 
 /// Appends the channel that a goroutine's statement sends to or receives from.
-fn push_asked(said: &mut Words, naming: Naming<'_>, goroutine: &Goroutine, channel: Option<u32>) {
+fn push_asked(said: &mut Words, report: Report<'_>, goroutine: &Goroutine, channel: Option<u32>) {
     let Some(call) = goroutine.last() else {
-        push_channel(said, naming, None, channel);
+        push_channel(said, report, None, channel);
         return;
     };
-    let found = units_at(naming.scene.alloc, naming.scene.tree.file(), call.node);
+    let found = units_at(report.scene.alloc, report.scene.tree.file(), call.node);
     let name = match found.found.first() {
         Some(unit) => one_of(named_by(unit.unit)),
         None => None,
     };
-    push_channel(said, naming, name, channel);
+    push_channel(said, report, name, channel);
 }
 
 /// Appends a channel: what the statement calls it, its number, and where it was made.
 fn push_channel(
     said: &mut Words,
-    naming: Naming<'_>,
+    report: Report<'_>,
     name: Option<&ExpressionNode>,
     channel: Option<u32>,
 ) {
@@ -113,26 +98,26 @@ fn push_channel(
         (Some(name), Some(number)) => {
             push_expression(said, name);
             said.text(" (");
-            push_number(said, naming, number);
+            push_number(said, report, number);
             said.text(")");
         }
         (Some(name), None) => {
             push_expression(said, name);
             said.text(", a nil channel");
         }
-        (None, Some(number)) => push_number(said, naming, number),
+        (None, Some(number)) => push_number(said, report, number),
         (None, None) => said.text("a nil channel"),
     }
 }
 
 /// Appends the number of a channel, and where it was made.
-fn push_number(said: &mut Words, naming: Naming<'_>, number: u32) {
+fn push_number(said: &mut Words, report: Report<'_>, number: u32) {
     said.text("channel ");
     said.number(i128::from(number));
-    if let Some(site) = naming.notes.made(number) {
+    if let Some(site) = report.notes.made(number) {
         said.text(", made at ");
-        let node: NodeId = naming.scene.call(site).node;
-        naming.scene.push_position(said, node);
+        let node: NodeId = report.scene.call(site).node;
+        report.scene.push_position(said, node);
     }
 }
 
