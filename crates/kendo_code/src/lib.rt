@@ -1,8 +1,8 @@
-//! What is made of a text's code beside a run of it: its listing, and the recording of its run for pictures.
+//! What is made of a program's code beside a run of it: its listing, and the recording of its run for pictures.
 #![tactic(auto)]
 
 mod listing;
 mod recording;
 
 pub use listing::list_bytes;
-pub use recording::timeline_bytes;
+pub use recording::{timeline_bytes, timeline_window};

@@ -1,9 +1,10 @@
-//! The recording of a text's run, of which pictures are made.
+//! The recording of a program's run, of which pictures are made.
 
 ghost use Rattle.std.specs.Prelude.{◌≡◌, ◌≤◌, ◌⊎◌, ◌↔◌, IfErr, IfNone, IfOk, IfSome, IsErrOf, length, map};
 ghost use Rattle.meaning.specs.Source.{source_kind};
 ghost use Rattle.kendo_reading.specs.Reading.{HasNoReading, IsRefusal, IsWhy, Reads};
-ghost use Rattle.kendo_code.specs.Recorded.{IsRecorded};
+ghost use Rattle.kendo_code.specs.Recorded.{IsRecorded, IsWindow};
+ghost use Rattle.recorder.specs.Recorded.{Shows};
 ghost use Rattle.whole_run.specs.Runs.{IsLimit};
 ghost use Rattle.syntax.specs.Tree.{File};
 ghost use Rattle.word.specs.Views.{event_of};
@@ -18,14 +19,14 @@ use kendo_reading::read;
 use recorder::record;
 use std::alloc::Global;
 use std::sync::Arc;
-use timeline::Recording;
+use timeline::{Recording, Window};
 use verifier::verify;
 
-/// Runs the program that a text is, up to the clock limit (1 to 2^62 steps) on this thread, and keeps its first events, at most so
-/// many, and how the run ended where it has no more: what a picture of the run shows. What it prints is not written.
+/// Runs the program that a source file is, up to the clock limit (1 to 2^62 steps) on this thread, and keeps its first events, at
+/// most `most`, and how the run ended if it has no more: what a picture of the run shows. What it prints is not written.
 ///
-/// Errors: by the numbers 1 to 10 why the text is no program, with line and column; `Memory`; `BadLimit`.
-#[tactic(auto, using(kendo_reading::proofs::Spelled::grammatical, kendo_reading::proofs::Spelled::limited))]
+/// Errors: by the numbers 1 to 10 why it is no program, with line and column; `Memory`; `BadLimit`.
+#[tactic(auto, using(crate::proofs::Recordings::from_the_first))]
 pub fn timeline_bytes(
     alloc: Global,
     bytes: Vec<u8>,
@@ -40,20 +41,51 @@ pub fn timeline_bytes(
     ensures few { IfOk result (λ made. length made.events.items ≤ most) }
     ensures cut { IfOk result (λ made. IfNone made.end (most ≤ length made.events.items)) }
 {
+    timeline_window(alloc, bytes, limit, Window::First, most)
+}
+
+/// Like `timeline_bytes`, but keeps the events of a window, at most `most`, and what there was before them. Of `Window::Last` it
+/// keeps no more events in memory while the program runs, however many there are.
+///
+/// Errors: by the numbers 1 to 10 why the source file is no program, with line and column; `Memory`; `BadLimit`.
+#[tactic(auto, using(kendo_reading::proofs::Spelled::grammatical, kendo_reading::proofs::Spelled::limited))]
+pub fn timeline_window(
+    alloc: Global,
+    bytes: Vec<u8>,
+    limit: u64,
+    window: Window,
+    most: usize,
+) -> Result<Recording, Fault>
+    ensures limit { IsErrOf result Fault.BadLimit ↔ (IsLimit limit → ⊥) }
+    ensures refused { IfErr result (λ fault. IsRefusal fault → HasNoReading bytes.items) }
+    ensures why { IfErr result (λ fault. IsRefusal fault → IsWhy bytes.items fault) }
+    ensures only { IfErr result (λ fault. IsRefusal fault ⊎ ((fault ≡ Fault.Memory) ⊎ (fault ≡ Fault.BadLimit))) }
+    ensures recorded { IfOk result (λ made. (file : File) × Reads bytes.items file × IsWindow (source_kind file) limit made.before (map event_of made.events.items) made.end) }
+    ensures shows { IfOk result (λ made. Shows window most made.before (length made.events.items) made.end) }
+    ensures few { IfOk result (λ made. length made.events.items ≤ most) }
+    ensures cut { IfOk result (λ made. IfNone made.end (most ≤ length made.events.items)) }
+{
     if limit < 1 || limit > 1 << 62 {
         return Err(Fault::BadLimit);
     }
     let (_source, typed) = read(alloc, bytes)?;
-    let recording = recorded(alloc, &typed, limit, most)?;
+    let recording = recorded(alloc, &typed, limit, window, most)?;
     Ok(recording)
 }
 
-/// The first events of the run of a checked program.
-fn recorded(alloc: Global, typed: &Typed, limit: u64, most: usize) -> Result<Recording, Fault>
+/// The events of a window of the run of a checked program.
+fn recorded(
+    alloc: Global,
+    typed: &Typed,
+    limit: u64,
+    window: Window,
+    most: usize,
+) -> Result<Recording, Fault>
     requires limit { IsLimit limit }
     requires grammatical { IsGrammatical (tree_of (tree_in typed.now)) }
     requires lists { IsLimited (tree_of (tree_in typed.now)) }
-    ensures recorded { IfOk result (λ made. IsRecorded (source_kind (tree_of (tree_in typed.now))) limit (map event_of made.events.items) made.end) }
+    ensures recorded { IfOk result (λ made. IsWindow (source_kind (tree_of (tree_in typed.now))) limit made.before (map event_of made.events.items) made.end) }
+    ensures shows { IfOk result (λ made. Shows window most made.before (length made.events.items) made.end) }
     ensures few { IfOk result (λ made. length made.events.items ≤ most) }
     ensures cut { IfOk result (λ made. IfNone made.end (most ≤ length made.events.items)) }
     ensures only { IfErr result (λ fault. fault ≡ Fault.Memory) }
@@ -61,5 +93,5 @@ fn recorded(alloc: Global, typed: &Typed, limit: u64, most: usize) -> Result<Rec
     let code = compile(alloc, typed)?;
     let verified = verify(alloc, code)?;
     let program = Arc::new(alloc, verified)?;
-    record(alloc, program, limit, most)
+    record(alloc, program, limit, window, most)
 }

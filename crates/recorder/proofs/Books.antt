@@ -1,6 +1,6 @@
 -- What a book has committed, step by step.
 use Rattle.std.proofs.Common.{◌≡◌, ℕ, ◌+◌, List, [], ◌∷◌, ◌++◌, Bool, true, false, cond, map, length, refl, sym, ap, ◌∙◌, subst, arith, length-append}
-use Rattle.std.proofs.lemmas.List.{map-append}
+use Rattle.std.proofs.lemmas.List.{length-map, map-append}
 use Rattle.std.specs.Option.{is_some}
 use Rattle.book.specs.Desks.{Desk, Held, IsEvent, Settles, Looks, Sighting, brought, opened_desk}
 use Rattle.book.specs.declared.settled.Settled.{Settled}
@@ -13,11 +13,11 @@ use Rattle.word.specs.declared.end.End.{End as Ending}
 use Rattle.word.specs.declared.request.Event.{Event as Recorded}
 use Rattle.word.specs.Values.{Event}
 use Rattle.word.specs.Views.{event_of}
-use Rattle.recorder.specs.Recorded.{AreAll, AreFirst, Comes, EndsAfter, HasRecorded, IsLater}
-use Rattle.recorder.proofs.First.{first_all, first_more}
+use Rattle.recorder.specs.Recorded.{AreNext, AreRest, Comes, EndsAfter, HasRecorded, IsLater, Moves}
+use Rattle.recorder.proofs.First.{next_all, next_later, next_more}
 
-pub opened : (code : Code) (limit : ℕ) (traces : Bool) (d : Desk) → d ≡ opened_desk code limit traces → HasRecorded d.code d.limit d []
-opened code limit traces d is = subst (λ (e : Desk). HasRecorded e.code e.limit e []) (sym is) (record { code = refl; limit = refl; counted = refl; first = (0, refl) })
+pub opened : (code : Code) (limit : ℕ) (traces : Bool) (d : Desk) → d ≡ opened_desk code limit traces → HasRecorded d.code d.limit d 0 []
+opened code limit traces d is = subst (λ (e : Desk). HasRecorded e.code e.limit e 0 []) (sym is) (record { code = refl; limit = refl; counted = refl; next = ([], refl, (0, refl)) })
 
 -- looks commit nothing
 looks_later : (old : Desk) (seen : List Sighting) (new : Desk) → Looks old seen new → IsLater old new 0
@@ -59,40 +59,58 @@ brought_later old mid l m = record { code = m.code; limit = m.limit; events = co
 pub one_longer : {A : Type 0} (xs : List A) (x : A) → length (xs ++ x ∷ []) ≡ length xs + 1
 one_longer xs x = length-append xs (x ∷ [])
 
-module _ (code : Code) (limit : ℕ) (old new : Desk) (events : List Recorded) (settled : Settled) (kept : HasRecorded code limit old events) (comes : Comes old settled new) where
+module _ (code : Code) (limit before : ℕ) (old new : Desk) (events : List Recorded) (settled : Settled) (kept : HasRecorded code limit old before events) (comes : Comes old settled new) where
   abbrev seen : List Event
   seen = map event_of events
 
-  added : (event : Recorded) → IsLater old new 1 × IsEvent old.code old.limit old.core.events (event_of event) → HasRecorded code limit new (events ++ event ∷ [])
+  added : (event : Recorded) → IsLater old new 1 × IsEvent old.code old.limit old.core.events (event_of event) → HasRecorded code limit new before (events ++ event ∷ [])
   added event came =
       let all : map event_of (events ++ event ∷ []) ≡ seen ++ event_of event ∷ [] = map-append event_of events (event ∷ []) in
-      let here : IsEvent code limit (length seen) (event_of event) =
+      let here : IsEvent code limit (before + length seen) (event_of event) =
       subst (λ k. IsEvent code limit k (event_of event)) kept.counted (subst (λ l. IsEvent code l old.core.events (event_of event)) kept.limit (subst (λ (c : Code). IsEvent c old.limit old.core.events (event_of event)) kept.code came.1)) in
+      let more : length (map event_of (events ++ event ∷ [])) ≡ length seen + 1 = ap length all ∙ one_longer seen (event_of event) in
       record {
         code = came.0.code ∙ kept.code;
         limit = came.0.limit ∙ kept.limit;
-        counted = came.0.events ∙ ap (λ k. k + 1) kept.counted ∙ sym (one_longer seen (event_of event)) ∙ ap length (sym all);
-        first = subst (AreFirst (code_kind code) limit) (sym all) (first_more (code_kind code) limit seen (event_of event) kept.first here);
+        counted = let z = came.0.events in let k = kept.counted in omega (arith, z, k, more);
+        next = subst (AreNext (code_kind code) limit before) (sym all) (next_more (code_kind code) limit before seen (event_of event) kept.next here);
       }
 
-  pub committed : (event : Recorded) → settled ≡ Committed event → HasRecorded code limit new (events ++ event ∷ [])
+  pub committed : (event : Recorded) → settled ≡ Committed event → HasRecorded code limit new before (events ++ event ∷ [])
   committed event is = added event (subst (λ (s : Settled). Comes old s new) is comes)
 
-  waited : IsLater old new 0 → HasRecorded code limit new events
+  waited : IsLater old new 0 → HasRecorded code limit new before events
   waited came = record {
     code = came.code ∙ kept.code;
     limit = came.limit ∙ kept.limit;
     counted = let z = came.events in let k = kept.counted in omega (arith, z, k);
-    first = kept.first;
+    next = kept.next;
   }
 
-  pub waiting : (n : ℕ) → settled ≡ Waiting n → HasRecorded code limit new events
+  pub waiting : (n : ℕ) → settled ≡ Waiting n → HasRecorded code limit new before events
   waiting n is = waited (subst (λ (s : Settled). Comes old s new) is comes)
 
-  ended : (ending : Ending) → EndsAfter old.code old.limit old.core.events ending → AreAll (code_kind code) limit seen ending
+  ended : (ending : Ending) → EndsAfter old.code old.limit old.core.events ending → AreRest (code_kind code) limit before seen ending
   ended ending came =
-      first_all (code_kind code) limit seen ending kept.first
+      next_all (code_kind code) limit before seen ending kept.next
       (subst (λ k. EndsAfter code limit k ending) kept.counted (subst (λ l. EndsAfter code l old.core.events ending) kept.limit (subst (λ (c : Code). EndsAfter c old.limit old.core.events ending) kept.code came)))
 
-  pub all_there : (ending : Ending) → settled ≡ Ended ending → AreAll (code_kind code) limit seen ending
+  pub all_there : (ending : Ending) → settled ≡ Ended ending → AreRest (code_kind code) limit before seen ending
   all_there ending is = ended ending (subst (λ (s : Settled). Comes old s new) is comes).1
+
+-- events that go into the past
+pub moved : (code : Code) (limit before later : ℕ) (d : Desk) (events left : List Recorded) → HasRecorded code limit d before events → Moves before events later left → HasRecorded code limit d later left
+moved code limit before later d events left kept moves =
+    let gone = map event_of moves.0 in
+    let all : map event_of events ≡ gone ++ map event_of left = ap (map event_of) (sym moves.2) ∙ map-append event_of moves.0 left in
+    let counts : before + length gone ≡ later = ap (λ k. before + k) (length-map moves.0 event_of) ∙ moves.1 in
+    let sizes : length (map event_of events) ≡ length gone + length (map event_of left) = ap length all ∙ length-append gone (map event_of left) in
+    record {
+      code = kept.code;
+      limit = kept.limit;
+      counted = let k = kept.counted in omega (arith, k, counts, sizes);
+      next = next_later (code_kind code) limit before later gone (map event_of left) counts (subst (AreNext (code_kind code) limit before) all kept.next);
+    }
+
+pub passed : (code : Code) (limit before : ℕ) (d : Desk) (event : Recorded) → HasRecorded code limit d before (event ∷ []) → HasRecorded code limit d (before + 1) []
+passed code limit before d event kept = moved code limit before (before + 1) d (event ∷ []) [] kept (event ∷ [], refl, refl)

@@ -1,5 +1,5 @@
 -- The first events of a run, and one more of them.
-use Rattle.std.proofs.Common.{◌≡◌, ℕ, zero, suc, ◌+◌, ◌-◌, ◌≤◌, List, [], ◌∷◌, ◌++◌, length, take, drop, Some, refl, sym, ap, ◌∙◌, arith}
+use Rattle.std.proofs.Common.{◌≡◌, ℕ, zero, suc, ◌+◌, ◌-◌, ◌≤◌, List, [], ◌∷◌, ◌++◌, length, take, drop, Some, refl, sym, ap, ◌∙◌, subst, arith, length-append, append_assoc}
 use Rattle.std.specs.Prelude.{slice_get, unwrap_or}
 use Rattle.std.proofs.Math.Seq.{take-length}
 use Rattle.turn_rule.specs.Schedule.{IsPrefixOf}
@@ -11,7 +11,7 @@ use Rattle.word.specs.Values.{Event}
 use Rattle.word.specs.Worlds.{Rest, end_of, moment, opening, rules}
 use Rattle.word.proofs.Laws.{laws}
 use Rattle.word.proofs.Records.{events_begin}
-use Rattle.recorder.specs.Recorded.{AreAll, AreFirst}
+use Rattle.recorder.specs.Recorded.{AreAll, AreFirst, AreNext, AreRest}
 
 -- ---- beginnings of lists
 
@@ -70,3 +70,19 @@ module _ (K : GoroutineKind) (limit : ℕ) where
       let one = first_later events first.0 m (omega arith) first.1 in
       let two = first_later (happened ends.0) ends.0 m (omega arith) (take-length (happened ends.0)) in
       (ends.0, sym two ∙ ap (λ k. take k (happened m)) ends.1 ∙ one, ends.2)
+
+  -- after other events
+
+  pub next_more : (before : ℕ) (events : List Event) (e : Event) → AreNext K limit before events → (n : ℕ) × (slice_get (happened n) (before + length events) ≡ Some e) → AreNext K limit before (events ++ e ∷ [])
+  next_more before events e next is =
+      let counted : before + length events ≡ length (next.0 ++ events) = ap (λ k. k + length events) (sym next.1) ∙ sym (length-append next.0 events) in
+      (next.0, next.1, subst (AreFirst K limit) (append_assoc next.0 events (e ∷ [])) (first_more (next.0 ++ events) e next.2 (is.0, ap (slice_get (happened is.0)) (sym counted) ∙ is.1)))
+
+  pub next_all : (before : ℕ) (events : List Event) (ending : Ending) → AreNext K limit before events → (n : ℕ) × (length (happened n) ≡ before + length events) × (end_of (moment K limit n) ≡ Some ending) → AreRest K limit before events ending
+  next_all before events ending next ends =
+      let counted : before + length events ≡ length (next.0 ++ events) = ap (λ k. k + length events) (sym next.1) ∙ sym (length-append next.0 events) in
+      (next.0, next.1, first_all (next.0 ++ events) ending next.2 (ends.0, ends.1 ∙ counted, ends.2))
+
+  pub next_later : (before later : ℕ) (gone events : List Event) → before + length gone ≡ later → AreNext K limit before (gone ++ events) → AreNext K limit later events
+  next_later before later gone events counts next =
+      (next.0 ++ gone, length-append next.0 gone ∙ ap (λ k. k + length gone) next.1 ∙ counts, subst (AreFirst K limit) (sym (append_assoc next.0 gone events)) next.2)

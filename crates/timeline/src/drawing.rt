@@ -1,78 +1,114 @@
 //! The picture of a run as an SVG: a lane for each goroutine, and logical time to the right.
 
+use crate::arrows::push_arrows;
 use crate::label::{count_label, end_label, event_label};
-use crate::lanes::{Arrow, Lane, Lanes, Sleep};
+use crate::lane_drawing::{push_lanes, push_names};
+use crate::lanes::Lanes;
 use crate::marks::{HEAD, LEGEND, mark_of};
 use crate::recording::Recording;
 use crate::scale::Scale;
 use crate::writing::push_escaped;
 use go_text::Memory;
 use std::alloc::{AllocError, Global};
+use word::end::End;
 use word::request::Event;
 
-/// The height of a lane, and where the first one's middle lies, in pixels.
+/// The height of a lane, and where the middle of the first one lies, in pixels.
 const LANE: u64 = 26;
 
-const TOP: u64 = 84;
+const TOP: u64 = 120;
 
-/// The room left of clock 0 for the names of lanes, in pixels.
-const LEFT: u64 = 160;
+/// The pixels left of the first clock, for the names of lanes.
+pub(crate) const LEFT: u64 = 160;
 
-/// The room between two numbers of the axis, in pixels.
+/// The pixels right of the lanes, and those for what the goroutines of a deadlock wait for.
+const MARGIN: u64 = 24;
+
+const WAITS: u64 = 260;
+
+/// The pixels between two numbers of an axis.
 const TICKS: u64 = 70;
+
+/// The parts that a drawing is made of.
+#[derive(Drop)]
+pub(crate) struct Drawing<'a> {
+    pub alloc: Global,
+    pub recording: &'a Recording,
+    pub lanes: &'a Lanes,
+    pub scale: &'a Scale,
+}
 
 /// The picture of a run, as an SVG.
 ///
 /// # Errors
 ///
-/// `Memory` where memory is refused.
+/// `Memory` if memory is refused.
 pub(crate) fn draw(alloc: Global, recording: &Recording) -> Result<String, Memory> {
     let lanes = Lanes::of(alloc, recording)?;
     let scale = Scale::of(alloc, recording, LEFT)?;
+    let drawing = Drawing {
+        alloc,
+        recording,
+        lanes: &lanes,
+        scale: &scale,
+    };
     let mut text = String::new(alloc);
-    push_all(alloc, &mut text, recording, &lanes, &scale)?;
+    push_all(&mut text, &drawing)?;
     Ok(text)
 }
 
-/// The lanes with what happens in them, the axis, and what stands around them.
-fn push_all(
-    alloc: Global,
-    text: &mut String,
-    recording: &Recording,
-    lanes: &Lanes,
-    scale: &Scale,
-) -> Result<(), AllocError> {
-    let count = lanes.lanes.len() as u64;
-    push_head(text, count, scale)?;
-    push_lanes(text, recording, lanes, scale)?;
-    push_arrows(text, lanes, scale)?;
-    push_events(alloc, text, recording, scale)?;
-    push_axis(text, height(count), scale)?;
-    push_foot(alloc, text, recording, height(count))
+/// The lanes with what happens in them, the axes, and what stands around them.
+fn push_all(text: &mut String, drawing: &Drawing) -> Result<(), AllocError> {
+    push_head(text, drawing)?;
+    push_axis(text, height(0).saturating_sub(20), drawing.scale)?;
+    push_lanes(text, drawing)?;
+    push_arrows(text, drawing)?;
+    push_events(text, drawing)?;
+    push_names(text, drawing)?;
+    push_axis(text, lowest(drawing).saturating_add(6), drawing.scale)?;
+    push_edges(text, drawing)?;
+    text.push_str("</svg>\n")
 }
 
-/// The height at which the lane of a goroutine lies.
-fn height(number: u64) -> u64 {
-    number
-        .saturating_sub(1)
-        .saturating_mul(LANE)
-        .saturating_add(TOP)
+/// The height at which the lane of this index lies, in pixels.
+pub(crate) fn height(row: usize) -> u64 {
+    (row as u64).saturating_mul(LANE).saturating_add(TOP)
 }
 
-/// All that stands before the lanes, of which there are so many.
-fn push_head(text: &mut String, count: u64, scale: &Scale) -> Result<(), AllocError> {
-    let width = scale.right().saturating_add(24);
-    let tall = height(count).saturating_add(76);
+/// The height under the last lane, in pixels.
+fn lowest(drawing: &Drawing) -> u64 {
+    height(drawing.lanes.lanes.len())
+}
+
+/// All that stands before the lanes: what the picture shows, and what its marks mean.
+fn push_head(text: &mut String, drawing: &Drawing) -> Result<(), AllocError> {
+    let margin = match drawing.recording.end {
+        Some(End::Deadlock) => WAITS,
+        _ => MARGIN,
+    };
+    let width = drawing.scale.right().saturating_add(margin);
+    let tall = lowest(drawing).saturating_add(40);
     write!(
         text,
         "<svg xmlns=\"http://www.w3.org/2000/svg\" width=\"{width}\" height=\"{tall}\" viewBox=\"0 0 {width} {tall}\">\n"
     )?;
     text.push_str(HEAD)?;
+    push_caption(text, drawing)?;
     text.push_str(LEGEND)
 }
 
+/// Which events are shown, and how the run ended.
+fn push_caption(text: &mut String, drawing: &Drawing) -> Result<(), AllocError> {
+    let count = count_label(drawing.alloc, drawing.recording)?;
+    let ends = end_label(drawing.alloc, drawing.recording.end)?;
+    write!(
+        text,
+        "<text class=\"caption\" x=\"12\" y=\"28\">{count}, {ends}</text>\n"
+    )
+}
+
 /// A line of this class from one place to another.
-fn push_line(
+pub(crate) fn push_line(
     text: &mut String,
     class: &str,
     from: (u64, u64),
@@ -85,136 +121,61 @@ fn push_line(
     )
 }
 
-/// All lanes.
-fn push_lanes(
-    text: &mut String,
-    recording: &Recording,
-    lanes: &Lanes,
-    scale: &Scale,
-) -> Result<(), AllocError> {
-    for lane in lanes.lanes.iter() {
-        push_name(text, recording, lane, scale.right())?;
-        push_sleeps(text, lane, scale)?;
-        push_life(text, lane, scale)?;
-    }
-    Ok(())
-}
-
-/// The number of a lane's goroutine, its function, and a thin line through the whole picture.
-fn push_name(
-    text: &mut String,
-    recording: &Recording,
-    lane: &Lane,
-    right: u64,
-) -> Result<(), AllocError> {
-    let (number, y) = (lane.number, height(lane.number));
-    let base = y.saturating_add(4);
-    let name = recording.first_function(lane.function);
-    push_line(text, "rail", (LEFT, y), (right, y))?;
-    write!(text, "<text x=\"12\" y=\"{base}\">{number} {name}</text>\n")
-}
-
-/// Where a lane's goroutine slept.
-fn push_sleeps(text: &mut String, lane: &Lane, scale: &Scale) -> Result<(), AllocError> {
-    let top = height(lane.number).saturating_sub(8);
-    for sleep in lane.sleeps.iter() {
-        push_sleep(text, *sleep, top, scale)?;
-    }
-    Ok(())
-}
-
-/// A span of sleep.
-fn push_sleep(text: &mut String, sleep: Sleep, top: u64, scale: &Scale) -> Result<(), AllocError> {
-    let (from, to) = (scale.place(sleep.from), scale.place(sleep.to));
-    let width = to.saturating_sub(from);
-    write!(
-        text,
-        "<rect class=\"sleep\" x=\"{from}\" y=\"{top}\" width=\"{width}\" height=\"16\"/>\n"
-    )
-}
-
-/// The line of a life, and a mark at its end where it has ended.
-fn push_life(text: &mut String, lane: &Lane, scale: &Scale) -> Result<(), AllocError> {
-    let y = height(lane.number);
-    let (mut from, end) = (scale.place(lane.from), scale.place(lane.to));
-    for sleep in lane.sleeps.iter() {
-        push_line(text, "run", (from, y), (scale.place(sleep.from), y))?;
-        from = scale.place(sleep.to);
-    }
-    push_line(text, "run", (from, y), (end, y))?;
-    if !lane.ended {
-        return Ok(());
-    }
-    push_end(text, end, y)
-}
-
-/// The end of a life.
-fn push_end(text: &mut String, end: u64, y: u64) -> Result<(), AllocError> {
-    let (top, bottom) = (y.saturating_sub(8), y.saturating_add(8));
-    push_line(text, "end", (end, top), (end, bottom))
-}
-
-/// All arrows.
-fn push_arrows(text: &mut String, lanes: &Lanes, scale: &Scale) -> Result<(), AllocError> {
-    for arrow in lanes.arrows.iter() {
-        push_arrow(text, *arrow, scale)?;
-    }
-    Ok(())
-}
-
-/// An arrow from one lane to another.
-fn push_arrow(text: &mut String, arrow: Arrow, scale: &Scale) -> Result<(), AllocError> {
-    let class = arrow.passes.name();
-    let (from, to) = (scale.place(arrow.leaves), scale.place(arrow.reaches));
-    let (start, goal) = (height(arrow.from), height(arrow.to));
-    write!(
-        text,
-        "<line class=\"arrow {class}\" x1=\"{from}\" y1=\"{start}\" x2=\"{to}\" y2=\"{goal}\" marker-end=\"url(#{class})\"/>\n"
-    )
-}
-
 /// The marks of all events.
-fn push_events(
-    alloc: Global,
-    text: &mut String,
-    recording: &Recording,
-    scale: &Scale,
-) -> Result<(), AllocError> {
-    for event in recording.events.iter() {
-        push_mark(text, event, scale)?;
-        push_title(alloc, text, event)?;
+fn push_events(text: &mut String, drawing: &Drawing) -> Result<(), AllocError> {
+    for (index, event) in drawing.recording.events.iter().enumerate() {
+        if let Some(row) = drawing.lanes.row(event.number) {
+            push_mark(text, drawing, event, height(row))?;
+            push_title(text, drawing, index, event)?;
+        }
     }
     Ok(())
 }
 
-/// The mark of an event, up to its title, which begins with its clock and its goroutine.
-fn push_mark(text: &mut String, event: &Event, scale: &Scale) -> Result<(), AllocError> {
-    let (clock, number) = (event.clock.time(), event.number);
-    let (x, y) = (scale.place(clock), height(number));
-    let mark = mark_of(event);
+/// The mark of an event, up to its title.
+fn push_mark(
+    text: &mut String,
+    drawing: &Drawing,
+    event: &Event,
+    y: u64,
+) -> Result<(), AllocError> {
+    let x = drawing.scale.place(event.clock.time());
+    let mark = mark_of(event, drawing.scale.is_dense());
     let (class, shape) = (mark.class, mark.shape);
-    write!(
-        text,
-        "<path class=\"{class}\" d=\"M{x} {y}{shape}\"><title>{clock} goroutine {number} "
-    )
+    write!(text, "<path class=\"{class}\" d=\"M{x} {y}{shape}\">")
 }
 
-/// The title of an event's mark, which is shown where a pointer rests on it, and the end of the mark.
-fn push_title(alloc: Global, text: &mut String, event: &Event) -> Result<(), AllocError> {
-    let label = event_label(alloc, event)?;
+/// The title of an event's mark, which is shown when a pointer rests on it, and the end of the mark.
+fn push_title(
+    text: &mut String,
+    drawing: &Drawing,
+    index: usize,
+    event: &Event,
+) -> Result<(), AllocError> {
+    let (clock, goroutine) = (event.clock.time(), event.number);
+    let number = drawing.recording.event_number(index);
+    write!(
+        text,
+        "<title>event {number}, clock {clock}: goroutine {goroutine} "
+    )?;
+    let label = event_label(drawing.alloc, drawing.recording, event)?;
     push_escaped(text, label.as_str())?;
     text.push_str("</title></path>\n")
 }
 
-/// The axis under the last lane, which lies at this height, with the clocks of some events.
-fn push_axis(text: &mut String, lowest: u64, scale: &Scale) -> Result<(), AllocError> {
-    let y = lowest.saturating_add(24);
+/// An axis at this height, with the clocks of some events.
+fn push_axis(text: &mut String, y: u64, scale: &Scale) -> Result<(), AllocError> {
     push_line(text, "axis", (LEFT, y), (scale.right(), y))?;
-    push_tick(text, 0, LEFT, y)?;
+    let base = y.saturating_add(4);
+    write!(
+        text,
+        "<text class=\"small\" x=\"12\" y=\"{base}\">logical time</text>\n"
+    )?;
+    push_tick(text, scale.origin, LEFT, y)?;
     push_ticks(text, y, scale)
 }
 
-/// The clocks of events on the axis, of those that lie too near to each other the first.
+/// The clocks of events on an axis, of those that lie too near to each other the first.
 fn push_ticks(text: &mut String, y: u64, scale: &Scale) -> Result<(), AllocError> {
     let mut free = LEFT.saturating_add(TICKS);
     for stop in scale.stops.iter() {
@@ -227,7 +188,7 @@ fn push_ticks(text: &mut String, y: u64, scale: &Scale) -> Result<(), AllocError
     Ok(())
 }
 
-/// A clock on the axis.
+/// A clock on an axis.
 fn push_tick(text: &mut String, clock: u64, x: u64, y: u64) -> Result<(), AllocError> {
     let (end, base) = (y.saturating_add(4), y.saturating_add(15));
     write!(
@@ -236,18 +197,33 @@ fn push_tick(text: &mut String, clock: u64, x: u64, y: u64) -> Result<(), AllocE
     )
 }
 
-/// How the run ended, and the end of the picture.
-fn push_foot(
-    alloc: Global,
+/// The edges at which the run was cut, and what is not shown there.
+fn push_edges(text: &mut String, drawing: &Drawing) -> Result<(), AllocError> {
+    let right = drawing.scale.right();
+    let before = drawing.recording.before;
+    if before > 0 {
+        let note = format!(in drawing.alloc; "{before} events before this one")?;
+        push_edge(text, drawing, LEFT, "start", note.as_str())?;
+    }
+    match drawing.recording.end {
+        None => push_edge(text, drawing, right, "end", "cut here: the run goes on"),
+        Some(_) => Ok(()),
+    }
+}
+
+/// An edge, and a note above it that begins or ends there.
+fn push_edge(
     text: &mut String,
-    recording: &Recording,
-    lowest: u64,
+    drawing: &Drawing,
+    x: u64,
+    anchor: &str,
+    note: &str,
 ) -> Result<(), AllocError> {
-    let (axis, under) = (lowest.saturating_add(28), lowest.saturating_add(62));
-    let count = count_label(alloc, recording.events.len())?;
-    let ends = end_label(alloc, recording.end)?;
+    let (top, bottom) = (height(0).saturating_sub(36), lowest(drawing));
+    let base = top.saturating_sub(4);
+    push_line(text, "cut", (x, top), (x, bottom))?;
     write!(
         text,
-        "<text class=\"small\" x=\"12\" y=\"{axis}\">logical time</text>\n<text x=\"12\" y=\"{under}\">{count}, {ends}</text>\n</svg>\n"
+        "<text class=\"note\" x=\"{x}\" y=\"{base}\" text-anchor=\"{anchor}\">{note}</text>\n"
     )
 }

@@ -22,7 +22,7 @@ pub enum Format {
 }
 
 impl Format {
-    /// The form of the picture in the file of this path: JSON where it ends in `.json`, else a drawing.
+    /// The form of the picture in the file of this path: JSON if it ends in `.json`, else a drawing.
     pub fn of(path: Option<&str>) -> Format {
         match path {
             Some(path) if path.ends_with(".json") => Format::TraceEvents,
@@ -42,7 +42,7 @@ impl Format {
     ///
     /// # Errors
     ///
-    /// `Memory` where memory is refused.
+    /// `Memory` if memory is refused.
     pub fn picture(self, alloc: Global, recording: &Recording) -> Result<String, Memory> {
         match self {
             Format::Drawing => draw(alloc, recording),

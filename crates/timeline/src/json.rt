@@ -1,11 +1,12 @@
 //! The picture of a run as JSON in the trace event format, which viewers of traces open.
 
 use crate::label::{count_label, end_label, event_label};
-use crate::lanes::{Arrow, Lane, Lanes, Passes};
+use crate::lanes::{Arrow, Asleep, Lane, Lanes, Passes, Sleep};
 use crate::recording::Recording;
 use crate::writing::push_quoted;
 use go_text::Memory;
 use std::alloc::{AllocError, Global};
+use word::end::End;
 use word::request::Event;
 
 /// The picture of a run in the trace event format: a thread for each goroutine, with a slice for its life and one for each sleep,
@@ -13,7 +14,7 @@ use word::request::Event;
 ///
 /// # Errors
 ///
-/// `Memory` where memory is refused.
+/// `Memory` if memory is refused.
 pub(crate) fn trace_events(alloc: Global, recording: &Recording) -> Result<String, Memory> {
     let lanes = Lanes::of(alloc, recording)?;
     let mut text = String::new(alloc);
@@ -29,32 +30,23 @@ fn push_all(
     lanes: &Lanes,
 ) -> Result<(), AllocError> {
     text.push_str("{\"traceEvents\":[\n")?;
-    push_lanes(text, recording, lanes.lanes.as_slice())?;
-    push_events(alloc, text, recording.events.as_slice())?;
-    push_flows(text, lanes.arrows.as_slice())?;
+    for lane in lanes.lanes.iter() {
+        push_lane(text, recording, lane)?;
+        push_last_sleep(alloc, text, recording, lane, lanes.last)?;
+    }
+    for (index, event) in recording.events.iter().enumerate() {
+        push_event(alloc, text, recording, index, event)?;
+    }
+    push_flows(text, lanes)?;
     push_end(alloc, text, recording, lanes.last)
 }
 
-/// The threads.
-fn push_lanes(text: &mut String, recording: &Recording, lanes: &[Lane]) -> Result<(), AllocError> {
-    for lane in lanes {
-        push_lane(text, recording, lane)?;
-    }
-    Ok(())
-}
-
-/// The instants.
-fn push_events(alloc: Global, text: &mut String, events: &[Event]) -> Result<(), AllocError> {
-    for event in events {
-        push_event(alloc, text, event)?;
-    }
-    Ok(())
-}
-
-/// The flows.
-fn push_flows(text: &mut String, arrows: &[Arrow]) -> Result<(), AllocError> {
-    for (flow, arrow) in arrows.iter().enumerate() {
-        push_flow(text, flow, *arrow)?;
+/// The flows between goroutines that have threads.
+fn push_flows(text: &mut String, lanes: &Lanes) -> Result<(), AllocError> {
+    for (flow, arrow) in lanes.arrows.iter().enumerate() {
+        if lanes.row(arrow.from).is_some() {
+            push_flow(text, flow, *arrow)?;
+        }
     }
     Ok(())
 }
@@ -67,11 +59,43 @@ fn push_lane(text: &mut String, recording: &Recording, lane: &Lane) -> Result<()
         text,
         "{{\"ph\":\"M\",\"pid\":1,\"tid\":{number},\"ts\":0,\"name\":\"thread_name\",\"args\":{{\"name\":\"{number} {name}\"}}}},\n"
     )?;
-    push_slice(text, number, name, lane.from, lane.to)?;
+    let life = Sleep {
+        from: lane.from,
+        to: lane.to,
+    };
+    push_slice(text, number, name, life)?;
     for sleep in lane.sleeps.iter() {
-        push_slice(text, number, "asleep", sleep.from, sleep.to)?;
+        push_slice(text, number, "asleep", *sleep)?;
     }
     Ok(())
+}
+
+/// The slice of a sleep that goes on, up to the last clock.
+fn push_last_sleep(
+    alloc: Global,
+    text: &mut String,
+    recording: &Recording,
+    lane: &Lane,
+    last: u64,
+) -> Result<(), AllocError> {
+    let Some(asleep) = &lane.asleep else {
+        return Ok(());
+    };
+    let sleep = Sleep {
+        from: asleep.since,
+        to: last,
+    };
+    let name = sleep_name(alloc, recording.end, asleep)?;
+    push_slice(text, lane.number, name.as_str(), sleep)
+}
+
+/// The name of a sleep that goes on: at a deadlock what its goroutine waits for.
+fn sleep_name(alloc: Global, end: Option<End>, asleep: &Asleep) -> Result<String, AllocError> {
+    if matches!(end, Some(End::Deadlock)) {
+        let waits = asleep.wait.label(alloc)?;
+        return format!(in alloc; "deadlock: {waits}");
+    }
+    String::from_str(alloc, "asleep")
 }
 
 /// A slice of a thread.
@@ -79,57 +103,65 @@ fn push_slice(
     text: &mut String,
     number: u64,
     name: &str,
-    from: u64,
-    to: u64,
+    span: Sleep,
 ) -> Result<(), AllocError> {
-    let length = to.saturating_sub(from);
+    let (from, length) = (span.from, span.to.saturating_sub(span.from));
     write!(
         text,
         "{{\"ph\":\"X\",\"pid\":1,\"tid\":{number},\"ts\":{from},\"dur\":{length},\"name\":\"{name}\"}},\n"
     )
 }
 
-/// An instant of a thread.
-fn push_event(alloc: Global, text: &mut String, event: &Event) -> Result<(), AllocError> {
+/// An instant of a thread: what the event is, and its number.
+fn push_event(
+    alloc: Global,
+    text: &mut String,
+    recording: &Recording,
+    index: usize,
+    event: &Event,
+) -> Result<(), AllocError> {
     let (clock, number) = (event.clock.time(), event.number);
     write!(
         text,
         "{{\"ph\":\"i\",\"s\":\"t\",\"pid\":1,\"tid\":{number},\"ts\":{clock},\"name\":\""
     )?;
-    push_label(alloc, text, event)?;
-    text.push_str("\"},\n")
-}
-
-/// What an event is.
-fn push_label(alloc: Global, text: &mut String, event: &Event) -> Result<(), AllocError> {
-    let label = event_label(alloc, event)?;
-    push_quoted(text, label.as_str())
+    let label = event_label(alloc, recording, event)?;
+    push_quoted(text, label.as_str())?;
+    let count = recording.event_number(index);
+    write!(
+        text,
+        "\",\"args\":{{\"event\":{count},\"goroutine\":{number}}}}},\n"
+    )
 }
 
 /// A flow from one thread to another.
 fn push_flow(text: &mut String, flow: usize, arrow: Arrow) -> Result<(), AllocError> {
-    let passes = arrow.passes;
-    push_flow_end(text, "s", flow, passes, arrow.from, arrow.leaves)?;
-    push_flow_end(text, "f", flow, passes, arrow.to, arrow.reaches)
+    push_flow_end(text, "s", flow, arrow.passes, (arrow.from, arrow.leaves))?;
+    push_flow_end(text, "f", flow, arrow.passes, (arrow.to, arrow.reaches))
 }
 
-/// One of the two ends of a flow.
+/// One of the two ends of a flow, at the thread of this number and at this clock.
 fn push_flow_end(
     text: &mut String,
     phase: &str,
     flow: usize,
     passes: Passes,
-    number: u64,
-    clock: u64,
+    (number, clock): (u64, u64),
 ) -> Result<(), AllocError> {
-    let name = passes.name();
     write!(
         text,
-        "{{\"ph\":\"{phase}\",\"bp\":\"e\",\"pid\":1,\"tid\":{number},\"ts\":{clock},\"id\":{flow},\"cat\":\"goroutines\",\"name\":\"{name}\"}},\n"
-    )
+        "{{\"ph\":\"{phase}\",\"bp\":\"e\",\"pid\":1,\"tid\":{number},\"ts\":{clock},\"id\":{flow},\"cat\":\"goroutines\",\"name\":\""
+    )?;
+    match passes {
+        Passes::Item(channel) => write!(text, "item of channel {channel}\"}},\n"),
+        _ => {
+            let name = passes.name();
+            write!(text, "{name}\"}},\n")
+        }
+    }
 }
 
-/// How the run ended, and the name of the whole, behind which nothing stands.
+/// How the run ended, and the name of the whole, after which nothing stands.
 fn push_end(
     alloc: Global,
     text: &mut String,
@@ -137,7 +169,7 @@ fn push_end(
     last: u64,
 ) -> Result<(), AllocError> {
     let ends = end_label(alloc, recording.end)?;
-    let count = count_label(alloc, recording.events.len())?;
+    let count = count_label(alloc, recording)?;
     write!(
         text,
         "{{\"ph\":\"i\",\"s\":\"g\",\"pid\":1,\"tid\":1,\"ts\":{last},\"name\":\"{ends}\"}},\n"

@@ -1,84 +1,175 @@
 //! What an event is, in words.
 
+use crate::moves::channel_of;
+use crate::recording::Recording;
+use crate::waits::{clause_of, label_of};
 use std::alloc::{AllocError, Global};
 use std::str;
 use word::end::End;
 use word::panic::Panic;
-use word::request::{Event, EventOutcome, Reply, Request};
+use word::request::{Case, Event, EventOutcome, Reply, Request};
+use word::value::Word;
 
 /// How many bytes of a print are shown at most: of a longer one only the number of its bytes.
 const SHOWN: usize = 80;
 
-/// What an event is, as `sends to channel 3`, and `, sleeps` where its goroutine fell asleep.
-pub(crate) fn event_label(alloc: Global, event: &Event) -> Result<String, AllocError> {
-    let what = request_label(alloc, &event.request)?;
+/// What an event is, as `sends to channel 3, wakes goroutine 2`, and `, sleeps` if its goroutine fell asleep.
+pub(crate) fn event_label(
+    alloc: Global,
+    recording: &Recording,
+    event: &Event,
+) -> Result<String, AllocError> {
+    let mut label = String::new(alloc);
+    push_request(&mut label, recording, event)?;
     match &event.outcome {
-        EventOutcome::Done(reply) => reply_label(alloc, what, reply),
-        EventOutcome::Sleeps => format!(in alloc; "{what}, sleeps"),
+        EventOutcome::Done(reply) => push_reply(&mut label, event, reply)?,
+        EventOutcome::Sleeps => label.push_str(", sleeps")?,
         EventOutcome::Panics(cause, _) => {
             let why = panic_label(*cause);
-            format!(in alloc; "{what}, panics: {why}")
+            write!(label, ", panics: {why}")?;
         }
+    }
+    Ok(label)
+}
+
+/// The request of an event's actor.
+fn push_request(
+    label: &mut String,
+    recording: &Recording,
+    event: &Event,
+) -> Result<(), AllocError> {
+    match &event.request {
+        Request::Make(size, _) => push_made(label, *size, event),
+        Request::Go(function, _) => push_started(label, recording.function(*function), event),
+        Request::Send(channel, _) => push_on(label, "sends to", *channel),
+        Request::Receive(channel) => push_on(label, "receives from", *channel),
+        Request::Close(channel) => push_on(label, "closes", *channel),
+        Request::Select(cases, _) => push_select(label, cases.as_slice(), event),
+        Request::Len(channel) => push_on(label, "reads len of", *channel),
+        Request::Cap(channel) => push_on(label, "reads cap of", *channel),
+        Request::Print(bytes) => push_print(label, bytes.as_slice()),
+        Request::End => label.push_str("ends"),
+        Request::Exit => label.push_str("ends the program"),
+        Request::Panic(_) => label.push_str("computes"),
+        Request::Exhausted => label.push_str("reaches the limit of logical time"),
     }
 }
 
-/// What was asked, and what the reply adds to it.
-fn reply_label(alloc: Global, what: String, reply: &Reply) -> Result<String, AllocError> {
-    match reply {
-        Reply::Received(_, false) | Reply::Clause(_, Some((_, false))) => {
-            format!(in alloc; "{what}, which is closed")
+/// A channel is made: its number, and its size.
+fn push_made(label: &mut String, size: i64, event: &Event) -> Result<(), AllocError> {
+    match &event.outcome {
+        EventOutcome::Done(Reply::Word(Word::Chan(Some(number)))) => {
+            write!(label, "makes channel {number} of size {size}")
         }
-        Reply::Default => format!(in alloc; "{what}, default"),
-        Reply::Clause(number, _) => format!(in alloc; "{what}, clause {number}"),
-        _ => Ok(what),
+        _ => write!(label, "makes a channel of size {size}"),
     }
 }
 
-/// What an event's actor asks.
-fn request_label(alloc: Global, request: &Request) -> Result<String, AllocError> {
-    match request {
-        Request::Make(size, _) => format!(in alloc; "makes a channel of size {size}"),
-        Request::Go(..) => String::from_str(alloc, "starts a goroutine"),
-        Request::Send(channel, _) => on_channel(alloc, "sends to", *channel),
-        Request::Receive(channel) => on_channel(alloc, "receives from", *channel),
-        Request::Close(channel) => on_channel(alloc, "closes", *channel),
-        Request::Select(cases, _) => {
-            let count = cases.len();
-            format!(in alloc; "select of {count} clauses")
-        }
-        Request::Len(channel) => on_channel(alloc, "len of", *channel),
-        Request::Cap(channel) => on_channel(alloc, "cap of", *channel),
-        Request::Print(bytes) => print_label(alloc, bytes.as_slice()),
-        Request::End => String::from_str(alloc, "ends"),
-        Request::Exit => String::from_str(alloc, "ends the program"),
-        Request::Panic(_) => String::from_str(alloc, "computes"),
-        Request::Exhausted => String::from_str(alloc, "reaches the limit"),
-    }
-}
-
-/// What a print writes, or how much where it is long.
-fn print_label(alloc: Global, bytes: &[u8]) -> Result<String, AllocError> {
-    let count = bytes.len();
-    match str::from_utf8(bytes) {
-        Ok(text) if count <= SHOWN => format!(in alloc; "prints {text}"),
-        _ => format!(in alloc; "prints {count} bytes"),
+/// A goroutine is started: its number, and its first function.
+fn push_started(label: &mut String, function: &str, event: &Event) -> Result<(), AllocError> {
+    match event.partners.first() {
+        Some(number) => write!(label, "starts goroutine {number} ({function})"),
+        None => write!(label, "starts a goroutine ({function})"),
     }
 }
 
 /// What is done with a channel.
-fn on_channel(alloc: Global, what: &str, channel: Option<u32>) -> Result<String, AllocError> {
+fn push_on(label: &mut String, what: &str, channel: Option<u32>) -> Result<(), AllocError> {
     match channel {
-        Some(number) => format!(in alloc; "{what} channel {number}"),
-        None => format!(in alloc; "{what} a nil channel"),
+        Some(number) => write!(label, "{what} channel {number}"),
+        None => write!(label, "{what} a nil channel"),
     }
 }
 
-/// How many events there are.
-pub(crate) fn count_label(alloc: Global, count: usize) -> Result<String, AllocError> {
-    if count == 1 {
-        return String::from_str(alloc, "1 event");
+/// A select: the clause that it did with its channel, or what it waits for.
+fn push_select(label: &mut String, cases: &[Case], event: &Event) -> Result<(), AllocError> {
+    let count = cases.len();
+    write!(label, "select of {count} clauses")?;
+    match &event.outcome {
+        EventOutcome::Done(Reply::Default) => label.push_str(", default"),
+        EventOutcome::Done(Reply::Clause(number, received)) => {
+            let what = match received {
+                Some(_) => "receives from",
+                None => "sends to",
+            };
+            write!(label, ", clause {number}: ")?;
+            push_on(label, what, channel_of(cases, *number))
+        }
+        EventOutcome::Sleeps => push_clauses(label, cases),
+        _ => Ok(()),
     }
-    format!(in alloc; "{count} events")
+}
+
+/// The clauses of a select that waits, if they are few.
+fn push_clauses(label: &mut String, cases: &[Case]) -> Result<(), AllocError> {
+    for (index, case) in cases.iter().take(4).enumerate() {
+        let before = if index == 0 { ": " } else { ", " };
+        label.push_str(before)?;
+        let clause = clause_of(case);
+        push_on(label, label_of(clause), clause.channel)?;
+    }
+    if cases.len() > 4 {
+        label.push_str(", ..")?;
+    }
+    Ok(())
+}
+
+/// What a print writes, or how much if it is long.
+fn push_print(label: &mut String, bytes: &[u8]) -> Result<(), AllocError> {
+    let count = bytes.len();
+    match str::from_utf8(bytes) {
+        Ok(text) if count <= SHOWN => write!(label, "prints {text}"),
+        _ => write!(label, "prints {count} bytes"),
+    }
+}
+
+/// What a reply adds, and the goroutines that were woken.
+fn push_reply(label: &mut String, event: &Event, reply: &Reply) -> Result<(), AllocError> {
+    match reply {
+        Reply::Received(_, false) | Reply::Clause(_, Some((_, false))) => {
+            label.push_str(", which is closed")?;
+        }
+        Reply::Word(Word::Int(value)) => write!(label, ": {value}")?,
+        _ => {}
+    }
+    match &event.request {
+        Request::Go(..) => Ok(()),
+        _ => push_woken(label, event.partners.as_slice()),
+    }
+}
+
+/// The goroutine that an event woke, or how many.
+fn push_woken(label: &mut String, partners: &[u64]) -> Result<(), AllocError> {
+    match partners {
+        [] => Ok(()),
+        [number] => write!(label, ", wakes goroutine {number}"),
+        _ => {
+            let count = partners.len();
+            write!(label, ", wakes {count} goroutines")
+        }
+    }
+}
+
+/// Which events of the run a picture shows.
+pub(crate) fn count_label(alloc: Global, recording: &Recording) -> Result<String, AllocError> {
+    let (count, before, after) = (
+        recording.events.len(),
+        recording.before,
+        recording.after(),
+    );
+    match (recording.end, count) {
+        (_, 0) if before > 0 => format!(in alloc; "no events: the run has {before}"),
+        (Some(_), 1) if before == 0 => String::from_str(alloc, "1 event"),
+        (Some(_), _) if before == 0 => format!(in alloc; "{count} events"),
+        (Some(_), _) => {
+            let first = recording.event_number(0);
+            format!(in alloc; "events {first} to {after} of {after}")
+        }
+        (None, _) => {
+            let first = recording.event_number(0);
+            format!(in alloc; "events {first} to {after}")
+        }
+    }
 }
 
 /// How a run ended, or that there is more of it.

@@ -2,6 +2,7 @@
 
 use crate::moves::{Items, Move, Sent, move_of};
 use crate::recording::Recording;
+use crate::waits::{Wait, wait_of};
 use go_text::Memory;
 use std::alloc::Global;
 use word::request::{Event, EventOutcome, Request};
@@ -15,17 +16,53 @@ pub(crate) struct Lane {
     pub function: Option<u32>,
     /// The clock at which it begins.
     pub from: u64,
-    /// The clock behind its last event, or at which it was woken last.
+    /// The clock after its last event, or at which it was woken last.
     pub to: u64,
-    /// Since when it sleeps, where it does.
-    pub asleep: Option<u64>,
-    /// Where it slept.
+    /// Since when it sleeps, and what it waits for; none if it is awake.
+    pub asleep: Option<Asleep>,
+    /// When it slept before.
     pub sleeps: Vec<Sleep>,
     /// Whether it has ended.
     pub ended: bool,
 }
 
-/// A span of sleep.
+impl Lane {
+    /// The lane of a goroutine that begins at this clock.
+    fn new(alloc: Global, number: u64, function: Option<u32>, clock: u64) -> Lane {
+        Lane {
+            number,
+            function,
+            from: clock,
+            to: clock,
+            asleep: None,
+            sleeps: Vec::new(alloc),
+            ended: false,
+        }
+    }
+
+    /// The lane of the same goroutine in a picture that begins at this clock.
+    fn later(&self, alloc: Global, clock: u64) -> Result<Lane, Memory> {
+        let mut lane = Lane::new(alloc, self.number, self.function, clock);
+        if let Some(asleep) = &self.asleep {
+            lane.asleep = Some(Asleep {
+                since: clock.max(asleep.since),
+                wait: asleep.wait.copied(alloc)?,
+            });
+        }
+        Ok(lane)
+    }
+}
+
+/// A sleep that goes on.
+#[derive(Drop)]
+pub(crate) struct Asleep {
+    /// The clock at which the goroutine fell asleep.
+    pub since: u64,
+    /// What it waits for.
+    pub wait: Wait,
+}
+
+/// A span of sleep, from clock to clock.
 #[derive(Clone, Copy)]
 pub(crate) struct Sleep {
     pub from: u64,
@@ -35,8 +72,8 @@ pub(crate) struct Sleep {
 /// What goes from one goroutine to another.
 #[derive(Clone, Copy)]
 pub(crate) enum Passes {
-    /// An item of a channel.
-    Item,
+    /// An item of the channel of this number.
+    Item(u32),
     /// The news that a channel is closed.
     Close,
     /// The goroutine was started.
@@ -47,7 +84,7 @@ impl Passes {
     /// Its name, which is that of its class in a drawing.
     pub(crate) fn name(self) -> &'static str {
         match self {
-            Passes::Item => "item",
+            Passes::Item(_) => "item",
             Passes::Close => "close",
             Passes::Start => "start",
         }
@@ -66,64 +103,91 @@ pub(crate) struct Arrow {
     pub reaches: u64,
 }
 
-/// A run as lanes and arrows.
+/// A run as lanes and arrows, up to some event.
 #[derive(Drop)]
-pub(crate) struct Lanes {
+pub struct Lanes {
     alloc: Global,
-    /// In the order in which the goroutines were started.
-    pub lanes: Vec<Lane>,
-    pub arrows: Vec<Arrow>,
+    /// In the order in which the goroutines were started. The number of each is greater than that of the one before it.
+    pub(crate) lanes: Vec<Lane>,
+    pub(crate) arrows: Vec<Arrow>,
     /// The last clock at which something happens.
-    pub last: u64,
+    pub(crate) last: u64,
+    /// Whether sleeps, arrows and lanes that have ended are kept.
+    draws: bool,
     items: Items,
 }
 
 impl Lanes {
-    /// The lanes of a recording, and its arrows.
-    pub(crate) fn of(alloc: Global, recording: &Recording) -> Result<Lanes, Memory> {
-        let mut lanes = Lanes {
+    /// The lanes before the first event of a run: goroutine 1 is there, and no channel. What is past is not kept.
+    ///
+    /// # Errors
+    ///
+    /// `Memory` if memory is refused.
+    pub fn new(alloc: Global) -> Result<Lanes, Memory> {
+        let mut lanes = Lanes::empty(alloc);
+        lanes.begin(1, None, 0)?;
+        Ok(lanes)
+    }
+
+    /// No lanes.
+    fn empty(alloc: Global) -> Lanes {
+        Lanes {
             alloc,
             lanes: Vec::new(alloc),
             arrows: Vec::new(alloc),
             last: 0,
+            draws: false,
             items: Items::new(alloc),
-        };
-        lanes.take_all(recording.events.as_slice())?;
+        }
+    }
+
+    /// The lanes of a recording, and its arrows.
+    pub(crate) fn of(alloc: Global, recording: &Recording) -> Result<Lanes, Memory> {
+        let mut lanes = recording.past.later(recording.origin())?;
+        for event in recording.events.iter() {
+            lanes.take(event)?;
+        }
         Ok(lanes)
     }
 
-    /// What the events of a whole run do to the lanes, of which there are none yet.
-    fn take_all(&mut self, events: &[Event]) -> Result<(), Memory> {
-        self.begin(1, None, 0)?;
-        for event in events {
-            self.take(event)?;
+    /// The lanes of a picture that begins at this clock, after these.
+    fn later(&self, clock: u64) -> Result<Lanes, Memory> {
+        let mut later = Lanes::empty(self.alloc);
+        for lane in self.lanes.iter() {
+            later.lanes.push(lane.later(self.alloc, clock)?)?;
         }
-        self.close()
+        later.last = clock;
+        later.draws = true;
+        later.items = self.items.copied(clock)?;
+        Ok(later)
+    }
+
+    /// The index of the lane of the goroutine of this number, if it has one.
+    pub(crate) fn row(&self, number: u64) -> Option<usize> {
+        let lanes = self.lanes.as_slice();
+        lanes.binary_search_by_key(&number, |lane| lane.number).ok()
     }
 
     /// A goroutine begins.
     fn begin(&mut self, number: u64, function: Option<u32>, clock: u64) -> Result<(), Memory> {
-        self.lanes.push(Lane {
-            number,
-            function,
-            from: clock,
-            to: clock,
-            asleep: None,
-            sleeps: Vec::new(self.alloc),
-            ended: false,
-        })?;
+        self.lanes
+            .push(Lane::new(self.alloc, number, function, clock))?;
         Ok(())
     }
 
-    /// What an event does to the lanes. The ones it wakes or starts go on one later than its actor stood.
-    fn take(&mut self, event: &Event) -> Result<(), Memory> {
+    /// What an event does to the lanes. The goroutines that it wakes or starts go on one later than its actor stood.
+    ///
+    /// # Errors
+    ///
+    /// `Memory` if memory is refused.
+    pub fn take(&mut self, event: &Event) -> Result<(), Memory> {
         let here = Sent {
             by: event.number,
             at: event.clock.time(),
         };
         let later = here.at.saturating_add(1);
         self.last = self.last.max(later);
-        self.move_actor(event, here.at, later);
+        self.move_actor(event, here.at, later)?;
         let partners = event.partners.as_slice();
         match move_of(event) {
             Move::Nothing => Ok(()),
@@ -136,15 +200,26 @@ impl Lanes {
     }
 
     /// What an event does to the lane of its actor.
-    fn move_actor(&mut self, event: &Event, clock: u64, later: u64) {
-        if let Some(lane) = self.lanes.get_mut(place(event.number)) {
-            lane.to = later;
-            if matches!(&event.outcome, EventOutcome::Sleeps) {
-                lane.to = clock;
-                lane.asleep = Some(clock);
-            }
-            lane.ended = matches!(&event.request, Request::End | Request::Exit);
+    fn move_actor(&mut self, event: &Event, clock: u64, later: u64) -> Result<(), Memory> {
+        let Some(row) = self.row(event.number) else {
+            return Ok(());
+        };
+        let Some(lane) = self.lanes.get_mut(row) else {
+            return Ok(());
+        };
+        lane.to = later;
+        if matches!(&event.outcome, EventOutcome::Sleeps) {
+            lane.to = clock;
+            lane.asleep = Some(Asleep {
+                since: clock,
+                wait: wait_of(self.alloc, &event.request)?,
+            });
         }
+        lane.ended = matches!(&event.request, Request::End | Request::Exit);
+        if lane.ended && !self.draws {
+            drop(self.lanes.remove(row));
+        }
+        Ok(())
     }
 
     /// Goroutines are started that run the function of this number.
@@ -162,7 +237,7 @@ impl Lanes {
         Ok(())
     }
 
-    /// A channel is closed, which wakes those who wait at it.
+    /// A channel is closed, which wakes the goroutines that wait at it.
     fn tell_closed(&mut self, here: Sent, partners: &[u64], later: u64) -> Result<(), Memory> {
         for partner in partners.iter() {
             self.wake(*partner, later)?;
@@ -171,7 +246,7 @@ impl Lanes {
         Ok(())
     }
 
-    /// An item goes into a channel, and to who waits for it.
+    /// An item goes into a channel, and to the goroutine that waits for it.
     fn send(
         &mut self,
         here: Sent,
@@ -187,7 +262,7 @@ impl Lanes {
         Ok(())
     }
 
-    /// An item comes out of a channel, behind which comes that of who waits to send.
+    /// An item comes out of a channel, after which comes that of the goroutine that waits to send.
     fn receive(
         &mut self,
         here: Sent,
@@ -210,52 +285,45 @@ impl Lanes {
 
     /// The next item of a channel reaches this goroutine.
     fn pass(&mut self, channel: Option<u32>, to: u64, reaches: u64) -> Result<(), Memory> {
+        let Some(number) = channel else {
+            return Ok(());
+        };
         match self.items.take(channel) {
-            Some(sent) => self.point(Passes::Item, sent, to, reaches),
+            Some(sent) => self.point(Passes::Item(number), sent, to, reaches),
             None => Ok(()),
         }
     }
 
-    /// An arrow more.
+    /// One more arrow.
     fn point(&mut self, passes: Passes, from: Sent, to: u64, reaches: u64) -> Result<(), Memory> {
-        self.arrows.push(Arrow {
-            passes,
-            from: from.by,
-            leaves: from.at,
-            to,
-            reaches,
-        })?;
+        if self.draws {
+            self.arrows.push(Arrow {
+                passes,
+                from: from.by,
+                leaves: from.at,
+                to,
+                reaches,
+            })?;
+        }
         Ok(())
     }
 
-    /// A goroutine is woken; since when it slept, where it did.
+    /// A goroutine is woken; returns since when it slept, if it did.
     fn wake(&mut self, number: u64, clock: u64) -> Result<Option<u64>, Memory> {
-        let Some(lane) = self.lanes.get_mut(place(number)) else {
+        let Some(row) = self.row(number) else {
             return Ok(None);
         };
-        let since = lane.asleep;
-        if let Some(from) = since {
+        let Some(lane) = self.lanes.get_mut(row) else {
+            return Ok(None);
+        };
+        let Some(asleep) = lane.asleep.take() else {
+            return Ok(None);
+        };
+        let from = asleep.since;
+        if self.draws {
             lane.sleeps.push(Sleep { from, to: clock })?;
         }
-        lane.asleep = None;
         lane.to = clock;
-        Ok(since)
+        Ok(Some(from))
     }
-
-    /// Those who sleep still sleep up to the last clock.
-    fn close(&mut self) -> Result<(), Memory> {
-        let last = self.last;
-        for lane in self.lanes.iter_mut() {
-            if let Some(from) = lane.asleep {
-                lane.sleeps.push(Sleep { from, to: last })?;
-                lane.to = last;
-            }
-        }
-        Ok(())
-    }
-}
-
-/// The place of a goroutine in the list of all, which are numbered from 1 in the order in which they begin.
-fn place(number: u64) -> usize {
-    number.saturating_sub(1) as usize
 }

@@ -10,7 +10,7 @@ use word::request::{Case, Event, EventOutcome, Reply, Request};
 pub(crate) enum Move {
     /// Nothing.
     Nothing,
-    /// There is a channel more.
+    /// There is one more channel.
     Channel,
     /// A goroutine was started, which runs the function of this number.
     Start(u32),
@@ -30,7 +30,7 @@ pub(crate) fn move_of(event: &Event) -> Move {
     }
 }
 
-/// What a request moves that was done, and had this reply.
+/// What a request that was done with this reply moves.
 fn done(request: &Request, reply: &Reply) -> Move {
     match request {
         Request::Make(..) => Move::Channel,
@@ -43,7 +43,7 @@ fn done(request: &Request, reply: &Reply) -> Move {
     }
 }
 
-/// What a receive moves: nothing where the channel is closed and empty.
+/// What a receive moves: nothing if the channel is closed and empty.
 fn received(channel: Option<u32>, reply: &Reply) -> Move {
     match reply {
         Reply::Received(_, true) => Move::Receive(channel),
@@ -61,14 +61,14 @@ fn selected(cases: &[Case], reply: &Reply) -> Move {
 }
 
 /// The channel of the clause of this number, counted from 1.
-fn channel_of(cases: &[Case], number: usize) -> Option<u32> {
+pub(crate) fn channel_of(cases: &[Case], number: usize) -> Option<u32> {
     match cases.get(number.saturating_sub(1)) {
         Some(case) => case.chan,
         None => None,
     }
 }
 
-/// An item on its way: who sent it, and the clock there.
+/// An item on its way: the goroutine that sent it, and the clock there.
 #[derive(Clone, Copy)]
 pub(crate) struct Sent {
     pub by: u64,
@@ -91,7 +91,16 @@ impl Items {
         }
     }
 
-    /// There is a channel more, with nothing in it.
+    /// The same items, for a picture that begins at this clock.
+    pub(crate) fn copied(&self, clock: u64) -> Result<Items, Memory> {
+        let mut copy = Items::new(self.alloc);
+        for items in self.channels.iter() {
+            copy.channels.push(moved(self.alloc, items, clock)?)?;
+        }
+        Ok(copy)
+    }
+
+    /// There is one more channel, with nothing in it.
     pub(crate) fn add_channel(&mut self) -> Result<(), Memory> {
         self.channels.push(VecDeque::new(self.alloc))?;
         Ok(())
@@ -99,23 +108,35 @@ impl Items {
 
     /// An item goes into a channel.
     pub(crate) fn put(&mut self, channel: Option<u32>, sent: Sent) -> Result<(), Memory> {
-        if let Some(items) = self.channels.get_mut(place(channel)) {
+        if let Some(items) = self.channels.get_mut(index_of(channel)) {
             items.push_back(sent)?;
         }
         Ok(())
     }
 
-    /// The item that comes out of a channel, where there is one.
+    /// The item that comes out of a channel, if there is one.
     pub(crate) fn take(&mut self, channel: Option<u32>) -> Option<Sent> {
-        match self.channels.get_mut(place(channel)) {
+        match self.channels.get_mut(index_of(channel)) {
             Some(items) => items.pop_front(),
             None => None,
         }
     }
 }
 
-/// The place of a channel in the list of all; of `nil` one behind them.
-fn place(channel: Option<u32>) -> usize {
+/// The items of a channel, none sent before this clock.
+fn moved(alloc: Global, items: &VecDeque<Sent>, clock: u64) -> Result<VecDeque<Sent>, Memory> {
+    let mut copy = VecDeque::new(alloc);
+    for sent in items.iter() {
+        copy.push_back(Sent {
+            by: sent.by,
+            at: sent.at.max(clock),
+        })?;
+    }
+    Ok(copy)
+}
+
+/// The index of a channel in the list of all; of `nil` one after them.
+fn index_of(channel: Option<u32>) -> usize {
     match channel {
         Some(number) => (number as usize).saturating_sub(1),
         None => usize::MAX,

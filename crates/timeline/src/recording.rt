@@ -1,15 +1,20 @@
 //! What a picture shows.
 
+use crate::lanes::Lanes;
 use word::end::End;
 use word::request::Event;
 
-/// The first events of a run.
+/// Events of a run that follow each other, and what there was before them.
 pub struct Recording {
     /// The names of the functions, each at its number.
     pub functions: Vec<String>,
+    /// How many events the run had before these.
+    pub before: u64,
+    /// The goroutines and the channels that there were after those events.
+    pub past: Lanes,
     /// In the order in which they were performed.
     pub events: Vec<Event>,
-    /// How the run ended, where these are all of its events; none where it was cut.
+    /// How the run ended, if it had no more events; none if it goes on.
     pub end: Option<End>,
 }
 
@@ -17,16 +22,19 @@ impl Drop for Recording {
     fn drop(self) {
         let Recording {
             functions,
+            before: _,
+            past,
             events,
             end: _,
         } = self;
         drop(functions);
+        drop(past);
         drop(events);
     }
 }
 
 impl Recording {
-    /// The name of the function that a goroutine begins with: `main` for goroutine 1, of which no number is told.
+    /// The name of the function that a goroutine begins with: `main` for goroutine 1, which has no `number` here.
     pub(crate) fn first_function(&self, number: Option<u32>) -> &str {
         match number {
             Some(number) => self.function(number),
@@ -34,11 +42,29 @@ impl Recording {
         }
     }
 
-    /// The name of the function of this number, or nothing where it is not known.
-    fn function(&self, number: u32) -> &str {
+    /// The name of the function of this number, or nothing if it is not known.
+    pub(crate) fn function(&self, number: u32) -> &str {
         match self.functions.get(number as usize) {
             Some(name) => name.as_str(),
             None => "",
+        }
+    }
+
+    /// The number of the event at this index, counted from 1 over the whole run.
+    pub(crate) fn event_number(&self, index: usize) -> u64 {
+        self.before.saturating_add(index as u64).saturating_add(1)
+    }
+
+    /// How many events the run has had after the last of these.
+    pub(crate) fn after(&self) -> u64 {
+        self.before.saturating_add(self.events.len() as u64)
+    }
+
+    /// The clock of the first event, 0 if there is none or it is the first of the run.
+    pub(crate) fn origin(&self) -> u64 {
+        match self.events.first() {
+            Some(event) if self.before > 0 => event.clock.time(),
+            _ => 0,
         }
     }
 }

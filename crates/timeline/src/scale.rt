@@ -4,16 +4,23 @@ use crate::recording::Recording;
 use go_text::Memory;
 use std::alloc::Global;
 
-/// How wide a unit of time is where there is room for it, and how wide all lanes are at most, in pixels.
+/// How wide a unit of time is if there is room for it, and how wide all units are at most, in pixels.
 const UNIT: u64 = 14;
 
-const MOST: u64 = 24_000;
+const MOST: u64 = 3_280;
 
-/// How many units of time are drawn at most between two events that follow each other: of a longer time no more is drawn.
-const LONGEST: u64 = 8;
+/// How many units of time are drawn at most between two events that follow each other, from the most generous to the least: the
+/// first of these with which the picture is no wider than `MOST` is taken, or the last.
+const LONGEST: [u64; 4] = [8, 4, 2, 1];
 
 /// How many units are drawn at least.
-const LEAST: u64 = 40;
+const LEAST: u64 = 44;
+
+/// How wide a screen is, after which a gutter comes for the names of the lanes, in pixels.
+const SCREEN: u64 = 1_200;
+
+/// How wide a gutter is, in pixels.
+pub(crate) const GUTTER: u64 = 120;
 
 /// A clock at which something happens, and how many units lie before it.
 #[derive(Clone, Copy)]
@@ -27,58 +34,125 @@ pub(crate) struct Stop {
 pub(crate) struct Scale {
     /// The clocks of the events, each later than the one before it.
     pub stops: Vec<Stop>,
-    /// The room left of clock 0, in pixels.
+    /// The clock at the left edge.
+    pub origin: u64,
+    /// The pixels left of `origin`.
     left: u64,
+    /// How many units are drawn at most between two stops.
+    longest: u64,
     /// How many units are drawn.
     units: u64,
 }
 
 impl Scale {
-    /// The scale of a recording, with this room left of clock 0.
+    /// The scale of a recording, with this many pixels left of its first clock.
     pub(crate) fn of(alloc: Global, recording: &Recording, left: u64) -> Result<Scale, Memory> {
+        let mut scale = Scale::cut_at(alloc, recording, left, 1)?;
+        for longest in LONGEST.iter().rev() {
+            let wider = Scale::cut_at(alloc, recording, left, *longest)?;
+            if wider.units <= MOST / UNIT {
+                scale = wider;
+            }
+        }
+        Ok(scale)
+    }
+
+    /// The scale of a recording that draws at most `longest` units between two events.
+    fn cut_at(
+        alloc: Global,
+        recording: &Recording,
+        left: u64,
+        longest: u64,
+    ) -> Result<Scale, Memory> {
+        let origin = recording.origin();
+        let mut last = Stop {
+            clock: origin,
+            units: 0,
+        };
         let mut stops = Vec::new(alloc);
-        let mut last = Stop { clock: 0, units: 0 };
         for event in recording.events.iter() {
             let clock = event.clock.time();
             if clock > last.clock {
                 last = Stop {
                     clock,
-                    units: behind(last, clock),
+                    units: units_at(last, clock, longest),
                 };
                 stops.push(last)?;
             }
         }
-        let units = last.units.saturating_add(2).max(LEAST);
-        Ok(Scale { stops, left, units })
+        Ok(Scale {
+            stops,
+            origin,
+            left,
+            longest,
+            units: last.units.saturating_add(2).max(LEAST),
+        })
     }
 
-    /// Where a clock lies, from the left, in pixels.
+    /// How far a clock lies from the left, in pixels.
     pub(crate) fn place(&self, clock: u64) -> u64 {
-        let mut units = clock.min(LONGEST);
-        for stop in self.stops.iter() {
-            if stop.clock <= clock {
-                units = behind(*stop, clock);
-            }
-        }
-        self.left.saturating_add(self.pixels(units))
+        let stop = self.stop_at(clock);
+        self.column(self.pixels(units_at(stop, clock, self.longest)))
     }
 
-    /// How wide so many units are, in pixels.
+    /// The last stop that is no later than this clock; before the first one, the origin.
+    fn stop_at(&self, clock: u64) -> Stop {
+        let stops = self.stops.as_slice();
+        let count = stops.partition_point(|stop| stop.clock <= clock);
+        match stops.get(count.wrapping_sub(1)) {
+            Some(stop) => *stop,
+            None => Stop {
+                clock: self.origin,
+                units: 0,
+            },
+        }
+    }
+
+    /// How far from the left this many pixels of lanes end, with the gutters between them.
+    fn column(&self, pixels: u64) -> u64 {
+        let gutters = (pixels / SCREEN).saturating_mul(GUTTER);
+        self.left.saturating_add(pixels).saturating_add(gutters)
+    }
+
+    /// How many gutters there are.
+    pub(crate) fn gutters(&self) -> u64 {
+        self.pixels(self.units) / SCREEN
+    }
+
+    /// How far the gutter of this number, counted from 1, begins from the left, in pixels.
+    pub(crate) fn gutter(&self, number: u64) -> u64 {
+        let before = number.saturating_sub(1).saturating_mul(GUTTER);
+        self.left
+            .saturating_add(number.saturating_mul(SCREEN))
+            .saturating_add(before)
+    }
+
+    /// How wide this many units are, in pixels.
     fn pixels(&self, units: u64) -> u64 {
-        if self.units <= MOST / UNIT {
+        if self.is_wide() {
             return units.saturating_mul(UNIT);
         }
-        units.saturating_mul(MOST) / self.units
+        units.saturating_mul(MOST) / self.units.max(1)
     }
 
-    /// Where the lanes end, from the left, in pixels.
+    /// Whether there is room for whole units.
+    fn is_wide(&self) -> bool {
+        self.units <= MOST / UNIT
+    }
+
+    /// Whether events lie so close to each other that their marks are drawn smaller.
+    pub(crate) fn is_dense(&self) -> bool {
+        self.units > MOST / 7
+    }
+
+    /// How far the lanes end from the left, in pixels.
     pub(crate) fn right(&self) -> u64 {
-        self.left.saturating_add(self.pixels(self.units))
+        self.column(self.pixels(self.units))
     }
 }
 
 /// How many units lie before a clock that is no earlier than this stop.
-fn behind(stop: Stop, clock: u64) -> u64 {
-    let gap = clock.saturating_sub(stop.clock).min(LONGEST);
+fn units_at(stop: Stop, clock: u64, longest: u64) -> u64 {
+    let gap = clock.saturating_sub(stop.clock).min(longest);
     stop.units.saturating_add(gap)
 }

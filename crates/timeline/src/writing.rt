@@ -1,4 +1,4 @@
-//! Text that is put behind other text.
+//! Text that is appended to other text.
 
 use std::alloc::AllocError;
 

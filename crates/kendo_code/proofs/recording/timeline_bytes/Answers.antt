@@ -1,7 +1,5 @@
-use Rattle.std.proofs.lemmas.Result.{err_from_is_err_and}
+use Rattle.kendo_code.proofs.Recordings.{from_the_first}
 use Rattle.kendo_code.proofs.recording.timeline_bytes.Goals as goal
 
-pub returns-in_err-_source-clause-refused : goal.returns-in_err-_source-clause-refused
-returns-in_err-_source-clause-refused c =
-    let p = err_from_is_err_and c.from_residual.result c.from_residual.ensures.1 in
-    rw (p.1, p.2) c.in_err-_source.ensures.refused
+pub returns-clause-recorded : goal.returns-clause-recorded
+returns-clause-recorded c = from_the_first c.args.bytes.items c.args.limit c.args.most c.timeline_window.result c.timeline_window.ensures.recorded c.timeline_window.ensures.shows

@@ -2,7 +2,7 @@ use Rattle.std.proofs.Common.{subst}
 use Rattle.book.specs.declared.settled.Settled.{Settled}
 use Rattle.recorder.specs.Recorded.{Comes}
 use Rattle.recorder.proofs.Books.{later_still, settles_comes}
-use Rattle.recorder.proofs.recorder_loop.next.Goals as goal
+use Rattle.recorder.proofs.kept.next.Goals as goal
 
 pub returns-in_ok-go_on-in-Waiting : goal.returns-in_ok-go_on-in-Waiting
 returns-in_ok-go_on-in-Waiting g c =

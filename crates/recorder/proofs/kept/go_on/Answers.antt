@@ -2,7 +2,7 @@ use Rattle.std.proofs.Common.{refl, sym, subst, arith}
 use Rattle.book.specs.Desks.{Desk}
 use Rattle.recorder.specs.Recorded.{IsLater}
 use Rattle.recorder.proofs.Books.{brought_later}
-use Rattle.recorder.proofs.recorder_loop.go_on.Goals as goal
+use Rattle.recorder.proofs.kept.go_on.Goals as goal
 
 pub returns : goal.returns
 returns g c =
