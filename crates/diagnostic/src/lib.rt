@@ -7,23 +7,31 @@ ghost use Rattle.diagnostic.specs.Diagnostics.{IsDiagnostic, heading_at, place_o
 mod declaration;
 mod expected;
 mod hint;
+mod known;
+mod nesting;
 mod phrase;
 mod sentence;
+mod site;
+mod syntax;
+mod syntax_hint;
 
-use crate::hint::hint_of;
+use crate::hint::push_hint;
 use crate::sentence::push_sentence;
+use crate::syntax::push_syntax;
+use diagnostic_typing::{Other, others};
 use diagnostic_words::excerpt::push_excerpt;
 use diagnostic_words::words::Words;
 use go_text::{Fault, Memory, Place, Position};
 use std::alloc::{AllocError, Global};
+use typing_rules::flaw::Flaw;
 
-/// What is wrong with a text: `FILE:LINE:COLUMN: SENTENCE` where the fault has a place, else `FILE: SENTENCE`. Behind it, where
-/// there is a place, stand its line of the text and a line with marks under the place, and where one is known a line `hint: ..`
-/// that tells what to write instead. FILE is the path as it was typed.
+/// What is wrong with a program: `FILE:LINE:COLUMN: SENTENCE` if the fault has a place, else `FILE: SENTENCE`. After it, if there
+/// is a place, come its line of the program and a line with marks under the place, and if one is known a line `hint: ..` with what
+/// to write instead. FILE is the path as it was typed.
 ///
 /// # Errors
 ///
-/// `Memory` where memory is refused.
+/// `Memory` if memory is refused.
 pub fn explanation(alloc: Global, path: &str, text: &str, fault: &Fault) -> Result<Vec<u8>, Memory>
     ensures { IfOk result (λ told. IsDiagnostic path.now fault.now told.items) }
 {
@@ -35,30 +43,89 @@ pub fn explanation(alloc: Global, path: &str, text: &str, fault: &Fault) -> Resu
     Ok(whole)
 }
 
+/// What is wrong with a program, as `explanation` has it, and then what else is wrong with it: if `fault` is a typing rule or a
+/// limit at a node of its tree, the first violation of each other declaration, or of each other function, is explained in the same
+/// way, nine of them at most. If there are more, a last line says how many.
+///
+/// # Errors
+///
+/// `Memory` if memory is refused.
+pub fn explanations(alloc: Global, path: &str, text: &str, fault: &Fault) -> Result<Vec<u8>, Memory>
+    ensures { IfOk result (λ told. IsDiagnostic path.now fault.now told.items) }
+{
+    let place = place_of(fault);
+    let heading = heading(alloc, path, position_of(place))?;
+    let said = said_of(alloc, text, fault, place)?;
+    let others = others_of(alloc, path, text, fault)?;
+    let mut whole = heading.into_bytes();
+    whole.extend_from_slice(said.as_slice())?;
+    whole.extend_from_slice(others.as_slice())?;
+    Ok(whole)
+}
+
 /// What stands behind the heading of a fault with this place.
 fn said_of(
     alloc: Global,
     text: &str,
     fault: &Fault,
     place: Option<Place>,
-) -> Result<Vec<u8>, AllocError> {
+) -> Result<Vec<u8>, Memory> {
     let mut said = Words::new(alloc);
-    push_sentence(alloc, &mut said, text, fault);
-    said.text("\n");
-    if let Some(place) = place {
-        push_excerpt(&mut said, text, place.span);
+    match *fault {
+        Fault::Syntax(place) => push_syntax(alloc, &mut said, text, place)?,
+        _ => {
+            push_sentence(alloc, &mut said, text, fault);
+            said.text("\n");
+            if let Some(place) = place {
+                push_excerpt(&mut said, text, place.span);
+            }
+            push_hint(alloc, &mut said, text, fault);
+        }
     }
-    push_hint(&mut said, text, fault);
-    said.into_bytes()
+    Ok(said.into_bytes()?)
 }
 
-/// Puts `hint: ` and what to write instead, with a newline, behind what is there, where that is known.
-fn push_hint(said: &mut Words, text: &str, fault: &Fault) {
-    if let Some(hint) = hint_of(text, fault) {
-        said.text("hint: ");
-        said.text(hint);
-        said.text("\n");
+/// The violation that a program is refused for, if it is one at a node of its tree.
+fn flaw_of(fault: &Fault) -> Option<Flaw> {
+    match *fault {
+        Fault::Typing { rule, node, .. } => Some(Flaw::Broken(rule, node)),
+        Fault::Limit {
+            kind,
+            node: Some(node),
+            ..
+        } => Some(Flaw::Exceeded(kind, node)),
+        _ => None,
     }
+}
+
+/// The explanations of what else is wrong with a program than `fault`, and how many more there are.
+fn others_of(alloc: Global, path: &str, text: &str, fault: &Fault) -> Result<Vec<u8>, Memory> {
+    let mut told = Vec::new(alloc);
+    let Some(flaw) = flaw_of(fault) else {
+        return Ok(told);
+    };
+    let found = others(alloc, text, flaw)?;
+    for other in found.kept.as_slice() {
+        push_other(alloc, &mut told, path, other)?;
+    }
+    if found.is_cut {
+        told.extend_from_slice(b"and more\n")?;
+    } else if found.more > 0 {
+        let count = found.more;
+        let line = format!(in alloc; "and {count} more\n")?;
+        told.extend_from_slice(line.as_str().as_bytes())?;
+    }
+    Ok(told)
+}
+
+/// Puts the explanation of a violation at the end of `told`.
+fn push_other(alloc: Global, told: &mut Vec<u8>, path: &str, other: &Other) -> Result<(), Memory> {
+    let place = place_of(&other.fault);
+    let heading = heading(alloc, path, position_of(place))?;
+    let said = said_of(alloc, other.text.as_str(), &other.fault, place)?;
+    told.extend_from_slice(heading.as_str().as_bytes())?;
+    told.extend_from_slice(said.as_slice())?;
+    Ok(())
 }
 
 /// `FILE: `, or `FILE:LINE:COLUMN: ` where line and column are known.

@@ -1,9 +1,9 @@
 //! What is wrong, in a sentence.
 
 use crate::declaration::push_within;
-use crate::expected::push_expected;
 use crate::phrase::{phrase_of_limit, phrase_of_rule};
 use diagnostic_typing::push_flaw;
+use diagnostic_words::excerpt::push_shown;
 use diagnostic_words::words::Words;
 use go_text::{Fault, LimitKind, Place, Rule};
 use std::alloc::Global;
@@ -15,7 +15,6 @@ const MOST_SHOWN: usize = 60;
 /// Puts what is wrong behind what is there, which is nothing.
 pub(crate) fn push_sentence(alloc: Global, said: &mut Words, text: &str, fault: &Fault) {
     match *fault {
-        Fault::Syntax(place) => push_syntax(alloc, said, text, place),
         Fault::Typing { rule, node, place } => push_rule(alloc, said, text, rule, node, place),
         Fault::Limit { kind, node, place } => push_limit(alloc, said, text, kind, node, place),
         Fault::TooDeep(place) => {
@@ -32,11 +31,11 @@ pub(crate) fn push_sentence(alloc: Global, said: &mut Words, text: &str, fault: 
 /// A sentence that names nothing of the text.
 fn plain(fault: &Fault) -> &'static str {
     match fault {
-        Fault::TooLong => "the text is longer than 1,048,576 bytes",
-        Fault::NotUtf8 => "the text is not UTF-8",
+        Fault::TooLong => "the program is longer than 1,048,576 bytes",
+        Fault::NotUtf8 => "the program is not UTF-8",
         Fault::OpenComment(_) => "comment not terminated",
         Fault::Memory => "there was not enough memory",
-        Fault::Write => "a writer refused bytes",
+        Fault::Write => "the output could not be written",
         Fault::BadWorkers => "the number of workers is not 1 to 64",
         Fault::BadLimit => "the limit is not 1 to 2^62",
         _ => "the program was refused",
@@ -101,8 +100,8 @@ fn push_phrase(said: &mut Words, phrase: &str, piece: &str) {
     }
 }
 
-/// The text of a place up to the end of its line, but not more than so many bytes.
-fn piece_at(text: &str, place: Place) -> &str {
+/// The text of a place up to the end of its line, but not more than `MOST_SHOWN` bytes.
+pub(crate) fn piece_at(text: &str, place: Place) -> &str {
     let from = place.span.from as usize;
     let to = (place.span.to as usize).min(text.len());
     let piece = text.get(from..to).unwrap_or("");
@@ -121,13 +120,19 @@ fn shortened(line: &str) -> &str {
     ""
 }
 
-/// Tells of a character that begins no token, or one that a string or a comment can't have.
+/// Reports a character that begins no token, or one that a string or a comment can't have.
 fn push_character(said: &mut Words, piece: &str) {
     if piece.starts_with("\"") || piece.starts_with("/") {
         return said.text("a NUL or a byte-order mark in a string or a comment");
     }
     said.text("invalid character ");
-    said.text(piece);
+    push_shown(said, piece);
+    match piece {
+        "\u{feff}" => said.text(" (a byte-order mark)"),
+        "\u{a0}" => said.text(" (a no-break space)"),
+        "\u{200b}" => said.text(" (a space without width)"),
+        _ => {}
+    }
 }
 
 /// Tells of a number with all letters, digits and points that stand behind it.
@@ -180,34 +185,4 @@ fn other_escape(line: &[u8]) -> Option<usize> {
         }
     }
     None
-}
-
-/// A token as it is told of.
-fn spoken(found: &str) -> &str {
-    match found {
-        "," => "comma",
-        ";" => "semicolon",
-        _ => found,
-    }
-}
-
-/// What is found at a place where no tree goes on.
-fn found_at(text: &str, place: Place) -> &str {
-    if place.span.from as usize >= text.len() {
-        return "end of file";
-    }
-    let found = piece_at(text, place);
-    if found.is_empty() {
-        "newline"
-    } else {
-        spoken(found)
-    }
-}
-
-/// Tells what was found where no tree goes on, and what could stand there.
-fn push_syntax(alloc: Global, said: &mut Words, text: &str, place: Place) {
-    said.text("syntax error: unexpected ");
-    said.text(found_at(text, place));
-    let from = place.span.from as usize;
-    push_expected(alloc, said, text.get(..from).unwrap_or(""));
 }

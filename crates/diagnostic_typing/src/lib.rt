@@ -6,10 +6,13 @@ mod declaring;
 mod fresh;
 mod limit;
 mod naming;
+mod near;
 mod reading;
+mod several;
 mod statement;
 mod text;
 mod typing;
 
 pub use reading::fault_of;
-pub use typing::push_flaw;
+pub use several::{Other, Others, others};
+pub use typing::{push_flaw, push_near};

@@ -8,6 +8,8 @@ use crate::declaring::push_in_unit;
 use crate::fresh::push_no_new;
 use crate::limit::push_size;
 use crate::naming::{push_invisible, push_redeclared, push_unassigned};
+use crate::near::{push_near_declared, push_near_in};
+use crate::reading::read;
 use crate::text::Text;
 use checker_base::refusal::Refusal;
 use checker_declaration::table::table_of;
@@ -20,11 +22,9 @@ use diagnostic_value::counting::{push_called, push_numbers, push_returned};
 use diagnostic_value::operator::{push_operands, push_operator};
 use diagnostic_value::place::Setting;
 use diagnostic_words::words::Words;
-use go_text::{Fault, LimitKind, Rule, Source};
-use parser::parse;
-use scanner::{Token, scan};
+use go_text::{LimitKind, Memory, Rule};
 use std::alloc::Global;
-use syntax::{FileNode, NodeId};
+use syntax::{FileNode, NodeId, TopNode};
 use type_table::table::TypeTable;
 use typing_rules::flaw::Flaw;
 
@@ -71,7 +71,30 @@ fn push_rule(said: &mut Words, rule: Rule, at: &Setting<'_, '_>) {
     }
 }
 
-/// Tells how a rule is broken, or a limit exceeded, if that is known.
+/// What is to be printed of a violation.
+#[derive(Clone, Copy, PartialEq, Eq)]
+enum Aim {
+    /// The sentence that says what is wrong.
+    Sentence,
+    /// The name that could be meant by one that is not visible.
+    NearName,
+}
+
+/// A violation, and what is to be printed of it.
+#[derive(Clone, Copy)]
+struct Query {
+    flaw: Flaw,
+    aim: Aim,
+}
+
+impl Query {
+    /// The node of the violation.
+    fn node(&self) -> NodeId {
+        node_of(self.flaw)
+    }
+}
+
+/// Puts how a rule is violated, or a limit exceeded, behind what is there, if that is known.
 fn push_at(said: &mut Words, flaw: Flaw, at: &Setting<'_, '_>) {
     match flaw {
         Flaw::Broken(rule, _) => push_rule(said, rule, at),
@@ -80,105 +103,123 @@ fn push_at(said: &mut Words, flaw: Flaw, at: &Setting<'_, '_>) {
     }
 }
 
-/// The node where something is wrong.
-fn node_of(flaw: Flaw) -> NodeId {
+/// The node of a violation.
+pub(crate) fn node_of(flaw: Flaw) -> NodeId {
     match flaw {
         Flaw::Broken(_, node) | Flaw::Exceeded(_, node) => node,
     }
 }
 
-/// Tells what is wrong in the scene of a function, in this unit.
+/// A file whose declarations are right, and what they declare.
+#[derive(Clone, Copy)]
+struct Declared<'s, 'a> {
+    table: &'s TypeTable<'a>,
+    tops: &'a [TopNode],
+}
+
+/// Puts what is to be printed of a violation in the scene of a function, in this unit, behind what is there.
 fn push_in_scene(
     alloc: Global,
     said: &mut Words,
-    table: &TypeTable<'_>,
+    file: Declared<'_, '_>,
     scene: &Scene<'_>,
     found: &Found<'_>,
-    flaw: Flaw,
+    query: Query,
 ) {
-    let parts = parts_of(alloc, table, scene, found);
+    let parts = parts_of(alloc, file.table, scene, found);
     if scene.is_cut || parts.is_cut {
         return said.refuse();
     }
     let at = Setting {
-        table,
+        table: file.table,
         scene,
         parts: &parts,
-        node: node_of(flaw),
+        node: query.node(),
     };
-    push_at(said, flaw, &at);
+    match (query.aim, query.flaw) {
+        (Aim::Sentence, flaw) => push_at(said, flaw, &at),
+        (Aim::NearName, Flaw::Broken(rule, _)) => push_near_in(said, &at, file.tops, rule),
+        (Aim::NearName, Flaw::Exceeded(_, _)) => {}
+    }
 }
 
-/// Tells what is wrong in the functions of a file, in the innermost of these units.
+/// Puts what is to be printed of a violation in a file whose declarations are right, in the innermost of these units, behind what
+/// is there.
 fn push_in_functions(
     alloc: Global,
     said: &mut Words,
     table: &TypeTable<'_>,
     file: &FileNode,
     walk: &Walk<'_>,
-    flaw: Flaw,
+    query: Query,
 )
     requires small { size (file_of file.now) < 2 ^ 32 }
 {
     let Some(found) = walk.found.first() else {
         return;
     };
-    if let Some(scene) = scene_at(alloc, table, file.tops.as_slice(), 0, node_of(flaw)) {
-        push_in_scene(alloc, said, table, &scene, found, flaw);
+    let tops = file.tops.as_slice();
+    if let Some(scene) = scene_at(alloc, table, tops, 0, query.node()) {
+        push_in_scene(alloc, said, Declared { table, tops }, &scene, found, query);
     }
 }
 
-/// Tells what is wrong in a file whose declarations are right, in the innermost of these units.
-fn push_in_file(alloc: Global, said: &mut Words, file: &FileNode, walk: &Walk<'_>, flaw: Flaw)
+/// Like `push_in_functions`, but of a file whose declarations may be wrong: then nothing is printed.
+fn push_in_file(alloc: Global, said: &mut Words, file: &FileNode, walk: &Walk<'_>, query: Query)
     requires small { size (file_of file.now) < 2 ^ 32 }
 {
     match table_of(alloc, file.tops.as_slice()) {
-        Ok(table) => push_in_functions(alloc, said, &table, file, walk, flaw),
+        Ok(table) => push_in_functions(alloc, said, &table, file, walk, query),
         Err(Refusal::Memory) => said.refuse(),
         Err(Refusal::Flawed(_)) => {}
     }
 }
 
-/// Tells what is wrong with a tree.
-fn push_in_tree(alloc: Global, said: &mut Words, text: &Text<'_>, flaw: Flaw) {
-    let walk = units_at(alloc, text.tree.file(), node_of(flaw));
+/// Puts what is to be printed of a violation that does not depend on what is visible behind what is there.
+fn push_in_units(alloc: Global, said: &mut Words, text: &Text<'_>, walk: &Walk<'_>, query: Query) {
+    match (query.aim, query.flaw) {
+        (Aim::Sentence, flaw) => push_in_unit(alloc, said, text, walk, flaw),
+        (Aim::NearName, Flaw::Broken(Rule::Visible, node)) => {
+            if let Some(found) = walk.found.first() {
+                push_near_declared(said, text.tops(), found, node);
+            }
+        }
+        _ => {}
+    }
+}
+
+/// Puts what is to be printed of a violation in a tree behind what is there.
+fn push_in_tree(alloc: Global, said: &mut Words, text: &Text<'_>, query: Query) {
+    let walk = units_at(alloc, text.tree.file(), query.node());
     if walk.is_cut {
         return said.refuse();
     }
-    push_in_unit(alloc, said, text, &walk, flaw);
+    push_in_units(alloc, said, text, &walk, query);
     if said.is_empty() {
-        push_in_file(alloc, said, text.tree.file(), &walk, flaw);
+        push_in_file(alloc, said, text.tree.file(), &walk, query);
     }
 }
 
-/// Tells what is wrong with the tree of these tokens of a text.
-fn push_in_tokens(alloc: Global, said: &mut Words, source: &Source, tokens: &[Token], flaw: Flaw) {
-    if u32::try_from(tokens.len()).is_err() {
-        return;
-    }
-    match parse(alloc, source, tokens) {
-        Ok(tree) => push_in_tree(alloc, said, &Text::new(source, &tree), flaw),
-        Err(Fault::Memory) => said.refuse(),
-        Err(_) => {}
-    }
-}
-
-/// Tells what is wrong with the tree of a text.
-fn push_in_source(alloc: Global, said: &mut Words, source: &Source, flaw: Flaw) {
-    match scan(alloc, source) {
-        Ok(tokens) => push_in_tokens(alloc, said, source, tokens.as_slice(), flaw),
-        Err(Fault::Memory) => said.refuse(),
-        Err(_) => {}
+/// Puts what is to be printed of a violation in a text behind what is there, which is nothing.
+fn push_query(alloc: Global, said: &mut Words, text: &str, query: Query) {
+    match read(alloc, text) {
+        Ok(Some(read)) => {
+            push_in_tree(alloc, said, &Text::new(&read.source, &read.tree), query);
+        }
+        Ok(None) => {}
+        Err(Memory) => said.refuse(),
     }
 }
 
-/// Puts what is wrong with the tree of a text behind what is there, which is nothing: nothing where no more is known of it than the
+/// Puts what is wrong with the tree of a text behind what is there, which is nothing: nothing if no more is known of it than the
 /// rule or the limit.
 pub fn push_flaw(alloc: Global, said: &mut Words, text: &str, flaw: Flaw) {
-    let Ok(bytes) = Vec::from_slice(alloc, text.as_bytes()) else {
-        return said.refuse();
-    };
-    if let Ok(source) = Source::new(bytes) {
-        push_in_source(alloc, said, &source, flaw);
-    }
+    let aim = Aim::Sentence;
+    push_query(alloc, said, text, Query { flaw, aim });
+}
+
+/// Puts the name that could be meant by one that is not visible behind what is there, which is nothing: nothing if there is none.
+pub fn push_near(alloc: Global, said: &mut Words, text: &str, flaw: Flaw) {
+    let aim = Aim::NearName;
+    push_query(alloc, said, text, Query { flaw, aim });
 }

@@ -1,7 +1,8 @@
-//! Expressions, operands and types in the words of a Go programmer, and a line of the text with marks under a place: what
-//! sentences about a text are made of. No contract says what is told.
+//! Expressions, operands and types in the words of a Go programmer, a line of the program with marks under a place, and words that
+//! are spelt nearly alike: what messages about a program are made of. No contract says what is printed.
 #![tactic(auto)]
 
 pub mod excerpt;
 pub mod operand;
+pub mod spelling;
 pub mod words;

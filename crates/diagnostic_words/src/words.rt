@@ -64,6 +64,11 @@ impl Words {
         self.put(name.bytes.as_slice());
     }
 
+    /// Puts bytes in UTF-8 behind what is there.
+    pub fn bytes(&mut self, bytes: &[u8]) {
+        self.put(bytes);
+    }
+
     /// Puts a name between two texts behind what is there.
     pub fn around(&mut self, before: &str, name: &Name, behind: &str) {
         self.text(before);

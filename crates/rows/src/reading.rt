@@ -1,6 +1,6 @@
 //! What is made of a text beside its run: its events, pictures of it, its listing, and what `--explain` says of it.
 
-use diagnostic::explanation;
+use diagnostic::explanations;
 use go_text::Fault;
 use kendo_code::{list_bytes, timeline_bytes};
 use kendo_front::{explain_end, reference_bytes};
@@ -74,7 +74,7 @@ fn refusal_explained(
         Ok(shown) => shown,
         Err(_) => String::new(alloc),
     };
-    Ok(explanation(alloc, path, shown.as_str(), fault).map_err(Fault::from)?)
+    Ok(explanations(alloc, path, shown.as_str(), fault).map_err(Fault::from)?)
 }
 
 /// The listing of a text's code.

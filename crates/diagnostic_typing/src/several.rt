@@ -1,0 +1,332 @@
+//! What else is wrong with a program: the first violation of each declaration, or of each function.
+
+ghost use Rattle.std.specs.Prelude.{◌+◌, ◌^◌, ◌<◌, map, sum_by};
+ghost use Rattle.syntax.specs.Measures.{function_size, statements_size, top_size};
+ghost use Rattle.syntax.specs.View.{body_of, function_of, top_of};
+
+use crate::reading::{Read, read};
+use crate::typing::node_of;
+use checker_base::refusal::Refusal;
+use checker_declaration::header::{Head, function_head};
+use checker_declaration::table::table_of;
+use checker_statement::statement::{Inside, statements};
+use checker_statement::terminate::last_terminates;
+use diagnostic_scope::ends::top_end;
+use go_text::{Fault, LimitKind, Memory, Place, Rule, Span};
+use std::alloc::Global;
+use syntax::{FunctionNode, NodeId, StatementNode, StructNode, TopNode};
+use type_table::scope::{Visible, declare};
+use type_table::table::TypeTable;
+use typing_rules::flaw::Flaw;
+
+/// How many violations are kept.
+const MOST_KEPT: usize = 9;
+
+/// How often declarations are looked at for a further violation.
+const MOST_ROUNDS: usize = 60;
+
+/// How many words the variables of a function may take.
+const MOST_WORDS: usize = 4096;
+
+/// A violation, and the program that has it as its first one. Its places are those of the whole program.
+#[derive(Drop)]
+pub struct Other {
+    pub fault: Fault,
+    pub text: String,
+}
+
+/// Violations of a program, but for the first one.
+#[derive(Drop)]
+pub struct Others {
+    /// The first nine.
+    pub kept: Vec<Other>,
+    /// How many more were counted.
+    pub more: usize,
+    /// Whether there may be more than were counted.
+    pub is_cut: bool,
+}
+
+impl Others {
+    /// Keeps a violation of the program `text`, which is read as `read`.
+    fn put(&mut self, alloc: Global, text: &str, read: &Read, flaw: Flaw) -> Result<(), Memory> {
+        if self.kept.len() >= MOST_KEPT {
+            self.more = self.more.saturating_add(1);
+            return Ok(());
+        }
+        let fault = read.fault(flaw);
+        let text = format!(in alloc; "{text}")?;
+        self.kept.push(Other { fault, text })?;
+        Ok(())
+    }
+
+    /// Keeps the first violation of the body of each function, but for that of the first one.
+    fn put_bodies(
+        &mut self,
+        alloc: Global,
+        text: &str,
+        read: &Read,
+        table: &TypeTable<'_>,
+        first: Flaw,
+    ) -> Result<(), Memory> {
+        let mut flaws = Vec::new(alloc);
+        push_flaws(
+            alloc,
+            table,
+            read.tree.file().tops.as_slice(),
+            0,
+            &mut flaws,
+        )?;
+        for &flaw in flaws.as_slice() {
+            if node_of(flaw) != node_of(first) {
+                self.put(alloc, text, read, flaw)?;
+            }
+        }
+        Ok(())
+    }
+}
+
+impl Read {
+    /// The span of a node.
+    fn span(&self, node: NodeId) -> Span {
+        if node < self.tree.count() {
+            self.tree.span(node)
+        } else {
+            Span { from: 0, to: 0 }
+        }
+    }
+
+    /// The place of a node, with its line and its column.
+    fn place(&self, node: NodeId) -> Place {
+        let span = self.span(node);
+        Place {
+            span,
+            position: Some(self.source.line_column(span.from)),
+        }
+    }
+
+    /// The fault that a program with this violation is refused with.
+    fn fault(&self, flaw: Flaw) -> Fault {
+        let place = self.place(node_of(flaw));
+        match flaw {
+            Flaw::Broken(rule, node) => Fault::Typing { rule, node, place },
+            Flaw::Exceeded(kind, node) => Fault::Limit {
+                kind,
+                node: Some(node),
+                place,
+            },
+        }
+    }
+}
+
+/// The first violation of the statements of a function behind its head, if there is one.
+fn flaw_behind<'a>(
+    alloc: Global,
+    table: &TypeTable<'a>,
+    head: &Head<'a>,
+    body: &'a [StatementNode],
+) -> Result<Option<Flaw>, Memory>
+    requires small { head.now.end + statements_size (body_of body.now) < 2 ^ 32 }
+{
+    let mut visible = Visible::new(alloc);
+    for parameter in head.parameters.as_slice() {
+        declare(table, &mut visible, parameter.kind, parameter.name)?;
+    }
+    let inside = Inside {
+        result: head.result,
+        breaks: false,
+        continues: false,
+    };
+    let end = match statements(alloc, table, inside, &mut visible, head.end, body) {
+        Ok(end) => end,
+        Err(Refusal::Memory) => return Err(Memory),
+        Err(Refusal::Flawed(flaw)) => return Ok(Some(flaw)),
+    };
+    let own = end.saturating_add(1);
+    if visible.words > MOST_WORDS {
+        return Ok(Some(Flaw::Exceeded(LimitKind::FunctionWords, own)));
+    }
+    if head.result.is_some() && !last_terminates(body) {
+        return Ok(Some(Flaw::Broken(Rule::Terminating, own)));
+    }
+    Ok(None)
+}
+
+/// The first violation of the body of a function, if there is one. Its nodes are counted from those of the function on.
+fn flaw_of<'a>(
+    alloc: Global,
+    table: &TypeTable<'a>,
+    function: &'a FunctionNode,
+) -> Result<Option<Flaw>, Memory>
+    requires small { function_size (function_of function.now) < 2 ^ 32 }
+{
+    match function_head(alloc, table.types(), 0, function) {
+        Ok(head) => flaw_behind(alloc, table, &head, function.body.as_slice()),
+        Err(Refusal::Memory) => Err(Memory),
+        Err(Refusal::Flawed(_)) => Ok(None),
+    }
+}
+
+/// A violation whose nodes are counted from `first` on.
+fn moved(flaw: Flaw, first: NodeId) -> Flaw {
+    match flaw {
+        Flaw::Broken(rule, node) => Flaw::Broken(rule, first.saturating_add(node)),
+        Flaw::Exceeded(kind, node) => Flaw::Exceeded(kind, first.saturating_add(node)),
+    }
+}
+
+/// Puts the first violation of the body of a declaration, if it is a function, whose nodes have numbers from `first` on, at the
+/// end of `flaws`.
+fn push_flaw_of<'a>(
+    alloc: Global,
+    table: &TypeTable<'a>,
+    top: &'a TopNode,
+    first: NodeId,
+    flaws: &mut Vec<Flaw>,
+) -> Result<(), Memory>
+    requires small { top_size (top_of top.now) < 2 ^ 32 }
+{
+    let TopNode::Function(function) = top else {
+        return Ok(());
+    };
+    if let Some(flaw) = flaw_of(alloc, table, function)? {
+        flaws.push(moved(flaw, first))?;
+    }
+    Ok(())
+}
+
+/// Puts the first violation of the body of each function of these declarations, whose nodes have numbers from `first` on, at the
+/// end of `flaws`.
+fn push_flaws<'a>(
+    alloc: Global,
+    table: &TypeTable<'a>,
+    tops: &'a [TopNode],
+    first: NodeId,
+    flaws: &mut Vec<Flaw>,
+) -> Result<(), Memory>
+    requires small { sum_by top_size (map top_of tops.now) < 2 ^ 32 }
+{
+    let Some((top, rest)) = tops.split_first() else {
+        return Ok(());
+    };
+    push_flaw_of(alloc, table, top, first, flaws)?;
+    push_flaws(alloc, table, rest, top_end(alloc, first, top), flaws)
+}
+
+/// A declaration, and its own node.
+#[derive(Clone, Copy)]
+struct Declaration<'a> {
+    top: &'a TopNode,
+    node: NodeId,
+}
+
+/// The declaration in which a node stands.
+fn declaration_at(alloc: Global, tops: &[TopNode], node: NodeId) -> Option<Declaration<'_>> {
+    let mut first = 0;
+    for top in tops {
+        let end = top_end(alloc, first, top);
+        if node < end {
+            return Some(Declaration {
+                top,
+                node: end.saturating_sub(1),
+            });
+        }
+        first = end;
+    }
+    None
+}
+
+/// A text with spaces in place of what stands at a span, but for the ends of lines.
+fn blanked(alloc: Global, text: &str, span: Span) -> Result<String, Memory> {
+    let mut bytes = Vec::new(alloc);
+    for (index, byte) in text.bytes().enumerate() {
+        let is_in = span.from as usize <= index && index < span.to as usize;
+        bytes.push(if is_in && byte != b'\n' { b' ' } else { byte })?;
+    }
+    match String::from_utf8(bytes) {
+        Ok(text) => Ok(text),
+        Err(_) => Ok(String::new(alloc)),
+    }
+}
+
+/// A text with a struct type of this name and one field behind it.
+fn with_type(alloc: Global, text: String, one: &StructNode) -> Result<String, Memory> {
+    let mut bytes = text.into_bytes();
+    bytes.extend_from_slice(b"\ntype ")?;
+    bytes.extend_from_slice(one.name.bytes.as_slice())?;
+    bytes.extend_from_slice(b" struct{x int}\n")?;
+    match String::from_utf8(bytes) {
+        Ok(text) => Ok(text),
+        Err(_) => Ok(String::new(alloc)),
+    }
+}
+
+/// A text without the declaration that has this violation. A struct type of another form takes the place of one that may have its
+/// name, so that nothing is undefined for that.
+fn without(alloc: Global, text: &str, read: &Read, flaw: Flaw) -> Result<Option<String>, Memory> {
+    let tops = read.tree.file().tops.as_slice();
+    let Some(found) = declaration_at(alloc, tops, node_of(flaw)) else {
+        return Ok(None);
+    };
+    let rest = blanked(alloc, text, read.span(found.node))?;
+    match (found.top, flaw) {
+        (TopNode::Struct(_), Flaw::Broken(Rule::Declared, node)) if node == found.node => {
+            Ok(Some(rest))
+        }
+        (_, Flaw::Exceeded(LimitKind::Declarations, _)) => Ok(None),
+        (TopNode::Struct(one), _) => Ok(Some(with_type(alloc, rest, one)?)),
+        (TopNode::Function(_), _) => Ok(Some(rest)),
+    }
+}
+
+/// The first violation of the declarations of a text, if there is one.
+fn declared_flaw(alloc: Global, read: &Read) -> Result<Option<Flaw>, Memory> {
+    match table_of(alloc, read.tree.file().tops.as_slice()) {
+        Ok(_) => Ok(None),
+        Err(Refusal::Memory) => Err(Memory),
+        Err(Refusal::Flawed(flaw)) => Ok(Some(flaw)),
+    }
+}
+
+/// The violations of the declarations of a text, each but for the first one found in the text without those that have the ones
+/// before.
+fn declared_others(alloc: Global, text: &str, others: &mut Others) -> Result<(), Memory> {
+    let mut current = format!(in alloc; "{text}")?;
+    for round in 0..MOST_ROUNDS {
+        let Some(read) = read(alloc, current.as_str())? else {
+            return Ok(());
+        };
+        let Some(flaw) = declared_flaw(alloc, &read)? else {
+            return Ok(());
+        };
+        if round > 0 {
+            others.put(alloc, current.as_str(), &read, flaw)?;
+        }
+        let Some(rest) = without(alloc, current.as_str(), &read, flaw)? else {
+            return Ok(());
+        };
+        current = rest;
+    }
+    others.is_cut = true;
+    Ok(())
+}
+
+/// What else is wrong with a program than `first`, its first violation: of its declarations if `first` is in one of them, else of
+/// the bodies of its functions. Each is looked at by itself, so that none follows from another one.
+///
+/// Errors: a request for memory was refused.
+pub fn others(alloc: Global, text: &str, first: Flaw) -> Result<Others, Memory> {
+    let mut others = Others {
+        kept: Vec::new(alloc),
+        more: 0,
+        is_cut: false,
+    };
+    let Some(read) = read(alloc, text)? else {
+        return Ok(others);
+    };
+    match table_of(alloc, read.tree.file().tops.as_slice()) {
+        Ok(table) => others.put_bodies(alloc, text, &read, &table, first)?,
+        Err(Refusal::Memory) => return Err(Memory),
+        Err(Refusal::Flawed(_)) => declared_others(alloc, text, &mut others)?,
+    }
+    Ok(others)
+}

@@ -1,0 +1,7 @@
+package main
+
+const limit = 3
+
+func main() {
+	println(limit)
+}

@@ -1,0 +1,6 @@
+package main
+
+func main() {
+	limit := 3
+	println(limit)
+}

@@ -1,0 +1,13 @@
+package main
+
+func main() {
+	outer:
+	for i := 0; i < 3; i++ {
+		for j := 0; j < 3; j++ {
+			if i*j == 2 {
+				break outer
+			}
+			println(i, j)
+		}
+	}
+}

@@ -1,0 +1,6 @@
+package main
+
+func main() {
+	queue := []int{1, 2}
+	println(queue[0])
+}

@@ -1,0 +1,9 @@
+package main
+
+func main() {
+	queue := make(chan int, 2)
+	queue <- 1
+	queue <- 2
+	first := <-queue
+	println(first)
+}

@@ -1,0 +1,6 @@
+package main
+
+func main() {
+	name := "Ann"
+	println(name)
+}

@@ -1,0 +1,5 @@
+package main
+
+func main() {
+	append(1, 2)
+}

@@ -1,0 +1,5 @@
+package main
+
+func main() {
+	var a [3]int
+}

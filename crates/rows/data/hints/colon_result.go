@@ -1,0 +1,8 @@
+package main
+
+func f(x int): int {
+	return x
+}
+
+func main() {
+}

@@ -1,0 +1,6 @@
+package main
+
+func main() {
+	const n = 5
+	println(n)
+}

@@ -1,0 +1,8 @@
+package main
+
+const (
+	a = iota
+)
+
+func main() {
+}

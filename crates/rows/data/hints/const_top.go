@@ -1,0 +1,7 @@
+package main
+
+const n = 5
+
+func main() {
+	println(n)
+}

@@ -1,0 +1,7 @@
+package main
+
+func f(x int = 3) {
+}
+
+func main() {
+}

@@ -1,0 +1,6 @@
+package main
+
+func main() {
+	for {
+		println(1)
+	}

@@ -1,0 +1,6 @@
+package main
+
+func main() {
+	println(1)
+	}
+}

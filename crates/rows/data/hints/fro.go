@@ -1,0 +1,6 @@
+package main
+
+func main() {
+	fro i := 0; i < 3; i++ {
+	}
+}

@@ -1,0 +1,7 @@
+package main
+
+func f(g func(int) int) {
+}
+
+func main() {
+}

@@ -1,0 +1,4 @@
+package main
+
+function main() {
+}

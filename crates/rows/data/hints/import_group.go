@@ -1,0 +1,9 @@
+package main
+
+import (
+	"fmt"
+	"sync"
+)
+
+func main() {
+}

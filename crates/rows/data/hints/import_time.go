@@ -1,0 +1,6 @@
+package main
+
+import "time"
+
+func main() {
+}

@@ -1,0 +1,6 @@
+package main
+
+func main() {
+	x := int64(3)
+	println(x)
+}

@@ -1,0 +1,7 @@
+package main
+
+type T interface {
+}
+
+func main() {
+}

@@ -1,0 +1,6 @@
+package main
+
+func main() {
+	x := math.MaxInt64
+	println(x)
+}

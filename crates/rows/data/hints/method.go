@@ -1,0 +1,9 @@
+package main
+
+func main() {
+	x := 1
+}
+
+func (p point) sum() int {
+	return 1
+}

@@ -1,0 +1,10 @@
+package main
+
+func main() {
+	x := 1
+	if x > 0 {
+		println(x)
+}
+
+func g() {
+}

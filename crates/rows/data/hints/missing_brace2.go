@@ -1,0 +1,8 @@
+package main
+
+func main() {
+	x := 1
+	println(x)
+
+func g() {
+}

@@ -1,0 +1,9 @@
+package main
+
+type box struct {
+	mu sync.Mutex
+	n  int
+}
+
+func main() {
+}

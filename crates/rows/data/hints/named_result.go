@@ -1,0 +1,9 @@
+package main
+
+func main() {
+	x := 1
+}
+
+func g() (n int) {
+	return 1
+}

@@ -1,0 +1,8 @@
+package main
+
+func f() {
+	println(x)
+}
+
+func g() int {
+}

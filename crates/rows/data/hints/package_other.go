@@ -1,0 +1,4 @@
+package foo
+
+func main() {
+}

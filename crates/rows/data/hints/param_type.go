@@ -1,0 +1,7 @@
+package main
+
+func f(x itn) {
+}
+
+func main() {
+}

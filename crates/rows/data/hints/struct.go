@@ -1,0 +1,7 @@
+package main
+
+struct T {
+}
+
+func main() {
+}

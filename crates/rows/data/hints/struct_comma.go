@@ -1,0 +1,9 @@
+package main
+
+type T struct {
+	x int,
+	y int
+}
+
+func main() {
+}

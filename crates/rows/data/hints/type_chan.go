@@ -1,0 +1,6 @@
+package main
+
+type T chan int
+
+func main() {
+}

@@ -1,0 +1,6 @@
+package main
+
+type F func(int)
+
+func main() {
+}

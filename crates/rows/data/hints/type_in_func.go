@@ -1,0 +1,7 @@
+package main
+
+func main() {
+	type T struct {
+		x int
+	}
+}

@@ -1,0 +1,7 @@
+package main
+
+var n = 5
+
+func main() {
+	println(n)
+}

@@ -1,0 +1,6 @@
+package main
+
+func main() {
+	var wg sync.WaitGroup
+	wg.Wait()
+}

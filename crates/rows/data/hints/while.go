@@ -1,0 +1,8 @@
+package main
+
+func main() {
+	x := 1
+	while x > 0 {
+		x--
+	}
+}
