@@ -1,8 +1,8 @@
 //! The explanation that follows the line of an outcome.
 
 use command_line::arguments::{Invocation, Subcommand};
-use diagnostic::explanation;
-use go_text::{Fault, Memory};
+use diagnostic::{explanation, explanations};
+use go_text::Fault;
 use kendo_front::explain_end;
 use kendo_shell::streams::tell;
 use kendo_shell::tracing::Refused;
@@ -80,10 +80,10 @@ fn refusal_explained(
     }
 }
 
-/// Explains the errors in a program.
+/// Explains the errors in a program: several for `check`, the first one for the other commands.
 fn fault_explained(
     alloc: Global,
-    _invocation: &Invocation<'_, '_>,
+    invocation: &Invocation<'_, '_>,
     file: &str,
     bytes: Vec<u8>,
     fault: &Fault,
@@ -92,8 +92,10 @@ fn fault_explained(
         Ok(text) => text,
         Err(_) => String::new(alloc),
     };
-    match explanation(alloc, file, text.as_str(), fault) {
-        Ok(explained) => Ok(explained),
-        Err(Memory) => Err(Fault::Memory),
-    }
+    let text = text.as_str();
+    let explained = match invocation.subcommand {
+        Subcommand::Check => explanations(alloc, file, text, fault)?,
+        _ => explanation(alloc, file, text, fault)?,
+    };
+    Ok(explained)
 }

@@ -162,12 +162,7 @@ fn list(alloc: Global, bytes: Vec<u8>, outputs: &mut Outputs) -> Result<End, Fau
 }
 
 /// Interprets the source of the program, which prints to standard output.
-fn interpret(
-    alloc: Global,
-    bytes: Vec<u8>,
-    limit: u64,
-    outputs: &mut Outputs,
-) -> Result<End, Fault>
+fn interpret(alloc: Global, bytes: Vec<u8>, limit: u64, outputs: &mut Outputs) -> Result<End, Fault>
     ensures { Finds (Subcommand.Reference limit) bytes.items result }
 {
     let end = reference_bytes(alloc, bytes, limit, &mut outputs.standard)?;

@@ -6,10 +6,10 @@ ghost use Rattle.kendo_shell.specs.Answers.{Finds};
 
 use command_line::arguments::Invocation;
 use go_text::Fault;
-use kendo_code::timeline_bytes;
+use kendo_code::timeline_window;
 use kendo_shell::tracing::{Outputs, Trace};
 use std::alloc::Global;
-use timeline::{Format, Recording};
+use timeline::{Format, Recording, Window};
 use word::end::End;
 use word::{Write, write_all};
 
@@ -24,9 +24,19 @@ pub(crate) fn picture(
     ensures { Finds (subcommands.Timeline limit) bytes.items result }
 {
     let format = Format::of(invocation.out);
-    let recording = timeline_bytes(alloc, bytes, limit, format.most_events())?;
+    let window = window_of(invocation);
+    let recording = timeline_window(alloc, bytes, limit, window, format.most_events())?;
     show(alloc, &recording, format, outputs)?;
     Ok(End::Finished)
+}
+
+/// The events that the picture shows.
+fn window_of(invocation: &Invocation<'_, '_>) -> Window {
+    match (invocation.from, invocation.last) {
+        (Some(event), _) => Window::From(event),
+        (None, Some(count)) => Window::Last(count),
+        (None, None) => Window::First,
+    }
 }
 
 /// Writes the picture of a recording.
