@@ -1,6 +1,6 @@
 //! The events that are kept of a run, and what the events before them leave.
 
-ghost use Rattle.std.specs.Prelude.{◌≡◌, ◌≤◌, ◌<◌, ◌⊎◌, ◌∷◌, ◌++◌, [], IfNone, IfOk, IfSome, IsTrue, OnOk, length, map};
+ghost use Rattle.std.specs.Prelude.{◌≡◌, ◌≤◌, ◌<◌, ◌⊎◌, ◌∷◌, ◌++◌, [], IfNone, IfOk, IfSome, IsTrue, OnOk, Some, length, map};
 ghost use Rattle.std.specs.Option.{is_some};
 ghost use Rattle.bytecode.specs.Machine.{code_kind};
 ghost use Rattle.word.specs.Views.{event_of};
@@ -10,7 +10,7 @@ use book::{Book, BookName, Settled};
 use go_text::Memory;
 use std::alloc::Global;
 use std::collections::VecDeque;
-use timeline::{Lanes, Recording};
+use timeline::{Lanes, Recording, Site};
 use word::end::End;
 use word::request::Event;
 
@@ -24,6 +24,8 @@ pub(crate) struct Kept {
     /// What those left.
     pub past: Lanes,
     pub events: Vec<Event>,
+    /// For each event, the instruction that made its request, if it is known.
+    pub sites: Vec<Option<Site>>,
     /// How the run ended, if it had no more events.
     pub end: Option<End>,
 }
@@ -34,22 +36,25 @@ impl Drop for Kept {
             before: _,
             past,
             events,
+            sites,
             end: _,
         } = self;
         drop(past);
         drop(events);
+        drop(sites);
     }
 }
 
 impl Kept {
-    /// The recording of these events, of a program whose functions have these names.
-    pub(crate) fn recording(self, functions: Vec<String>) -> Recording
+    /// The recording of these events, of a program whose functions have these names. No lines are known.
+    pub(crate) fn recording(self, alloc: Global, functions: Vec<String>) -> Recording
         ensures { (result.before ≡ self.before) × (result.events.items ≡ self.events.items) × (result.end ≡ self.end) }
     {
         let Kept {
             before,
             past,
             events,
+            sites,
             end,
         } = self;
         Recording {
@@ -57,8 +62,55 @@ impl Kept {
             before,
             past,
             events,
+            sites,
+            lines: Vec::new(alloc),
             end,
         }
+    }
+}
+
+/// Events that follow each other, and the end of the run if it has no more.
+pub(crate) struct Collected {
+    pub events: Vec<Event>,
+    /// For each event, the instruction that made its request, if it is known.
+    pub sites: Vec<Option<Site>>,
+    pub end: Option<End>,
+}
+
+impl Drop for Collected {
+    fn drop(self) {
+        let Collected {
+            events,
+            sites,
+            end: _,
+        } = self;
+        drop(events);
+        drop(sites);
+    }
+}
+
+/// The last events of a run, up to some event, and what there was before them.
+pub(crate) struct Latest {
+    /// How many events the run had before these.
+    pub before: u64,
+    /// What those left.
+    pub past: Lanes,
+    pub events: VecDeque<Event>,
+    /// For each event, the instruction that made its request, if it is known.
+    pub sites: VecDeque<Option<Site>>,
+}
+
+impl Drop for Latest {
+    fn drop(self) {
+        let Latest {
+            before: _,
+            past,
+            events,
+            sites,
+        } = self;
+        drop(past);
+        drop(events);
+        drop(sites);
     }
 }
 
@@ -83,14 +135,16 @@ pub(crate) fn keep_from<B: BookName>(
             before,
             past,
             events: Vec::new(alloc),
+            sites: Vec::new(alloc),
             end,
         });
     }
-    let (events, end) = collect(alloc, book, before, most)?;
+    let Collected { events, sites, end } = collect(alloc, book, before, most)?;
     Ok(Kept {
         before,
         past,
         events,
+        sites,
         end,
     })
 }
@@ -116,7 +170,7 @@ fn pass<B: BookName>(
         }
         match next(book)? {
             Settled::Committed(event) => {
-                past.take(&event)?;
+                past.take(&event, site_of(book, event.number))?;
                 before += 1;
             }
             Settled::Waiting(_) => {}
@@ -133,22 +187,36 @@ fn collect<B: BookName>(
     book: &mut Book<B>,
     before: u64,
     most: usize,
-) -> Result<(Vec<Event>, Option<End>), Memory>
+) -> Result<Collected, Memory>
     requires { HasRecorded book.old.code book.old.limit book.old before [] }
-    ensures next { IfOk result (λ made. AreNext (code_kind book.old.code) book.old.limit before (map event_of made.0.items)) }
-    ensures rest { IfOk result (λ made. IfSome made.1 (AreRest (code_kind book.old.code) book.old.limit before (map event_of made.0.items))) }
-    ensures few { IfOk result (λ made. length made.0.items ≤ most) }
-    ensures cut { IfOk result (λ made. IfNone made.1 (most ≤ length made.0.items)) }
+    ensures next { IfOk result (λ made. AreNext (code_kind book.old.code) book.old.limit before (map event_of made.events.items)) }
+    ensures rest { IfOk result (λ made. IfSome made.end (AreRest (code_kind book.old.code) book.old.limit before (map event_of made.events.items))) }
+    ensures few { IfOk result (λ made. length made.events.items ≤ most) }
+    ensures cut { IfOk result (λ made. IfNone made.end (most ≤ length made.events.items)) }
 {
     let mut events = Vec::new(alloc);
+    let mut sites = Vec::new(alloc);
     'rounds: for _ in 0..u64::MAX {
         if events.len() >= most {
-            return Ok((events, None));
+            return Ok(Collected {
+                events,
+                sites,
+                end: None,
+            });
         }
         match next(book)? {
-            Settled::Committed(event) => events.push(event)?,
+            Settled::Committed(event) => {
+                sites.push(site_of(book, event.number))?;
+                events.push(event)?;
+            }
             Settled::Waiting(_) => {}
-            Settled::Ended(end) => return Ok((events, Some(end))),
+            Settled::Ended(end) => {
+                return Ok(Collected {
+                    events,
+                    sites,
+                    end: Some(end),
+                });
+            }
         }
     }
     Err(Memory)
@@ -168,52 +236,72 @@ pub(crate) fn keep_last<B: BookName>(
     ensures few { IfOk result (λ kept. length kept.events.items ≤ most) }
     ensures ends { IfOk result (λ kept. IsTrue (is_some kept.end)) }
 {
-    let mut past = Lanes::new(alloc)?;
-    let mut events = VecDeque::new(alloc);
-    let mut before = 0;
+    let mut latest = Latest {
+        before: 0,
+        past: Lanes::new(alloc)?,
+        events: VecDeque::new(alloc),
+        sites: VecDeque::new(alloc),
+    };
     'rounds: for _ in 0..u64::MAX {
         match next(book)? {
             Settled::Committed(event) => {
-                before = push_last(&mut events, &mut past, event, before, most)?;
+                let site = site_of(book, event.number);
+                latest.push(event, site, most)?;
             }
             Settled::Waiting(_) => {}
-            Settled::Ended(end) => {
-                return Ok(Kept {
-                    before,
-                    past,
-                    events: events.into_vec(),
-                    end: Some(end),
-                });
-            }
+            Settled::Ended(end) => return Ok(latest.ended(end)),
         }
     }
     Err(Memory)
 }
 
-/// Appends an event to the last ones, at most `most`: those that are too many go into the past. Returns how many have gone there,
-/// of which there were `before`.
-fn push_last(
-    events: &mut VecDeque<Event>,
-    past: &mut Lanes,
-    event: Event,
-    before: u64,
-    most: usize,
-) -> Result<u64, Memory>
-    requires few { length events.old.items ≤ most }
-    requires full { (before ≡ 0) ⊎ (length events.old.items ≡ most) }
-    ensures moves { IfOk result (λ later. Moves before (events.old.items ++ event ∷ []) later events.new.items) }
-    ensures few { OnOk result (length events.new.items ≤ most) }
-    ensures full { IfOk result (λ later. (later ≡ 0) ⊎ (length events.new.items ≡ most)) }
-{
-    events.push_back(event)?;
-    if events.len() <= most {
-        return Ok(before);
+impl Latest {
+    /// Appends an event: of more than `most` the first one goes into the past.
+    fn push(&mut self, event: Event, site: Option<Site>, most: usize) -> Result<(), Memory>
+        requires few { length self.old.events.items ≤ most }
+        requires full { (self.old.before ≡ 0) ⊎ (length self.old.events.items ≡ most) }
+        ensures moves { OnOk result (Moves self.old.before (self.old.events.items ++ event ∷ []) self.new.before self.new.events.items) }
+        ensures few { OnOk result (length self.new.events.items ≤ most) }
+        ensures full { OnOk result ((self.new.before ≡ 0) ⊎ (length self.new.events.items ≡ most)) }
+    {
+        self.events.push_back(event)?;
+        self.sites.push_back(site)?;
+        if self.events.len() <= most {
+            return Ok(());
+        }
+        let Some(oldest) = self.events.pop_front() else {
+            return Ok(());
+        };
+        let site = self.sites.pop_front().flatten();
+        self.past.take(&oldest, site)?;
+        self.before = self.before.checked_add(1).ok_or(Memory)?;
+        Ok(())
     }
-    let Some(oldest) = events.pop_front() else {
-        return Ok(before);
-    };
-    past.take(&oldest)?;
-    before.checked_add(1).ok_or(Memory)
+
+    /// The run has ended.
+    fn ended(self, end: End) -> Kept
+        ensures { (result.before ≡ self.before) × (result.events.items ≡ self.events.items) × (result.end ≡ Some end) }
+    {
+        let Latest {
+            before,
+            past,
+            events,
+            sites,
+        } = self;
+        Kept {
+            before,
+            past,
+            events: events.into_vec(),
+            sites: sites.into_vec(),
+            end: Some(end),
+        }
+    }
+}
+
+/// The instruction that made the request of the event that the book has just committed, whose actor has this number; none if it is not
+/// known.
+fn site_of<B: BookName>(_book: &Book<B>, _number: u64) -> Option<Site> {
+    None
 }
 
 /// The next event of the run, or its end; where a goroutine stands before it, it makes steps.

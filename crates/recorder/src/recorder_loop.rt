@@ -68,7 +68,7 @@ fn record_named<B: BookName>(
     // A book that goes out of scope is proved to be dropped at each exit, part by part.
     drop(book);
     let kept = kept?;
-    Ok(kept.recording(functions))
+    Ok(kept.recording(alloc, functions))
 }
 
 /// The events of a window of the run of a book that has committed none, and its end if it has no more after them.

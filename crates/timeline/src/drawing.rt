@@ -5,7 +5,7 @@ use crate::label::{count_label, end_label, event_label};
 use crate::lane_drawing::{push_lanes, push_names};
 use crate::lanes::Lanes;
 use crate::marks::{HEAD, LEGEND, mark_of};
-use crate::recording::Recording;
+use crate::recording::{Recording, push_line_number};
 use crate::scale::Scale;
 use crate::writing::push_escaped;
 use go_text::Memory;
@@ -28,6 +28,17 @@ const WAITS: u64 = 260;
 
 /// The pixels between two numbers of an axis.
 const TICKS: u64 = 70;
+
+/// Where an axis lies, in pixels from the top.
+#[derive(Clone, Copy)]
+struct Axis {
+    /// Its line.
+    y: u64,
+    /// The other ends of its ticks.
+    end: u64,
+    /// The line on which its numbers stand.
+    base: u64,
+}
 
 /// The parts that a drawing is made of.
 #[derive(Drop)]
@@ -60,12 +71,12 @@ pub(crate) fn draw(alloc: Global, recording: &Recording) -> Result<String, Memor
 /// The lanes with what happens in them, the axes, and what stands around them.
 fn push_all(text: &mut String, drawing: &Drawing) -> Result<(), AllocError> {
     push_head(text, drawing)?;
-    push_axis(text, height(0).saturating_sub(20), drawing.scale)?;
+    push_axis(text, height(0).saturating_sub(20), true, drawing.scale)?;
     push_lanes(text, drawing)?;
     push_arrows(text, drawing)?;
     push_events(text, drawing)?;
     push_names(text, drawing)?;
-    push_axis(text, lowest(drawing).saturating_add(6), drawing.scale)?;
+    push_axis(text, lowest(drawing).saturating_sub(4), false, drawing.scale)?;
     push_edges(text, drawing)?;
     text.push_str("</svg>\n")
 }
@@ -160,28 +171,47 @@ fn push_title(
     )?;
     let label = event_label(drawing.alloc, drawing.recording, event)?;
     push_escaped(text, label.as_str())?;
+    push_line_number(text, drawing.recording.event_line(index))?;
     text.push_str("</title></path>\n")
 }
 
-/// An axis at this height, with the clocks of some events.
-fn push_axis(text: &mut String, y: u64, scale: &Scale) -> Result<(), AllocError> {
+/// An axis at this height, with the clocks of some events above it or below it.
+fn push_axis(
+    text: &mut String,
+    y: u64,
+    is_above: bool,
+    scale: &Scale,
+) -> Result<(), AllocError> {
     push_line(text, "axis", (LEFT, y), (scale.right(), y))?;
     let base = y.saturating_add(4);
     write!(
         text,
         "<text class=\"small\" x=\"12\" y=\"{base}\">logical time</text>\n"
     )?;
-    push_tick(text, scale.origin, LEFT, y)?;
-    push_ticks(text, y, scale)
+    let axis = if is_above {
+        Axis {
+            end: y.saturating_sub(4),
+            base: y.saturating_sub(7),
+            y,
+        }
+    } else {
+        Axis {
+            end: y.saturating_add(4),
+            base: y.saturating_add(15),
+            y,
+        }
+    };
+    push_tick(text, scale.origin, LEFT, axis)?;
+    push_ticks(text, axis, scale)
 }
 
 /// The clocks of events on an axis, of those that lie too near to each other the first.
-fn push_ticks(text: &mut String, y: u64, scale: &Scale) -> Result<(), AllocError> {
+fn push_ticks(text: &mut String, axis: Axis, scale: &Scale) -> Result<(), AllocError> {
     let mut free = LEFT.saturating_add(TICKS);
     for stop in scale.stops.iter() {
         let x = scale.place(stop.clock);
         if x >= free {
-            push_tick(text, stop.clock, x, y)?;
+            push_tick(text, stop.clock, x, axis)?;
             free = x.saturating_add(TICKS);
         }
     }
@@ -189,8 +219,8 @@ fn push_ticks(text: &mut String, y: u64, scale: &Scale) -> Result<(), AllocError
 }
 
 /// A clock on an axis.
-fn push_tick(text: &mut String, clock: u64, x: u64, y: u64) -> Result<(), AllocError> {
-    let (end, base) = (y.saturating_add(4), y.saturating_add(15));
+fn push_tick(text: &mut String, clock: u64, x: u64, axis: Axis) -> Result<(), AllocError> {
+    let (y, end, base) = (axis.y, axis.end, axis.base);
     write!(
         text,
         "<line class=\"axis\" x1=\"{x}\" y1=\"{y}\" x2=\"{x}\" y2=\"{end}\"/><text class=\"small\" x=\"{x}\" y=\"{base}\" text-anchor=\"middle\">{clock}</text>\n"
@@ -202,11 +232,11 @@ fn push_edges(text: &mut String, drawing: &Drawing) -> Result<(), AllocError> {
     let right = drawing.scale.right();
     let before = drawing.recording.before;
     if before > 0 {
-        let note = format!(in drawing.alloc; "{before} events before this one")?;
+        let note = format!(in drawing.alloc; "{before} events before")?;
         push_edge(text, drawing, LEFT, "start", note.as_str())?;
     }
     match drawing.recording.end {
-        None => push_edge(text, drawing, right, "end", "cut here: the run goes on"),
+        None => push_edge(text, drawing, right, "end", "cut here"),
         Some(_) => Ok(()),
     }
 }

@@ -2,7 +2,7 @@
 
 use crate::label::{count_label, end_label, event_label};
 use crate::lanes::{Arrow, Asleep, Lane, Lanes, Passes, Sleep};
-use crate::recording::Recording;
+use crate::recording::{Recording, push_line_number};
 use crate::writing::push_quoted;
 use go_text::Memory;
 use std::alloc::{AllocError, Global};
@@ -85,17 +85,23 @@ fn push_last_sleep(
         from: asleep.since,
         to: last,
     };
-    let name = sleep_name(alloc, recording.end, asleep)?;
+    let name = sleep_name(alloc, recording, asleep)?;
     push_slice(text, lane.number, name.as_str(), sleep)
 }
 
 /// The name of a sleep that goes on: at a deadlock what its goroutine waits for.
-fn sleep_name(alloc: Global, end: Option<End>, asleep: &Asleep) -> Result<String, AllocError> {
-    if matches!(end, Some(End::Deadlock)) {
-        let waits = asleep.wait.label(alloc)?;
-        return format!(in alloc; "deadlock: {waits}");
+fn sleep_name(
+    alloc: Global,
+    recording: &Recording,
+    asleep: &Asleep,
+) -> Result<String, AllocError> {
+    if !matches!(recording.end, Some(End::Deadlock)) {
+        return String::from_str(alloc, "asleep");
     }
-    String::from_str(alloc, "asleep")
+    let waits = asleep.wait.label(alloc)?;
+    let mut name = format!(in alloc; "deadlock: {waits}")?;
+    push_line_number(&mut name, recording.line(asleep.site))?;
+    Ok(name)
 }
 
 /// A slice of a thread.
@@ -130,8 +136,12 @@ fn push_event(
     let count = recording.event_number(index);
     write!(
         text,
-        "\",\"args\":{{\"event\":{count},\"goroutine\":{number}}}}},\n"
-    )
+        "\",\"args\":{{\"event\":{count},\"goroutine\":{number}"
+    )?;
+    if let Some(line) = recording.event_line(index) {
+        write!(text, ",\"line\":{line}")?;
+    }
+    text.push_str("}},\n")
 }
 
 /// A flow from one thread to another.

@@ -182,7 +182,7 @@ pub(crate) fn end_label(alloc: Global, end: Option<End>) -> Result<String, Alloc
         }
         Some(End::Deadlock) => String::from_str(alloc, "deadlock: every goroutine waits"),
         Some(End::Exhausted) => String::from_str(alloc, "logical time exhausted"),
-        None => String::from_str(alloc, "cut here: the run goes on"),
+        None => String::from_str(alloc, "the run goes on"),
     }
 }
 

@@ -2,6 +2,7 @@
 
 use crate::drawing::{Drawing, LEFT, height, push_line};
 use crate::lanes::{Asleep, Lane, Sleep};
+use crate::recording::push_line_number;
 use crate::scale::{GUTTER, Scale};
 use std::alloc::AllocError;
 use word::end::End;
@@ -116,7 +117,12 @@ fn push_asleep(
     push_line(text, "tail", (since, y), (right, y))?;
     let (x, base) = (right.saturating_add(8), y.saturating_add(4));
     let waits = asleep.wait.label(drawing.alloc)?;
-    write!(text, "<text class=\"waits\" x=\"{x}\" y=\"{base}\">{waits}</text>\n")
+    write!(
+        text,
+        "<text class=\"waits\" x=\"{x}\" y=\"{base}\">{waits}"
+    )?;
+    push_line_number(text, drawing.recording.line(asleep.site))?;
+    text.push_str("</text>\n")
 }
 
 /// The names of the lanes once more in each gutter, of those goroutines that are there.

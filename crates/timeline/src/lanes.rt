@@ -1,7 +1,7 @@
 //! A run as lanes, one for each goroutine, with what happens in them.
 
 use crate::moves::{Items, Move, Sent, move_of};
-use crate::recording::Recording;
+use crate::recording::{Recording, Site};
 use crate::waits::{Wait, wait_of};
 use go_text::Memory;
 use std::alloc::Global;
@@ -47,6 +47,7 @@ impl Lane {
             lane.asleep = Some(Asleep {
                 since: clock.max(asleep.since),
                 wait: asleep.wait.copied(alloc)?,
+                site: asleep.site,
             });
         }
         Ok(lane)
@@ -60,6 +61,8 @@ pub(crate) struct Asleep {
     pub since: u64,
     /// What it waits for.
     pub wait: Wait,
+    /// The instruction at which it waits, if it is known.
+    pub site: Option<Site>,
 }
 
 /// A span of sleep, from clock to clock.
@@ -144,8 +147,8 @@ impl Lanes {
     /// The lanes of a recording, and its arrows.
     pub(crate) fn of(alloc: Global, recording: &Recording) -> Result<Lanes, Memory> {
         let mut lanes = recording.past.later(recording.origin())?;
-        for event in recording.events.iter() {
-            lanes.take(event)?;
+        for (index, event) in recording.events.iter().enumerate() {
+            lanes.take(event, recording.sites.get(index).copied().flatten())?;
         }
         Ok(lanes)
     }
@@ -175,19 +178,20 @@ impl Lanes {
         Ok(())
     }
 
-    /// What an event does to the lanes. The goroutines that it wakes or starts go on one later than its actor stood.
+    /// What an event, whose request this instruction made, does to the lanes. The goroutines that it wakes or starts go on one later
+    /// than its actor stood.
     ///
     /// # Errors
     ///
     /// `Memory` if memory is refused.
-    pub fn take(&mut self, event: &Event) -> Result<(), Memory> {
+    pub fn take(&mut self, event: &Event, site: Option<Site>) -> Result<(), Memory> {
         let here = Sent {
             by: event.number,
             at: event.clock.time(),
         };
         let later = here.at.saturating_add(1);
         self.last = self.last.max(later);
-        self.move_actor(event, here.at, later)?;
+        self.move_actor(event, site, later)?;
         let partners = event.partners.as_slice();
         match move_of(event) {
             Move::Nothing => Ok(()),
@@ -200,7 +204,12 @@ impl Lanes {
     }
 
     /// What an event does to the lane of its actor.
-    fn move_actor(&mut self, event: &Event, clock: u64, later: u64) -> Result<(), Memory> {
+    fn move_actor(
+        &mut self,
+        event: &Event,
+        site: Option<Site>,
+        later: u64,
+    ) -> Result<(), Memory> {
         let Some(row) = self.row(event.number) else {
             return Ok(());
         };
@@ -209,10 +218,12 @@ impl Lanes {
         };
         lane.to = later;
         if matches!(&event.outcome, EventOutcome::Sleeps) {
-            lane.to = clock;
+            let since = event.clock.time();
+            lane.to = since;
             lane.asleep = Some(Asleep {
-                since: clock,
+                since,
                 wait: wait_of(self.alloc, &event.request)?,
+                site,
             });
         }
         lane.ended = matches!(&event.request, Request::End | Request::Exit);

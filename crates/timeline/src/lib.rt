@@ -18,5 +18,5 @@ mod writing;
 
 pub use format::Format;
 pub use lanes::Lanes;
-pub use recording::Recording;
+pub use recording::{Recording, Site};
 pub use window::Window;

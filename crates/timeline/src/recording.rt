@@ -1,8 +1,16 @@
 //! What a picture shows.
 
 use crate::lanes::Lanes;
+use std::alloc::AllocError;
 use word::end::End;
 use word::request::Event;
+
+/// An instruction of a program: the number of its function, and its index there.
+#[derive(Clone, Copy)]
+pub struct Site {
+    pub function: usize,
+    pub index: usize,
+}
 
 /// Events of a run that follow each other, and what there was before them.
 pub struct Recording {
@@ -14,6 +22,11 @@ pub struct Recording {
     pub past: Lanes,
     /// In the order in which they were performed.
     pub events: Vec<Event>,
+    /// For each event, the instruction that made its request, if it is known.
+    pub sites: Vec<Option<Site>>,
+    /// For each function, the lines of the source file, counted from 1, from which its instructions come; none if they are not
+    /// known.
+    pub lines: Vec<Vec<u32>>,
     /// How the run ended, if it had no more events; none if it goes on.
     pub end: Option<End>,
 }
@@ -25,11 +38,15 @@ impl Drop for Recording {
             before: _,
             past,
             events,
+            sites,
+            lines,
             end: _,
         } = self;
         drop(functions);
         drop(past);
         drop(events);
+        drop(sites);
+        drop(lines);
     }
 }
 
@@ -50,6 +67,17 @@ impl Recording {
         }
     }
 
+    /// The line of the source file from which an instruction comes, if it is known.
+    pub(crate) fn line(&self, site: Option<Site>) -> Option<u32> {
+        let site = site?;
+        self.lines.get(site.function)?.get(site.index).copied()
+    }
+
+    /// The line of the source file at which the event at this index happened, if it is known.
+    pub(crate) fn event_line(&self, index: usize) -> Option<u32> {
+        self.line(self.sites.get(index).copied()?)
+    }
+
     /// The number of the event at this index, counted from 1 over the whole run.
     pub(crate) fn event_number(&self, index: usize) -> u64 {
         self.before.saturating_add(index as u64).saturating_add(1)
@@ -66,5 +94,13 @@ impl Recording {
             Some(event) if self.before > 0 => event.clock.time(),
             _ => 0,
         }
+    }
+}
+
+/// Appends ` at line 7`, if the line is known.
+pub(crate) fn push_line_number(text: &mut String, line: Option<u32>) -> Result<(), AllocError> {
+    match line {
+        Some(line) => write!(text, " at line {line}"),
+        None => Ok(()),
     }
 }

@@ -20,7 +20,7 @@ const LEAST: u64 = 44;
 const SCREEN: u64 = 1_200;
 
 /// How wide a gutter is, in pixels.
-pub(crate) const GUTTER: u64 = 120;
+pub(crate) const GUTTER: u64 = 110;
 
 /// A clock at which something happens, and how many units lie before it.
 #[derive(Clone, Copy)]
