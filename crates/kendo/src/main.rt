@@ -78,7 +78,22 @@ fn perform(
         return Ok(USAGE);
     }
     let invocation = &with_environment(rt, invocation);
-    let mut status = perform_on(rt, threads, alloc, invocation, invocation.file)?;
+    let first = perform_on(rt, threads, alloc, invocation, invocation.file)?;
+    perform_rest(rt, threads, alloc, invocation, first)
+}
+
+/// Like `perform`, for all files but the first, whose status is `first`.
+fn perform_rest(
+    rt: &HostRuntime,
+    threads: &(impl Threads + Wait + Sync),
+    alloc: Global,
+    invocation: &Invocation<'_, '_>,
+    first: u8,
+) -> Result<u8, Memory>
+    requires { (first ≡ USAGE) ⊎ Tells invocation.now.subcommand first }
+    ensures { IfOk result (λ status. (status ≡ USAGE) ⊎ Tells invocation.now.subcommand status) }
+{
+    let mut status = first;
     for file in invocation.files.iter().skip(1) {
         let next = perform_on(rt, threads, alloc, invocation, file)?;
         status = first_failure(status, next);

@@ -76,7 +76,23 @@ fn perform(
         );
         return Ok(USAGE);
     };
-    let mut status = perform_on(rt, threads, alloc, invocation, task, invocation.file)?;
+    let first = perform_on(rt, threads, alloc, invocation, task, invocation.file)?;
+    perform_rest(rt, threads, alloc, invocation, task, first)
+}
+
+/// Like `perform`, for all files but the first, whose status is `first`.
+fn perform_rest(
+    rt: &HostRuntime,
+    threads: &(impl Threads + Wait + Sync),
+    alloc: Global,
+    invocation: &Invocation<'_, '_>,
+    task: Task,
+    first: u8,
+) -> Result<u8, Memory>
+    requires { (first ≡ USAGE) ⊎ Tells (subcommand_of task) first }
+    ensures { IfOk result (λ status. (status ≡ USAGE) ⊎ Tells (subcommand_of task) status) }
+{
+    let mut status = first;
     for file in invocation.files.iter().skip(1) {
         let next = perform_on(rt, threads, alloc, invocation, task, file)?;
         status = first_failure(status, next);

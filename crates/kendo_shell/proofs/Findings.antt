@@ -174,3 +174,9 @@ outcome_is subcommand text (Err fault) finds = fault_is subcommand text fault fi
 pub told_status : (subcommand : Subcommand) (status : ℕ) → (status ≡ 64) ⊎ Tells subcommand status → IsStatus status
 told_status subcommand status (inl is) = inr is
 told_status subcommand status (inr (text, outcome, finds, is)) = subst IsStatus (sym is) (outcome_is subcommand text outcome finds)
+
+-- one of two exit statuses that tell what was found
+pub either_tells : (subcommand : Subcommand) (first second status : ℕ) → (status ≡ first) ⊎ (status ≡ second) → (first ≡ 64) ⊎ Tells subcommand first → (second ≡ 64) ⊎ Tells subcommand second
+    → (status ≡ 64) ⊎ Tells subcommand status
+either_tells subcommand first second status (inl is) a b = subst (λ s. (s ≡ 64) ⊎ Tells subcommand s) (sym is) a
+either_tells subcommand first second status (inr is) a b = subst (λ s. (s ≡ 64) ⊎ Tells subcommand s) (sym is) b
