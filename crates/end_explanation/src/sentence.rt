@@ -218,6 +218,7 @@ struct CallRun {
 }
 
 /// The lines of the calls of a goroutine.
+#[derive(Drop)]
 struct CallLines {
     /// How many lines there are, or would be without the bound.
     lines: usize,
